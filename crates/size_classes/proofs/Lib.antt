@@ -1,0 +1,9 @@
+pub mod PageClasses
+pub mod Powers
+pub mod Requests
+pub mod Runs
+pub mod Searches
+pub mod SmallClasses
+pub mod SpanLaws
+pub mod Subpages
+pub mod Tables
