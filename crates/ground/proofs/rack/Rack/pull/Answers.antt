@@ -1,0 +1,69 @@
+-- The element has its place, its bytes and its claim, and the rack is whole without it.
+use Rattle.std.proofs.Common.{◌≡◌, ℕ, ◌+◌, ◌*◌, ◌^◌, List, Fits-le, Fits-lit, length, refl, sym, ap, ap₂, ◌∙◌, arith, subst}
+use Rattle.std.specs.Prelude.{Option, Some}
+use denote.RawPtr.{Ptr, ◌+ₚ◌}
+use Rattle.ground.specs.Rack.{Cell, HasCell, Racked}
+use Rattle.ground.specs.Racks.{cells_in}
+use Rattle.ground.specs.declared.raw_rack.RawRack.{RawRack}
+use Rattle.ground.proofs.RackPulled.{rack_left, element_is, element_far, element_bytes}
+use Rattle.ground.proofs.rack.Rack.pull.Goals as goal
+
+-- the element that is asked for is in the raw rack
+has : (r v : Racked) (o : Option RawRack) (sh : RawRack) (i : ℕ) (bs : List ℕ) → r ≡ v → r.cells ≡ cells_in o → o ≡ Some sh → HasCell i (Some bs) v.cells → HasCell i (Some bs) sh.cells
+has r v o sh i bs same cells e h =
+    let P : Racked → Type 0 = λ x. HasCell i (Some bs) x.cells in
+    let C : Option RawRack → Type 0 = λ x. HasCell i (Some bs) (cells_in x) in
+    let L : List Cell → Type 0 = λ x. HasCell i (Some bs) x in
+    subst C e (subst L cells (subst P (sym same) h))
+
+far_ptr : (p q : Ptr) (i m n : ℕ) → p ≡ q → m ≡ n → (p +ₚ i * m) ≡ (q +ₚ i * n)
+far_ptr p q i m n a b = ap₂ (λ (x : Ptr) (k : ℕ). x +ₚ i * k) a b
+
+pub overflow_mul-far : goal.overflow_mul-far
+overflow_mul-far c =
+    let r = c.self.inside in
+    let sh = c.in-Some.raw_rack in
+    let e = sym c.take.ensures.value ∙ c.in-Some.is in
+    let h = has _ c.args.self.now r.raw_rack sh c.args.i c.requires.0 c.self.view_is refl e c.requires.1 in
+    Fits-le {n = 2 ^ 24} (omega (arith, element_far r sh c.args.i c.requires.0 c.self.invariant e h)) (Fits-lit tt)
+
+pub overflow_add-result : goal.overflow_add-result
+overflow_add-result c =
+    let r = c.self.inside in
+    let sh = c.in-Some.raw_rack in
+    let e = sym c.take.ensures.value ∙ c.in-Some.is in
+    let h = has _ c.args.self.now r.raw_rack sh c.args.i c.requires.0 c.self.view_is refl e c.requires.1 in
+    Fits-le {n = 2 ^ 24} (element_far r sh c.args.i c.requires.0 c.self.invariant e h) (Fits-lit tt)
+
+pub vec_over-requires : goal.vec_over-requires
+vec_over-requires c =
+    let r = c.self.inside in
+    let sh = c.in-Some.raw_rack in
+    let e = sym c.take.ensures.value ∙ c.in-Some.is in
+    let bs = c.pull-raw_piece.result.0.items in
+    let is = element_bytes r sh c.args.i bs c.self.invariant e c.pull-raw_piece.ensures.1 in (
+      c.parts-raw_bytes.ensures.0 ∙ c.pull-raw_piece.ensures.0 ∙ far_ptr sh.ptr r.at c.args.i sh.each r.each is.3 is.5 ∙ sym c.byte_add-at.ensures.value,
+      ap length c.parts-raw_bytes.ensures.1 ∙ is.0,
+      is.1,
+      omega (arith, is.2),
+    )
+
+pub invariant_of-self : goal.invariant_of-self
+invariant_of-self c =
+    let r = c.self.inside in
+    let sh = c.in-Some.raw_rack in
+    let e = sym c.take.ensures.value ∙ c.in-Some.is in
+    rack_left r sh c.pull-raw_piece.result.1 c.replace-empty.new.dest c.block_for-block.new.block c.args.i c.pull-raw_piece.result.0.items c.self.invariant e c.pull-raw_piece.ensures.1
+    c.replace-empty.ensures.after c.pull-raw_piece.ensures.6 (λ z. (c.block_for-block.ensures.first z).1) (λ z. (c.block_for-block.ensures.others z).1)
+
+pub invariant_of-result : goal.invariant_of-result
+invariant_of-result c =
+    let r = c.self.inside in
+    let sh = c.in-Some.raw_rack in
+    let e = sym c.take.ensures.value ∙ c.in-Some.is in
+    let bs = c.pull-raw_piece.result.0.items in
+    let is = element_bytes r sh c.args.i bs c.self.invariant e c.pull-raw_piece.ensures.1 in
+    let start : c.parts-raw_bytes.result.1.start ≡ r.start + c.args.i * r.each = c.parts-raw_bytes.ensures.3 ∙ c.pull-raw_piece.ensures.3 ∙ ap₂ (λ (x k : ℕ). x + c.args.i * k) is.4 is.5 in
+    element_is r sh c.args.i bs c.vec_over.result c.block_for-block.result c.parts-raw_bytes.result.1 c.self.invariant e c.pull-raw_piece.ensures.1
+    (c.vec_over.ensures.3 ∙ c.byte_add-at.ensures.value) c.vec_over.ensures.1 start (c.parts-raw_bytes.ensures.4 ∙ c.pull-raw_piece.ensures.4 ∙ is.5) (c.parts-raw_bytes.ensures.5 ∙ c.pull-raw_piece.ensures.5)
+    (λ z. (c.block_for-block.ensures.first z).0) (λ z. (c.block_for-block.ensures.others z).0)

@@ -1,0 +1,92 @@
+-- `whole` puts all elements together. Assumes `Logic`.
+use Rattle.std.proofs.Common.{◌≡◌, ◌*◌, List, [], ◌∷◌, ◌++◌, length, refl, sym, ap, subst}
+use Rattle.std.specs.Prelude.{ℕ, suc, Some}
+use seplogic.Ra.Ura.{Ura}
+use mir.Syntax.{Fn}
+use mir.Val.{Val}
+use base.Logic.{SProp, ent}
+use prog.Memory.{Memory}
+use prog.Routine.{Routine}
+use prog.Wp.{Calls, Loops, WpFn, Tables}
+use contract.Monad.{Fun, fact}
+use contract.Running.{tables, tables_of}
+use sound.WpLaws.{WpFn-mono}
+use types.Logic.{Logic}
+use types.Kit.{‵, raw, later, await, ◌⊛◌, prop, ◌$◌, ◌∵◌, !, qed, move, drop, use1, split, fsplit, fjoin, regoal, rewrite, suffices, done}
+use types.Part.{agg}
+use types.Run.{enter, returns, no_more}
+use types.ByLocal.{alloc_all, pass_all, free_all, look_at, sets}
+use denote.Exit.{yes}
+use denote.RattleType.{owns}
+use denote.Signature.{plain, types_at}
+use denote.Steps.{nothing, heard}
+use denote.Triple.Clauses.{Clauses, Ended, closing}
+use denote.Triple.Entry.{alive}
+use denote.Triple.Spec.{Meets, triple_of}
+use denote.Triple.Table.{entered}
+use denote.Triple.Walked.{says, Stays, stay_dropped, walk_of, ends_at, walk_Meets}
+use Rattle.std.proofs.alloc.Calls.{Goes-blank}
+use Rattle.ground.proofs.Walks.{none, none_made, none_had}
+use Rattle.ground.specs.contracts.raw_rack.RawPiece as RawPieceRow
+use Rattle.ground.specs.contracts.raw_rack.RawRack as RawRackRow
+use Rattle.ground.specs.Ownership.{raw_bytes_owns, claim_owns, raw_rack_owns, AreAllIn}
+use Rattle.ground.specs.Rack.{Cell}
+use Rattle.ground.proofs.RawRackLaws.{raw_rack_whole}
+use Rattle.ground.specs.contracts.raw_rack.RawRack.whole as F
+use Rattle.ground.specs.contracts.raw_rack.RawRack.whole.Key.{name as #self}
+use Rattle.ground.proofs.raw_rack.RawRack.whole.Statement as stated
+use Rattle.ground.proofs.raw_rack.RawRack.whole.Code as code
+
+abbrev function : Fn
+function = code.function
+
+abbrev ended : Ended
+ended = F.ended
+
+abbrev stayed : Stays ended.signature.params ended.kept
+stayed = (stay_dropped (plain (λ _. RawRackRow.the_row)) yes, tt)
+
+module _ {M : Type 1} {𝓤 : Ura M} (𝓛 : Logic 𝓤) (at_mem : Memory → SProp 𝓤) (run : Routine → Fun 𝓤) where
+  open 𝓛 use {H}
+
+  abbrev held : Clauses 𝓤 ended
+  held = F.clauses 𝓛 at_mem run
+
+  module _ (C : Calls 𝓤 H) (Λ : Loops 𝓤 H) (z : (walk_of 𝓛 ended stayed held).Ghost) where
+    abbrev Post : Val → SProp 𝓤
+    Post = (walk_of 𝓛 ended stayed held).post z
+
+    abbrev toks : SProp 𝓤
+    toks = alive 𝓛 ended.signature z.0.0 z.0.1
+
+    walks : ent 𝓤 ((walk_of 𝓛 ended stayed held).pre z) (WpFn 𝓤 H C Λ function ((walk_of 𝓛 ended stayed held).args z) Post)
+    walks =
+        let a = z.0.3 in
+        let vss = z.0.4 in
+        let x = a.0 in
+        let Asked : Type 0 = (b : List ℕ) × (cs : List Cell) × (bs : List ℕ) × (a.0.cells ≡ Some b ∷ cs) × AreAllIn a.0.each a.0.cells bs in
+        qed 𝓛 ((raw toks ⊛ ‵ (owns (types_at ended.signature.params z.0.0) a vss)) ∷ raw (fact 𝓤 Asked) ∷ []) ∵
+        move ! (1 ∷ []) $ heard ! Asked (λ asked. let raw_piece : (RawPieceRow.the_row).Denot = record { ptr = x.ptr; items = asked.2; name = x.name; start = x.start; len = length x.cells * x.each; size = x.size } in split ! $ move ! (1 ∷ []) $
+        fsplit ! $ fsplit ! $ none_had ! vss.0 (λ is0. move ! (1 ∷ []) $ drop ! $
+        regoal ! (λ (us : List Val). prop (WpFn 𝓤 H C Λ function (us ++ []) Post)) is0 refl $
+        enter ! C Λ function (none ∷ []) Post $ alloc_all ! (λ l. pass_all ! refl (((tt, tt), tt)) $
+        sets ! (agg ! (no_more !)) refl (tt, tt) $
+        rewrite ! 0 (λ c. ‵ (raw_rack_owns x.name x.each c x.ptr x.start)) asked.3 refl $
+        use1 𝓛 (later (‵ (raw_bytes_owns x.ptr asked.2) ⊛ ‵ (claim_owns x.name x.start (suc (length asked.1) * x.each)))) (raw_rack_whole 𝓛 x.name x.each asked.0 asked.1 x.ptr x.start asked.2 (subst (λ (c : List Cell). AreAllIn x.each c asked.2) asked.3 asked.4)) $ await ! tt $ split ! $
+        move ! (1 ∷ []) $ rewrite ! 0 (λ k. ‵ (claim_owns x.name x.start (k * x.each))) (sym (ap length asked.3)) refl $ move ! (1 ∷ 0 ∷ []) $ fjoin ! $
+        none_made ! $ fjoin ! $
+        returns ! (look_at ! 0 refl) $ free_all ! refl $
+        suffices ! _ (ends_at 𝓛 ended stayed held z none raw_piece (tt, tt) (tt, tt)) $ says ! (asked.4, refl, refl, refl, refl, refl) $
+        nothing ! $ nothing ! $ fjoin ! $ move ! (2 ∷ 0 ∷ 1 ∷ []) $ done !)))
+
+  meets : (𝓣 : Tables 𝓤 H) → Meets 𝓛 ended.signature (WpFn 𝓤 H 𝓣.C 𝓣.Λ function) (closing 𝓛 ended held)
+  meets 𝓣 =
+      walk_Meets 𝓛 ended stayed (Goes-blank 𝓛 0 (plain (λ _. RawRackRow.the_row)) yes (λ κs x f. tt), tt) held
+      (WpFn 𝓤 H 𝓣.C 𝓣.Λ function) (WpFn-mono 𝓤 H 𝓛.laws 𝓣 function) (walks 𝓣.C 𝓣.Λ)
+
+pub whole_spec : {M : Type 1} → stated.statement M
+unfolding tables_of
+whole_spec 𝓤 𝓛 𝓜 𝓡 wired =
+    let 𝓣 : Tables 𝓤 𝓛.H = tables_of 𝓤 𝓛.H 𝓜 (tables 𝓤 𝓛.H 𝓜 𝓡 𝓡.env) in
+    entered 𝓤 𝓛.H (triple_of 𝓛 ended.signature (closing 𝓛 ended (held 𝓛 𝓜.mem 𝓡.returns))) 𝓣.C 𝓣.Λ #self function
+    (code.unfolded 𝓤 𝓛.H 𝓜 𝓡 wired) (meets 𝓛 𝓜.mem 𝓡.returns 𝓣)

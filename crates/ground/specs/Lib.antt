@@ -1,0 +1,6 @@
+pub mod Ground
+pub mod Grounds
+pub mod Rack
+pub mod Ownership
+pub mod Pieces
+pub mod Racks

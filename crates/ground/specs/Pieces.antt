@@ -1,0 +1,34 @@
+-- How a piece holds its bytes. No public clause cites this module.
+use Rattle.std.specs.Prelude.{◌≡◌, ◌+◌, ◌-◌, ◌^◌, ◌<◌, ◌≤◌, Option, Some, None}
+use denote.RawPtr.{block_of, count_of}
+use Rattle.ground.specs.Ground.{Segment}
+use Rattle.ground.specs.Ownership.{Extent, IsPlaced}
+use Rattle.ground.specs.declared.piece.Piece.TheInside.{Inside}
+
+-- what contracts see of a piece: the address where its ground begins tells which ground it is
+abbrev pub segment_of : Inside → Segment
+segment_of p = record {
+  origin = record {
+    name = p.claim.name;
+    block = block_of p.bytes.ptr;
+    first = count_of p.bytes.ptr - p.start;
+    size = p.claim.size;
+  };
+  start = p.start;
+  bytes = p.bytes.items;
+}
+
+-- the first piece of a ground has its block, and no other has
+abbrev pub HasPieceBlock : Option Extent → Inside → Type 0
+HasPieceBlock None p = 0 < p.start
+HasPieceBlock (Some e) p = (e.ptr ≡ p.bytes.ptr) × (e.len ≡ p.claim.size) × (p.start ≡ 0)
+
+-- the bytes, the claim and the start of a piece speak of the same places of one ground
+pub record IsPiece (p : Inside) : Type 0 where
+  pub placed : IsPlaced p.bytes.ptr
+  pub some : 0 < p.bytes.len
+  pub claimed : (p.claim.start ≡ p.start) × (p.claim.len ≡ p.bytes.len)
+  pub within : p.start + p.bytes.len ≤ p.claim.size
+  pub above : p.start ≤ count_of p.bytes.ptr
+  pub small : p.claim.size ≤ 2 ^ 24
+  pub block : HasPieceBlock p.block p
