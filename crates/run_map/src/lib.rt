@@ -1,0 +1,13 @@
+#![tactic(auto)]
+//! The free runs of the pages of a chunk: which run a request takes, and how runs are split and
+//! merged. Stands on `ground`, whose pieces are the memory of the runs, and on `size_classes`,
+//! whose words say which run is chosen. The chunk above asks it for runs and gives them back.
+
+mod choice;
+mod map;
+mod runs;
+
+pub use map::RunMap;
+
+#[cfg(test)]
+mod tests;

@@ -1,0 +1,137 @@
+//! The map of a chunk's free runs, and its calls.
+
+ghost use Rattle.std.specs.Prelude.{◌≡◌, ◌*◌, ◌^◌, ◌<◌, ◌≤◌, [], ◌∷◌, sum, None, MatchResult, IfSome, IfNone};
+ghost use Rattle.ground.specs.Ground.{IsWhole};
+ghost use Rattle.size_classes.specs.Sizes.{of_order};
+ghost use Rattle.size_classes.specs.Pages.{chosen};
+ghost use Rattle.size_classes.specs.Spans.{run_lengths, given_back, IsOut};
+ghost use Rattle.run_map.specs.FreeRuns.{IsChunk, all_free, with_runs, span_of, IsPages, IsTaken};
+
+use crate::choice::{choose, page_table};
+use crate::runs::{FreeRun, Layout, free_pages, give_back, put, take_front};
+use ground::{Piece, Site};
+use std::alloc::Global;
+use std::marker::Model;
+use std::mem::ManuallyDrop;
+
+/// The free runs of a chunk of `2^order` pages, with their memory.
+///
+/// No two of them meet. After `new` no call takes memory. A map has no `Drop`: it ends by
+/// `into_piece` or by `leave`. The rule of the choice and of the merging is that of Netty's
+/// `PoolChunk`.
+pub struct RunMap {
+    free: Vec<FreeRun>,
+    classes: Vec<u32>,
+    order: u32,
+    layout: Layout,
+}
+
+impl Model for RunMap {
+    ghost use Rattle.run_map.specs.FreeRuns.{FreeRuns};
+
+    ghost Value = { FreeRuns };
+
+    ghost use Rattle.run_map.specs.Held.{free_runs, IsRunMap};
+
+    ghost view = { free_runs };
+
+    ghost invariant = { IsRunMap };
+}
+
+impl RunMap {
+    /// The map of a whole ground, all of it free. Want of memory hands the ground back.
+    pub fn new(alloc: Global, order: u32, piece: Piece) -> Result<RunMap, Piece>
+        requires order { (3 ≤ order) × (order ≤ 11) }
+        requires chunk { IsChunk order piece }
+        ensures { MatchResult result (λ map. map ≡ all_free order piece) (λ back. back ≡ piece) }
+    {
+        let pages = 2u32.pow(order);
+        let Ok(classes) = page_table(alloc, order) else {
+            return Err(piece);
+        };
+        let Ok(mut free) = Vec::with_capacity(alloc, pages as usize) else {
+            return Err(piece);
+        };
+        let layout = Layout {
+            page: piece.len() / pages as usize,
+            pages,
+            site: Site::of(&piece),
+        };
+        let run = FreeRun {
+            first: 0,
+            pages,
+            piece,
+        };
+        put(&mut free, 0, run);
+        Ok(RunMap {
+            free,
+            classes,
+            order,
+            layout,
+        })
+    }
+
+    /// The bytes of all free runs.
+    pub fn free_bytes(&self) -> u32
+        ensures { result ≡ sum (run_lengths self.now.runs) * self.now.page }
+    {
+        free_pages(&self.free) * self.layout.page as u32
+    }
+
+    /// So many pages and the first of them: the front of the lowest run that stands under the least
+    /// page class that serves. What is left of the run stays free.
+    ///
+    /// None where no free run has so many pages, and then nothing changes.
+    pub fn take(&mut self, pages: u32) -> Option<(Piece, u32)>
+        requires { 0 < pages }
+        ensures none { IfNone result ((self.new ≡ self.old)
+            × (chosen (of_order self.old.order) pages self.old.runs ≡ None)) }
+        ensures some { IfSome result (λ x. IsTaken self.old self.new pages x.0 x.1) }
+    {
+        match choose(&self.classes, &self.free, pages) {
+            None => None,
+            Some(i) => Some(take_front(&mut self.free, &self.layout, i, pages)),
+        }
+    }
+
+    /// Frees whole pages that were taken: they are merged with the free run before them and with
+    /// the one after them.
+    pub fn give(&mut self, piece: Piece)
+        requires pages { IsPages self.old piece }
+        requires out { IsOut (2 ^ self.old.order) self.old.runs (span_of self.old.page piece) }
+        ensures { self.new
+            ≡ with_runs self.old (given_back (span_of self.old.page piece) self.old.runs) }
+    {
+        let run = FreeRun {
+            first: (piece.start() / self.layout.page) as u32,
+            pages: (piece.len() / self.layout.page) as u32,
+            piece,
+        };
+        give_back(&mut self.free, &self.layout, run);
+    }
+
+    /// The whole ground, where all of it is free.
+    pub fn into_piece(self) -> Piece
+        requires { self.runs ≡ (0, 2 ^ self.order) ∷ [] }
+        ensures { IsWhole result × (result.origin ≡ self.origin) }
+    {
+        let RunMap {
+            mut free,
+            classes: _,
+            order: _,
+            layout: _,
+        } = self;
+        let FreeRun {
+            first: _,
+            pages: _,
+            piece,
+        } = free.remove(0);
+        free.destroy_empty();
+        piece
+    }
+
+    /// Spends the map and keeps its memory until the program ends.
+    pub fn leave(self) {
+        let _left = unsafe { ManuallyDrop::new_unchecked(self) };
+    }
+}

@@ -1,0 +1,78 @@
+//! Rows of single calls on the map of a chunk of sixteen pages.
+
+ghost use Rattle.std.specs.Prelude.{◌≡◌, ◌<◌};
+ghost use Rattle.run_map.specs.FreeRuns.{IsTaken};
+
+use crate::RunMap;
+use ground::{Ground, Piece};
+use std::process::Abort;
+
+// A run of so many pages, which has to begin at this page.
+fn taken(rt: &impl Abort, map: &mut RunMap, pages: u32, first: u32) -> Piece
+    requires { 0 < pages }
+    ensures { IsTaken map.old map.new pages result first }
+{
+    match map.take(pages) {
+        Some((piece, at)) => {
+            assert_eq!(rt; at, first, "the run of {pages} pages");
+            piece
+        }
+        None => panic!(rt; "no run of {pages} pages is free"),
+    }
+}
+
+fn crosses<T: Send>(x: T) -> T
+    ensures { result ≡ x }
+{
+    x
+}
+
+#[test]
+fn three_runs_of_five_leave_none_of_four(rt: HostRuntime) {
+    let alloc = rt.alloc();
+    let ground = Ground::new(alloc, 131072).expect(&rt, "ample memory");
+    match RunMap::new(alloc, 4, ground) {
+        Err(ground) => {
+            ground.leave();
+            panic!(rt; "ample memory");
+        }
+        Ok(map) => {
+            let mut map = crosses(map);
+            taken(&rt, &mut map, 5, 0).leave();
+            taken(&rt, &mut map, 5, 5).leave();
+            taken(&rt, &mut map, 5, 10).leave();
+            match map.take(4) {
+                None => {}
+                Some((piece, _)) => {
+                    piece.leave();
+                    panic!(rt; "a run of four pages is free");
+                }
+            }
+            assert_eq!(rt; map.free_bytes(), 8192);
+            map.leave();
+        }
+    }
+}
+
+#[test]
+fn runs_side_by_side_are_merged(rt: HostRuntime) {
+    let alloc = rt.alloc();
+    let ground = Ground::new(alloc, 131072).expect(&rt, "ample memory");
+    match RunMap::new(alloc, 4, ground) {
+        Err(ground) => {
+            ground.leave();
+            panic!(rt; "ample memory");
+        }
+        Ok(map) => {
+            let mut map = map;
+            let first = taken(&rt, &mut map, 5, 0);
+            let second = taken(&rt, &mut map, 5, 5);
+            taken(&rt, &mut map, 5, 10).leave();
+            map.give(first);
+            map.give(second);
+            taken(&rt, &mut map, 10, 0).leave();
+            assert_eq!(rt; map.free_bytes(), 8192);
+            map.leave();
+        }
+    }
+}
