@@ -1,0 +1,5 @@
+pub mod ListLemmas
+pub mod NumberLemmas
+pub mod SameLemmas
+pub mod HistoryLemmas
+pub mod PatternLemmas

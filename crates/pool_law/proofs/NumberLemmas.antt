@@ -1,0 +1,68 @@
+-- Consecutive numbers: each of them is listed once, and different ones are no more than they.
+use Rattle.std.proofs.Common.{◌≡◌, ℕ, zero, suc, ◌+◌, ◌<◌, ◌≤◌, ⊎_elim, List, [], ◌∷◌, ◌++◌, length, refl, ap, arith, Bool, true, false, nat_eq, ◌∙◌, length-append}
+use Rattle.std.specs.Prelude.{◌==◌, ◌||◌, map}
+use Rattle.std.specs.List.{IsDistinct, list_any}
+use Rattle.std.proofs.lemmas.Bool.{cases_Bool, eqb-false}
+use Rattle.std.proofs.lemmas.Bool.Decides.{nat_tests}
+use Rattle.std.proofs.lemmas.Cmp.{nat_eq_equiv}
+use Rattle.std.proofs.lemmas.List.{map-append}
+use Rattle.std.proofs.lemmas.List.Folds.{list_any-append}
+use Rattle.std.proofs.lemmas.Map.Made.{length-le_from_is_member}
+use Rattle.size_classes.specs.Sizes.{below}
+
+-- n numbers from the first on
+abbrev pub numbers : ℕ → ℕ → List ℕ
+numbers first n = map (λ k. first + k) (below n)
+
+pub numbers-more : (first n : ℕ) → numbers first (suc n) ≡ numbers first n ++ (first + n) ∷ []
+numbers-more first n = map-append (λ k. first + k) (below n) (n ∷ [])
+
+pub length-numbers : (first n : ℕ) → length (numbers first n) ≡ n
+length-numbers first zero = refl
+length-numbers first (suc n) =
+    let shorter : length (numbers first n) ≡ n = length-numbers first n in
+    ap length (numbers-more first n) ∙ omega (arith, shorter, length-append (numbers first n) ((first + n) ∷ []))
+
+any-more : (p : ℕ → Bool) (first n : ℕ) →
+    list_any p (numbers first (suc n)) ≡ (list_any p (numbers first n) || (p (first + n) || false))
+any-more p first n =
+    ap (list_any p) (numbers-more first n) ∙ list_any-append p (numbers first n) ((first + n) ∷ [])
+
+-- each number between is listed
+pub listed : (first n p : ℕ) → first ≤ p → p < first + n → list_any (nat_eq p) (numbers first n) ≡ true
+listed first zero p least most = absurd (omega arith)
+listed first (suc n) p least most =
+    any-more (nat_eq p) first n ∙ ⊎_elim
+    (λ same. ap (λ b. list_any (nat_eq p) (numbers first n) || (b || false)) same ∙ or-true (list_any (nat_eq p) (numbers first n)))
+    (λ other. ap (λ b. b || (nat_eq p (first + n) || false)) (listed first n p least (omega (arith, eqb-false p (first + n) other))))
+    (cases_Bool (nat_eq p (first + n)))
+  where
+    or-true : (b : Bool) → (b || true) ≡ true
+    or-true true = refl
+    or-true false = refl
+
+-- a later number is not listed
+pub not-listed : (first n m : ℕ) → n ≤ m → list_any (λ q. q == first + m) (numbers first n) ≡ false
+not-listed first zero m le = refl
+not-listed first (suc n) m le =
+    any-more (λ q. q == first + m) first n
+    ∙ ap (λ b. b || ((first + n == first + m) || false)) (not-listed first n m (omega arith))
+    ∙ ap (λ b. b || false) (apart (first + n) (first + m) (omega arith))
+  where
+    apart : (a b : ℕ) → a < b → (a == b) ≡ false
+    apart a b lt = grind (arith, nat_tests)
+
+-- the number is listed, whichever way the test is asked
+pub listed-turned : (p : ℕ) (xs : List ℕ) → list_any (nat_eq p) xs ≡ list_any (λ q. q == p) xs
+listed-turned p [] = refl
+listed-turned p (x ∷ xs) =
+    ap (λ b. b || list_any (nat_eq p) xs) (nat_eq_equiv.symm p x) ∙ ap (λ b. nat_eq x p || b) (listed-turned p xs)
+
+-- different ones of n numbers are at most n
+pub different-within : (first n : ℕ) (xs : List ℕ) → IsDistinct nat_eq xs →
+    ((q : ℕ) → list_any (nat_eq q) xs ≡ true → (first ≤ q) × (q < first + n)) → length xs ≤ n
+different-within first n xs different within =
+    let most : length xs ≤ length (numbers first n) =
+    length-le_from_is_member nat_eq_equiv xs (numbers first n) different
+    (λ q there. listed first n q (within q there).0 (within q there).1) in
+    omega (arith, most, length-numbers first n)

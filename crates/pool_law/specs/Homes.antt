@@ -1,0 +1,25 @@
+-- Where an object's word and home stand.
+use Rattle.std.specs.Prelude.{ℕ, ◌+◌, ◌*◌, ◌<◌}
+use Rattle.pool_law.specs.declared.run.Shape.{Shape}
+use Rattle.pool_law.specs.declared.note.Object.{Object}
+use Rattle.pool_law.specs.declared.note.Object.TheVariants.{Arena, Cache, Bin, Mail, Root}
+
+-- the object is one of this shape
+abbrev pub IsObjectOf : Shape → Object → Type 0
+IsObjectOf s (Arena a) = a < s.arenas
+IsObjectOf s (Cache lane class) = (lane < s.lanes) × (class < 40)
+IsObjectOf s (Bin lane) = lane < s.lanes
+IsObjectOf s (Mail from to) = («from» < s.lanes) × (to < s.lanes)
+IsObjectOf s (Root place) = place < s.lanes * s.handles
+
+-- arenas, then caches by lane and class, then bins, then mails by both lanes, then root places
+abbrev pub home_of : Shape → Object → ℕ
+home_of s (Arena a) = a
+home_of s (Cache lane class) = s.arenas + lane * 40 + class
+home_of s (Bin lane) = s.arenas + s.lanes * 40 + lane
+home_of s (Mail from to) = s.arenas + s.lanes * 41 + («from» * s.lanes + to)
+home_of s (Root place) = s.arenas + s.lanes * 41 + s.lanes * s.lanes + place
+
+-- how many objects there are
+abbrev pub objects_of : Shape → ℕ
+objects_of s = s.arenas + s.lanes * 41 + s.lanes * s.lanes + s.lanes * s.handles

@@ -1,0 +1,36 @@
+-- The measures of a pool, and what they may be.
+use Rattle.std.specs.Prelude.{ℕ, ◌*◌, ◌^◌, ◌≤◌, Bool, nat_lt, if◌then◌else◌}
+use Rattle.size_classes.specs.Sizes.{Geometry, chunk_bytes}
+use Rattle.pool_law.specs.declared.run.Shape.{Shape}
+
+-- what the sizes are made from
+abbrev pub geometry_of : Shape → Geometry
+geometry_of shape = record { order = shape.order }
+
+-- a shape inside the limits
+pub record IsShape (shape : Shape) : Type 0 where
+  pub order_least : 3 ≤ shape.order
+  pub order_most : shape.order ≤ 11
+  pub arenas_least : 1 ≤ shape.arenas
+  pub arenas_most : shape.arenas ≤ 8
+  pub chunks_least : 1 ≤ shape.chunks
+  pub chunks_most : shape.chunks ≤ 8
+  pub memory : shape.arenas * (shape.chunks * chunk_bytes (geometry_of shape)) ≤ 2 ^ 29
+  pub handles_least : 1 ≤ shape.handles
+  pub handles_most : shape.handles ≤ 4096
+  pub lanes_least : 1 ≤ shape.lanes
+  pub lanes_most : shape.lanes ≤ 16
+  pub interval_least : 1 ≤ shape.interval
+  pub interval_most : shape.interval ≤ 65536
+
+-- the classes that have a cache are those below this
+abbrev pub cached_classes : ℕ
+cached_classes = 40
+
+-- a class has a cache
+abbrev pub has_cache : ℕ → Bool
+has_cache class = nat_lt class cached_classes
+
+-- how many regions a cache holds: the last of them is of the first normal class
+abbrev pub cache_capacity : ℕ → ℕ
+cache_capacity class = if nat_lt class 39 then 256 else 64

@@ -1,0 +1,147 @@
+-- Logs of lanes, and the histories that they give.
+use Rattle.std.specs.Prelude.{◌≡◌, ℕ, zero, suc, ◌+◌, ◌-◌, ◌%◌, Bool, true, ◌==◌, ◌&&◌, if◌then◌else◌, List, [], ◌∷◌, ◌++◌, length, map, take, Option, Some, None, option_map, unwrap_or, slice_get}
+use Rattle.pool_law.specs.declared.id.RootId.{RootId}
+use Rattle.pool_law.specs.declared.id.RegionId.{RegionId}
+use Rattle.pool_law.specs.declared.note.Object.{Object}
+use Rattle.pool_law.specs.declared.note.Object.TheVariants.{Arena, Cache, Bin, Mail, Root}
+use Rattle.pool_law.specs.declared.note.Did.{Did}
+use Rattle.pool_law.specs.declared.note.Did.TheVariants.{Take, Full, Hit, Miss, Trim, Close, Shed, Handle, NoHandle, Post, Fetch, Set, Get, Touch, End}
+use Rattle.pool_law.specs.declared.note.Note.{Note}
+use Rattle.pool_law.specs.declared.note.Note.TheVariants.{At, Ref, Busy}
+use Rattle.pool_law.specs.declared.run.Shape.{Shape}
+use Rattle.pool_law.specs.Same.{same_object}
+use Rattle.pool_law.specs.Roots.{RootPlace, Present}
+use Rattle.pool_law.specs.Arenas.{or_else}
+use Rattle.pool_law.specs.Histories.{place_after}
+
+-- the notes of each lane, in its own order
+abbrev pub Logs : Type 0
+Logs = List (List Note)
+
+-- what was done to an object, each with the lane that did it
+abbrev pub History : Type 0
+History = List (ℕ × Did)
+
+-- what was done, without the lanes
+abbrev pub dids : History → List Did
+dids h = map (λ e. e.1) h
+
+-- the log of a lane
+abbrev pub log_of : {X : Type 0} → List (List X) → ℕ → List X
+log_of logs lane = unwrap_or (slice_get logs lane) []
+
+-- a note at the object, with its number
+abbrev pub own_note : Object → Note → List (ℕ × Did)
+own_note object (At other number did) =
+    if same_object object other then (number, did) ∷ [] else []
+own_note object (Ref root did) = []
+own_note object (Busy held) = []
+
+-- the notes at an object in one log, with their numbers
+abbrev pub own : Object → List Note → List (ℕ × Did)
+own object [] = []
+own object (n ∷ ns) = own_note object n ++ own object ns
+
+-- the notes of one lane in a history, each with its place, counted from n
+abbrev pub numbered : ℕ → ℕ → History → List (ℕ × Did)
+numbered lane n [] = []
+numbered lane n (e ∷ h) =
+    if e.0 == lane then (n, e.1) ∷ numbered lane (n + 1) h else numbered lane (n + 1) h
+
+-- the history of an object: what each lane noted at it is, in order, what the history has of the
+-- lane, and the numbers are the places in the history, from 1
+abbrev pub IsHistory : Object → Logs → History → Type 0
+IsHistory object logs h = (lane : ℕ) → own object (log_of logs lane) ≡ numbered lane 1 h
+
+-- what has this number in one list of notes, and in the logs, the first of which is of this lane
+abbrev pub with_number : ℕ → List (ℕ × Did) → Option Did
+with_number n [] = None
+with_number n (x ∷ xs) = if x.0 == n then Some x.1 else with_number n xs
+
+-- what the logs from this lane on have with this number at the object
+abbrev pub entry_at : Object → ℕ → ℕ → Logs → Option (ℕ × Did)
+entry_at object n lane [] = None
+entry_at object n lane (log ∷ logs) =
+    or_else (option_map (λ did. (lane, did)) (with_number n (own object log)))
+    (entry_at object n (lane + 1) logs)
+
+-- how many notes the logs have at the object
+abbrev pub notes_at : Object → Logs → ℕ
+notes_at object [] = 0
+notes_at object (log ∷ logs) = length (own object log) + notes_at object logs
+
+-- a list with an item before it, if there is one
+abbrev pub extended : {X : Type 0} → Option X → List X → List X
+extended None xs = xs
+extended (Some x) xs = x ∷ xs
+
+-- the notes at an object with the numbers from n on, as far as there are any
+abbrev pub history_from : Object → Logs → ℕ → ℕ → History
+history_from object logs n zero = []
+history_from object logs n (suc rest) =
+    extended (entry_at object n 0 logs) (history_from object logs (n + 1) rest)
+
+-- the notes at an object from all logs, in order of number
+abbrev pub history_of : Object → Logs → History
+history_of object logs = history_from object logs 1 (notes_at object logs)
+
+-- whether a lane may note this at the object
+abbrev pub may_stand : Shape → ℕ → Object → Did → Bool
+may_stand shape lane (Arena number) (Take class region) =
+    (lane % shape.arenas == number) && (region.owner == lane)
+may_stand shape lane (Arena number) (Full class) = lane % shape.arenas == number
+may_stand shape lane (Cache owner class) (Hit region) = lane == owner
+may_stand shape lane (Cache owner class) Miss = lane == owner
+may_stand shape lane (Cache owner class) (Trim quota) = lane == owner
+may_stand shape lane (Cache owner class) (Close quota) = lane == owner
+may_stand shape lane (Cache owner class) (Shed region) = lane == owner
+may_stand shape lane (Bin owner) (Handle place) = lane == owner
+may_stand shape lane (Bin owner) NoHandle = lane == owner
+may_stand shape lane (Mail from to) (Post parcel) = lane == from
+may_stand shape lane (Mail from to) (Fetch parcel) = lane == to
+may_stand shape lane _ _ = true
+
+-- a lane may note this
+abbrev pub note_stands : Shape → ℕ → Note → Bool
+note_stands shape lane (At object number did) = may_stand shape lane object did
+note_stands shape lane (Ref root did) = true
+note_stands shape lane (Busy held) = true
+
+-- a note with what only its object's history tells: an access's root, and the region of an end
+pub record Entry : Type 0 where
+  pub note : Note
+  pub root : Option RootId
+  pub region : Option RegionId
+
+-- what is present at a root place
+abbrev pub present_in : Option RootPlace → Option Present
+present_in None = None
+present_in (Some place) = place.present
+
+-- what is present at a root place as the note with this number comes
+abbrev pub present_before : Logs → ℕ → ℕ → Option Present
+present_before logs place number =
+    present_in (place_after place (take (number - 1) (dids (history_of (Root place) logs))))
+
+-- the root of an access
+abbrev pub root_for : Did → Option Present → Option RootId
+root_for (Set offset bytes) p = option_map (λ q. q.root) p
+root_for (Get offset bytes) p = option_map (λ q. q.root) p
+root_for Touch p = option_map (λ q. q.root) p
+root_for _ p = None
+
+-- the region that an end takes out
+abbrev pub region_for : Did → Option Present → Option RegionId
+region_for (End root) p = option_map (λ q. q.region) p
+region_for _ p = None
+
+-- a note as an entry
+abbrev pub entry_of : Logs → Note → Entry
+entry_of logs (At (Root place) number did) =
+    let p = present_before logs place number in
+    record { note = At (Root place) number did; root = root_for did p; region = region_for did p }
+entry_of logs n = record { note = n; root = None; region = None }
+
+-- each lane's log with this
+abbrev pub entries_of : Logs → List (List Entry)
+entries_of logs = map (map (entry_of logs)) logs

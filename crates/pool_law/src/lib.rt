@@ -1,0 +1,21 @@
+#![tactic(auto)]
+//! The pool's plain data, and the definitions that every other crate cites.
+
+pub mod command;
+pub mod id;
+pub mod list;
+pub mod named;
+pub mod note;
+pub mod report;
+pub mod run;
+
+pub use command::{Command, Trace};
+pub use id::{Parcel, Place, Region, RegionId, RootId, ViewData};
+pub use list::{
+    Bytes, ChunkEnds, CommandList, CommandLists, LaneLogs, LeakList, NameList, NoteList, Records,
+    ReplyList,
+};
+pub use named::Named;
+pub use note::{CacheNo, Did, Held, Note, Noted, Object, RefDid};
+pub use report::{Access, ChunkEnd, Leak, ListName, Watch};
+pub use run::{Answered, LaneLog, Level, Reply, Run, Shape};
