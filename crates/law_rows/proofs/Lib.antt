@@ -1,0 +1,7 @@
+mod Lanes
+mod Listed
+mod HistoriesComputed
+mod RootTests
+mod CountsComputed
+mod MarksComputed
+mod LegalComputed

@@ -1,0 +1,164 @@
+-- A lane that has bound two names: 0 to a view of a root that it counts, and 1 to one of a root
+-- that it counts no more. What it answers to one more command.
+use Rattle.std.specs.Prelude.{ℕ, List, [], ◌∷◌, map, Option, option_map}
+use Rattle.pool_law.specs.declared.id.RootId.{RootId}
+use Rattle.pool_law.specs.declared.id.RegionId.{RegionId}
+use Rattle.pool_law.specs.declared.id.ViewData.{ViewData}
+use Rattle.pool_law.specs.declared.command.Command.{Command}
+use Rattle.pool_law.specs.declared.note.CacheNo.{CacheNo}
+use Rattle.pool_law.specs.declared.note.Did.{Did}
+use Rattle.pool_law.specs.declared.note.Note.{Note}
+use Rattle.pool_law.specs.declared.note.Object.{Object}
+use Rattle.pool_law.specs.declared.note.RefDid.{RefDid}
+use Rattle.pool_law.specs.declared.run.Reply.{Reply}
+use Rattle.pool_law.specs.Logs.{Entry}
+use Rattle.pool_law.specs.Patterns.{Entries}
+use Rattle.pool_law.specs.LaneLaw.{lane_step, lane_run, closing}
+use Rattle.pool_law.specs.Lanes.{Bound, Plain, LaneState, Answers, answer, answer_of}
+use Rattle.law_rows.specs.Notes.{default_shape, place, region, root, view, arena, cache, bin, root_place}
+use Rattle.law_rows.specs.Entries.{alone, on, end, mark}
+
+-- the root that it counts
+abbrev pub held : RootId
+held = root 0 1 8
+
+-- the root that it counts no more
+abbrev pub gone : RootId
+gone = root 1 1 8
+
+-- a view of the first: two bytes are read, and six are written
+abbrev pub held_view : ViewData
+held_view = view held 0 8 2 6
+
+-- a view of the second
+abbrev pub gone_view : ViewData
+gone_view = view gone 0 8 0 0
+
+-- the two names
+abbrev pub bound : List (ℕ × Bound)
+bound = (0, Plain held_view) ∷ (1, Plain gone_view) ∷ []
+
+-- the lane
+abbrev pub lane : LaneState
+lane =
+    record {
+      names = bound;
+      seen = on held RefDid.Born ∷ on gone RefDid.Born ∷ on gone RefDid.Ended ∷ [];
+    }
+
+-- its answer to a command whose notes begin these
+abbrev pub answers : Command → Entries → Answers
+answers command es = answer_of (default_shape 2) 0 lane command es
+
+-- a reply that changes no name, and the notes behind
+abbrev pub replies : Reply → Entries → Answers
+replies reply rest = answer reply bound rest
+
+-- another lane is in the section of the held root
+abbrev pub held_mark : Entry
+held_mark = alone (mark (Object.Root 0) 5)
+
+-- ---- An allocation of eight bytes, which takes the third root place.
+
+-- the new root
+abbrev pub third_root : RootId
+third_root = root 2 1 8
+
+-- its region, after so many uses
+abbrev pub third_region : ℕ → RegionId
+third_region uses = region (place 32 16) 0 3 uses
+
+-- its place comes out of the bin
+abbrev pub handle : Entry
+handle = alone (bin 0 3 (Did.Handle 2))
+
+-- the bin is empty
+abbrev pub no_handle : Entry
+no_handle = alone (bin 0 3 Did.NoHandle)
+
+-- its place goes home
+abbrev pub home : Entry
+home = alone (bin 0 4 (Did.Home 2))
+
+-- the lane's cache gives a region
+abbrev pub hit : Entry
+hit = alone (cache 0 0 3 (Did.Hit (third_region 1)))
+
+-- the lane's cache is empty
+abbrev pub miss : Entry
+miss = alone (cache 0 0 3 Did.Miss)
+
+-- another lane is in the lane's cache
+abbrev pub cache_mark : Entry
+cache_mark = alone (mark (Object.Cache 0 0) 2)
+
+-- an arena gives a region
+abbrev pub taken_from : ℕ → Entry
+taken_from number = alone (arena number 3 (Did.Take 0 (third_region 0)))
+
+-- the arena has nothing of a class
+abbrev pub full : ℕ → Entry
+full class = alone (arena 0 3 (Did.Full class))
+
+-- the birth with so many uses
+abbrev pub birth : ℕ → Entry
+birth uses = alone (root_place 2 1 (Did.Birth third_root (third_region uses)))
+
+-- the word of the new root is set
+abbrev pub born : Entry
+born = on third_root RefDid.Born
+
+-- the new name is bound to the whole root
+abbrev pub third_bound : Answers
+third_bound =
+    answer (Reply.OkPlace 16 (place 32 16)) ((2, Plain (view third_root 0 8 0 0)) ∷ bound) []
+
+-- ---- The end of the held root.
+
+-- its region
+abbrev pub held_region : RegionId
+held_region = region (place 0 16) 0 1 1
+
+-- a region that the second lane took
+abbrev pub far_region : RegionId
+far_region = record held_region { owner = 1 }
+
+-- a region of five pages, of a class without a cache
+abbrev pub large_region : RegionId
+large_region = region (place 0 40960) 40 1 1
+
+-- the release that ends the count, the end that takes a region out, the word, and then the rest
+abbrev pub ends_with : RegionId → Entries → Entries
+ends_with region rest =
+    on held RefDid.Ended ∷ end held region 2 ∷ on held RefDid.Vacated ∷ rest
+
+-- a lane's cache keeps a region
+abbrev pub kept_at : ℕ → RegionId → Entry
+kept_at lane region = alone (cache lane 0 3 (Did.Kept region))
+
+-- the cache sends the region back
+abbrev pub sent_back : Entry
+sent_back = alone (cache 0 0 3 (Did.Back held_region CacheNo.Full))
+
+-- the arena takes a region back
+abbrev pub gave : RegionId → Entry
+gave region = alone (arena 0 3 (Did.Give region))
+
+-- its place goes home
+abbrev pub held_home : Entry
+held_home = alone (bin 0 3 (Did.Home 0))
+
+-- ---- The law of a log.
+
+-- the reply to one command that has exactly these notes
+abbrev pub step_reply : Command → Entries → Option Reply
+step_reply command es = option_map (λ p. p.0) (lane_step (default_shape 2) 0 lane command es)
+
+-- the replies to commands that have these notes
+abbrev pub replies_of_run : List Command → List Entries → Option (List Reply)
+replies_of_run commands groups =
+    option_map (λ p. p.0) (lane_run (default_shape 2) 0 lane commands groups)
+
+-- whether these notes close the caches of the first lane
+abbrev pub closes_with : List Note → Option (Unit {0})
+closes_with notes = closing 0 (map alone notes)

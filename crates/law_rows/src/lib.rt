@@ -1,0 +1,29 @@
+#![tactic(auto)]
+//! Worked rows of the definitions: what the check computes of each, as the contract of a function
+//! that does nothing.
+
+pub mod answers;
+pub mod arenas;
+pub mod caches;
+pub mod chunks;
+pub mod closings;
+pub mod counts;
+pub mod elements;
+pub mod first_path;
+pub mod homes;
+pub mod lane_runs;
+pub mod leaks;
+pub mod lists;
+pub mod lives;
+pub mod logs;
+pub mod marks;
+pub mod pages;
+pub mod places;
+pub mod refusals;
+pub mod roots;
+pub mod runs;
+pub mod shapes;
+pub mod sizes;
+pub mod stuck;
+pub mod texts;
+pub mod views;
