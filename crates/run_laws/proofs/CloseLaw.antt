@@ -1,0 +1,389 @@
+-- Each cache of a lane ends empty: it is closed, and what it then has is shed.
+use Rattle.std.proofs.Common.{inl, inr, ◌≡◌, ℕ, zero, suc, ◌+◌, ◌-◌, ◌≤◌, List, [], ◌∷◌, ◌++◌, length, min, take, drop, refl, sym, ap, subst, arith, Bool, true, false, Some, None, ◌∙◌, eqb-true, eq-eqb}
+use Rattle.std.specs.Prelude.{◌≢◌, ◌<◌, ◌==◌, ◌&&◌, not, nat_lt, if◌then◌else◌, Option, option_and_then}
+use Rattle.size_classes.specs.Sizes.{below}
+use Rattle.pool_law.specs.declared.id.RegionId.{RegionId}
+use Rattle.pool_law.specs.declared.command.Command.{Command}
+use Rattle.pool_law.specs.declared.note.Object.{Object}
+use Rattle.pool_law.specs.declared.note.Did.{Did}
+use Rattle.pool_law.specs.declared.note.Did.TheVariants.{Give, Hit, Miss, Kept, Back, Trim, Close, Shed}
+use Rattle.pool_law.specs.declared.note.Note.{Note}
+use Rattle.pool_law.specs.declared.note.Note.TheVariants.{At, Ref, Busy}
+use Rattle.pool_law.specs.declared.run.Shape.{Shape}
+use Rattle.pool_law.specs.declared.run.Reply.{Reply}
+use Rattle.pool_law.specs.declared.run.Answered.{Answered}
+use Rattle.pool_law.specs.Same.{same_object, same_region}
+use Rattle.pool_law.specs.Limits.{cached_classes, cache_capacity}
+use Rattle.pool_law.specs.Logs.{Entry}
+use Rattle.pool_law.specs.Reading.{◌>>=◌, front, at_end}
+use Rattle.arena_law.specs.Slots.{EachOf}
+use Rattle.pool_law.specs.Caches.{Cache, new_cache, front_taken, after_hit, after_shed, is_empty, refusal_is, trim_quota, cache_step, is_own, lane_cache_step}
+use Rattle.pool_law.specs.Histories.{after, cache_after}
+use Rattle.run_laws.specs.CacheCounts.{total_by}
+use Rattle.pool_law.specs.Patterns.{Entries, done_at, next_at, given_of, give_back}
+use Rattle.pool_law.specs.Lanes.{LaneState, new_lane, Answer, answer_of}
+use Rattle.pool_law.specs.LaneLaw.{state_after, lane_step, lane_run, pieces, behind, shed_of, closed_with, sheds, close_cache, close_caches, closing, note_counts, replies_in, IsLaneLog}
+use Rattle.run_laws.proofs.HandLaw.{bind-some, front-is}
+use Rattle.run_laws.proofs.LogHands.{at_end-is, take-drop}
+use Rattle.pool_law.proofs.HistoryLemmas.{append-assoc}
+use Rattle.run_laws.proofs.CacheLaw.{if_so-is, if-some, unless-some}
+use Rattle.run_laws.proofs.PlaceLaw.{if_so-test}
+use Rattle.pool_law.proofs.SameLemmas.{and-first, and-second}
+use Rattle.arena_law.proofs.GiveSteps.{IsOne}
+use Rattle.arena_law.proofs.ReturnLaw.{IsOne-front, IsOne-last}
+use Rattle.run_laws.proofs.Sums.{sum_by}
+use Rattle.run_laws.proofs.Numbered.{same_object-is}
+use Rattle.pool_law.proofs.PatternLemmas.{same_object-refl}
+use Rattle.run_laws.proofs.DueLaw.{Due, due_on, due_after}
+use Rattle.run_laws.proofs.LaneDues.{answer_of-empties}
+use Rattle.std.proofs.lemmas.Bool.{cond_both}
+
+abbrev pub Calm : Entries → Type 0
+Calm es = due_after None es ≡ Some None
+
+pub due-append : (xs ys : Entries) (h k : Due) → due_after h xs ≡ Some k → due_after h (xs ++ ys) ≡ due_after k ys
+due-append [] ys h k e = let same : h ≡ k = cc e in ap (λ x. due_after x ys) same
+due-append (x ∷ xs) ys h k e =
+    let f : (m : Due) × (due_on h x.note ≡ Some m) × (due_after m xs ≡ Some k) = bind-some (due_on h x.note) (λ m. due_after m xs) k e in
+    ap (λ o. o >>= (λ m. due_after m (xs ++ ys))) f.1 ∙ due-append xs ys f.0 k f.2
+
+pub lane_step-calm : (shape : Shape) (lane : ℕ) (s : LaneState) (c : Command) (es : Entries) (p : Reply × LaneState) → lane_step shape lane s c es ≡ Some p → Calm es
+lane_step-calm shape lane s c es p is =
+    let f : (x : Answer × Entries) × (answer_of shape lane s c es ≡ Some x) × ((at_end x.1 >>= (λ _. Some (x.0.reply, state_after s es x.0))) ≡ Some p) = bind-some (answer_of shape lane s c es) (λ x. at_end x.1 >>= (λ _. Some (x.0.reply, state_after s es x.0))) p is in
+    let u : (u : Unit {0}) × (at_end f.0.1 ≡ Some u) × (Some (f.0.0.reply, state_after s es f.0.0) ≡ Some p) = bind-some (at_end f.0.1) (λ _. Some (f.0.0.reply, state_after s es f.0.0)) p f.2 in
+    answer_of-empties shape lane s c es f.0 f.1 ∙ ap (due_after None) (at_end-is f.0.1 u.0 u.1)
+
+pub lane_run-calm : (shape : Shape) (lane : ℕ) (s : LaneState) (cs : List Command) (groups : List Entries) (p : List Reply × LaneState) → lane_run shape lane s cs groups ≡ Some p → EachOf Calm groups
+lane_run-calm shape lane s [] [] p is = tt
+lane_run-calm shape lane s [] (g ∷ groups) p is = absurd (cc is)
+lane_run-calm shape lane s (c ∷ cs) [] p is = absurd (cc is)
+lane_run-calm shape lane s (c ∷ cs) (g ∷ groups) p is =
+    let f : (x : Reply × LaneState) × (lane_step shape lane s c g ≡ Some x) × ((lane_run shape lane x.1 cs groups >>= (λ y. Some (x.0 ∷ y.0, y.1))) ≡ Some p) = bind-some (lane_step shape lane s c g) (λ x. lane_run shape lane x.1 cs groups >>= (λ y. Some (x.0 ∷ y.0, y.1))) p is in
+    let r : (y : List Reply × LaneState) × (lane_run shape lane f.0.1 cs groups ≡ Some y) × (Some (f.0.0 ∷ y.0, y.1) ≡ Some p) = bind-some (lane_run shape lane f.0.1 cs groups) (λ y. Some (f.0.0 ∷ y.0, y.1)) p f.2 in
+    (lane_step-calm shape lane s c g f.0 f.1, lane_run-calm shape lane f.0.1 cs groups r.0 r.1)
+
+pub pieces-calm : (ns : List ℕ) (es : Entries) → EachOf Calm (pieces ns es) → (first : Entries) × (es ≡ first ++ behind ns es) × Calm first
+pieces-calm [] es h = ([], refl, refl)
+pieces-calm (n ∷ ns) es h =
+    let r : (first : Entries) × (drop n es ≡ first ++ behind ns (drop n es)) × Calm first = pieces-calm ns (drop n es) h.1 in
+    (take n es ++ r.0, sym (take-drop n es) ∙ ap (λ xs. take n es ++ xs) r.1 ∙ sym (append-assoc (take n es) r.0 (behind ns (drop n es))), due-append (take n es) r.0 None None h.0 ∙ r.2)
+
+-- a log is what its commands note, and the closing of its caches
+abbrev pub Parts : ℕ → Entries → Type 0
+Parts lane es = (first : Entries) × (last : Entries) × (es ≡ first ++ last) × Calm first × (closing lane last ≡ Some tt)
+
+pub log-parts : (shape : Shape) (lane : ℕ) (commands : List Command) (replies : List Answered) (es : Entries) → IsLaneLog shape lane commands replies es → Parts lane es
+log-parts shape lane commands replies es log =
+    let p : (first : Entries) × (es ≡ first ++ behind (note_counts replies) es) × Calm first = pieces-calm (note_counts replies) es (lane_run-calm shape lane new_lane commands (pieces (note_counts replies) es) (replies_in replies, log.last) log.answered) in
+    (p.0, behind (note_counts replies) es, p.1, p.2, log.closes)
+
+-- a sum over entries, by their notes
+abbrev pub sum_notes : (Note → ℕ) → Entries → ℕ
+sum_notes f es = sum_by (λ e. f e.note) es
+
+pub notes-append : (f : Note → ℕ) (xs ys : Entries) → sum_notes f (xs ++ ys) ≡ sum_notes f xs + sum_notes f ys
+notes-append f [] ys = omega arith
+notes-append f (x ∷ xs) ys = omega (arith, notes-append f xs ys)
+
+abbrev pub many : ℕ → ℕ → ℕ
+many zero w = 0
+many (suc n) w = w + many n w
+
+pub many-none : (n : ℕ) → many n 0 ≡ 0
+many-none zero = refl
+many-none (suc n) = omega (arith, many-none n)
+
+pub many-one : (n : ℕ) → many n 1 ≡ n
+many-one zero = refl
+many-one (suc n) = omega (arith, many-one n)
+
+pub next_at-note : (o : Object) (es : Entries) (p : Did × Entries) → next_at o es ≡ Some p → (e : Entry) × (k : ℕ) × (es ≡ e ∷ p.1) × (e.note ≡ At o k p.0)
+next_at-note o es p is =
+    let f : (x : Entry × Entries) × (front es ≡ Some x) × ((done_at o x.0.note >>= (λ d. Some (d, x.1))) ≡ Some p) = bind-some (front es) (λ x. done_at o x.0.note >>= (λ d. Some (d, x.1))) p is in
+    let d : (d : Did) × (done_at o f.0.0.note ≡ Some d) × (Some (d, f.0.1) ≡ Some p) = bind-some (done_at o f.0.0.note) (λ d. Some (d, f.0.1)) p f.2 in
+    let same : ◌≡◌ {A = Did × Entries} (d.0, f.0.1) p = cc d.2 in
+    let n : (k : ℕ) × (f.0.0.note ≡ At o k d.0) = note f.0.0.note d.0 d.1 in
+    (f.0.0, n.0, front-is es f.0 f.1 ∙ ap (λ q. f.0.0 ∷ q.1) same, n.1 ∙ ap (λ q. At o n.0 q.0) same)
+  where
+    note : (n : Note) (d : Did) → done_at o n ≡ Some d → (k : ℕ) × (n ≡ At o k d)
+    note (At other k did) d e =
+        cond_both (same_object o other) (Some did) None (λ z. z ≡ Some d → (k' : ℕ) × (At other k did ≡ At o k' d))
+        (λ test is. let same : did ≡ d = cc is in (k, λ i. At (sym (same_object-is o other test) i) k (same i))) (λ _ is. absurd (cc is)) e
+    note (Ref root did) d e = absurd (cc e)
+    note (Busy held) d e = absurd (cc e)
+
+module _ (f : Note → ℕ) (gives : (o : Object) (k : ℕ) (r : RegionId) → f (At o k (Give r)) ≡ 0) where
+  pub give_back-sum : (r : RegionId) (es rest : Entries) → give_back r es ≡ Some rest → sum_notes f es ≡ sum_notes f rest
+  give_back-sum r es rest is =
+      let x : (x : Did × Entries) × (next_at (Object.Arena r.place.arena) es ≡ Some x) × ((given_of r x.0 >>= (λ _. Some x.1)) ≡ Some rest) = bind-some (next_at (Object.Arena r.place.arena) es) (λ x. given_of r x.0 >>= (λ _. Some x.1)) rest is in
+      let u : (u : Unit {0}) × (given_of r x.0.0 ≡ Some u) × (Some x.0.1 ≡ Some rest) = bind-some (given_of r x.0.0) (λ _. Some x.0.1) rest x.2 in
+      let same : x.0.1 ≡ rest = cc u.2 in
+      let e : (e : Entry) × (k : ℕ) × (es ≡ e ∷ x.0.1) × (e.note ≡ At (Object.Arena r.place.arena) k x.0.0) = next_at-note (Object.Arena r.place.arena) es x.0 x.1 in
+      omega (arith, ap (sum_notes f) e.2, ap f e.3, given x.0.0 e.1 u.0 u.1, ap (sum_notes f) same)
+    where
+      given : (d : Did) (k : ℕ) (u : Unit {0}) → given_of r d ≡ Some u → f (At (Object.Arena r.place.arena) k d) ≡ 0
+      given (Give x) k u e = gives (Object.Arena r.place.arena) k x
+      given _ k u e = absurd (cc e)
+
+  module _ (lane class : ℕ) (w : ℕ) (shed : (k : ℕ) (r : RegionId) → f (At (Object.Cache lane class) k (Shed r)) ≡ w) where
+    pub sheds-sum : (n : ℕ) (es rest : Entries) → sheds lane class n es ≡ Some rest → sum_notes f es ≡ many n w + sum_notes f rest
+    sheds-sum zero es rest is = let same : es ≡ rest = cc is in omega (arith, ap (sum_notes f) same)
+    sheds-sum (suc n) es rest is =
+        let x : (x : Did × Entries) × (next_at (Object.Cache lane class) es ≡ Some x) × ((shed_of x.0 >>= (λ r. give_back r x.1 >>= (λ left. sheds lane class n left))) ≡ Some rest) = bind-some (next_at (Object.Cache lane class) es) (λ x. shed_of x.0 >>= (λ r. give_back r x.1 >>= (λ left. sheds lane class n left))) rest is in
+        let r : (r : RegionId) × (shed_of x.0.0 ≡ Some r) × ((give_back r x.0.1 >>= (λ left. sheds lane class n left)) ≡ Some rest) = bind-some (shed_of x.0.0) (λ r. give_back r x.0.1 >>= (λ left. sheds lane class n left)) rest x.2 in
+        let g : (left : Entries) × (give_back r.0 x.0.1 ≡ Some left) × (sheds lane class n left ≡ Some rest) = bind-some (give_back r.0 x.0.1) (λ left. sheds lane class n left) rest r.2 in
+        let e : (e : Entry) × (k : ℕ) × (es ≡ e ∷ x.0.1) × (e.note ≡ At (Object.Cache lane class) k x.0.0) = next_at-note (Object.Cache lane class) es x.0 x.1 in
+        omega (arith, ap (sum_notes f) e.2, ap f e.3, did x.0.0 e.1 r.0 r.1, give_back-sum r.0 x.0.1 g.0 g.1, sheds-sum n g.0 rest g.2)
+      where
+        did : (d : Did) (k : ℕ) (r : RegionId) → shed_of d ≡ Some r → f (At (Object.Cache lane class) k d) ≡ w
+        did (Shed x) k r e = shed k x
+        did _ k r e = absurd (cc e)
+
+    pub closed-sum : (c : ℕ → ℕ) → ((k q : ℕ) → f (At (Object.Cache lane class) k (Close q)) ≡ c q) → (q : ℕ) (d : Did) (es mid rest : Entries) → next_at (Object.Cache lane class) es ≡ Some (d, mid) → closed_with d ≡ Some q → sheds lane class q mid ≡ Some rest →
+        sum_notes f es ≡ c q + (many q w + sum_notes f rest)
+    closed-sum c close q d es mid rest first with_q then_sheds =
+        let e : (e : Entry) × (k : ℕ) × (es ≡ e ∷ mid) × (e.note ≡ At (Object.Cache lane class) k d) = next_at-note (Object.Cache lane class) es (d, mid) first in
+        omega (arith, ap (sum_notes f) e.2, ap f e.3, did d e.1 q with_q, sheds-sum q mid rest then_sheds)
+      where
+        did : (d : Did) (k q : ℕ) → closed_with d ≡ Some q → f (At (Object.Cache lane class) k d) ≡ c q
+        did (Close x) k q e = let same : x ≡ q = cc e in close k x ∙ ap c same
+        did _ k q e = absurd (cc e)
+
+-- how a cache is closed
+pub close_cache-is : (lane class : ℕ) (es rest : Entries) → close_cache lane class es ≡ Some rest → (q : ℕ) × (d : Did) × (mid : Entries) × (next_at (Object.Cache lane class) es ≡ Some (d, mid)) × (closed_with d ≡ Some q) × (sheds lane class q mid ≡ Some rest)
+close_cache-is lane class es rest is =
+    let x : (x : Did × Entries) × (next_at (Object.Cache lane class) es ≡ Some x) × ((closed_with x.0 >>= (λ q. sheds lane class q x.1)) ≡ Some rest) = bind-some (next_at (Object.Cache lane class) es) (λ x. closed_with x.0 >>= (λ q. sheds lane class q x.1)) rest is in
+    let q : (q : ℕ) × (closed_with x.0.0 ≡ Some q) × (sheds lane class q x.0.1 ≡ Some rest) = bind-some (closed_with x.0.0) (λ q. sheds lane class q x.0.1) rest x.2 in
+    (q.0, x.0.0, x.0.1, x.1, q.1, q.2)
+
+-- what a closing has nothing of
+pub closing-none : (f : Note → ℕ) → ((o : Object) (k : ℕ) (r : RegionId) → f (At o k (Give r)) ≡ 0) → ((o : Object) (k : ℕ) (r : RegionId) → f (At o k (Shed r)) ≡ 0) → ((o : Object) (k q : ℕ) → f (At o k (Close q)) ≡ 0) →
+    (lane : ℕ) (classes : List ℕ) (es rest : Entries) → close_caches lane classes es ≡ Some rest → sum_notes f es ≡ sum_notes f rest
+closing-none f gives shed close lane [] es rest is = let same : es ≡ rest = cc is in ap (sum_notes f) same
+closing-none f gives shed close lane (class ∷ classes) es rest is =
+    let x : (x : Entries) × (close_cache lane class es ≡ Some x) × (close_caches lane classes x ≡ Some rest) = bind-some (close_cache lane class es) (λ x. close_caches lane classes x) rest is in
+    let c : (q : ℕ) × (d : Did) × (mid : Entries) × (next_at (Object.Cache lane class) es ≡ Some (d, mid)) × (closed_with d ≡ Some q) × (sheds lane class q mid ≡ Some x.0) = close_cache-is lane class es x.0 x.1 in
+    omega (arith, closed-sum f gives lane class 0 (shed (Object.Cache lane class)) (λ q. 0) (close (Object.Cache lane class)) c.0 c.1 es c.2 x.0 c.3 c.4 c.5, many-none c.0, closing-none f gives shed close lane classes x.0 rest x.2)
+
+-- at one cache: what may be shed, and what is shed
+abbrev pub one : Bool → ℕ
+one b = if b then 1 else 0
+
+abbrev pub grant : Did → ℕ
+grant (Trim q) = q
+grant (Close q) = q
+grant _ = 0
+
+abbrev pub shed_one : Did → ℕ
+shed_one (Shed r) = 1
+shed_one _ = 0
+
+abbrev pub close_one : Did → ℕ
+close_one (Close q) = 1
+close_one _ = 0
+
+abbrev pub at_cache : (Did → ℕ) → Object → Note → ℕ
+at_cache f o (At other k d) = if same_object o other then f d else 0
+at_cache f o (Ref root did) = 0
+at_cache f o (Busy held) = 0
+
+pub zero-if : (b : Bool) → ◌≡◌ {A = ℕ} (if b then 0 else 0) 0
+zero-if true = refl
+zero-if false = refl
+
+pub many-if : (b : Bool) (q : ℕ) → (if b then q else 0) ≡ many q (if b then 1 else 0)
+many-if true q = sym (many-one q)
+many-if false q = sym (many-none q)
+
+pub closing-even : (o : Object) (lane : ℕ) (classes : List ℕ) (es rest : Entries) → close_caches lane classes es ≡ Some rest →
+    sum_notes (at_cache grant o) es + sum_notes (at_cache shed_one o) rest ≡ sum_notes (at_cache shed_one o) es + sum_notes (at_cache grant o) rest
+closing-even o lane [] es rest is = let same : es ≡ rest = cc is in omega (arith, ap (sum_notes (at_cache grant o)) same, ap (sum_notes (at_cache shed_one o)) same)
+closing-even o lane (class ∷ classes) es rest is =
+    let x : (x : Entries) × (close_cache lane class es ≡ Some x) × (close_caches lane classes x ≡ Some rest) = bind-some (close_cache lane class es) (λ x. close_caches lane classes x) rest is in
+    let c : (q : ℕ) × (d : Did) × (mid : Entries) × (next_at (Object.Cache lane class) es ≡ Some (d, mid)) × (closed_with d ≡ Some q) × (sheds lane class q mid ≡ Some x.0) = close_cache-is lane class es x.0 x.1 in
+    let b : Bool = same_object o (Object.Cache lane class) in
+    let g : sum_notes (at_cache grant o) es ≡ (if same_object o (Object.Cache lane class) then c.0 else 0) + (many c.0 0 + sum_notes (at_cache grant o) x.0) =
+    closed-sum (at_cache grant o) (λ other k r. zero-if (same_object o other)) lane class 0 (λ k r. zero-if (same_object o (Object.Cache lane class))) (λ q. if same_object o (Object.Cache lane class) then q else 0) (λ k q. refl) c.0 c.1 es c.2 x.0 c.3 c.4 c.5 in
+    let s : sum_notes (at_cache shed_one o) es ≡ 0 + (many c.0 (if same_object o (Object.Cache lane class) then 1 else 0) + sum_notes (at_cache shed_one o) x.0) =
+    closed-sum (at_cache shed_one o) (λ other k r. zero-if (same_object o other)) lane class (if same_object o (Object.Cache lane class) then 1 else 0) (λ k r. refl) (λ q. 0) (λ k q. zero-if (same_object o (Object.Cache lane class))) c.0 c.1 es c.2 x.0 c.3 c.4 c.5 in
+    omega (arith, g, s, many-none c.0, many-if (same_object o (Object.Cache lane class)) c.0, closing-even o lane classes x.0 rest x.2)
+
+pub closing-closes : (lane class : ℕ) → same_object (Object.Cache lane class) (Object.Cache lane class) ≡ true → (classes : List ℕ) (es rest : Entries) → close_caches lane classes es ≡ Some rest → IsOne class classes →
+    1 ≤ sum_notes (at_cache close_one (Object.Cache lane class)) es
+closing-closes lane class self [] es rest is one_of = absurd one_of
+closing-closes lane class self (other ∷ classes) es rest is one_of =
+    let x : (x : Entries) × (close_cache lane other es ≡ Some x) × (close_caches lane classes x ≡ Some rest) = bind-some (close_cache lane other es) (λ x. close_caches lane classes x) rest is in
+    let c : (q : ℕ) × (d : Did) × (mid : Entries) × (next_at (Object.Cache lane other) es ≡ Some (d, mid)) × (closed_with d ≡ Some q) × (sheds lane other q mid ≡ Some x.0) = close_cache-is lane other es x.0 x.1 in
+    let s : sum_notes (at_cache close_one (Object.Cache lane class)) es ≡ (if same_object (Object.Cache lane class) (Object.Cache lane other) then 1 else 0) + (many c.0 0 + sum_notes (at_cache close_one (Object.Cache lane class)) x.0) =
+    closed-sum (at_cache close_one (Object.Cache lane class)) (λ o k r. zero-if (same_object (Object.Cache lane class) o)) lane other 0 (λ k r. zero-if (same_object (Object.Cache lane class) (Object.Cache lane other)))
+    (λ q. if same_object (Object.Cache lane class) (Object.Cache lane other) then 1 else 0) (λ k q. refl) c.0 c.1 es c.2 x.0 c.3 c.4 c.5 in
+    go one_of (many c.0 0) (sum_notes (at_cache close_one (Object.Cache lane class)) es) (sum_notes (at_cache close_one (Object.Cache lane class)) x.0) s (λ later. closing-closes lane class self classes x.0 rest x.2 later)
+  where
+    go : IsOne class (other ∷ classes) → (m n k : ℕ) → n ≡ (if same_object (Object.Cache lane class) (Object.Cache lane other) then 1 else 0) + (m + k) → (IsOne class classes → 1 ≤ k) → 1 ≤ n
+    go (inl here) m n k s later =
+        let test : same_object (Object.Cache lane class) (Object.Cache lane other) ≡ true = subst (λ c. same_object (Object.Cache lane class) (Object.Cache lane c) ≡ true) here self in
+        omega (arith, s, ap one test)
+    go (inr there) m n k s later = omega (arith, s, later there)
+
+-- what the notes of commands have nothing of: grants, sheds and closings
+pub calm-none : (f : Note → ℕ) → ((n : Note) (due more : Due) → due_on due n ≡ Some more → f n ≡ 0) → (es : Entries) (due more : Due) → due_after due es ≡ Some more → sum_notes f es ≡ 0
+calm-none f quiet [] due more e = refl
+calm-none f quiet (x ∷ es) due more e =
+    let s : (m : Due) × (due_on due x.note ≡ Some m) × (due_after m es ≡ Some more) = bind-some (due_on due x.note) (λ m. due_after m es) more e in
+    omega (arith, quiet x.note due s.0 s.1, calm-none f quiet es s.0 more s.2)
+
+pub quiet-grant : (o : Object) (n : Note) (due more : Due) → due_on due n ≡ Some more → at_cache grant o n ≡ 0
+quiet-grant o (At other k (Trim q)) None more e = absurd (cc e)
+quiet-grant o (At other k (Trim q)) (Some d) more e = absurd (cc e)
+quiet-grant o (At other k (Close q)) None more e = absurd (cc e)
+quiet-grant o (At other k (Close q)) (Some d) more e = absurd (cc e)
+quiet-grant o (At other k _) due more e = zero-if (same_object o other)
+quiet-grant o (Ref root did) due more e = refl
+quiet-grant o (Busy held) due more e = refl
+
+pub quiet-shed : (o : Object) (n : Note) (due more : Due) → due_on due n ≡ Some more → at_cache shed_one o n ≡ 0
+quiet-shed o (At other k (Shed r)) None more e = absurd (cc e)
+quiet-shed o (At other k (Shed r)) (Some d) more e = absurd (cc e)
+quiet-shed o (At other k _) due more e = zero-if (same_object o other)
+quiet-shed o (Ref root did) due more e = refl
+quiet-shed o (Busy held) due more e = refl
+
+-- in a whole log: what may be shed at a cache is shed
+pub closing-rest : (lane : ℕ) (es : Entries) → closing lane es ≡ Some tt → close_caches lane (below cached_classes) es ≡ Some []
+closing-rest lane es is =
+    let x : (x : Entries) × (close_caches lane (below cached_classes) es ≡ Some x) × (at_end x ≡ Some tt) = bind-some (close_caches lane (below cached_classes) es) at_end tt is in
+    x.1 ∙ ap (λ y. Some y) (at_end-is x.0 tt x.2)
+
+pub log-even : (o : Object) (lane : ℕ) (es : Entries) → Parts lane es → sum_notes (at_cache grant o) es ≡ sum_notes (at_cache shed_one o) es
+log-even o lane es p =
+    let e : sum_notes (at_cache grant o) p.1 + 0 ≡ sum_notes (at_cache shed_one o) p.1 + 0 = closing-even o lane (below cached_classes) p.1 [] (closing-rest lane p.1 p.4) in
+    omega (
+      arith,
+      ap (sum_notes (at_cache grant o)) p.2,
+      ap (sum_notes (at_cache shed_one o)) p.2,
+      notes-append (at_cache grant o) p.0 p.1,
+      notes-append (at_cache shed_one o) p.0 p.1,
+      calm-none (at_cache grant o) (quiet-grant o) p.0 None None p.3,
+      calm-none (at_cache shed_one o) (quiet-shed o) p.0 None None p.3,
+      e,
+    )
+
+pub below-has : (n class : ℕ) → class < n → IsOne class (below n)
+below-has zero class h = absurd (omega arith)
+below-has (suc n) class h = go (class == n) refl (λ less. below-has n class less)
+  where
+    go : (b : Bool) → (class == n) ≡ b → (class < n → IsOne class (below n)) → IsOne class (below n ++ n ∷ [])
+    go true same again = subst (λ c. IsOne c (below n ++ n ∷ [])) (sym (eqb-true class n same)) (IsOne-last n (below n))
+    go false other again = IsOne-front class (below n) (n ∷ []) (again (less class n h (λ e. let both : true ≡ false = sym (eq-eqb class n e) ∙ other in cc both)))
+      where
+        less : (a b : ℕ) → a < suc b → a ≢ b → a < b
+        less a b h ne = grind arith
+
+pub log-closes : (lane class : ℕ) (es : Entries) → Parts lane es → class < cached_classes → 1 ≤ sum_notes (at_cache close_one (Object.Cache lane class)) es
+log-closes lane class es p low =
+    omega (
+      arith,
+      ap (sum_notes (at_cache close_one (Object.Cache lane class))) p.2,
+      notes-append (at_cache close_one (Object.Cache lane class)) p.0 p.1,
+      closing-closes lane class (same_object-refl (Object.Cache lane class)) (below cached_classes) p.1 [] (closing-rest lane p.1 p.4) (below-has cached_classes class low),
+    )
+
+-- what a note does to a cache
+pub record ClosesTo (c b : Cache) (d : Did) : Type 0 where
+  pub bounded : (c.closed ≡ true → length c.regions ≤ c.quota) → b.closed ≡ true → length b.regions ≤ b.quota
+  pub granted : c.quota + grant d ≡ shed_one d + b.quota
+  pub stays : c.closed ≡ true → b.closed ≡ true
+  pub closes : 1 ≤ close_one d → b.closed ≡ true
+
+pub front-length : (region : RegionId) (xs rest : List RegionId) → front_taken (λ front. same_region region front) xs ≡ Some rest → length xs ≡ 1 + length rest
+front-length region [] rest e = absurd (cc e)
+front-length region (x ∷ xs) rest e =
+    cond_both (same_region region x) (Some xs) None (λ z. z ≡ Some rest → length (x ∷ xs) ≡ 1 + length rest)
+    (λ _ is. let same : xs ≡ rest = cc is in omega (arith, ap length same)) (λ _ is. absurd (cc is)) e
+
+pub if-test : {X : Type 0} (test : Bool) (x : Option X) (y : X) → (if test then x else None) ≡ Some y → test ≡ true
+if-test true x y e = refl
+if-test false x y e = absurd (cc e)
+
+pub unless-test : {X : Type 0} (test : Bool) (x : Option X) (y : X) → (if test then None else x) ≡ Some y → test ≡ false
+unless-test true x y e = absurd (cc e)
+unless-test false x y e = refl
+
+pub not-true : (b : Bool) → not b ≡ true → b ≡ false
+not-true true e = absurd (cc e)
+not-true false e = refl
+
+pub no-both : {P : Type 0} (b : Bool) → b ≡ false → b ≡ true → P
+no-both b no_b yes_b = absurd (let both : true ≡ false = sym yes_b ∙ no_b in cc both)
+
+pub nonzero : (n : ℕ) → (n == 0) ≡ false → 1 ≤ n
+nonzero zero e = absurd (cc e)
+nonzero (suc n) e = omega arith
+
+pub step-closes : (capacity : ℕ) (c b : Cache) (d : Did) → cache_step capacity c d ≡ Some b → ClosesTo c b d
+step-closes capacity c b (Hit region) e = go (front_taken (λ front. same_region region front) c.regions) (λ rest. front-length region c.regions rest) (if-some (c.quota == 0) (after_hit capacity c (front_taken (λ front. same_region region front) c.regions)) b e)
+  where
+    go : (o : Option (List RegionId)) → ((rest : List RegionId) → o ≡ Some rest → length c.regions ≡ 1 + length rest) → after_hit capacity c o ≡ Some b → ClosesTo c b (Hit region)
+    go None len is = absurd (cc is)
+    go (Some rest) len is =
+        let same : record c { regions = rest; served = min (c.served + 1) capacity } ≡ b = cc is in
+        subst (λ x. ClosesTo c x (Hit region)) same (record { bounded = λ h closed. (let old : length c.regions ≤ c.quota = h closed in omega (arith, old, len rest refl)); granted = omega arith; stays = λ s. s; closes = λ h. absurd (omega (arith, h)) })
+step-closes capacity c b Miss e = let same : c ≡ b = if_so-is ((c.quota == 0) && is_empty c.regions) c b e in subst (λ x. ClosesTo c x Miss) same (record { bounded = λ h. h; granted = omega arith; stays = λ s. s; closes = λ h. absurd (omega (arith, h)) })
+step-closes capacity c b (Back region why) e = let same : c ≡ b = if_so-is (refusal_is c capacity why) c b e in subst (λ x. ClosesTo c x (Back region why)) same (record { bounded = λ h. h; granted = omega arith; stays = λ s. s; closes = λ h. absurd (omega (arith, h)) })
+step-closes capacity c b (Kept region) e =
+    let same : record c { regions = c.regions ++ region ∷ [] } ≡ b = if_so-is (not c.closed && nat_lt (length c.regions) capacity) (record c { regions = c.regions ++ region ∷ [] }) b e in
+    let open_ : c.closed ≡ false = not-true c.closed (and-first (not c.closed) (nat_lt (length c.regions) capacity) (if_so-test (not c.closed && nat_lt (length c.regions) capacity) (record c { regions = c.regions ++ region ∷ [] }) b e)) in
+    subst (λ x. ClosesTo c x (Kept region)) same (record { bounded = λ h closed. no-both c.closed open_ closed; granted = omega arith; stays = λ s. s; closes = λ h. absurd (omega (arith, h)) })
+step-closes capacity c b (Trim quota) e =
+    let same : record c { quota = quota; served = 0 } ≡ b = if_so-is ((c.quota == 0) && (quota == trim_quota c capacity)) (record c { quota = quota; served = 0 }) b e in
+    let none : c.quota ≡ 0 = eqb-true c.quota 0 (and-first (c.quota == 0) (quota == trim_quota c capacity) (if_so-test ((c.quota == 0) && (quota == trim_quota c capacity)) (record c { quota = quota; served = 0 }) b e)) in
+    subst (λ x. ClosesTo c x (Trim quota)) same (record { bounded = λ h closed. (let old : length c.regions ≤ c.quota = h closed in omega (arith, old, none)); granted = omega (arith, none); stays = λ s. s; closes = λ h. absurd (omega (arith, h)) })
+step-closes capacity c b (Close quota) e =
+    let same : record c { quota = quota; closed = true } ≡ b = if_so-is ((c.quota == 0) && (not c.closed && (quota == length c.regions))) (record c { quota = quota; closed = true }) b e in
+    let test : ((c.quota == 0) && (not c.closed && (quota == length c.regions))) ≡ true = if_so-test ((c.quota == 0) && (not c.closed && (quota == length c.regions))) (record c { quota = quota; closed = true }) b e in
+    let none : c.quota ≡ 0 = eqb-true c.quota 0 (and-first (c.quota == 0) (not c.closed && (quota == length c.regions)) test) in
+    let all : quota ≡ length c.regions = eqb-true quota (length c.regions) (and-second (not c.closed) (quota == length c.regions) (and-second (c.quota == 0) (not c.closed && (quota == length c.regions)) test)) in
+    subst (λ x. ClosesTo c x (Close quota)) same (record { bounded = λ h closed. omega (arith, all); granted = omega (arith, none); stays = λ s. refl; closes = λ h. refl })
+step-closes capacity c b (Shed region) e = go (front_taken (λ front. same_region region front) c.regions) (λ rest. front-length region c.regions rest) (unless-some (c.quota == 0) (after_shed c (front_taken (λ front. same_region region front) c.regions)) b e)
+  where
+    some : 1 ≤ c.quota
+    some = nonzero c.quota (unless-test (c.quota == 0) (after_shed c (front_taken (λ front. same_region region front) c.regions)) b e)
+
+    go : (o : Option (List RegionId)) → ((rest : List RegionId) → o ≡ Some rest → length c.regions ≡ 1 + length rest) → after_shed c o ≡ Some b → ClosesTo c b (Shed region)
+    go None len is = absurd (cc is)
+    go (Some rest) len is =
+        let same : record c { regions = rest; quota = c.quota - 1 } ≡ b = cc is in
+        subst (λ x. ClosesTo c x (Shed region)) same (record { bounded = λ h closed. (let old : length c.regions ≤ c.quota = h closed in omega (arith, old, len rest refl)); granted = omega (arith, some); stays = λ s. s; closes = λ h. absurd (omega (arith, h)) })
+step-closes capacity c b _ e = absurd (cc e)
+
+pub record ClosesBy (c b : Cache) (ds : List Did) : Type 0 where
+  pub bounded : (c.closed ≡ true → length c.regions ≤ c.quota) → b.closed ≡ true → length b.regions ≤ b.quota
+  pub granted : c.quota + total_by grant ds ≡ total_by shed_one ds + b.quota
+  pub stays : c.closed ≡ true → b.closed ≡ true
+  pub closes : 1 ≤ total_by close_one ds → b.closed ≡ true
+
+pub after-closes : (lane class : ℕ) (ds : List Did) (c b : Cache) → after (lane_cache_step lane class) c ds ≡ Some b → ClosesBy c b ds
+after-closes lane class [] c b e = let same : c ≡ b = cc e in subst (λ x. ClosesBy c x []) same (record { bounded = λ h. h; granted = omega arith; stays = λ s. s; closes = λ h. absurd (omega (arith, h)) })
+after-closes lane class (d ∷ ds) c b e =
+    go (lane_cache_step lane class c d) (λ m is. step-closes (cache_capacity class) c m d (if-some (is_own lane class d) (cache_step (cache_capacity class) c d) m is)) e (λ m. after-closes lane class ds m b)
+  where
+    go : (o : Option Cache) → ((m : Cache) → o ≡ Some m → ClosesTo c m d) → option_and_then (λ m. after (lane_cache_step lane class) m ds) o ≡ Some b → ((m : Cache) → after (lane_cache_step lane class) m ds ≡ Some b → ClosesBy m b ds) → ClosesBy c b (d ∷ ds)
+    go None first is rest = absurd (cc is)
+    go (Some m) first is rest =
+        let f : ClosesTo c m d = first m refl in
+        let r : ClosesBy m b ds = rest m is in
+        record { bounded = λ h. r.bounded (f.bounded h); granted = omega (arith, f.granted, r.granted); stays = λ s. r.stays (f.stays s); closes = λ h. either f r (close_one d) refl h }
+      where
+        either : ClosesTo c m d → ClosesBy m b ds → (n : ℕ) → close_one d ≡ n → 1 ≤ close_one d + total_by close_one ds → b.closed ≡ true
+        either f r zero z h = r.closes (omega (arith, z, h))
+        either f r (suc n) z h = r.stays (f.closes (omega (arith, z)))
+
+-- a cache that was closed and shed as often as it may is empty
+pub ends-empty : (lane class : ℕ) (ds : List Did) (b : Cache) → cache_after lane class ds ≡ Some b → total_by grant ds ≡ total_by shed_one ds → 1 ≤ total_by close_one ds → b.regions ≡ []
+ends-empty lane class ds b e even closes =
+    let c : ClosesBy new_cache b ds = after-closes lane class ds new_cache b e in
+    none b.regions (let most : length b.regions ≤ b.quota = c.bounded (λ no_. absurd (cc no_)) (c.closes closes) in omega (arith, most, c.granted, even))
+  where
+    none : (xs : List RegionId) → length xs ≤ 0 → xs ≡ []
+    none [] h = refl
+    none (x ∷ xs) h = absurd (omega (arith, h))

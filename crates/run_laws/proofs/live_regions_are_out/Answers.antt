@@ -1,0 +1,5 @@
+use Rattle.run_laws.proofs.RunLaws.{arenas-end}
+use Rattle.run_laws.proofs.live_regions_are_out.Goals as goal
+
+pub returns : goal.returns
+returns c = record { out = arenas-end }

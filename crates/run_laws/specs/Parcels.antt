@@ -1,0 +1,48 @@
+-- The parcels that are not fetched at the end of a run, and how the total of a root is shared by lanes and parcels.
+use Rattle.std.specs.Prelude.{◌≡◌, ℕ, ◌+◌, ◌<◌, if◌then◌else◌, List, [], ◌∷◌, Option, Some, None}
+use Rattle.pool_law.specs.declared.id.RootId.{RootId}
+use Rattle.pool_law.specs.declared.id.RegionId.{RegionId}
+use Rattle.pool_law.specs.declared.id.Parcel.{Parcel}
+use Rattle.pool_law.specs.declared.note.Object.{Object}
+use Rattle.pool_law.specs.declared.note.Did.{Did}
+use Rattle.size_classes.specs.Sizes.{below}
+use Rattle.pool_law.specs.Histories.{mail_after}
+use Rattle.pool_law.specs.Logs.{Logs, dids, history_of, entries_of}
+use Rattle.pool_law.specs.Counts.{view_is_of}
+use Rattle.run_laws.specs.CountLaw.{counts_of}
+use Rattle.run_laws.specs.Conserved.{total_in}
+use Rattle.pool_law.specs.Lives.{Use, Done}
+
+-- the parcels with a view of the root
+abbrev pub parcels_of : RootId → List Parcel → ℕ
+parcels_of root [] = 0
+parcels_of root (p ∷ ps) = (if view_is_of root p.view then 1 else 0) + parcels_of root ps
+
+abbrev pub parcels_if : RootId → Option (List Parcel) → ℕ
+parcels_if root None = 0
+parcels_if root (Some ps) = parcels_of root ps
+
+-- what was posted from one lane to another and not fetched
+abbrev pub unfetched_of : Logs → RootId → ℕ → ℕ → ℕ
+unfetched_of logs root from to = parcels_if root (mail_after (dids (history_of (Object.Mail from to) logs)))
+
+-- a sum over numbers
+abbrev pub sum_up : List ℕ → (ℕ → ℕ) → ℕ
+sum_up [] f = 0
+sum_up (k ∷ ks) f = f k + sum_up ks f
+
+-- over all mails between so many lanes
+abbrev pub unfetched : Logs → RootId → ℕ → ℕ
+unfetched logs root lanes = sum_up (below lanes) (λ from. sum_up (below lanes) (λ to. unfetched_of logs root from to))
+
+-- every parcel is posted to one of so many lanes
+abbrev pub PostsWithin : Logs → ℕ → Type 0
+PostsWithin logs lanes = (from to : ℕ) (parcel : Parcel) → Done logs (Object.Mail from to) (Did.Post parcel) → to < lanes
+
+-- the total of a root is the sum of the lanes' counts, and the parcels of it that are not fetched
+abbrev pub TotalIsShared : Logs → ℕ → RootId → Type 0
+TotalIsShared logs lanes root = total_in logs root ≡ counts_of root (entries_of logs) + unfetched logs root lanes
+
+-- so it is for each root that was born
+abbrev pub TotalsAreShared : Logs → ℕ → Type 0
+TotalsAreShared logs lanes = (root : RootId) (region : RegionId) → Use logs root region → TotalIsShared logs lanes root

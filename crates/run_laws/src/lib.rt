@@ -1,0 +1,92 @@
+#![tactic(auto)]
+//! Laws of legal runs: the life of each region, regions apart, totals, and what is out at the end.
+//! Each law is the contract of a function that does nothing.
+
+ghost use Rattle.std.specs.Prelude.{◌≡◌, ℕ, List, Some, None};
+ghost use Rattle.pool_law.specs.declared.run.Shape.{Shape};
+ghost use Rattle.pool_law.specs.declared.note.Object.{Object};
+ghost use Rattle.pool_law.specs.declared.id.RegionId.{RegionId};
+ghost use Rattle.pool_law.specs.declared.id.RootId.{RootId};
+ghost use Rattle.run_laws.specs.CacheCounts.{GoesThrough};
+ghost use Rattle.run_laws.specs.CountLaw.{TotalIsCounted};
+ghost use Rattle.pool_law.specs.Counts.{CountsHold, TotalHolds};
+ghost use Rattle.run_laws.specs.HandCounts.{HandsBalance};
+ghost use Rattle.run_laws.specs.Regroup.{SumsAgree};
+ghost use Rattle.pool_law.specs.declared.command.Command.{Command};
+ghost use Rattle.pool_law.specs.declared.run.Answered.{Answered};
+ghost use Rattle.run_laws.specs.Hands.{hand_after};
+ghost use Rattle.pool_law.specs.declared.run.Run.{Run};
+ghost use Rattle.pool_law.specs.Legal.{IsLegal, logs_of};
+ghost use Rattle.run_laws.specs.Conserved.{CachesEndEmpty, RegionsReturn, OutAtEnd};
+ghost use Rattle.run_laws.specs.Parcels.{TotalsAreShared};
+ghost use Rattle.pool_law.specs.Lives.{RegionsLive, LieApart};
+ghost use Rattle.pool_law.specs.LaneLaw.{IsLaneLog};
+ghost use Rattle.pool_law.specs.Patterns.{Entries};
+ghost use Rattle.pool_law.specs.Logs.{Entry, Logs, History, IsHistory, history_of, log_of};
+ghost use Rattle.run_laws.specs.PlaceLives.{PlaceLives};
+
+/// What was kept by a cache has been hit or shed, or is still there.
+pub fn regions_go_through()
+    ensures through { (lane class : ℕ) → GoesThrough lane class }
+{}
+
+/// The births of a place have its generations in order, and an end takes out what was born with its region.
+pub fn places_live()
+    ensures lives { (place : ℕ) → PlaceLives place }
+{}
+
+/// Logs give each object one history.
+pub fn one_history()
+    ensures one { (object : Object) (logs : Logs) (h : History) → IsHistory object logs h → history_of object logs ≡ h }
+{}
+
+/// In a lane's log each region that is taken, hit, shed or ended is put down before the next, as a birth, kept or given.
+pub fn hands_are_empty()
+    ensures empty { (shape : Shape) (lane : ℕ) (commands : List Command) (replies : List Answered) (es : Entries) → IsLaneLog shape lane commands replies es → hand_after None es ≡ Some None }
+{}
+
+/// In a lane's log what is got is used once, and what ends or is shed is kept or given once.
+pub fn hands_balance()
+    ensures balance { (r : RegionId) (es : Entries) → hand_after None es ≡ Some None → HandsBalance r es }
+{}
+
+/// The total of a root is what the lanes count, with what was posted and not fetched.
+pub fn totals_are_counted()
+    ensures counted { (root : RootId) (logs : List (List Entry)) → ((lane : ℕ) → CountsHold root 0 (log_of logs lane)) → TotalHolds root logs → TotalIsCounted root logs }
+{}
+
+/// A sum over the notes at an object, in all logs, is the sum over its history.
+pub fn sums_agree()
+    ensures agree { SumsAgree }
+{}
+
+/// In a legal run each region lives its life: its uses are numbered from 1, each once; between two of them its owner's cache kept
+/// it once; and it comes back at most once, after its last use.
+pub fn regions_live()
+    ensures live { (run : Run) → IsLegal run → RegionsLive (logs_of run) }
+{}
+
+/// In a legal run two roots whose places overlap use one taking, or the taking of one came back before that of the other was taken.
+pub fn regions_lie_apart()
+    ensures apart { (run : Run) → IsLegal run → LieApart (logs_of run) }
+{}
+
+/// In a legal run each cache of each lane ends empty.
+pub fn caches_end_empty()
+    ensures empty { (run : Run) → IsLegal run → CachesEndEmpty run.shape (logs_of run) }
+{}
+
+/// In a legal run the region of a root is put away once, after the root's one end, exactly where the root's total is 0.
+pub fn regions_return()
+    ensures returned { (run : Run) → IsLegal run → RegionsReturn (logs_of run) }
+{}
+
+/// At the end of a legal run each arena has out exactly the regions of the live roots whose places name it.
+pub fn live_regions_are_out()
+    ensures out { (run : Run) → IsLegal run → OutAtEnd run.shape (logs_of run) }
+{}
+
+/// In a legal run the total of each root is the sum of the lanes' counts and the parcels of it that are not fetched.
+pub fn totals_are_shared()
+    ensures shared { (run : Run) → IsLegal run → TotalsAreShared (logs_of run) run.shape.lanes }
+{}
