@@ -1,0 +1,25 @@
+-- How a `Chunk` holds its runs. No public clause cites this module.
+use Rattle.std.specs.Prelude.{◌≡◌, ◌≤◌, List, map}
+use Rattle.size_classes.specs.Sizes.{page_of, chunk_bytes}
+use Rattle.pool_law.specs.Chunks.{Chunk}
+use Rattle.pool_chunk.specs.ChunkStates.{ChunkState}
+use Rattle.pool_chunk.specs.Slots.{Entry, entry_of, runs_from, AreOf, ArePlaced}
+use Rattle.pool_chunk.specs.declared.chunk.Chunk.TheInside.{Inside}
+
+abbrev pub entries_in : Inside → List Entry
+entries_in c = map entry_of c.slots.items
+
+abbrev pub runs_in : Inside → Chunk
+runs_in c = runs_from 0 c.map.runs (entries_in c)
+
+abbrev pub state_in : Inside → ChunkState
+state_in c = record { origin = c.map.origin; geometry = c.classes; runs = runs_in c }
+
+pub record IsHeld (c : Inside) : Type 0 where
+  pub least : 3 ≤ c.classes.order
+  pub order : c.classes.order ≤ 11
+  pub same : c.map.order ≡ c.classes.order
+  pub page : c.map.page ≡ page_of c.classes
+  pub bytes : c.bytes ≡ chunk_bytes c.classes
+  pub runs : AreOf c.classes c.map.runs (entries_in c) (runs_in c)
+  pub placed : ArePlaced c.map.origin (page_of c.classes) 0 c.slots.items

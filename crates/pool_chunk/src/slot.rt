@@ -1,0 +1,92 @@
+//! What of a chunk that is in use begins at a page.
+
+ghost use Rattle.std.specs.Prelude.{◌≡◌, ◌<◌, ◌≤◌, ◌^◌, ◌↔◌, ℕ, true, All, length, replicate, slice_set, slice_index_or, IfOk, IfSome, IfNone, IsNone, Some};
+ghost use Rattle.size_classes.specs.Elements.{is_out, is_full, with_back};
+ghost use Rattle.subpage_bits.specs.Elements.{IsElementOf, HandsOut, given};
+ghost use Rattle.pool_chunk.specs.declared.slot.Slot.{Slot};
+ghost use Rattle.pool_chunk.specs.declared.slot.CutRun.{CutRun};
+ghost use Rattle.pool_chunk.specs.PlaceWords.{element_word};
+
+use crate::place::place_pack;
+use ground::Piece;
+use std::alloc::{AllocError, Global};
+use std::mem::replace;
+use subpage_bits::Subpage;
+
+// A run that is cut into elements of a class.
+pub(crate) struct CutRun {
+    pub(crate) class: u32,
+    pub(crate) pages: u32,
+    pub(crate) subpage: Subpage,
+}
+
+// The run in use that begins at a page, if one does: how many pages it has, or its elements.
+pub(crate) enum Slot {
+    Nothing,
+    Run(u32),
+    Cut(CutRun),
+}
+
+// So many pages at which nothing begins.
+pub(crate) fn no_runs(alloc: Global, pages: usize) -> Result<Vec<Slot>, AllocError>
+    ensures { IfOk result (λ slots. slots.items ≡ replicate pages Slot.Nothing) }
+{
+    let mut slots = Vec::with_capacity(alloc, pages)?;
+    for _ in 0..pages {
+        match slots.push(Slot::Nothing) {
+            Ok(()) => {}
+            Err(_) => unreachable!(),
+        }
+    }
+    Ok(slots)
+}
+
+// Gives the memory of the slots back, where nothing begins at any page.
+pub(crate) fn spend(mut slots: Vec<Slot>)
+    requires { All (λ slot. slot ≡ Slot.Nothing) slots.items }
+{
+    while let Some(slot) = slots.pop() {
+        let Slot::Nothing = slot else {
+            unreachable!();
+        };
+    }
+    slots.destroy_empty();
+}
+
+// What begins from now on at a page where nothing did.
+pub(crate) fn fill(slots: &mut [Slot], page: usize, slot: Slot)
+    requires within { page < length slots.old }
+    requires nothing { (d : Slot) → slice_index_or slots.old page d ≡ Slot.Nothing }
+    ensures { slots.new ≡ slice_set slots.old page slot }
+{
+    let was = replace(&mut slots[page], slot);
+    let Slot::Nothing = was else {
+        unreachable!();
+    };
+}
+
+// Nothing begins from now on at a page where a run did.
+pub(crate) fn clear(slots: &mut [Slot], page: usize)
+    requires within { page < length slots.old }
+    requires run { (pages : ℕ) × ((d : Slot) → slice_index_or slots.old page d ≡ Slot.Run pages) }
+    ensures { slots.new ≡ slice_set slots.old page Slot.Nothing }
+{
+    let was = replace(&mut slots[page], Slot::Nothing);
+    let Slot::Run(_) = was else {
+        unreachable!();
+    };
+}
+
+// The run of elements that began at a page, where nothing begins from now on.
+pub(crate) fn take_cut(slots: &mut [Slot], page: usize) -> CutRun
+    requires within { page < length slots.old }
+    requires cut { (run : CutRun) × ((d : Slot) → slice_index_or slots.old page d ≡ Slot.Cut run) }
+    ensures run { (d : Slot) → slice_index_or slots.old page d ≡ Slot.Cut result }
+    ensures slots { slots.new ≡ slice_set slots.old page Slot.Nothing }
+{
+    let was = replace(&mut slots[page], Slot::Nothing);
+    let Slot::Cut(run) = was else {
+        unreachable!();
+    };
+    run
+}
