@@ -1,0 +1,10 @@
+#![tactic(auto)]
+//! A bounded queue of regions, first in, first out: one lane's cache of one class.
+
+pub mod cache;
+#[cfg(test)]
+mod tests;
+mod told;
+
+pub use cache::Cache;
+pub use pool_law::CacheNo;
