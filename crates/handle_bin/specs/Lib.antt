@@ -1,0 +1,4 @@
+pub mod Bins
+pub mod Kept
+pub mod Lending
+pub mod Standing

@@ -1,0 +1,12 @@
+#![tactic(auto)]
+//! The handles of a lane's root places, and the bin that recycles them.
+
+pub mod bin;
+pub mod handle;
+mod lending;
+#[cfg(test)]
+mod tests;
+mod told;
+
+pub use bin::Bin;
+pub use handle::Handle;

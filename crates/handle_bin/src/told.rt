@@ -1,0 +1,22 @@
+//! The notes for which a bin stands.
+
+use crate::bin::Bin;
+use pool_law::Noted;
+use step_law::Told;
+
+impl Told for Bin {
+    ghost use Rattle.handle_bin.specs.Standing.{StandsFor, MayFollow, MayFollow-decided};
+
+    type Note = Noted;
+
+    ghost stands = { StandsFor };
+
+    ghost may_follow = { MayFollow };
+
+    // No count of a root passes a bin.
+    ghost gains = { λ place generation n. 0 };
+
+    ghost losses = { λ place generation n. 0 };
+
+    ghost decides = { MayFollow-decided };
+}
