@@ -1,0 +1,10 @@
+#![tactic(auto)]
+//! Windows on the bytes of a root, each with a reader and a writer of its own.
+//!
+//! A view has no bytes: it tells where in its root a range lies, or that the range leaves the view.
+
+#[cfg(test)]
+mod tests;
+pub mod view;
+
+pub use view::{RangeNo, View};
