@@ -1,0 +1,116 @@
+-- The steps as the calls ask for them: the key, the object and the slot come by equations.
+use Rattle.ground.specs.Grounds.{Grounds}
+use Rattle.std.proofs.Common.{◌≡◌, ◌≢◌, ℕ, ◌+◌, ◌-◌, ◌*◌, ◌%◌, ◌^◌, ◌<◌, List, [], ◌∷◌, ◌++◌, sym, refl, ◌∙◌, subst, arith, ◌/◌}
+use Rattle.std.specs.Prelude.{Option, Some, None, bit_or}
+use mathlib.Core.Option.{none}
+use Rattle.atomic_table.specs.Table.{Me, step, Allows, Splits, Joins}
+use Rattle.pool_law.specs.declared.run.Shape.{Shape}
+use Rattle.pool_law.specs.declared.note.Noted.{Noted}
+use Rattle.pool_law.specs.declared.note.Object.{Object}
+use Rattle.pool_law.specs.declared.note.Object.TheVariants.{Arena, Cache, Bin, Mail, Root}
+use Rattle.pool_law.specs.Homes.{home_of, objects_of, IsObjectOf}
+use Rattle.table_law.specs.Histories.{IsHistory}
+use Rattle.pool_law.specs.Naming.{noted_by}
+use Rattle.pool_table.specs.declared.views.Layout.{Layout}
+use Rattle.pool_table.specs.declared.views.SeatView.{SeatView}
+use Rattle.pool_table.specs.Words.{words_of, word_of, count_word_of}
+use Rattle.pool_table.proofs.Words.{object_word, count_word}
+use Rattle.pool_law.specs.declared.id.RootId.{RootId}
+use Rattle.pool_table.specs.Counts.{HasCount, HasToken}
+use Rattle.pool_table.specs.Hands.{PutsDown}
+use Rattle.pool_table.specs.Hands.{HasEnded, InHand, IsBearing, Expects, MayEnter}
+use Rattle.pool_table.proofs.Presence.{next_birth}
+use Rattle.pool_table.specs.Sound.{IsSound, IsMarked, MayNote, WasHeld}
+use Rattle.pool_table.specs.Sections.{IsInside, StandsFor}
+use Rattle.pool_table.specs.Seats.{IsMail}
+use Rattle.pool_table.specs.Steps.{IsFree}
+use Rattle.std.specs.Prelude.{Bool, true, false, MatchBool}
+use Rattle.atomic_table.specs.Table.{Step, rest}
+use Rattle.pool_table.specs.Views.{blank, joined}
+use Rattle.pool_table.specs.Steps.{claims, marks_claims, GotIn, dones, idles, blank_beside, retains, looks, releases, vacates, births}
+use Rattle.pool_table.proofs.Seatings.{splits_allowed, joins_allowed}
+use Rattle.pool_table.proofs.Hands.{births_allowed}
+use Rattle.pool_table.proofs.References.{retains_allowed, looks_allowed, releases_allowed, vacates_allowed}
+use Rattle.pool_table.proofs.Moves.{claims_allowed, marks_allowed, dones_allowed, idles_allowed}
+
+-- the word of an object is one of the table's
+pub word_within : (s : Shape) (o : Object) (word words : ℕ) → IsObjectOf s o → word ≡ word_of s o → words ≡ words_of s → word < words
+word_within s o word words fits is are = subst (λ (y : ℕ × ℕ). y.0 < y.1) (λ q. (sym is q, sym are q)) (object_word s o fits)
+
+pub unmarked_mail : (o : Object) → IsMail o → IsMarked o → ⊥
+unmarked_mail (Arena a) m k = k
+unmarked_mail (Cache c d) m k = m
+unmarked_mail (Bin b) m k = k
+unmarked_mail (Mail f t) m k = k
+unmarked_mail (Root p) m k = m
+
+module _ {H : Type 0} (stands : Grounds → List Noted → H → Type 0) where
+  pub claims_as : (l key l' : Layout) (o o' : Object) (slots slot id : ℕ) (me : Me (Option H) SeatView) → key ≡ l → slots ≡ objects_of l.shape → slot ≡ word_of l.shape o → o' ≡ o → l' ≡ l → IsObjectOf l.shape o → IsFree me → 0 < me.0.turns → ((p : ℕ) → o ≡ Root p → MayEnter p me.0)
+      → Allows (IsSound stands key) slots id me slot (λ n. bit_or n 1) (claims stands l' o' (step slots slot 1 0 none) me)
+  claims_as l key l' o o' slots slot id me ke se ie oe le fits out turn may =
+      subst (λ (y : Layout × ℕ × ℕ × Object × Layout). Allows (IsSound stands y.0) y.1 id me y.2 (λ n. bit_or n 1) (claims stands y.4 y.3 (step y.1 y.2 1 0 none) me)) (λ q. (sym ke q, sym se q, sym ie q, sym oe q, sym le q)) (claims_allowed stands l id me o fits out turn may)
+
+  pub marks_as : (l key l' : Layout) (o o' : Object) (slots slot id : ℕ) (me : Me (Option H) SeatView) → key ≡ l → slots ≡ objects_of l.shape → slot ≡ word_of l.shape o → o' ≡ o → l' ≡ l → IsObjectOf l.shape o → IsFree me → 0 < me.0.turns → ((p : ℕ) → o ≡ Root p → MayEnter p me.0) → IsMarked o
+      → Allows (IsSound stands key) slots id me slot (λ n. bit_or n 1) (marks_claims stands l' o' (step slots slot 1 0 none) me)
+  marks_as l key l' o o' slots slot id me ke se ie oe le fits out turn may marked =
+      subst (λ (y : Layout × ℕ × ℕ × Object × Layout). Allows (IsSound stands y.0) y.1 id me y.2 (λ n. bit_or n 1) (marks_claims stands y.4 y.3 (step y.1 y.2 1 0 none) me)) (λ q. (sym ke q, sym se q, sym ie q, sym oe q, sym le q)) (marks_allowed stands l id me o fits out turn may marked)
+
+  -- the seat as it is once the home value is back in the slot
+  pub dones_as : (l key : Layout) (o : Object) (slots slot word id id' : ℕ) (me me' : Me (Option H) SeatView) (h : List Noted) (home : H) (note : Noted) → key ≡ l → slots ≡ objects_of l.shape → word ≡ word_of l.shape o → IsInside l.shape me o slot h → id' ≡ id → me' ≡ (me.0, (slot, Some home) ∷ [])
+      → 0 < me.0.turns → MayNote l.shape me.0.own.number o note.did → PutsDown me.0 note.did → IsHistory l.shape o (h ++ noted_by me.0.own.number note ∷ []) → StandsFor stands me.0 (h ++ noted_by me.0.own.number note ∷ []) home
+      → Allows (IsSound stands key) slots id' me' word (λ n. (n + 1) % 2 ^ 64) (dones note (step slots word 1 0 none) me')
+  dones_as l key o slots slot word id id' me me' h home note ke se we inside ide is turn may hands accepted stands_for =
+      subst (λ (y : Layout × ℕ × ℕ × ℕ × Me (Option H) SeatView). Allows (IsSound stands y.0) y.1 y.2 y.4 y.3 (λ n. (n + 1) % 2 ^ 64) (dones note (step y.1 y.3 1 0 none) y.4)) (λ q. (sym ke q, sym se q, sym ide q, sym we q, sym is q))
+      (dones_allowed stands l id (me.0, (slot, Some home) ∷ []) o slot h home note inside.object inside.slot_is inside.inside refl turn may hands accepted stands_for)
+
+  pub idles_as : (l key : Layout) (o : Object) (slots slot word id id' : ℕ) (me me' : Me (Option H) SeatView) (h : List Noted) (home : H) → key ≡ l → slots ≡ objects_of l.shape → word ≡ word_of l.shape o → IsInside l.shape me o slot h → id' ≡ id → me' ≡ (me.0, (slot, Some home) ∷ [])
+      → IsMail o → StandsFor stands me.0 h home
+      → Allows (IsSound stands key) slots id' me' word (λ n. (n + (2 ^ 64 - 1)) % 2 ^ 64) (idles (step slots word 1 0 none) me')
+  idles_as l key o slots slot word id id' me me' h home ke se we inside ide is mail stands_for =
+      subst (λ (y : Layout × ℕ × ℕ × ℕ × Me (Option H) SeatView). Allows (IsSound stands y.0) y.1 y.2 y.4 y.3 (λ n. (n + (2 ^ 64 - 1)) % 2 ^ 64) (idles (step y.1 y.3 1 0 none) y.4)) (λ q. (sym ke q, sym se q, sym ide q, sym we q, sym is q))
+      (idles_allowed stands l id (me.0, (slot, Some home) ∷ []) o slot h home inside.object inside.slot_is inside.inside refl (unmarked_mail o mail) stands_for)
+
+  pub splits_as : (l key : Layout) (id : ℕ) (v : SeatView) → key ≡ l → v.inside ≡ None → Splits (IsSound stands key) id v v (blank_beside v)
+  splits_as l key id v ke out = subst (λ (k : Layout). Splits (IsSound stands k) id v v (blank_beside v)) (sym ke) (splits_allowed stands l id v out)
+
+  pub joins_as : (l key : Layout) (id other : ℕ) (v w : SeatView) → key ≡ l → v.inside ≡ None → w.inside ≡ None → Joins (IsSound stands key) id v other w (joined v w) (blank None)
+  joins_as l key id other v w ke vo wo = subst (λ (k : Layout). Joins (IsSound stands k) id v other w (joined v w) (blank None)) (sym ke) (joins_allowed stands l id other v w vo wo)
+
+module _ {H : Type 0} (stands : Grounds → List Noted → H → Type 0) (l : Layout) (o : Object) where
+  -- an even word was found
+  pub got_in : (mark : Bool) (s : Step (Option H)) (me : Me (Option H) SeatView) (found : ℕ) (after : Me (Option H) SeatView) → MatchBool mark (marks_claims stands l o s me found after) (claims stands l o s me found after) → found % 2 ≢ 1 → GotIn stands l o (home_of l.shape o) me found after
+  got_in true s me found after told even = told.0 (omega (arith, even))
+  got_in false s me found after told even = told.0 (omega (arith, even))
+
+  -- an odd word was found
+  pub was_held : (mark : Bool) (s : Step (Option H)) (me : Me (Option H) SeatView) (found : ℕ) (after : Me (Option H) SeatView) → MatchBool mark (marks_claims stands l o s me found after) (claims stands l o s me found after) → found % 2 ≡ 1 → WasHeld stands l o (found / 2) me.0
+  was_held true s me found after told odd = (told.1 odd).2
+  was_held false s me found after told odd = (told.1 odd).2
+
+  -- so the slot was taken last
+  pub took : (word slot found : ℕ) (me after : Me (Option H) SeatView) → me.1 ≡ [] → slot ≡ word → GotIn stands l o word me found after → (x : Option H) × (after.1 ≡ (slot, x) ∷ rest after.1)
+  took word slot found me after empty is g = let e : after.1 ≡ (slot, Some g.1) ∷ [] = g.4 ∙ (λ q. (sym is q, Some g.1) ∷ empty q) in (Some g.1, e ∙ (λ q. (slot, Some g.1) ∷ rest (sym e q)))
+
+module _ {H : Type 0} (stands : Grounds → List Noted → H → Type 0) (l : Layout) where
+  pub ref_within : (place word words : ℕ) → place < l.shape.lanes * l.shape.handles → word ≡ count_word_of l.shape place → words ≡ words_of l.shape → word < words
+  ref_within place word words lt is are = subst (λ (y : ℕ × ℕ). y.0 < y.1) (λ q. (sym is q, sym are q)) (count_word l.shape place lt)
+
+  pub retains_as : (key : Layout) (slots word id : ℕ) (me : Me (Option H) SeatView) (root root' : RootId) → key ≡ l → slots ≡ objects_of l.shape → word ≡ count_word_of l.shape root.place → root' ≡ root → root.place < l.shape.lanes * l.shape.handles → HasCount root.place root.generation me.0 → 0 < me.0.moves → me.0.inside ≡ None
+      → Allows (IsSound stands key) slots id me word (λ n. (n + 2) % 2 ^ 64) (retains root' (step slots word 2 0 none) me)
+  retains_as key slots word id me root root' ke se we re lt has moves out = subst (λ (y : Layout × ℕ × ℕ × RootId). Allows (IsSound stands y.0) y.1 id me y.2 (λ n. (n + 2) % 2 ^ 64) (retains y.3 (step y.1 y.2 2 0 none) me)) (λ q. (sym ke q, sym se q, sym we q, sym re q)) (retains_allowed stands l id me root lt has out moves)
+
+  pub looks_as : (key : Layout) (slots word id : ℕ) (me : Me (Option H) SeatView) (root root' : RootId) → key ≡ l → slots ≡ objects_of l.shape → word ≡ count_word_of l.shape root.place → root' ≡ root → root.place < l.shape.lanes * l.shape.handles → HasCount root.place root.generation me.0 → me.0.inside ≡ None
+      → Allows (IsSound stands key) slots id me word (λ n. n) (looks root' (step slots word 0 0 none) me)
+  looks_as key slots word id me root root' ke se we re lt has out = subst (λ (y : Layout × ℕ × ℕ × RootId). Allows (IsSound stands y.0) y.1 id me y.2 (λ n. n) (looks y.3 (step y.1 y.2 0 0 none) me)) (λ q. (sym ke q, sym se q, sym we q, sym re q)) (looks_allowed stands l id me root lt has out)
+
+  pub releases_as : (key : Layout) (slots word id : ℕ) (me : Me (Option H) SeatView) (root root' : RootId) → key ≡ l → slots ≡ objects_of l.shape → word ≡ count_word_of l.shape root.place → root' ≡ root → root.place < l.shape.lanes * l.shape.handles → HasCount root.place root.generation me.0 → me.0.inside ≡ None
+      → Allows (IsSound stands key) slots id me word (λ n. (n + (2 ^ 64 - 2)) % 2 ^ 64) (releases root' (step slots word 2 0 none) me)
+  releases_as key slots word id me root root' ke se we re lt has out = subst (λ (y : Layout × ℕ × ℕ × RootId). Allows (IsSound stands y.0) y.1 id me y.2 (λ n. (n + (2 ^ 64 - 2)) % 2 ^ 64) (releases y.3 (step y.1 y.2 2 0 none) me)) (λ q. (sym ke q, sym se q, sym we q, sym re q)) (releases_allowed stands l id me root lt has out)
+
+  pub vacates_as : (key : Layout) (slots word id : ℕ) (me : Me (Option H) SeatView) (root root' : RootId) → key ≡ l → slots ≡ objects_of l.shape → word ≡ count_word_of l.shape root.place → root' ≡ root → root.place < l.shape.lanes * l.shape.handles → HasToken root.place root.generation me.0 → HasEnded root.place root.generation me.0 → me.0.inside ≡ None
+      → Allows (IsSound stands key) slots id me word (λ n. (n + 1) % 2 ^ 64) (vacates root' (step slots word 1 0 none) me)
+  vacates_as key slots word id me root root' ke se we re lt has ended out = subst (λ (y : Layout × ℕ × ℕ × RootId). Allows (IsSound stands y.0) y.1 id me y.2 (λ n. (n + 1) % 2 ^ 64) (vacates y.3 (step y.1 y.2 1 0 none) me)) (λ q. (sym ke q, sym se q, sym we q, sym re q)) (vacates_allowed stands l id me root lt has ended out)
+
+  pub births_as : (key : Layout) (slots word id : ℕ) (me : Me (Option H) SeatView) (root root' : RootId) → key ≡ l → slots ≡ objects_of l.shape → word ≡ count_word_of l.shape root.place → root' ≡ root → root.place < l.shape.lanes * l.shape.handles → InHand root.place me.0 → IsBearing root.place me.0 → Expects root.place root.capacity me.0 → 0 < me.0.moves → me.0.inside ≡ None
+      → Allows (IsSound stands key) slots id me word (λ n. (n + 4294967297) % 2 ^ 64) (births root' (step slots word 4294967297 0 none) me)
+  births_as key slots word id me root root' ke se we re lt has bearing ex moves out = subst (λ (y : Layout × ℕ × ℕ × RootId). Allows (IsSound stands y.0) y.1 id me y.2 (λ n. (n + 4294967297) % 2 ^ 64) (births y.3 (step y.1 y.2 4294967297 0 none) me)) (λ q. (sym ke q, sym se q, sym we q, sym re q)) (births_allowed stands l id me root lt has bearing ex (λ s r lt at. next_birth stands l s r id root.place ex.0 me.0 lt at ex.1) moves out)

@@ -1,0 +1,106 @@
+-- What is known when the table is closed with the seat that has the parts of all lanes.
+use Rattle.ground.specs.Grounds.{Grounds}
+use Rattle.std.proofs.Common.{◌≡◌, ◌≢◌, ℕ, ◌+◌, ◌-◌, ◌*◌, ◌<◌, ◌≤◌, List, [], ◌∷◌, map, length, get_or, Bool, false, true≢false, sym, refl, ap, ◌∙◌, subst, arith, eq-eqb, lt_of_not-le}
+use Rattle.std.specs.Prelude.{Option, Some, None, All, sum_by, slice_index}
+use mathlib.Core.Logic.{dite}
+use native.Mathlib.Decide.{dec_le}
+use mathlib.Core.Option.{some}
+use lib.ListN.{get_elem?}
+use Rattle.atomic_table.specs.Table.{State, Final, Seen}
+use Rattle.atomic_table.proofs.Lists.{at_map}
+use Rattle.step_law.proofs.Changes.{each_at, sum_at, sum_two, sum_only, at_mapped}
+use Rattle.pool_law.specs.declared.note.Noted.{Noted}
+use Rattle.pool_law.specs.Homes.{home_of, objects_of}
+use Rattle.pool_table.specs.Words.{listed_of, word_at, word_of, count_word_of}
+use Rattle.pool_table.proofs.Words.{object_listed, count_listed}
+use Rattle.pool_table.specs.declared.views.Entry.{Entry}
+use Rattle.pool_table.specs.declared.views.Inside.{Inside}
+use Rattle.pool_table.specs.declared.views.Layout.{Layout}
+use Rattle.pool_table.specs.declared.views.Part.{Part}
+use Rattle.pool_table.specs.declared.views.SeatView.{SeatView}
+use Rattle.pool_table.specs.Views.{Face, parts_of, is_at, is_lane, is_numbered, face, strand, inside_at, is_in, inside_total, in_face, total, numbered, one_if}
+use Rattle.std.proofs.lemmas.List.Sums.{sum_by-cons}
+use Rattle.std.proofs.lemmas.List.Elements.{All-cons, All-nil}
+use Rattle.pool_table.specs.Counts.{IsCounted, weigh, on_root, on_place, ref_retain}
+use Rattle.pool_table.proofs.Looks.{looks_regroup}
+use Rattle.pool_table.proofs.Order.{order_regroups}
+use Rattle.pool_table.proofs.Counts.{other_kept}
+use Rattle.pool_table.proofs.Weights.{weigh_none}
+use Rattle.pool_table.specs.Sound.{IsSound, IsView, IsTold, IsIdle}
+use Rattle.pool_table.specs.Closed.{HasAllLanes, IsClosed}
+use Rattle.pool_table.proofs.Tables.{none_counted}
+use Rattle.pool_table.proofs.Openings.{empty_strands, counts_none}
+use Rattle.pool_table.proofs.Moves.{under}
+
+module _ {H : Type 0} (stands : Grounds → List Noted → H → Type 0) (l : Layout) where
+  abbrev St : Type 0
+  St = State (Option H) SeatView
+
+  -- another view has no numbered part
+  others_unnumbered : (s : St) (r : IsSound stands l s) (id : ℕ) (v : SeatView) → get_elem? s.views id ≡ some v → HasAllLanes l v → (j : ℕ) (u : SeatView) → j ≢ id → get_elem? s.views j ≡ some u → (m : ℕ) → numbered m u ≡ 0
+  others_unnumbered s r id v at all j u ne at' m =
+      let t : ℕ = sum_by (numbered m) s.views in let a : ℕ = numbered m v in let b : ℕ = numbered m u in
+      dite (dec_le l.shape.lanes m)
+      (λ le. let z : t ≡ 0 = (r.lanes m).1 le in let q : b ≤ t = sum_at (numbered m) s.views j u at' in let g : b ≡ 0 = omega (arith, z, q) in g)
+      (λ gt. let lt : m < l.shape.lanes = lt_of_not-le gt in let o : t ≡ 1 = (r.lanes m).0 lt in let one : a ≡ 1 = all m lt in
+      let q : a + b ≤ t = sum_two (numbered m) s.views id j v u (λ e. ne (sym e)) at at' in let g : b ≡ 0 = omega (arith, o, one, q) in g)
+
+  unnumbered : (n : Option ℕ) → ((m : ℕ) → is_lane m n ≡ false) → n ≡ None
+  unnumbered None no_lane = refl
+  unnumbered (Some m) no_lane = absurd (true≢false (sym (eq-eqb m m refl) ∙ no_lane m))
+
+  idle_others : (s : St) (r : IsSound stands l s) (id : ℕ) (v : SeatView) → get_elem? s.views id ≡ some v → HasAllLanes l v → (j : ℕ) (u : SeatView) → j ≢ id → get_elem? s.views j ≡ some u → IsIdle u
+  idle_others s r id v at all j u ne at' = (each_at (IsView l.shape r.grounds) s.views j u r.views at').unnumbered
+      (λ k d lt. unnumbered (get_or (parts_of u) k d).number (λ m. none_counted stands l (λ (p : Part). is_lane m p.number) (parts_of u) (others_unnumbered s r id v at all j u ne at' m) k d lt))
+
+  -- so nothing of an object stands outside the view
+  idle_face : (i : ℕ) (u : SeatView) → IsIdle u → (is_in (face l.shape i u) ≡ 0) × ((test : Entry → Bool) → in_face test (face l.shape i u) ≡ 0)
+  idle_face i u idle = (ap (λ (y : Option Inside). one_if (inside_at l.shape i y)) idle.inside, λ test. counts_none stands l test (map (strand l.shape i) (parts_of u)) (empty_strands stands l i (parts_of u) idle.notes))
+
+  only_view : (f : Face → ℕ) (i : ℕ) (s : St) (id : ℕ) (v : SeatView) → get_elem? s.views id ≡ some v → ((j : ℕ) (u : SeatView) → j ≢ id → get_elem? s.views j ≡ some u → f (face l.shape i u) ≡ 0) → sum_by f (map (face l.shape i) s.views) ≡ f (face l.shape i v)
+  only_view f i s id v at others = sum_only f (map (face l.shape i) s.views) id (face l.shape i v) (at_map (face l.shape i) s.views id v at)
+      (λ j x ne e. let b = at_mapped (face l.shape i) s.views j x e in ap f (sym b.2) ∙ others j b.0 ne b.1)
+
+  -- the view weighs as much as all views
+  alone_weighs : (s : St) (r : IsSound stands l s) (id : ℕ) (v : SeatView) → get_elem? s.views id ≡ some v → HasAllLanes l v → (f : Entry → ℕ) → sum_by (weigh f) (v ∷ []) ≡ sum_by (weigh f) s.views
+  alone_weighs s r id v at all f =
+      let a = sum_by-cons (weigh f) v [] in let z : sum_by (weigh f) [] ≡ 0 = refl in
+      let b = sum_only (weigh f) s.views id v at (λ j u ne e. weigh_none f (parts_of u) (idle_others s r id v at all j u ne e).notes) in omega (arith, a, z, b)
+
+  -- the view is one of all
+  regroups : (s : St) (id : ℕ) (v : SeatView) → get_elem? s.views id ≡ some v → (P : Part → Type 0) → ((q : Part) → q.notes ≡ [] → P q) → All (λ (u : SeatView). All P (parts_of u)) s.views → All (λ (u : SeatView). All P (parts_of u)) (v ∷ [])
+  regroups s id v at P none_of all = All-cons (λ (u : SeatView). All P (parts_of u)) v [] (each_at (λ (u : SeatView). All P (parts_of u)) s.views id v all at) (All-nil (λ (u : SeatView). All P (parts_of u)))
+
+  -- the words are handed out in the order of the list
+  pub closes : (id : ℕ) (v : SeatView) (words out : List ℕ) (homes : List (Option H)) → length out ≡ listed_of l.shape → ((k : ℕ) → k < listed_of l.shape → slice_index out k ≡ slice_index words (word_at l.shape k)) → v.inside ≡ None → HasAllLanes l v → length homes ≡ objects_of l.shape → Final (Seen (IsSound stands l) id v) words homes → IsClosed stands l v homes out
+  closes id v words out homes many laid outside all wide (s, seen, same, long, there) =
+      let r = seen.0 in let at = seen.1 in
+      let fine = each_at (IsView l.shape r.grounds) s.views id v r.views at in record {
+        word_count = many;
+        home_count = wide;
+        notes = fine.notes;
+        looks = looks_regroup s.views (v ∷ []) (λ p g. alone_weighs s r id v at all (on_root ref_retain p g)) (regroups s id v at) r.looks;
+        order = order_regroups s.views (v ∷ []) (regroups s id v at) r.order;
+        counts = λ p lt. subst (IsCounted p (v ∷ [])) (ap (λ (ws : List ℕ). slice_index ws (count_word_of l.shape p)) same ∙ sym (laid (objects_of l.shape + p) (count_listed l.shape p lt)))
+            (other_kept p s.views (v ∷ []) (slice_index s.words (count_word_of l.shape p))
+            (λ f g. alone_weighs s r id v at all (on_root f p g)) (λ f. alone_weighs s r id v at all (on_place f p)) (r.counts p lt));
+        objects = λ o fits.
+            let i : ℕ = home_of l.shape o in let k = r.objects o fits in let h : List Noted = k.history in let n : ℕ = length h in
+            let idle : (j : ℕ) (u : SeatView) → j ≢ id → get_elem? s.views j ≡ some u → IsIdle u = idle_others s r id v at all in
+            let mine : is_in (face l.shape i v) ≡ 0 = ap (λ (y : Option Inside). one_if (inside_at l.shape i y)) outside in
+            let t : ℕ = inside_total (map (face l.shape i) s.views) in
+            let nobody : t ≡ 0 = only_view is_in i s id v at (λ j u ne e. (idle_face i u (idle j u ne e)).0) ∙ mine in
+            let tot : (test : Entry → Bool) → in_face test (face l.shape i v) ≡ total test (map (face l.shape i) s.views) = (λ test. sym (only_view (in_face test) i s id v at (λ j u ne e. (idle_face i u (idle j u ne e)).1 test))) in
+            let hv = k.home_is nobody in
+            let d : ℕ = word_of l.shape o in let wi : slice_index s.words d ≡ 2 * n + t = k.word_is in let word : ℕ = slice_index s.words d in let wi' : word ≡ 2 * n + t = wi in let w : word ≡ 2 * n = omega (arith, wi', nobody) in
+            let told = each_at (λ (f : Face). All (IsTold o h (n + (t - is_in f))) f.parts) (map (face l.shape i) s.views) id (face l.shape i v) k.told (at_map (face l.shape i) s.views id v at) in
+            let lim : n + (t - is_in (face l.shape i v)) ≡ n = (let a : ℕ = is_in (face l.shape i v) in let g : n + (t - a) ≡ n = omega (arith, nobody) in g) in record {
+              history = h;
+              accepted = k.accepted;
+              word_is = laid i (object_listed l.shape o fits) ∙ (ap (λ (ws : List ℕ). slice_index ws d) (sym same) ∙ w);
+              told = subst (λ (z : ℕ). All (IsTold o h z) (face l.shape i v).parts) lim told;
+              once = λ j lt. tot (is_numbered (j + 1)) ∙ k.once j lt;
+              as_many = tot is_at ∙ k.as_many;
+              home_is = (hv.0, there i (Some hv.0) hv.1, under v.grounds r.grounds (λ g. stands g h hv.0) fine.grounds_are hv.2);
+            };
+      }

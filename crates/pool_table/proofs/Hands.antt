@@ -1,0 +1,163 @@
+-- A view with a root place in its hands: the place is vacant.
+use Rattle.ground.specs.Grounds.{Grounds}
+use Rattle.std.proofs.Common.{◌≡◌, ℕ, ◌+◌, ◌-◌, ◌*◌, ◌/◌, ◌%◌, ◌^◌, ◌<◌, ◌≤◌, List, [], ◌∷◌, map, set, Bool, true, false, cond, eqb, true≢false, sym, refl, ap, ◌∙◌, subst, inr, ⊎_elim, arith, eq-eqb}
+use Rattle.std.proofs.Math.Nat.{div-lt_iff_lt-mul}
+use Rattle.std.specs.Prelude.{Option, None, All, sum_by, filter, slice_index}
+use Rattle.std.proofs.lemmas.List.Elements.{All-head, All-tail, All-weaker}
+use Rattle.std.proofs.lemmas.List.Sums.{sum_by-cons, sum_by-le-sum_by}
+use mathlib.Core.Logic.{dite}
+use native.Mathlib.Decide.{ℕ_discrete}
+use mathlib.Core.Option.{some, none}
+use lib.ListN.{get_elem?}
+use Rattle.atomic_table.specs.Table.{State, Me, step, keeps, Allows}
+use Rattle.step_law.proofs.Changes.{each_at, sum_at}
+use Rattle.pool_law.specs.declared.run.Shape.{Shape}
+use Rattle.pool_law.specs.declared.note.Did.{Did}
+use Rattle.pool_law.specs.declared.note.Noted.{Noted}
+use Rattle.pool_law.specs.declared.note.Object.TheVariants.{Bin}
+use Rattle.pool_law.specs.declared.id.RootId.{RootId}
+use Rattle.pool_law.specs.declared.note.RefDid.{RefDid}
+use Rattle.pool_law.specs.declared.note.RefDid.TheVariants.{Born, Retain, Kept, Ended, Vacated, Look}
+use Rattle.pool_law.specs.Homes.{home_of, objects_of}
+use Rattle.pool_table.specs.Words.{count_word_of}
+use Rattle.table_law.specs.NoteCounts.{place_lane, did_handle, did_home}
+use Rattle.table_law.proofs.Bins.{stock}
+use Rattle.pool_table.specs.declared.views.Entry.{Entry}
+use Rattle.pool_table.specs.declared.views.Entry.TheVariants.{At, Ref, Busy}
+use Rattle.pool_table.specs.declared.views.Layout.{Layout}
+use Rattle.pool_table.specs.declared.views.Part.{Part}
+use Rattle.pool_table.specs.declared.views.SeatView.{SeatView}
+use Rattle.pool_table.specs.Views.{parts_of, is_about, face, strand, noted_weight, noted_in, noted_total}
+use Rattle.pool_table.specs.Counts.{IsCounted, ref_born, ref_vacated, on_place, place_tally, any_gain, ref_gain, weigh, reached, on_root, on_exact, tally, with_ref}
+use Rattle.pool_table.specs.Hands.{at_in, at_out, taken, put_down, InHand, IsBearing, Expects, at_birth_of, at_birth_as}
+use Rattle.pool_table.specs.Sound.{IsSound, IsView, Stands}
+use Rattle.pool_table.specs.Steps.{births}
+use Rattle.pool_table.proofs.Counts.{born_kept}
+use Rattle.pool_table.proofs.Weights.{weigh_none, strict_sum}
+use Rattle.pool_table.proofs.References.{ref_changes, counted_more, settled_more, handy_less, orderly_born, exact_le}
+
+-- what a filter leaves out weighs nothing
+filter_all : (f : Entry → ℕ) (t : Entry → Bool) (es : List Entry) → All (λ (e : Entry). t e ≡ false → f e ≡ 0) es → sum_by f (filter t es) ≡ sum_by f es
+filter_all f t [] all = refl
+filter_all f t (e ∷ es) all = let a = sum_by-cons f e es in let b = filter_all f t es (All-tail (λ (e : Entry). t e ≡ false → f e ≡ 0) e es all) in one (t e) (All-head (λ (e : Entry). t e ≡ false → f e ≡ 0) e es all) a b
+  where
+    one : (b : Bool) → (b ≡ false → f e ≡ 0) → sum_by f (e ∷ es) ≡ f e + sum_by f es → sum_by f (filter t es) ≡ sum_by f es → sum_by f (cond b (e ∷ filter t es) (filter t es)) ≡ sum_by f (e ∷ es)
+    one true h a b = let c = sum_by-cons f e (filter t es) in omega (arith, a, b, c)
+    one false h a b = let z = h refl in omega (arith, a, b, z)
+
+module _ (s : Shape) (p : ℕ) (w : Did → ℕ) (bound : (d : Did) → w d ≤ did_handle p d + did_home p d) where
+  abbrev bin : ℕ
+  bin = home_of s (Bin (place_lane s p))
+
+  light : (lane : Option ℕ) (e : Entry) → Stands s lane e → is_about s bin e ≡ false → noted_weight (λ (n : Noted). w n.did) e ≡ 0
+  light lane (At o k n) t off = ⊎_elim
+      (λ (z : did_handle p n.did + did_home p n.did ≡ 0). let b = bound n.did in omega (arith, z, b))
+      (λ (e : o ≡ Bin (place_lane s p)). absurd (true≢false (sym (eq-eqb (home_of s o) bin (ap (home_of s) e)) ∙ off)))
+      (t.in_place.placed p)
+  light lane (Ref r d) t off = refl
+  light lane (Busy b) t off = refl
+
+  in_strands : (ps : List Part) → All (λ (q : Part). All (Stands s q.number) q.notes) ps → sum_by (λ (q : Part). sum_by (noted_weight (λ (n : Noted). w n.did)) q.notes) (map (strand s bin) ps) ≡ sum_by (λ (q : Part). sum_by (noted_weight (λ (n : Noted). w n.did)) q.notes) ps
+  in_strands [] all = refl
+  in_strands (q ∷ ps) all =
+      let f : Entry → ℕ = noted_weight (λ (n : Noted). w n.did) in let g : Part → ℕ = λ (x : Part). sum_by f x.notes in
+      let a = sum_by-cons g q ps in let b = sum_by-cons g (strand s bin q) (map (strand s bin) ps) in let c = in_strands ps (All-tail (λ (x : Part). All (Stands s x.number) x.notes) q ps all) in
+      let d = filter_all f (is_about s bin) q.notes (All-weaker (Stands s q.number) (λ (e : Entry). is_about s bin e ≡ false → f e ≡ 0) (light q.number) q.notes (All-head (λ (x : Part). All (Stands s x.number) x.notes) q ps all)) in omega (arith, a, b, c, d)
+
+  pub in_faces : (vs : List SeatView) → All (λ (v : SeatView). All (λ (q : Part). All (Stands s q.number) q.notes) (parts_of v)) vs → noted_total (λ (n : Noted). w n.did) (map (face s bin) vs) ≡ sum_by (weigh (noted_weight (λ (n : Noted). w n.did))) vs
+  in_faces [] all = refl
+  in_faces (v ∷ vs) all =
+      let f : Noted → ℕ = λ (n : Noted). w n.did in
+      let a = sum_by-cons (noted_in f) (face s bin v) (map (face s bin) vs) in let b = sum_by-cons (weigh (noted_weight f)) v vs in
+      let c = in_strands (parts_of v) (All-head (λ (v : SeatView). All (λ (q : Part). All (Stands s q.number) q.notes) (parts_of v)) v vs all) in
+      let d = in_faces vs (All-tail (λ (v : SeatView). All (λ (q : Part). All (Stands s q.number) q.notes) (parts_of v)) v vs all) in omega (arith, a, b, c, d)
+
+module _ {H : Type 0} (stands : Grounds → List Noted → H → Type 0) (l : Layout) where
+  abbrev St : Type 0
+  St = State (Option H) SeatView
+
+  pub lane_of : (p : ℕ) → p < l.shape.lanes * l.shape.handles → place_lane l.shape p < l.shape.lanes
+  lane_of p lt = let h : ℕ = l.shape.handles in
+      let some_handle : 0 < h = dite (ℕ_discrete h 0) (λ z. let e : l.shape.lanes * h ≡ l.shape.lanes * 0 = ap (λ (n : ℕ). l.shape.lanes * n) z in let a : ℕ = l.shape.lanes * h in let lt' : p < a = lt in let e' : a ≡ 0 = e ∙ (omega arith) in absurd (omega (arith, lt', e'))) (λ ne. omega (arith, ne)) in
+      (div-lt_iff_lt-mul {k = h} {x = p} {y = l.shape.lanes} some_handle).1 lt
+
+  -- in all views together, the place was taken out of its bin at most once more than it came home
+  pub taken_once : (s : St) (r : IsSound stands l s) (p : ℕ) → p < l.shape.lanes * l.shape.handles → sum_by (weigh (at_in p)) s.views ≤ 1 + sum_by (weigh (at_out p)) s.views
+  taken_once s r p lt =
+      let k = r.objects (Bin (place_lane l.shape p)) (lane_of p lt) in
+      let notes = All-weaker (IsView l.shape r.grounds) (λ (v : SeatView). All (λ (q : Part). All (Stands l.shape q.number) q.notes) (parts_of v)) (λ v fine. fine.notes) s.views r.views in
+      let a = in_faces l.shape p (did_handle p) (λ d. omega arith) s.views notes in let b = in_faces l.shape p (did_home p) (λ d. omega arith) s.views notes in
+      let c = k.weights (λ (n : Noted). did_handle p n.did) in let d = k.weights (λ (n : Noted). did_home p n.did) in let e = stock l.shape (place_lane l.shape p) p k.history k.accepted in omega (arith, a, b, c, d, e)
+
+  pub hand_word : (s : St) (r : IsSound stands l s) (id p : ℕ) (v : SeatView) (lt : p < l.shape.lanes * l.shape.handles) → get_elem? s.views id ≡ some v → InHand p v → (r.counts p lt).vacant ≡ 1
+  hand_word s r id p v lt at has =
+      let k = r.counts p lt in
+      let all = All-weaker (IsView l.shape r.grounds) (λ (x : SeatView). put_down p x ≤ taken p x) (λ x fine. fine.handy p) s.views r.views in
+      let strict = strict_sum (weigh (at_out p)) (weigh (on_place ref_born p)) (weigh (at_in p)) (weigh (on_place ref_vacated p)) s.views id v all at has in
+      let st = taken_once s r p lt in let b = k.all_born in let c = k.all_vacated in let f = k.free in
+      let mo : ℕ = sum_by (weigh (at_out p)) s.views in let bo : ℕ = place_tally ref_born p s.views in let hi : ℕ = sum_by (weigh (at_in p)) s.views in let va : ℕ = place_tally ref_vacated p s.views in
+      let strict' : mo + bo < hi + va = strict in let st' : hi ≤ 1 + mo = st in let b' : bo ≡ k.generation = b in let c' : va + 1 ≡ k.generation + k.vacant = c in omega (arith, strict', st', b', c', f)
+
+  born_le : (p : ℕ) (e : Entry) → on_place ref_born p e ≤ any_gain e
+  born_le p (At o k n) = omega arith
+  born_le p (Ref r d) = at_most (eqb r.place p) d
+    where
+      less : (d : RefDid) → ref_born d ≤ ref_gain d
+      less Born = omega arith
+      less Retain = omega arith
+      less Kept = omega arith
+      less Ended = omega arith
+      less Vacated = omega arith
+      less (Look k) = omega arith
+
+      at_most : (b : Bool) (d : RefDid) → cond {A = ℕ} b (ref_born d) 0 ≤ ref_gain d
+      at_most true d = less d
+      at_most false d = omega arith
+  born_le p (Busy b) = omega arith
+
+  pub small_generation : (s : St) (r : IsSound stands l s) (p : ℕ) (lt : p < l.shape.lanes * l.shape.handles) → (r.counts p lt).generation < 1073741824
+  small_generation s r p lt =
+      let k = r.counts p lt in
+      let le : place_tally ref_born p s.views ≤ sum_by reached s.views = sum_by-le-sum_by (weigh (on_place ref_born p)) reached s.views (λ v. let a : weigh (on_place ref_born p) v ≤ weigh any_gain v = sum_by-le-sum_by (λ (q : Part). sum_by (on_place ref_born p) q.notes) (λ (q : Part). sum_by any_gain q.notes) (parts_of v) (λ q. sum_by-le-sum_by (on_place ref_born p) any_gain q.notes (born_le p)) in omega (arith, a)) in
+      let a = k.all_born in let b = r.moved in let c = r.few in
+      let x : ℕ = place_tally ref_born p s.views in let y : ℕ = sum_by reached s.views in let t : ℕ = l.shape.lanes * l.moves in
+      let le' : x ≤ y = le in let a' : x ≡ k.generation = a in let b' : y ≤ t = b in let c' : t < 1073741824 = c in omega (arith, le', a', b', c')
+
+  next_word : (word g c v : ℕ) → word ≡ g * 4294967296 + (2 * c + v) → c ≡ 0 → v ≡ 1 → g < 1073741824 → ((word + 4294967297) % 2 ^ 64 ≡ word + 4294967297) × (word / 4294967296 ≡ g)
+  next_word word g c v e cz vo lt = (omega (arith, e, cz, vo, lt), omega (arith, e, cz, vo))
+
+  awake_hand : (s : St) (r : IsSound stands l s) (id p : ℕ) (v : SeatView) → get_elem? s.views id ≡ some v → InHand p v → All (λ (q : Part). q.number ≡ None) (parts_of v) → ⊥
+  awake_hand s r id p v at has all =
+      let idle = (each_at (IsView l.shape r.grounds) s.views id v r.views at).unnumbered all in
+      let a = weigh_none (at_in p) (parts_of v) idle.notes in let b = weigh_none (on_place ref_vacated p) (parts_of v) idle.notes in let c = has in
+      let x : ℕ = put_down p v in let y : ℕ = taken p v in let c' : x < y = c in let z : y ≡ 0 = omega (arith, a, b) in omega (arith, c', z)
+
+  exact_entry : (p g c : ℕ) (e : Entry) → on_exact ref_born p g c e ≤ on_root ref_born p g e
+  exact_entry p g c (At o k n) = omega arith
+  exact_entry p g c (Ref r d) = exact_le stands l ref_born p g c r d
+  exact_entry p g c (Busy b) = omega arith
+
+  pub births_allowed : (id : ℕ) (me : Me (Option H) SeatView) (root : RootId) → root.place < l.shape.lanes * l.shape.handles → InHand root.place me.0 → IsBearing root.place me.0 → (ex : Expects root.place root.capacity me.0) → ((s : St) (r : IsSound stands l s) (lt : root.place < l.shape.lanes * l.shape.handles) → get_elem? s.views id ≡ some me.0 → ex.0 ≡ (r.counts root.place lt).generation + 1) → 0 < me.0.moves → me.0.inside ≡ None
+      → Allows (IsSound stands l) (objects_of l.shape) id me (count_word_of l.shape root.place) (λ n. (n + 4294967297) % 2 ^ 64) (births root (step (objects_of l.shape) (count_word_of l.shape root.place) 4294967297 0 none) me)
+  births_allowed id me root lt has bearing ex next moves out s r _ at under =
+      let p : ℕ = root.place in let v : SeatView = me.0 in let k = r.counts p lt in let vac = hand_word s r id p v lt at has in let m : ℕ = v.moves - 1 in
+      let word : ℕ = slice_index s.words (count_word_of l.shape p) in
+      let over : k.count ≡ 0 = dite (ℕ_discrete k.count 0) (λ z. z) (λ ne. let a = k.live (omega (arith, ne)) in absurd (omega (arith, a, vac))) in
+      let nx = next_word word k.generation k.count k.vacant k.word_is over vac (small_generation s r p lt) in
+      let r' : RootId = record { place = p; generation = word / 4294967296 + 1; capacity = root.capacity } in
+      let gen : r'.generation ≡ k.generation + 1 = ap (λ (n : ℕ). n + 1) nx.1 in
+      let fine = each_at (IsView l.shape r.grounds) s.views id v r.views at in (
+        with_ref v r' Born m,
+        keeps,
+        tt,
+        ref_changes stands l s r id p ((word + 4294967297) % 2 ^ 64) m v r' Born lt refl out at (awake_hand s r id p v at has) (let n : ℕ = v.moves in let pos : 0 < n = moves in let g : 1 + (n - 1) ≤ n = omega (arith, pos) in g)
+            (counted_more stands l v r' Born m fine.counted refl) (settled_more stands l v r' Born m fine.settled refl) (handy_less stands l v r' m fine.handy has) (orderly_born stands l v r' m fine.roots bearing
+            (subst (λ (g : ℕ). weigh (on_root ref_born p g) v < weigh (at_birth_of p g) v) (next s r lt at ∙ sym gen) ex.1)
+            (let none_yet : weigh (on_exact ref_born p r'.generation root.capacity) v ≡ 0 = (let z : tally ref_born p r'.generation s.views ≡ 0 = k.later ref_born r'.generation (inr (let q : r'.generation ≡ k.generation + 1 = gen in omega (arith, q))) in let le = sum_at (weigh (on_root ref_born p r'.generation)) s.views id v at in
+            let el : weigh (on_exact ref_born p r'.generation root.capacity) v ≤ weigh (on_root ref_born p r'.generation) v = sum_by-le-sum_by (λ (q : Part). sum_by (on_exact ref_born p r'.generation root.capacity) q.notes) (λ (q : Part). sum_by (on_root ref_born p r'.generation) q.notes) (parts_of v) (λ q. sum_by-le-sum_by (on_exact ref_born p r'.generation root.capacity) (on_root ref_born p r'.generation) q.notes (exact_entry p r'.generation root.capacity)) in
+            let x : ℕ = tally ref_born p r'.generation s.views in let z' : x ≡ 0 = z in let le' : weigh (on_root ref_born p r'.generation) v ≤ x = le in omega (arith, z', le', el)) in
+            let some_noted : 0 < weigh (at_birth_as p r'.generation root.capacity) v = subst (λ (g : ℕ). 0 < weigh (at_birth_as p g root.capacity) v) (next s r lt at ∙ sym gen) ex.2 in omega (arith, none_yet, some_noted)))
+            (λ k e. absurd (cc e))
+            (subst (IsCounted p (set s.views id (with_ref v r' Born m))) (sym nx.0) (born_kept p s.views id v r' m at refl word k gen vac)),
+        ((let a : word / 4294967296 ≡ k.generation = nx.1 in let b = small_generation s r p lt in let g : word / 4294967296 < 1073741824 = subst (λ (n : ℕ). n < 1073741824) (sym a) b in g), refl),
+      )

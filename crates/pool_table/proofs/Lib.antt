@@ -1,0 +1,23 @@
+pub mod Lists
+pub mod Order
+pub mod Looks
+pub mod Newest
+pub mod Words
+pub mod Counts
+pub mod Weights
+pub mod Objects
+pub mod Tables
+pub mod Moves
+pub mod Seatings
+pub mod Calls
+pub mod Openings
+pub mod Closings
+pub mod Starts
+pub mod Partition
+pub mod Transit
+pub mod References
+pub mod Hands
+pub mod Regions
+pub mod Places
+pub mod Presence
+mod Trials

@@ -1,0 +1,20 @@
+use Rattle.std.proofs.Common.{◌≡◌, length, sym, ap, ◌∙◌, subst, arith}
+use Rattle.std.specs.Prelude.{Some}
+use Rattle.std.proofs.lemmas.List.{length-map}
+use Rattle.std.proofs.lemmas.Grind.{common_steps}
+use Rattle.pool_table.specs.Words.{IsOpening}
+use Rattle.pool_table.proofs.Starts.{opens_as, map_some, all_some}
+use Rattle.pool_table.proofs.table.PoolTable.new.Goals as goal
+
+pub new-requires : goal.new-requires
+new-requires g c = opens_as g.H.Told.stands c.args.layout c.requires.stand.0 _ _ c.args.homes.items c.requires.shape c.requires.turns c.requires.moves (subst (IsOpening c.args.layout.shape) (sym c.as_slice.ensures.value) c.in-Ok.ensures.words) c.wrapped-slots.ensures.slots c.requires.homes c.requires.stand.1
+
+pub unwrapped-requires : goal.unwrapped-requires
+unwrapped-requires g c = let same = c.in-Err.ensures.err ∙ c.wrapped-slots.ensures.slots in (
+  c.wrapped-slots.ensures.homes.0,
+  (let a : length c.in-Err.field-0.slots.items ≡ length c.args.homes.items = ap length same ∙ length-map c.args.homes.items Some in let b = c.wrapped-slots.ensures.homes.1 in grind (arith, common_steps, a, b)),
+  all_some c.args.homes.items c.in-Err.field-0.slots.items same,
+)
+
+pub returns-clause-err : goal.returns-clause-err
+returns-clause-err g c = map_some c.unwrapped.result.items c.args.homes.items (c.unwrapped.ensures ∙ (c.in-Err.ensures.err ∙ c.wrapped-slots.ensures.slots))

@@ -1,0 +1,12 @@
+use Rattle.pool_table.specs.Opened.{IsFirstSeat}
+use Rattle.pool_table.specs.declared.tests.TheConstants.{LAYOUT}
+use Rattle.pool_table.proofs.Trials.{two_last}
+use Rattle.pool_table.proofs.tests.open_table.Goals as goal
+
+pub returns-clause-first : goal.returns-clause-first
+returns-clause-first c = let s = c.in-Ok.ensures.seats in
+    (s.grounds, (two_last (λ k. IsFirstSeat LAYOUT s.grounds k c.in-Ok.table) c.in-Ok.seats.items c.pop.new.self.items c.pop-2.new.self.items c.in-Some-pop.first c.in-Some.second s.many c.in-Some.ensures.items c.in-Some-pop.ensures.items s.each).0)
+
+pub returns-clause-second : goal.returns-clause-second
+returns-clause-second c = let s = c.in-Ok.ensures.seats in
+    (s.grounds, (two_last (λ k. IsFirstSeat LAYOUT s.grounds k c.in-Ok.table) c.in-Ok.seats.items c.pop.new.self.items c.pop-2.new.self.items c.in-Some-pop.first c.in-Some.second s.many c.in-Some.ensures.items c.in-Some-pop.ensures.items s.each).1)

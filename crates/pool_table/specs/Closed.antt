@@ -1,0 +1,53 @@
+-- What the last seat knows when the table is closed: the logs are the parts of its view.
+use Rattle.ground.specs.Grounds.{Grounds}
+use Rattle.std.specs.Prelude.{◌≡◌, ℕ, ◌+◌, ◌*◌, ◌<◌, List, [], ◌∷◌, length, Option, Some, IfSome, All, slice_index}
+use mathlib.Core.Option.{some}
+use lib.ListN.{get_elem?}
+use Rattle.pool_law.specs.declared.run.Shape.{Shape}
+use Rattle.pool_law.specs.declared.note.Noted.{Noted}
+use Rattle.pool_law.specs.declared.note.Object.{Object}
+use Rattle.pool_law.specs.Homes.{home_of, objects_of, IsObjectOf}
+use Rattle.table_law.specs.Histories.{IsHistory}
+use Rattle.pool_table.specs.declared.views.Layout.{Layout}
+use Rattle.pool_table.specs.declared.views.Part.{Part}
+use Rattle.pool_table.specs.declared.views.SeatView.{SeatView}
+use Rattle.pool_table.specs.Views.{parts_of, is_at, is_numbered, face, in_face, numbered}
+use Rattle.pool_table.specs.Counts.{IsCounted}
+use Rattle.pool_table.specs.Looks.{AreLooksRight}
+use Rattle.pool_table.specs.Order.{AreInOrder}
+use Rattle.pool_table.specs.Sound.{IsTold, Stands}
+use Rattle.pool_table.specs.Words.{listed_of}
+
+-- the view has a part of each lane
+abbrev pub HasAllLanes : Layout → SeatView → Type 0
+HasAllLanes l v = (m : ℕ) → m < l.shape.lanes → numbered m v ≡ 1
+
+-- the history of one object, whole in the parts of the view, and what its home value stands for
+pub record IsWhole {H : Type 0}
+    (stands : Grounds → List Noted → H → Type 0) (shape : Shape) (v : SeatView) (o : Object) (word : ℕ)
+    (homes : List (Option H)) : Type 0 where
+  pub history : List Noted
+  pub accepted : IsHistory shape o history
+  pub word_is : word ≡ 2 * length history
+  pub told : All (IsTold o history (length history)) (face shape (home_of shape o) v).parts
+  pub once : (k : ℕ) → k < length history →
+      in_face (is_numbered (k + 1)) (face shape (home_of shape o) v) ≡ 1
+  pub as_many : in_face is_at (face shape (home_of shape o) v) ≡ length history
+  pub home_is :
+      (x : H) × (get_elem? homes (home_of shape o) ≡ some (Some x))
+      × IfSome v.grounds (λ (g : Grounds). stands g history x)
+
+-- home values and words as the table is closed, by the view that has the parts of all lanes
+pub record IsClosed {H : Type 0}
+    (stands : Grounds → List Noted → H → Type 0) (l : Layout) (v : SeatView) (homes : List (Option H))
+    (words : List ℕ) : Type 0 where
+  pub word_count : length words ≡ listed_of l.shape
+  pub home_count : length homes ≡ objects_of l.shape
+  pub notes : All (λ (p : Part). All (Stands l.shape p.number) p.notes) (parts_of v)
+  pub objects : (o : Object) → IsObjectOf l.shape o →
+      IsWhole stands l.shape v o (slice_index words (home_of l.shape o)) homes
+  pub counts : (p : ℕ) → p < l.shape.lanes * l.shape.handles →
+      IsCounted p (v ∷ []) (slice_index words (objects_of l.shape + p))
+  -- each look of the lanes' parts told the truth, and their notes are in order
+  pub looks : AreLooksRight (v ∷ [])
+  pub order : AreInOrder (v ∷ [])

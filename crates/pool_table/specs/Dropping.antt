@@ -1,0 +1,12 @@
+-- What a release noted, by its answer.
+use Rattle.std.specs.Prelude.{◌≡◌}
+use Rattle.pool_law.specs.declared.id.RootId.{RootId}
+use Rattle.pool_law.specs.declared.note.RefDid.TheVariants as did
+use Rattle.pool_table.specs.declared.roots.Dropped.{Dropped}
+use Rattle.pool_table.specs.declared.roots.Dropped.TheVariants.{Kept, Ended}
+use Rattle.pool_table.specs.declared.views.SeatView.{SeatView}
+use Rattle.pool_table.specs.Counts.{with_ref}
+
+abbrev pub IsDroppedAs : Dropped → RootId → SeatView → SeatView → Type 0
+IsDroppedAs Kept r v w = w ≡ with_ref v r did.Kept v.moves
+IsDroppedAs (Ended t) r v w = (t.root ≡ r) × (w ≡ with_ref v r did.Ended v.moves)

@@ -1,0 +1,15 @@
+pub mod Words
+pub mod Views
+pub mod Counts
+pub mod Looks
+pub mod Order
+pub mod Sound
+pub mod Steps
+pub mod Hands
+pub mod Seats
+pub mod Sections
+pub mod Opened
+pub mod Homing
+pub mod Closed
+pub mod Holders
+pub mod Dropping

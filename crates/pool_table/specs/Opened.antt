@@ -1,0 +1,22 @@
+-- What a contract says of a table that has just been made.
+use Rattle.ground.specs.Grounds.{Grounds}
+use Rattle.std.specs.Prelude.{◌≡◌, ℕ, ◌<◌, List, length, HoldsAt}
+use Rattle.step_law.specs.declared.Told.{Ghosts}
+use Rattle.pool_law.specs.declared.note.Noted.{Noted}
+use Rattle.pool_table.specs.declared.views.Layout.{Layout}
+use Rattle.pool_table.specs.declared.table.PoolTable.{PoolTable}
+use Rattle.pool_table.specs.declared.table.PoolSeat.{PoolSeat}
+use Rattle.pool_table.specs.Seats.{IsSeatOf, HasView}
+use Rattle.pool_table.specs.Steps.{lane_view}
+
+-- the first seat of a lane: its lane's number, its share of moves and turns, and no notes
+abbrev pub IsFirstSeat : {H : Type 0} {G : Ghosts H Noted} →
+    Layout → Grounds → ℕ → PoolTable H → PoolSeat H G → Type 0
+IsFirstSeat l g lane t s = IsSeatOf t s × HasView s (lane_view l lane g)
+
+-- the seats are the first seats of all lanes, in order
+pub record AreFirstSeats {H : Type 0} {G : Ghosts H Noted}
+    (l : Layout) (t : PoolTable H) (seats : List (PoolSeat H G)) : Type 0 where
+  pub grounds : Grounds
+  pub many : length seats ≡ l.shape.lanes
+  pub each : (k : ℕ) → k < l.shape.lanes → HoldsAt (IsFirstSeat l grounds k t) seats k

@@ -1,0 +1,73 @@
+//! The close: home values and words come out of the table.
+
+ghost use Rattle.std.specs.Prelude.{◌≡◌, ℕ, ◌<◌, ◌≤◌, [], length, false, vec_capacity, slice_index, slice_index_or};
+ghost use Rattle.std.specs.Mem.Slots.{slots_items, slots_filled, slots_len, IsFull};
+ghost use Rattle.pool_table.specs.Words.{listed_of, word_at, words_of};
+ghost use Rattle.pool_table.specs.Sound.{IsShape};
+ghost use Rattle.pool_table.specs.Seats.{view_of, IsSeatOf, IsOutside};
+ghost use Rattle.pool_table.specs.Closed.{HasAllLanes, IsClosed};
+
+use crate::index::{listed_count, object_count, word_index};
+use crate::table::{PoolSeat, PoolTable};
+use atomic_table::Closed;
+use pool_law::{Noted, Shape};
+use std::alloc::Global;
+use step_law::Told;
+
+impl<H: Told<Note = Noted>> PoolTable<H> {
+    /// The home values in the order of the objects, each there, and the words: those of the objects in the same
+    /// order, then those of the counts by root place. The seat has the parts of all lanes, so no section is open.
+    pub fn close_with(self, seat: PoolSeat<H>) -> (Vec<Option<H>>, Vec<u64>)
+        requires own { IsSeatOf self seat }
+        requires outside { IsOutside seat }
+        requires all { HasAllLanes self.layout (view_of seat) }
+        ensures { IsClosed H.stands self.layout (view_of seat) result.0.items result.1.items }
+    {
+        let PoolTable {
+            table,
+            layout,
+            spare_homes,
+            spare_words,
+        } = self;
+        let PoolSeat { seat, number: _ } = seat;
+        let mut closed = table.close_with(seat);
+        let words = take_words(&closed, &layout.shape, spare_words);
+        let homes = take_homes(&mut closed, object_count(&layout.shape), spare_homes);
+        closed.free();
+        (homes, words)
+    }
+}
+
+// The words of a closed table in the order of the list, into a Vec that has room.
+fn take_words<S>(closed: &Closed<S, Global>, shape: &Shape, mut words: Vec<u64>) -> Vec<u64>
+    requires shape { IsShape shape.now }
+    requires full { IsFull closed.now.words × (slots_len closed.now.words ≡ words_of shape.now) }
+    requires room { (words.items ≡ []) × (listed_of shape.now ≤ vec_capacity words) }
+    ensures many { length result.items ≡ listed_of shape.now }
+    ensures laid { (k : ℕ) → k < listed_of shape.now →
+        slice_index result.items k ≡ slice_index (slots_items closed.now.words) (word_at shape.now k) }
+{
+    let count = listed_count(shape);
+    for i in 0..count {
+        let word = closed.word(word_index(shape, i));
+        let Ok(()) = words.push(word) else {
+            unreachable!()
+        };
+    }
+    words
+}
+
+// The values of a closed table, into a Vec that has room.
+fn take_homes<S>(closed: &mut Closed<S, Global>, count: usize, mut homes: Vec<S>) -> Vec<S>
+    requires full { IsFull closed.old.slots × (slots_len closed.old.slots ≡ count) }
+    requires room { (homes.items ≡ []) × (count ≤ vec_capacity homes) }
+    ensures items { result.items ≡ slots_items closed.old.slots }
+    ensures empty { (k : ℕ) → k < slots_len closed.new.slots →
+        slice_index_or (slots_filled closed.new.slots) k false ≡ false }
+{
+    for i in 0..count {
+        let pushed = homes.push(closed.take(i));
+        let Ok(()) = pushed else { unreachable!() };
+    }
+    homes
+}

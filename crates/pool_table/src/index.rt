@@ -1,0 +1,77 @@
+//! Where an object's word and slot are.
+ghost use Rattle.std.specs.Prelude.{◌≡◌, ◌≤◌, ◌<◌, ◌*◌};
+ghost use Rattle.pool_law.specs.Homes.{home_of, objects_of, IsObjectOf};
+ghost use Rattle.pool_table.specs.Sound.{IsShape};
+ghost use Rattle.pool_table.specs.Words.{listed_of, word_at, words_of, count_word_of};
+
+use pool_law::{Object, Shape};
+
+pub(crate) fn home_index(shape: &Shape, object: Object) -> usize
+    requires shape { IsShape shape.now }
+    requires object { IsObjectOf shape.now object }
+    ensures { result ≡ home_of shape.now object }
+{
+    let lanes = shape.lanes as usize;
+    let arenas = shape.arenas as usize;
+    match object {
+        Object::Arena(a) => a as usize,
+        Object::Cache { lane, class } => arenas + lane as usize * 40 + class as usize,
+        Object::Bin(lane) => arenas + lanes * 40 + lane as usize,
+        Object::Mail { from, to } => arenas + lanes * 41 + (from as usize * lanes + to as usize),
+        Object::Root(place) => arenas + lanes * 41 + lanes * lanes + place as usize,
+    }
+}
+
+pub(crate) fn object_count(shape: &Shape) -> usize
+    requires { IsShape shape.now }
+    ensures { result ≡ objects_of shape.now }
+{
+    let lanes = shape.lanes as usize;
+    shape.arenas as usize + lanes * 41 + lanes * lanes + lanes * shape.handles as usize
+}
+
+pub(crate) fn listed_count(shape: &Shape) -> usize
+    requires { IsShape shape.now }
+    ensures { result ≡ listed_of shape.now }
+{
+    object_count(shape) + shape.lanes as usize * shape.handles as usize
+}
+
+pub(crate) fn word_count(shape: &Shape) -> usize
+    requires { IsShape shape.now }
+    ensures { result ≡ words_of shape.now }
+{
+    let lanes = shape.lanes as usize;
+    let handles = shape.handles as usize;
+    let single = shape.arenas as usize + lanes * 41 + lanes * lanes;
+    single * 16 + 2 * lanes * (handles + (16 - handles % 16) % 16)
+}
+
+/// Where a word of the list lies. With a multiple of 16 handles a lane it divides nothing.
+pub(crate) fn word_index(shape: &Shape, listed: usize) -> usize
+    requires shape { IsShape shape.now }
+    requires listed { listed < listed_of shape.now }
+    ensures { result ≡ word_at shape.now listed }
+{
+    let lanes = shape.lanes as usize;
+    let single = shape.arenas as usize + lanes * 41 + lanes * lanes;
+    if listed < single {
+        return listed * 16;
+    }
+    let handles = shape.handles as usize;
+    let padding = (16 - handles % 16) % 16;
+    let packed = listed - single;
+    if padding == 0 {
+        return single * 16 + packed;
+    }
+    single * 16 + (packed + packed / handles * padding)
+}
+
+/// Where the word of a root place's count lies.
+pub(crate) fn count_index(shape: &Shape, place: u32) -> usize
+    requires shape { IsShape shape.now }
+    requires place { place < shape.now.lanes * shape.now.handles }
+    ensures { result ≡ count_word_of shape.now place }
+{
+    word_index(shape, object_count(shape) + place as usize)
+}

@@ -1,0 +1,19 @@
+//! Laws of the sound table. Each is the contract of a function that does nothing.
+
+ghost use Rattle.pool_table.specs.declared.views.Layout.{Layout};
+ghost use Rattle.pool_table.specs.Holders.{PlacesInOneHand, PlacesInOnePlace, TakingsInOneHand, TakingsInOneHold};
+
+use pool_law::Noted;
+use step_law::Told;
+
+/// Between any two steps a vacant root place is in its bin or in one seat's hands, and no other place is in either.
+pub fn places_have_one_holder<H: Told<Note = Noted>>()
+    ensures one_hand { (l : Layout) → PlacesInOneHand H.stands l }
+    ensures one_place { (l : Layout) → PlacesInOnePlace H.stands l }
+{}
+
+/// Between any two steps a taking that is out of its arena is in one seat's hands, in one cache or at one root place.
+pub fn takings_have_one_holder<H: Told<Note = Noted>>()
+    ensures one_hand { (l : Layout) → TakingsInOneHand H.stands l }
+    ensures one_hold { (l : Layout) → TakingsInOneHold H.stands l }
+{}

@@ -1,0 +1,25 @@
+#![tactic(auto)]
+//! The table of words through which threads share a pool: sections on its objects, and the counts of its roots.
+//!
+//! Each step is one atomic step on one word. Between any two steps the table is sound (`specs/Sound.antt`).
+
+mod closing;
+mod index;
+pub mod laws;
+mod making;
+mod opening;
+mod root_words;
+mod roots;
+mod rule;
+mod seats;
+mod section;
+mod sections;
+mod table;
+#[cfg(test)]
+mod tests;
+mod views;
+
+pub use roots::{Dropped, EndToken};
+pub use rule::{Blanks, Claiming, Claims, Dones, Idles, Joins, Learns, MarksClaims, Rule};
+pub use table::{PoolSeat, PoolTable, Section};
+pub use views::{Entry, GroundList, Inside, Layout, Part, SeatView};

@@ -1,0 +1,131 @@
+//! How a table is made, and its first seats.
+
+ghost use Rattle.ground.specs.Grounds.{Grounds};
+ghost use Rattle.std.specs.Prelude.{◌≡◌, ◌*◌, ◌<◌, ◌≤◌, ◌^◌, [], length, IfOk, IfErr, All, vec_capacity};
+ghost use Rattle.pool_law.specs.Homes.{objects_of};
+ghost use Rattle.pool_table.specs.Words.{listed_of, IsOpening};
+ghost use Rattle.pool_table.specs.Sound.{IsShape};
+ghost use Rattle.pool_table.specs.Steps.{first_view};
+ghost use Rattle.pool_table.specs.Opened.{AreFirstSeats};
+
+use crate::index::{listed_count, object_count};
+use crate::making::{opening_words, unwrapped, wrapped};
+use crate::rule::{Cuts, Learns};
+use crate::table::{PoolSeat, PoolTable};
+use crate::views::{Layout, SeatView};
+use atomic_table::{Refused, Seat, Table};
+use pool_law::{Noted, Shape};
+use std::alloc::{AllocError, Global};
+use step_law::Told;
+
+// All memory that a table takes.
+struct Room<H: Told<Note = Noted>> {
+    words: Vec<u64>,
+    slots: Vec<Option<H>>,
+    spare_words: Vec<u64>,
+    spare_homes: Vec<Option<H>>,
+    seats: Vec<PoolSeat<H>>,
+}
+
+fn take_room<H: Told<Note = Noted>>(alloc: Global, shape: &Shape) -> Result<Room<H>, AllocError>
+    requires { IsShape shape.now }
+    ensures words { IfOk result (λ r. IsOpening shape.now r.words.items) }
+    ensures slots { IfOk result (λ r. (r.slots.items ≡ []) × (objects_of shape.now ≤ vec_capacity r.slots)) }
+    ensures spare_words { IfOk result (λ r. (r.spare_words.items ≡ []) × (listed_of shape.now ≤ vec_capacity r.spare_words)) }
+    ensures spare_homes { IfOk result (λ r. (r.spare_homes.items ≡ []) × (objects_of shape.now ≤ vec_capacity r.spare_homes)) }
+    ensures seats { IfOk result (λ r. (r.seats.items ≡ []) × (shape.now.lanes ≤ vec_capacity r.seats)) }
+{
+    let objects = object_count(shape);
+    let count = listed_count(shape);
+    let words = opening_words(alloc, shape)?;
+    let spare_words = Vec::with_capacity(alloc, count)?;
+    let slots: Vec<Option<H>> = Vec::with_capacity(alloc, objects)?;
+    let Ok(spare_homes) = Vec::with_capacity(alloc, objects) else {
+        slots.destroy_empty();
+        return Err(AllocError);
+    };
+    let Ok(seats) = Vec::with_capacity(alloc, shape.lanes as usize) else {
+        slots.destroy_empty();
+        spare_homes.destroy_empty();
+        return Err(AllocError);
+    };
+    Ok(Room {
+        words,
+        slots,
+        spare_words,
+        spare_homes,
+        seats,
+    })
+}
+
+impl<H: Told<Note = Noted>> PoolTable<H> {
+    // Cuts the first seats out of the opening view.
+    fn first_seats(
+        &self,
+        mut rest: Seat<Option<H>, SeatView>,
+        mut seats: Vec<PoolSeat<H>>,
+    ) -> Vec<PoolSeat<H>>
+        requires own { rest.table_id ≡ self.now.table.shared.table_id }
+        requires rest { rest.me ≡ (first_view self.now.layout, []) }
+        requires room { (seats.items ≡ []) × (self.now.layout.shape.lanes ≤ vec_capacity seats) }
+        ensures { AreFirstSeats self.now.layout self.now result.items }
+    {
+        self.table.shared.load::<Learns>(&mut rest, 0);
+        for i in 0..self.layout.shape.lanes {
+            let seat = self.table.shared.split_seat::<Cuts>(&mut rest);
+            let pushed = seats.push(PoolSeat {
+                seat,
+                number: Some(i),
+            });
+            let Ok(()) = pushed else { unreachable!() };
+        }
+        seats
+    }
+
+    /// A table with one home value for each object, and a seat for each lane. It takes all memory that a table needs.
+    /// Where memory is refused, the home values come back.
+    pub fn new(
+        alloc: Global,
+        layout: Layout,
+        mut homes: Vec<H>,
+    ) -> Result<(PoolTable<H>, Vec<PoolSeat<H>>), Vec<H>>
+        requires shape { IsShape layout.shape }
+        requires homes { length homes.items ≡ objects_of layout.shape }
+        requires stand { (g : Grounds) × All (λ x. H.stands g [] x) homes.items }
+        requires moves { layout.shape.lanes * layout.moves < 2 ^ 30 }
+        requires turns { layout.shape.lanes * layout.turns < 2 ^ 62 }
+        ensures layout { IfOk result (λ r. r.0.layout ≡ layout) }
+        ensures seats { IfOk result (λ r. AreFirstSeats layout r.0 r.1.items) }
+        ensures err { IfErr result (λ h. h.items ≡ homes.items) }
+    {
+        let Ok(room) = take_room(alloc, &layout.shape) else {
+            return Err(homes);
+        };
+        let Room {
+            words,
+            slots,
+            spare_words,
+            spare_homes,
+            seats,
+        } = room;
+        let slots = wrapped(&mut homes, slots);
+        match Table::new(alloc, words.as_slice(), slots, &layout) {
+            Ok((table, rest)) => {
+                homes.destroy_empty();
+                let table = PoolTable {
+                    table,
+                    layout,
+                    spare_homes,
+                    spare_words,
+                };
+                let seats = table.first_seats(rest, seats);
+                Ok((table, seats))
+            }
+            Err(Refused { slots }) => {
+                spare_homes.destroy_empty();
+                seats.destroy_empty();
+                Err(unwrapped(slots, homes))
+            }
+        }
+    }
+}

@@ -1,0 +1,176 @@
+//! The rule, and what each kind of step tells its seat. These types are for the proofs alone.
+use crate::views::{Layout, SeatView};
+use atomic_table::{Join, Play, Split, TableRule};
+use pool_law::{Named, Noted};
+use std::marker::{Brand, PhantomData};
+use step_law::Told;
+
+pub struct Rule;
+
+impl<H: Told<Note = Noted>> TableRule<Option<H>, SeatView, Layout> for Rule {
+    ghost use Rattle.pool_table.specs.Sound.{IsSound};
+    ghost use Rattle.pool_table.specs.Steps.{first_view};
+
+    ghost holds = { IsSound H.stands };
+
+    ghost first = { first_view };
+}
+
+/// Which object a claim is of, in which table.
+pub trait Claiming {
+    ghost use Rattle.pool_law.specs.declared.note.Object.{Object};
+    ghost use Rattle.pool_table.specs.declared.views.Layout.{Layout};
+
+    ghost object: { Object };
+
+    ghost layout: { Layout };
+}
+
+impl Claiming for Brand {
+    ghost use Rattle.pool_table.specs.Steps.{no_object, no_layout};
+
+    ghost object = { no_object };
+
+    ghost layout = { no_layout };
+}
+
+pub struct Claims<C> {
+    of: PhantomData<C>,
+}
+
+impl<H: Told<Note = Noted>, C: Claiming> Play<Option<H>, SeatView> for Claims<C> {
+    ghost use Rattle.pool_table.specs.Steps.{claims};
+
+    ghost then = { claims H.stands C.layout C.object };
+}
+
+pub struct MarksClaims<C> {
+    of: PhantomData<C>,
+}
+
+impl<H: Told<Note = Noted>, C: Claiming> Play<Option<H>, SeatView> for MarksClaims<C> {
+    ghost use Rattle.pool_table.specs.Steps.{marks_claims};
+
+    ghost then = { marks_claims H.stands C.layout C.object };
+}
+
+pub struct Dones<N> {
+    of: PhantomData<N>,
+}
+
+impl<H: Told<Note = Noted>, N: Named> Play<Option<H>, SeatView> for Dones<N> {
+    ghost use Rattle.pool_table.specs.Steps.{dones};
+
+    ghost then = { dones N.note };
+}
+
+pub struct Idles;
+
+impl<H: Told<Note = Noted>> Play<Option<H>, SeatView> for Idles {
+    ghost use Rattle.pool_table.specs.Steps.{idles};
+
+    ghost then = { idles };
+}
+
+pub struct Learns;
+
+impl<H: Told<Note = Noted>> Play<Option<H>, SeatView> for Learns {
+    ghost use Rattle.pool_table.specs.Steps.{learns};
+
+    ghost then = { learns };
+}
+
+pub struct Blanks;
+
+impl Split<SeatView> for Blanks {
+    ghost use Rattle.pool_table.specs.Steps.{blank_beside};
+
+    ghost left = { λ v. v };
+
+    ghost right = { blank_beside };
+}
+
+/// Cuts off the first of the other parts, with its share of the moves and turns.
+pub struct Cuts;
+
+impl Split<SeatView> for Cuts {
+    ghost use Rattle.pool_table.specs.Steps.{rest_of_lanes, first_lane};
+
+    ghost left = { rest_of_lanes };
+
+    ghost right = { first_lane };
+}
+
+pub struct Joins;
+
+impl Join<SeatView> for Joins {
+    ghost use Rattle.std.specs.Prelude.{None};
+    ghost use Rattle.pool_table.specs.Views.{joined, blank};
+
+    ghost both = { joined };
+
+    ghost spent = { blank None };
+}
+
+/// Which root a step is on.
+pub trait Rooted {
+    ghost use Rattle.pool_law.specs.declared.id.RootId.{RootId};
+
+    ghost root: { RootId };
+}
+
+impl Rooted for Brand {
+    ghost use Rattle.pool_table.specs.Steps.{no_root};
+
+    ghost root = { no_root };
+}
+
+pub struct Retains<R> {
+    of: PhantomData<R>,
+}
+
+impl<H: Told<Note = Noted>, R: Rooted> Play<Option<H>, SeatView> for Retains<R> {
+    ghost use Rattle.pool_table.specs.Steps.{retains};
+
+    ghost then = { retains R.root };
+}
+
+pub struct Looks<R> {
+    of: PhantomData<R>,
+}
+
+impl<H: Told<Note = Noted>, R: Rooted> Play<Option<H>, SeatView> for Looks<R> {
+    ghost use Rattle.pool_table.specs.Steps.{looks};
+
+    ghost then = { looks R.root };
+}
+
+pub struct Releases<R> {
+    of: PhantomData<R>,
+}
+
+impl<H: Told<Note = Noted>, R: Rooted> Play<Option<H>, SeatView> for Releases<R> {
+    ghost use Rattle.pool_table.specs.Steps.{releases};
+
+    ghost then = { releases R.root };
+}
+
+pub struct Vacates<R> {
+    of: PhantomData<R>,
+}
+
+impl<H: Told<Note = Noted>, R: Rooted> Play<Option<H>, SeatView> for Vacates<R> {
+    ghost use Rattle.pool_table.specs.Steps.{vacates};
+
+    ghost then = { vacates R.root };
+}
+
+pub struct Births<R> {
+    of: PhantomData<R>,
+}
+
+impl<H: Told<Note = Noted>, R: Rooted> Play<Option<H>, SeatView> for Births<R> {
+    ghost use Rattle.pool_table.specs.Steps.{births};
+
+    ghost then = { births R.root };
+}

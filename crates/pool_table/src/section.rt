@@ -1,0 +1,20 @@
+//! The home value of a section. The clause names the row of `Section`, which the file that declares it can't import.
+
+ghost use Rattle.std.specs.Prelude.{◌≡◌};
+ghost use Rattle.std.specs.Borrow.{sem, Lends};
+ghost use Rattle.pool_table.specs.contracts.table.Section.{the_row};
+ghost use Rattle.pool_table.specs.Homing.{with_home};
+
+use crate::table::Section;
+use pool_law::Noted;
+use step_law::Told;
+
+impl<H: Told<Note = Noted>> Section<H> {
+    /// The home value. When the borrow ends, the section has what was written through it.
+    pub fn home(section: &mut Section<H>) -> &mut H
+        ensures* writes_back { sem 𝓛 (Lends (the_row H.row) H.row section.entry result (with_home section.old)) }
+        ensures value { result.now ≡ section.old.home }
+    {
+        &mut section.home
+    }
+}

@@ -1,0 +1,143 @@
+//! Sections: a claim takes the home value out of its slot, and the step that ends the section follows its return.
+
+ghost use Rattle.std.specs.Prelude.{◌≡◌, ℕ, [], None, ◌+◌, ◌-◌, ◌<◌, true, IfOk, IfErr, IfSome, MatchBool};
+ghost use mathlib.Core.Option.{none};
+ghost use Rattle.atomic_table.specs.Table.{step};
+ghost use Rattle.pool_law.specs.Homes.{objects_of, IsObjectOf};
+ghost use Rattle.pool_law.specs.Naming.{noted_by};
+ghost use Rattle.pool_law.specs.declared.note.Object.TheVariants.{Root};
+ghost use Rattle.pool_table.specs.declared.views.Entry.TheVariants.{At};
+ghost use Rattle.pool_table.specs.Words.{word_of};
+ghost use Rattle.pool_table.specs.Hands.{MayEnter};
+ghost use Rattle.pool_table.specs.Views.{left, with_entry};
+ghost use Rattle.pool_table.specs.Sound.{IsMarked, MayNote};
+ghost use Rattle.pool_table.specs.Seats.{view_of, IsSeatOf, IsOutside, HasView, SameSeat, IsMail};
+ghost use Rattle.pool_table.specs.Hands.{PutsDown};
+ghost use Rattle.pool_table.specs.Holders.{HoldsPlace};
+ghost use Rattle.pool_table.specs.Steps.{claims, marks_claims};
+ghost use Rattle.pool_table.specs.Sections.{GotSection, FoundHeld, MayEnd, MayIdle};
+
+use crate::index::{home_index, word_index};
+use crate::rule::{Claiming, Claims, Dones, Idles, MarksClaims};
+use crate::table::{PoolSeat, PoolTable, Section};
+use crate::views::SeatView;
+use atomic_table::Seat;
+use pool_law::{Held, Named, Noted, Object};
+use std::marker::Brand;
+use step_law::Told;
+
+impl<H: Told<Note = Noted>> PoolTable<H> {
+    // The one step of a claim. Its answer is the word that it found.
+    fn claim_word<C: Claiming>(
+        &self,
+        seat: &mut Seat<Option<H>, SeatView>,
+        object: Object,
+        mark: bool,
+    ) -> u64
+        requires named { (C.object ≡ object) × (C.layout ≡ self.now.layout) }
+        requires own { seat.old.table_id ≡ self.now.table.shared.table_id }
+        requires outside { (seat.old.me.0.inside ≡ None) × (seat.old.me.1 ≡ []) }
+        requires object { IsObjectOf self.now.layout.shape object }
+        requires turn { 0 < seat.old.me.0.turns }
+        requires enters { (p : ℕ) → object ≡ Root p → MayEnter p seat.old.me.0 }
+        requires marks { mark ≡ true → IsMarked object }
+        ensures same { (seat.new.table_id ≡ seat.old.table_id) × (seat.new.id ≡ seat.old.id) }
+        ensures number { seat.new.me.0.own.number ≡ seat.old.me.0.own.number }
+        ensures told { let s = step (objects_of self.now.layout.shape) (word_of self.now.layout.shape object) 1 0 none in
+            MatchBool mark
+            (marks_claims H.stands self.now.layout object s seat.old.me result seat.new.me)
+            (claims H.stands self.now.layout object s seat.old.me result seat.new.me) }
+    {
+        let slot = home_index(&self.layout.shape, object);
+        let word = word_index(&self.layout.shape, slot);
+        if mark {
+            self.table.shared.fetch_or::<MarksClaims<C>>(seat, word, 1)
+        } else {
+            self.table.shared.fetch_or::<Claims<C>>(seat, word, 1)
+        }
+    }
+
+    /// Enters the section of an object, or finds another seat there, which with `mark` the seat notes.
+    /// A root place asks that the seat counts its root, has its end token, or has the place in its hands.
+    pub fn claim(
+        &self,
+        seat: &mut PoolSeat<H>,
+        object: Object,
+        mark: bool,
+    ) -> Result<Section<H>, Held>
+        requires own { IsSeatOf self.now seat.old }
+        requires outside { IsOutside seat.old }
+        requires object { IsObjectOf self.now.layout.shape object }
+        requires turn { 0 < (view_of seat.old).turns }
+        requires enters { (p : ℕ) → object ≡ Root p → MayEnter p (view_of seat.old) }
+        requires marks { mark ≡ true → IsMarked object }
+        ensures same { SameSeat seat.old seat.new }
+        ensures got { IfOk result (GotSection H.stands self.now.layout object seat.old seat.new) }
+        ensures held { IfErr result (FoundHeld H.stands self.now.layout object mark seat.old seat.new) }
+
+        // A seat with the place in its hands, or with the end token of its root, is never held up.
+        ensures free { IfErr result (λ _. (p : ℕ) → object ≡ Root p → HoldsPlace p (view_of seat.old) → ⊥) }
+    {
+        let found = self.claim_word::<Brand>(&mut seat.seat, object, mark);
+        if found % 2 == 1 {
+            return Err(Held {
+                object,
+                number: found / 2,
+            });
+        }
+        let slot = home_index(&self.layout.shape, object);
+        let Some(home) = self.table.shared.exchange(&mut seat.seat, slot, None) else {
+            unreachable!()
+        };
+        Ok(Section { home, object, slot })
+    }
+
+    /// Ends a section with the note that `N` names, and answers its number.
+    pub fn done<N: Named>(&self, seat: &mut PoolSeat<H>, section: Section<H>) -> u64
+        requires own { IsSeatOf self.now seat.old }
+        requires turn { 0 < (view_of seat.old).turns }
+        requires section { MayEnd H.stands self.now.layout.shape seat.old section N.note }
+        requires lane { MayNote self.now.layout.shape (view_of seat.old).own.number section.object N.note.did }
+        requires hands { PutsDown (view_of seat.old) N.note.did }
+        ensures same { SameSeat seat.old seat.new }
+        ensures number { IfSome (view_of seat.old).inside (λ x. result ≡ x.number + 1) }
+        ensures noted { let v = view_of seat.old in
+            let note = At section.object result (noted_by v.own.number N.note) in
+            HasView seat.new (with_entry v note (v.turns - 1)) }
+    {
+        let Section {
+            home,
+            object: _,
+            slot,
+        } = section;
+        let empty = self.table.shared.exchange(&mut seat.seat, slot, Some(home));
+        let None = empty else { unreachable!() };
+        let word = word_index(&self.layout.shape, slot);
+        let found = self
+            .table
+            .shared
+            .fetch_add::<Dones<N>>(&mut seat.seat, word, 1);
+        found / 2 + 1
+    }
+
+    /// Ends the section of a mail with no note, where its home value is as it was.
+    pub fn idle(&self, seat: &mut PoolSeat<H>, section: Section<H>)
+        requires own { IsSeatOf self.now seat.old }
+        requires section { MayIdle H.stands self.now.layout.shape seat.old section }
+        requires mail { IsMail section.object }
+        ensures same { SameSeat seat.old seat.new }
+        ensures left { HasView seat.new (left (view_of seat.old)) }
+    {
+        let Section {
+            home,
+            object: _,
+            slot,
+        } = section;
+        let empty = self.table.shared.exchange(&mut seat.seat, slot, Some(home));
+        let None = empty else { unreachable!() };
+        let word = word_index(&self.layout.shape, slot);
+        self.table
+            .shared
+            .fetch_sub::<Idles>(&mut seat.seat, word, 1);
+    }
+}

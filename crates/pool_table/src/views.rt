@@ -1,0 +1,66 @@
+//! What a seat knows, as plain data. No value of these types but `Layout` is ever made.
+ghost use Rattle.ground.specs.Grounds.{Grounds};
+
+use pool_law::{Held, Noted, Object, RefDid, RootId, Shape};
+use std::collections::LinkedList;
+use std::marker::Model;
+
+#[derive(Clone, Copy)]
+pub struct Layout {
+    pub shape: Shape,
+    pub moves: u32,
+    pub turns: u64,
+}
+
+/// A note as a part keeps it, or a busy mark.
+pub enum Entry {
+    At {
+        object: Object,
+        number: u64,
+        noted: Noted,
+    },
+    Ref {
+        root: RootId,
+        did: RefDid,
+    },
+    Busy(Held),
+}
+
+/// A seat's number, if it has one, and the notes that this seat made, oldest first.
+pub struct Part {
+    pub number: Option<u32>,
+    pub notes: LinkedList<Entry>,
+}
+
+/// The section that a view is in: its object, and the object's notes, of which there are `number`.
+pub struct Inside {
+    pub object: Object,
+    pub number: u64,
+    pub history: LinkedList<Noted>,
+}
+
+/// The grounds of the pool's chunk places, as contracts see them.
+pub struct GroundList {
+    pub ghost listed: { Grounds },
+}
+
+impl Model for GroundList {
+    ghost use base.Fml.{ftrue};
+    ghost use Rattle.ground.specs.Grounds.{Grounds};
+
+    ghost Value = { Grounds };
+
+    ghost view = { λ l. l.listed };
+
+    ghost also_owns = { λ _. ftrue };
+}
+
+/// What a seat knows. The seat goes on in its own part.
+pub struct SeatView {
+    pub own: Part,
+    pub others: LinkedList<Part>,
+    pub inside: Option<Inside>,
+    pub moves: u64,
+    pub turns: u64,
+    pub grounds: Option<GroundList>,
+}

@@ -1,0 +1,3 @@
+pub mod NoteCounts
+pub mod Histories
+pub mod Standing
