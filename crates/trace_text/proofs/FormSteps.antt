@@ -1,0 +1,112 @@
+-- What the form of a command gives: the lanes that it names are there.
+use Rattle.std.proofs.Common.{◌≡◌, ℕ, List, ◌∷◌, refl, sym, ◌∙◌, ap, true, false, Bool, subst}
+use Rattle.std.specs.Prelude.{Option, Some, None, IfSome, nat_lt, IsTrue, if◌then◌else◌}
+use Rattle.serde_json.specs.Data.{Data}
+use Rattle.serde_json.specs.Find.{as_str}
+use Rattle.pool_law.specs.declared.command.Command.{Command}
+use Rattle.pool_law.specs.declared.command.Command.TheVariants as commands
+use Rattle.trace_text.specs.declared.words.Word.{Word}
+use Rattle.trace_text.specs.declared.words.Word.TheVariants as words
+use Rattle.trace_text.specs.Items.{◌>>=◌, only_if, array_in, item_at, name_in, number_in, lane_number_in, bytes_in}
+use Rattle.trace_text.specs.Names.{Mentions}
+use Rattle.trace_text.specs.Forms.{Read, row_of, mentioned, alloc_of, set_of, get_of, write_of, read_of, slice_of, one_name_in, two_names_in, name_and_lane_in}
+use Rattle.trace_text.specs.Words.{word_of, form_of, command_in, read_as}
+
+-- a lane that the command names is one of so many; it is no composite
+abbrev pub names_lanes : ℕ → Command → Bool
+names_lanes lanes (commands.Send name lane) = nat_lt lane lanes
+names_lanes lanes (commands.Recv fresh lane) = nat_lt lane lanes
+names_lanes lanes (commands.Compose fresh names) = false
+names_lanes lanes _ = true
+
+abbrev Named : ℕ → Read Command → Type 0
+Named lanes read = IfSome read (λ p. names_lanes lanes p.0 ≡ true)
+
+-- what holds whatever a step gives
+through : {A B : Type 0} (P : B → Type 0) (o : Option A) (next : A → Option B) → ((a : A) → IfSome (next a) P) → IfSome (o >>= next) P
+through P None next h = tt
+through P (Some a) next h = h a
+
+pub passed : {A : Type 0} (test : A → Bool) (a : A) → IfSome (only_if test a) (λ b. test b ≡ true)
+passed test a = elim (test a) as (λ (t : Bool). test a ≡ t → IfSome (if t then Some a else None) (λ b. test b ≡ true)) [
+  | true ↦ λ e. e
+  | false ↦ λ e. tt
+] refl
+
+-- what a step gives, where that is known
+pub through_if : {A B : Type 0} (Q : A → Type 0) (P : B → Type 0) (o : Option A) (next : A → Option B) → IfSome o Q → ((a : A) → Q a → IfSome (next a) P) → IfSome (o >>= next) P
+through_if Q P None next known h = tt
+through_if Q P (Some a) next known h = h a known
+
+as_read : {A : Type 0} (Q : A → Type 0) (lanes : ℕ) (command : A → Command) (read : Read A) → IfSome read (λ p. Q p.0) → ((a : A) → Q a → names_lanes lanes (command a) ≡ true) → Named lanes (read_as command read)
+as_read Q lanes command None known h = tt
+as_read Q lanes command (Some p) known h = h p.0 known
+
+any_read : {A : Type 0} (read : Read A) → IfSome read (λ p. Unit {0})
+any_read None = tt
+any_read (Some p) = tt
+
+alloc_named : (lanes : ℕ) (names : Mentions) (ds : List Data) → Named lanes (alloc_of names ds)
+unfolding alloc_of
+alloc_named lanes names ds = search (through) depth 9
+
+set_named : (lanes : ℕ) (tries : Bool) (names : Mentions) (ds : List Data) → Named lanes (set_of tries names ds)
+unfolding set_of
+set_named lanes tries names ds = search (through) depth 9
+
+get_named : (lanes : ℕ) (tries : Bool) (names : Mentions) (ds : List Data) → Named lanes (get_of tries names ds)
+unfolding get_of
+get_named lanes tries names ds = search (through) depth 9
+
+write_named : (lanes : ℕ) (names : Mentions) (ds : List Data) → Named lanes (write_of names ds)
+unfolding write_of
+write_named lanes names ds = search (through) depth 9
+
+read_named : (lanes : ℕ) (names : Mentions) (ds : List Data) → Named lanes (read_of names ds)
+unfolding read_of
+read_named lanes names ds = search (through) depth 9
+
+slice_named : (lanes : ℕ) (retained : Bool) (names : Mentions) (ds : List Data) → Named lanes (slice_of retained names ds)
+unfolding slice_of
+slice_named lanes retained names ds = search (through) depth 9
+
+lane_number_named : (lanes : ℕ) (d : Data) → IfSome (lane_number_in lanes d) (λ lane. nat_lt lane lanes ≡ true)
+unfolding lane_number_in
+lane_number_named lanes d = search (through, passed) depth 9
+
+abbrev lane_after : Mentions → List ℕ → ℕ → Read (ℕ × ℕ)
+lane_after names name lane = do
+  a ← mentioned names name
+  Some ((a.0, lane), a.1)
+
+lane_next : (lanes : ℕ) (names : Mentions) (name : List ℕ) (d : Data) → IfSome (lane_number_in lanes d >>= lane_after names name) (λ p. nat_lt p.0.1 lanes ≡ true)
+lane_next lanes names name d =
+    through_if (λ lane. nat_lt lane lanes ≡ true) (λ (p : (ℕ × ℕ) × Mentions). nat_lt p.0.1 lanes ≡ true) (lane_number_in lanes d) (lane_after names name) (lane_number_named lanes d) (λ lane below. below)
+
+lane_named : (lanes : ℕ) (names : Mentions) (ds : List Data) → IfSome (name_and_lane_in lanes names ds) (λ p. nat_lt p.0.1 lanes ≡ true)
+unfolding name_and_lane_in
+lane_named lanes names ds = search (through, lane_next) depth 9
+
+form_named : (word : Word) (lanes : ℕ) (names : Mentions) (ds : List Data) → Named lanes (form_of word lanes names ds)
+unfolding form_of
+form_named words.Alloc lanes names ds = alloc_named lanes names ds
+form_named words.Set lanes names ds = set_named lanes false names ds
+form_named words.TrySet lanes names ds = set_named lanes true names ds
+form_named words.Get lanes names ds = get_named lanes false names ds
+form_named words.TryGet lanes names ds = get_named lanes true names ds
+form_named words.Write lanes names ds = write_named lanes names ds
+form_named words.Read lanes names ds = read_named lanes names ds
+form_named words.Slice lanes names ds = slice_named lanes false names ds
+form_named words.RetainedSlice lanes names ds = slice_named lanes true names ds
+form_named words.Dup lanes names ds = as_read (λ p. Unit {0}) lanes (λ p. commands.Dup p.0 p.1) _ (any_read (two_names_in names ds)) (λ p any. refl)
+form_named words.Retain lanes names ds = as_read (λ p. Unit {0}) lanes commands.Retain _ (any_read (one_name_in names ds)) (λ p any. refl)
+form_named words.Release lanes names ds = as_read (λ p. Unit {0}) lanes commands.Release _ (any_read (one_name_in names ds)) (λ p any. refl)
+form_named words.Refcnt lanes names ds = as_read (λ p. Unit {0}) lanes commands.Refcnt _ (any_read (one_name_in names ds)) (λ p any. refl)
+form_named words.Touch lanes names ds = as_read (λ p. Unit {0}) lanes commands.Touch _ (any_read (one_name_in names ds)) (λ p any. refl)
+form_named words.Forget lanes names ds = as_read (λ p. Unit {0}) lanes commands.Forget _ (any_read (one_name_in names ds)) (λ p any. refl)
+form_named words.Send lanes names ds = as_read (λ p. nat_lt p.1 lanes ≡ true) lanes (λ p. commands.Send p.0 p.1) _ (lane_named lanes names ds) (λ p below. below)
+form_named words.Recv lanes names ds = as_read (λ p. nat_lt p.1 lanes ≡ true) lanes (λ p. commands.Recv p.0 p.1) _ (lane_named lanes names ds) (λ p below. below)
+
+pub command_named : (lanes : ℕ) (names : Mentions) (d : Data) → IfSome (command_in lanes names d) (λ p. names_lanes lanes p.0 ≡ true)
+unfolding command_in
+command_named lanes names d = search (through, form_named) depth 9

@@ -1,0 +1,9 @@
+pub mod Values
+pub mod NameSteps
+pub mod LaneSteps
+pub mod CountSteps
+pub mod Texts
+pub mod StuckSteps
+pub mod FormSteps
+pub mod LaneFits
+pub mod ReadingFits

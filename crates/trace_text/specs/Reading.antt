@@ -1,0 +1,96 @@
+-- What a text is read as: the commands of each lane, or the first reason why there are none.
+use Rattle.std.specs.Prelude.{◌≡◌, ℕ, nat_lt, if◌then◌else◌, List, [], ◌∷◌, ◌++◌, length, Option, Some, None, Result, Ok, Err}
+use Rattle.std.specs.List.{sum_by}
+use Rattle.std.specs.Option.{option_map_or, ok_or}
+use Rattle.std.specs.Str.{is_utf8}
+use Rattle.serde_json.specs.Data.{Data}
+use Rattle.serde_json.specs.Read.{read}
+use Rattle.pool_law.specs.declared.command.Command.{Command}
+use Rattle.pool_law.specs.declared.command.Command.TheVariants.{Get, Read}
+use Rattle.pool_law.specs.declared.command.Trace.{Trace}
+use Rattle.pool_law.specs.Stuck.{command_count, stuck_at}
+use Rattle.trace_text.specs.Items.{array_in}
+use Rattle.trace_text.specs.Lane.{lane_in}
+use Rattle.trace_text.specs.declared.Limit.TheVariants.{Text, Lanes, Commands, Bytes}
+use Rattle.trace_text.specs.declared.TraceNo.{TraceNo}
+use Rattle.trace_text.specs.declared.TraceNo.TheVariants as refusals
+
+-- what follows a step that was not refused
+infixl 10 ◌>>=◌
+abbrev pub ◌>>=◌ : {A B : Type 0} → Result A TraceNo → (A → Result B TraceNo) → Result B TraceNo
+Ok a >>= next = next a
+Err e >>= next = Err e
+
+-- the commands of each lane, or why there are none
+abbrev pub Reading : Type 0
+Reading = Result (List (List Command)) TraceNo
+
+-- ---- Limits.
+
+abbrev pub text_limit : ℕ
+text_limit = 16777216
+
+abbrev pub lane_limit : ℕ
+lane_limit = 16
+
+abbrev pub command_limit : ℕ
+command_limit = 65536
+
+abbrev pub byte_limit : ℕ
+byte_limit = 67108864
+
+-- the bytes that a command asks to see
+abbrev pub asked_by : Command → ℕ
+asked_by (Get name at len tries) = len
+asked_by (Read name len) = len
+asked_by _ = 0
+
+abbrev pub bytes_asked : List (List Command) → ℕ
+bytes_asked lanes = sum_by (sum_by asked_by) lanes
+
+-- the lanes, where no limit is passed
+unfoldable pub limited : List (List Command) → Reading
+limited lanes =
+    if nat_lt lane_limit (length lanes) then Err (refusals.Limit Lanes)
+    else if nat_lt command_limit (command_count lanes) then Err (refusals.Limit Commands)
+    else if nat_lt byte_limit (bytes_asked lanes) then Err (refusals.Limit Bytes)
+    else Ok lanes
+
+-- the lanes, where none gets stuck
+unfoldable pub unstuck : List (List Command) → Reading
+unstuck lanes = option_map_or (λ place. Err (refusals.Stuck place.0 place.1)) (stuck_at lanes) (Ok lanes)
+
+-- ---- Lanes.
+
+-- the lanes behind these once their values are read too
+abbrev pub lanes_after : ℕ → List (List Command) → List Data → Reading
+lanes_after lanes front [] = Ok front
+lanes_after lanes front (d ∷ ds) = lane_in lanes (length front) d >>= (λ lane. lanes_after lanes (front ++ lane ∷ []) ds)
+
+-- at least one lane
+abbrev pub lanes_in : List Data → Reading
+lanes_in [] = Err (refusals.Shape 0 0)
+lanes_in (d ∷ ds) = lanes_after (length (d ∷ ds)) [] (d ∷ ds)
+
+unfoldable pub trace_in : Data → Reading
+trace_in d = option_map_or lanes_in (array_in d) (Err (refusals.Shape 0 0))
+
+-- ---- Texts.
+
+-- the JSON value of a text in UTF-8
+unfoldable pub value_of : List ℕ → Result Data TraceNo
+value_of text = if is_utf8 text then ok_or (read text) refusals.Syntax else Err refusals.Syntax
+
+unfoldable pub reading_of : List ℕ → Reading
+reading_of text =
+    if nat_lt text_limit (length text) then Err (refusals.Limit Text)
+    else (value_of text >>= trace_in >>= limited >>= unstuck)
+
+-- what was answered is what was read, as it is seen, or want of memory
+abbrev pub GivesAs : {A B : Type 0} → (A → B) → Result A TraceNo → Result B TraceNo → Type 0
+GivesAs seen (Ok a) reading = reading ≡ Ok (seen a)
+GivesAs seen (Err refusals.Memory) reading = Unit {0}
+GivesAs seen (Err e) reading = reading ≡ Err e
+
+abbrev pub Gives : Result Trace TraceNo → Reading → Type 0
+Gives answer reading = GivesAs (λ (trace : Trace). trace.lanes) answer reading

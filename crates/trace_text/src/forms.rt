@@ -1,0 +1,161 @@
+//! The forms of commands, each from the items of its row.
+ghost use Rattle.std.specs.Prelude.{◌≡◌, map};
+ghost use Rattle.serde_json.specs.View.{view};
+ghost use Rattle.trace_text.specs.Forms.{alloc_of, get_of, name_and_lane_in, one_name_in, read_of, set_of, slice_of, two_names_in, write_of};
+ghost use Rattle.trace_text.specs.Steps.{IsRead};
+
+use crate::items::{RowNo, bytes_of, lane_number_of, name_of, number_of};
+use crate::names::Names;
+use pool_law::Command;
+use serde_json::Value;
+use std::alloc::Global;
+
+#[tactic(auto, using(crate::proofs::Values::item_view), unfolding(crate::specs::Forms::alloc_of))]
+pub fn alloc(alloc: Global, names: &mut Names, items: &[Value]) -> Result<Command, RowNo>
+    ensures { IsRead result names.new (alloc_of names.old (map view items.now)) }
+{
+    let [_, name, size] = items else {
+        return Err(RowNo::Form);
+    };
+    let name = name_of(name).ok_or(RowNo::Form)?;
+    let size = number_of(size).ok_or(RowNo::Form)?;
+    let name = names.number(alloc, name)?;
+    Ok(Command::Alloc { name, size })
+}
+
+#[tactic(auto, using(crate::proofs::Values::item_view), unfolding(crate::specs::Forms::set_of))]
+pub fn set(alloc: Global, tries: bool, names: &mut Names, items: &[Value]) -> Result<Command, RowNo>
+    ensures { IsRead result names.new (set_of tries names.old (map view items.now)) }
+{
+    let [_, name, at, bytes] = items else {
+        return Err(RowNo::Form);
+    };
+    let name = name_of(name).ok_or(RowNo::Form)?;
+    let at = number_of(at).ok_or(RowNo::Form)?;
+    let bytes = bytes_of(alloc, bytes)?;
+    let name = names.number(alloc, name)?;
+    Ok(Command::Set {
+        name,
+        at,
+        bytes,
+        tries,
+    })
+}
+
+#[tactic(auto, using(crate::proofs::Values::item_view), unfolding(crate::specs::Forms::get_of))]
+pub fn get(alloc: Global, tries: bool, names: &mut Names, items: &[Value]) -> Result<Command, RowNo>
+    ensures { IsRead result names.new (get_of tries names.old (map view items.now)) }
+{
+    let [_, name, at, len] = items else {
+        return Err(RowNo::Form);
+    };
+    let name = name_of(name).ok_or(RowNo::Form)?;
+    let at = number_of(at).ok_or(RowNo::Form)?;
+    let len = number_of(len).ok_or(RowNo::Form)?;
+    let name = names.number(alloc, name)?;
+    Ok(Command::Get {
+        name,
+        at,
+        len,
+        tries,
+    })
+}
+
+#[tactic(auto, using(crate::proofs::Values::item_view), unfolding(crate::specs::Forms::write_of))]
+pub fn write(alloc: Global, names: &mut Names, items: &[Value]) -> Result<Command, RowNo>
+    ensures { IsRead result names.new (write_of names.old (map view items.now)) }
+{
+    let [_, name, bytes] = items else {
+        return Err(RowNo::Form);
+    };
+    let name = name_of(name).ok_or(RowNo::Form)?;
+    let bytes = bytes_of(alloc, bytes)?;
+    let name = names.number(alloc, name)?;
+    Ok(Command::Write { name, bytes })
+}
+
+#[tactic(auto, using(crate::proofs::Values::item_view), unfolding(crate::specs::Forms::read_of))]
+pub fn read(alloc: Global, names: &mut Names, items: &[Value]) -> Result<Command, RowNo>
+    ensures { IsRead result names.new (read_of names.old (map view items.now)) }
+{
+    let [_, name, len] = items else {
+        return Err(RowNo::Form);
+    };
+    let name = name_of(name).ok_or(RowNo::Form)?;
+    let len = number_of(len).ok_or(RowNo::Form)?;
+    let name = names.number(alloc, name)?;
+    Ok(Command::Read { name, len })
+}
+
+#[tactic(auto, using(crate::proofs::Values::item_view), unfolding(crate::specs::Forms::slice_of))]
+pub fn slice(
+    alloc: Global,
+    retained: bool,
+    names: &mut Names,
+    items: &[Value],
+) -> Result<Command, RowNo>
+    ensures { IsRead result names.new (slice_of retained names.old (map view items.now)) }
+{
+    let [_, fresh, name, at, len] = items else {
+        return Err(RowNo::Form);
+    };
+    let fresh = name_of(fresh).ok_or(RowNo::Form)?;
+    let name = name_of(name).ok_or(RowNo::Form)?;
+    let at = number_of(at).ok_or(RowNo::Form)?;
+    let len = number_of(len).ok_or(RowNo::Form)?;
+    let fresh = names.number(alloc, fresh)?;
+    let name = names.number(alloc, name)?;
+    Ok(Command::Slice {
+        fresh,
+        name,
+        at,
+        len,
+        retained,
+    })
+}
+
+/// A name.
+#[tactic(auto, using(crate::proofs::Values::item_view), unfolding(crate::specs::Forms::one_name_in))]
+pub fn one_name(alloc: Global, names: &mut Names, items: &[Value]) -> Result<u32, RowNo>
+    ensures { IsRead result names.new (one_name_in names.old (map view items.now)) }
+{
+    let [_, name] = items else {
+        return Err(RowNo::Form);
+    };
+    let name = name_of(name).ok_or(RowNo::Form)?;
+    Ok(names.number(alloc, name)?)
+}
+
+/// Two names.
+#[tactic(auto, using(crate::proofs::Values::item_view), unfolding(crate::specs::Forms::two_names_in))]
+pub fn two_names(alloc: Global, names: &mut Names, items: &[Value]) -> Result<(u32, u32), RowNo>
+    ensures { IsRead result names.new (two_names_in names.old (map view items.now)) }
+{
+    let [_, first, second] = items else {
+        return Err(RowNo::Form);
+    };
+    let first = name_of(first).ok_or(RowNo::Form)?;
+    let second = name_of(second).ok_or(RowNo::Form)?;
+    let first = names.number(alloc, first)?;
+    let second = names.number(alloc, second)?;
+    Ok((first, second))
+}
+
+/// A name, and the number of one of so many lanes.
+#[tactic(auto, using(crate::proofs::Values::item_view), unfolding(crate::specs::Forms::name_and_lane_in))]
+pub fn name_and_lane(
+    alloc: Global,
+    lanes: usize,
+    names: &mut Names,
+    items: &[Value],
+) -> Result<(u32, u32), RowNo>
+    ensures { IsRead result names.new (name_and_lane_in lanes names.old (map view items.now)) }
+{
+    let [_, name, lane] = items else {
+        return Err(RowNo::Form);
+    };
+    let name = name_of(name).ok_or(RowNo::Form)?;
+    let lane = lane_number_of(lanes, lane).ok_or(RowNo::Form)?;
+    let name = names.number(alloc, name)?;
+    Ok((name, lane))
+}
