@@ -1,0 +1,46 @@
+-- From what a status says of a run to what it says of the text, the options and the words.
+use Rattle.std.proofs.Common.{◌≡◌, ℕ, List, Some}
+use Rattle.std.specs.Prelude.{Ok}
+use Rattle.pool_law.specs.declared.command.Command.{Command}
+use Rattle.trace_top.specs.Playable.{reading_of}
+use Rattle.trace_top.specs.declared.answer.Status.{Status}
+use Rattle.trace_top.specs.declared.answer.Status.TheVariants.{Whole, Leaks, Words, Trace, ReadFault, WriteFault, Memory}
+use Rattle.trace_top.specs.declared.answer.Outcome.{Outcome}
+use Rattle.trace_top.specs.declared.words.Options.{Options}
+use Rattle.trace_top.specs.Transfer.{ReadsText}
+use Rattle.trace_top.specs.Words.{options_of}
+use Rattle.trace_top.specs.Outcomes.{SourceSpan, SinkSpan, Explains, ExplainsOptions, ExplainsText, ExplainsRun}
+
+pub of_run : (s : Status) (o : Outcome) (options : Options) (text : List ℕ) (lanes : List (List Command)) (out : SinkSpan)
+    → reading_of text ≡ Ok lanes → ExplainsRun s o options lanes out → ExplainsText s o options text out
+unfolding ExplainsText ExplainsRun
+of_run Whole o options text lanes out accepted e = (lanes, (accepted, e))
+of_run Leaks o options text lanes out accepted e = (lanes, (accepted, e))
+of_run Words o options text lanes out accepted e = (lanes, (accepted, e))
+of_run Trace o options text lanes out accepted e = absurd e
+of_run ReadFault o options text lanes out accepted e = (lanes, (accepted, e))
+of_run WriteFault o options text lanes out accepted e = (lanes, (accepted, e))
+of_run Memory o options text lanes out accepted e = e
+
+pub of_text : (s : Status) (o : Outcome) (options : Options) (text : List ℕ) (src : SourceSpan) (out : SinkSpan)
+    → ReadsText src.left src.left_then text → src.faults_then ≡ src.faults → ExplainsText s o options text out
+    → ExplainsOptions s o options src out
+unfolding ExplainsOptions ExplainsText ExplainsRun
+of_text Whole o options text src out reads same e = (text, (reads, same, e))
+of_text Leaks o options text src out reads same e = (text, (reads, same, e))
+of_text Words o options text src out reads same e = (text, (reads, same, e))
+of_text Trace o options text src out reads same e = (text, (reads, same, e))
+of_text ReadFault o options text src out reads same (lanes, (accepted, never)) = absurd never
+of_text WriteFault o options text src out reads same e = (text, (reads, same, e))
+of_text Memory o options text src out reads same (bare, unwritten) = (bare, unwritten, same)
+
+pub of_options : (s : Status) (o : Outcome) (words : List (List ℕ)) (options : Options) (src : SourceSpan) (out : SinkSpan)
+    → options_of words ≡ Some options → ExplainsOptions s o options src out → Explains s o words src out
+unfolding Explains ExplainsOptions ExplainsText ExplainsRun
+of_options Whole o words options src out formed e = (options, (formed, e))
+of_options Leaks o words options src out formed e = (options, (formed, e))
+of_options Words o words options src out formed (text, (reads, same, (lanes, (accepted, never)))) = absurd never
+of_options Trace o words options src out formed e = (options, (formed, e))
+of_options ReadFault o words options src out formed e = (options, (formed, e))
+of_options WriteFault o words options src out formed e = (options, (formed, e))
+of_options Memory o words options src out formed e = (options, (formed, e))

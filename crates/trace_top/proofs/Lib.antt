@@ -1,0 +1,9 @@
+pub mod Bytes
+pub mod Roots
+pub mod Lane
+pub mod Lines
+pub mod Exact
+pub mod Explain
+pub mod Numerals
+pub mod WordLaws
+pub mod FormLaws

@@ -1,0 +1,155 @@
+-- What each status says: of the outcome, of what was read and of what was written.
+use Rattle.std.specs.Prelude.{◌≡◌, ◌≢◌, ◌⊎◌, ℕ, List, [], length, Option, Some, None, Ok, Err}
+use Rattle.std.specs.Io.KnownBytes.{Appends, Keeps}
+use Rattle.pool_law.specs.declared.command.Command.{Command}
+use Rattle.pool_law.specs.declared.run.Run.{Run}
+use Rattle.pool_law.specs.FirstPath.{IsFirstRun}
+use Rattle.trace_top.specs.Playable.{reading_of}
+use Rattle.trace_text.specs.declared.TraceNo.{TraceNo}
+use Rattle.trace_top.specs.declared.words.Options.{Options}
+use Rattle.trace_top.specs.declared.answer.Status.{Status}
+use Rattle.trace_top.specs.declared.answer.Status.TheVariants.{Whole, Leaks, Words, Trace, ReadFault, WriteFault, Memory}
+use Rattle.trace_top.specs.declared.answer.Outcome.{Outcome}
+use Rattle.trace_top.specs.Ends.{Rose, TakesSome}
+use Rattle.trace_top.specs.Transfer.{ReadsText}
+use Rattle.trace_top.specs.Text.{text_of_run}
+use Rattle.trace_top.specs.Words.{options_of, shape_of}
+
+-- a source before and after a call
+pub record SourceSpan : Type 0 where
+  pub left : Option (List ℕ)
+  pub left_then : Option (List ℕ)
+  pub faults : ℕ
+  pub faults_then : ℕ
+
+-- a sink before and after a call
+pub record SinkSpan : Type 0 where
+  pub got : Option (List ℕ)
+  pub got_then : Option (List ℕ)
+  pub faults : ℕ
+  pub faults_then : ℕ
+  pub empty : ℕ
+  pub empty_then : ℕ
+
+-- a source of these meanings before and after a call
+abbrev pub source_span : {S : Type 0} → (S → Option (List ℕ)) → (S → ℕ) → S → S → SourceSpan
+source_span left faults old new =
+    record { left = left old; left_then = left new; faults = faults old; faults_then = faults new }
+
+-- a sink of these meanings before and after a call
+abbrev pub sink_span :
+    {K : Type 0} → (K → Option (List ℕ)) → (K → ℕ) → (K → ℕ) → K → K → SinkSpan
+sink_span got faults empty old new =
+    record {
+      got = got old;
+      got_then = got new;
+      faults = faults old;
+      faults_then = faults new;
+      empty = empty old;
+      empty_then = empty new;
+    }
+
+-- nothing was read
+pub record IsUnread (src : SourceSpan) : Type 0 where
+  pub left : Keeps src.left src.left_then
+  pub faults : src.faults_then ≡ src.faults
+
+-- nothing was written
+pub record IsUnwritten (out : SinkSpan) : Type 0 where
+  pub got : Keeps out.got out.got_then
+  pub faults : out.faults_then ≡ out.faults
+  pub empty : out.empty_then ≡ out.empty
+
+-- the outcome has neither a run nor a refusal
+pub record IsBare (o : Outcome) : Type 0 where
+  pub run : o.run ≡ None
+  pub refusal : o.refusal ≡ None
+
+-- the outcome has this refusal
+pub record IsRefused (o : Outcome) (why : TraceNo) : Type 0 where
+  pub run : o.run ≡ None
+  pub refusal : o.refusal ≡ Some why
+
+-- the outcome has this run, which is legal, of these lanes, with the shape that was asked for
+pub record HasRun (o : Outcome) (options : Options)
+    (lanes : List (List Command)) (played : Run) : Type 0 where
+  pub run : o.run ≡ Some played
+  pub refusal : o.refusal ≡ None
+  pub trace : played.trace.lanes ≡ lanes
+  pub shape : played.shape ≡ shape_of options (length lanes)
+  pub legal : IsFirstRun played
+
+-- what was written is the run's text
+pub record IsWritten (run : Run) (out : SinkSpan) : Type 0 where
+  pub text : Appends out.got out.got_then (text_of_run run)
+  pub faults : out.faults_then ≡ out.faults
+
+-- the sink failed, or took nothing of a piece that isn't empty, and got a front of the run's text
+pub record IsCutOff (run : Run) (out : SinkSpan) : Type 0 where
+  pub front : TakesSome out.got out.got_then (text_of_run run)
+  pub cause : Rose out.faults out.faults_then ⊎ Rose out.empty out.empty_then
+
+-- ---- What each status says: of an accepted trace, of a text, of words with a form, of all words.
+
+-- an accepted trace was run and written, or cut off, or there was no memory
+unfoldable pub ExplainsRun : Status → Outcome → Options → List (List Command) → SinkSpan → Type 0
+ExplainsRun Whole o options lanes out =
+    (run : Run) × (HasRun o options lanes run × IsWritten run out × (run.leaks ≡ []))
+ExplainsRun Leaks o options lanes out =
+    (run : Run) × (HasRun o options lanes run × IsWritten run out × (run.leaks ≢ []))
+ExplainsRun WriteFault o options lanes out =
+    (run : Run) × (HasRun o options lanes run × IsCutOff run out)
+ExplainsRun Memory o options lanes out = IsBare o × IsUnwritten out
+ExplainsRun _ o options lanes out = ⊥
+
+-- the text that was read is refused as a trace, or accepted
+unfoldable pub ExplainsText : Status → Outcome → Options → List ℕ → SinkSpan → Type 0
+ExplainsText Trace o options text out =
+    (why : TraceNo) × ((reading_of text ≡ Err why) × IsRefused o why × IsUnwritten out)
+ExplainsText Memory o options text out = IsBare o × IsUnwritten out
+ExplainsText s o options text out =
+    (lanes : List (List Command))
+    × ((reading_of text ≡ Ok lanes) × ExplainsRun s o options lanes out)
+
+-- the source failed, or a text was read
+unfoldable pub ExplainsOptions : Status → Outcome → Options → SourceSpan → SinkSpan → Type 0
+ExplainsOptions ReadFault o options src out =
+    IsBare o × IsUnwritten out × Rose src.faults src.faults_then
+ExplainsOptions Memory o options src out =
+    IsBare o × IsUnwritten out × (src.faults_then ≡ src.faults)
+ExplainsOptions s o options src out =
+    (text : List ℕ) × (ReadsText src.left src.left_then text
+    × (src.faults_then ≡ src.faults) × ExplainsText s o options text out)
+
+-- the words have no form, or they are options
+unfoldable pub Explains : Status → Outcome → List (List ℕ) → SourceSpan → SinkSpan → Type 0
+Explains Words o words src out =
+    IsBare o × IsUnread src × IsUnwritten out × (options_of words ≡ None)
+Explains s o words src out =
+    (options : Options) × ((options_of words ≡ Some options) × ExplainsOptions s o options src out)
+
+-- ---- When the run must succeed, and when it must refuse.
+
+-- the words have a form, and the source told all of this text and had no fault
+pub record IsRead (words : List (List ℕ)) (src : SourceSpan) (text : List ℕ) : Type 0 where
+  pub formed : options_of words ≡ None → ⊥
+  pub told : src.left ≡ Some text
+  pub faults : Rose src.faults src.faults_then → ⊥
+
+-- the sink had no fault, and took something of each piece that isn't empty
+pub record IsTaken (out : SinkSpan) : Type 0 where
+  pub faults : Rose out.faults out.faults_then → ⊥
+  pub empty : Rose out.empty out.empty_then → ⊥
+
+-- an accepted trace is run and written, or there was no memory
+unfoldable pub Completes : Status → List (List ℕ) → SourceSpan → SinkSpan → Type 0
+Completes s words src out =
+    (text : List ℕ) (lanes : List (List Command))
+    → IsRead words src text → reading_of text ≡ Ok lanes
+    → IsTaken out → (s ≡ Whole) ⊎ ((s ≡ Leaks) ⊎ (s ≡ Memory))
+
+-- a text that is no trace is refused as such, or there was no memory
+unfoldable pub Refuses : Status → Option TraceNo → List (List ℕ) → SourceSpan → Type 0
+Refuses s refusal words src =
+    (text : List ℕ) (why : TraceNo) → IsRead words src text → reading_of text ≡ Err why
+    → ((s ≡ Trace) × (refusal ≡ Some why)) ⊎ (s ≡ Memory)

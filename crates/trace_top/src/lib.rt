@@ -1,0 +1,30 @@
+//! The top call: a trace in, the text of its run out.
+#![tactic(auto)]
+
+mod answer;
+mod ends;
+mod gates;
+mod input;
+mod laws;
+mod line;
+mod output;
+mod play;
+mod playable;
+mod root;
+mod settings;
+mod sinks;
+mod sources;
+mod standard;
+mod text;
+mod top;
+mod words;
+
+pub use answer::{Outcome, Status};
+pub use ends::{Failed, Sink, Source};
+pub use gates::{Gate, OpenGate, Pass};
+pub use laws::words_have_their_form;
+pub use line::line_of;
+pub use sinks::{ListSink, SafeSink};
+pub use sources::{ListSource, SafeSource};
+pub use standard::{StdSink, StdSource};
+pub use top::run;

@@ -1,0 +1,156 @@
+//! The options of the command line, as a table.
+ghost use Rattle.std.specs.Prelude.{◌≡◌, ◌<◌, ◌^◌, ◌&&◌, nat_lt, Some, None, if◌then◌else◌};
+ghost use Rattle.std.specs.Char.{is_ascii_digit};
+ghost use Rattle.std.specs.List.{list_all};
+ghost use Rattle.std.specs.Str.Parse.{digits_value};
+ghost use Rattle.trace_top.specs.Settings.{is_numeral, named, number_for, row_of};
+
+use std::marker::Model;
+
+/// An option of the command line.
+#[derive(Clone, Copy, Debug, PartialEq, Eq)]
+pub enum Setting {
+    /// A chunk has `2^order` pages.
+    Order,
+    /// The arenas of the pool.
+    Arenas,
+    /// The most chunks of an arena.
+    Chunks,
+    /// The buffers that a lane may hold at a time.
+    Handles,
+    /// The threads that step the lanes.
+    Workers,
+}
+
+/// All options, in the order of the table.
+const SETTINGS: [Setting; 5] = [
+    Setting::Order,
+    Setting::Arenas,
+    Setting::Chunks,
+    Setting::Handles,
+    Setting::Workers,
+];
+
+/// A row of the table: the word of an option, its range, and its number where it isn't given.
+#[derive(Drop)]
+pub struct Row {
+    name: &'static str,
+    least: u64,
+    greatest: u64,
+    default: u64,
+}
+
+impl Model for Row {
+    ghost use Rattle.trace_top.specs.Settings.{RowData};
+
+    ghost Value = { RowData };
+
+    ghost view = { λ r. record {
+      name = r.name.now;
+      least = r.least;
+      greatest = r.greatest;
+      default = r.default;
+    } };
+}
+
+impl Row {
+    ghost use Rattle.std.specs.Prelude.{◌≡◌};
+    ghost use Rattle.trace_top.specs.Settings.{is_within, row};
+
+    fn of(name: &'static str, least: u64, greatest: u64, default: u64) -> Row
+        ensures { result ≡ row name.now least greatest default }
+    {
+        Row {
+            name,
+            least,
+            greatest,
+            default,
+        }
+    }
+
+    fn name(&self) -> &'static str
+        ensures { result.now ≡ self.now.name }
+    {
+        self.name
+    }
+
+    /// The number of an option that isn't given.
+    pub fn default(&self) -> u64
+        ensures { result ≡ self.now.default }
+    {
+        self.default
+    }
+
+    fn is_within(&self, number: u64) -> bool
+        ensures { result ≡ is_within self.now number }
+    {
+        self.least <= number && number <= self.greatest
+    }
+}
+
+impl Setting {
+    ghost use Rattle.std.specs.Prelude.{◌≡◌};
+    ghost use Rattle.trace_top.specs.Settings.{number_for, row_of};
+
+    /// Its row of the table.
+    pub fn row(self) -> Row
+        ensures { result ≡ row_of self }
+    {
+        match self {
+            Setting::Order => Row::of("--order", 3, 11, 9),
+            Setting::Arenas => Row::of("--arenas", 1, 8, 2),
+            Setting::Chunks => Row::of("--chunks", 1, 8, 4),
+            Setting::Handles => Row::of("--handles", 1, 4096, 1024),
+            Setting::Workers => Row::of("--workers", 1, 16, 4),
+        }
+    }
+
+    /// The number that a text gives it: 1 to 20 decimal digits, in its range.
+    #[tactic(auto, unfolding(crate::specs::Settings::number_for))]
+    pub fn number_for(self, text: &str) -> Option<u64>
+        ensures { result ≡ number_for self text.now }
+    {
+        let number = numeral(text)?;
+        if self.row().is_within(number) {
+            Some(number)
+        } else {
+            None
+        }
+    }
+}
+
+/// The option that a word names.
+#[tactic(auto, unfolding(crate::specs::Settings::named))]
+pub fn named(word: &str) -> Option<Setting>
+    ensures { result ≡ named word.now }
+{
+    SETTINGS
+        .iter()
+        .copied()
+        .find(|setting| setting.row().name() == word)
+}
+
+// Whether a text is 1 to 20 decimal digits.
+fn is_numeral(text: &str) -> bool
+    ensures { result ≡ is_numeral text.now }
+{
+    !text.is_empty() && text.len() <= 20 && are_digits(text)
+}
+
+fn are_digits(text: &str) -> bool
+    ensures { result ≡ list_all is_ascii_digit text.now }
+{
+    text.bytes().all(|byte| byte.is_ascii_digit())
+}
+
+// The number of 1 to 20 decimal digits, where it is one of 64 bits.
+fn numeral(text: &str) -> Option<u64>
+    ensures { result ≡ (if is_numeral text.now && nat_lt (digits_value 10 text.now) (2 ^ 64)
+        then Some (digits_value 10 text.now) else None) }
+{
+    if is_numeral(text) {
+        text.parse().ok()
+    } else {
+        None
+    }
+}
