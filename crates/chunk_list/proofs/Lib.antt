@@ -1,0 +1,4 @@
+pub mod MemberLemmas
+pub mod ListsLemmas
+pub mod SettlingLaws
+pub mod Usages

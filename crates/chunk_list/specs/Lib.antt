@@ -1,0 +1,4 @@
+pub mod Members
+pub mod Kept
+pub mod Settling
+pub mod Listing

@@ -1,0 +1,12 @@
+#![tactic(auto)]
+//! The six lists of an arena's chunks, by usage.
+//!
+//! They tell in which list a chunk is, and in which order chunks are asked for a run.
+
+mod list;
+pub mod lists;
+mod settle;
+#[cfg(test)]
+mod tests;
+
+pub use lists::{ChunkLists, Settled};
