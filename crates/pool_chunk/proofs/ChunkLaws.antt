@@ -1,12 +1,15 @@
 -- What a chunk keeps when a run is taken or given back, and when the elements of a subpage change.
-use Rattle.std.proofs.Common.{◌≡◌, ℕ, zero, suc, ◌+◌, ◌-◌, ◌<◌, ◌≤◌, List, [], ◌∷◌, ◌++◌, refl, sym, ◌∙◌, subst, arith, eq-eqb, ne_eqb}
-use Rattle.std.specs.Prelude.{true, false, ◌==◌}
-use Rattle.size_classes.specs.Sizes.{Geometry}
+use Rattle.std.proofs.Common.{◌≡◌, ℕ, zero, suc, ◌+◌, ◌-◌, ◌<◌, ◌≤◌, List, [], ◌∷◌, ◌++◌, length, refl, sym, ◌∙◌, subst, arith, eq-eqb, ne_eqb}
+use Rattle.std.specs.Prelude.{Bool, true, false, not, ◌==◌, slice_get, slice_set, unwrap_or, Option, Some, None}
+use Rattle.std.proofs.lemmas.List.Quantifiers.{position-Some}
+use Rattle.std.proofs.lemmas.List.{length-set, length-replicate}
+use Rattle.size_classes.specs.Sizes.{Geometry, is_small, subpage_pages, element_count}
 use Rattle.size_classes.specs.Pages.{Run, Free, Used, pages_in, total_pages, free_pages, rest_of, front_used, freed, replaced, taken_at, given_at, merged, begins_free, NoneEmpty, NoneSideBySide}
 use Rattle.size_classes.specs.Runs.{Begins, EachRun}
-use Rattle.size_classes.specs.Elements.{Elements}
+use Rattle.size_classes.specs.Elements.{Elements, new_elements, first_free, first_of_two, next_element, with_out, with_back, is_out}
+use Rattle.subpage_bits.proofs.Flags.{out_within}
 use Rattle.size_classes.proofs.Runs.{EachRun-Begins, replaced-EachRun, replaced-total, merged-total, merged-NoneEmpty, merged-EachRun, merged-apart, rest_of-total, rest_of-NoneEmpty, rest_of-EachRun}
-use Rattle.pool_law.specs.Chunks.{Chunk, Use, Whole, Sub, IsSubpage, SubpagesFit, IsChunk, used_pages}
+use Rattle.pool_law.specs.Chunks.{Chunk, Use, Whole, Sub, RemembersFree, IsSubpage, SubpagesFit, IsChunk, used_pages}
 use Rattle.pool_chunk.specs.ChunkStates.{with_elements}
 use mathlib.Core.Logic.{inl, inr}
 
@@ -47,6 +50,47 @@ run-some rs at r ne b = EachRun-Begins IsSome rs at r (each-some rs ne) b
 
 pub subpage-fits : (g : Geometry) (rs : Chunk) (at n class : ℕ) (e : Elements) → IsChunk g rs → Begins at (Used n (Sub class e)) rs → IsSubpage g n class e
 subpage-fits g rs at n class e is b = EachRun-Begins (Fits g) rs at (Used n (Sub class e)) (each-fits g rs is.subpages) b
+
+-- ---- the elements of a subpage
+
+-- a subpage fits with an element out
+pub out-fits : (g : Geometry) (n class k : ℕ) (e : Elements) → IsSubpage g n class e → IsSubpage g n class (with_out e k)
+out-fits g n class k e fits =
+    record { small = fits.small; whole = fits.whole; elements = length-set e.out k true ∙ fits.elements; remembers = tt }
+
+is-back : (out : List Bool) (k : ℕ) → k < length out → unwrap_or (slice_get (slice_set out k false) k) false ≡ false
+is-back [] k h = absurd (omega arith)
+is-back (b ∷ out) zero h = refl
+is-back (b ∷ out) (suc k) h = is-back out k (omega (arith, h))
+
+-- and with one back that was out
+pub back-fits : (g : Geometry) (n class k : ℕ) (e : Elements) → IsSubpage g n class e → is_out e k ≡ true → IsSubpage g n class (with_back e k)
+back-fits g n class k e fits out =
+    let below : k < length e.out = out_within k e.out out in
+    record {
+      small = fits.small;
+      whole = fits.whole;
+      elements = length-set e.out k false ∙ fits.elements;
+      remembers = (omega (arith, below, length-set e.out k false), is-back e.out k below);
+    }
+
+-- the element that is handed out next was in, and is out then
+now-out : (out : List Bool) (k : ℕ) → k < length out → unwrap_or (slice_get (slice_set out k true) k) false ≡ true
+now-out [] k h = absurd (omega arith)
+now-out (b ∷ out) zero h = refl
+now-out (b ∷ out) (suc k) h = now-out out k (omega (arith, h))
+
+next-below : (out : List Bool) (o : Option ℕ) (k : ℕ) → RemembersFree (record { out = out; remembered = o }) o → first_of_two o (first_free out) ≡ Some k → k < length out
+next-below out None k free e = (position-Some not out k true e).0
+next-below out (Some j) k free e = let same : j ≡ k = cc e in subst (λ n. n < length out) same free.0
+
+pub element-out : (e : Elements) (k : ℕ) → RemembersFree e e.remembered → next_element e ≡ Some k → is_out (with_out e k) k ≡ true
+element-out e k free next = now-out e.out k (next-below e.out e.remembered k free next)
+
+-- a new subpage of a small class fits
+pub new-fits : (g : Geometry) (class : ℕ) → is_small g class ≡ true → IsSubpage g (subpage_pages g class) class (new_elements (element_count g class))
+new-fits g class small =
+    record { small = small; whole = refl; elements = length-replicate (element_count g class) false; remembers = tt }
 
 -- ---- free runs side by side
 

@@ -3,4 +3,8 @@ pub mod ChunkLaws
 pub mod Steps
 pub mod SlotLaws
 pub mod HeldLaws
+pub mod SubpageTable
+pub mod CutLaws
+pub mod NewSubpages
 pub mod PlaceLaws
+pub mod OutLaws

@@ -64,6 +64,16 @@ module _ (g : Geometry) (spans : List Span) (slots : List Slot) (rs : Chunk) (of
       sym (get_or-map entry_of slots at d) ∙ ap (λ (es : List Entry). get_or es at (entry_of d)) (sym of.entries)
       ∙ entries-at rs at r (entry_of d) of.chunk.none_empty b
 
+  -- a subpage that begins at a page is cut there
+  pub slot-cuts : (at n class : ℕ) (e : Elements) (x : Slot) (run : CutRun) → Begins at (Used n (Sub class e)) rs → x ≡ get_or slots at x → x ≡ Slot.Cut run
+      → Cuts run n class e
+  slot-cuts at n class e x run b here cut =
+      let entry : ◌≡◌ {A = Entry} (Some (run.pages, Sub run.class run.subpage.elements)) (Some (n, Sub class e)) =
+      ap entry_of (sym cut) ∙ ap entry_of here ∙ slot-entry at (Used n (Sub class e)) x b in
+      let same = both run.pages n (Sub run.class run.subpage.elements) (Sub class e) entry in
+      let use_is : Sub run.class run.subpage.elements ≡ Sub class e = same.1 in
+      record { pages = same.0; class_is = cc use_is; elements = cc use_is }
+
   pub slot-nothing : (at n : ℕ) → Begins at (Free n) rs → (d : Slot) → get_or slots at d ≡ Slot.Nothing
   slot-nothing at n b d = is-nothing (get_or slots at d) (slot-entry at (Free n) d b)
 

@@ -1,20 +1,20 @@
 -- The free runs and the entries of a chunk, and what each change of the chunk makes of them.
-use Rattle.std.proofs.Common.{◌≡◌, ℕ, zero, suc, ◌+◌, ◌*◌, ◌<◌, ◌≤◌, ◌^◌, List, [], ◌∷◌, length, get_or, Some, None, refl, sym, ap, ◌∙◌, subst, arith, zero-add}
-use Rattle.std.specs.Prelude.{◌⊎◌, All, sum, slice_set, Option}
+use Rattle.std.proofs.Common.{◌≡◌, ℕ, zero, suc, ◌+◌, ◌-◌, ◌*◌, ◌<◌, ◌≤◌, ◌^◌, List, [], ◌∷◌, length, get_or, Some, None, refl, sym, ap, ◌∙◌, subst, arith, zero-add, eq-eqb, ne_eqb}
+use Rattle.std.specs.Prelude.{◌⊎◌, true, false, ◌==◌, All, sum, slice_set, Option}
 use Rattle.std.proofs.lemmas.Bool.{cases_lt, cases_eq}
 use Rattle.std.proofs.lemmas.List.Sums.{sum_by-cons}
 use Rattle.size_classes.specs.Sizes.{Geometry, page_of, chunk_pages, chunk_bytes}
-use Rattle.size_classes.specs.Pages.{Run, Free, Used, Span, pages_in, total_pages, free_pages, free_runs, chosen, taken_at, given_at, NoneEmpty}
+use Rattle.size_classes.specs.Pages.{Run, Free, Used, Span, pages_in, total_pages, free_pages, add_free, free_runs, chosen, taken_at, given_at, NoneEmpty}
 use Rattle.size_classes.specs.Spans.{run_lengths, taken_from, given_back, AreApart, IsOut}
 use Rattle.size_classes.specs.Runs.{Begins}
 use Rattle.size_classes.specs.Elements.{Elements}
 use Rattle.size_classes.proofs.Runs.{Begins-apart, Begins-inside, Begins-one, IsFree, EachPair, EachPair-map, free_runs-free, IfThere, chosen-free}
 use Rattle.size_classes.proofs.SpanLaws.{free_runs-taken, free_runs-given}
-use Rattle.pool_law.specs.Chunks.{Chunk, Use, IsChunk, used_bytes, free_bytes}
+use Rattle.pool_law.specs.Chunks.{Chunk, Use, Sub, IsSubpage, IsChunk, used_bytes, free_bytes}
 use Rattle.pool_chunk.specs.ChunkStates.{with_elements}
 use Rattle.pool_chunk.specs.Slots.{Entry, entries, runs_from, AreOf}
 use Rattle.pool_chunk.proofs.Entries.{runs_from-entries, entries-taken, entries-given, entries-elements}
-use Rattle.pool_chunk.proofs.ChunkLaws.{Fits, run-some, taken-chunk, given-chunk, used-free}
+use Rattle.pool_chunk.proofs.ChunkLaws.{Fits, run-some, taken-chunk, given-chunk, elements-chunk, used-free}
 use mathlib.Core.Logic.{inl, inr}
 
 -- the runs are those that their free runs and entries make
@@ -27,6 +27,17 @@ the-runs g spans es rs of =
 -- so what is of the runs is of those
 pub of-runs : (g : Geometry) (spans : List Span) (es : List Entry) (rs : Chunk) → AreOf g spans es rs → AreOf g spans es (runs_from 0 spans es)
 of-runs g spans es rs of = subst (λ (xs : Chunk). AreOf g spans es xs) (sym (the-runs g spans es rs of)) of
+
+-- the free runs don't change with the elements of a subpage
+free_runs-elements : (rs : Chunk) (from at n class : ℕ) (e f : Elements) → NoneEmpty rs → Begins at (Used n (Sub class e)) rs
+    → free_runs from (with_elements at class f rs) ≡ free_runs from rs
+free_runs-elements [] from at n class e f ne b = absurd b
+free_runs-elements (Free m ∷ rs) from at n class e f ne (inl b) = absurd (cc b.1)
+free_runs-elements (Used m w ∷ rs) from at n class e f ne (inl b) = let here : (at == 0) ≡ true = eq-eqb at 0 b.0 in rw here refl
+free_runs-elements (r ∷ rs) from at n class e f ne (inr b) =
+    let not_here : (at == 0) ≡ false = ne_eqb at 0 (λ h. omega (arith, h, ne.0, b.1)) in
+    let rest : at - pages_in r ≡ b.0 = omega (arith, b.1) in
+    rw (not_here, rest) (ap (λ (ss : List Span). add_free from r ss) (free_runs-elements rs (from + pages_in r) b.0 n class e f ne.1 b.2))
 
 module _ (g : Geometry) (spans : List Span) (es : List Entry) (rs : Chunk) (at : ℕ) (of : AreOf g spans es rs) where
   -- the front of a free run comes into use
@@ -49,6 +60,17 @@ module _ (g : Geometry) (spans : List Span) (es : List Entry) (rs : Chunk) (at :
         entries = entries-given rs at n what of.chunk.none_empty b (run-some rs at (Used n what) of.chunk.none_empty b)
             ∙ ap (λ (xs : List Entry). slice_set xs at None) of.entries;
         chunk = given-chunk g rs at of.chunk n what b;
+      }
+
+  -- the elements of a subpage change
+  pub elements-of : (n class : ℕ) (e f : Elements) → Begins at (Used n (Sub class e)) rs → IsSubpage g n class f
+      → AreOf g spans (slice_set es at (Some (n, Sub class f))) (with_elements at class f rs)
+  elements-of n class e f b good =
+      let new : Chunk = with_elements at class f rs in
+      record {
+        free = free_runs-elements rs 0 at n class e f of.chunk.none_empty b ∙ of.free;
+        entries = entries-elements rs at n class e f of.chunk.none_empty b ∙ ap (λ (xs : List Entry). slice_set xs at (Some (n, Sub class f))) of.entries;
+        chunk = elements-chunk g rs at of.chunk n class e f b good;
       }
 
   -- a run in use is apart from all free runs

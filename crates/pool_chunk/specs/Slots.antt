@@ -1,12 +1,12 @@
 -- What begins at each page of a chunk, and the list of runs that this makes with the free runs.
 -- No public clause cites this module.
 use Rattle.std.specs.Prelude.{◌≡◌, ℕ, zero, suc, ◌+◌, ◌-◌, ◌*◌, ◌<◌, List, [], ◌∷◌, ◌++◌, replicate, Option, Some, None, ⊤}
-use Rattle.ground.specs.Ground.{Origin}
-use Rattle.size_classes.specs.Sizes.{size_at}
+use Rattle.ground.specs.Ground.{Origin, Segment}
+use Rattle.size_classes.specs.Sizes.{Geometry, size_at}
 use Rattle.size_classes.specs.Pages.{Run, Free, Used, Span, free_runs}
-use Rattle.subpage_bits.specs.Elements.{SharedRun}
+use Rattle.subpage_bits.specs.Elements.{SharedRun, HandsOut}
 use Rattle.pool_law.specs.Chunks.{Chunk, Use, Whole, Sub, IsChunk}
-use Rattle.size_classes.specs.Sizes.{Geometry}
+use Rattle.pool_chunk.specs.PlaceWords.{element_word}
 use Rattle.pool_chunk.specs.declared.slot.Slot.{Slot}
 use Rattle.pool_chunk.specs.declared.slot.CutRun.{CutRun}
 
@@ -59,3 +59,14 @@ abbrev pub ArePlaced : Origin → ℕ → ℕ → List Slot → Type 0
 ArePlaced origin page at [] = ⊤
 ArePlaced origin page at (s ∷ ss) =
     IsPlaced origin page at s × ArePlaced origin page (at + 1) ss
+
+-- a run with other elements
+abbrev pub with_subpage : CutRun → SharedRun → CutRun
+with_subpage run subpage = record run { subpage = subpage }
+
+-- the next element of a run that begins at a page is handed out as s, and this is its word
+pub record HandsOutOf (before after : CutRun) (page : ℕ) (s : Segment) (word : ℕ) : Type 0 where
+  pub element : ℕ
+  pub out : HandsOut before.subpage after.subpage s element
+  pub place : word ≡ element_word page before.pages element
+  pub rest : after ≡ with_subpage before after.subpage

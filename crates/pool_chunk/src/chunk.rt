@@ -3,20 +3,21 @@
 ghost use Rattle.std.specs.Prelude.{◌≡◌, ℕ, ◌+◌, ◌<◌, ◌≤◌, ◌↔◌, true, MatchResult, IfSome, IfNone, IsNone, None};
 ghost use Rattle.ground.specs.Ground.{IsWhole};
 ghost use Rattle.size_classes.specs.Sizes.{of_order, chunk_bytes, class_count, is_small, subpage_pages};
-ghost use Rattle.size_classes.specs.Pages.{free_runs, chosen, given_at};
+ghost use Rattle.size_classes.specs.Pages.{free_runs, chosen};
 ghost use Rattle.size_classes.specs.Elements.{is_full};
 ghost use Rattle.pool_law.specs.Chunks.{new_chunk, used_bytes, free_bytes, IsChunk};
-ghost use Rattle.pool_chunk.specs.ChunkStates.{ChunkState, all_free, IsChunkGround, IsRunOut, IsRunPlace};
-ghost use Rattle.pool_chunk.specs.Outcomes.{TakesRun, run_back};
+ghost use Rattle.pool_chunk.specs.ChunkStates.{all_free, IsChunkGround, HasSubpage, HasIdleSubpage, IsRunOut, IsElementOut, IsRunPlace, IsElementPlace, IsPlaceOut};
+ghost use Rattle.pool_chunk.specs.Outcomes.{TakesRun, TakesSubpage, TakesElement, run_back, element_back, freed_by};
 
 use crate::place::{place_pack, place_unpack};
-use crate::slot::{Slot, clear, fill, no_runs, spend};
+use crate::slot::{CutRun, Slot, clear, fill, no_runs, spend, take_cut};
 use ground::Piece;
 use run_map::RunMap;
 use size_classes::SizeClasses;
 use std::alloc::Global;
 use std::marker::Model;
 use std::mem::ManuallyDrop;
+use subpage_bits::Subpage;
 
 /// What was given back: an element of a subpage, the last one that was out, or a run.
 #[derive(Debug, Clone, Copy, PartialEq, Eq)]
@@ -95,6 +96,18 @@ impl Chunk {
         self.map.free_bytes()
     }
 
+    /// Whether every element of the subpage that begins at a page is out.
+    pub fn is_full_subpage(&self, page: u32) -> bool
+        requires { HasSubpage self.now page }
+        ensures { (subpage : HasSubpage self.now page) → result ≡ is_full subpage.elements }
+    {
+        let slot = &self.slots[page as usize];
+        let Slot::Cut(run) = slot else {
+            unreachable!();
+        };
+        run.subpage.is_full()
+    }
+
     /// So many pages from the front of the free run that the rule chooses, and the word of their
     /// place. What is left of the run stays free.
     ///
@@ -114,17 +127,83 @@ impl Chunk {
         }
     }
 
-    /// Gives a run back: it is merged with the free runs beside it.
+    /// A subpage of a small class, in the fewest pages that are whole elements: its first page.
+    ///
+    /// None where no free run has so many pages, and then nothing changes.
+    pub fn take_subpage(&mut self, class: u32) -> Option<u32>
+        requires { (class < class_count self.old.geometry) × (is_small self.old.geometry class ≡ true) }
+        ensures none { IfNone result ((self.new ≡ self.old)
+            × (chosen self.old.geometry (subpage_pages self.old.geometry class)
+            (free_runs 0 self.old.runs) ≡ None)) }
+        ensures some { IfSome result (λ page. TakesSubpage self.old self.new class page) }
+    {
+        let pages = self.classes.subpage_pages(class);
+        let size = self.classes.size_of(class);
+        match self.map.take(pages) {
+            None => None,
+            Some((piece, page)) => {
+                let subpage = Subpage::of(piece, size);
+                let run = CutRun {
+                    class,
+                    pages,
+                    subpage,
+                };
+                fill(&mut self.slots, page as usize, Slot::Cut(run));
+                Some(page)
+            }
+        }
+    }
+
+    /// The next element of the subpage that begins at a page, and the word of its place.
+    ///
+    /// None where every element is out, and then nothing changes.
+    pub fn take_element(&mut self, page: u32) -> Option<(Piece, u64)>
+        requires { HasSubpage self.old page }
+        ensures full { (subpage : HasSubpage self.old page)
+            → IsNone result ↔ (is_full subpage.elements ≡ true) }
+        ensures none { IfNone result (self.new ≡ self.old) }
+        ensures some { IfSome result (λ x. TakesElement self.old self.new page x.0 x.1) }
+    {
+        let slot = &mut self.slots[page as usize];
+        let Slot::Cut(run) = slot else {
+            unreachable!();
+        };
+        run.hand_out(page)
+    }
+
+    /// Gives the place of a word back, whose bytes are the piece. A run is merged with the free runs
+    /// beside it. An element is remembered by its subpage, which keeps its run even if it is now idle.
     pub fn give(&mut self, piece: Piece, word: u64) -> Freed
-        requires { IsRunPlace self.old piece word }
+        requires { IsPlaceOut self.old piece word }
         ensures run { (out : IsRunPlace self.old piece word)
             → (result ≡ Freed.Run) × (self.new ≡ run_back self.old out.page) }
+        ensures element { (out : IsElementPlace self.old piece word)
+            → (result ≡ freed_by out.element.subpage.elements out.index)
+            × (self.new ≡ element_back self.old out.page out.element.subpage out.index) }
     {
         // The pages of a chunk, which is opened here, have room in a word.
         let _ = &self.slots;
-        let (page, _, _, _, _) = place_unpack(word);
+        let (page, _, _, sub, index) = place_unpack(word);
+        if sub {
+            return self.give_element(piece, page, index);
+        }
         self.give_run(piece, page);
         Freed::Run
+    }
+
+    // Gives an element of the subpage that begins at a page back.
+    fn give_element(&mut self, piece: Piece, page: u32, index: u32) -> Freed
+        requires { IsElementOut self.old page index piece }
+        ensures freed { (out : IsElementOut self.old page index piece)
+            → result ≡ freed_by out.subpage.elements index }
+        ensures chunk { (out : IsElementOut self.old page index piece)
+            → self.new ≡ element_back self.old page out.subpage index }
+    {
+        let slot = &mut self.slots[page as usize];
+        let Slot::Cut(run) = slot else {
+            unreachable!();
+        };
+        run.take_back(piece, index)
     }
 
     // Gives the run that begins at a page back.
@@ -134,6 +213,19 @@ impl Chunk {
     {
         clear(&mut self.slots, page as usize);
         self.map.give(piece);
+    }
+
+    /// Gives the run of an idle subpage back, as `give` does.
+    pub fn drop_subpage(&mut self, page: u32)
+        requires { HasIdleSubpage self.old page }
+        ensures { self.new ≡ run_back self.old page }
+    {
+        let CutRun {
+            class: _,
+            pages: _,
+            subpage,
+        } = take_cut(&mut self.slots, page as usize);
+        self.map.give(subpage.into_run());
     }
 
     /// The whole ground, where all of it is free.

@@ -1,12 +1,14 @@
 //! What of a chunk that is in use begins at a page.
 
 ghost use Rattle.std.specs.Prelude.{◌≡◌, ◌<◌, ◌≤◌, ◌^◌, ◌↔◌, ℕ, true, All, length, replicate, slice_set, slice_index_or, IfOk, IfSome, IfNone, IsNone, Some};
-ghost use Rattle.size_classes.specs.Elements.{is_out, is_full, with_back};
-ghost use Rattle.subpage_bits.specs.Elements.{IsElementOf, HandsOut, given};
+ghost use Rattle.size_classes.specs.Elements.{is_out, is_full};
+ghost use Rattle.subpage_bits.specs.Elements.{IsElementOf, given};
 ghost use Rattle.pool_chunk.specs.declared.slot.Slot.{Slot};
 ghost use Rattle.pool_chunk.specs.declared.slot.CutRun.{CutRun};
-ghost use Rattle.pool_chunk.specs.PlaceWords.{element_word};
+ghost use Rattle.pool_chunk.specs.Outcomes.{freed_by};
+ghost use Rattle.pool_chunk.specs.Slots.{with_subpage, HandsOutOf};
 
+use crate::chunk::Freed;
 use crate::place::place_pack;
 use ground::Piece;
 use std::alloc::{AllocError, Global};
@@ -25,6 +27,36 @@ pub(crate) enum Slot {
     Nothing,
     Run(u32),
     Cut(CutRun),
+}
+
+impl CutRun {
+    // The next element, and the word of its place, where the run begins at a page.
+    pub(crate) fn hand_out(&mut self, page: u32) -> Option<(Piece, u64)>
+        requires { (page < 2 ^ 15) × (self.old.pages < 2 ^ 15) }
+        ensures full { IsNone result ↔ (is_full self.old.subpage.elements ≡ true) }
+        ensures none { IfNone result (self.new ≡ self.old) }
+        ensures some { IfSome result (λ x. HandsOutOf self.old self.new page x.0 x.1) }
+    {
+        match self.subpage.take() {
+            None => None,
+            Some((piece, i)) => Some((piece, place_pack(page, self.pages, true, true, i))),
+        }
+    }
+
+    // An element that comes back.
+    pub(crate) fn take_back(&mut self, piece: Piece, i: u32) -> Freed
+        requires element { IsElementOf self.old.subpage i piece }
+        requires out { is_out self.old.subpage.elements i ≡ true }
+        ensures freed { result ≡ freed_by self.old.subpage.elements i }
+        ensures run { self.new ≡ with_subpage self.old (given self.old.subpage i) }
+    {
+        self.subpage.give(piece, i);
+        if self.subpage.is_empty() {
+            Freed::Idle
+        } else {
+            Freed::Element
+        }
+    }
 }
 
 // So many pages at which nothing begins.
@@ -84,8 +116,8 @@ pub(crate) fn take_cut(slots: &mut [Slot], page: usize) -> CutRun
     ensures run { (d : Slot) → slice_index_or slots.old page d ≡ Slot.Cut result }
     ensures slots { slots.new ≡ slice_set slots.old page Slot.Nothing }
 {
-    let was = replace(&mut slots[page], Slot::Nothing);
-    let Slot::Cut(run) = was else {
+    let begun = replace(&mut slots[page], Slot::Nothing);
+    let Slot::Cut(run) = begun else {
         unreachable!();
     };
     run
