@@ -1,7 +1,7 @@
 -- Takings of one arena that are out together have no byte in common, after every history.
 use Rattle.std.proofs.Common.{eqb-true, ◌≡◌, inl, ℕ, zero, suc, List, [], ◌∷◌, refl, sym, ap, subst, Bool, true, false, Some, None}
-use Rattle.std.specs.Prelude.{not, ◌&&◌, ◌==◌, slice_get, replicate, Option, unwrap_or, option_and_then}
-use Rattle.size_classes.specs.Sizes.{Geometry}
+use Rattle.std.specs.Prelude.{nat_lt, not, ◌&&◌, ◌==◌, slice_get, replicate, Option, unwrap_or, option_and_then}
+use Rattle.size_classes.specs.Sizes.{Geometry, class_count}
 use Rattle.pool_law.specs.declared.id.RegionId.{RegionId}
 use Rattle.pool_law.specs.declared.note.Did.{Did}
 use Rattle.pool_law.specs.declared.note.Did.TheVariants.{Take, Full, Give}
@@ -89,7 +89,9 @@ module _ (g : Geometry) (number : ℕ) where
           (λ _ same. let arena : t.1 ≡ b = cc same in subst (λ x. ArenaHolds g number x) arena (found t refl))
           (λ _ same. absurd (cc same))
           is
-  step-holds a b (Full class) holds e = go (take g number a class 0) e
+  step-holds a b (Full class) holds e =
+      cond_both (nat_lt class (class_count g)) (if_none (take g number a class 0) a) None (λ z. z ≡ Some b → ArenaHolds g number b)
+      (λ _ is. go (take g number a class 0) is) (λ _ is. absurd (cc is)) e
     where
       go : (o : Option (RegionId × Arena)) → if_none o a ≡ Some b → ArenaHolds g number b
       go None is = let same : a ≡ b = cc is in subst (λ x. ArenaHolds g number x) same holds

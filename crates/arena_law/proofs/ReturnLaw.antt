@@ -1,8 +1,8 @@
 -- Between two takings of one arena whose places overlap, the first came back.
 use Rattle.std.proofs.Common.{⊎_elim, ◌≡◌, inl, inr, ℕ, List, [], ◌∷◌, ◌++◌, refl, sym, ap, subst, arith, Bool, true, false, Some, None, ◌∙◌}
-use Rattle.std.specs.Prelude.{not, ◌||◌, filter, Option, option_map, option_and_then}
+use Rattle.std.specs.Prelude.{nat_lt, not, ◌||◌, filter, Option, option_map, option_and_then}
 use Rattle.std.specs.List.{list_any}
-use Rattle.size_classes.specs.Sizes.{Geometry}
+use Rattle.size_classes.specs.Sizes.{Geometry, class_count}
 use Rattle.pool_law.specs.declared.id.RegionId.{RegionId}
 use Rattle.pool_law.specs.declared.note.Did.{Did}
 use Rattle.pool_law.specs.declared.note.Did.TheVariants.{Take, Full, Give}
@@ -97,7 +97,9 @@ module _ (g : Geometry) (number : ℕ) where
   step-keeps a b (Take class region) r holds e o kept =
       let t : (s : RegionId) × (same_region region s ≡ true) × (b.out ≡ a.out ++ s ∷ []) = take_note-out a b class region holds e in
       subst (IsOne r) (sym t.2) (IsOne-front r a.out (t.0 ∷ []) o)
-  step-keeps a b (Full class) r holds e o kept = go (take g number a class 0) e
+  step-keeps a b (Full class) r holds e o kept =
+      cond_both (nat_lt class (class_count g)) (if_none (take g number a class 0) a) None (λ z. z ≡ Some b → IsOne r b.out)
+      (λ _ is. go (take g number a class 0) is) (λ _ is. absurd (cc is)) e
     where
       go : (x : Option (RegionId × Arena)) → if_none x a ≡ Some b → IsOne r b.out
       go None is = let same : a ≡ b = cc is in subst (λ x. IsOne r x.out) same o

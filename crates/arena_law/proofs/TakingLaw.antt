@@ -1,7 +1,7 @@
 -- The takings of an arena are numbered in order.
 use Rattle.std.proofs.Common.{◌≡◌, ℕ, ◌+◌, List, [], ◌∷◌, refl, sym, ap, subst, true, Some, None, ◌∙◌}
-use Rattle.std.specs.Prelude.{Option, option_map, option_and_then}
-use Rattle.size_classes.specs.Sizes.{Geometry}
+use Rattle.std.specs.Prelude.{nat_lt, Option, option_map, option_and_then}
+use Rattle.size_classes.specs.Sizes.{Geometry, class_count}
 use Rattle.pool_law.specs.declared.id.RegionId.{RegionId}
 use Rattle.pool_law.specs.declared.note.Did.{Did}
 use Rattle.pool_law.specs.declared.note.Did.TheVariants.{Take, Full, Give}
@@ -56,7 +56,9 @@ module _ (g : Geometry) (number : ℕ) where
           (subst (λ r. IsTaking number class a.takings r) (sym (same_region-is region t.0 test)) (found t refl).0, subst (λ x. x.takings ≡ a.takings + 1) arena (found t refl).1))
           (λ _ same. absurd (cc same))
           is
-  step-numbers a b (Full class) holds e = go (take g number a class 0) e
+  step-numbers a b (Full class) holds e =
+      cond_both (nat_lt class (class_count g)) (if_none (take g number a class 0) a) None (λ z. z ≡ Some b → b.takings ≡ a.takings)
+      (λ _ is. go (take g number a class 0) is) (λ _ is. absurd (cc is)) e
     where
       go : (o : Option (RegionId × Arena)) → if_none o a ≡ Some b → b.takings ≡ a.takings
       go None is = let same : b ≡ a = cc is in ap (λ x. x.takings) same

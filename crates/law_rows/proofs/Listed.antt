@@ -1,9 +1,9 @@
 -- The objects and the roots that the notes of a run name, and what holds of the others.
-use Rattle.std.proofs.Common.{eqb-true, ◌≡◌, List, [], ◌∷◌, Bool, true, false, refl, sym, ap, subst, ◌∙◌}
-use Rattle.std.specs.Prelude.{◌==◌, ◌||◌, if◌then◌else◌, map}
+use Rattle.std.proofs.Common.{◌≡◌, List, [], ◌∷◌, Bool, true, false, refl, sym, ap, subst, ◌∙◌}
+use Rattle.std.specs.Prelude.{◌||◌, if◌then◌else◌, map}
 use Rattle.pool_law.specs.declared.note.Object.{Object}
 use Rattle.pool_law.specs.Same.{same_object}
-use Rattle.pool_law.proofs.SameLemmas.{and-first, and-second}
+use Rattle.pool_law.proofs.SameLemmas.{same_object-is}
 
 -- an item is in a list, by a test of the same items
 abbrev pub listed : {X : Type 0} → (X → X → Bool) → List X → X → Bool
@@ -45,20 +45,6 @@ module _ {X : Type 0} (same : X → X → Bool) (is : (x y : X) → same x y ≡
       go false e = refl
       go true e =
           let both : true ≡ false = sym present ∙ ap (listed same xs) (is y x e) ∙ absent in absurd (cc both)
-
-pub same_object-is : (a b : Object) → same_object a b ≡ true → a ≡ b
-same_object-is (Object.Arena a) (Object.Arena b) e = ap Object.Arena (eqb-true a b e)
-same_object-is (Object.Cache l c) (Object.Cache m d) e =
-    let lane : l ≡ m = eqb-true l m (and-first (l == m) (c == d) e) in
-    let class : c ≡ d = eqb-true c d (and-second (l == m) (c == d) e) in
-    λ i. Object.Cache (lane i) (class i)
-same_object-is (Object.Bin a) (Object.Bin b) e = ap Object.Bin (eqb-true a b e)
-same_object-is (Object.Mail l c) (Object.Mail m d) e =
-    let first : l ≡ m = eqb-true l m (and-first (l == m) (c == d) e) in
-    let second : c ≡ d = eqb-true c d (and-second (l == m) (c == d) e) in
-    λ i. Object.Mail (first i) (second i)
-same_object-is (Object.Root a) (Object.Root b) e = ap Object.Root (eqb-true a b e)
-same_object-is _ _ e = absurd (cc e)
 
 -- an object that is not in a list is none of it
 pub another_object : (objects : List Object) (object other : Object) → listed same_object objects object ≡ false →

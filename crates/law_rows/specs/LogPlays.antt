@@ -1,5 +1,5 @@
 -- Two logs of one root, and which lanes may note what.
-use Rattle.std.specs.Prelude.{ℕ, List, [], ◌∷◌, filter, Option, Some, None}
+use Rattle.std.specs.Prelude.{ℕ, false, List, [], ◌∷◌, filter, Option, Some, None}
 use Rattle.pool_law.specs.declared.id.RootId.{RootId}
 use Rattle.pool_law.specs.declared.id.RegionId.{RegionId}
 use Rattle.pool_law.specs.declared.note.Did.{Did}
@@ -32,3 +32,13 @@ noted lane did root region =
 -- the birth of a root of four bytes
 abbrev pub born : Noted
 born = noted 0 (Did.Birth (root 0 1 4) (least_region 1)) None None
+
+-- a touch of that root, made with a watch as if it were a birth
+abbrev pub watched_touch : Noted
+watched_touch =
+    let touch = noted 1 Did.Touch (Some (root 0 1 4)) None in
+    record touch { watch = Some (record { lane = 1; serial = 1; keeps = false }) }
+
+-- a note of a seat without a number
+abbrev pub of_no_lane : Noted → Noted
+of_no_lane n = record n { lane = None }

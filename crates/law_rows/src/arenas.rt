@@ -156,6 +156,7 @@ pub fn notes_of_full_arenas_and_gives()
         (notes_of_one_chunk (Take 43 (region (place 0 65536) 43 1 0) ∷ Full 0 ∷ [])) ≡ true }
     ensures not_full { notes_of_one_chunk (Take 0 (least_region 0) ∷ Full 0 ∷ []) ≡ None }
     ensures unused_chunk_place { notes_of_one_chunk (Full 0 ∷ []) ≡ None }
+    ensures no_such_class { notes_of_one_chunk (Full 44 ∷ []) ≡ None }
     ensures give { is_some
         (notes_of_one_chunk (Take 0 (least_region 0) ∷ Give (least_region 3) ∷ [])) ≡ true }
     ensures not_before { notes_of_one_chunk (Give (least_region 0) ∷ []) ≡ None }

@@ -8,7 +8,7 @@ ghost use Rattle.pool_law.specs.Logs.{history_of, IsHistory, entry_of};
 ghost use Rattle.pool_law.specs.NotedHistories.{NotedMayFollow, entry_of_noted};
 ghost use Rattle.law_rows.specs.Notes.{default_shape, root, least_region, arena, cache, bin, mail, root_place, post_nothing, fetch_nothing};
 ghost use Rattle.law_rows.specs.Entries.{alone, access, end};
-ghost use Rattle.law_rows.specs.LogPlays.{logs, lanes_of, noted, born};
+ghost use Rattle.law_rows.specs.LogPlays.{logs, lanes_of, noted, born, watched_touch, of_no_lane};
 
 /// A history is the notes of all lanes in order of number, each once from 1 on.
 pub fn whole_histories()
@@ -79,6 +79,12 @@ pub fn notes_that_may_follow()
         (noted 1 (Did.End (root 0 1 4)) None (Some (least_region 2))) }
     ensures of_another_lane { ¬ NotedMayFollow (default_shape 3) (Object.Cache 1 0) []
         (noted 0 Did.Miss None None) }
+    ensures with_a_watch { ¬ NotedMayFollow (default_shape 3) (Object.Root 0) (born ∷ [])
+        watched_touch }
+    ensures touch_of_no_lane { NotedMayFollow (default_shape 3) (Object.Root 0) (born ∷ [])
+        (of_no_lane (noted 1 Did.Touch (Some (root 0 1 4)) None)) }
+    ensures miss_of_no_lane { ¬ NotedMayFollow (default_shape 3) (Object.Cache 1 0) []
+        (of_no_lane (noted 1 Did.Miss None None)) }
     ensures entry { entry_of_noted (Object.Root 0) 2 (noted 1 Did.Touch (Some (root 0 1 4)) None)
         ≡ access (root 0 1 4) 2 Did.Touch }
 {}

@@ -1,5 +1,5 @@
 -- An arena: its chunks, and what each taking and giving does to them.
-use Rattle.std.specs.Prelude.{ℕ, suc, ◌+◌, ◌-◌, ◌*◌, ◌/◌, Bool, true, false, ◌==◌, ◌&&◌, not, if◌then◌else◌, List, [], ◌∷◌, ◌++◌, replicate, filter, slice_get, slice_set, Option, Some, None, option_map, option_and_then, unwrap_or}
+use Rattle.std.specs.Prelude.{ℕ, suc, ◌+◌, ◌-◌, ◌*◌, ◌/◌, Bool, true, false, ◌==◌, ◌&&◌, not, nat_lt, if◌then◌else◌, List, [], ◌∷◌, ◌++◌, replicate, filter, slice_get, slice_set, Option, Some, None, option_map, option_and_then, unwrap_or}
 use Rattle.std.specs.List.{list_any}
 use Rattle.size_classes.specs.Sizes.{Geometry, page_of, class_count, is_small, pages_of, size_at, subpage_pages, element_count}
 use Rattle.size_classes.specs.Pages.{Run, Free, Used, pages_in, free_runs, chosen, taken_at, given_at, replaced, run_at, run_start}
@@ -252,7 +252,7 @@ abbrev pub as_noted : RegionId → Option (RegionId × Arena) → Option Arena
 as_noted region None = None
 as_noted region (Some t) = if same_region region t.0 then Some t.1 else None
 
--- a note of a full arena stands exactly where nothing is taken
+-- an arena is full where nothing is taken
 abbrev pub if_none : Option (RegionId × Arena) → Arena → Option Arena
 if_none None a = Some a
 if_none (Some t) a = None
@@ -260,7 +260,8 @@ if_none (Some t) a = None
 -- what a note makes of an arena; none where it may not stand
 abbrev pub arena_step : Geometry → ℕ → Arena → Did → Option Arena
 arena_step g number a (Take class region) = as_noted region (take g number a class region.owner)
-arena_step g number a (Full class) = if_none (take g number a class 0) a
+arena_step g number a (Full class) =
+    if nat_lt class (class_count g) then if_none (take g number a class 0) a else None
 arena_step g number a (Give region) = if is_out_of a region then Some (give g a region) else None
 arena_step g number a _ = None
 

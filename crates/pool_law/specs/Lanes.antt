@@ -1,5 +1,5 @@
 -- What a lane answers to its commands, and the notes that each of them makes.
-use Rattle.std.specs.Prelude.{ℕ, ◌+◌, Bool, true, false, ◌==◌, ◌&&◌, not, nat_le, if◌then◌else◌, List, [], ◌∷◌, length, filter, Option, Some, None, is_some}
+use Rattle.std.specs.Prelude.{ℕ, Bool, true, false, ◌==◌, ◌&&◌, not, nat_le, if◌then◌else◌, List, [], ◌∷◌, length, filter, Option, Some, None, is_some}
 use Rattle.pool_law.specs.declared.id.RootId.{RootId}
 use Rattle.pool_law.specs.declared.id.ViewData.{ViewData}
 use Rattle.pool_law.specs.declared.id.Parcel.{Parcel}
@@ -11,7 +11,7 @@ use Rattle.pool_law.specs.declared.run.Shape.{Shape}
 use Rattle.pool_law.specs.declared.run.Reply.{Reply}
 use Rattle.pool_law.specs.Same.{same_parcel, same_bytes}
 use Rattle.pool_law.specs.Counts.{count_of, root_is}
-use Rattle.pool_law.specs.Views.{view_of, slice_of, in_range, can_read, can_write, after_read, after_write}
+use Rattle.pool_law.specs.Views.{view_of, slice_of, root_index, in_range, can_read, can_write, after_read, after_write}
 use Rattle.pool_law.specs.Patterns.{Entries, Allotted, New, Refused, done_at, marked, next_at, next_to, allot, release}
 use Rattle.pool_law.specs.Reading.{◌>>=◌, front, check}
 
@@ -115,14 +115,14 @@ bytes_got offset len _ = None
 abbrev pub set_at : ViewData → ℕ → List ℕ → List (ℕ × Bound) → Entries → Answers
 set_at v at bytes names es = do
   (did, rest) ← access v.root es
-  _ ← is_set (v.offset + at) bytes did
+  _ ← is_set (root_index v at) bytes did
   answer Reply.Ok names rest
 
 -- bytes are got at an index of the view
 abbrev pub get_at : ViewData → ℕ → ℕ → List (ℕ × Bound) → Entries → Answers
 get_at v at len names es = do
   (did, rest) ← access v.root es
-  bytes ← bytes_got (v.offset + at) len did
+  bytes ← bytes_got (root_index v at) len did
   answer (Reply.OkBytes bytes) names rest
 
 -- a command that only tries may find another lane at the root

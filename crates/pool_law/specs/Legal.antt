@@ -84,7 +84,9 @@ others_retains root lane at (es ∷ logs) =
     (if at == lane then 0 else count_in (is_retain root) es)
     + others_retains root lane (at + 1) logs
 
--- the sentences on counts, over the logs of all lanes
+-- the sentences on counts, over the logs of all lanes: each lane's own counts, the totals of the
+-- roots that were born, and what was looked up. (That a birth and its Born stand in one log, and an
+-- end, its Ended and its Vacated in one, each once and in order, the patterns of a lane's log say.)
 pub record CountsAgree (logs : List (List Entry)) : Type 0 where
   pub lanes : (root : RootId) (lane : ℕ) → CountsHold root 0 (log_of logs lane)
   pub totals : (root : RootId) → 0 < count_over (is_birth root) logs → TotalHolds root logs

@@ -1,9 +1,11 @@
 -- Histories of notes that know their lane, and the root and the region that their place gives.
-use Rattle.std.specs.Prelude.{◌≡◌, ℕ, List, [], ◌∷◌, ◌++◌, map, Option, Some, None, IsTrue}
+use Rattle.std.specs.Prelude.{◌≡◌, ℕ, Bool, true, false, List, [], ◌∷◌, ◌++◌, map, Option, Some, None, IsTrue}
 use Rattle.pool_law.specs.declared.note.Noted.{Noted}
 use Rattle.pool_law.specs.declared.note.Object.{Object}
 use Rattle.pool_law.specs.declared.note.Did.{Did}
+use Rattle.pool_law.specs.declared.note.Did.TheVariants.{Take, Full, Hit, Miss, Trim, Close, Shed, Handle, NoHandle, Post, Fetch, Birth}
 use Rattle.pool_law.specs.declared.note.Note.{Note}
+use Rattle.pool_law.specs.declared.report.Watch.{Watch}
 use Rattle.pool_law.specs.declared.run.Shape.{Shape}
 use Rattle.pool_law.specs.Histories.{IsAccepted, place_after}
 use Rattle.pool_law.specs.Logs.{Entry, may_stand, present_in, root_for, region_for}
@@ -12,24 +14,45 @@ use Rattle.pool_law.specs.Logs.{Entry, may_stand, present_in, root_for, region_f
 abbrev pub noted_dids : List Noted → List Did
 noted_dids h = map (λ n. n.did) h
 
--- the root of an access and the region of an end are those that the notes before give
+-- only a birth carries a watch
+abbrev pub IsRightWatch : Did → Option Watch → Type 0
+IsRightWatch (Birth root region) watch = Unit {0}
+IsRightWatch _ watch = watch ≡ None
+
+-- the root of an access and the region of an end are those that the notes before give, and only a
+-- birth carries a watch
 abbrev pub IsRightAt : Object → List Noted → Noted → Type 0
 IsRightAt (Object.Root place) h n =
     let p = present_in (place_after place (noted_dids h)) in
-    (n.root ≡ root_for n.did p) × (n.region ≡ region_for n.did p)
-IsRightAt _ h n = (n.root ≡ None) × (n.region ≡ None)
+    (n.root ≡ root_for n.did p) × (n.region ≡ region_for n.did p) × IsRightWatch n.did n.watch
+IsRightAt _ h n = (n.root ≡ None) × (n.region ≡ None) × IsRightWatch n.did n.watch
 
--- the lane may note this at the object
-abbrev pub MayStandBy : Shape → Object → Option ℕ → Did → Type 0
-MayStandBy shape object (Some lane) did = IsTrue (may_stand shape lane object did)
-MayStandBy shape object None did = Unit {0}
+-- whether a note may stand in the logs of some lanes alone
+abbrev pub needs_lane : Did → Bool
+needs_lane (Take class region) = true
+needs_lane (Full class) = true
+needs_lane (Hit region) = true
+needs_lane Miss = true
+needs_lane (Trim quota) = true
+needs_lane (Close quota) = true
+needs_lane (Shed region) = true
+needs_lane (Handle place) = true
+needs_lane NoHandle = true
+needs_lane (Post parcel) = true
+needs_lane (Fetch parcel) = true
+needs_lane _ = false
+
+-- a seat with this number, or with none, may note this at the object
+abbrev pub MayNote : Shape → Option ℕ → Object → Did → Type 0
+MayNote shape (Some lane) object did = IsTrue (may_stand shape lane object did)
+MayNote shape None object did = needs_lane did ≡ false
 
 -- a note may follow a history of the object
 pub record NotedMayFollow (shape : Shape) (object : Object) (h : List Noted) (n : Noted) : Type 0
   where
     pub accepted : IsAccepted shape object (noted_dids (h ++ n ∷ []))
     pub right : IsRightAt object h n
-    pub stands : MayStandBy shape object n.lane n.did
+    pub stands : MayNote shape n.lane object n.did
 
 -- the entry of a lane's part that a note with this number makes
 abbrev pub entry_of_noted : Object → ℕ → Noted → Entry

@@ -50,7 +50,7 @@ spaced (word ∷ next ∷ rest) = word ++ (32 ∷ spaced (next ∷ rest))
 abbrev pub line : List Text → Text
 line words = spaced words ++ 10 ∷ []
 
--- two numbers with a sign between them
+-- two numbers with a dot between them
 abbrev pub dotted : ℕ → ℕ → Text
 dotted a b = decimal a ++ (46 ∷ decimal b)
 

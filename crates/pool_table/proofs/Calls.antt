@@ -20,7 +20,8 @@ use Rattle.pool_table.specs.Counts.{HasCount, HasToken}
 use Rattle.pool_table.specs.Hands.{PutsDown}
 use Rattle.pool_table.specs.Hands.{HasEnded, InHand, IsBearing, Expects, MayEnter}
 use Rattle.pool_table.proofs.Presence.{next_birth}
-use Rattle.pool_table.specs.Sound.{IsSound, IsMarked, MayNote, WasHeld}
+use Rattle.pool_law.specs.NotedHistories.{MayNote}
+use Rattle.pool_table.specs.Sound.{IsSound, IsMarked, WasHeld}
 use Rattle.pool_table.specs.Sections.{IsInside, StandsFor}
 use Rattle.pool_table.specs.Seats.{IsMail}
 use Rattle.pool_table.specs.Steps.{IsFree}

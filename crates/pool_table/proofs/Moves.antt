@@ -52,7 +52,8 @@ use Rattle.pool_table.specs.Order.{IsBelow}
 use Rattle.pool_table.proofs.Looks.{looks_same, looks_entry}
 use Rattle.pool_table.proofs.Order.{IsNewest, newest, order_same, order_entry}
 use Rattle.pool_table.proofs.Newest.{newest_note}
-use Rattle.pool_table.specs.Sound.{IsKept, IsSound, IsView, IsTold, IsMarked, MayNote, Stands, Knows, WasHeld}
+use Rattle.pool_law.specs.NotedHistories.{MayNote}
+use Rattle.pool_table.specs.Sound.{IsKept, IsSound, IsView, IsTold, IsMarked, Stands, Knows, WasHeld}
 use Rattle.pool_table.specs.Sections.{StandsFor}
 use Rattle.pool_table.specs.Steps.{IsFree}
 use Rattle.pool_table.specs.Steps.{GotIn, claims, marks_claims, dones, idles}

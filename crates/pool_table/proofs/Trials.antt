@@ -35,5 +35,5 @@ first_handle s o h lane one bin empty =
     let n : Noted = noted_by lane (record { did = Handle 0; lane = None; watch = None; root = None; region = None }) in
     subst (λ (y : Object × List Noted). IsHistory s y.0 (y.1 ++ n ∷ [])) (λ q. (sym bin q, sym empty q)) (record {
       accepted = subst (λ (k : ℕ). IsTrue (is_some (after (bin_step 0 k) (new_bin 0 k) (Handle 0 ∷ [])))) (sym one) refl;
-      right = ((refl, refl), tt);
+      right = ((refl, refl, refl), tt);
     })

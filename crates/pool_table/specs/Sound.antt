@@ -7,8 +7,7 @@ use lib.ListN.{get_elem?}
 use Rattle.atomic_table.specs.Table.{State}
 use Rattle.pool_law.specs.declared.run.Shape.{Shape}
 use Rattle.pool_law.specs.declared.note.Did.{Did}
-use Rattle.pool_law.specs.declared.note.Did.TheVariants.{Take, Full, Hit, Miss, Trim, Close, Shed, Handle, NoHandle, Post, Fetch}
-use Rattle.pool_law.specs.Logs.{may_stand}
+use Rattle.pool_law.specs.NotedHistories.{MayNote}
 use Rattle.pool_law.specs.declared.note.Noted.{Noted}
 use Rattle.pool_law.specs.declared.note.Object.{Object}
 use Rattle.pool_law.specs.declared.note.Object.TheVariants.{Cache, Root}
@@ -89,26 +88,6 @@ pub record IsKept {H : Type 0}
   -- where no view is in the section the home value is in its slot, and stands for the history
   pub home_is : inside_total faces ≡ 0 →
       (x : H) × (home ≡ some (some (Some x))) × stands grounds history x
-
--- whether a note may stand only in the log of one lane, or of some lanes
-abbrev pub needs_lane : Did → Bool
-needs_lane (Take c r) = true
-needs_lane (Full c) = true
-needs_lane (Hit r) = true
-needs_lane Miss = true
-needs_lane (Trim q) = true
-needs_lane (Close q) = true
-needs_lane (Shed r) = true
-needs_lane (Handle p) = true
-needs_lane NoHandle = true
-needs_lane (Post p) = true
-needs_lane (Fetch p) = true
-needs_lane d = false
-
--- the note may stand in the part of the seat that has this number, or none
-abbrev pub MayNote : Shape → Option ℕ → Object → Did → Type 0
-MayNote s (Some lane) o d = IsTrue (may_stand s lane o d)
-MayNote s None o d = needs_lane d ≡ false
 
 -- a note stands on an object of the shape, in the log of a lane that may note it, where it may move what it moves
 pub record NoteStands (s : Shape) (lane : Option ℕ) (o : Object) (n : Noted) : Type 0 where

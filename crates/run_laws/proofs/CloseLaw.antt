@@ -32,7 +32,7 @@ use Rattle.pool_law.proofs.SameLemmas.{and-first, and-second}
 use Rattle.arena_law.proofs.GiveSteps.{IsOne}
 use Rattle.arena_law.proofs.ReturnLaw.{IsOne-front, IsOne-last}
 use Rattle.run_laws.proofs.Sums.{sum_by}
-use Rattle.run_laws.proofs.Numbered.{same_object-is}
+use Rattle.pool_law.proofs.SameLemmas.{same_object-is}
 use Rattle.pool_law.proofs.PatternLemmas.{same_object-refl}
 use Rattle.run_laws.proofs.DueLaw.{Due, due_on, due_after}
 use Rattle.run_laws.proofs.LaneDues.{answer_of-empties}

@@ -9,7 +9,7 @@ use Rattle.pool_law.specs.Same.{same_object}
 use Rattle.pool_law.specs.Logs.{Logs, History, dids, own, own_note, numbered, log_of, IsHistory}
 use Rattle.run_laws.proofs.Sums.{sum_by, sum_over}
 use Rattle.run_laws.proofs.RegroupLaw.{weight_at, weights-one}
-use Rattle.pool_law.proofs.SameLemmas.{and-first, and-second}
+use Rattle.pool_law.proofs.SameLemmas.{same_object-is}
 use Rattle.pool_law.proofs.PatternLemmas.{same_object-refl}
 use Rattle.pool_law.proofs.HistoryLemmas.{over_lanes, over-same, over-add, AreOf, are-of, lane-inside}
 use Rattle.std.proofs.lemmas.Bool.{cond_both}
@@ -68,20 +68,6 @@ pub regroup : (o : Object) (f : Weight) (logs : Logs) (h : History) → IsHistor
 regroup o f logs h whole =
     over-lanes o f h 0 logs (are-of o logs h whole)
     ∙ totals-numbered f 0 (length logs) 1 h (λ j e is. (omega arith, omega (arith, lane-inside o logs h whole j e is)))
-
-pub same_object-is : (a b : Object) → same_object a b ≡ true → a ≡ b
-same_object-is (Object.Arena a) (Object.Arena b) e = ap Object.Arena (eqb-true a b e)
-same_object-is (Object.Cache l c) (Object.Cache m d) e =
-    let lane : l ≡ m = eqb-true l m (and-first (l == m) (c == d) e) in
-    let class : c ≡ d = eqb-true c d (and-second (l == m) (c == d) e) in
-    λ i. Object.Cache (lane i) (class i)
-same_object-is (Object.Bin a) (Object.Bin b) e = ap Object.Bin (eqb-true a b e)
-same_object-is (Object.Mail l c) (Object.Mail m d) e =
-    let lane : l ≡ m = eqb-true l m (and-first (l == m) (c == d) e) in
-    let class : c ≡ d = eqb-true c d (and-second (l == m) (c == d) e) in
-    λ i. Object.Mail (lane i) (class i)
-same_object-is (Object.Root a) (Object.Root b) e = ap Object.Root (eqb-true a b e)
-same_object-is _ _ e = absurd (cc e)
 
 -- a note at the object stands in its history at its number
 pub own-at : (o : Object) (log : List Note) (i k : ℕ) (d : Did) → slice_get log i ≡ Some (At o k d) → (j : ℕ) × (slice_get (own o log) j ≡ Some (k, d))

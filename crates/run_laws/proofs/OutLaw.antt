@@ -1,8 +1,8 @@
 -- What the arenas have out at the end of a run is what the live roots use.
 use Rattle.std.proofs.Common.{⊎_elim, inl, inr, ◌≡◌, ℕ, zero, suc, ◌+◌, ◌≤◌, List, [], ◌∷◌, ◌++◌, length, refl, sym, ap, subst, arith, Bool, true, false, Some, None, ◌∙◌, eqb-true, ltb-true}
-use Rattle.std.specs.Prelude.{◌≢◌, ◌<◌, ◌==◌, ◌&&◌, ◌%◌, not, filter, map, IsTrue, Option, option_and_then, slice_get}
+use Rattle.std.specs.Prelude.{nat_lt, ◌≢◌, ◌<◌, ◌==◌, ◌&&◌, ◌%◌, not, filter, map, IsTrue, Option, option_and_then, slice_get}
 use Rattle.std.specs.List.{list_all, list_any}
-use Rattle.size_classes.specs.Sizes.{Geometry}
+use Rattle.size_classes.specs.Sizes.{Geometry, class_count}
 use Rattle.pool_law.specs.declared.id.RootId.{RootId}
 use Rattle.pool_law.specs.declared.id.RegionId.{RegionId}
 use Rattle.pool_law.specs.declared.note.Object.{Object}
@@ -98,7 +98,9 @@ module _ (g : Geometry) (number : ℕ) (r : RegionId) where
   step-out a b (Take class region) holds e =
       let t : (x : RegionId) × (same_region region x ≡ true) × (b.out ≡ a.out ++ x ∷ []) = take_note-out g number a b class region holds e in
       omega (arith, ap (out_times r) t.2, out-append r a.out (t.0 ∷ []), ap (λ x. one_of (same_taking x r)) (same_region-is region t.0 t.1))
-  step-out a b (Full class) holds e = go (take g number a class 0) e
+  step-out a b (Full class) holds e =
+      cond_both (nat_lt class (class_count g)) (if_none (take g number a class 0) a) None (λ z. z ≡ Some b → Balanced a (Full class) b)
+      (λ _ is. go (take g number a class 0) is) (λ _ is. absurd (cc is)) e
     where
       go : (x : Option (RegionId × Arena)) → if_none x a ≡ Some b → Balanced a (Full class) b
       go None is = let same : a ≡ b = cc is in omega (arith, ap (λ x. out_times r x.out) same)

@@ -2,9 +2,10 @@
 use Rattle.std.proofs.Common.{◌≡◌, ℕ, zero, suc, ◌+◌, ◌*◌, ◌/◌, ◌<◌, ◌≤◌, List, [], ◌∷◌, ◌++◌, map, length, cond, Bool, true, false, sym, refl, ap, ap₂, ◌∙◌, subst, arith, eqb-true, Some, None}
 use Rattle.std.specs.Prelude.{⊤, ◌==◌, ◌&&◌, ◌||◌, not, nat_lt, nat_le, min, if◌then◌else◌, Option, option_map, count_by, filter}
 use Rattle.std.specs.List.{list_any}
+use Rattle.std.proofs.lemmas.Bool.{cond_both}
 use Rattle.std.proofs.lemmas.List.Sums.{sum_by-cons}
 use native.Mathlib.Nat.{mul-add-div_right, div-eq_of_lt}
-use Rattle.size_classes.specs.Sizes.{below, Geometry}
+use Rattle.size_classes.specs.Sizes.{below, Geometry, class_count}
 use Rattle.pool_law.specs.declared.run.Shape.{Shape}
 use Rattle.pool_law.specs.declared.id.Parcel.{Parcel}
 use Rattle.pool_law.specs.declared.id.RootId.{RootId}
@@ -205,7 +206,9 @@ give_told g a x y r of e =
 
 pub arena_told : (g : Geometry) (a : ℕ) (x y : ArenaState) (d : Did) → OfArena a x.out → arena_step g a x d ≡ Some y → IsArenaStep a x d y × OfArena a y.out
 arena_told g a x y (Take c r) of e = take_told g a x y c r of e
-arena_told g a x y (Full c) of e = full_told g a x y c of (take g a x c 0) e
+arena_told g a x y (Full c) of e =
+    cond_both (nat_lt c (class_count g)) (if_none (take g a x c 0) x) None (λ z. z ≡ Some y → IsArenaStep a x (Full c) y × OfArena a y.out)
+    (λ _ is. full_told g a x y c of (take g a x c 0) is) (λ _ is. absurd (cc is)) e
 arena_told g a x y (Give r) of e = give_told g a x y r of e
 arena_told g a x y d of e = absurd (cc e)
 
