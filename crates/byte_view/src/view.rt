@@ -37,7 +37,7 @@ impl View {
         }
     }
 
-    /// A view on `n` bytes of this view from `i` on, all of them readable. It shares the root's count.
+    /// A view on `n` bytes of this view from `i` on, all readable. It shares the root's count.
     pub fn slice(&self, i: u32, n: u32) -> Result<View, RangeNo>
         ensures succeeds { IsOk result ↔ IsTrue (in_range self.now.at i n) }
         ensures ok { IfOk result (λ view. view.at ≡ slice_of self.now.at i n) }
@@ -87,7 +87,8 @@ impl View {
         Ok((start, n))
     }
 
-    /// Where the next `n` bytes to write lie in the root. The writer moves past them; no root grows.
+    /// Where the next `n` bytes to write lie in the root. The writer moves past them.
+    /// No root grows.
     pub fn write_range(&mut self, n: u32) -> Result<(u32, u32), RangeNo>
         ensures succeeds { IsOk result ↔ IsTrue (can_write self.old.at n) }
         ensures ok { IfOk result (λ range. range ≡ (root_index self.old.at self.old.at.writer, n)) }

@@ -1,5 +1,5 @@
 -- What a bin keeps, and why a handle of it has room.
-use Rattle.std.proofs.Common.{◌≡◌, ℕ, zero, suc, ◌+◌, ◌*◌, ◌/◌, ◌<◌, ◌≤◌, ⊎_elim, List, [], ◌∷◌, ◌++◌, length, refl, sym, ap, subst, arith, true, false, nat_eq, ◌∙◌, eqb-true, length-append}
+use Rattle.std.proofs.Common.{◌≡◌, ℕ, zero, suc, ◌+◌, ◌*◌, ◌/◌, ◌<◌, ◌≤◌, ⊎_elim, List, [], ◌∷◌, ◌++◌, length, refl, sym, ap, subst, arith, Bool, true, false, nat_eq, ◌∙◌, eqb-true, length-append}
 use Rattle.std.specs.Prelude.{◌==◌, ◌&&◌, ◌||◌}
 use Rattle.std.specs.List.{IsDistinct, list_all, list_any}
 use Rattle.std.proofs.lemmas.Bool.{cases_Bool}
@@ -57,13 +57,15 @@ member-own : (lane handles q : ℕ) (hs : List HandleValue) →
     list_all (is_of lane handles) hs ≡ true → list_any (nat_eq q) (places_in hs) ≡ true → q / handles ≡ lane
 member-own lane handles q [] all there = absurd (cc there)
 member-own lane handles q (h ∷ hs) all there =
-    let first : is_of lane handles h ≡ true = and-first (is_of lane handles h) (list_all (is_of lane handles) hs) all in
-    let rest : list_all (is_of lane handles) hs ≡ true = and-second (is_of lane handles h) (list_all (is_of lane handles) hs) all in
+    let test : HandleValue → Bool = is_of lane handles in
+    let first : test h ≡ true = and-first (test h) (list_all test hs) all in
+    let rest : list_all test hs ≡ true = and-second (test h) (list_all test hs) all in
     let own : (h.place / handles == lane) ≡ true = and-second (h.lane == lane) (h.place / handles == lane) first in
     ⊎_elim
     (λ same. ap (λ x. x / handles) (eqb-true q h.place same) ∙ eqb-true (h.place / handles) lane own)
     (λ other.
-    let further : list_any (nat_eq q) (places_in hs) ≡ true = sym (ap (λ b. b || list_any (nat_eq q) (places_in hs)) other) ∙ there in
+    let further : list_any (nat_eq q) (places_in hs) ≡ true =
+    sym (ap (λ b. b || list_any (nat_eq q) (places_in hs)) other) ∙ there in
     member-own lane handles q hs rest further)
     (cases_Bool (nat_eq q h.place))
 
@@ -84,7 +86,8 @@ has_room lane handles hs h some_there b own away =
     let within : length (places_in hs ++ h.place ∷ []) ≤ handles =
     different-within (lane * handles) handles (places_in hs ++ h.place ∷ []) (distinct-more hs h.place b.distinct away)
     (λ q there.
-    let listed_so : list_any (nat_eq q) (places_in (hs ++ h ∷ [])) ≡ true = ap (list_any (nat_eq q)) (places-more hs h) ∙ there in
+    let listed_so : list_any (nat_eq q) (places_in (hs ++ h ∷ [])) ≡ true =
+    ap (list_any (nat_eq q)) (places-more hs h) ∙ there in
     place-within lane handles q some_there (member-own lane handles q (hs ++ h ∷ []) all listed_so)) in
     omega (arith, within, length-append (places_in hs) (h.place ∷ []), length-map hs (λ x. x.place))
 

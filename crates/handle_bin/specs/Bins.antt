@@ -30,7 +30,8 @@ handles_below lane handles n = map (λ k. new_handle lane (lane * handles + k)) 
 
 -- the bin of a lane with all of its handles
 abbrev pub full_bin : ℕ → ℕ → BinValue
-full_bin lane handles = record { lane = lane; handles = handles; ready = handles_below lane handles handles }
+full_bin lane handles =
+    record { lane = lane; handles = handles; ready = handles_below lane handles handles }
 
 -- whether a handle is of this lane
 abbrev pub is_of : ℕ → ℕ → HandleValue → Bool

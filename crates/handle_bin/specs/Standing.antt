@@ -12,7 +12,8 @@ use Rattle.handle_bin.specs.Bins.{BinValue, places_in}
 
 -- what the notes make of a new bin of this lane
 abbrev pub bin_told : ℕ → ℕ → List Noted → Option (List ℕ)
-bin_told lane handles notes = after (bin_step lane handles) (new_bin lane handles) (noted_dids notes)
+bin_told lane handles notes =
+    after (bin_step lane handles) (new_bin lane handles) (noted_dids notes)
 
 -- the notes make this bin of a new one: it has no memory, so under any grounds
 pub record StandsFor (grounds : Grounds) (notes : List Noted) (b : BinValue) : Type 0 where
@@ -24,11 +25,13 @@ MayFollow b notes n = IsSome (bin_told b.lane b.handles (notes ++ n ∷ []))
 
 -- of two lists for which a bin stands, the same notes may follow
 pub MayFollow-decided : (grounds : Grounds) (b : BinValue) (xs ys : List Noted) →
-    StandsFor grounds xs b → StandsFor grounds ys b → (n : Noted) → MayFollow b xs n → MayFollow b ys n
+    StandsFor grounds xs b → StandsFor grounds ys b →
+    (n : Noted) → MayFollow b xs n → MayFollow b ys n
 MayFollow-decided grounds b xs ys left right n may =
     let step : List ℕ → Did → Option (List ℕ) = bin_step b.lane b.handles in
     let new : List ℕ = new_bin b.lane b.handles in
-    let alike : bin_told b.lane b.handles (xs ++ n ∷ []) ≡ bin_told b.lane b.handles (ys ++ n ∷ []) =
+    let told : List Noted → Option (List ℕ) = bin_told b.lane b.handles in
+    let alike : told (xs ++ n ∷ []) ≡ told (ys ++ n ∷ []) =
     after-noted step new xs n
     ∙ ap (option_and_then (λ places. step places n.did)) (left.told ∙ sym right.told)
     ∙ sym (after-noted step new ys n) in

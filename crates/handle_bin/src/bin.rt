@@ -34,7 +34,8 @@ impl Bin {
     ghost use Rattle.pool_law.specs.declared.note.Did.{Did};
     ghost use Rattle.handle_bin.specs.Bins.{Makes, IsHomeless, full_bin};
 
-    /// The bin of a lane with all of its handles, in ascending order of place. All memory is taken here.
+    /// The bin of a lane with all of its handles, in ascending order of place.
+    /// All memory is taken here.
     #[tactic(auto, using(crate::proofs::BinLaws::full_is_ready))]
     pub fn new(alloc: Global, lane: u32, handles: u32) -> Result<Bin, AllocError>
         requires lane { lane < 16 }

@@ -8,7 +8,8 @@ use std::marker::Model;
 
 /// The right to one root place, with the tracker of the roots there (Netty: `Recycler.Handle`).
 ///
-/// It must be spent: it goes back to the bin that made it. The tracker is behind a box, so it is small to move.
+/// It must be spent: it goes back to the bin that made it. It is small to move, since its tracker
+/// is behind a box.
 pub struct Handle {
     lane: u32,
     place: u32,

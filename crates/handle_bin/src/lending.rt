@@ -1,4 +1,5 @@
-//! The tracker of a handle, lent. Its clause names the row of `Handle`, which the file of the struct can't import.
+//! The tracker of a handle, lent.
+//! Its clause names the row of `Handle`, which the file that declares the struct can't import.
 
 ghost use Rattle.std.specs.Prelude.{◌≡◌};
 ghost use Rattle.std.specs.Borrow.{sem};

@@ -14,7 +14,8 @@ pub record Sampling : Type 0 where
 
 -- the sampler of a lane that had no birth
 abbrev pub new_sampler : ℕ → Level → ℕ → Sampling
-new_sampler lane level interval = record { lane = lane; level = level; interval = interval; births = 0 }
+new_sampler lane level interval =
+    record { lane = lane; level = level; interval = interval; births = 0 }
 
 -- the sampler after one more birth
 abbrev pub with_birth : Sampling → Sampling

@@ -21,7 +21,8 @@ impl Model for Sampler {
 
     ghost Value = { Sampling };
 
-    ghost view = { λ s. record { lane = s.lane; level = s.level; interval = s.interval; births = s.births } };
+    ghost view = { λ s.
+        record { lane = s.lane; level = s.level; interval = s.interval; births = s.births } };
 
     ghost invariant = { λ s. 1 ≤ s.interval };
 }
@@ -29,7 +30,8 @@ impl Model for Sampler {
 impl Sampler {
     ghost use Rattle.leak_records.specs.Records.{new_sampler, with_birth, watch_of};
 
-    /// The sampler of a lane that had no birth. By interval it samples the first of each `interval` births.
+    /// The sampler of a lane that had no birth. Where it goes by the interval, it samples the first
+    /// of each `interval` births.
     pub fn new(lane: u32, level: Level, interval: u32) -> Sampler
         requires { 1 ≤ interval }
         ensures { result ≡ new_sampler lane level interval }

@@ -72,7 +72,8 @@ impl Tracker {
         ensures access { self.new ≡ with_access self.old access }
 
         // So it has what is kept of all accesses since it was started.
-        ensures records { (all : List Access) → HasRecords all self.old → HasRecords (all ++ access ∷ []) self.new }
+        ensures records { (all : List Access) → HasRecords all self.old →
+            HasRecords (all ++ access ∷ []) self.new }
     {
         if !self.is_keeping() {
             return;

@@ -59,7 +59,8 @@ of_class lane class (d ∷ ds) s c e =
   where
     go : (own : Bool) (o : Option Cache) →
         option_and_then (λ t. after (lane_cache_step lane class) t ds) (if own then o else None) ≡ Some c →
-        ((t : Cache) → after (lane_cache_step lane class) t ds ≡ Some c → after (cache_step (cache_capacity class)) t ds ≡ Some c) →
+        ((t : Cache) → after (lane_cache_step lane class) t ds ≡ Some c →
+        after (cache_step (cache_capacity class)) t ds ≡ Some c) →
         option_and_then (λ t. after (cache_step (cache_capacity class)) t ds) o ≡ Some c
     go true None is rest = absurd (cc is)
     go true (Some t) is rest = rest t is

@@ -14,12 +14,18 @@ pub record Queue : Type 0 where
 
 -- an empty cache that holds as many regions
 abbrev pub new_queue : ℕ → Queue
-new_queue capacity = record { regions = []; served = 0; quota = 0; closed = false; capacity = capacity }
+new_queue capacity =
+    record { regions = []; served = 0; quota = 0; closed = false; capacity = capacity }
 
 -- the cache by the names of its regions
 abbrev pub cache_of : Queue → Cache
 cache_of q =
-    record { regions = map (λ r. r.id) q.regions; served = q.served; quota = q.quota; closed = q.closed }
+    record {
+      regions = map (λ r. r.id) q.regions;
+      served = q.served;
+      quota = q.quota;
+      closed = q.closed;
+    }
 
 -- the note may stand, and makes the new cache of the old one
 pub record Makes (old : Queue) (did : Did) (new : Queue) : Type 0 where

@@ -32,10 +32,12 @@ MayFollow q notes n = IsSome (cache_told q.capacity (notes ++ n ∷ []))
 
 -- of two lists for which a cache stands, the same notes may follow
 pub MayFollow-decided : (grounds : Grounds) (q : Queue) (xs ys : List Noted) →
-    StandsFor grounds xs q → StandsFor grounds ys q → (n : Noted) → MayFollow q xs n → MayFollow q ys n
+    StandsFor grounds xs q → StandsFor grounds ys q →
+    (n : Noted) → MayFollow q xs n → MayFollow q ys n
 MayFollow-decided grounds q xs ys left right n may =
     let step : Cache → Did → Option Cache = cache_step q.capacity in
-    let alike : cache_told q.capacity (xs ++ n ∷ []) ≡ cache_told q.capacity (ys ++ n ∷ []) =
+    let told : List Noted → Option Cache = cache_told q.capacity in
+    let alike : told (xs ++ n ∷ []) ≡ told (ys ++ n ∷ []) =
     after-noted step new_cache xs n
     ∙ ap (option_and_then (λ c. step c n.did)) (left.told ∙ sym right.told)
     ∙ sym (after-noted step new_cache ys n) in

@@ -7,7 +7,8 @@ use pool_law::{CacheNo, Region};
 use std::alloc::{AllocError, Global};
 use std::marker::Model;
 
-/// Regions that wait for their next use, first in, first out (Netty: `PoolThreadCache.MemoryRegionCache`).
+/// Regions that wait for their next use, first in, first out.
+/// (Netty: `PoolThreadCache.MemoryRegionCache`.)
 ///
 /// It must be spent. Each call but `new` and `leave` is one note of the cache's history.
 pub struct Cache {
@@ -64,12 +65,13 @@ impl Cache {
         }
     }
 
-    /// Takes the front region, and counts it as served. None comes exactly where the cache is empty.
+    /// Takes the front region, and counts it as served. None comes exactly where there is none.
     pub fn pop(&mut self) -> Option<Region>
         requires { self.old.quota ≡ 0 }
         ensures some { IfSome result (λ r. self.old.regions ≡ r ∷ self.new.regions) }
         ensures hit { IfSome result (λ r. Makes self.old (Hit r.id) self.new) }
-        ensures rest { self.new ≡ record self.old { regions = self.new.regions; served = self.new.served } }
+        ensures rest { self.new ≡
+            record self.old { regions = self.new.regions; served = self.new.served } }
         ensures none { IfNone result (self.new ≡ self.old) }
         ensures miss { IfNone result (Makes self.old Miss self.new) }
     {
@@ -97,7 +99,8 @@ impl Cache {
         requires { 0 < self.old.quota }
         ensures front { self.old.regions ≡ result ∷ self.new.regions }
         ensures shed { Makes self.old (Shed result.id) self.new }
-        ensures rest { self.new ≡ record self.old { regions = self.new.regions; quota = self.old.quota - 1 } }
+        ensures rest { self.new ≡
+            record self.old { regions = self.new.regions; quota = self.old.quota - 1 } }
     {
         let Some(front) = self.regions.pop_front() else {
             unreachable!()

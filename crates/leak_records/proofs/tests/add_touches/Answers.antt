@@ -14,5 +14,8 @@ add-requires c =
 pub loop-lane-preserved : goal.loop-lane-preserved
 loop-lane-preserved c =
     let so_far = c.loop-lane.invariant in
-    let touch = Touch c.loop-lane.lane in
-    (so_far.0 ++ touch ∷ [], c.add.ensures.records so_far.0 so_far.1, omega (arith, length-append so_far.0 (touch ∷ []), so_far.2))
+    let touch = Touch c.loop-lane.lane in (
+      so_far.0 ++ touch ∷ [],
+      c.add.ensures.records so_far.0 so_far.1,
+      omega (arith, length-append so_far.0 (touch ∷ []), so_far.2),
+    )

@@ -12,7 +12,8 @@ invariant_of-self c =
     let old = c.self.inside in
     let kept = c.self.invariant in
     let homeless : IsHomeless (the_view old) h = subst (λ b. IsHomeless b h) (sym c.self.view_is) c.requires in
-    let put : c.try_push_back-placed.new.self ≡ buffer (old.ready.items ++ h ∷ []) old.ready.capacity = c.in-Ok.ensures.ok in
+    let put : c.try_push_back-placed.new.self ≡ buffer (old.ready.items ++ h ∷ []) old.ready.capacity =
+    c.in-Ok.ensures.ok in
     record {
       some_there = kept.some_there;
       capacity = ap (λ b. b.capacity) put ∙ kept.capacity;
