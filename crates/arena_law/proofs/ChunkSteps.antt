@@ -1,7 +1,7 @@
 -- What a taking and a giving do to the slots of one chunk.
 use Rattle.std.proofs.Common.{⊎_elim, ◌≡◌, ◌≢◌, inl, inr, ℕ, zero, suc, ◌+◌, ◌-◌, ◌*◌, ◌<◌, ◌≤◌, List, [], ◌∷◌, length, refl, sym, ap, subst, arith, Bool, true, false, Some, None, ◌∙◌}
 use Rattle.std.proofs.lemmas.List.Quantifiers.{position-Some}
-use Rattle.std.specs.Prelude.{not, get_or, ◌/◌, ◌%◌, ◌^◌, nat_lt, ◌⊎◌, slice_get, Option, unwrap_or, option_map}
+use Rattle.std.specs.Prelude.{not, get_or, ◌/◌, ◌%◌, ◌^◌, nat_lt, ◌⊎◌, slice_get, Option, unwrap_or}
 use Rattle.size_classes.specs.Sizes.{Geometry, page_of, size_at}
 use Rattle.size_classes.specs.Pages.{Run, Free, Used, pages_in, total_pages, NoneEmpty, taken_at, given_at, replaced, front_used, freed, rest_of}
 use Rattle.size_classes.specs.Runs.{Begins, EachRun}

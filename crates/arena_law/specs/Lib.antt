@@ -1,3 +1,4 @@
 pub mod Slots
+pub mod Orderly
 pub mod Returns
 pub mod Takings
