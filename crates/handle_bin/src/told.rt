@@ -9,7 +9,7 @@ impl Told for Bin {
 
     type Note = Noted;
 
-    ghost stands = { StandsFor };
+    ghost stands = { λ object. StandsFor };
 
     ghost may_follow = { MayFollow };
 
@@ -18,5 +18,5 @@ impl Told for Bin {
 
     ghost losses = { λ place generation n. 0 };
 
-    ghost decides = { MayFollow-decided };
+    ghost decides = { λ object. MayFollow-decided };
 }

@@ -22,6 +22,7 @@ use Rattle.pool_table.specs.Hands.{HasEnded, InHand, IsBearing, Expects, MayEnte
 use Rattle.pool_table.proofs.Presence.{next_birth}
 use Rattle.pool_law.specs.NotedHistories.{MayNote}
 use Rattle.pool_table.specs.Sound.{IsSound, IsMarked, WasHeld}
+use Rattle.table_law.specs.Measures.{measures_of}
 use Rattle.pool_table.specs.Sections.{IsInside, StandsFor}
 use Rattle.pool_table.specs.Seats.{IsMail}
 use Rattle.pool_table.specs.Steps.{IsFree}
@@ -45,7 +46,7 @@ unmarked_mail (Bin b) m k = k
 unmarked_mail (Mail f t) m k = k
 unmarked_mail (Root p) m k = m
 
-module _ {H : Type 0} (stands : Grounds → List Noted → H → Type 0) where
+module _ {H : Type 0} (stands : List ℕ → Grounds → List Noted → H → Type 0) where
   pub claims_as : (l key l' : Layout) (o o' : Object) (slots slot id : ℕ) (me : Me (Option H) SeatView) → key ≡ l → slots ≡ objects_of l.shape → slot ≡ word_of l.shape o → o' ≡ o → l' ≡ l → IsObjectOf l.shape o → IsFree me → 0 < me.0.turns → ((p : ℕ) → o ≡ Root p → MayEnter p me.0)
       → Allows (IsSound stands key) slots id me slot (λ n. bit_or n 1) (claims stands l' o' (step slots slot 1 0 none) me)
   claims_as l key l' o o' slots slot id me ke se ie oe le fits out turn may =
@@ -58,14 +59,14 @@ module _ {H : Type 0} (stands : Grounds → List Noted → H → Type 0) where
 
   -- the seat as it is once the home value is back in the slot
   pub dones_as : (l key : Layout) (o : Object) (slots slot word id id' : ℕ) (me me' : Me (Option H) SeatView) (h : List Noted) (home : H) (note : Noted) → key ≡ l → slots ≡ objects_of l.shape → word ≡ word_of l.shape o → IsInside l.shape me o slot h → id' ≡ id → me' ≡ (me.0, (slot, Some home) ∷ [])
-      → 0 < me.0.turns → MayNote l.shape me.0.own.number o note.did → PutsDown me.0 note.did → IsHistory l.shape o (h ++ noted_by me.0.own.number note ∷ []) → StandsFor stands me.0 (h ++ noted_by me.0.own.number note ∷ []) home
+      → 0 < me.0.turns → MayNote l.shape me.0.own.number o note.did → PutsDown me.0 note.did → IsHistory l.shape o (h ++ noted_by me.0.own.number note ∷ []) → StandsFor stands (measures_of l.shape o) me.0 (h ++ noted_by me.0.own.number note ∷ []) home
       → Allows (IsSound stands key) slots id' me' word (λ n. (n + 1) % 2 ^ 64) (dones note (step slots word 1 0 none) me')
   dones_as l key o slots slot word id id' me me' h home note ke se we inside ide is turn may hands accepted stands_for =
       subst (λ (y : Layout × ℕ × ℕ × ℕ × Me (Option H) SeatView). Allows (IsSound stands y.0) y.1 y.2 y.4 y.3 (λ n. (n + 1) % 2 ^ 64) (dones note (step y.1 y.3 1 0 none) y.4)) (λ q. (sym ke q, sym se q, sym ide q, sym we q, sym is q))
       (dones_allowed stands l id (me.0, (slot, Some home) ∷ []) o slot h home note inside.object inside.slot_is inside.inside refl turn may hands accepted stands_for)
 
   pub idles_as : (l key : Layout) (o : Object) (slots slot word id id' : ℕ) (me me' : Me (Option H) SeatView) (h : List Noted) (home : H) → key ≡ l → slots ≡ objects_of l.shape → word ≡ word_of l.shape o → IsInside l.shape me o slot h → id' ≡ id → me' ≡ (me.0, (slot, Some home) ∷ [])
-      → IsMail o → StandsFor stands me.0 h home
+      → IsMail o → StandsFor stands (measures_of l.shape o) me.0 h home
       → Allows (IsSound stands key) slots id' me' word (λ n. (n + (2 ^ 64 - 1)) % 2 ^ 64) (idles (step slots word 1 0 none) me')
   idles_as l key o slots slot word id id' me me' h home ke se we inside ide is mail stands_for =
       subst (λ (y : Layout × ℕ × ℕ × ℕ × Me (Option H) SeatView). Allows (IsSound stands y.0) y.1 y.2 y.4 y.3 (λ n. (n + (2 ^ 64 - 1)) % 2 ^ 64) (idles (step y.1 y.3 1 0 none) y.4)) (λ q. (sym ke q, sym se q, sym ide q, sym we q, sym is q))
@@ -77,7 +78,7 @@ module _ {H : Type 0} (stands : Grounds → List Noted → H → Type 0) where
   pub joins_as : (l key : Layout) (id other : ℕ) (v w : SeatView) → key ≡ l → v.inside ≡ None → w.inside ≡ None → Joins (IsSound stands key) id v other w (joined v w) (blank None)
   joins_as l key id other v w ke vo wo = subst (λ (k : Layout). Joins (IsSound stands k) id v other w (joined v w) (blank None)) (sym ke) (joins_allowed stands l id other v w vo wo)
 
-module _ {H : Type 0} (stands : Grounds → List Noted → H → Type 0) (l : Layout) (o : Object) where
+module _ {H : Type 0} (stands : List ℕ → Grounds → List Noted → H → Type 0) (l : Layout) (o : Object) where
   -- an even word was found
   pub got_in : (mark : Bool) (s : Step (Option H)) (me : Me (Option H) SeatView) (found : ℕ) (after : Me (Option H) SeatView) → MatchBool mark (marks_claims stands l o s me found after) (claims stands l o s me found after) → found % 2 ≢ 1 → GotIn stands l o (home_of l.shape o) me found after
   got_in true s me found after told even = told.0 (omega (arith, even))
@@ -92,7 +93,7 @@ module _ {H : Type 0} (stands : Grounds → List Noted → H → Type 0) (l : La
   pub took : (word slot found : ℕ) (me after : Me (Option H) SeatView) → me.1 ≡ [] → slot ≡ word → GotIn stands l o word me found after → (x : Option H) × (after.1 ≡ (slot, x) ∷ rest after.1)
   took word slot found me after empty is g = let e : after.1 ≡ (slot, Some g.1) ∷ [] = g.4 ∙ (λ q. (sym is q, Some g.1) ∷ empty q) in (Some g.1, e ∙ (λ q. (slot, Some g.1) ∷ rest (sym e q)))
 
-module _ {H : Type 0} (stands : Grounds → List Noted → H → Type 0) (l : Layout) where
+module _ {H : Type 0} (stands : List ℕ → Grounds → List Noted → H → Type 0) (l : Layout) where
   pub ref_within : (place word words : ℕ) → place < l.shape.lanes * l.shape.handles → word ≡ count_word_of l.shape place → words ≡ words_of l.shape → word < words
   ref_within place word words lt is are = subst (λ (y : ℕ × ℕ). y.0 < y.1) (λ q. (sym is q, sym are q)) (count_word l.shape place lt)
 

@@ -11,6 +11,7 @@ use Rattle.atomic_table.proofs.Lists.{at_map}
 use Rattle.step_law.proofs.Changes.{each_at, sum_at, sum_two, sum_only, at_mapped}
 use Rattle.pool_law.specs.declared.note.Noted.{Noted}
 use Rattle.pool_law.specs.Homes.{home_of, objects_of}
+use Rattle.table_law.specs.Measures.{measures_of}
 use Rattle.pool_table.specs.Words.{listed_of, word_at, word_of, count_word_of}
 use Rattle.pool_table.proofs.Words.{object_listed, count_listed}
 use Rattle.pool_table.specs.declared.views.Entry.{Entry}
@@ -32,7 +33,7 @@ use Rattle.pool_table.proofs.Tables.{none_counted}
 use Rattle.pool_table.proofs.Openings.{empty_strands, counts_none}
 use Rattle.pool_table.proofs.Moves.{under}
 
-module _ {H : Type 0} (stands : Grounds → List Noted → H → Type 0) (l : Layout) where
+module _ {H : Type 0} (stands : List ℕ → Grounds → List Noted → H → Type 0) (l : Layout) where
   abbrev St : Type 0
   St = State (Option H) SeatView
 
@@ -101,6 +102,6 @@ module _ {H : Type 0} (stands : Grounds → List Noted → H → Type 0) (l : La
               told = subst (λ (z : ℕ). All (IsTold o h z) (face l.shape i v).parts) lim told;
               once = λ j lt. tot (is_numbered (j + 1)) ∙ k.once j lt;
               as_many = tot is_at ∙ k.as_many;
-              home_is = (hv.0, there i (Some hv.0) hv.1, under v.grounds r.grounds (λ g. stands g h hv.0) fine.grounds_are hv.2);
+              home_is = (hv.0, there i (Some hv.0) hv.1, under v.grounds r.grounds (λ g. stands (measures_of l.shape o) g h hv.0) fine.grounds_are hv.2);
             };
       }

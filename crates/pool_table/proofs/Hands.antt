@@ -72,7 +72,7 @@ module _ (s : Shape) (p : ℕ) (w : Did → ℕ) (bound : (d : Did) → w d ≤ 
       let c = in_strands (parts_of v) (All-head (λ (v : SeatView). All (λ (q : Part). All (Stands s q.number) q.notes) (parts_of v)) v vs all) in
       let d = in_faces vs (All-tail (λ (v : SeatView). All (λ (q : Part). All (Stands s q.number) q.notes) (parts_of v)) v vs all) in omega (arith, a, b, c, d)
 
-module _ {H : Type 0} (stands : Grounds → List Noted → H → Type 0) (l : Layout) where
+module _ {H : Type 0} (stands : List ℕ → Grounds → List Noted → H → Type 0) (l : Layout) where
   abbrev St : Type 0
   St = State (Option H) SeatView
 

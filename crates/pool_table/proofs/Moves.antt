@@ -22,6 +22,7 @@ use Rattle.pool_law.specs.declared.note.Noted.{Noted}
 use Rattle.pool_law.specs.declared.note.Object.{Object}
 use Rattle.pool_law.specs.declared.note.Object.TheVariants.{Root}
 use Rattle.pool_law.specs.Homes.{home_of, objects_of, IsObjectOf}
+use Rattle.table_law.specs.Measures.{measures_of}
 use Rattle.pool_table.specs.Words.{word_of}
 use Rattle.table_law.specs.Histories.{IsHistory}
 use Rattle.pool_law.specs.Naming.{noted_by}
@@ -79,7 +80,7 @@ unmarked_below b (At o j m) = tt
 unmarked_below b (Ref r d) = tt
 unmarked_below b (Busy a) = tt
 
-module _ {H : Type 0} (stands : Grounds → List Noted → H → Type 0) (l : Layout) where
+module _ {H : Type 0} (stands : List ℕ → Grounds → List Noted → H → Type 0) (l : Layout) where
   -- a view in no section, as an object sees it
   outside_face : (i : ℕ) (v : SeatView) → v.inside ≡ None → face l.shape i v ≡ record { parts = map (strand l.shape i) (parts_of v); inside = None }
   outside_face i v e = ap (λ (x : Option Inside). record { parts = map (strand l.shape i) (parts_of v); inside = inside_at l.shape i x }) e
@@ -210,7 +211,7 @@ module _ {H : Type 0} (stands : Grounds → List Noted → H → Type 0) (l : La
             (let e : word ≡ 2 * n = omega (arith, w0) in e),
             refl,
             refl,
-            record { accepted = k.accepted; stands_for = under v.grounds r.grounds (λ g. stands g h hv.0) fine.grounds_are hv.2; short = short stands l s r o fits; root = tells_root stands l s r id v o fits at; bin = hand_bin stands l s r id v o fits at; arena = arena_tells stands l s r id v o fits at; own = told.own },
+            record { accepted = k.accepted; stands_for = under v.grounds r.grounds (λ g. stands (measures_of l.shape o) g h hv.0) fine.grounds_are hv.2; short = short stands l s r o fits; root = tells_root stands l s r id v o fits at; bin = hand_bin stands l s r id v o fits at; arena = arena_tells stands l s r id v o fits at; own = told.own },
           ),
         ),
       )
@@ -394,7 +395,7 @@ module _ {H : Type 0} (stands : Grounds → List Noted → H → Type 0) (l : La
 
   -- the note of a section
   notes_it : (id : ℕ) (v : SeatView) (o : Object) (fits : IsObjectOf l.shape o) (h : List Noted) (home : H) (nd : Noted) → v.inside ≡ Some (record { object = o; number = length h; history = h }) → 0 < v.turns
-      → nd.lane ≡ v.own.number → Stands l.shape v.own.number (At o (length h + 1) nd) → PutsDown v nd.did → IsHistory l.shape o (h ++ nd ∷ []) → StandsFor stands v (h ++ nd ∷ []) home
+      → nd.lane ≡ v.own.number → Stands l.shape v.own.number (At o (length h + 1) nd) → PutsDown v nd.did → IsHistory l.shape o (h ++ nd ∷ []) → StandsFor stands (measures_of l.shape o) v (h ++ nd ∷ []) home
       → (s : State (Option H) SeatView) (r : IsSound stands l s) → length s.homes ≡ objects_of l.shape → get_elem? s.views id ≡ some v
       → ((slice_index s.words (word_of l.shape o) ≡ 2 * length h + 1) × IsSound stands l (record { words = set s.words (word_of l.shape o) ((slice_index s.words (word_of l.shape o) + 1) % 2 ^ 64); homes = set s.homes (home_of l.shape o) (some (Some home)); views = set s.views id (with_entry v (At o (length h + 1) nd) (v.turns - 1)) }))
   notes_it id v o fits h home nd e turn lane may hands accepted stands_for s r wide at =
@@ -413,10 +414,10 @@ module _ {H : Type 0} (stands : Grounds → List Noted → H → Type 0) (l : La
       let light : IsWeighedSame v w = same_entry v ent (v.turns - 1) (λ f p g. refl) (λ f p. refl) refl in
       let fine : IsView l.shape r.grounds v = each_at (IsView l.shape r.grounds) s.views id v r.views at in
       let wf = entry_here v ent (v.turns - 1) i (eq-eqb i i refl) in
-      let gs : stands r.grounds (h ++ nd ∷ []) home = subst (λ (g : Grounds). stands g (h ++ nd ∷ []) home) (same_grounds v.grounds stands_for.grounds stands_for.known fine.grounds_are) stands_for.stands_for in
+      let gs : stands (measures_of l.shape o) r.grounds (h ++ nd ∷ []) home = subst (λ (g : Grounds). stands (measures_of l.shape o) g (h ++ nd ∷ []) home) (same_grounds v.grounds stands_for.grounds stands_for.known fine.grounds_are) stands_for.stands_for in
       let kept = done_kept stands l.shape r.grounds o faces word (get_elem? s.homes i) id (strand l.shape i v.own) (map (strand l.shape i) v.others) x o nd home k there lane
       (λ q own. alone_in stands l s r id i q v at (sym lane ∙ own))
-      (subst (λ (g : List Noted). IsHistory l.shape o (g ++ nd ∷ [])) hk accepted) (subst (λ (g : List Noted). stands r.grounds (g ++ nd ∷ []) home) hk gs) in
+      (subst (λ (g : List Noted). IsHistory l.shape o (g ++ nd ∷ [])) hk accepted) (subst (λ (g : List Noted). stands (measures_of l.shape o) r.grounds (g ++ nd ∷ []) home) hk gs) in
       let inside : i < length s.homes = (let a = home_within l.shape o fits in let q : ℕ = objects_of l.shape in let a' : i < q = a in let z : ℕ = length s.homes in let w' : z ≡ q = wide in let g : i < z = omega (arith, a', w') in g) in
       let kept' : IsKept stands l.shape r.grounds o (set faces id (face l.shape i w)) ((word + 1) % 2 ^ 64) (get_elem? (set s.homes i (some (Some home))) i) =
       subst (λ (y : Face × ℕ × maybe.Option (maybe.Option (Option H))). IsKept stands l.shape r.grounds o (set faces id y.0) y.1 y.2)
@@ -437,7 +438,7 @@ module _ {H : Type 0} (stands : Grounds → List Noted → H → Type 0) (l : La
 
   pub dones_allowed : (id : ℕ) (me : Me (Option H) SeatView) (o : Object) (slot : ℕ) (h : List Noted) (home : H) (note : Noted) → IsObjectOf l.shape o → slot ≡ home_of l.shape o
       → me.0.inside ≡ Some (record { object = o; number = length h; history = h }) → me.1 ≡ (slot, Some home) ∷ [] → 0 < me.0.turns
-      → MayNote l.shape me.0.own.number o note.did → PutsDown me.0 note.did → IsHistory l.shape o (h ++ noted_by me.0.own.number note ∷ []) → StandsFor stands me.0 (h ++ noted_by me.0.own.number note ∷ []) home
+      → MayNote l.shape me.0.own.number o note.did → PutsDown me.0 note.did → IsHistory l.shape o (h ++ noted_by me.0.own.number note ∷ []) → StandsFor stands (measures_of l.shape o) me.0 (h ++ noted_by me.0.own.number note ∷ []) home
       → Allows (IsSound stands l) (objects_of l.shape) id me (word_of l.shape o) (λ n. (n + 1) % 2 ^ 64) (dones note (step (objects_of l.shape) (word_of l.shape o) 1 0 none) me)
   dones_allowed id me o slot h home note fits is e has turn may hands accepted stands_for =
       subst (λ (y : List (ℕ × Option H)). Allows (IsSound stands l) (objects_of l.shape) id (me.0, y) (word_of l.shape o) (λ n. (n + 1) % 2 ^ 64) (dones note (step (objects_of l.shape) (word_of l.shape o) 1 0 none) (me.0, y)))
@@ -452,7 +453,7 @@ module _ {H : Type 0} (stands : Grounds → List Noted → H → Type 0) (l : La
       ))
 
   -- a mail's section ends with no note
-  idles_it : (id : ℕ) (v : SeatView) (o : Object) (fits : IsObjectOf l.shape o) (h : List Noted) (home : H) → v.inside ≡ Some (record { object = o; number = length h; history = h }) → (IsMarked o → ⊥) → StandsFor stands v h home
+  idles_it : (id : ℕ) (v : SeatView) (o : Object) (fits : IsObjectOf l.shape o) (h : List Noted) (home : H) → v.inside ≡ Some (record { object = o; number = length h; history = h }) → (IsMarked o → ⊥) → StandsFor stands (measures_of l.shape o) v h home
       → (s : State (Option H) SeatView) (r : IsSound stands l s) → length s.homes ≡ objects_of l.shape → get_elem? s.views id ≡ some v
       → ((slice_index s.words (word_of l.shape o) ≡ 2 * length h + 1) × IsSound stands l (record { words = set s.words (word_of l.shape o) ((slice_index s.words (word_of l.shape o) + (2 ^ 64 - 1)) % 2 ^ 64); homes = set s.homes (home_of l.shape o) (some (Some home)); views = set s.views id (left v) }))
   idles_it id v o fits h home e unmarked stands_for s r wide at =
@@ -470,8 +471,8 @@ module _ {H : Type 0} (stands : Grounds → List Noted → H → Type 0) (l : La
       let w : SeatView = left v in
       let fine : IsView l.shape r.grounds v = each_at (IsView l.shape r.grounds) s.views id v r.views at in
       let wf : face l.shape i w ≡ record { parts = map (strand l.shape i) (parts_of v); inside = None } = refl in
-      let gs : stands r.grounds h home = subst (λ (g : Grounds). stands g h home) (same_grounds v.grounds stands_for.grounds stands_for.known fine.grounds_are) stands_for.stands_for in
-      let kept = idled_kept stands l.shape r.grounds o faces word (2 * n) (get_elem? s.homes i) id (map (strand l.shape i) (parts_of v)) x home k w1 there unmarked (subst (λ (g : List Noted). stands r.grounds g home) hk gs) in
+      let gs : stands (measures_of l.shape o) r.grounds h home = subst (λ (g : Grounds). stands (measures_of l.shape o) g h home) (same_grounds v.grounds stands_for.grounds stands_for.known fine.grounds_are) stands_for.stands_for in
+      let kept = idled_kept stands l.shape r.grounds o faces word (2 * n) (get_elem? s.homes i) id (map (strand l.shape i) (parts_of v)) x home k w1 there unmarked (subst (λ (g : List Noted). stands (measures_of l.shape o) r.grounds g home) hk gs) in
       let inside : i < length s.homes = (let a = home_within l.shape o fits in let q : ℕ = objects_of l.shape in let a' : i < q = a in let z : ℕ = length s.homes in let w' : z ≡ q = wide in let g : i < z = omega (arith, a', w') in g) in (
         w1,
         changes stands l s r id v w o ((word + (2 ^ 64 - 1)) % 2 ^ 64) (set s.homes i (some (Some home))) fits at
@@ -488,7 +489,7 @@ module _ {H : Type 0} (stands : Grounds → List Noted → H → Type 0) (l : La
       cc_none y x e f = let g : Some x ≡ None = sym e ∙ f in absurd (cc)
 
   pub idles_allowed : (id : ℕ) (me : Me (Option H) SeatView) (o : Object) (slot : ℕ) (h : List Noted) (home : H) → IsObjectOf l.shape o → slot ≡ home_of l.shape o
-      → me.0.inside ≡ Some (record { object = o; number = length h; history = h }) → me.1 ≡ (slot, Some home) ∷ [] → (IsMarked o → ⊥) → StandsFor stands me.0 h home
+      → me.0.inside ≡ Some (record { object = o; number = length h; history = h }) → me.1 ≡ (slot, Some home) ∷ [] → (IsMarked o → ⊥) → StandsFor stands (measures_of l.shape o) me.0 h home
       → Allows (IsSound stands l) (objects_of l.shape) id me (word_of l.shape o) (λ n. (n + (2 ^ 64 - 1)) % 2 ^ 64) (idles (step (objects_of l.shape) (word_of l.shape o) 1 0 none) me)
   idles_allowed id me o slot h home fits is e has unmarked stands_for =
       subst (λ (y : List (ℕ × Option H)). Allows (IsSound stands l) (objects_of l.shape) id (me.0, y) (word_of l.shape o) (λ n. (n + (2 ^ 64 - 1)) % 2 ^ 64) (idles (step (objects_of l.shape) (word_of l.shape o) 1 0 none) (me.0, y)))

@@ -17,6 +17,7 @@ use Rattle.pool_law.specs.declared.note.Held.{Held}
 use Rattle.pool_law.specs.declared.note.Noted.{Noted}
 use Rattle.pool_law.specs.declared.note.Object.{Object}
 use Rattle.table_law.specs.Histories.{IsHistory}
+use Rattle.table_law.specs.Measures.{measures_of}
 use Rattle.pool_table.specs.declared.views.Entry.{Entry}
 use Rattle.pool_table.specs.declared.views.Entry.TheVariants.{At, Ref, Busy}
 use Rattle.pool_table.specs.declared.views.Part.{Part}
@@ -160,7 +161,7 @@ module _ (o : Object) where
       let c : cond {A = ℕ} (eqb (length h + 1) (j + 1)) 1 0 ≡ 0 = ap (λ (b : Bool). cond {A = ℕ} b 1 0) t.0 in omega (arith, z, c))
       (eqb_tells (length h + 1) (j + 1))
 
-module _ {H : Type 0} (stands : Grounds → List Noted → H → Type 0) (shape : Shape) (grounds : Grounds) (o : Object) where
+module _ {H : Type 0} (stands : List ℕ → Grounds → List Noted → H → Type 0) (shape : Shape) (grounds : Grounds) (o : Object) where
   abbrev K : List Face → ℕ → maybe.Option (maybe.Option (Option H)) → Type 0
   K faces word home = IsKept stands shape grounds o faces word home
 
@@ -233,7 +234,7 @@ module _ {H : Type 0} (stands : Grounds → List Noted → H → Type 0) (shape 
   pub done_kept : (faces : List Face) (word : ℕ) (home : maybe.Option (maybe.Option (Option H))) (id : ℕ) (p : Part) (ps : List Part) (x : Inside) (q : Object) (nd : Noted) (y : H) (k : K faces word home)
       → get_elem? faces id ≡ some (record { parts = p ∷ ps; inside = Some x }) → nd.lane ≡ p.number
       → ((m : ℕ) → nd.lane ≡ Some m → All (λ (r : Part). is_lane m r.number ≡ false) ps × ((j : ℕ) (f : Face) → j ≢ id → get_elem? faces j ≡ some f → All (λ (r : Part). is_lane m r.number ≡ false) f.parts))
-      → IsHistory shape o (k.history ++ nd ∷ []) → stands grounds (k.history ++ nd ∷ []) y
+      → IsHistory shape o (k.history ++ nd ∷ []) → stands (measures_of shape o) grounds (k.history ++ nd ∷ []) y
       → K (set faces id (record { parts = record { number = p.number; notes = p.notes ++ At q (length k.history + 1) nd ∷ [] } ∷ ps; inside = None })) (word + 1) (some (some (Some y)))
   done_kept faces word home id p ps x q nd y k at lane apart accepted told_by =
       let f : Face = record { parts = p ∷ ps; inside = Some x } in
@@ -274,7 +275,7 @@ module _ {H : Type 0} (stands : Grounds → List Noted → H → Type 0) (shape 
 
   -- a mail's section ends with no note, and its home value still stands
   pub idled_kept : (faces : List Face) (found word : ℕ) (home : maybe.Option (maybe.Option (Option H))) (id : ℕ) (ps : List Part) (x : Inside) (y : H) (k : K faces found home)
-      → found ≡ word + 1 → get_elem? faces id ≡ some (record { parts = ps; inside = Some x }) → (IsMarked o → ⊥) → stands grounds k.history y
+      → found ≡ word + 1 → get_elem? faces id ≡ some (record { parts = ps; inside = Some x }) → (IsMarked o → ⊥) → stands (measures_of shape o) grounds k.history y
       → K (set faces id (record { parts = ps; inside = None })) word (some (some (Some y)))
   idled_kept faces found word home id ps x y k more at unmarked told_by =
       let f : Face = record { parts = ps; inside = Some x } in

@@ -1,6 +1,6 @@
 -- The table as it is made, and the first seats that are cut from the opening view.
 use Rattle.ground.specs.Grounds.{Grounds}
-use Rattle.std.proofs.Common.{◌≡◌, ℕ, zero, suc, ◌+◌, ◌-◌, ◌*◌, ◌/◌, ◌<◌, ◌≤◌, List, [], ◌∷◌, map, length, get_or, Bool, cond, eqb, sym, refl, ap, ◌∙◌, subst, arith, eq-eqb, ne_eqb, suc-mul}
+use Rattle.std.proofs.Common.{◌≡◌, ℕ, zero, suc, ◌+◌, ◌-◌, ◌*◌, ◌/◌, ◌<◌, ◌≤◌, List, [], ◌∷◌, map, length, Bool, cond, eqb, sym, refl, ap, ◌∙◌, subst, arith, eq-eqb, ne_eqb, suc-mul}
 use Rattle.std.specs.Prelude.{Option, Some, None, All, sum_by, count_by, filter, filter_map, slice_index}
 use Rattle.std.proofs.lemmas.List.Elements.{All-cons, All-head, All-tail, All-nil, All-weaker}
 use Rattle.std.proofs.lemmas.List.Sums.{sum_by-cons}
@@ -12,10 +12,11 @@ use mathlib.Core.Option.{some}
 use lib.ListN.{get_elem?}
 use Rattle.atomic_table.specs.Table.{Splits, opening}
 use Rattle.atomic_table.proofs.Lists.{at_map}
-use Rattle.step_law.proofs.Changes.{there, sum_none}
+use Rattle.step_law.proofs.Changes.{sum_none}
 use Rattle.pool_law.specs.declared.note.Noted.{Noted}
 use Rattle.pool_law.specs.declared.note.Object.{Object}
-use Rattle.pool_law.specs.Homes.{home_of, objects_of}
+use Rattle.pool_law.specs.Homes.{home_of, objects_of, IsObjectOf}
+use Rattle.table_law.specs.Measures.{measures_of}
 use Rattle.pool_table.specs.Words.{word_of, IsOpening}
 use Rattle.table_law.proofs.Bins.{no_history}
 use Rattle.table_law.proofs.Apart.{home_within}
@@ -55,7 +56,7 @@ none_numbered : (i n : ℕ) → All (λ (p : Part). p.notes ≡ []) (lane_parts 
 none_numbered i zero = All-nil (λ (p : Part). p.notes ≡ [])
 none_numbered i (suc n) = All-cons (λ (p : Part). p.notes ≡ []) (empty_part (Some i)) (lane_parts (suc i) n) refl (none_numbered (suc i) n)
 
-module _ {H : Type 0} (stands : Grounds → List Noted → H → Type 0) (l : Layout) where
+module _ {H : Type 0} (stands : List ℕ → Grounds → List Noted → H → Type 0) (l : Layout) where
   -- empty parts tell an empty history
   empty_told : (o : Object) (limit : ℕ) (p : Part) → p.notes ≡ [] → IsTold o [] limit p
   empty_told o limit p e = record {
@@ -81,7 +82,7 @@ module _ {H : Type 0} (stands : Grounds → List Noted → H → Type 0) (l : La
   one : (f : SeatView → ℕ) (v : SeatView) → sum_by f (v ∷ []) ≡ f v
   one f v = let c = sum_by-cons f v [] in let z : sum_by f [] ≡ 0 = refl in omega (arith, c, z)
 
-  opens_at : (gs : Grounds) (homes : List (Option H)) (o : Object) (x : H) → get_elem? homes (home_of l.shape o) ≡ some (Some x) → stands gs [] x
+  opens_at : (gs : Grounds) (homes : List (Option H)) (o : Object) (x : H) → get_elem? homes (home_of l.shape o) ≡ some (Some x) → stands (measures_of l.shape o) gs [] x
       → IsKept stands l.shape gs o (map (face l.shape (home_of l.shape o)) (first_view l ∷ [])) 0 (get_elem? (map some homes) (home_of l.shape o))
   opens_at gs homes o x at told_by =
       let i : ℕ = home_of l.shape o in let f : Face = face l.shape i (first_view l) in
@@ -109,7 +110,7 @@ module _ {H : Type 0} (stands : Grounds → List Noted → H → Type 0) (l : La
 
   -- the table as it is made
   pub opens : (gs : Grounds) (words : List ℕ) (homes : List (Option H)) → IsShape l.shape → l.shape.lanes * l.turns < 4611686018427387904 → l.shape.lanes * l.moves < 1073741824 → IsOpening l.shape words
-      → length homes ≡ objects_of l.shape → All (λ (y : Option H). (x : H) × (y ≡ Some x) × stands gs [] x) homes → IsSound stands l (opening words homes (first_view l))
+      → length homes ≡ objects_of l.shape → ((o : Object) → IsObjectOf l.shape o → (x : H) × (get_elem? homes (home_of l.shape o) ≡ some (Some x)) × stands (measures_of l.shape o) gs [] x) → IsSound stands l (opening words homes (first_view l))
   opens gs words homes shape room few is wide all =
       let q : ℕ = objects_of l.shape in record {
         grounds = gs;
@@ -118,11 +119,10 @@ module _ {H : Type 0} (stands : Grounds → List Noted → H → Type 0) (l : La
         views = All-cons (IsView l.shape gs) (first_view l) [] (record { beside = beside_none (first_view l) all_parts; counted = counted_none (first_view l) all_parts; settled = settled_none (first_view l) all_parts; enters = enters_none (first_view l) refl; handy = handy_none (first_view l) all_parts; roots = orderly_none (first_view l) all_parts; grounds_are = tt; unnumbered = λ none_of. absurd (numbered_parts 0 l.shape.lanes shape.some_lane (All-tail (λ (p : Part). p.number ≡ None) (empty_part None) (lane_parts 0 l.shape.lanes) none_of)); inside = tt; notes = empty_notes (parts_of (first_view l)) all_parts }) (All-nil (IsView l.shape gs));
         lanes = λ m. subst (OnceBelow l.shape.lanes m) (sym (one (numbered m) (first_view l) ∙ (let c = sum_by-cons (λ (p : Part). cond {A = ℕ} (is_lane m p.number) 1 0) (empty_part None) (lane_parts 0 l.shape.lanes) in let y : cond {A = ℕ} (is_lane m None) 1 0 ≡ 0 = refl in omega (arith, c, y)))) (let zl : 0 + l.shape.lanes ≡ l.shape.lanes = omega arith in subst (λ (n : ℕ). OnceBelow n m (count_by (λ (p : Part). is_lane m p.number) (lane_parts 0 l.shape.lanes))) zl (lane_once m 0 l.shape.lanes (omega arith)));
         objects = λ o fits.
-            let i : ℕ = home_of l.shape o in let near : i < q = home_within l.shape o fits in let n : ℕ = length homes in let w : n ≡ q = wide in let inside : i < n = omega (arith, near, w) in
-            let at : get_elem? homes i ≡ some (get_or homes i None) = there homes i None inside in
-            let here = all i None inside in
+            let i : ℕ = home_of l.shape o in let near : i < q = home_within l.shape o fits in
+            let here = all o fits in
             let word : slice_index words (word_of l.shape o) ≡ 0 = is.objects i near in
-            subst (λ (n : ℕ). IsKept stands l.shape gs o (map (face l.shape i) (first_view l ∷ [])) n (get_elem? (map some homes) i)) (sym word) (opens_at gs homes o here.0 (at ∙ ap some here.1) here.2);
+            subst (λ (n : ℕ). IsKept stands l.shape gs o (map (face l.shape i) (first_view l ∷ [])) n (get_elem? (map some homes) i)) (sym word) (opens_at gs homes o here.0 here.1 here.2);
         looks = looks_open (first_view l) all_parts;
         order = order_opens (first_view l) all_parts;
         room = room;

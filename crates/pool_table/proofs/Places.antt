@@ -50,7 +50,7 @@ strict_two {A} a b c d (h ∷ t) (suc i) (suc j) v w ne all e f x y =
     let k = All-head P h t all in let m = strict_two a b c d t i j v w (λ q. ne (ap suc q)) (All-tail P h t all) e f x y in
     let p = sum_by-cons a h t in let q = sum_by-cons b h t in let r = sum_by-cons c h t in let s = sum_by-cons d h t in omega (arith, k, m, p, q, r, s)
 
-module _ {H : Type 0} (stands : Grounds → List Noted → H → Type 0) (l : Layout) where
+module _ {H : Type 0} (stands : List ℕ → Grounds → List Noted → H → Type 0) (l : Layout) where
   abbrev St : Type 0
   St = State (Option H) SeatView
 

@@ -45,7 +45,7 @@ among_root s p w free lane (At o k n) t = ⊎_elim
 among_root s p w free lane (Ref r d) t = inl refl
 among_root s p w free lane (Busy b) t = inl refl
 
-module _ {H : Type 0} (stands : Grounds → List Noted → H → Type 0) (l : Layout) where
+module _ {H : Type 0} (stands : List ℕ → Grounds → List Noted → H → Type 0) (l : Layout) where
   abbrev St : Type 0
   St = State (Option H) SeatView
 

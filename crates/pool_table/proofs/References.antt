@@ -52,7 +52,7 @@ counts_below r d (At o j m) = tt
 counts_below r d (Ref q e) = tt
 counts_below r d (Busy b) = tt
 
-module _ {H : Type 0} (stands : Grounds → List Noted → H → Type 0) (l : Layout) where
+module _ {H : Type 0} (stands : List ℕ → Grounds → List Noted → H → Type 0) (l : Layout) where
   abbrev St : Type 0
   St = State (Option H) SeatView
 

@@ -33,7 +33,7 @@ use Rattle.pool_table.proofs.Places.{sum_add, strict_two}
 abbrev roots_from : Shape → ℕ
 roots_from s = s.arenas + s.lanes * 41 + s.lanes * s.lanes
 
-module _ {H : Type 0} (stands : Grounds → List Noted → H → Type 0) (l : Layout) where
+module _ {H : Type 0} (stands : List ℕ → Grounds → List Noted → H → Type 0) (l : Layout) where
   abbrev St : Type 0
   St = State (Option H) SeatView
 

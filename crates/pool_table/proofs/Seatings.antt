@@ -29,7 +29,7 @@ use Rattle.pool_table.specs.Steps.{blank_beside, learns, with_grounds}
 use Rattle.pool_table.proofs.Objects.{split_kept, joined_kept}
 use Rattle.pool_table.proofs.Tables.{unseen}
 
-module _ {H : Type 0} (stands : Grounds → List Noted → H → Type 0) (l : Layout) where
+module _ {H : Type 0} (stands : List ℕ → Grounds → List Noted → H → Type 0) (l : Layout) where
   abbrev St : Type 0
   St = State (Option H) SeatView
 

@@ -1,15 +1,17 @@
 -- The steps of `new` as its calls ask for them.
 use Rattle.ground.specs.Grounds.{Grounds}
 use Rattle.std.proofs.Common.{◌≡◌, ℕ, zero, suc, ◌+◌, ◌-◌, ◌*◌, ◌<◌, List, [], ◌∷◌, ◌++◌, map, length, get_or, sym, refl, ap, ◌∙◌, subst, arith}
-use Rattle.std.specs.Prelude.{Option, Some, All, IsSome, HoldsAt, unwrap_or}
+use Rattle.std.specs.Prelude.{Option, Some, All, slice_get, IsSome, HoldsAt, unwrap_or}
 use Rattle.std.proofs.lemmas.List.{length-map, get_or_push, get_or_append_left}
 use mathlib.Core.Logic.{dite}
 use native.Mathlib.Decide.{ℕ_discrete}
 use Rattle.std.proofs.lemmas.List.Elements.{All-map}
-use mathlib.Core.Option.{none}
+use mathlib.Core.Option.{some, none}
+use lib.ListN.{get_elem?}
 use Rattle.atomic_table.specs.Table.{Me, step, Allows, Splits, opening}
 use Rattle.pool_law.specs.declared.note.Noted.{Noted}
-use Rattle.pool_law.specs.Homes.{objects_of}
+use Rattle.pool_law.specs.Homes.{home_of, objects_of}
+use Rattle.pool_table.specs.Opened.{StandAtFirst}
 use Rattle.pool_table.specs.Words.{IsOpening}
 use Rattle.pool_table.specs.declared.views.Layout.{Layout}
 use Rattle.pool_table.specs.declared.views.SeatView.{SeatView}
@@ -18,7 +20,13 @@ use Rattle.pool_table.specs.Steps.{learns, first_view, rest_view, lane_view, fir
 use Rattle.pool_table.proofs.Seatings.{learns_allowed}
 use Rattle.pool_table.proofs.Openings.{cuts_allowed, cut_first, cut_rest, opens}
 
-module _ {H : Type 0} (stands : Grounds → List Noted → H → Type 0) (l : Layout) where
+-- a value of a list, in the list of all of them wrapped
+wrapped_at : {H : Type 0} (xs : List H) (i : ℕ) (x : H) → slice_get xs i ≡ Some x → get_elem? (map Some xs) i ≡ some (Some x)
+wrapped_at [] i x e = absurd (cc e)
+wrapped_at (y ∷ ys) zero x e = ap some e
+wrapped_at (y ∷ ys) (suc i) x e = wrapped_at ys i x e
+
+module _ {H : Type 0} (stands : List ℕ → Grounds → List Noted → H → Type 0) (l : Layout) where
   pub learns_as : (key : Layout) (slots id : ℕ) (me : Me (Option H) SeatView) → key ≡ l → slots ≡ objects_of l.shape → Allows (IsSound stands key) slots id me 0 (λ n. n) (learns (step slots 0 0 0 none) me)
   learns_as key slots id me ke se = subst (λ (y : Layout × ℕ). Allows (IsSound stands y.0) y.1 id me 0 (λ n. n) (learns (step y.1 0 0 0 none) me)) (λ q. (sym ke q, sym se q)) (learns_allowed stands l id me)
 
@@ -37,9 +45,9 @@ module _ {H : Type 0} (stands : Grounds → List Noted → H → Type 0) (l : La
   )
 
   pub opens_as : (gs : Grounds) (words : List ℕ) (slots : List (Option H)) (homes : List H) → IsShape l.shape → l.shape.lanes * l.turns < 4611686018427387904 → l.shape.lanes * l.moves < 1073741824 → IsOpening l.shape words
-      → slots ≡ map Some homes → length homes ≡ objects_of l.shape → All (λ (x : H). stands gs [] x) homes → IsSound stands l (opening words slots (first_view l))
+      → slots ≡ map Some homes → length homes ≡ objects_of l.shape → StandAtFirst stands l.shape gs homes → IsSound stands l (opening words slots (first_view l))
   opens_as gs words slots homes shape room few is wrapped wide all = subst (λ (ys : List (Option H)). IsSound stands l (opening words ys (first_view l))) (sym wrapped)
-      (opens stands l gs words (map Some homes) shape room few is (length-map homes Some ∙ wide) (All-map (λ (y : Option H). (x : H) × (y ≡ Some x) × stands gs [] x) Some homes (λ k d lt. (_, refl, all k d lt))))
+      (opens stands l gs words (map Some homes) shape room few is (length-map homes Some ∙ wide) (λ o fits. let h = all o fits in (h.0, wrapped_at homes (home_of l.shape o) h.0 h.1, h.2)))
 
 some_inj : {H : Type 0} {x y : H} → Some x ≡ Some y → x ≡ y
 some_inj {H} {x} {y} e = ap (λ (o : Option H). unwrap_or o x) e

@@ -30,7 +30,7 @@ use Rattle.pool_table.specs.Looks.{AreLooksRight}
 use Rattle.pool_table.specs.Order.{AreInOrder}
 use Rattle.pool_table.specs.Sound.{IsKept, IsSound, IsView, OnceBelow}
 
-module _ {H : Type 0} (stands : Grounds → List Noted → H → Type 0) (l : Layout) where
+module _ {H : Type 0} (stands : List ℕ → Grounds → List Noted → H → Type 0) (l : Layout) where
   abbrev pub St : Type 0
   St = State (Option H) SeatView
 

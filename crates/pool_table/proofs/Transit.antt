@@ -38,7 +38,7 @@ among s p g w bound lane (At o k n) t = ⊎_elim
 among s p g w bound lane (Ref r d) t = inl refl
 among s p g w bound lane (Busy b) t = inl refl
 
-module _ {H : Type 0} (stands : Grounds → List Noted → H → Type 0) (l : Layout) where
+module _ {H : Type 0} (stands : List ℕ → Grounds → List Noted → H → Type 0) (l : Layout) where
   pub transit : (s : State (Option H) SeatView) (r : IsSound stands l s) (p g : ℕ) → sum_by (weigh (at_gain p g)) s.views ≤ sum_by (weigh (at_loss p g)) s.views
   transit s r p g =
       let n : ℕ = l.shape.lanes in let base : ℕ = mails l.shape in

@@ -1,15 +1,30 @@
 -- Lemmas for the tests: the two seats of a new table, and what a first note of a bin may be.
-use Rattle.std.proofs.Common.{◌≡◌, ℕ, ◌<◌, List, [], ◌∷◌, ◌++◌, length, sym, ap, ◌∙◌, subst, refl, arith, length-append}
-use Rattle.std.specs.Prelude.{HoldsAt, Option, None, IsTrue, is_some}
+use Rattle.std.proofs.Common.{◌≡◌, ℕ, zero, suc, ◌<◌, get_or, List, [], ◌∷◌, ◌++◌, length, sym, ap, ◌∙◌, subst, refl, arith, length-append}
+use Rattle.std.specs.Prelude.{All, HoldsAt, slice_get, Option, Some, None, IsTrue, is_some}
 use Rattle.pool_law.specs.declared.run.Shape.{Shape}
 use Rattle.pool_law.specs.declared.note.Noted.{Noted}
 use Rattle.pool_law.specs.declared.note.Did.TheVariants.{Handle}
 use Rattle.pool_law.specs.declared.note.Object.{Object}
 use Rattle.pool_law.specs.declared.note.Object.TheVariants.{Bin}
+use Rattle.pool_law.specs.Homes.{home_of, objects_of, IsObjectOf}
+use Rattle.table_law.proofs.Apart.{home_within}
 use Rattle.pool_law.specs.Caches.{new_bin, bin_step}
 use Rattle.pool_law.specs.Histories.{after}
 use Rattle.pool_law.specs.Naming.{noted_by}
 use Rattle.table_law.specs.Histories.{IsHistory}
+
+-- a value that each of the homes is, each object's is
+pub each_stands : {H : Type 0} (s : Shape) (homes : List H) (P : H → Type 0) → length homes ≡ objects_of s → All P homes →
+    (o : Object) → IsObjectOf s o → (x : H) × (slice_get homes (home_of s o) ≡ Some x) × P x
+each_stands {H} s homes P many all o fits =
+    let near : home_of s o < length homes = subst (λ (n : ℕ). home_of s o < n) (sym many) (home_within s o fits) in
+    let t = there homes (home_of s o) near in
+    (t.0, t.1, subst P (t.2 t.0) (all (home_of s o) t.0 near))
+  where
+    there : (xs : List H) (i : ℕ) → i < length xs → (x : H) × (slice_get xs i ≡ Some x) × ((d : H) → get_or xs i d ≡ x)
+    there [] i lt = absurd (omega (arith, lt))
+    there (x ∷ xs) zero lt = (x, refl, λ d. refl)
+    there (x ∷ xs) (suc i) lt = there xs i (omega (arith, lt))
 
 -- the last two of two elements
 pub two_last : {X : Type 0} (P : ℕ → X → Type 0) (items rest less : List X) (a b : X) → length items ≡ 2 → items ≡ rest ++ b ∷ [] → rest ≡ less ++ a ∷ [] →

@@ -7,6 +7,7 @@ use Rattle.pool_law.specs.declared.run.Shape.{Shape}
 use Rattle.pool_law.specs.declared.note.Noted.{Noted}
 use Rattle.pool_law.specs.declared.note.Object.{Object}
 use Rattle.pool_law.specs.Homes.{home_of, objects_of, IsObjectOf}
+use Rattle.table_law.specs.Measures.{measures_of}
 use Rattle.table_law.specs.Histories.{IsHistory}
 use Rattle.pool_table.specs.declared.views.Layout.{Layout}
 use Rattle.pool_table.specs.declared.views.Part.{Part}
@@ -24,7 +25,7 @@ HasAllLanes l v = (m : ℕ) → m < l.shape.lanes → numbered m v ≡ 1
 
 -- the history of one object, whole in the parts of the view, and what its home value stands for
 pub record IsWhole {H : Type 0}
-    (stands : Grounds → List Noted → H → Type 0) (shape : Shape) (v : SeatView) (o : Object) (word : ℕ)
+    (stands : List ℕ → Grounds → List Noted → H → Type 0) (shape : Shape) (v : SeatView) (o : Object) (word : ℕ)
     (homes : List (Option H)) : Type 0 where
   pub history : List Noted
   pub accepted : IsHistory shape o history
@@ -35,11 +36,11 @@ pub record IsWhole {H : Type 0}
   pub as_many : in_face is_at (face shape (home_of shape o) v) ≡ length history
   pub home_is :
       (x : H) × (get_elem? homes (home_of shape o) ≡ some (Some x))
-      × IfSome v.grounds (λ (g : Grounds). stands g history x)
+      × IfSome v.grounds (λ (g : Grounds). stands (measures_of shape o) g history x)
 
 -- home values and words as the table is closed, by the view that has the parts of all lanes
 pub record IsClosed {H : Type 0}
-    (stands : Grounds → List Noted → H → Type 0) (l : Layout) (v : SeatView) (homes : List (Option H))
+    (stands : List ℕ → Grounds → List Noted → H → Type 0) (l : Layout) (v : SeatView) (homes : List (Option H))
     (words : List ℕ) : Type 0 where
   pub word_count : length words ≡ listed_of l.shape
   pub home_count : length homes ≡ objects_of l.shape

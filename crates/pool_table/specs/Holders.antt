@@ -27,7 +27,7 @@ pub record AreTwo {H : Type 0} (s : State (Option H) SeatView) (v u : SeatView) 
   pub at_first : get_elem? s.views first ≡ some v
   pub at_second : get_elem? s.views second ≡ some u
 
-module _ {H : Type 0} (stands : Grounds → List Noted → H → Type 0) (l : Layout) where
+module _ {H : Type 0} (stands : List ℕ → Grounds → List Noted → H → Type 0) (l : Layout) where
   -- no root place is in the hands of two views
   abbrev pub PlacesInOneHand : Type 0
   PlacesInOneHand =

@@ -1,8 +1,12 @@
 -- What a contract says of a table that has just been made.
 use Rattle.ground.specs.Grounds.{Grounds}
-use Rattle.std.specs.Prelude.{◌≡◌, ℕ, ◌<◌, List, length, HoldsAt}
+use Rattle.std.specs.Prelude.{◌≡◌, ℕ, ◌<◌, List, [], length, Some, slice_get, HoldsAt}
 use Rattle.step_law.specs.declared.Told.{Ghosts}
 use Rattle.pool_law.specs.declared.note.Noted.{Noted}
+use Rattle.pool_law.specs.declared.note.Object.{Object}
+use Rattle.pool_law.specs.declared.run.Shape.{Shape}
+use Rattle.pool_law.specs.Homes.{home_of, IsObjectOf}
+use Rattle.table_law.specs.Measures.{measures_of}
 use Rattle.pool_table.specs.declared.views.Layout.{Layout}
 use Rattle.pool_table.specs.declared.table.PoolTable.{PoolTable}
 use Rattle.pool_table.specs.declared.table.PoolSeat.{PoolSeat}
@@ -20,3 +24,10 @@ pub record AreFirstSeats {H : Type 0} {G : Ghosts H Noted}
   pub grounds : Grounds
   pub many : length seats ≡ l.shape.lanes
   pub each : (k : ℕ) → k < l.shape.lanes → HoldsAt (IsFirstSeat l grounds k t) seats k
+
+-- each object's home value stands for no notes
+abbrev pub StandAtFirst : {H : Type 0} →
+    (List ℕ → Grounds → List Noted → H → Type 0) → Shape → Grounds → List H → Type 0
+StandAtFirst {H} stands s grounds homes =
+    (o : Object) → IsObjectOf s o →
+    (x : H) × (slice_get homes (home_of s o) ≡ Some x) × stands (measures_of s o) grounds [] x

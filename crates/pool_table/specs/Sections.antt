@@ -9,6 +9,7 @@ use Rattle.pool_law.specs.declared.note.Held.{Held}
 use Rattle.pool_law.specs.declared.note.Object.{Object}
 use Rattle.pool_law.specs.Homes.{home_of, IsObjectOf}
 use Rattle.pool_law.specs.Naming.{noted_by}
+use Rattle.table_law.specs.Measures.{measures_of}
 use Rattle.table_law.specs.Histories.{IsHistory}
 use Rattle.pool_table.specs.declared.views.Entry.TheVariants.{Busy}
 use Rattle.pool_table.specs.declared.views.Layout.{Layout}
@@ -30,12 +31,13 @@ pub record IsInside {H : Type 0}
 
 -- the value stands for the history under the grounds that the view knows
 pub record StandsFor {H : Type 0}
-    (stands : Grounds → List Noted → H → Type 0) (v : SeatView) (h : List Noted) (x : H) : Type 0 where
+    (stands : List ℕ → Grounds → List Noted → H → Type 0) (measures : List ℕ) (v : SeatView) (h : List Noted)
+    (x : H) : Type 0 where
   pub grounds : Grounds
   pub known : v.grounds ≡ Some grounds
-  pub stands_for : stands grounds h x
+  pub stands_for : stands measures grounds h x
 
-module _ {H : Type 0} {G : Ghosts H Noted} (stands : Grounds → List Noted → H → Type 0) where
+module _ {H : Type 0} {G : Ghosts H Noted} (stands : List ℕ → Grounds → List Noted → H → Type 0) where
   -- the seat got into the section of the object, and learned its history
   pub record GotSection (l : Layout) (o : Object) (old new : PoolSeat H G) (section : Section H) :
       Type 0 where
@@ -63,11 +65,11 @@ module _ {H : Type 0} {G : Ghosts H Noted} (stands : Grounds → List Noted → 
     pub follows :
         IsHistory s section.object (history ++ noted_by (view_of seat).own.number note ∷ [])
     pub stands_for :
-        StandsFor stands (view_of seat) (history ++ noted_by (view_of seat).own.number note ∷ [])
+        StandsFor stands (measures_of s section.object) (view_of seat) (history ++ noted_by (view_of seat).own.number note ∷ [])
         section.home
 
   -- the section may end with no note: the home value stands for what it stood for
   pub record MayIdle (s : Shape) (seat : PoolSeat H G) (section : Section H) : Type 0 where
     pub history : List Noted
     pub inside : IsInside s seat.seat.me section.object section.slot history
-    pub stands_for : StandsFor stands (view_of seat) history section.home
+    pub stands_for : StandsFor stands (measures_of s section.object) (view_of seat) history section.home

@@ -1,18 +1,18 @@
 -- The table's rule: what holds of its words, its home values and the views of all seats between any two steps.
 use Rattle.ground.specs.Grounds.{Grounds}
-use Rattle.std.specs.Prelude.{Bool, true, false, IsTrue, ◌≡◌, ℕ, ◌+◌, ◌-◌, ◌*◌, ◌<◌, ◌≤◌, ◌≢◌, List, [], map, length, Option, Some, None, IfSome, filter, filter_map, sum_by, All, AllPairs, slice_get, slice_index, ⊤}
+use Rattle.std.specs.Prelude.{◌≡◌, ℕ, ◌+◌, ◌-◌, ◌*◌, ◌<◌, ◌≤◌, ◌≢◌, List, [], map, length, Option, Some, None, IfSome, filter, filter_map, sum_by, All, AllPairs, slice_get, slice_index, ⊤}
 use mathlib.Core.Option.{some, none}
 use mathlib.Core.Option as maybe
 use lib.ListN.{get_elem?}
 use Rattle.atomic_table.specs.Table.{State}
 use Rattle.pool_law.specs.declared.run.Shape.{Shape}
-use Rattle.pool_law.specs.declared.note.Did.{Did}
 use Rattle.pool_law.specs.NotedHistories.{MayNote}
 use Rattle.pool_law.specs.declared.note.Noted.{Noted}
 use Rattle.pool_law.specs.declared.note.Object.{Object}
 use Rattle.pool_law.specs.declared.note.Object.TheVariants.{Cache, Root}
 use Rattle.pool_law.specs.Homes.{home_of, objects_of, IsObjectOf}
 use Rattle.pool_table.specs.Words.{words_of, word_of, count_word_of}
+use Rattle.table_law.specs.Measures.{measures_of}
 use Rattle.table_law.specs.Histories.{IsHistory}
 use Rattle.table_law.specs.Standing.{IsInPlace}
 use Rattle.pool_table.specs.declared.views.Entry.{Entry}
@@ -67,7 +67,7 @@ Knows h f = IfSome f.inside (λ (x : Inside). (x.history ≡ h) × (x.number ≡
 
 -- what the word and the home of one object are to what all views show of it
 pub record IsKept {H : Type 0}
-    (stands : Grounds → List Noted → H → Type 0) (shape : Shape) (grounds : Grounds) (o : Object)
+    (stands : List ℕ → Grounds → List Noted → H → Type 0) (shape : Shape) (grounds : Grounds) (o : Object)
     (faces : List Face) (word : ℕ) (home : maybe.Option (maybe.Option (Option H))) : Type 0 where
   pub history : List Noted
   pub accepted : IsHistory shape o history
@@ -87,7 +87,7 @@ pub record IsKept {H : Type 0}
   pub weights : (f : Noted → ℕ) → noted_total f faces ≡ sum_by f history
   -- where no view is in the section the home value is in its slot, and stands for the history
   pub home_is : inside_total faces ≡ 0 →
-      (x : H) × (home ≡ some (some (Some x))) × stands grounds history x
+      (x : H) × (home ≡ some (some (Some x))) × stands (measures_of shape o) grounds history x
 
 -- a note stands on an object of the shape, in the log of a lane that may note it, where it may move what it moves
 pub record NoteStands (s : Shape) (lane : Option ℕ) (o : Object) (n : Noted) : Type 0 where
@@ -144,7 +144,7 @@ OnceBelow n m times = (m < n → times ≡ 1) × (n ≤ m → times ≡ 0)
 -- Read it as what a lock protects, said for all locks at once. `s.words` are the atomic words, `s.homes` the values in
 -- their slots, and `s.views` what the seats know: all that was noted so far, split over the seats that noted it.
 pub record IsSound {H : Type 0}
-    (stands : Grounds → List Noted → H → Type 0) (l : Layout) (s : State (Option H) SeatView) : Type 0 where
+    (stands : List ℕ → Grounds → List Noted → H → Type 0) (l : Layout) (s : State (Option H) SeatView) : Type 0 where
   -- one list of grounds, which never changes
   pub grounds : Grounds
   pub words : length s.words ≡ words_of l.shape
@@ -174,7 +174,7 @@ pub record IsSound {H : Type 0}
 
 -- at one moment, in this table, a seat had the view v while another was in the section of o after n notes
 pub record WasHeld {H : Type 0}
-    (stands : Grounds → List Noted → H → Type 0) (l : Layout) (o : Object) (n : ℕ) (v : SeatView) : Type 0 where
+    (stands : List ℕ → Grounds → List Noted → H → Type 0) (l : Layout) (o : Object) (n : ℕ) (v : SeatView) : Type 0 where
   pub moment : State (Option H) SeatView
   pub sound : IsSound stands l moment
   pub seat : ℕ

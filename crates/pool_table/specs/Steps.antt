@@ -8,6 +8,7 @@ use Rattle.pool_law.specs.declared.note.Object.{Object}
 use Rattle.pool_law.specs.declared.note.Object.TheVariants.{Arena, Bin, Root}
 use Rattle.pool_law.specs.Homes.{home_of}
 use Rattle.pool_law.specs.Arenas.{Arena as ArenaState}
+use Rattle.table_law.specs.Measures.{measures_of}
 use Rattle.table_law.specs.Histories.{IsHistory, root_after, IsBinAfter, IsArenaAfter}
 use Rattle.table_law.specs.NoteCounts.{is_taking}
 use Rattle.pool_law.specs.Naming.{noted_by}
@@ -138,10 +139,10 @@ pub record TellsRoot (p : ℕ) (v : SeatView) (h : List Noted) : Type 0 where
 
 -- what a seat that got into the section of o learns: the history h, for which the home value x stands
 pub record Enters {H : Type 0}
-    (stands : Grounds → List Noted → H → Type 0) (l : Layout) (o : Object) (v : SeatView) (h : List Noted) (x : H) :
+    (stands : List ℕ → Grounds → List Noted → H → Type 0) (l : Layout) (o : Object) (v : SeatView) (h : List Noted) (x : H) :
     Type 0 where
   pub accepted : IsHistory l.shape o h
-  pub stands_for : IfSome v.grounds (λ (g : Grounds). stands g h x)
+  pub stands_for : IfSome v.grounds (λ (g : Grounds). stands (measures_of l.shape o) g h x)
   pub short : length h < 4611686018427387904
   pub root : (p : ℕ) → o ≡ Root p → TellsRoot p v h
   -- a taking in hand is out of its arena, once
@@ -155,7 +156,7 @@ pub record Enters {H : Type 0}
       filter_map noted_of (filter (is_about l.shape (home_of l.shape o)) v.own.notes)
       ≡ filter (λ (n : Noted). is_lane m n.lane) h
 
-module _ {H : Type 0} (stands : Grounds → List Noted → H → Type 0) (l : Layout) (o : Object) where
+module _ {H : Type 0} (stands : List ℕ → Grounds → List Noted → H → Type 0) (l : Layout) (o : Object) where
   -- it got in
   abbrev pub GotIn : ℕ → Me (Option H) SeatView → ℕ → Me (Option H) SeatView → Type 0
   GotIn slot me found after =

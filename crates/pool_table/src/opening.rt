@@ -1,12 +1,12 @@
 //! How a table is made, and its first seats.
 
 ghost use Rattle.ground.specs.Grounds.{Grounds};
-ghost use Rattle.std.specs.Prelude.{◌≡◌, ◌*◌, ◌<◌, ◌≤◌, ◌^◌, [], length, IfOk, IfErr, All, vec_capacity};
+ghost use Rattle.std.specs.Prelude.{◌≡◌, ◌*◌, ◌<◌, ◌≤◌, ◌^◌, [], length, IfOk, IfErr, vec_capacity};
 ghost use Rattle.pool_law.specs.Homes.{objects_of};
 ghost use Rattle.pool_table.specs.Words.{listed_of, IsOpening};
 ghost use Rattle.pool_table.specs.Sound.{IsShape};
 ghost use Rattle.pool_table.specs.Steps.{first_view};
-ghost use Rattle.pool_table.specs.Opened.{AreFirstSeats};
+ghost use Rattle.pool_table.specs.Opened.{AreFirstSeats, StandAtFirst};
 
 use crate::index::{listed_count, object_count};
 use crate::making::{opening_words, unwrapped, wrapped};
@@ -91,7 +91,7 @@ impl<H: Told<Note = Noted>> PoolTable<H> {
     ) -> Result<(PoolTable<H>, Vec<PoolSeat<H>>), Vec<H>>
         requires shape { IsShape layout.shape }
         requires homes { length homes.items ≡ objects_of layout.shape }
-        requires stand { (g : Grounds) × All (λ x. H.stands g [] x) homes.items }
+        requires stand { (g : Grounds) × StandAtFirst H.stands layout.shape g homes.items }
         requires moves { layout.shape.lanes * layout.moves < 2 ^ 30 }
         requires turns { layout.shape.lanes * layout.turns < 2 ^ 62 }
         ensures layout { IfOk result (λ r. r.0.layout ≡ layout) }

@@ -24,7 +24,7 @@ impl Told for Diary {
 
     type Note = Noted;
 
-    ghost stands = { λ grounds notes d. d.notes.items ≡ notes };
+    ghost stands = { λ object grounds notes d. d.notes.items ≡ notes };
 
     ghost may_follow = { λ d notes n. ⊤ };
 
@@ -32,7 +32,7 @@ impl Told for Diary {
 
     ghost losses = { λ place generation n. 0 };
 
-    ghost decides = { λ grounds x xs ys a b n f. f };
+    ghost decides = { λ object grounds x xs ys a b n f. f };
 }
 
 // Two lanes with one handle each.

@@ -9,7 +9,7 @@ impl Told for Cache {
 
     type Note = Noted;
 
-    ghost stands = { StandsFor };
+    ghost stands = { λ object. StandsFor };
 
     ghost may_follow = { MayFollow };
 
@@ -18,5 +18,5 @@ impl Told for Cache {
 
     ghost losses = { λ place generation n. 0 };
 
-    ghost decides = { MayFollow-decided };
+    ghost decides = { λ object. MayFollow-decided };
 }

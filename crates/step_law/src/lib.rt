@@ -10,8 +10,8 @@ ghost use Rattle.ground.specs.Grounds.{Grounds};
 pub trait Told {
     type Note;
 
-    // The value stands for these notes under these grounds.
-    ghost stands: { Grounds → List Self.Note → Self → Type 0 };
+    // At an object with these measures the value stands for these notes, under these grounds.
+    ghost stands: { List ℕ → Grounds → List Self.Note → Self → Type 0 };
 
     // The note may come after these, at an object with the measures of this value.
     ghost may_follow: { Self → List Self.Note → Self.Note → Type 0 };
@@ -23,8 +23,8 @@ pub trait Told {
     ghost losses: { ℕ → ℕ → Self.Note → ℕ };
 
     // A value that stands for a list decides which notes may follow.
-    ghost decides: { (grounds : Grounds) (x : Self) (xs ys : List Self.Note) → stands grounds xs x → stands grounds ys x →
-        (n : Self.Note) → may_follow x xs n → may_follow x ys n };
+    ghost decides: { (measures : List ℕ) (grounds : Grounds) (x : Self) (xs ys : List Self.Note) →
+        stands measures grounds xs x → stands measures grounds ys x → (n : Self.Note) → may_follow x xs n → may_follow x ys n };
 }
 
 /// The word of a count: the generation in the high half, the raw count in the low.

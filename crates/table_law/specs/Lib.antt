@@ -1,3 +1,4 @@
 pub mod NoteCounts
 pub mod Histories
 pub mod Standing
+pub mod Measures

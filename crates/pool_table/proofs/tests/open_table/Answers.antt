@@ -1,7 +1,11 @@
 use Rattle.pool_table.specs.Opened.{IsFirstSeat}
 use Rattle.pool_table.specs.declared.tests.TheConstants.{LAYOUT}
-use Rattle.pool_table.proofs.Trials.{two_last}
+use Rattle.std.proofs.Common.{[], ◌≡◌}
+use Rattle.pool_table.proofs.Trials.{each_stands, two_last}
 use Rattle.pool_table.proofs.tests.open_table.Goals as goal
+
+pub new-requires-clause-stand : goal.new-requires-clause-stand
+new-requires-clause-stand c = ([], each_stands LAYOUT.shape c.in_ok-homes.homes.items (λ d. d.notes.items ≡ []) c.in_ok-homes.ensures.many c.in_ok-homes.ensures.empty)
 
 pub returns-clause-first : goal.returns-clause-first
 returns-clause-first c = let s = c.in-Ok.ensures.seats in
