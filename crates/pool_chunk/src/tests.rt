@@ -36,10 +36,18 @@ fn crosses<T: Send>(x: T) -> T
 }
 
 #[test]
-fn a_subpage_of_five_pages(rt: HostRuntime) {
+fn an_element_of_the_first_subpage(rt: HostRuntime) {
     let mut chunk = crosses(chunk_of_eight(&rt, rt.alloc()));
     assert_eq!(rt; chunk.free(), 65536);
-    assert_eq!(rt; chunk.take_subpage(32), Some(0));
-    assert_eq!(rt; (chunk.used(), chunk.free()), (40960, 24576));
+    let page = chunk.take_subpage(32).expect(&rt, "five pages are free");
+    assert_eq!(rt; (page, chunk.free()), (0, 24576));
+    match chunk.take_element(page) {
+        None => panic!(rt; "no element is out"),
+        Some((piece, word)) => {
+            assert_eq!(rt; word, 0x0000001700000000);
+            assert_eq!(rt; (chunk.used(), chunk.free()), (40960, 24576));
+            piece.leave();
+        }
+    }
     chunk.leave();
 }
