@@ -5,6 +5,7 @@ use Rattle.size_classes.specs.Sizes.{Geometry, page_of, chunk_pages, size_at, is
 use Rattle.size_classes.specs.Pages.{Run, Free, Used, total_pages, taken_at, replaced, run_at, free_runs, chosen}
 use Rattle.size_classes.specs.Runs.{Begins}
 use Rattle.size_classes.specs.Elements.{Elements, new_elements, next_element, with_out, is_full}
+use Rattle.size_classes.proofs.SmallClasses.{pages_of-whole}
 use Rattle.size_classes.proofs.Runs.{Begins-run_at, Begins-one, EachRun-Begins, chosen-free, IfThere, taken_at-new, subpage_pages-least}
 use Rattle.pool_law.specs.declared.id.RegionId.{RegionId}
 use Rattle.pool_law.specs.Chunks.{Chunk, Use, Whole, Sub, new_chunk, RemembersFree}
@@ -368,8 +369,9 @@ module _ (g : Geometry) (number class : ℕ) where
   pub pages_of-pos : 0 < pages_of g class
   pages_of-pos = omega (arith, size_at-pos class)
 
-  pub pages_of-holds : size_at class ≤ page_of g * pages_of g class
-  pages_of-holds = omega arith
+  -- a class that is not small fills its pages
+  pub pages_of-fills : is_small g class ≡ false → size_at class ≡ page_of g * pages_of g class
+  pages_of-fills large = omega (arith, pages_of-whole g class large)
 
   pub take_whole-is : is_small g class ≡ false → (a : Arena) → ArenaHolds g number a → (t : ℕ × ℕ × Arena) →
       option_map (λ u. (u.0, page_of g * u.1, u.2)) (take_run g a (pages_of g class) Whole) ≡ Some t → ClassTaken g number a t.2 t.0 t.1 class
@@ -387,7 +389,7 @@ module _ (g : Geometry) (number class : ℕ) where
                   page = u.1;
                   pages = pages_of g class;
                   starts = starts;
-                  ends = rw ends pages_of-holds;
+                  ends = ends ∙ pages_of-fills large;
                   kind = subst (λ d. is_small g d ≡ false) (sym classes) large;
                   begins = subst (λ d. Begins u.1 (Used (pages_of g class) Whole) (chunk_at u.2 d)) (sym in_chunk) run.begins;
                 });

@@ -15,6 +15,7 @@ use Rattle.pool_law.specs.declared.report.ListName.TheVariants.{QInit, Q000, Q02
 use Rattle.pool_law.specs.Chunks.{Chunk, Use, Whole, Sub, usage, usage_of, RemembersFree}
 use Rattle.pool_law.specs.ChunkLists.{least, lists_below, sunk, down_to, list_of}
 use Rattle.pool_law.specs.Arenas.{Arena, chunk_at, elements_in, elements_at, with_elements, with_front, front_of, without_spot, unless_gone, run_given, is_alone, idle_given, element_given, small_given, given_place}
+pub use Rattle.arena_law.specs.Slots.{IsOne}
 use Rattle.arena_law.specs.Slots.{IsWholeRun, IsElement, IsSlot, IsSound, EachOf, EachTwo, BeginElsewhere}
 use Rattle.pool_law.proofs.ListLemmas.{slice_get-set_same, slice_get-set_other, slice_get-below, slice_set-length}
 use Rattle.arena_law.proofs.SlotLemmas.{element-inside}
@@ -284,8 +285,10 @@ number-of base at size pos =
     rw rest (div-mul-add at size 0 pos)
 
 module _ (g : Geometry) (a : Arena) (sound : (c : ℕ) → IsSound g (chunk_at a c)) (whole : (c : ℕ) → (chunk_at a c ≡ []) ⊎ (total_pages (chunk_at a c) ≡ chunk_pages g)) where
-  pub small_given-is : (r : RegionId) → (x : IsElement g (chunk_at a r.place.chunk) r) → Kept g a (small_given g a r.class r.place.chunk r.place.offset) (NotAt r)
-  small_given-is r x = subst (λ b. Kept g a b (NotAt r)) (sym same) (element_given-is g a sound whole r x)
+  -- the subpage and the element of a place are found again
+  pub small_given-element : (r : RegionId) → (x : IsElement g (chunk_at a r.place.chunk) r) →
+      small_given g a r.class r.place.chunk r.place.offset ≡ element_given g a r.class r.place.chunk x.page x.at x.elements
+  small_given-element r x = same
     where
       chunk : Chunk
       chunk = chunk_at a r.place.chunk
@@ -314,6 +317,9 @@ module _ (g : Geometry) (a : Arena) (sound : (c : ℕ) → IsSound g (chunk_at a
           ∙ ap (λ k. unwrap_or (option_map (element_given g a r.class r.place.chunk x.page k) (elements_at a r.class r.place.chunk x.page)) a) number
           ∙ ap (λ o. unwrap_or (option_map (element_given g a r.class r.place.chunk x.page x.at) o) a) found
 
+  pub small_given-is : (r : RegionId) → (x : IsElement g (chunk_at a r.place.chunk) r) → Kept g a (small_given g a r.class r.place.chunk r.place.offset) (NotAt r)
+  small_given-is r x = subst (λ b. Kept g a b (NotAt r)) (sym (small_given-element r x)) (element_given-is g a sound whole r x)
+
   -- a slot in the run of another, where that is a whole run, begins where it does
   pub whole-elsewhere : (r : RegionId) → (x : IsWholeRun g (chunk_at a r.place.chunk) r) → (s : RegionId) → s.place.offset ≢ r.place.offset →
       Elsewhere g (chunk_at a r.place.chunk) (sound r.place.chunk) x.page x.pages Whole x.begins s
@@ -321,9 +327,13 @@ module _ (g : Geometry) (a : Arena) (sound : (c : ℕ) → IsSound g (chunk_at a
   whole-elsewhere r x s apart (inr y) same =
       cc (Begins-one (chunk_at a r.place.chunk) x.page (Used y.pages (Sub s.class y.elements)) (Used x.pages Whole) (sound r.place.chunk).none_empty (subst (λ p. Begins p (Used y.pages (Sub s.class y.elements)) (chunk_at a r.place.chunk)) same y.begins) x.begins)
 
+  -- the first page of a whole run is found again
+  pub whole-page : (r : RegionId) → (x : IsWholeRun g (chunk_at a r.place.chunk) r) → r.place.offset / page_of g ≡ x.page
+  whole-page r x = rw x.starts (omega arith)
+
   pub whole_given-is : (r : RegionId) → (x : IsWholeRun g (chunk_at a r.place.chunk) r) → Kept g a (run_given g a r.place.chunk (r.place.offset / page_of g)) (NotAt r)
   whole_given-is r x =
-      let page : r.place.offset / page_of g ≡ x.page = (rw x.starts (omega arith)) in
+      let page : r.place.offset / page_of g ≡ x.page = whole-page r x in
       let k : Kept g a (run_given g a r.place.chunk x.page) (λ s. s.place.chunk ≡ r.place.chunk → Elsewhere g (chunk_at a r.place.chunk) (sound r.place.chunk) x.page x.pages Whole x.begins s) = run_given-is g a sound whole r.place.chunk x.page x.pages Whole x.begins in
       subst (λ p. Kept g a (run_given g a r.place.chunk p) (NotAt r)) (sym page)
       (record { sound = k.sound; whole = k.whole; takings = k.takings; slots = λ s apart. k.slots s (λ in_chunk. whole-elsewhere r x s (apart in_chunk)) })
@@ -335,11 +345,6 @@ module _ (g : Geometry) (a : Arena) (sound : (c : ℕ) → IsSound g (chunk_at a
   given_place-is r (inr x) =
       subst (λ t. Kept g a (if t then small_given g a r.class r.place.chunk r.place.offset else run_given g a r.place.chunk (r.place.offset / page_of g)) (NotAt r)) (sym x.kind)
       (small_given-is r x)
-
--- one of a list
-abbrev pub IsOne : {X : Type 0} → X → List X → Type 0
-IsOne x [] = ⊥
-IsOne x (y ∷ ys) = (x ≡ y) ⊎ IsOne x ys
 
 pub any-one : {X : Type 0} (test : X → Bool) (xs : List X) → list_any test xs ≡ true → (x : X) × IsOne x xs × (test x ≡ true)
 any-one {X = X} test [] e = absurd (cc e)

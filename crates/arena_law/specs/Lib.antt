@@ -1,4 +1,5 @@
 pub mod Slots
 pub mod Orderly
+pub mod Covered
 pub mod Returns
 pub mod Takings

@@ -1,5 +1,5 @@
 -- How an arena keeps its chunks in lists, and its subpages that have a free element.
-use Rattle.std.specs.Prelude.{◌≡◌, ◌⊎◌, ◌↔◌, ℕ, Bool, true, false, ◌==◌, ◌&&◌, List, [], ◌∷◌, length, Option, Some, None, slice_get, unwrap_or}
+use Rattle.std.specs.Prelude.{◌≡◌, ◌≤◌, ◌⊎◌, ◌↔◌, ℕ, Bool, true, false, ◌==◌, ◌&&◌, List, [], ◌∷◌, length, Option, Some, None, slice_get, unwrap_or}
 use Rattle.std.specs.List.{list_any}
 use Rattle.size_classes.specs.Sizes.{Geometry, chunk_pages, class_count, is_small}
 use Rattle.size_classes.specs.Pages.{Run, Free, Used, total_pages}
@@ -29,8 +29,10 @@ abbrev pub chunk_of : Arena → ℕ → Option Chunk
 chunk_of a c = unwrap_or (slice_get a.chunks c) None
 
 -- a chunk place has a chunk exactly where it is in a list of chunks; each subpage that has a free
--- element stands in the list of its class, once, and no other does
+-- element stands in the list of its class, once, and no other does (of a chunk of eight pages or more,
+-- each small class is a class)
 pub record IsOrderly (g : Geometry) (a : Arena) : Type 0 where
+  pub order : 3 ≤ g.order
   pub sound : (c : ℕ) → IsSound g (chunk_at a c)
   pub whole : (c : ℕ) → (chunk_at a c ≡ []) ⊎ (total_pages (chunk_at a c) ≡ chunk_pages g)
   pub listed : (c : ℕ) → (list_of a.lists c ≡ None) ↔ (chunk_of a c ≡ None)
