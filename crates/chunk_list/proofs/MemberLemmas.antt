@@ -43,6 +43,17 @@ member-below limit q (x ∷ xs) below there =
 pub below_limit : (limit c : ℕ) (xs : List ℕ) → AreBelow limit xs → has c xs ≡ true → c < limit
 below_limit limit c xs below there = member-below limit c xs below (listed-turned c xs ∙ there)
 
+-- there are no more numbers than places
+pub most_places : (places : ℕ) (xs : List ℕ) → AreDifferent xs → AreBelow places xs → length xs ≤ places
+most_places places xs different below =
+    omega (
+      arith,
+      different-within 0 places xs (as-distinct xs different)
+          (λ q there.
+          let within : q < places = member-below places q xs below there in
+          (omega arith, omega (arith, within))),
+    )
+
 -- there is a place for a number that is not in the list
 pub has_room : (places c : ℕ) (xs : List ℕ) → AreDifferent xs → AreBelow places xs → c < places → has c xs ≡ false →
     length xs < places

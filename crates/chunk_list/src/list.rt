@@ -1,6 +1,6 @@
 //! One list of chunks.
 
-ghost use Rattle.std.specs.Prelude.{◌≡◌, ◌<◌, ◌∷◌, false, IsTrue, IfOk};
+ghost use Rattle.std.specs.Prelude.{◌≡◌, ◌<◌, ◌≤◌, ◌∷◌, false, length, IsTrue, IfOk};
 ghost use Rattle.pool_law.specs.ChunkLists.{has, without};
 
 use std::alloc::{AllocError, Global};
@@ -45,9 +45,11 @@ impl ChunkList {
         is_among(&self.chunks, chunk)
     }
 
-    /// Its chunks, from the head.
+    /// Its chunks, from the head: no more than there are.
+    #[tactic(auto, using(crate::proofs::MemberLemmas::most_places))]
     pub(crate) fn chunks(&self) -> &VecDeque<u32>
-        ensures { result.now.items ≡ self.now.numbers }
+        ensures items { result.now.items ≡ self.now.numbers }
+        ensures few { length self.now.numbers ≤ self.now.places }
     {
         &self.chunks
     }

@@ -1,6 +1,6 @@
 //! The lists of an arena's chunks, from the least used to the full.
 
-ghost use Rattle.std.specs.Prelude.{◌≡◌, ◌<◌, ◌≤◌, false, Some, None, IfOk, IsSome, slice_get};
+ghost use Rattle.std.specs.Prelude.{◌≡◌, ◌*◌, ◌<◌, ◌≤◌, false, Some, None, IfOk, IsSome, slice_get};
 ghost use Rattle.pool_law.specs.ChunkLists.{list_of, walk, entered, left, list_named, has};
 
 use crate::list::ChunkList;
@@ -126,7 +126,8 @@ impl ChunkLists {
     /// The k-th chunk, from 0, in the order in which chunks are asked for a run.
     /// None comes exactly past the last. The chunks of the last list are not asked.
     pub fn nth(&self, k: u32) -> Option<u32>
-        ensures { result ≡ slice_get (walk self.now.lists) k }
+        ensures chunk { result ≡ slice_get (walk self.now.lists) k }
+        ensures few { IsSome result → k < 5 * self.now.places }
     {
         let last = self.init.chunks().iter().chain(self.q075.chunks().iter());
         let rest = self.q000.chunks().iter().chain(last);

@@ -65,6 +65,25 @@ entries-at (s ∷ rs) at r d ne (inr b) =
     ap (λ (k : ℕ). get_or (entries_in s ++ entries rs) k d) behind
     ∙ get_or-append-add (entries_in s) (entries rs) b.0 d ∙ entries-at rs b.0 r d ne.1 b.2
 
+-- no run begins at the other pages of one
+pub entries-inside : (rs : Chunk) (at k : ℕ) (r : Run Use) (d : Entry) → NoneEmpty rs → Begins at r rs → at < k → k < at + pages_in r
+    → get_or (entries rs) k d ≡ None
+entries-inside [] at k r d ne b from within = absurd b
+entries-inside (s ∷ rs) at k r d ne (inl b) from within =
+    let below : k < pages_in s = subst (λ (q : Run Use). k < pages_in q) b.1 (omega (arith, within, b.0)) in
+    get_or_append_left (entries_in s) (entries rs) d k (omega (arith, length-entries_in s ne.0, below)) ∙ in_run s k d (omega (arith, from, b.0)) below
+  where
+    in_run : (s : Run Use) (k : ℕ) (d : Entry) → 0 < k → k < pages_in s → get_or (entries_in s) k d ≡ None
+    in_run (Free n) k d some below = get_or-replicate n k nothing d below
+    in_run (Used n what) zero d some below = absurd (omega (arith, some))
+    in_run (Used n what) (suc k) d some below = get_or-replicate (n - 1) k nothing d (omega (arith, below))
+entries-inside (s ∷ rs) at k r d ne (inr b) from within =
+    let rest : k - pages_in s + length (entries_in s) ≡ k = omega (arith, b.1, from, length-entries_in s ne.0) in
+    let behind : k ≡ length (entries_in s) + (k - pages_in s) = omega (arith, rest) in
+    ap (λ (j : ℕ). get_or (entries_in s ++ entries rs) j d) behind
+    ∙ get_or-append-add (entries_in s) (entries rs) (k - pages_in s) d
+    ∙ entries-inside rs b.0 (k - pages_in s) r d ne.1 b.2 (omega (arith, b.1, from)) (omega (arith, b.1, from, within))
+
 -- ---- changes
 
 entries-append : (xs ys : Chunk) → entries (xs ++ ys) ≡ entries xs ++ entries ys

@@ -8,3 +8,4 @@ pub mod CutLaws
 pub mod NewSubpages
 pub mod PlaceLaws
 pub mod OutLaws
+pub mod StartLaws

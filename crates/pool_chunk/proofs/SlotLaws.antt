@@ -14,7 +14,7 @@ use Rattle.pool_law.specs.Chunks.{Chunk, Use, Whole, Sub}
 use Rattle.pool_chunk.specs.declared.slot.Slot.{Slot}
 use Rattle.pool_chunk.specs.declared.slot.CutRun.{CutRun}
 use Rattle.pool_chunk.specs.Slots.{Entry, entry_of, entries, AreOf, IsCutAt, IsPlaced, ArePlaced}
-use Rattle.pool_chunk.proofs.Entries.{length-entries, entry_in, entries-at}
+use Rattle.pool_chunk.proofs.Entries.{length-entries, entry_in, entries-at, entries-inside}
 use Rattle.pool_chunk.proofs.ChunkLaws.{run-some}
 
 -- ---- one slot, by its entry
@@ -85,6 +85,20 @@ module _ (g : Geometry) (spans : List Span) (slots : List Slot) (rs : Chunk) (of
   slot-cut at n class e b =
       let found = is-cut (get_or slots at Slot.Nothing) n class e (slot-entry at (Used n (Sub class e)) Slot.Nothing b) in
       (found.0, (λ d. get_or_default slots at d Slot.Nothing (slot-within at (Used n (Sub class e)) b) ∙ found.1), found.2)
+
+  -- something begins at the page of a run in use, and nothing at its other pages
+  pub slot-some : (at n : ℕ) (what : Use) (x : Slot) → Begins at (Used n what) rs → x ≡ get_or slots at x → x ≡ Slot.Nothing → ⊥
+  slot-some at n what x b here nothing =
+      let entry : ◌≡◌ {A = Entry} None (Some (n, what)) = ap entry_of (sym nothing) ∙ ap entry_of here ∙ slot-entry at (Used n what) x b in
+      absurd (cc entry)
+
+  pub slot-inside : (at k n : ℕ) (what : Use) (x : Slot) → Begins at (Used n what) rs → at < k → k < at + n → x ≡ get_or slots k x → x ≡ Slot.Nothing
+  slot-inside at k n what x b from within here =
+      is-nothing x (
+      ap entry_of here
+      ∙ sym (get_or-map entry_of slots k x) ∙ ap (λ (es : List Entry). get_or es k (entry_of x)) (sym of.entries)
+      ∙ entries-inside rs at k (Used n what) (entry_of x) of.chunk.none_empty b from within
+      )
 
 -- the entries once a slot changes
 pub entries-set : (slots : List Slot) (at : ℕ) (s : Slot) (x : Entry) → entry_of s ≡ x → map entry_of (slice_set slots at s) ≡ slice_set (map entry_of slots) at x

@@ -1,5 +1,5 @@
 -- What contracts see of a `Chunk`: the law's list of its runs, and the ground on which it stands.
-use Rattle.std.specs.Prelude.{◌≡◌, ℕ, ◌+◌, ◌*◌, ◌⊎◌, Bool, true, List, [], ◌∷◌, length, Some}
+use Rattle.std.specs.Prelude.{◌≡◌, ℕ, ◌+◌, ◌*◌, ◌<◌, ◌≤◌, ◌⊎◌, Bool, true, List, [], ◌∷◌, length, Some}
 use Rattle.ground.specs.Ground.{Origin, Segment, IsWhole}
 use Rattle.size_classes.specs.Sizes.{Geometry, page_of, chunk_bytes, size_at}
 use Rattle.size_classes.specs.Pages.{Run, Used, pages_in, replaced, run_at}
@@ -47,6 +47,15 @@ pub record HasSubpage (c : ChunkState) (page : ℕ) : Type 0 where
   pub class : ℕ
   pub elements : Elements
   pub run : run_at page c.runs ≡ Some (Used pages (Sub class elements))
+
+-- the page lies in a run in use
+pub record IsInUse (c : ChunkState) (page : ℕ) : Type 0 where
+  pub start : ℕ
+  pub pages : ℕ
+  pub what : Use
+  pub run : run_at start c.runs ≡ Some (Used pages what)
+  pub from : start ≤ page
+  pub within : page < start + pages
 
 -- an idle subpage begins at the page
 pub record HasIdleSubpage (c : ChunkState) (page : ℕ) : Type 0 where

@@ -3,10 +3,10 @@
 ghost use Rattle.std.specs.Prelude.{◌≡◌, ℕ, ◌+◌, ◌<◌, ◌≤◌, ◌↔◌, true, MatchResult, IfSome, IfNone, IsNone, None};
 ghost use Rattle.ground.specs.Ground.{IsWhole};
 ghost use Rattle.size_classes.specs.Sizes.{of_order, chunk_bytes, class_count, is_small, subpage_pages};
-ghost use Rattle.size_classes.specs.Pages.{free_runs, chosen};
+ghost use Rattle.size_classes.specs.Pages.{free_runs, chosen, run_start};
 ghost use Rattle.size_classes.specs.Elements.{is_full};
 ghost use Rattle.pool_law.specs.Chunks.{new_chunk, used_bytes, free_bytes, IsChunk};
-ghost use Rattle.pool_chunk.specs.ChunkStates.{all_free, IsChunkGround, HasSubpage, HasIdleSubpage, IsRunOut, IsElementOut, IsRunPlace, IsElementPlace, IsPlaceOut};
+ghost use Rattle.pool_chunk.specs.ChunkStates.{all_free, IsChunkGround, HasSubpage, HasIdleSubpage, IsInUse, IsRunOut, IsElementOut, IsRunPlace, IsElementPlace, IsPlaceOut};
 ghost use Rattle.pool_chunk.specs.Outcomes.{TakesRun, TakesSubpage, TakesElement, run_back, element_back, freed_by};
 
 use crate::place::{place_pack, place_unpack};
@@ -106,6 +106,22 @@ impl Chunk {
             unreachable!();
         };
         run.subpage.is_full()
+    }
+
+    /// The first page of the run in use in which a page lies.
+    ///
+    /// It takes a step for each page between the two: six at most in a subpage.
+    pub fn start_of(&self, page: u32) -> u32
+        requires { IsInUse self.now page }
+        ensures start { result ≡ run_start page self.now.runs }
+        ensures before { result ≤ page }
+        ensures chunk { IsChunk self.now.geometry self.now.runs }
+    {
+        let mut at = page;
+        while self.slots[at as usize].is_nothing() {
+            at -= 1;
+        }
+        at
     }
 
     /// So many pages from the front of the free run that the rule chooses, and the word of their

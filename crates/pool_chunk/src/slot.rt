@@ -1,6 +1,6 @@
 //! What of a chunk that is in use begins at a page.
 
-ghost use Rattle.std.specs.Prelude.{◌≡◌, ◌<◌, ◌≤◌, ◌^◌, ◌↔◌, ℕ, true, All, length, replicate, slice_set, slice_index_or, IfOk, IfSome, IfNone, IsNone, Some};
+ghost use Rattle.std.specs.Prelude.{◌≡◌, ◌<◌, ◌≤◌, ◌^◌, ◌↔◌, ℕ, true, All, IsTrue, length, replicate, slice_set, slice_index_or, IfOk, IfSome, IfNone, IsNone, Some};
 ghost use Rattle.size_classes.specs.Elements.{is_out, is_full};
 ghost use Rattle.subpage_bits.specs.Elements.{IsElementOf, given};
 ghost use Rattle.pool_chunk.specs.declared.slot.Slot.{Slot};
@@ -27,6 +27,19 @@ pub(crate) enum Slot {
     Nothing,
     Run(u32),
     Cut(CutRun),
+}
+
+impl Slot {
+    // Whether nothing begins there.
+    pub(crate) fn is_nothing(&self) -> bool
+        ensures { IsTrue result ↔ (self.now ≡ Slot.Nothing) }
+    {
+        match self {
+            Slot::Nothing => true,
+            Slot::Run(_) => false,
+            Slot::Cut(_) => false,
+        }
+    }
 }
 
 impl CutRun {
