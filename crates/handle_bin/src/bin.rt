@@ -1,8 +1,8 @@
 //! A bin and its calls. Contracts see the handles in it from the front to the back.
 
-ghost use Rattle.std.specs.Prelude.{◌≡◌, ◌<◌, ◌≤◌, [], ◌∷◌, ◌++◌, IfOk, OnOk, IfSome, IfNone};
+ghost use Rattle.std.specs.Prelude.{◌≡◌, ◌<◌, ◌≤◌, [], ◌∷◌, ◌++◌, IfOk, OnOk, IfSome, IfNone, IsTrue};
 ghost use Rattle.circular_buffer.specs.Buffer.{buffer};
-ghost use Rattle.handle_bin.specs.Bins.{handles_below};
+ghost use Rattle.handle_bin.specs.Bins.{handles_below, is_of};
 
 use crate::handle::Handle;
 use circular_buffer::HeapCircularBuffer;
@@ -61,6 +61,8 @@ impl Bin {
     pub fn pop(&mut self) -> Option<Handle>
         ensures some { IfSome result (λ h. self.old.ready ≡ h ∷ self.new.ready) }
         ensures handle { IfSome result (λ h. Makes self.old (Did.Handle h.place) self.new) }
+        ensures own { IfSome result (λ h. IsTrue (is_of self.old.lane self.old.handles h)) }
+        ensures some_handle { 0 < self.old.handles }
         ensures none { IfNone result (self.new ≡ self.old) }
         ensures no_handle { IfNone result (Makes self.old Did.NoHandle self.new) }
     {

@@ -9,7 +9,7 @@ impl Told for Bin {
 
     type Note = Noted;
 
-    ghost stands = { λ object. StandsFor };
+    ghost stands = { λ measures setting. StandsFor setting.grounds };
 
     ghost may_follow = { MayFollow };
 
@@ -18,5 +18,9 @@ impl Told for Bin {
 
     ghost losses = { λ place generation n. 0 };
 
-    ghost decides = { λ object. MayFollow-decided };
+    ghost decides = { λ measures setting. MayFollow-decided setting.grounds };
+
+    ghost use Rattle.step_law.specs.Settings.{no_setting};
+
+    ghost settles = { λ values. no_setting };
 }

@@ -1,5 +1,5 @@
 -- The steps as the calls ask for them: the key, the object and the slot come by equations.
-use Rattle.ground.specs.Grounds.{Grounds}
+use Rattle.step_law.specs.Settings.{Setting}
 use Rattle.std.proofs.Common.{◌≡◌, ◌≢◌, ℕ, ◌+◌, ◌-◌, ◌*◌, ◌%◌, ◌^◌, ◌<◌, List, [], ◌∷◌, ◌++◌, sym, refl, ◌∙◌, subst, arith, ◌/◌}
 use Rattle.std.specs.Prelude.{Option, Some, None, bit_or}
 use mathlib.Core.Option.{none}
@@ -11,18 +11,18 @@ use Rattle.pool_law.specs.declared.note.Object.TheVariants.{Arena, Cache, Bin, M
 use Rattle.pool_law.specs.Homes.{home_of, objects_of, IsObjectOf}
 use Rattle.table_law.specs.Histories.{IsHistory}
 use Rattle.pool_law.specs.Naming.{noted_by}
+use Rattle.table_law.specs.Measures.{measures_of}
 use Rattle.pool_table.specs.declared.views.Layout.{Layout}
 use Rattle.pool_table.specs.declared.views.SeatView.{SeatView}
 use Rattle.pool_table.specs.Words.{words_of, word_of, count_word_of}
-use Rattle.pool_table.proofs.Words.{object_word, count_word}
+use Rattle.pool_table.proofs.Words.{object_word}
 use Rattle.pool_law.specs.declared.id.RootId.{RootId}
-use Rattle.pool_table.specs.Counts.{HasCount, HasToken}
 use Rattle.pool_table.specs.Hands.{PutsDown}
-use Rattle.pool_table.specs.Hands.{HasEnded, InHand, IsBearing, Expects, MayEnter}
+use Rattle.pool_table.specs.Hands.{InHand, Waits, HasEnded, MayEnter}
+use Rattle.pool_table.specs.Counts.{HasCount, HasToken}
 use Rattle.pool_table.proofs.Presence.{next_birth}
 use Rattle.pool_law.specs.NotedHistories.{MayNote}
 use Rattle.pool_table.specs.Sound.{IsSound, IsMarked, WasHeld}
-use Rattle.table_law.specs.Measures.{measures_of}
 use Rattle.pool_table.specs.Sections.{IsInside, StandsFor}
 use Rattle.pool_table.specs.Seats.{IsMail}
 use Rattle.pool_table.specs.Steps.{IsFree}
@@ -31,7 +31,11 @@ use Rattle.atomic_table.specs.Table.{Step, rest}
 use Rattle.pool_table.specs.Views.{blank, joined}
 use Rattle.pool_table.specs.Steps.{claims, marks_claims, GotIn, dones, idles, blank_beside, retains, looks, releases, vacates, births}
 use Rattle.pool_table.proofs.Seatings.{splits_allowed, joins_allowed}
-use Rattle.pool_table.proofs.Hands.{births_allowed}
+use Rattle.pool_table.proofs.Hands.{births_allowed, hand_place}
+use Rattle.pool_table.proofs.Exact.{born_place, count_born, token_born}
+use mathlib.Core.Option.{some}
+use lib.ListN.{get_elem?}
+use Rattle.atomic_table.specs.Table.{State}
 use Rattle.pool_table.proofs.References.{retains_allowed, looks_allowed, releases_allowed, vacates_allowed}
 use Rattle.pool_table.proofs.Moves.{claims_allowed, marks_allowed, dones_allowed, idles_allowed}
 
@@ -46,16 +50,28 @@ unmarked_mail (Bin b) m k = k
 unmarked_mail (Mail f t) m k = k
 unmarked_mail (Root p) m k = m
 
-module _ {H : Type 0} (stands : List ℕ → Grounds → List Noted → H → Type 0) where
-  pub claims_as : (l key l' : Layout) (o o' : Object) (slots slot id : ℕ) (me : Me (Option H) SeatView) → key ≡ l → slots ≡ objects_of l.shape → slot ≡ word_of l.shape o → o' ≡ o → l' ≡ l → IsObjectOf l.shape o → IsFree me → 0 < me.0.turns → ((p : ℕ) → o ≡ Root p → MayEnter p me.0)
-      → Allows (IsSound stands key) slots id me slot (λ n. bit_or n 1) (claims stands l' o' (step slots slot 1 0 none) me)
-  claims_as l key l' o o' slots slot id me ke se ie oe le fits out turn may =
-      subst (λ (y : Layout × ℕ × ℕ × Object × Layout). Allows (IsSound stands y.0) y.1 id me y.2 (λ n. bit_or n 1) (claims stands y.4 y.3 (step y.1 y.2 1 0 none) me)) (λ q. (sym ke q, sym se q, sym ie q, sym oe q, sym le q)) (claims_allowed stands l id me o fits out turn may)
+-- what a birth tells, by the root's name
+pub births_told : {H : Type 0} (r root : RootId) (s : Step (Option H)) (me : Me (Option H) SeatView) (found : ℕ) (after : Me (Option H) SeatView) → r ≡ root → births r s me found after → births root s me found after
+births_told r root s me found after same told = subst (λ (q : RootId). births q s me found after) same told
 
-  pub marks_as : (l key l' : Layout) (o o' : Object) (slots slot id : ℕ) (me : Me (Option H) SeatView) → key ≡ l → slots ≡ objects_of l.shape → slot ≡ word_of l.shape o → o' ≡ o → l' ≡ l → IsObjectOf l.shape o → IsFree me → 0 < me.0.turns → ((p : ℕ) → o ≡ Root p → MayEnter p me.0) → IsMarked o
+pub releases_told : {H : Type 0} (r root : RootId) (s : Step (Option H)) (me : Me (Option H) SeatView) (found : ℕ) (after : Me (Option H) SeatView) → r ≡ root → releases r s me found after → releases root s me found after
+releases_told r root s me found after same told = subst (λ (q : RootId). releases q s me found after) same told
+
+pub vacates_told : {H : Type 0} (r root : RootId) (s : Step (Option H)) (me : Me (Option H) SeatView) (found : ℕ) (after : Me (Option H) SeatView) → r ≡ root → vacates r s me found after → InHand root.place after.0
+vacates_told {H} r root s me found after same told =
+    let t : vacates root s me found after = subst (λ (q : RootId). vacates q s me found after) same told in
+    subst (λ (m : Me (Option H) SeatView). InHand root.place m.0) (sym t.0) t.1
+
+module _ {H : Type 0} (stands : List ℕ → Setting → List Noted → H → Type 0) where
+  pub claims_as : (l key l' : Layout) → 0 < l.shape.handles → (o o' : Object) (slots slot id : ℕ) (me : Me (Option H) SeatView) → key ≡ l → slots ≡ objects_of l.shape → slot ≡ word_of l.shape o → o' ≡ o → l' ≡ l → IsObjectOf l.shape o → IsFree me → 0 < me.0.turns → ((p : ℕ) → o ≡ Root p → MayEnter p me.0)
+      → Allows (IsSound stands key) slots id me slot (λ n. bit_or n 1) (claims stands l' o' (step slots slot 1 0 none) me)
+  claims_as l key l' some_handle o o' slots slot id me ke se ie oe le fits out turn may =
+      subst (λ (y : Layout × ℕ × ℕ × Object × Layout). Allows (IsSound stands y.0) y.1 id me y.2 (λ n. bit_or n 1) (claims stands y.4 y.3 (step y.1 y.2 1 0 none) me)) (λ q. (sym ke q, sym se q, sym ie q, sym oe q, sym le q)) (claims_allowed stands l some_handle id me o fits out turn may)
+
+  pub marks_as : (l key l' : Layout) → 0 < l.shape.handles → (o o' : Object) (slots slot id : ℕ) (me : Me (Option H) SeatView) → key ≡ l → slots ≡ objects_of l.shape → slot ≡ word_of l.shape o → o' ≡ o → l' ≡ l → IsObjectOf l.shape o → IsFree me → 0 < me.0.turns → ((p : ℕ) → o ≡ Root p → MayEnter p me.0) → IsMarked o
       → Allows (IsSound stands key) slots id me slot (λ n. bit_or n 1) (marks_claims stands l' o' (step slots slot 1 0 none) me)
-  marks_as l key l' o o' slots slot id me ke se ie oe le fits out turn may marked =
-      subst (λ (y : Layout × ℕ × ℕ × Object × Layout). Allows (IsSound stands y.0) y.1 id me y.2 (λ n. bit_or n 1) (marks_claims stands y.4 y.3 (step y.1 y.2 1 0 none) me)) (λ q. (sym ke q, sym se q, sym ie q, sym oe q, sym le q)) (marks_allowed stands l id me o fits out turn may marked)
+  marks_as l key l' some_handle o o' slots slot id me ke se ie oe le fits out turn may marked =
+      subst (λ (y : Layout × ℕ × ℕ × Object × Layout). Allows (IsSound stands y.0) y.1 id me y.2 (λ n. bit_or n 1) (marks_claims stands y.4 y.3 (step y.1 y.2 1 0 none) me)) (λ q. (sym ke q, sym se q, sym ie q, sym oe q, sym le q)) (marks_allowed stands l some_handle id me o fits out turn may marked)
 
   -- the seat as it is once the home value is back in the slot
   pub dones_as : (l key : Layout) (o : Object) (slots slot word id id' : ℕ) (me me' : Me (Option H) SeatView) (h : List Noted) (home : H) (note : Noted) → key ≡ l → slots ≡ objects_of l.shape → word ≡ word_of l.shape o → IsInside l.shape me o slot h → id' ≡ id → me' ≡ (me.0, (slot, Some home) ∷ [])
@@ -78,7 +94,7 @@ module _ {H : Type 0} (stands : List ℕ → Grounds → List Noted → H → Ty
   pub joins_as : (l key : Layout) (id other : ℕ) (v w : SeatView) → key ≡ l → v.inside ≡ None → w.inside ≡ None → Joins (IsSound stands key) id v other w (joined v w) (blank None)
   joins_as l key id other v w ke vo wo = subst (λ (k : Layout). Joins (IsSound stands k) id v other w (joined v w) (blank None)) (sym ke) (joins_allowed stands l id other v w vo wo)
 
-module _ {H : Type 0} (stands : List ℕ → Grounds → List Noted → H → Type 0) (l : Layout) (o : Object) where
+module _ {H : Type 0} (stands : List ℕ → Setting → List Noted → H → Type 0) (l : Layout) (o : Object) where
   -- an even word was found
   pub got_in : (mark : Bool) (s : Step (Option H)) (me : Me (Option H) SeatView) (found : ℕ) (after : Me (Option H) SeatView) → MatchBool mark (marks_claims stands l o s me found after) (claims stands l o s me found after) → found % 2 ≢ 1 → GotIn stands l o (home_of l.shape o) me found after
   got_in true s me found after told even = told.0 (omega (arith, even))
@@ -93,26 +109,38 @@ module _ {H : Type 0} (stands : List ℕ → Grounds → List Noted → H → Ty
   pub took : (word slot found : ℕ) (me after : Me (Option H) SeatView) → me.1 ≡ [] → slot ≡ word → GotIn stands l o word me found after → (x : Option H) × (after.1 ≡ (slot, x) ∷ rest after.1)
   took word slot found me after empty is g = let e : after.1 ≡ (slot, Some g.1) ∷ [] = g.4 ∙ (λ q. (sym is q, Some g.1) ∷ empty q) in (Some g.1, e ∙ (λ q. (slot, Some g.1) ∷ rest (sym e q)))
 
-module _ {H : Type 0} (stands : List ℕ → Grounds → List Noted → H → Type 0) (l : Layout) where
-  pub ref_within : (place word words : ℕ) → place < l.shape.lanes * l.shape.handles → word ≡ count_word_of l.shape place → words ≡ words_of l.shape → word < words
-  ref_within place word words lt is are = subst (λ (y : ℕ × ℕ). y.0 < y.1) (λ q. (sym is q, sym are q)) (count_word l.shape place lt)
+module _ {H : Type 0} (stands : List ℕ → Setting → List Noted → H → Type 0) (l : Layout) where
+  -- what a step on a root's word asks, where the root's place is one of the shape's, it asks at any word that is then its own
+  at_root : (id : ℕ) (me : Me (Option H) SeatView) (place word : ℕ) (f : ℕ → ℕ) (then : ℕ → Me (Option H) SeatView → Type 0)
+      → ((s : State (Option H) SeatView) (r : IsSound stands l s) → get_elem? s.views id ≡ some me.0 → place < l.shape.lanes * l.shape.handles) → (place < l.shape.lanes * l.shape.handles → word ≡ count_word_of l.shape place)
+      → (place < l.shape.lanes * l.shape.handles → Allows (IsSound stands l) (objects_of l.shape) id me (count_word_of l.shape place) f then) → Allows (IsSound stands l) (objects_of l.shape) id me word f then
+  at_root id me place word f then fits is allowed s r wide at under =
+      let lt = fits s r at in subst (λ (w : ℕ). Allows (IsSound stands l) (objects_of l.shape) id me w f then) (sym (is lt)) (allowed lt) s r wide at under
 
-  pub retains_as : (key : Layout) (slots word id : ℕ) (me : Me (Option H) SeatView) (root root' : RootId) → key ≡ l → slots ≡ objects_of l.shape → word ≡ count_word_of l.shape root.place → root' ≡ root → root.place < l.shape.lanes * l.shape.handles → HasCount root.place root.generation me.0 → 0 < me.0.moves → me.0.inside ≡ None
-      → Allows (IsSound stands key) slots id me word (λ n. (n + 2) % 2 ^ 64) (retains root' (step slots word 2 0 none) me)
-  retains_as key slots word id me root root' ke se we re lt has moves out = subst (λ (y : Layout × ℕ × ℕ × RootId). Allows (IsSound stands y.0) y.1 id me y.2 (λ n. (n + 2) % 2 ^ 64) (retains y.3 (step y.1 y.2 2 0 none) me)) (λ q. (sym ke q, sym se q, sym we q, sym re q)) (retains_allowed stands l id me root lt has out moves)
+  pub within : (word words : ℕ) → word < words_of l.shape → words ≡ words_of l.shape → word < words
+  within word words lt are = subst (λ (y : ℕ). word < y) (sym are) lt
 
-  pub looks_as : (key : Layout) (slots word id : ℕ) (me : Me (Option H) SeatView) (root root' : RootId) → key ≡ l → slots ≡ objects_of l.shape → word ≡ count_word_of l.shape root.place → root' ≡ root → root.place < l.shape.lanes * l.shape.handles → HasCount root.place root.generation me.0 → me.0.inside ≡ None
-      → Allows (IsSound stands key) slots id me word (λ n. n) (looks root' (step slots word 0 0 none) me)
-  looks_as key slots word id me root root' ke se we re lt has out = subst (λ (y : Layout × ℕ × ℕ × RootId). Allows (IsSound stands y.0) y.1 id me y.2 (λ n. n) (looks y.3 (step y.1 y.2 0 0 none) me)) (λ q. (sym ke q, sym se q, sym we q, sym re q)) (looks_allowed stands l id me root lt has out)
+  module _ (key : Layout) (slots word id : ℕ) (me : Me (Option H) SeatView) (root root' : RootId) (ke : key ≡ l) (se : slots ≡ objects_of l.shape) (re : root' ≡ root) (is : root.place < l.shape.lanes * l.shape.handles → word ≡ count_word_of l.shape root.place) (out : me.0.inside ≡ None) where
+    counted_fits : HasCount root me.0 → (s : State (Option H) SeatView) (r : IsSound stands l s) → get_elem? s.views id ≡ some me.0 → root.place < l.shape.lanes * l.shape.handles
+    counted_fits has s r at = born_place stands l s r root (count_born stands l s r id me.0 at root has)
 
-  pub releases_as : (key : Layout) (slots word id : ℕ) (me : Me (Option H) SeatView) (root root' : RootId) → key ≡ l → slots ≡ objects_of l.shape → word ≡ count_word_of l.shape root.place → root' ≡ root → root.place < l.shape.lanes * l.shape.handles → HasCount root.place root.generation me.0 → me.0.inside ≡ None
-      → Allows (IsSound stands key) slots id me word (λ n. (n + (2 ^ 64 - 2)) % 2 ^ 64) (releases root' (step slots word 2 0 none) me)
-  releases_as key slots word id me root root' ke se we re lt has out = subst (λ (y : Layout × ℕ × ℕ × RootId). Allows (IsSound stands y.0) y.1 id me y.2 (λ n. (n + (2 ^ 64 - 2)) % 2 ^ 64) (releases y.3 (step y.1 y.2 2 0 none) me)) (λ q. (sym ke q, sym se q, sym we q, sym re q)) (releases_allowed stands l id me root lt has out)
+    pub retains_as : HasCount root me.0 → 0 < me.0.moves → Allows (IsSound stands key) slots id me word (λ n. (n + 2) % 2 ^ 64) (retains root' (step slots word 2 0 none) me)
+    retains_as has moves = subst (λ (y : Layout × ℕ × RootId). Allows (IsSound stands y.0) y.1 id me word (λ n. (n + 2) % 2 ^ 64) (retains y.2 (step y.1 word 2 0 none) me)) (λ q. (sym ke q, sym se q, sym re q))
+        (at_root id me root.place word (λ n. (n + 2) % 2 ^ 64) (retains root (step (objects_of l.shape) word 2 0 none) me) (counted_fits has) is (λ lt. retains_allowed stands l id me root lt has out moves))
 
-  pub vacates_as : (key : Layout) (slots word id : ℕ) (me : Me (Option H) SeatView) (root root' : RootId) → key ≡ l → slots ≡ objects_of l.shape → word ≡ count_word_of l.shape root.place → root' ≡ root → root.place < l.shape.lanes * l.shape.handles → HasToken root.place root.generation me.0 → HasEnded root.place root.generation me.0 → me.0.inside ≡ None
-      → Allows (IsSound stands key) slots id me word (λ n. (n + 1) % 2 ^ 64) (vacates root' (step slots word 1 0 none) me)
-  vacates_as key slots word id me root root' ke se we re lt has ended out = subst (λ (y : Layout × ℕ × ℕ × RootId). Allows (IsSound stands y.0) y.1 id me y.2 (λ n. (n + 1) % 2 ^ 64) (vacates y.3 (step y.1 y.2 1 0 none) me)) (λ q. (sym ke q, sym se q, sym we q, sym re q)) (vacates_allowed stands l id me root lt has ended out)
+    pub looks_as : HasCount root me.0 → Allows (IsSound stands key) slots id me word (λ n. n) (looks root' (step slots word 0 0 none) me)
+    looks_as has = subst (λ (y : Layout × ℕ × RootId). Allows (IsSound stands y.0) y.1 id me word (λ n. n) (looks y.2 (step y.1 word 0 0 none) me)) (λ q. (sym ke q, sym se q, sym re q))
+        (at_root id me root.place word (λ n. n) (looks root (step (objects_of l.shape) word 0 0 none) me) (counted_fits has) is (λ lt. looks_allowed stands l id me root lt has out))
 
-  pub births_as : (key : Layout) (slots word id : ℕ) (me : Me (Option H) SeatView) (root root' : RootId) → key ≡ l → slots ≡ objects_of l.shape → word ≡ count_word_of l.shape root.place → root' ≡ root → root.place < l.shape.lanes * l.shape.handles → InHand root.place me.0 → IsBearing root.place me.0 → Expects root.place root.capacity me.0 → 0 < me.0.moves → me.0.inside ≡ None
-      → Allows (IsSound stands key) slots id me word (λ n. (n + 4294967297) % 2 ^ 64) (births root' (step slots word 4294967297 0 none) me)
-  births_as key slots word id me root root' ke se we re lt has bearing ex moves out = subst (λ (y : Layout × ℕ × ℕ × RootId). Allows (IsSound stands y.0) y.1 id me y.2 (λ n. (n + 4294967297) % 2 ^ 64) (births y.3 (step y.1 y.2 4294967297 0 none) me)) (λ q. (sym ke q, sym se q, sym we q, sym re q)) (births_allowed stands l id me root lt has bearing ex (λ s r lt at. next_birth stands l s r id root.place ex.0 me.0 lt at ex.1) moves out)
+    pub releases_as : HasCount root me.0 → Allows (IsSound stands key) slots id me word (λ n. (n + (2 ^ 64 - 2)) % 2 ^ 64) (releases root' (step slots word 2 0 none) me)
+    releases_as has = subst (λ (y : Layout × ℕ × RootId). Allows (IsSound stands y.0) y.1 id me word (λ n. (n + (2 ^ 64 - 2)) % 2 ^ 64) (releases y.2 (step y.1 word 2 0 none) me)) (λ q. (sym ke q, sym se q, sym re q))
+        (at_root id me root.place word (λ n. (n + (2 ^ 64 - 2)) % 2 ^ 64) (releases root (step (objects_of l.shape) word 2 0 none) me) (counted_fits has) is (λ lt. releases_allowed stands l id me root lt has out))
+
+    pub vacates_as : HasToken root me.0 → HasEnded root me.0 → Allows (IsSound stands key) slots id me word (λ n. (n + 1) % 2 ^ 64) (vacates root' (step slots word 1 0 none) me)
+    vacates_as has ended = subst (λ (y : Layout × ℕ × RootId). Allows (IsSound stands y.0) y.1 id me word (λ n. (n + 1) % 2 ^ 64) (vacates y.2 (step y.1 word 1 0 none) me)) (λ q. (sym ke q, sym se q, sym re q))
+        (at_root id me root.place word (λ n. (n + 1) % 2 ^ 64) (vacates root (step (objects_of l.shape) word 1 0 none) me) (λ s r at. born_place stands l s r root (token_born stands l s r id me.0 at root has)) is (λ lt. vacates_allowed stands l id me root lt has ended out))
+
+    pub births_as : 0 < l.shape.handles → InHand root.place me.0 → (q : RootId) × (q.place ≡ root.place) × (q.capacity ≡ root.capacity) × Waits q me.0 → 0 < me.0.moves → Allows (IsSound stands key) slots id me word (λ n. (n + 4294967297) % 2 ^ 64) (births root' (step slots word 4294967297 0 none) me)
+    births_as some_handle has waits moves = subst (λ (y : Layout × ℕ × RootId). Allows (IsSound stands y.0) y.1 id me word (λ n. (n + 4294967297) % 2 ^ 64) (births y.2 (step y.1 word 4294967297 0 none) me)) (λ q. (sym ke q, sym se q, sym re q))
+        (at_root id me root.place word (λ n. (n + 4294967297) % 2 ^ 64) (births root (step (objects_of l.shape) word 4294967297 0 none) me) (λ s r at. hand_place stands l some_handle s r id root.place me.0 at has) is
+        (λ lt. births_allowed stands l id me root lt has waits (λ s r lt g at less. next_birth stands l s r id root.place g me.0 lt at less) moves out))

@@ -1,5 +1,5 @@
 -- What is known when the table is closed with the seat that has the parts of all lanes.
-use Rattle.ground.specs.Grounds.{Grounds}
+use Rattle.step_law.specs.Settings.{Setting}
 use Rattle.std.proofs.Common.{◌≡◌, ◌≢◌, ℕ, ◌+◌, ◌-◌, ◌*◌, ◌<◌, ◌≤◌, List, [], ◌∷◌, map, length, get_or, Bool, false, true≢false, sym, refl, ap, ◌∙◌, subst, arith, eq-eqb, lt_of_not-le}
 use Rattle.std.specs.Prelude.{Option, Some, None, All, sum_by, slice_index}
 use mathlib.Core.Logic.{dite}
@@ -25,6 +25,15 @@ use Rattle.std.proofs.lemmas.List.Elements.{All-cons, All-nil}
 use Rattle.pool_table.specs.Counts.{IsCounted, weigh, on_root, on_place, ref_retain}
 use Rattle.pool_table.proofs.Looks.{looks_regroup}
 use Rattle.pool_table.proofs.Order.{order_regroups}
+use Rattle.pool_table.proofs.Births.{born_regroups}
+use Rattle.pool_table.proofs.Exact.{one_born}
+use Rattle.pool_table.specs.Births.{IsBorn}
+use Rattle.pool_table.specs.Hands.{at_birth_as, from_arena, to_arena, from_cache, to_cache, from_place, to_place, grasped, laid, uses_come, uses_gone}
+use Rattle.table_law.specs.NoteCounts.{is_taking, uses_in}
+use Rattle.pool_law.specs.declared.id.RegionId.{RegionId}
+use Rattle.pool_table.proofs.Ledgers.{sum_add}
+use Rattle.pool_table.proofs.Regions.{in_one_hold}
+use Rattle.pool_law.specs.declared.id.RootId.{RootId}
 use Rattle.pool_table.proofs.Counts.{other_kept}
 use Rattle.pool_table.proofs.Weights.{weigh_none}
 use Rattle.pool_table.specs.Sound.{IsSound, IsView, IsTold, IsIdle}
@@ -33,7 +42,7 @@ use Rattle.pool_table.proofs.Tables.{none_counted}
 use Rattle.pool_table.proofs.Openings.{empty_strands, counts_none}
 use Rattle.pool_table.proofs.Moves.{under}
 
-module _ {H : Type 0} (stands : List ℕ → Grounds → List Noted → H → Type 0) (l : Layout) where
+module _ {H : Type 0} (stands : List ℕ → Setting → List Noted → H → Type 0) (l : Layout) where
   abbrev St : Type 0
   St = State (Option H) SeatView
 
@@ -51,7 +60,7 @@ module _ {H : Type 0} (stands : List ℕ → Grounds → List Noted → H → Ty
   unnumbered (Some m) no_lane = absurd (true≢false (sym (eq-eqb m m refl) ∙ no_lane m))
 
   idle_others : (s : St) (r : IsSound stands l s) (id : ℕ) (v : SeatView) → get_elem? s.views id ≡ some v → HasAllLanes l v → (j : ℕ) (u : SeatView) → j ≢ id → get_elem? s.views j ≡ some u → IsIdle u
-  idle_others s r id v at all j u ne at' = (each_at (IsView l.shape r.grounds) s.views j u r.views at').unnumbered
+  idle_others s r id v at all j u ne at' = (each_at (IsView l.shape r.setting) s.views j u r.views at').unnumbered
       (λ k d lt. unnumbered (get_or (parts_of u) k d).number (λ m. none_counted stands l (λ (p : Part). is_lane m p.number) (parts_of u) (others_unnumbered s r id v at all j u ne at' m) k d lt))
 
   -- so nothing of an object stands outside the view
@@ -72,14 +81,50 @@ module _ {H : Type 0} (stands : List ℕ → Grounds → List Noted → H → Ty
   regroups : (s : St) (id : ℕ) (v : SeatView) → get_elem? s.views id ≡ some v → (P : Part → Type 0) → ((q : Part) → q.notes ≡ [] → P q) → All (λ (u : SeatView). All P (parts_of u)) s.views → All (λ (u : SeatView). All P (parts_of u)) (v ∷ [])
   regroups s id v at P none_of all = All-cons (λ (u : SeatView). All P (parts_of u)) v [] (each_at (λ (u : SeatView). All P (parts_of u)) s.views id v all at) (All-nil (λ (u : SeatView). All P (parts_of u)))
 
+  -- what was born in the view was born
+  in_all : (s : St) (r : IsSound stands l s) (id : ℕ) (v : SeatView) → get_elem? s.views id ≡ some v → HasAllLanes l v → (q : RootId) → IsBorn (v ∷ []) q → IsBorn s.views q
+  in_all s r id v at all q born = let a = alone_weighs s r id v at all (at_birth_as q.place q.generation q.capacity) in omega (arith, a, born)
+
+  -- what the view has in hand is what all views have
+  alone_sums : (s : St) (r : IsSound stands l s) (id : ℕ) (v : SeatView) → get_elem? s.views id ≡ some v → HasAllLanes l v →
+      ((q : RegionId) → sum_by (grasped (is_taking q)) (v ∷ []) ≡ sum_by (grasped (is_taking q)) s.views) × ((q : RegionId) → sum_by (laid (is_taking q)) (v ∷ []) ≡ sum_by (laid (is_taking q)) s.views)
+      × ((q : RegionId) → sum_by (uses_come q) (v ∷ []) ≡ sum_by (uses_come q) s.views) × ((q : RegionId) → sum_by (uses_gone q) (v ∷ []) ≡ sum_by (uses_gone q) s.views)
+  alone_sums s r id v at all = (
+    λ q. grasps (is_taking q),
+    λ q. lays (is_taking q),
+    λ q. (let a = sum_add (grasped (uses_in q)) (weigh (to_place (is_taking q))) (v ∷ []) in let b = sum_add (grasped (uses_in q)) (weigh (to_place (is_taking q))) s.views in
+        let c = grasps (uses_in q) in let d = alone_weighs s r id v at all (to_place (is_taking q)) in omega (arith, a, b, c, d)),
+    λ q. lays (uses_in q),
+  )
+    where
+      three : (f g h : Entry → ℕ) → sum_by (λ (u : SeatView). weigh f u + (weigh g u + weigh h u)) (v ∷ []) ≡ sum_by (λ (u : SeatView). weigh f u + (weigh g u + weigh h u)) s.views
+      three f g h =
+          let a = sum_add (weigh f) (λ (u : SeatView). weigh g u + weigh h u) (v ∷ []) in let b = sum_add (weigh g) (weigh h) (v ∷ []) in
+          let c = sum_add (weigh f) (λ (u : SeatView). weigh g u + weigh h u) s.views in let d = sum_add (weigh g) (weigh h) s.views in
+          let x = alone_weighs s r id v at all f in let y = alone_weighs s r id v at all g in let z = alone_weighs s r id v at all h in omega (arith, a, b, c, d, x, y, z)
+
+      grasps : (w : RegionId → ℕ) → sum_by (grasped w) (v ∷ []) ≡ sum_by (grasped w) s.views
+      grasps w = three (from_arena w) (from_cache w) (from_place w)
+
+      lays : (w : RegionId → ℕ) → sum_by (laid w) (v ∷ []) ≡ sum_by (laid w) s.views
+      lays w = three (to_arena w) (to_cache w) (to_place w)
+
   -- the words are handed out in the order of the list
   pub closes : (id : ℕ) (v : SeatView) (words out : List ℕ) (homes : List (Option H)) → length out ≡ listed_of l.shape → ((k : ℕ) → k < listed_of l.shape → slice_index out k ≡ slice_index words (word_at l.shape k)) → v.inside ≡ None → HasAllLanes l v → length homes ≡ objects_of l.shape → Final (Seen (IsSound stands l) id v) words homes → IsClosed stands l v homes out
   closes id v words out homes many laid outside all wide (s, seen, same, long, there) =
       let r = seen.0 in let at = seen.1 in
-      let fine = each_at (IsView l.shape r.grounds) s.views id v r.views at in record {
+      let fine = each_at (IsView l.shape r.setting) s.views id v r.views at in record {
         word_count = many;
         home_count = wide;
-        notes = fine.notes;
+        setting = r.setting;
+        view = fine;
+        alone = λ q t bq bt ep eg. one_born stands l s r q t (in_all s r id v at all q bq) (in_all s r id v at all t bt) ep eg;
+        born = born_regroups s.views (v ∷ []) (λ f. alone_weighs s r id v at all f) (regroups s id v at) r.born;
+        takings = λ q fits arena caches places are.
+            let one = in_one_hold stands l s r q fits arena caches places (record { arena_is = are.arena_is; caches_are = are.caches_are; places_are = are.places_are }) in
+            let h = one.held in let u = one.uses in let same = alone_sums s r id v at all in
+            let g = same.0 q in let k = same.1 q in let m = same.2 q in let n = same.3 q in let b = alone_weighs s r id v at all (to_place (is_taking q)) in
+            record { once = one.once; held = omega (arith, h, g, k); uses = λ lt. let t = u lt in omega (arith, t, m, n, b) };
         looks = looks_regroup s.views (v ∷ []) (λ p g. alone_weighs s r id v at all (on_root ref_retain p g)) (regroups s id v at) r.looks;
         order = order_regroups s.views (v ∷ []) (regroups s id v at) r.order;
         counts = λ p lt. subst (IsCounted p (v ∷ [])) (ap (λ (ws : List ℕ). slice_index ws (count_word_of l.shape p)) same ∙ sym (laid (objects_of l.shape + p) (count_listed l.shape p lt)))
@@ -102,6 +147,6 @@ module _ {H : Type 0} (stands : List ℕ → Grounds → List Noted → H → Ty
               told = subst (λ (z : ℕ). All (IsTold o h z) (face l.shape i v).parts) lim told;
               once = λ j lt. tot (is_numbered (j + 1)) ∙ k.once j lt;
               as_many = tot is_at ∙ k.as_many;
-              home_is = (hv.0, there i (Some hv.0) hv.1, under v.grounds r.grounds (λ g. stands (measures_of l.shape o) g h hv.0) fine.grounds_are hv.2);
+              home_is = (hv.0, there i (Some hv.0) hv.1, under v.setting r.setting (λ g. stands (measures_of l.shape o) g h hv.0) fine.setting_is hv.2);
             };
       }

@@ -1,9 +1,14 @@
 pub mod Lists
 pub mod Order
 pub mod Looks
+pub mod Births
+pub mod Makers
 pub mod Newest
 pub mod Words
 pub mod Counts
+pub mod AtPlace
+pub mod Ledgers
+pub mod Holdings
 pub mod Weights
 pub mod Objects
 pub mod Tables
@@ -14,10 +19,16 @@ pub mod Openings
 pub mod Closings
 pub mod Starts
 pub mod Partition
+pub mod Exact
+pub mod Putting
 pub mod Transit
 pub mod References
 pub mod Hands
 pub mod Regions
+pub mod OwnCaches
+pub mod After
+pub mod LaneCounts
 pub mod Places
 pub mod Presence
+pub mod RootCalls
 mod Trials

@@ -1,5 +1,5 @@
 -- Each step of a section keeps the rule.
-use Rattle.ground.specs.Grounds.{Grounds}
+use Rattle.step_law.specs.Settings.{Setting}
 use Rattle.std.proofs.Common.{◌≡◌, ◌≢◌, ◌⊎◌, ℕ, ◌+◌, ◌-◌, ◌*◌, ◌/◌, ◌%◌, ◌^◌, ◌<◌, ◌≤◌, List, [], ◌∷◌, ◌++◌, map, length, set, Bool, true, false, cond, eqb, sym, refl, ap, ◌∙◌, subst, inl, inr, ⊎_elim, arith, length-set, eq-eqb, ne_eqb, le_refl}
 use Rattle.std.specs.Prelude.{Option, Some, None, IfSome, All, sum_by, count_by, slice_index, bit_or, bit_and}
 use Rattle.std.specs.Int.Bits.{or_add_and}
@@ -38,19 +38,27 @@ use Rattle.pool_law.specs.declared.note.Did.{Did}
 use Rattle.pool_law.specs.declared.id.Parcel.{Parcel}
 use Rattle.pool_law.specs.declared.id.ViewData.{ViewData}
 use Rattle.std.specs.Prelude.{◌&&◌}
-use Rattle.pool_law.specs.declared.note.Did.TheVariants.{Give, Kept, Home, Post, Birth, End}
+use Rattle.pool_law.specs.declared.note.Did.TheVariants.{Home, Post, Birth, End}
 use Rattle.table_law.specs.NoteCounts.{did_home, did_post, parcel_weight, did_birth, did_end}
 use Rattle.table_law.specs.Standing.{IsRooted}
 use Rattle.table_law.proofs.InPlace.{in_place}
-use Rattle.pool_table.proofs.Regions.{arena_tells}
+use Rattle.pool_table.proofs.Regions.{arena_tells, few_uses, in_hand_once, next_free}
+use Rattle.pool_table.proofs.OwnCaches.{cache_tells}
+use Rattle.pool_table.proofs.Hands.{hand_place}
+use Rattle.pool_table.proofs.Makers.{each_may}
 use Rattle.pool_table.proofs.Places.{hand_bin}
 use Rattle.pool_table.proofs.Presence.{tells_root, birth_alone, end_first}
 use Rattle.pool_table.specs.Counts.{weigh, on_root, gained, lost, ref_ended}
 use Rattle.pool_table.specs.Hands.{PutsDown}
-use Rattle.pool_table.specs.Hands.{put_down, taken, MayEnter, at_end, InHand, NoneWaits, IsOrderly, did_lay, HasRegion}
+use Rattle.pool_table.specs.Hands.{put_down, taken, MayEnter, at_end, InHand, NoneWaits, IsOrderly}
+use Rattle.pool_table.proofs.Holdings.{note_handles}
 use Rattle.pool_table.proofs.Weights.{IsWeighedSame, same_parts, same_entry, counted_parts, counted_entry, settled_same, handy_parts, handy_entry, orderly_parts, orderly_entry, enters_none}
 use Rattle.pool_table.specs.Order.{IsBelow}
 use Rattle.pool_table.proofs.Looks.{looks_same, looks_entry}
+use Rattle.pool_table.proofs.AtPlace.{PutsAt}
+use Rattle.pool_table.proofs.Births.{born_same, born_entry}
+use Rattle.pool_table.proofs.Putting.{puts_at, note_born}
+use Rattle.pool_table.proofs.Exact.{counted_of, vacated_of}
 use Rattle.pool_table.proofs.Order.{IsNewest, newest, order_same, order_entry}
 use Rattle.pool_table.proofs.Newest.{newest_note}
 use Rattle.pool_law.specs.NotedHistories.{MayNote}
@@ -70,7 +78,7 @@ or_even word n e = let a = or_one word in let b : word % 2 ≡ 0 = omega (arith,
 pub or_odd : (word n : ℕ) → word ≡ 2 * n + 1 → bit_or word 1 ≡ word
 or_odd word n e = let a = or_one word in let b : word % 2 ≡ 1 = omega (arith, e) in omega (arith, a, b)
 
-pub under : (x : Option Grounds) (gs : Grounds) (P : Grounds → Type 0) → IfSome x (λ (g : Grounds). g ≡ gs) → P gs → IfSome x P
+pub under : (x : Option Setting) (gs : Setting) (P : Setting → Type 0) → IfSome x (λ (g : Setting). g ≡ gs) → P gs → IfSome x P
 under (Some g) gs P e p = subst P (sym e) p
 under None gs P e p = tt
 
@@ -80,7 +88,7 @@ unmarked_below b (At o j m) = tt
 unmarked_below b (Ref r d) = tt
 unmarked_below b (Busy a) = tt
 
-module _ {H : Type 0} (stands : List ℕ → Grounds → List Noted → H → Type 0) (l : Layout) where
+module _ {H : Type 0} (stands : List ℕ → Setting → List Noted → H → Type 0) (l : Layout) where
   -- a view in no section, as an object sees it
   outside_face : (i : ℕ) (v : SeatView) → v.inside ≡ None → face l.shape i v ≡ record { parts = map (strand l.shape i) (parts_of v); inside = None }
   outside_face i v e = ap (λ (x : Option Inside). record { parts = map (strand l.shape i) (parts_of v); inside = inside_at l.shape i x }) e
@@ -93,7 +101,7 @@ module _ {H : Type 0} (stands : List ℕ → Grounds → List Noted → H → Ty
   away_face i v x e away = ap (λ (y : Option Inside). record { parts = map (strand l.shape i) (parts_of v); inside = inside_at l.shape i y }) e
       ∙ ap (λ (b : Bool). record { parts = map (strand l.shape i) (parts_of v); inside = cond b (Some x) None }) (ne_eqb (home_of l.shape x.object) i away)
 
-  not_idle : (gs : Grounds) (v : SeatView) → IsView l.shape gs v → 0 < v.turns → All (λ (p : Part). p.number ≡ None) (parts_of v) → ⊥
+  not_idle : (gs : Setting) (v : SeatView) → IsView l.shape gs v → 0 < v.turns → All (λ (p : Part). p.number ≡ None) (parts_of v) → ⊥
   not_idle gs v fine lt all = let e = (fine.unnumbered all).turns in omega (arith, e, lt)
 
   -- the parts with one entry more are as many, with the same numbers
@@ -103,7 +111,7 @@ module _ {H : Type 0} (stands : List ℕ → Grounds → List Noted → H → Ty
   same_numbered : (v : SeatView) (e : Entry) (t m : ℕ) → numbered m (with_entry v e t) ≡ numbered m v
   same_numbered v e t m = let c = sum_by-cons (λ (p : Part). cond {A = ℕ} (is_lane m p.number) 1 0) (with_entry v e t).own v.others in let d = sum_by-cons (λ (p : Part). cond {A = ℕ} (is_lane m p.number) 1 0) v.own v.others in omega (arith, c, d)
 
-  entry_view : (gs : Grounds) (v : SeatView) (e : Entry) (t : ℕ) → IsWeighedSame v (with_entry v e t) → ((p g : ℕ) → lost p g (with_entry v e t) ≤ gained p g (with_entry v e t)) → ((p : ℕ) → put_down p (with_entry v e t) ≤ taken p (with_entry v e t)) → IsOrderly (with_entry v e t) → IsView l.shape gs v → 0 < v.turns → Stands l.shape v.own.number e → IsView l.shape gs (with_entry v e t)
+  entry_view : (gs : Setting) (v : SeatView) (e : Entry) (t : ℕ) → IsWeighedSame v (with_entry v e t) → ((p g : ℕ) → lost p g (with_entry v e t) ≤ gained p g (with_entry v e t)) → ((p : ℕ) → put_down p (with_entry v e t) ≤ taken p (with_entry v e t)) → IsOrderly (with_entry v e t) → IsView l.shape gs v → 0 < v.turns → Stands l.shape v.own.number e → IsView l.shape gs (with_entry v e t)
   entry_view gs v e t same counted handy roots fine lt stands_there = record {
     handy = handy;
     roots = roots;
@@ -111,7 +119,7 @@ module _ {H : Type 0} (stands : List ℕ → Grounds → List Noted → H → Ty
     counted = counted;
     beside = fine.beside;
     settled = settled_same v (with_entry v e t) same fine.settled;
-    grounds_are = fine.grounds_are;
+    setting_is = fine.setting_is;
     unnumbered = λ all. absurd (not_idle gs v fine lt (same_numbers v e t all));
     inside = tt;
     notes = All-cons (λ (p : Part). All (Stands l.shape p.number) p.notes) (with_entry v e t).own v.others
@@ -159,7 +167,7 @@ module _ {H : Type 0} (stands : List ℕ → Grounds → List Noted → H → Ty
       let ne : j ≢ id = (λ same. let uv : u ≡ v = some-injective u v (sym b.2 ∙ ap (λ (n : ℕ). get_elem? s.views n) same ∙ at) in
       let z : is_in (face l.shape i u) ≡ 0 = ap (λ (y : SeatView). is_in (face l.shape i y)) uv ∙ ap is_in (outside_face i v out) in let p = b.3 in let q : ℕ = is_in (face l.shape i u) in let z' : q ≡ 0 = z in let p' : 0 < q = p in omega (arith, z', p')) in
       let knows = each_at (Knows k.history) (map (face l.shape i) s.views) j (face l.shape i u) k.knows (at_map (face l.shape i) s.views j u b.2) in
-      let fine = each_at (IsView l.shape r.grounds) s.views j u r.views b.2 in
+      let fine = each_at (IsView l.shape r.setting) s.views j u r.views b.2 in
       let x = section_at i k.history u.inside b.3 knows in
       record { moment = s; sound = r; seat = id; view = at; other = j; apart = ne; holder = u; section = x.0; holds = b.2; inside = x.1; object = one_home l.shape x.0.object o (fitting u.inside x.0 x.1 fine.inside) fits x.2; number = x.4 }
 
@@ -180,29 +188,29 @@ module _ {H : Type 0} (stands : List ℕ → Grounds → List Noted → H → Ty
   Owes s id me i f then = (w : SeatView) × (a : Act (Option H)) × Valid s.homes me.1 a × IsSound stands l (stepped s i (f (slice_index s.words i)) id me.1 w a) × then (slice_index s.words i) (w, carried_after me.1 a)
 
   -- nobody was in the section, and the seat gets in
-  gets_in : (id : ℕ) (me : Me (Option H) SeatView) (o : Object) (fits : IsObjectOf l.shape o) → IsFree me → 0 < me.0.turns → ((p : ℕ) → o ≡ Root p → MayEnter p me.0) → (s : State (Option H) SeatView) (r : IsSound stands l s) → get_elem? s.views id ≡ some me.0
+  gets_in : 0 < l.shape.handles → (id : ℕ) (me : Me (Option H) SeatView) (o : Object) (fits : IsObjectOf l.shape o) → IsFree me → 0 < me.0.turns → ((p : ℕ) → o ≡ Root p → MayEnter p me.0) → (s : State (Option H) SeatView) (r : IsSound stands l s) → get_elem? s.views id ≡ some me.0
       → inside_total (map (face l.shape (home_of l.shape o)) s.views) ≡ 0 → Owes s id me (word_of l.shape o) (λ n. bit_or n 1) (λ found after. (found % 2 ≡ 0) × GotIn stands l o (home_of l.shape o) me found after)
   unfolding object_or
-  gets_in id me o fits out turn may s r at nobody =
+  gets_in some_handle id me o fits out turn may s r at nobody =
       let i : ℕ = home_of l.shape o in let k = r.objects o fits in let h : List Noted = k.history in let n : ℕ = length h in let v : SeatView = me.0 in
       let word : ℕ = slice_index s.words (word_of l.shape o) in let t : ℕ = inside_total (map (face l.shape i) s.views) in
       let wi : word ≡ 2 * n + t = k.word_is in let z : t ≡ 0 = nobody in let w0 : word ≡ 2 * n + 0 = omega (arith, wi, z) in
       let x : Inside = record { object = o; number = n; history = h } in
       let w : SeatView = entered v o h n in
       let hv = k.home_is nobody in
-      let fine : IsView l.shape r.grounds v = each_at (IsView l.shape r.grounds) s.views id v r.views at in
+      let fine : IsView l.shape r.setting v = each_at (IsView l.shape r.setting) s.views id v r.views at in
       let vf : face l.shape i v ≡ record { parts = map (strand l.shape i) (parts_of v); inside = None } = outside_face i v out.0 in
       let wf : face l.shape i w ≡ record { parts = map (strand l.shape i) (parts_of v); inside = Some x } = inside_face i w x refl refl in
       let there = at_map (face l.shape i) s.views id v at in
       let told = All-head (IsTold o h (n + (t - is_in (face l.shape i v)))) (strand l.shape i v.own) (map (strand l.shape i) v.others) (each_at (λ (f : Face). All (IsTold o h (n + (t - is_in f))) f.parts) (map (face l.shape i) s.views) id (face l.shape i v) k.told there) in
-      let kept = claimed_kept stands l.shape r.grounds o (map (face l.shape i) s.views) word (get_elem? s.homes i) (get_elem? (set s.homes i none) i) id (face l.shape i v) x k there nobody refl refl in
-      let kept' : IsKept stands l.shape r.grounds o (set (map (face l.shape i) s.views) id (face l.shape i w)) (bit_or word 1) (get_elem? (set s.homes i none) i) =
-      subst (λ (y : Face × ℕ). IsKept stands l.shape r.grounds o (set (map (face l.shape i) s.views) id y.0) y.1 (get_elem? (set s.homes i none) i)) (λ q. (sym wf q, sym (or_even word n w0) q)) kept in (
+      let kept = claimed_kept stands l.shape r.setting o (map (face l.shape i) s.views) word (get_elem? s.homes i) (get_elem? (set s.homes i none) i) id (face l.shape i v) x k there nobody refl refl in
+      let kept' : IsKept stands l.shape r.setting o (set (map (face l.shape i) s.views) id (face l.shape i w)) (bit_or word 1) (get_elem? (set s.homes i none) i) =
+      subst (λ (y : Face × ℕ). IsKept stands l.shape r.setting o (set (map (face l.shape i) s.views) id y.0) y.1 (get_elem? (set s.homes i none) i)) (λ q. (sym wf q, sym (or_even word n w0) q)) kept in (
         w,
         takes i (Some hv.0),
         hv.1,
         changes stands l s r id v w o (bit_or word 1) (set s.homes i none) fits at (λ j ne. away_face j w x refl (λ e. ne (sym e)) ∙ sym (outside_face j v out.0)) (λ m. refl) (same_parts v w refl refl)
-            (record { counted = counted_parts v w refl fine.counted; settled = settled_same v w (same_parts v w refl refl) fine.settled; handy = handy_parts v w refl fine.handy; roots = orderly_parts v w refl fine.roots; enters = (λ y p e q. may p (ap (λ (z : Option Inside). object_or o z) e ∙ q)); grounds_are = fine.grounds_are; unnumbered = λ all. absurd (not_idle r.grounds v fine turn all); inside = fits; notes = fine.notes; beside = fine.beside }) (le_refl (spent v)) (looks_same s.views id v w at refl r.looks) (order_same s.views id v w at refl r.order) (length-set s.homes i none) (λ j ne. set_else s.homes i j none ne) kept',
+            (record { counted = counted_parts v w refl fine.counted; settled = settled_same v w (same_parts v w refl refl) fine.settled; handy = handy_parts v w refl fine.handy; roots = orderly_parts v w refl fine.roots; enters = (λ y p e q. may p (ap (λ (z : Option Inside). object_or o z) e ∙ q)); setting_is = fine.setting_is; unnumbered = λ all. absurd (not_idle r.setting v fine turn all); inside = fits; notes = fine.notes; beside = fine.beside }) (le_refl (spent v)) (looks_same s.views id v w at refl r.looks) (order_same s.views id v w at refl r.order) (born_same s.views id v w at refl r.born) (length-set s.homes i none) (λ j ne. set_else s.homes i j none ne) kept',
         (
           (let e : word % 2 ≡ 0 = omega (arith, w0) in e),
           (
@@ -211,7 +219,7 @@ module _ {H : Type 0} (stands : List ℕ → Grounds → List Noted → H → Ty
             (let e : word ≡ 2 * n = omega (arith, w0) in e),
             refl,
             refl,
-            record { accepted = k.accepted; stands_for = under v.grounds r.grounds (λ g. stands (measures_of l.shape o) g h hv.0) fine.grounds_are hv.2; short = short stands l s r o fits; root = tells_root stands l s r id v o fits at; bin = hand_bin stands l s r id v o fits at; arena = arena_tells stands l s r id v o fits at; own = told.own },
+            record { object = fits; accepted = k.accepted; stands_for = under v.setting r.setting (λ g. stands (measures_of l.shape o) g h hv.0) fine.setting_is hv.2; short = short stands l s r o fits; root = tells_root stands l s r id v o fits at; bin = λ b p m e after has. hand_bin stands l s r id v o fits at b p m e after (hand_place stands l some_handle s r id p v at has) has; arena = arena_tells stands l s r id v o fits at; cache = cache_tells stands l s r id v o fits at; setting = r.setting; view = fine; counted = counted_of stands l s r id v at; vacated = vacated_of stands l s r id v at; uses = few_uses stands l s r id v at; once = in_hand_once stands l s r id v at; free = λ q n more lt. next_free stands l s r id v at q n o fits more lt; lanes = each_may stands l s r o fits; own = told.own },
           ),
         ),
       )
@@ -224,14 +232,14 @@ module _ {H : Type 0} (stands : List ℕ → Grounds → List Noted → H → Ty
   parity : (word n t : ℕ) → word ≡ 2 * n + t → t ≤ 1 → (t ≡ 0 → word % 2 ≡ 0) × (t ≡ 1 → word % 2 ≡ 1)
   parity word n t e le = ((λ z. omega (arith, e, z)), (λ z. omega (arith, e, z)))
 
-  pub claims_allowed : (id : ℕ) (me : Me (Option H) SeatView) (o : Object) → IsObjectOf l.shape o → IsFree me → 0 < me.0.turns → ((p : ℕ) → o ≡ Root p → MayEnter p me.0)
+  pub claims_allowed : 0 < l.shape.handles → (id : ℕ) (me : Me (Option H) SeatView) (o : Object) → IsObjectOf l.shape o → IsFree me → 0 < me.0.turns → ((p : ℕ) → o ≡ Root p → MayEnter p me.0)
       → Allows (IsSound stands l) (objects_of l.shape) id me (word_of l.shape o) (λ n. bit_or n 1) (claims stands l o (step (objects_of l.shape) (word_of l.shape o) 1 0 none) me)
-  claims_allowed id me o fits out turn may s r _ at _ =
+  claims_allowed some_handle id me o fits out turn may s r _ at _ =
       let i : ℕ = home_of l.shape o in let k = r.objects o fits in let n : ℕ = length k.history in
       let word : ℕ = slice_index s.words (word_of l.shape o) in let t : ℕ = inside_total (map (face l.shape i) s.views) in
       let wi : word ≡ 2 * n + t = k.word_is in let al : t ≤ 1 = k.alone in let par = parity word n t wi al in
       dite (ℕ_discrete t 0)
-      (λ z. let g = gets_in id me o fits out turn may s r at z in (g.0, g.1, g.2, g.3, ((λ _. g.4.1), (λ (odd : word % 2 ≡ 1). let e = g.4.0 in absurd (omega (arith, odd, e))))))
+      (λ z. let g = gets_in some_handle id me o fits out turn may s r at z in (g.0, g.1, g.2, g.3, ((λ _. g.4.1), (λ (odd : word % 2 ≡ 1). let e = g.4.0 in absurd (omega (arith, odd, e))))))
       (λ ne. let one : t ≡ 1 = omega (arith, ne, al) in let odd = par.1 one in (
         me.0,
         keeps,
@@ -251,26 +259,26 @@ module _ {H : Type 0} (stands : List ℕ → Grounds → List Noted → H → Ty
       let b : Held = record { object = o; number = word / 2 } in let e : Entry = Busy b in let w : SeatView = with_entry v e v.turns in
       let bn : b.number ≡ n = half word n t one wi in
       let light : IsWeighedSame v w = same_entry v e v.turns (λ f p g. refl) (λ f p. refl) refl in
-      let fine : IsView l.shape r.grounds v = each_at (IsView l.shape r.grounds) s.views id v r.views at in
+      let fine : IsView l.shape r.setting v = each_at (IsView l.shape r.setting) s.views id v r.views at in
       let vf : face l.shape i v ≡ record { parts = map (strand l.shape i) (parts_of v); inside = None } = outside_face i v out.0 in
       let wf = entry_here v e v.turns i (eq-eqb i i refl) in
       let there : get_elem? (map (face l.shape i) s.views) id ≡ some (record { parts = map (strand l.shape i) (parts_of v); inside = None }) = at_map (face l.shape i) s.views id v at ∙ ap some vf in
-      let kept = marked_kept stands l.shape r.grounds o (map (face l.shape i) s.views) word (get_elem? s.homes i) id (strand l.shape i v.own) (map (strand l.shape i) v.others) b k there one bn marked in
+      let kept = marked_kept stands l.shape r.setting o (map (face l.shape i) s.views) word (get_elem? s.homes i) id (strand l.shape i v.own) (map (strand l.shape i) v.others) b k there one bn marked in
       changes stands l s r id v w o word' s.homes fits at
       (λ j ne. entry_elsewhere v e v.turns j (ne_eqb i j (λ q. ne (sym q))) ∙ sym (outside_face j v out.0)) (λ m. same_numbered v e v.turns m) light
-      (entry_view r.grounds v e v.turns light (counted_entry v e v.turns (λ f p g. refl) (λ p g. omega arith) (λ p g lt. absurd (omega (arith, lt))) fine.counted) (handy_entry v e v.turns (λ f p. refl) (λ p. omega arith) (λ p lt. absurd (omega (arith, lt))) fine.handy) (orderly_entry v e v.turns (λ f p g c. refl) (λ f p g. refl) (λ f p. refl) (λ p. inl refl) (λ p g. inl refl) (λ a t. inl refl) fine.roots) fine turn (fits, marked)) (let a = spent_entry v e v.turns in let x : ℕ = spent w in let y : ℕ = spent v in let tv : ℕ = v.turns in let a' : x + tv ≡ y + 0 + tv = a in let g : x ≤ y = omega (arith, a') in g)
-      (looks_entry s.views id v w e at refl (λ r k is. absurd (cc is)) r.looks) (order_entry s.views id v w e at refl (newest e (unmarked_below b) s.views) r.order)
+      (entry_view r.setting v e v.turns light (counted_entry v e v.turns (λ f p g. refl) (λ p g. omega arith) (λ p g lt. absurd (omega (arith, lt))) fine.counted) (handy_entry v e v.turns (λ f p. refl) (λ p. omega arith) (λ p lt. absurd (omega (arith, lt))) fine.handy) (orderly_entry v e v.turns (λ f p g c. refl) (λ f p g. refl) (λ f p. refl) (λ p. inl refl) (λ p g. inl refl) (λ q. inl (record { none = refl; unused = refl; light = λ _. refl })) fine.roots) fine turn (fits, marked)) (let a = spent_entry v e v.turns in let x : ℕ = spent w in let y : ℕ = spent v in let tv : ℕ = v.turns in let a' : x + tv ≡ y + 0 + tv = a in let g : x ≤ y = omega (arith, a') in g)
+      (looks_entry s.views id v w e at refl (λ r k is. absurd (cc is)) r.looks) (order_entry s.views id v w e at refl (newest e (unmarked_below b) s.views) r.order) (born_entry s.views id v w e at refl (λ q is. absurd (cc is)) r.born)
       refl (λ j ne. refl)
-      (subst (λ (y : Face × ℕ). IsKept stands l.shape r.grounds o (set (map (face l.shape i) s.views) id y.0) y.1 (get_elem? s.homes i)) (λ q. (sym wf q, sym same q)) kept)
+      (subst (λ (y : Face × ℕ). IsKept stands l.shape r.setting o (set (map (face l.shape i) s.views) id y.0) y.1 (get_elem? s.homes i)) (λ q. (sym wf q, sym same q)) kept)
 
-  pub marks_allowed : (id : ℕ) (me : Me (Option H) SeatView) (o : Object) → IsObjectOf l.shape o → IsFree me → 0 < me.0.turns → ((p : ℕ) → o ≡ Root p → MayEnter p me.0) → IsMarked o
+  pub marks_allowed : 0 < l.shape.handles → (id : ℕ) (me : Me (Option H) SeatView) (o : Object) → IsObjectOf l.shape o → IsFree me → 0 < me.0.turns → ((p : ℕ) → o ≡ Root p → MayEnter p me.0) → IsMarked o
       → Allows (IsSound stands l) (objects_of l.shape) id me (word_of l.shape o) (λ n. bit_or n 1) (marks_claims stands l o (step (objects_of l.shape) (word_of l.shape o) 1 0 none) me)
-  marks_allowed id me o fits out turn may marked s r _ at _ =
+  marks_allowed some_handle id me o fits out turn may marked s r _ at _ =
       let i : ℕ = home_of l.shape o in let k = r.objects o fits in let n : ℕ = length k.history in
       let word : ℕ = slice_index s.words (word_of l.shape o) in let t : ℕ = inside_total (map (face l.shape i) s.views) in
       let wi : word ≡ 2 * n + t = k.word_is in let al : t ≤ 1 = k.alone in let par = parity word n t wi al in
       dite (ℕ_discrete t 0)
-      (λ z. let g = gets_in id me o fits out turn may s r at z in (g.0, g.1, g.2, g.3, ((λ _. g.4.1), (λ (odd : word % 2 ≡ 1). let e = g.4.0 in absurd (omega (arith, odd, e))))))
+      (λ z. let g = gets_in some_handle id me o fits out turn may s r at z in (g.0, g.1, g.2, g.3, ((λ _. g.4.1), (λ (odd : word % 2 ≡ 1). let e = g.4.0 in absurd (omega (arith, odd, e))))))
       (λ ne. let one : t ≡ 1 = omega (arith, ne, al) in let odd = par.1 one in (
         with_entry me.0 (Busy (record { object = o; number = word / 2 })) me.0.turns,
         keeps,
@@ -337,32 +345,8 @@ module _ {H : Type 0} (stands : List ℕ → Grounds → List Noted → H → Ty
       small false = inl refl
   end_or_none p g d = inl refl
 
-  lays_one : (a u : ℕ) (d : Did) → (did_lay a u d ≡ 0) ⊎ (did_lay a u d ≡ 1)
-  lays_one a u (Give x) = small ((eqb x.place.arena a) && (eqb x.taking u))
-    where
-      small : (b : Bool) → (cond {A = ℕ} b 1 0 + (0 + 0) ≡ 0) ⊎ (cond {A = ℕ} b 1 0 + (0 + 0) ≡ 1)
-      small true = inr refl
-      small false = inl refl
-  lays_one a u (Kept x) = small ((eqb x.place.arena a) && (eqb x.taking u))
-    where
-      small : (b : Bool) → (0 + (cond {A = ℕ} b 1 0 + 0) ≡ 0) ⊎ (0 + (cond {A = ℕ} b 1 0 + 0) ≡ 1)
-      small true = inr refl
-      small false = inl refl
-  lays_one a u (Birth q x) = small ((eqb x.place.arena a) && (eqb x.taking u))
-    where
-      small : (b : Bool) → (0 + (0 + cond {A = ℕ} b 1 0) ≡ 0) ⊎ (0 + (0 + cond {A = ℕ} b 1 0) ≡ 1)
-      small true = inr refl
-      small false = inl refl
-  lays_one a u d = inl refl
-
-  regions_noted : (v : SeatView) (d : Did) → PutsDown v d → (a u : ℕ) → (did_lay a u d ≡ 0) ⊎ ((did_lay a u d ≡ 1) × HasRegion a u v)
-  regions_noted v d hands a u = ⊎_elim
-      (λ (z : did_lay a u d ≡ 0). inl z)
-      (λ (e : did_lay a u d ≡ 1). inr (e, hands.region a u (let n : ℕ = did_lay a u d in let e' : n ≡ 1 = e in let g : 0 < n = omega (arith, e') in g)))
-      (lays_one a u d)
-
   -- the object of a birth or an end is the root place
-  births_noted : (s : State (Option H) SeatView) (r : IsSound stands l s) (id : ℕ) (v : SeatView) (o : Object) (fits : IsObjectOf l.shape o) (nd : Noted) → get_elem? s.views id ≡ some v → IsRooted o nd.did → PutsDown v nd.did → IsHistory l.shape o ((r.objects o fits).history ++ nd ∷ []) → (p : ℕ)
+  births_noted : (s : State (Option H) SeatView) (r : IsSound stands l s) (id : ℕ) (v : SeatView) (o : Object) (fits : IsObjectOf l.shape o) (nd : Noted) → get_elem? s.views id ≡ some v → IsRooted o nd.did → PutsAt v nd.did → IsHistory l.shape o ((r.objects o fits).history ++ nd ∷ []) → (p : ℕ)
       → (did_birth p nd.did + did_home p nd.did ≡ 0) ⊎ ((did_birth p nd.did + did_home p nd.did ≡ 1) × InHand p v × NoneWaits p v)
   births_noted s r id v o fits nd at root hands accepted p = ⊎_elim
       (λ (z : did_birth p nd.did + did_home p nd.did ≡ 0). inl z)
@@ -380,7 +364,7 @@ module _ {H : Type 0} (stands : List ℕ → Grounds → List Noted → H → Ty
       c)
       (birth_or_home p nd.did)
 
-  ends_noted : (s : State (Option H) SeatView) (r : IsSound stands l s) (id : ℕ) (v : SeatView) (o : Object) (fits : IsObjectOf l.shape o) (nd : Noted) → get_elem? s.views id ≡ some v → IsRooted o nd.did → PutsDown v nd.did → IsHistory l.shape o ((r.objects o fits).history ++ nd ∷ []) → (p g : ℕ)
+  ends_noted : (s : State (Option H) SeatView) (r : IsSound stands l s) (id : ℕ) (v : SeatView) (o : Object) (fits : IsObjectOf l.shape o) (nd : Noted) → get_elem? s.views id ≡ some v → IsRooted o nd.did → PutsAt v nd.did → IsHistory l.shape o ((r.objects o fits).history ++ nd ∷ []) → (p g : ℕ)
       → (did_end p g nd.did ≡ 0) ⊎ ((did_end p g nd.did ≡ 1) × (weigh (at_end p g) v < weigh (on_root ref_ended p g) v))
   ends_noted s r id v o fits nd at root hands accepted p g = ⊎_elim
       (λ (z : did_end p g nd.did ≡ 0). inl z)
@@ -411,30 +395,33 @@ module _ {H : Type 0} (stands : List ℕ → Grounds → List Noted → H → Ty
       let sh : m < 4611686018427387904 = short stands l s r o fits in let sh' : n < 4611686018427387904 = omega (arith, sh, nm) in
       let up : (word + 1) % 2 ^ 64 ≡ word + 1 = add_one word n sh' w1 in
       let ent : Entry = At o (length h + 1) nd in let w : SeatView = with_entry v ent (v.turns - 1) in
+      let follows : IsHistory l.shape o (k.history ++ nd ∷ []) = subst (λ (g : List Noted). IsHistory l.shape o (g ++ nd ∷ [])) hk accepted in
+      let puts : PutsAt v nd.did = puts_at stands l s r id v at nd.did hands in
       let light : IsWeighedSame v w = same_entry v ent (v.turns - 1) (λ f p g. refl) (λ f p. refl) refl in
-      let fine : IsView l.shape r.grounds v = each_at (IsView l.shape r.grounds) s.views id v r.views at in
+      let fine : IsView l.shape r.setting v = each_at (IsView l.shape r.setting) s.views id v r.views at in
       let wf = entry_here v ent (v.turns - 1) i (eq-eqb i i refl) in
-      let gs : stands (measures_of l.shape o) r.grounds (h ++ nd ∷ []) home = subst (λ (g : Grounds). stands (measures_of l.shape o) g (h ++ nd ∷ []) home) (same_grounds v.grounds stands_for.grounds stands_for.known fine.grounds_are) stands_for.stands_for in
-      let kept = done_kept stands l.shape r.grounds o faces word (get_elem? s.homes i) id (strand l.shape i v.own) (map (strand l.shape i) v.others) x o nd home k there lane
+      let gs : stands (measures_of l.shape o) r.setting (h ++ nd ∷ []) home = subst (λ (g : Setting). stands (measures_of l.shape o) g (h ++ nd ∷ []) home) (same_setting v.setting stands_for.setting stands_for.known fine.setting_is) stands_for.stands_for in
+      let kept = done_kept stands l.shape r.setting o faces word (get_elem? s.homes i) id (strand l.shape i v.own) (map (strand l.shape i) v.others) x o nd home k there lane
       (λ q own. alone_in stands l s r id i q v at (sym lane ∙ own))
-      (subst (λ (g : List Noted). IsHistory l.shape o (g ++ nd ∷ [])) hk accepted) (subst (λ (g : List Noted). stands (measures_of l.shape o) r.grounds (g ++ nd ∷ []) home) hk gs) in
+      (subst (λ (g : List Noted). IsHistory l.shape o (g ++ nd ∷ [])) hk accepted) (subst (λ (g : List Noted). stands (measures_of l.shape o) r.setting (g ++ nd ∷ []) home) hk gs) in
       let inside : i < length s.homes = (let a = home_within l.shape o fits in let q : ℕ = objects_of l.shape in let a' : i < q = a in let z : ℕ = length s.homes in let w' : z ≡ q = wide in let g : i < z = omega (arith, a', w') in g) in
-      let kept' : IsKept stands l.shape r.grounds o (set faces id (face l.shape i w)) ((word + 1) % 2 ^ 64) (get_elem? (set s.homes i (some (Some home))) i) =
-      subst (λ (y : Face × ℕ × maybe.Option (maybe.Option (Option H))). IsKept stands l.shape r.grounds o (set faces id y.0) y.1 y.2)
+      let kept' : IsKept stands l.shape r.setting o (set faces id (face l.shape i w)) ((word + 1) % 2 ^ 64) (get_elem? (set s.homes i (some (Some home))) i) =
+      subst (λ (y : Face × ℕ × maybe.Option (maybe.Option (Option H))). IsKept stands l.shape r.setting o (set faces id y.0) y.1 y.2)
       (λ q. ((ap (λ (z : ℕ). record { parts = record { number = v.own.number; notes = (strand l.shape i v.own).notes ++ At o (z + 1) nd ∷ [] } ∷ map (strand l.shape i) v.others; inside = None }) (sym nk) ∙ sym wf) q, sym up q, sym (set_here s.homes i (some (Some home)) inside) q)) kept in (
         w1,
         changes stands l s r id v w o ((word + 1) % 2 ^ 64) (set s.homes i (some (Some home))) fits at
             (λ j ne. entry_elsewhere v ent (v.turns - 1) j (ne_eqb i j (λ q. ne (sym q))) ∙ sym (away_face j v x e (λ q. ne (sym q)))) (λ q. same_numbered v ent (v.turns - 1) q) light
-            (entry_view r.grounds v ent (v.turns - 1) light (counted_entry v ent (v.turns - 1) (λ f p g. refl) (λ p g. one_parcel p g nd.did) hands.posted fine.counted) (handy_entry v ent (v.turns - 1) (λ f p. refl) (λ p. at_most_one p nd.did) (λ p lt. (hands.home p lt).0) fine.handy)
-            (orderly_entry v ent (v.turns - 1) (λ f p g c. refl) (λ f p g. refl) (λ f p. refl) (λ p. births_noted s r id v o fits nd at may.in_place.rooted hands (subst (λ (g : List Noted). IsHistory l.shape o (g ++ nd ∷ [])) hk accepted) p) (λ p g. ends_noted s r id v o fits nd at may.in_place.rooted hands (subst (λ (g : List Noted). IsHistory l.shape o (g ++ nd ∷ [])) hk accepted) p g) (λ a u. regions_noted v nd.did hands a u) fine.roots) fine turn may)
+            (entry_view r.setting v ent (v.turns - 1) light (counted_entry v ent (v.turns - 1) (λ f p g. refl) (λ p g. one_parcel p g nd.did) puts.posted fine.counted) (handy_entry v ent (v.turns - 1) (λ f p. refl) (λ p. at_most_one p nd.did) (λ p lt. (puts.home p lt).0) fine.handy)
+            (orderly_entry v ent (v.turns - 1) (λ f p g c. refl) (λ f p g. refl) (λ f p. refl) (λ p. births_noted s r id v o fits nd at may.in_place.rooted puts (subst (λ (g : List Noted). IsHistory l.shape o (g ++ nd ∷ [])) hk accepted) p) (λ p g. ends_noted s r id v o fits nd at may.in_place.rooted puts (subst (λ (g : List Noted). IsHistory l.shape o (g ++ nd ∷ [])) hk accepted) p g) (λ q. note_handles q v o (length h + 1) nd hands) fine.roots) fine turn may)
             (let a = spent_entry v ent (v.turns - 1) in let p : ℕ = spent w in let q : ℕ = spent v in let tv : ℕ = v.turns in let tv' : 0 < tv = turn in let a' : p + tv ≡ q + 1 + (tv - 1) = a in let g : p ≤ q = omega (arith, a', tv') in g)
             (looks_entry s.views id v w ent at refl (λ r k is. absurd (cc is)) r.looks)
             (order_entry s.views id v w ent at refl (subst (λ (z : ℕ). IsNewest (At o (z + 1) nd) s.views) (sym nk) (newest_note stands l s r o fits nd)) r.order)
+            (born_entry s.views id v w ent at refl (note_born stands l s r id v at o fits (length h + 1) nd may.in_place.mailed hands follows) r.born)
             (length-set s.homes i (some (Some home))) (λ j ne. set_else s.homes i j (some (Some home)) ne) kept',
       )
     where
-      same_grounds : (y : Option Grounds) (g : Grounds) → y ≡ Some g → {gs : Grounds} → IfSome y (λ (g : Grounds). g ≡ gs) → g ≡ gs
-      same_grounds y g e {gs} f = subst (λ (y : Option Grounds). IfSome y (λ (g : Grounds). g ≡ gs)) e f
+      same_setting : (y : Option Setting) (g : Setting) → y ≡ Some g → {gs : Setting} → IfSome y (λ (g : Setting). g ≡ gs) → g ≡ gs
+      same_setting y g e {gs} f = subst (λ (y : Option Setting). IfSome y (λ (g : Setting). g ≡ gs)) e f
 
   pub dones_allowed : (id : ℕ) (me : Me (Option H) SeatView) (o : Object) (slot : ℕ) (h : List Noted) (home : H) (note : Noted) → IsObjectOf l.shape o → slot ≡ home_of l.shape o
       → me.0.inside ≡ Some (record { object = o; number = length h; history = h }) → me.1 ≡ (slot, Some home) ∷ [] → 0 < me.0.turns
@@ -469,21 +456,21 @@ module _ {H : Type 0} (stands : List ℕ → Grounds → List Noted → H → Ty
       let sh : m < 4611686018427387904 = short stands l s r o fits in let sh' : n < 4611686018427387904 = omega (arith, sh, nm) in
       let down : (word + (2 ^ 64 - 1)) % 2 ^ 64 ≡ 2 * n = less_one word n sh' w1 in
       let w : SeatView = left v in
-      let fine : IsView l.shape r.grounds v = each_at (IsView l.shape r.grounds) s.views id v r.views at in
+      let fine : IsView l.shape r.setting v = each_at (IsView l.shape r.setting) s.views id v r.views at in
       let wf : face l.shape i w ≡ record { parts = map (strand l.shape i) (parts_of v); inside = None } = refl in
-      let gs : stands (measures_of l.shape o) r.grounds h home = subst (λ (g : Grounds). stands (measures_of l.shape o) g h home) (same_grounds v.grounds stands_for.grounds stands_for.known fine.grounds_are) stands_for.stands_for in
-      let kept = idled_kept stands l.shape r.grounds o faces word (2 * n) (get_elem? s.homes i) id (map (strand l.shape i) (parts_of v)) x home k w1 there unmarked (subst (λ (g : List Noted). stands (measures_of l.shape o) r.grounds g home) hk gs) in
+      let gs : stands (measures_of l.shape o) r.setting h home = subst (λ (g : Setting). stands (measures_of l.shape o) g h home) (same_setting v.setting stands_for.setting stands_for.known fine.setting_is) stands_for.stands_for in
+      let kept = idled_kept stands l.shape r.setting o faces word (2 * n) (get_elem? s.homes i) id (map (strand l.shape i) (parts_of v)) x home k w1 there unmarked (subst (λ (g : List Noted). stands (measures_of l.shape o) r.setting g home) hk gs) in
       let inside : i < length s.homes = (let a = home_within l.shape o fits in let q : ℕ = objects_of l.shape in let a' : i < q = a in let z : ℕ = length s.homes in let w' : z ≡ q = wide in let g : i < z = omega (arith, a', w') in g) in (
         w1,
         changes stands l s r id v w o ((word + (2 ^ 64 - 1)) % 2 ^ 64) (set s.homes i (some (Some home))) fits at
             (λ j ne. sym (away_face j v x e (λ q. ne (sym q)))) (λ q. refl) (same_parts v w refl refl)
-            (record { counted = counted_parts v w refl fine.counted; settled = settled_same v w (same_parts v w refl refl) fine.settled; handy = handy_parts v w refl fine.handy; roots = orderly_parts v w refl fine.roots; enters = enters_none w refl; grounds_are = fine.grounds_are; unnumbered = λ all. absurd (cc_none v.inside x e (fine.unnumbered all).inside); inside = tt; notes = fine.notes; beside = fine.beside })
-            (le_refl (spent v)) (looks_same s.views id v w at refl r.looks) (order_same s.views id v w at refl r.order) (length-set s.homes i (some (Some home))) (λ j ne. set_else s.homes i j (some (Some home)) ne)
-            (subst (λ (y : ℕ × maybe.Option (maybe.Option (Option H))). IsKept stands l.shape r.grounds o (set faces id (face l.shape i w)) y.0 y.1) (λ q. (sym down q, sym (set_here s.homes i (some (Some home)) inside) q)) kept),
+            (record { counted = counted_parts v w refl fine.counted; settled = settled_same v w (same_parts v w refl refl) fine.settled; handy = handy_parts v w refl fine.handy; roots = orderly_parts v w refl fine.roots; enters = enters_none w refl; setting_is = fine.setting_is; unnumbered = λ all. absurd (cc_none v.inside x e (fine.unnumbered all).inside); inside = tt; notes = fine.notes; beside = fine.beside })
+            (le_refl (spent v)) (looks_same s.views id v w at refl r.looks) (order_same s.views id v w at refl r.order) (born_same s.views id v w at refl r.born) (length-set s.homes i (some (Some home))) (λ j ne. set_else s.homes i j (some (Some home)) ne)
+            (subst (λ (y : ℕ × maybe.Option (maybe.Option (Option H))). IsKept stands l.shape r.setting o (set faces id (face l.shape i w)) y.0 y.1) (λ q. (sym down q, sym (set_here s.homes i (some (Some home)) inside) q)) kept),
       )
     where
-      same_grounds : (y : Option Grounds) (g : Grounds) → y ≡ Some g → {gs : Grounds} → IfSome y (λ (g : Grounds). g ≡ gs) → g ≡ gs
-      same_grounds y g e {gs} f = subst (λ (y : Option Grounds). IfSome y (λ (g : Grounds). g ≡ gs)) e f
+      same_setting : (y : Option Setting) (g : Setting) → y ≡ Some g → {gs : Setting} → IfSome y (λ (g : Setting). g ≡ gs) → g ≡ gs
+      same_setting y g e {gs} f = subst (λ (y : Option Setting). IfSome y (λ (g : Setting). g ≡ gs)) e f
 
       cc_none : (y : Option Inside) (x : Inside) → y ≡ Some x → y ≡ None → ⊥
       cc_none y x e f = let g : Some x ≡ None = sym e ∙ f in absurd (cc)

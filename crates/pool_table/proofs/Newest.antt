@@ -1,5 +1,5 @@
 -- A note that a section ends with is the newest of its object.
-use Rattle.ground.specs.Grounds.{Grounds}
+use Rattle.step_law.specs.Settings.{Setting}
 use Rattle.std.proofs.Common.{◌≡◌, ℕ, zero, suc, ◌+◌, ◌-◌, ◌<◌, List, [], ◌∷◌, map, length, Bool, true, false, cond, sym, refl, ap, ◌∙◌, arith, eq-eqb}
 use Rattle.std.specs.Prelude.{Option, Some, All, filter, slice_get}
 use Rattle.std.proofs.lemmas.List.Elements.{All-cons, All-head, All-tail, All-nil, All-weaker}
@@ -32,7 +32,7 @@ filtered {X} P t (x ∷ xs) all = one (t x) refl all (λ rest. filtered P t xs r
     one true e all more = All-cons (λ (x : X). t x ≡ true → P x) x xs (λ _. All-head P x (filter t xs) all) (more (All-tail P x (filter t xs) all))
     one false e all more = All-cons (λ (x : X). t x ≡ true → P x) x xs (λ on. let both : true ≡ false = sym on ∙ e in absurd (cc both)) (more all)
 
-module _ {H : Type 0} (stands : List ℕ → Grounds → List Noted → H → Type 0) (l : Layout) where
+module _ {H : Type 0} (stands : List ℕ → Setting → List Noted → H → Type 0) (l : Layout) where
   -- an entry of a part that the history tells is below the history's next note
   below_next : (o : Object) (h : List Noted) (limit : ℕ) (lane : Option ℕ) (n : Noted) (y : Entry) → (is_about l.shape (home_of l.shape o) y ≡ true → Tells o h limit lane y) → IsBelow y (At o (length h + 1) n)
   below_next o h limit lane n (At p k m) told = λ same.

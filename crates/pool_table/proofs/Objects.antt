@@ -1,5 +1,5 @@
 -- How one object is kept through a step, over what each view has on it.
-use Rattle.ground.specs.Grounds.{Grounds}
+use Rattle.step_law.specs.Settings.{Setting}
 use Rattle.std.proofs.Common.{◌≡◌, ◌≢◌, ℕ, zero, suc, ◌+◌, ◌-◌, ◌*◌, ◌<◌, ◌≤◌, List, [], ◌∷◌, ◌++◌, length, get_or, set, Bool, true, false, cond, eqb, true≢false, sym, refl, ap, ◌∙◌, subst, ⊎_elim, arith, length-append, append-nil, eq-eqb, ne_eqb}
 use Rattle.std.specs.Prelude.{Option, Some, None, IfSome, All, sum_by, count_by, filter, filter_map, slice_get}
 use Rattle.std.proofs.lemmas.List.Elements.{All-cons, All-head, All-tail, All-push, All-set, All-weaker, All-nil, filter-append, filter_map-append}
@@ -161,9 +161,9 @@ module _ (o : Object) where
       let c : cond {A = ℕ} (eqb (length h + 1) (j + 1)) 1 0 ≡ 0 = ap (λ (b : Bool). cond {A = ℕ} b 1 0) t.0 in omega (arith, z, c))
       (eqb_tells (length h + 1) (j + 1))
 
-module _ {H : Type 0} (stands : List ℕ → Grounds → List Noted → H → Type 0) (shape : Shape) (grounds : Grounds) (o : Object) where
+module _ {H : Type 0} (stands : List ℕ → Setting → List Noted → H → Type 0) (shape : Shape) (setting : Setting) (o : Object) where
   abbrev K : List Face → ℕ → maybe.Option (maybe.Option (Option H)) → Type 0
-  K faces word home = IsKept stands shape grounds o faces word home
+  K faces word home = IsKept stands shape setting o faces word home
 
   abbrev Limit : List Face → ℕ → Face → ℕ
   Limit faces n f = n + (inside_total faces - is_in f)
@@ -234,7 +234,7 @@ module _ {H : Type 0} (stands : List ℕ → Grounds → List Noted → H → Ty
   pub done_kept : (faces : List Face) (word : ℕ) (home : maybe.Option (maybe.Option (Option H))) (id : ℕ) (p : Part) (ps : List Part) (x : Inside) (q : Object) (nd : Noted) (y : H) (k : K faces word home)
       → get_elem? faces id ≡ some (record { parts = p ∷ ps; inside = Some x }) → nd.lane ≡ p.number
       → ((m : ℕ) → nd.lane ≡ Some m → All (λ (r : Part). is_lane m r.number ≡ false) ps × ((j : ℕ) (f : Face) → j ≢ id → get_elem? faces j ≡ some f → All (λ (r : Part). is_lane m r.number ≡ false) f.parts))
-      → IsHistory shape o (k.history ++ nd ∷ []) → stands (measures_of shape o) grounds (k.history ++ nd ∷ []) y
+      → IsHistory shape o (k.history ++ nd ∷ []) → stands (measures_of shape o) setting (k.history ++ nd ∷ []) y
       → K (set faces id (record { parts = record { number = p.number; notes = p.notes ++ At q (length k.history + 1) nd ∷ [] } ∷ ps; inside = None })) (word + 1) (some (some (Some y)))
   done_kept faces word home id p ps x q nd y k at lane apart accepted told_by =
       let f : Face = record { parts = p ∷ ps; inside = Some x } in
@@ -275,7 +275,7 @@ module _ {H : Type 0} (stands : List ℕ → Grounds → List Noted → H → Ty
 
   -- a mail's section ends with no note, and its home value still stands
   pub idled_kept : (faces : List Face) (found word : ℕ) (home : maybe.Option (maybe.Option (Option H))) (id : ℕ) (ps : List Part) (x : Inside) (y : H) (k : K faces found home)
-      → found ≡ word + 1 → get_elem? faces id ≡ some (record { parts = ps; inside = Some x }) → (IsMarked o → ⊥) → stands (measures_of shape o) grounds k.history y
+      → found ≡ word + 1 → get_elem? faces id ≡ some (record { parts = ps; inside = Some x }) → (IsMarked o → ⊥) → stands (measures_of shape o) setting k.history y
       → K (set faces id (record { parts = ps; inside = None })) word (some (some (Some y)))
   idled_kept faces found word home id ps x y k more at unmarked told_by =
       let f : Face = record { parts = ps; inside = Some x } in

@@ -1,5 +1,5 @@
 -- The table as it is made, and the first seats that are cut from the opening view.
-use Rattle.ground.specs.Grounds.{Grounds}
+use Rattle.step_law.specs.Settings.{Setting}
 use Rattle.std.proofs.Common.{◌≡◌, ℕ, zero, suc, ◌+◌, ◌-◌, ◌*◌, ◌/◌, ◌<◌, ◌≤◌, List, [], ◌∷◌, map, length, Bool, cond, eqb, sym, refl, ap, ◌∙◌, subst, arith, eq-eqb, ne_eqb, suc-mul}
 use Rattle.std.specs.Prelude.{Option, Some, None, All, sum_by, count_by, filter, filter_map, slice_index}
 use Rattle.std.proofs.lemmas.List.Elements.{All-cons, All-head, All-tail, All-nil, All-weaker}
@@ -30,6 +30,7 @@ use Rattle.pool_table.proofs.Weights.{weigh_none, counted_none, beside_none, set
 use Rattle.pool_table.proofs.Counts.{never_born}
 use Rattle.pool_table.proofs.Looks.{looks_open}
 use Rattle.pool_table.proofs.Order.{order_opens}
+use Rattle.pool_table.proofs.Births.{born_opens}
 use Rattle.pool_table.specs.Sound.{IsKept, IsSound, IsView, IsTold, IsIdle, IsShape, Stands, Knows, OnceBelow}
 use Rattle.pool_table.specs.Steps.{lane_parts, first_view, rest_view, lane_view, first_lane, rest_of_lanes}
 use Rattle.pool_table.proofs.Seatings.{cut_in_two}
@@ -56,7 +57,7 @@ none_numbered : (i n : ℕ) → All (λ (p : Part). p.notes ≡ []) (lane_parts 
 none_numbered i zero = All-nil (λ (p : Part). p.notes ≡ [])
 none_numbered i (suc n) = All-cons (λ (p : Part). p.notes ≡ []) (empty_part (Some i)) (lane_parts (suc i) n) refl (none_numbered (suc i) n)
 
-module _ {H : Type 0} (stands : List ℕ → Grounds → List Noted → H → Type 0) (l : Layout) where
+module _ {H : Type 0} (stands : List ℕ → Setting → List Noted → H → Type 0) (l : Layout) where
   -- empty parts tell an empty history
   empty_told : (o : Object) (limit : ℕ) (p : Part) → p.notes ≡ [] → IsTold o [] limit p
   empty_told o limit p e = record {
@@ -76,19 +77,19 @@ module _ {H : Type 0} (stands : List ℕ → Grounds → List Noted → H → Ty
   sums_none : (f : Entry → ℕ) (ps : List Part) → All (λ (p : Part). p.notes ≡ []) ps → sum_by (λ (p : Part). sum_by f p.notes) ps ≡ 0
   sums_none f ps all = sum_none (λ (p : Part). sum_by f p.notes) ps (All-weaker (λ (p : Part). p.notes ≡ []) (λ (p : Part). sum_by f p.notes ≡ 0) (λ p e. ap (λ (es : List Entry). sum_by f es) e) ps all)
 
-  all_parts : All (λ (p : Part). p.notes ≡ []) (parts_of (first_view l))
-  all_parts = All-cons (λ (p : Part). p.notes ≡ []) (empty_part None) (lane_parts 0 l.shape.lanes) refl (none_numbered 0 l.shape.lanes)
+  all_parts : (gs : Setting) → All (λ (p : Part). p.notes ≡ []) (parts_of (first_view l gs))
+  all_parts gs = All-cons (λ (p : Part). p.notes ≡ []) (empty_part None) (lane_parts 0 l.shape.lanes) refl (none_numbered 0 l.shape.lanes)
 
   one : (f : SeatView → ℕ) (v : SeatView) → sum_by f (v ∷ []) ≡ f v
   one f v = let c = sum_by-cons f v [] in let z : sum_by f [] ≡ 0 = refl in omega (arith, c, z)
 
-  opens_at : (gs : Grounds) (homes : List (Option H)) (o : Object) (x : H) → get_elem? homes (home_of l.shape o) ≡ some (Some x) → stands (measures_of l.shape o) gs [] x
-      → IsKept stands l.shape gs o (map (face l.shape (home_of l.shape o)) (first_view l ∷ [])) 0 (get_elem? (map some homes) (home_of l.shape o))
+  opens_at : (gs : Setting) (homes : List (Option H)) (o : Object) (x : H) → get_elem? homes (home_of l.shape o) ≡ some (Some x) → stands (measures_of l.shape o) gs [] x
+      → IsKept stands l.shape gs o (map (face l.shape (home_of l.shape o)) (first_view l gs ∷ [])) 0 (get_elem? (map some homes) (home_of l.shape o))
   opens_at gs homes o x at told_by =
-      let i : ℕ = home_of l.shape o in let f : Face = face l.shape i (first_view l) in
-      let strands = empty_strands i (parts_of (first_view l)) all_parts in
+      let i : ℕ = home_of l.shape o in let f : Face = face l.shape i (first_view l gs) in
+      let strands = empty_strands i (parts_of (first_view l gs)) (all_parts gs) in
       let t : inside_total (f ∷ []) ≡ 0 = refl in
-      let none_of : (test : Entry → Bool) → total test (f ∷ []) ≡ 0 = (λ test. let c = sum_by-cons (in_face test) f [] in let z = counts_none test (map (strand l.shape i) (parts_of (first_view l))) strands in let y : sum_by (in_face test) [] ≡ 0 = refl in omega (arith, c, z, y)) in record {
+      let none_of : (test : Entry → Bool) → total test (f ∷ []) ≡ 0 = (λ test. let c = sum_by-cons (in_face test) f [] in let z = counts_none test (map (strand l.shape i) (parts_of (first_view l gs))) strands in let y : sum_by (in_face test) [] ≡ 0 = refl in omega (arith, c, z, y)) in record {
         history = [];
         accepted = no_history l.shape o;
         word_is = refl;
@@ -97,7 +98,7 @@ module _ {H : Type 0} (stands : List ℕ → Grounds → List Noted → H → Ty
         told = All-cons (λ (g : Face). All (IsTold o [] (0 + (inside_total (f ∷ []) - is_in g))) g.parts) f [] (All-weaker (λ (p : Part). p.notes ≡ []) (IsTold o [] (0 + (inside_total (f ∷ []) - is_in f))) (empty_told o (0 + (inside_total (f ∷ []) - is_in f))) f.parts strands) (All-nil (λ (g : Face). All (IsTold o [] (0 + (inside_total (f ∷ []) - is_in g))) g.parts));
         once = λ k lt. absurd (omega (arith, lt));
         as_many = none_of is_at;
-        weights = λ w. (let c = sum_by-cons (noted_in w) f [] in let z = sums_none (noted_weight w) (map (strand l.shape i) (parts_of (first_view l))) strands in let y : sum_by (noted_in w) [] ≡ 0 = refl in omega (arith, c, z, y));
+        weights = λ w. (let c = sum_by-cons (noted_in w) f [] in let z = sums_none (noted_weight w) (map (strand l.shape i) (parts_of (first_view l gs))) strands in let y : sum_by (noted_in w) [] ≡ 0 = refl in omega (arith, c, z, y));
         home_is = λ _. (x, at_map some homes i (Some x) at, told_by);
       }
 
@@ -109,29 +110,30 @@ module _ {H : Type 0} (stands : List ℕ → Grounds → List Noted → H → Ty
   empty_notes ps all = All-weaker (λ (p : Part). p.notes ≡ []) (λ (p : Part). All (Stands l.shape p.number) p.notes) (λ p e. subst (λ (es : List Entry). All (Stands l.shape p.number) es) (sym e) (All-nil (Stands l.shape p.number))) ps all
 
   -- the table as it is made
-  pub opens : (gs : Grounds) (words : List ℕ) (homes : List (Option H)) → IsShape l.shape → l.shape.lanes * l.turns < 4611686018427387904 → l.shape.lanes * l.moves < 1073741824 → IsOpening l.shape words
-      → length homes ≡ objects_of l.shape → ((o : Object) → IsObjectOf l.shape o → (x : H) × (get_elem? homes (home_of l.shape o) ≡ some (Some x)) × stands (measures_of l.shape o) gs [] x) → IsSound stands l (opening words homes (first_view l))
+  pub opens : (gs : Setting) (words : List ℕ) (homes : List (Option H)) → IsShape l.shape → l.shape.lanes * l.turns < 4611686018427387904 → l.shape.lanes * l.moves < 1073741824 → IsOpening l.shape words
+      → length homes ≡ objects_of l.shape → ((o : Object) → IsObjectOf l.shape o → (x : H) × (get_elem? homes (home_of l.shape o) ≡ some (Some x)) × stands (measures_of l.shape o) gs [] x) → IsSound stands l (opening words homes (first_view l gs))
   opens gs words homes shape room few is wide all =
       let q : ℕ = objects_of l.shape in record {
-        grounds = gs;
+        setting = gs;
         words = is.many;
         homes = length-map homes some ∙ wide;
-        views = All-cons (IsView l.shape gs) (first_view l) [] (record { beside = beside_none (first_view l) all_parts; counted = counted_none (first_view l) all_parts; settled = settled_none (first_view l) all_parts; enters = enters_none (first_view l) refl; handy = handy_none (first_view l) all_parts; roots = orderly_none (first_view l) all_parts; grounds_are = tt; unnumbered = λ none_of. absurd (numbered_parts 0 l.shape.lanes shape.some_lane (All-tail (λ (p : Part). p.number ≡ None) (empty_part None) (lane_parts 0 l.shape.lanes) none_of)); inside = tt; notes = empty_notes (parts_of (first_view l)) all_parts }) (All-nil (IsView l.shape gs));
-        lanes = λ m. subst (OnceBelow l.shape.lanes m) (sym (one (numbered m) (first_view l) ∙ (let c = sum_by-cons (λ (p : Part). cond {A = ℕ} (is_lane m p.number) 1 0) (empty_part None) (lane_parts 0 l.shape.lanes) in let y : cond {A = ℕ} (is_lane m None) 1 0 ≡ 0 = refl in omega (arith, c, y)))) (let zl : 0 + l.shape.lanes ≡ l.shape.lanes = omega arith in subst (λ (n : ℕ). OnceBelow n m (count_by (λ (p : Part). is_lane m p.number) (lane_parts 0 l.shape.lanes))) zl (lane_once m 0 l.shape.lanes (omega arith)));
+        views = All-cons (IsView l.shape gs) (first_view l gs) [] (record { beside = beside_none (first_view l gs) (all_parts gs); counted = counted_none (first_view l gs) (all_parts gs); settled = settled_none (first_view l gs) (all_parts gs); enters = enters_none (first_view l gs) refl; handy = handy_none (first_view l gs) (all_parts gs); roots = orderly_none (first_view l gs) (all_parts gs); setting_is = refl; unnumbered = λ none_of. absurd (numbered_parts 0 l.shape.lanes shape.some_lane (All-tail (λ (p : Part). p.number ≡ None) (empty_part None) (lane_parts 0 l.shape.lanes) none_of)); inside = tt; notes = empty_notes (parts_of (first_view l gs)) (all_parts gs) }) (All-nil (IsView l.shape gs));
+        lanes = λ m. subst (OnceBelow l.shape.lanes m) (sym (one (numbered m) (first_view l gs) ∙ (let c = sum_by-cons (λ (p : Part). cond {A = ℕ} (is_lane m p.number) 1 0) (empty_part None) (lane_parts 0 l.shape.lanes) in let y : cond {A = ℕ} (is_lane m None) 1 0 ≡ 0 = refl in omega (arith, c, y)))) (let zl : 0 + l.shape.lanes ≡ l.shape.lanes = omega arith in subst (λ (n : ℕ). OnceBelow n m (count_by (λ (p : Part). is_lane m p.number) (lane_parts 0 l.shape.lanes))) zl (lane_once m 0 l.shape.lanes (omega arith)));
         objects = λ o fits.
             let i : ℕ = home_of l.shape o in let near : i < q = home_within l.shape o fits in
             let here = all o fits in
             let word : slice_index words (word_of l.shape o) ≡ 0 = is.objects i near in
-            subst (λ (n : ℕ). IsKept stands l.shape gs o (map (face l.shape i) (first_view l ∷ [])) n (get_elem? (map some homes) i)) (sym word) (opens_at gs homes o here.0 here.1 here.2);
-        looks = looks_open (first_view l) all_parts;
-        order = order_opens (first_view l) all_parts;
+            subst (λ (n : ℕ). IsKept stands l.shape gs o (map (face l.shape i) (first_view l gs ∷ [])) n (get_elem? (map some homes) i)) (sym word) (opens_at gs homes o here.0 here.1 here.2);
+        born = born_opens (first_view l gs) (all_parts gs);
+        looks = looks_open (first_view l gs) (all_parts gs);
+        order = order_opens (first_view l gs) (all_parts gs);
         room = room;
-        budget = (let a = one spent (first_view l) in let b = counts_none is_at (parts_of (first_view l)) all_parts in let t : ℕ = l.shape.lanes * l.turns in let x : ℕ = sum_by spent (first_view l ∷ []) in let y : ℕ = spent (first_view l) in
-            let c : ℕ = sum_by (λ (p : Part). count_by is_at p.notes) (parts_of (first_view l)) in let a' : x ≡ y = a in let b' : c ≡ 0 = b in let d : y ≡ c + t = refl in let g : x ≤ t = omega (arith, a', b', d) in g);
+        budget = (let a = one spent (first_view l gs) in let b = counts_none is_at (parts_of (first_view l gs)) (all_parts gs) in let t : ℕ = l.shape.lanes * l.turns in let x : ℕ = sum_by spent (first_view l gs ∷ []) in let y : ℕ = spent (first_view l gs) in
+            let c : ℕ = sum_by (λ (p : Part). count_by is_at p.notes) (parts_of (first_view l gs)) in let a' : x ≡ y = a in let b' : c ≡ 0 = b in let d : y ≡ c + t = refl in let g : x ≤ t = omega (arith, a', b', d) in g);
         few = few;
-        moved = (let a = one reached (first_view l) in let b = weigh_none any_gain (parts_of (first_view l)) all_parts in let t : ℕ = l.shape.lanes * l.moves in let x : ℕ = sum_by reached (first_view l ∷ []) in let y : ℕ = reached (first_view l) in
-            let c : ℕ = weigh any_gain (first_view l) in let a' : x ≡ y = a in let b' : c ≡ 0 = b in let d : y ≡ c + t = refl in let g : x ≤ t = omega (arith, a', b', d) in g);
-        counts = λ p lt. subst (IsCounted p (first_view l ∷ [])) (sym (is.counts p lt)) (never_born p (first_view l ∷ []) (λ f g. one (weigh (on_root f p g)) (first_view l) ∙ sums_none (on_root f p g) (parts_of (first_view l)) all_parts) (λ f. one (weigh (on_place f p)) (first_view l) ∙ sums_none (on_place f p) (parts_of (first_view l)) all_parts));
+        moved = (let a = one reached (first_view l gs) in let b = weigh_none any_gain (parts_of (first_view l gs)) (all_parts gs) in let t : ℕ = l.shape.lanes * l.moves in let x : ℕ = sum_by reached (first_view l gs ∷ []) in let y : ℕ = reached (first_view l gs) in
+            let c : ℕ = weigh any_gain (first_view l gs) in let a' : x ≡ y = a in let b' : c ≡ 0 = b in let d : y ≡ c + t = refl in let g : x ≤ t = omega (arith, a', b', d) in g);
+        counts = λ p lt. subst (IsCounted p (first_view l gs ∷ [])) (sym (is.counts p lt)) (never_born p (first_view l gs ∷ []) (λ f g. one (weigh (on_root f p g)) (first_view l gs) ∙ sums_none (on_root f p g) (parts_of (first_view l gs)) (all_parts gs)) (λ f. one (weigh (on_place f p)) (first_view l gs) ∙ sums_none (on_place f p) (parts_of (first_view l gs)) (all_parts gs)));
       }
 
   length_parts : (i n : ℕ) → length (lane_parts i n) ≡ n
@@ -144,25 +146,25 @@ module _ {H : Type 0} (stands : List ℕ → Grounds → List Noted → H → Ty
   left_over : (n t : ℕ) → suc n * t - t ≡ n * t
   left_over n t = let a = suc-mul n t in let x : ℕ = n * t in let y : ℕ = suc n * t in let a' : y ≡ x + t = a in let g : y - t ≡ x = omega (arith, a') in g
 
-  pub cut_first : (i n : ℕ) (g : Grounds) → first_lane (rest_view l i (suc n) g) ≡ lane_view l i g
-  cut_first i n g = λ k. record { own = empty_part (Some i); others = []; inside = None; moves = shared (suc i) n l.moves k; turns = shared (suc i) n l.turns k; grounds = Some g }
+  pub cut_first : (i n : ℕ) (g : Setting) → first_lane (rest_view l i (suc n) g) ≡ lane_view l i g
+  cut_first i n g = λ k. record { own = empty_part (Some i); others = []; inside = None; moves = shared (suc i) n l.moves k; turns = shared (suc i) n l.turns k; setting = Some g }
 
-  pub cut_rest : (i n : ℕ) (g : Grounds) → rest_of_lanes (rest_view l i (suc n) g) ≡ rest_view l (suc i) n g
+  pub cut_rest : (i n : ℕ) (g : Setting) → rest_of_lanes (rest_view l i (suc n) g) ≡ rest_view l (suc i) n g
   cut_rest i n g = λ k. record {
     own = empty_part None;
     others = lane_parts (suc i) n;
     inside = None;
     moves = (ap (λ (s : ℕ). suc n * l.moves - s) (shared (suc i) n l.moves) ∙ left_over n l.moves) k;
     turns = (ap (λ (s : ℕ). suc n * l.turns - s) (shared (suc i) n l.turns) ∙ left_over n l.turns) k;
-    grounds = Some g;
+    setting = Some g;
   }
 
-  rest_idle : (i n : ℕ) (g : Grounds) → All (λ (p : Part). p.number ≡ None) (parts_of (rest_view l i n g)) → IsIdle (rest_view l i n g)
+  rest_idle : (i n : ℕ) (g : Setting) → All (λ (p : Part). p.number ≡ None) (parts_of (rest_view l i n g)) → IsIdle (rest_view l i n g)
   rest_idle i zero g all = record { notes = All-cons (λ (p : Part). p.notes ≡ []) (empty_part None) [] refl (All-nil (λ (p : Part). p.notes ≡ [])); inside = refl; moves = (let m : ℕ = l.moves in omega arith); turns = (let m : ℕ = l.turns in omega arith) }
   rest_idle i (suc n) g all = absurd (numbered_parts i (suc n) (omega arith) (All-tail (λ (p : Part). p.number ≡ None) (empty_part None) (lane_parts i (suc n)) all))
 
   -- a first seat is cut from the opening view
-  pub cuts_allowed : (id i n : ℕ) (g : Grounds) → Splits (IsSound stands l) id (rest_view l i (suc n) g) (rest_of_lanes (rest_view l i (suc n) g)) (first_lane (rest_view l i (suc n) g))
+  pub cuts_allowed : (id i n : ℕ) (g : Setting) → Splits (IsSound stands l) id (rest_view l i (suc n) g) (rest_of_lanes (rest_view l i (suc n) g)) (first_lane (rest_view l i (suc n) g))
   cuts_allowed id i n g = subst (λ (y : SeatView × SeatView). Splits (IsSound stands l) id (rest_view l i (suc n) g) y.0 y.1) (λ k. (sym (cut_rest i n g) k, sym (cut_first i n g) k))
       (λ s r at. cut_in_two stands l s r id (rest_view l i (suc n) g) (rest_view l (suc i) n g) (lane_view l i g) at refl refl refl
       (λ f z. let own : Part = empty_part None in let p : Part = empty_part (Some i) in let ps : List Part = lane_parts (suc i) n in
@@ -171,7 +173,7 @@ module _ {H : Type 0} (stands : List ℕ → Grounds → List Noted → H → Ty
       (λ P e all. let more = All-tail P (empty_part None) (lane_parts i (suc n)) all in (All-cons P (empty_part None) (lane_parts (suc i) n) e (All-tail P (empty_part (Some i)) (lane_parts (suc i) n) more), All-cons P (empty_part (Some i)) [] (All-head P (empty_part (Some i)) (lane_parts (suc i) n) more) (All-nil P)))
       (let a = suc-mul n l.turns in let x : ℕ = n * l.turns in let y : ℕ = suc n * l.turns in let a' : y ≡ x + l.turns = a in let g : x + l.turns ≡ y = omega (arith, a') in g) (let a = suc-mul n l.moves in let x : ℕ = n * l.moves in let y : ℕ = suc n * l.moves in let a' : y ≡ x + l.moves = a in let g : x + l.moves ≡ y = omega (arith, a') in g)
       (λ fine. (
-        record { beside = beside_none (rest_view l (suc i) n g) (All-cons (λ (p : Part). p.notes ≡ []) (empty_part None) (lane_parts (suc i) n) refl (none_numbered (suc i) n)); counted = counted_none (rest_view l (suc i) n g) (All-cons (λ (p : Part). p.notes ≡ []) (empty_part None) (lane_parts (suc i) n) refl (none_numbered (suc i) n)); settled = settled_none (rest_view l (suc i) n g) (All-cons (λ (p : Part). p.notes ≡ []) (empty_part None) (lane_parts (suc i) n) refl (none_numbered (suc i) n)); enters = enters_none (rest_view l (suc i) n g) refl; handy = handy_none (rest_view l (suc i) n g) (All-cons (λ (p : Part). p.notes ≡ []) (empty_part None) (lane_parts (suc i) n) refl (none_numbered (suc i) n)); roots = orderly_none (rest_view l (suc i) n g) (All-cons (λ (p : Part). p.notes ≡ []) (empty_part None) (lane_parts (suc i) n) refl (none_numbered (suc i) n)); grounds_are = fine.grounds_are; unnumbered = rest_idle (suc i) n g; inside = tt; notes = empty_notes (parts_of (rest_view l (suc i) n g)) (All-cons (λ (p : Part). p.notes ≡ []) (empty_part None) (lane_parts (suc i) n) refl (none_numbered (suc i) n)) },
+        record { beside = beside_none (rest_view l (suc i) n g) (All-cons (λ (p : Part). p.notes ≡ []) (empty_part None) (lane_parts (suc i) n) refl (none_numbered (suc i) n)); counted = counted_none (rest_view l (suc i) n g) (All-cons (λ (p : Part). p.notes ≡ []) (empty_part None) (lane_parts (suc i) n) refl (none_numbered (suc i) n)); settled = settled_none (rest_view l (suc i) n g) (All-cons (λ (p : Part). p.notes ≡ []) (empty_part None) (lane_parts (suc i) n) refl (none_numbered (suc i) n)); enters = enters_none (rest_view l (suc i) n g) refl; handy = handy_none (rest_view l (suc i) n g) (All-cons (λ (p : Part). p.notes ≡ []) (empty_part None) (lane_parts (suc i) n) refl (none_numbered (suc i) n)); roots = orderly_none (rest_view l (suc i) n g) (All-cons (λ (p : Part). p.notes ≡ []) (empty_part None) (lane_parts (suc i) n) refl (none_numbered (suc i) n)); setting_is = fine.setting_is; unnumbered = rest_idle (suc i) n g; inside = tt; notes = empty_notes (parts_of (rest_view l (suc i) n g)) (All-cons (λ (p : Part). p.notes ≡ []) (empty_part None) (lane_parts (suc i) n) refl (none_numbered (suc i) n)) },
         record {
           beside = beside_none (lane_view l i g) (All-cons (λ (p : Part). p.notes ≡ []) (empty_part (Some i)) [] refl (All-nil (λ (p : Part). p.notes ≡ [])));
           counted = counted_none (lane_view l i g) (All-cons (λ (p : Part). p.notes ≡ []) (empty_part (Some i)) [] refl (All-nil (λ (p : Part). p.notes ≡ [])));
@@ -179,7 +181,7 @@ module _ {H : Type 0} (stands : List ℕ → Grounds → List Noted → H → Ty
           enters = enters_none (lane_view l i g) refl;
           handy = handy_none (lane_view l i g) (All-cons (λ (p : Part). p.notes ≡ []) (empty_part (Some i)) [] refl (All-nil (λ (p : Part). p.notes ≡ [])));
           roots = orderly_none (lane_view l i g) (All-cons (λ (p : Part). p.notes ≡ []) (empty_part (Some i)) [] refl (All-nil (λ (p : Part). p.notes ≡ [])));
-          grounds_are = fine.grounds_are;
+          setting_is = fine.setting_is;
           unnumbered = λ all. (let e : Some i ≡ None = All-head (λ (p : Part). p.number ≡ None) (empty_part (Some i)) [] all in absurd (cc));
           inside = tt;
           notes = empty_notes (empty_part (Some i) ∷ []) (All-cons (λ (p : Part). p.notes ≡ []) (empty_part (Some i)) [] refl (All-nil (λ (p : Part). p.notes ≡ [])));

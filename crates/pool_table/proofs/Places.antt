@@ -1,5 +1,5 @@
 -- A root place is in its bin, in one view's hands, or has a root; and a view with a place in hand or with an end token is alone there.
-use Rattle.ground.specs.Grounds.{Grounds}
+use Rattle.step_law.specs.Settings.{Setting}
 use Rattle.std.proofs.Common.{◌≡◌, ◌≢◌, ◌⊎◌, ℕ, zero, suc, ◌+◌, ◌*◌, ◌<◌, ◌≤◌, List, [], ◌∷◌, eqb, sym, refl, ap, ◌∙◌, subst, inl, inr, arith}
 use Rattle.std.specs.Prelude.{Option, All, sum_by, count_by}
 use Rattle.std.proofs.lemmas.List.Elements.{All-head, All-tail, All-weaker}
@@ -21,16 +21,16 @@ use Rattle.pool_table.specs.declared.views.Layout.{Layout}
 use Rattle.pool_table.specs.declared.views.Part.{Part}
 use Rattle.pool_table.specs.declared.views.SeatView.{SeatView}
 use Rattle.pool_table.specs.Views.{parts_of}
-use Rattle.pool_table.specs.Counts.{ref_born, ref_ended, ref_vacated, on_place, on_root, place_tally, tally, weigh, HasToken}
+use Rattle.pool_table.specs.Counts.{ref_born, ref_ended, ref_vacated, on_place, on_root, place_tally, tally, weigh}
 use Rattle.pool_table.specs.Hands.{at_in, at_out, taken, put_down, InHand, MayEnter}
 use Rattle.pool_table.specs.Sound.{IsSound, IsView, Stands, WasHeld}
+use Rattle.pool_table.specs.Holders.{HoldsPlace}
+use Rattle.pool_table.proofs.AtPlace.{CountsAt, TokenAt}
+use Rattle.pool_table.proofs.Exact.{count_at, token_at}
+use Rattle.pool_table.proofs.Ledgers.{sum_add}
 use Rattle.pool_table.proofs.Weights.{strict_sum}
 use Rattle.pool_table.proofs.References.{live_word, token_word}
 use Rattle.pool_table.proofs.Hands.{in_faces, hand_word, taken_once}
-
-pub sum_add : {A : Type 0} (f g : A → ℕ) (l : List A) → sum_by (λ (x : A). f x + g x) l ≡ sum_by f l + sum_by g l
-sum_add f g [] = refl
-sum_add {A} f g (x ∷ xs) = let a = sum_by-cons (λ (x : A). f x + g x) x xs in let b = sum_by-cons f x xs in let c = sum_by-cons g x xs in let d = sum_add f g xs in omega (arith, a, b, c, d)
 
 -- where two elements lose less than they gain
 pub strict_two : {A : Type 0} (a b c d : A → ℕ) (l : List A) (i j : ℕ) (v w : A) → i ≢ j → All (λ (x : A). a x + b x ≤ c x + d x) l → get_elem? l i ≡ some v → get_elem? l j ≡ some w → a v + b v < c v + d v → a w + b w < c w + d w
@@ -50,7 +50,7 @@ strict_two {A} a b c d (h ∷ t) (suc i) (suc j) v w ne all e f x y =
     let k = All-head P h t all in let m = strict_two a b c d t i j v w (λ q. ne (ap suc q)) (All-tail P h t all) e f x y in
     let p = sum_by-cons a h t in let q = sum_by-cons b h t in let r = sum_by-cons c h t in let s = sum_by-cons d h t in omega (arith, k, m, p, q, r, s)
 
-module _ {H : Type 0} (stands : List ℕ → Grounds → List Noted → H → Type 0) (l : Layout) where
+module _ {H : Type 0} (stands : List ℕ → Setting → List Noted → H → Type 0) (l : Layout) where
   abbrev St : Type 0
   St = State (Option H) SeatView
 
@@ -62,7 +62,7 @@ module _ {H : Type 0} (stands : List ℕ → Grounds → List Noted → H → Ty
       → count_by (λ (x : ℕ). eqb x p) m + sum_by (taken p) s.views ≡ sum_by (put_down p) s.views + (r.counts p lt).vacant
   in_one_place s r p lt fits m after =
       let o = r.objects (Bin (place_lane l.shape p)) fits in let k = r.counts p lt in
-      let notes = All-weaker (IsView l.shape r.grounds) (λ (v : SeatView). All (λ (q : Part). All (Stands l.shape q.number) q.notes) (parts_of v)) (λ v fine. fine.notes) s.views r.views in
+      let notes = All-weaker (IsView l.shape r.setting) (λ (v : SeatView). All (λ (q : Part). All (Stands l.shape q.number) q.notes) (parts_of v)) (λ v fine. fine.notes) s.views r.views in
       let a = in_faces l.shape p (did_handle p) (λ d. omega arith) s.views notes in let b = in_faces l.shape p (did_home p) (λ d. omega arith) s.views notes in
       let c = o.weights (λ (n : Noted). did_handle p n.did) in let d = o.weights (λ (n : Noted). did_home p n.did) in
       let e = in_bin l.shape (place_lane l.shape p) p o.history m o.accepted after (some_handle p lt) refl in
@@ -79,7 +79,7 @@ module _ {H : Type 0} (stands : List ℕ → Grounds → List Noted → H → Ty
   own_bin s r id p v lt at has b e = subst (λ (b : ℕ). (fits : b < l.shape.lanes) (m : List ℕ) → IsBinAfter l.shape b (r.objects (Bin b) fits).history m → count_by (λ (x : ℕ). eqb x p) m ≡ 0) e
       (λ fits m after.
       let one = in_one_place s r p lt fits m after in let free = (r.counts p lt).free in
-      let all = All-weaker (IsView l.shape r.grounds) (λ (x : SeatView). put_down p x + 0 ≤ taken p x + 0) (λ x fine. let q = fine.handy p in omega (arith, q)) s.views r.views in
+      let all = All-weaker (IsView l.shape r.setting) (λ (x : SeatView). put_down p x + 0 ≤ taken p x + 0) (λ x fine. let q = fine.handy p in omega (arith, q)) s.views r.views in
       let less = strict_sum (put_down p) (λ (x : SeatView). 0) (taken p) (λ (x : SeatView). 0) s.views id v all at (let h : put_down p v < taken p v = has in omega (arith, h)) in
       omega (arith, one, free, less))
 
@@ -93,26 +93,38 @@ module _ {H : Type 0} (stands : List ℕ → Grounds → List Noted → H → Ty
       (λ ne. foreign l.shape b p (r.objects (Bin b) fits).history m (r.objects (Bin b) fits).accepted after (some_handle p lt) ne)) fits after
 
   -- two views have hands or tokens of one place, or a count: not both with a hand or a token
-  pub never_both : (s : St) (r : IsSound stands l s) (i j p : ℕ) (v u : SeatView) (lt : p < l.shape.lanes * l.shape.handles) → i ≢ j → get_elem? s.views i ≡ some v → get_elem? s.views j ≡ some u → InHand p v ⊎ ((g : ℕ) × HasToken p g v) → MayEnter p u → ⊥
-  never_both s r i j p v u lt ne at bt (inl hand) (inl (g, inl has)) = let a = hand_word stands l s r i p v lt at hand in let b = live_word stands l s r j p g u lt bt has in let c = (r.counts p lt).live b.1 in omega (arith, a, c)
-  never_both s r i j p v u lt ne at bt (inl hand) (inl (g, inr tok)) = let a = hand_word stands l s r i p v lt at hand in let b = token_word stands l s r j p g u lt bt tok in let c = b.3 in omega (arith, a, c)
-  never_both s r i j p v u lt ne at bt (inl hand) (inr other) =
-      let all = All-weaker (IsView l.shape r.grounds) (λ (x : SeatView). put_down p x ≤ taken p x) (λ x fine. fine.handy p) s.views r.views in
+  never_two : (s : St) (r : IsSound stands l s) (i j p : ℕ) (v u : SeatView) (lt : p < l.shape.lanes * l.shape.handles) → i ≢ j → get_elem? s.views i ≡ some v → get_elem? s.views j ≡ some u → InHand p v ⊎ ((g : ℕ) × TokenAt p g v) → ((g : ℕ) × (CountsAt p g u ⊎ TokenAt p g u)) ⊎ InHand p u → ⊥
+  never_two s r i j p v u lt ne at bt (inl hand) (inl (g, inl has)) = let a = hand_word stands l s r i p v lt at hand in let b = live_word stands l s r j p g u lt bt has in let c = (r.counts p lt).live b.1 in omega (arith, a, c)
+  never_two s r i j p v u lt ne at bt (inl hand) (inl (g, inr tok)) = let a = hand_word stands l s r i p v lt at hand in let b = token_word stands l s r j p g u lt bt tok in let c = b.3 in omega (arith, a, c)
+  never_two s r i j p v u lt ne at bt (inl hand) (inr other) =
+      let all = All-weaker (IsView l.shape r.setting) (λ (x : SeatView). put_down p x ≤ taken p x) (λ x fine. fine.handy p) s.views r.views in
       let two = strict_two (weigh (at_out p)) (weigh (on_place ref_born p)) (weigh (at_in p)) (weigh (on_place ref_vacated p)) s.views i j v u ne all at bt hand other in
       let k = r.counts p lt in let st = taken_once stands l s r p lt in let b = k.all_born in let c = k.all_vacated in let f = k.free in
       let mo : ℕ = sum_by (weigh (at_out p)) s.views in let bo : ℕ = place_tally ref_born p s.views in let hi : ℕ = sum_by (weigh (at_in p)) s.views in let va : ℕ = place_tally ref_vacated p s.views in
       let two' : mo + bo + 2 ≤ hi + va = two in let st' : hi ≤ 1 + mo = st in let b' : bo ≡ k.generation = b in let c' : va + 1 ≡ k.generation + k.vacant = c in omega (arith, two', st', b', c', f)
-  never_both s r i j p v u lt ne at bt (inr (g, tok)) (inl (g', inl has)) = let a = (token_word stands l s r i p g v lt at tok).2 in let b = (live_word stands l s r j p g' u lt bt has).1 in omega (arith, a, b)
-  never_both s r i j p v u lt ne at bt (inr (g, tok)) (inl (g', inr tok')) =
+  never_two s r i j p v u lt ne at bt (inr (g, tok)) (inl (g', inl has)) = let a = (token_word stands l s r i p g v lt at tok).2 in let b = (live_word stands l s r j p g' u lt bt has).1 in omega (arith, a, b)
+  never_two s r i j p v u lt ne at bt (inr (g, tok)) (inl (g', inr tok')) =
       let a = token_word stands l s r i p g v lt at tok in let b = token_word stands l s r j p g' u lt bt tok' in let same : g' ≡ g = b.0 ∙ sym a.0 in
-      let tok2 : HasToken p g u = subst (λ (y : ℕ). HasToken p y u) same tok' in
-      let all = All-weaker (IsView l.shape r.grounds) (λ (x : SeatView). weigh (on_root ref_vacated p g) x + 0 ≤ weigh (on_root ref_ended p g) x + 0) (λ x fine. let q = fine.settled p g in omega (arith, q)) s.views r.views in
+      let tok2 : TokenAt p g u = subst (λ (y : ℕ). TokenAt p y u) same tok' in
+      let all = All-weaker (IsView l.shape r.setting) (λ (x : SeatView). weigh (on_root ref_vacated p g) x + 0 ≤ weigh (on_root ref_ended p g) x + 0) (λ x fine. let q = fine.settled p g in omega (arith, q)) s.views r.views in
       let two = strict_two (weigh (on_root ref_vacated p g)) (λ (x : SeatView). 0) (weigh (on_root ref_ended p g)) (λ (x : SeatView). 0) s.views i j v u ne all at bt (omega (arith, tok)) (omega (arith, tok2)) in
       let k = r.counts p lt in let once : tally ref_ended p g s.views ≡ 1 = ap (λ (y : ℕ). tally ref_ended p y s.views) a.0 ∙ (k.ended a.1).0 a.2 in
       let x : ℕ = tally ref_ended p g s.views in let y : ℕ = tally ref_vacated p g s.views in let z : ℕ = sum_by (λ (x : SeatView). 0) s.views in let two' : y + z + 2 ≤ x + z = two in let once' : x ≡ 1 = once in omega (arith, two', once')
-  never_both s r i j p v u lt ne at bt (inr (g, tok)) (inr hand) = let a = (token_word stands l s r i p g v lt at tok).3 in let b = hand_word stands l s r j p u lt bt hand in omega (arith, a, b)
+  never_two s r i j p v u lt ne at bt (inr (g, tok)) (inr hand) = let a = (token_word stands l s r i p g v lt at tok).3 in let b = hand_word stands l s r j p u lt bt hand in omega (arith, a, b)
+
+  pub never_both : (s : St) (r : IsSound stands l s) (i j p : ℕ) (v u : SeatView) (lt : p < l.shape.lanes * l.shape.handles) → i ≢ j → get_elem? s.views i ≡ some v → get_elem? s.views j ≡ some u → HoldsPlace p v → MayEnter p u → ⊥
+  never_both s r i j p v u lt ne at bt mine other = never_two s r i j p v u lt ne at bt (holds mine) (enters other)
+    where
+      holds : HoldsPlace p v → InHand p v ⊎ ((g : ℕ) × TokenAt p g v)
+      holds (inl hand) = inl hand
+      holds (inr (q, here, tok)) = inr (q.generation, subst (λ (n : ℕ). TokenAt n q.generation v) here (token_at stands l s r i v at q tok))
+
+      enters : MayEnter p u → ((g : ℕ) × (CountsAt p g u ⊎ TokenAt p g u)) ⊎ InHand p u
+      enters (inl (q, here, inl has)) = inl (q.generation, inl (subst (λ (n : ℕ). CountsAt n q.generation u) here (count_at stands l s r j u bt q has)))
+      enters (inl (q, here, inr tok)) = inl (q.generation, inr (subst (λ (n : ℕ). TokenAt n q.generation u) here (token_at stands l s r j u bt q tok)))
+      enters (inr hand) = inr hand
 
   -- a claim of a root place is never Held for a seat with the place in hand or with an end token of it
-  pub never_held : (p n : ℕ) (v : SeatView) → p < l.shape.lanes * l.shape.handles → WasHeld stands l (Root p) n v → InHand p v ⊎ ((g : ℕ) × HasToken p g v) → ⊥
+  pub never_held : (p n : ℕ) (v : SeatView) → p < l.shape.lanes * l.shape.handles → WasHeld stands l (Root p) n v → HoldsPlace p v → ⊥
   never_held p n v lt w mine = never_both w.moment w.sound w.seat w.other p v w.holder lt (λ e. w.apart (sym e)) w.view w.holds mine
-      ((each_at (IsView l.shape w.sound.grounds) w.moment.views w.other w.holder w.sound.views w.holds).enters w.section p w.inside w.object)
+      ((each_at (IsView l.shape w.sound.setting) w.moment.views w.other w.holder w.sound.views w.holds).enters w.section p w.inside w.object)

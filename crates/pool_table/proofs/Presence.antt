@@ -1,6 +1,6 @@
 -- What the history of a root place tells a view, from the steps on its word.
-use Rattle.ground.specs.Grounds.{Grounds}
-use Rattle.std.proofs.Common.{◌≡◌, ◌≢◌, ℕ, ◌+◌, ◌*◌, ◌<◌, ◌≤◌, List, [], ◌∷◌, ◌++◌, map, eqb, sym, refl, ap, ◌∙◌, subst, inl, inr, ⊎_elim, arith, lt_of_not-le}
+use Rattle.step_law.specs.Settings.{Setting}
+use Rattle.std.proofs.Common.{◌≡◌, ◌≢◌, ℕ, ◌+◌, ◌*◌, ◌<◌, ◌≤◌, List, [], ◌∷◌, ◌++◌, sym, refl, ap, ◌∙◌, subst, inl, inr, arith, lt_of_not-le}
 use Rattle.std.specs.Prelude.{Option, Some, None, All, sum_by}
 use Rattle.std.proofs.lemmas.List.Elements.{All-weaker}
 use mathlib.Core.Logic.{dite}
@@ -10,75 +10,49 @@ use lib.ListN.{get_elem?}
 use Rattle.atomic_table.specs.Table.{State}
 use Rattle.step_law.proofs.Changes.{sum_at}
 use Rattle.pool_law.specs.declared.run.Shape.{Shape}
-use Rattle.pool_law.specs.declared.note.Did.{Did}
 use Rattle.pool_law.specs.declared.note.Noted.{Noted}
 use Rattle.pool_law.specs.declared.id.RootId.{RootId}
 use Rattle.pool_law.specs.declared.note.Object.{Object}
 use Rattle.pool_law.specs.declared.note.Object.TheVariants.{Root}
-use Rattle.pool_law.specs.Homes.{home_of, IsObjectOf}
-use Rattle.table_law.specs.Histories.{IsHistory, IsPlaceAfter}
+use Rattle.pool_law.specs.Homes.{IsObjectOf}
+use Rattle.table_law.specs.Histories.{IsHistory, IsPlaceAfter, root_after}
 use Rattle.table_law.specs.NoteCounts.{did_birth, did_birth_of, did_end}
 use Rattle.pool_law.specs.Roots.{RootPlace}
 use Rattle.table_law.proofs.Steps.{root_in}
 use Rattle.table_law.proofs.Told.{place_there, last_place, root_is}
 use Rattle.table_law.proofs.Roots.{place_born, of_birth, place_births, place_ends, birth_step, end_step}
-use Rattle.pool_table.specs.declared.views.Entry.{Entry}
-use Rattle.pool_table.specs.declared.views.Entry.TheVariants.{At, Ref, Busy}
 use Rattle.pool_table.specs.declared.views.Layout.{Layout}
-use Rattle.pool_table.specs.declared.views.Part.{Part}
 use Rattle.pool_table.specs.declared.views.SeatView.{SeatView}
-use Rattle.pool_table.specs.Views.{parts_of, face, noted_weight, noted_total}
-use Rattle.pool_table.specs.Counts.{ref_born, ref_ended, ref_vacated, on_place, on_root, place_tally, tally, weigh, HasCount, HasToken}
-use Rattle.pool_table.specs.Hands.{at_in, at_out, at_birth, at_birth_of, at_end, InHand, NoneWaits}
-use Rattle.pool_table.specs.Sound.{IsSound, IsView, Stands}
-use Rattle.pool_table.specs.Steps.{IsPresentIn, IsVacantIn, TellsRoot}
-use Rattle.pool_table.proofs.Partition.{sum_to, in_views, IsAmong}
+use Rattle.pool_table.specs.Counts.{ref_born, ref_ended, ref_vacated, on_place, on_root, place_tally, tally, weigh}
+use Rattle.pool_table.specs.Hands.{at_in, at_out, at_birth, at_birth_of, at_end, InHand, NoneWaits, ends}
+use Rattle.pool_table.specs.Births.{IsBorn}
+use Rattle.pool_table.specs.Sound.{IsSound, IsView}
+use Rattle.pool_table.specs.Learned.{TellsRoot}
+use Rattle.pool_table.proofs.AtPlace.{CountsAt, IsPresentIn, TokenAt}
+use Rattle.pool_table.proofs.Exact.{root_notes, one_born, present_born, count_at, count_born, token_at, token_born, ends_at}
 use Rattle.pool_table.proofs.Weights.{weak_sum, strict_sum, weak_six, strict_six}
 use Rattle.pool_table.proofs.References.{live_word, token_word}
-use Rattle.pool_table.proofs.Hands.{taken_once, hand_word}
+use Rattle.pool_table.proofs.Hands.{taken_once, hand_word, small_generation}
 
-among_root : (s : Shape) (p : ℕ) (w : Did → ℕ) → ((d : Did) → did_birth p d ≡ 0 → ((g : ℕ) → did_end p g d ≡ 0) → w d ≡ 0) → (lane : Option ℕ) (e : Entry) → Stands s lane e → IsAmong s (home_of s (Root p)) 1 (λ (n : Noted). w n.did) e
-among_root s p w free lane (At o k n) t = ⊎_elim
-    (λ (z : (did_birth p n.did ≡ 0) × ((g : ℕ) → did_end p g n.did ≡ 0)). inl (free n.did z.0 z.1))
-    (λ (e : o ≡ Root p). inr (0, (let g : 0 < 1 = omega arith in g), (λ i. let b : ℕ = home_of s (Root p) in let z : b ≡ b + 0 = omega arith in ap (λ (x : Object). eqb (home_of s x) i) e ∙ ap (λ (x : ℕ). eqb x i) z)))
-    (t.in_place.rooted p)
-among_root s p w free lane (Ref r d) t = inl refl
-among_root s p w free lane (Busy b) t = inl refl
-
-module _ {H : Type 0} (stands : List ℕ → Grounds → List Noted → H → Type 0) (l : Layout) where
+module _ {H : Type 0} (stands : List ℕ → Setting → List Noted → H → Type 0) (l : Layout) where
   abbrev St : Type 0
   St = State (Option H) SeatView
 
-  -- the births and ends of a place in all views are those of its history
-  root_notes : (s : St) (r : IsSound stands l s) (p : ℕ) (lt : p < l.shape.lanes * l.shape.handles) (w : Did → ℕ) → ((d : Did) → did_birth p d ≡ 0 → ((g : ℕ) → did_end p g d ≡ 0) → w d ≡ 0)
-      → sum_by (weigh (noted_weight (λ (n : Noted). w n.did))) s.views ≡ sum_by (λ (n : Noted). w n.did) (r.objects (Root p) lt).history
-  root_notes s r p lt w free =
-      let b : ℕ = home_of l.shape (Root p) in
-      let all = All-weaker (IsView l.shape r.grounds) (λ (v : SeatView). All (λ (q : Part). All (IsAmong l.shape b 1 (λ (x : Noted). w x.did)) q.notes) (parts_of v))
-      (λ v fine. All-weaker (λ (q : Part). All (Stands l.shape q.number) q.notes) (λ (q : Part). All (IsAmong l.shape b 1 (λ (x : Noted). w x.did)) q.notes)
-      (λ q st. All-weaker (Stands l.shape q.number) (IsAmong l.shape b 1 (λ (x : Noted). w x.did)) (among_root l.shape p w free q.number) q.notes st) (parts_of v) fine.notes) s.views r.views in
-      let a = in_views l.shape b 1 (λ (x : Noted). w x.did) s.views all in
-      let k = (r.objects (Root p) lt).weights (λ (x : Noted). w x.did) in
-      let z : b + 0 ≡ b = omega arith in
-      let one : sum_to 1 (λ i. noted_total (λ (x : Noted). w x.did) (map (face l.shape (b + i)) s.views)) ≡ noted_total (λ (x : Noted). w x.did) (map (face l.shape (b + 0)) s.views) = omega arith in
-      let at0 : noted_total (λ (x : Noted). w x.did) (map (face l.shape (b + 0)) s.views) ≡ noted_total (λ (x : Noted). w x.did) (map (face l.shape b) s.views) = ap (λ (j : ℕ). noted_total (λ (x : Noted). w x.did) (map (face l.shape j) s.views)) z in
-      sym a ∙ (one ∙ (at0 ∙ k))
-
   births_in : (s : St) (r : IsSound stands l s) (p : ℕ) (lt : p < l.shape.lanes * l.shape.handles) → sum_by (weigh (at_birth p)) s.views ≡ sum_by (λ (n : Noted). did_birth p n.did) (r.objects (Root p) lt).history
-  births_in s r p lt = root_notes s r p lt (did_birth p) (λ d z y. z)
+  births_in s r p lt = root_notes stands l s r p lt (did_birth p) (λ d z y. z)
 
   ends_in : (s : St) (r : IsSound stands l s) (p g : ℕ) (lt : p < l.shape.lanes * l.shape.handles) → sum_by (weigh (at_end p g)) s.views ≡ sum_by (λ (n : Noted). did_end p g n.did) (r.objects (Root p) lt).history
-  ends_in s r p g lt = root_notes s r p lt (did_end p g) (λ d z y. y g)
+  ends_in s r p g lt = root_notes stands l s r p lt (did_end p g) (λ d z y. y g)
 
   -- births noted are those made, and at most one more, at a vacant place
   no_fewer : (s : St) (r : IsSound stands l s) (p : ℕ) (lt : p < l.shape.lanes * l.shape.handles) → (r.counts p lt).generation ≤ sum_by (weigh (at_birth p)) s.views
   no_fewer s r p lt =
-      let all = All-weaker (IsView l.shape r.grounds) (λ (v : SeatView). weigh (on_place ref_born p) v + weigh (on_place ref_born p) v ≤ weigh (at_birth p) v + weigh (at_birth p) v) (λ v fine. let q = fine.roots.borne p in omega (arith, q)) s.views r.views in
+      let all = All-weaker (IsView l.shape r.setting) (λ (v : SeatView). weigh (on_place ref_born p) v + weigh (on_place ref_born p) v ≤ weigh (at_birth p) v + weigh (at_birth p) v) (λ v fine. let q = fine.roots.borne p in omega (arith, q)) s.views r.views in
       let a = weak_sum (weigh (on_place ref_born p)) (weigh (on_place ref_born p)) (weigh (at_birth p)) (weigh (at_birth p)) s.views all in let b = (r.counts p lt).all_born in
       let x : ℕ = place_tally ref_born p s.views in let y : ℕ = sum_by (weigh (at_birth p)) s.views in let a' : x + x ≤ y + y = a in let b' : x ≡ (r.counts p lt).generation = b in omega (arith, a', b')
 
   all_bear : (s : St) (r : IsSound stands l s) (p : ℕ) → All (λ (v : SeatView). weigh (at_birth p) v + (weigh (at_out p) v + weigh (on_place ref_born p) v) ≤ weigh (on_place ref_born p) v + (weigh (at_in p) v + weigh (on_place ref_vacated p) v)) s.views
-  all_bear s r p = All-weaker (IsView l.shape r.grounds) (λ (v : SeatView). weigh (at_birth p) v + (weigh (at_out p) v + weigh (on_place ref_born p) v) ≤ weigh (on_place ref_born p) v + (weigh (at_in p) v + weigh (on_place ref_vacated p) v)) (λ v fine. let q = fine.roots.bears p in omega (arith, q)) s.views r.views
+  all_bear s r p = All-weaker (IsView l.shape r.setting) (λ (v : SeatView). weigh (at_birth p) v + (weigh (at_out p) v + weigh (on_place ref_born p) v) ≤ weigh (on_place ref_born p) v + (weigh (at_in p) v + weigh (on_place ref_vacated p) v)) (λ v fine. let q = fine.roots.bears p in omega (arith, q)) s.views r.views
 
   no_more : (s : St) (r : IsSound stands l s) (p : ℕ) (lt : p < l.shape.lanes * l.shape.handles) → sum_by (weigh (at_birth p)) s.views ≤ (r.counts p lt).generation + (r.counts p lt).vacant
   no_more s r p lt =
@@ -101,19 +75,19 @@ module _ {H : Type 0} (stands : List ℕ → Grounds → List Noted → H → Ty
   -- a root's end is noted at most as often as its step, and vacated at most as often as its end is noted
   ends_le : (s : St) (r : IsSound stands l s) (p g : ℕ) → sum_by (weigh (at_end p g)) s.views ≤ tally ref_ended p g s.views
   ends_le s r p g =
-      let all = All-weaker (IsView l.shape r.grounds) (λ (v : SeatView). weigh (at_end p g) v + weigh (at_end p g) v ≤ weigh (on_root ref_ended p g) v + weigh (on_root ref_ended p g) v) (λ v fine. let q = fine.roots.ending p g in omega (arith, q)) s.views r.views in
+      let all = All-weaker (IsView l.shape r.setting) (λ (v : SeatView). weigh (at_end p g) v + weigh (at_end p g) v ≤ weigh (on_root ref_ended p g) v + weigh (on_root ref_ended p g) v) (λ v fine. let q = fine.roots.ending p g in omega (arith, q)) s.views r.views in
       let a = weak_sum (weigh (at_end p g)) (weigh (at_end p g)) (weigh (on_root ref_ended p g)) (weigh (on_root ref_ended p g)) s.views all in
       let x : ℕ = sum_by (weigh (at_end p g)) s.views in let y : ℕ = tally ref_ended p g s.views in let a' : x + x ≤ y + y = a in omega (arith, a')
 
   ends_lt : (s : St) (r : IsSound stands l s) (id p g : ℕ) (v : SeatView) → get_elem? s.views id ≡ some v → weigh (at_end p g) v < weigh (on_root ref_ended p g) v → sum_by (weigh (at_end p g)) s.views < tally ref_ended p g s.views
   ends_lt s r id p g v at less =
-      let all = All-weaker (IsView l.shape r.grounds) (λ (v : SeatView). weigh (at_end p g) v + weigh (at_end p g) v ≤ weigh (on_root ref_ended p g) v + weigh (on_root ref_ended p g) v) (λ v fine. let q = fine.roots.ending p g in omega (arith, q)) s.views r.views in
+      let all = All-weaker (IsView l.shape r.setting) (λ (v : SeatView). weigh (at_end p g) v + weigh (at_end p g) v ≤ weigh (on_root ref_ended p g) v + weigh (on_root ref_ended p g) v) (λ v fine. let q = fine.roots.ending p g in omega (arith, q)) s.views r.views in
       let a = strict_sum (weigh (at_end p g)) (weigh (at_end p g)) (weigh (on_root ref_ended p g)) (weigh (on_root ref_ended p g)) s.views id v all at (omega (arith, less)) in
       let x : ℕ = sum_by (weigh (at_end p g)) s.views in let y : ℕ = tally ref_ended p g s.views in let a' : x + x < y + y = a in omega (arith, a')
 
   vacated_le : (s : St) (r : IsSound stands l s) (p g : ℕ) → tally ref_vacated p g s.views ≤ sum_by (weigh (at_end p g)) s.views
   vacated_le s r p g =
-      let all = All-weaker (IsView l.shape r.grounds) (λ (v : SeatView). weigh (on_root ref_vacated p g) v + weigh (on_root ref_vacated p g) v ≤ weigh (at_end p g) v + weigh (at_end p g) v) (λ v fine. let q = fine.roots.over p g in omega (arith, q)) s.views r.views in
+      let all = All-weaker (IsView l.shape r.setting) (λ (v : SeatView). weigh (on_root ref_vacated p g) v + weigh (on_root ref_vacated p g) v ≤ weigh (at_end p g) v + weigh (at_end p g) v) (λ v fine. let q = fine.roots.over p g in omega (arith, q)) s.views r.views in
       let a = weak_sum (weigh (on_root ref_vacated p g)) (weigh (on_root ref_vacated p g)) (weigh (at_end p g)) (weigh (at_end p g)) s.views all in
       let x : ℕ = tally ref_vacated p g s.views in let y : ℕ = sum_by (weigh (at_end p g)) s.views in let a' : x + x ≤ y + y = a in omega (arith, a')
 
@@ -132,7 +106,7 @@ module _ {H : Type 0} (stands : List ℕ → Grounds → List Noted → H → Ty
   history_births : (s : St) (r : IsSound stands l s) (p : ℕ) (lt : p < l.shape.lanes * l.shape.handles) (x : RootPlace) → IsPlaceAfter p (r.objects (Root p) lt).history x → sum_by (weigh (at_birth p)) s.views ≡ x.generation
   history_births s r p lt x after = births_in s r p lt ∙ place_births l.shape p (r.objects (Root p) lt).history x (r.objects (Root p) lt).accepted after
 
-  counted_root : (s : St) (r : IsSound stands l s) (id p g : ℕ) (v : SeatView) (lt : p < l.shape.lanes * l.shape.handles) → get_elem? s.views id ≡ some v → HasCount p g v → IsPresentIn p g (r.objects (Root p) lt).history
+  counted_root : (s : St) (r : IsSound stands l s) (id p g : ℕ) (v : SeatView) (lt : p < l.shape.lanes * l.shape.handles) → get_elem? s.views id ≡ some v → CountsAt p g v → IsPresentIn p g (r.objects (Root p) lt).history
   counted_root s r id p g v lt at has =
       let k = r.counts p lt in let live = live_word stands l s r id p g v lt at has in let h = (r.objects (Root p) lt).history in
       let pl = place_there l.shape p h (r.objects (Root p) lt).accepted in let n : ℕ = pl.0.generation in
@@ -143,7 +117,7 @@ module _ {H : Type 0} (stands : List ℕ → Grounds → List Noted → H → Ty
       let le = ends_le s r p g in let en = ends_in s r p g lt in
       last_present l.shape p g h pl.0 (r.objects (Root p) lt).accepted pl.1 (omega (arith, nb', lo, hi, vz, ge)) (omega (arith, ge, pos)) (omega (arith, le, en, over))
 
-  token_root : (s : St) (r : IsSound stands l s) (id p g : ℕ) (v : SeatView) (lt : p < l.shape.lanes * l.shape.handles) → get_elem? s.views id ≡ some v → HasToken p g v → weigh (at_end p g) v ≡ 0 → IsPresentIn p g (r.objects (Root p) lt).history
+  token_root : (s : St) (r : IsSound stands l s) (id p g : ℕ) (v : SeatView) (lt : p < l.shape.lanes * l.shape.handles) → get_elem? s.views id ≡ some v → TokenAt p g v → weigh (at_end p g) v ≡ 0 → IsPresentIn p g (r.objects (Root p) lt).history
   token_root s r id p g v lt at has none_noted =
       let k = r.counts p lt in let tok = token_word stands l s r id p g v lt at has in let h = (r.objects (Root p) lt).history in
       let pl = place_there l.shape p h (r.objects (Root p) lt).accepted in let n : ℕ = pl.0.generation in
@@ -153,7 +127,7 @@ module _ {H : Type 0} (stands : List ℕ → Grounds → List Noted → H → Ty
       let less = ends_lt s r id p g v at (omega (arith, has, none_noted)) in let en = ends_in s r p g lt in
       last_present l.shape p g h pl.0 (r.objects (Root p) lt).accepted pl.1 (omega (arith, nb', lo, hi, vz, ge)) (omega (arith, ge, pos)) (omega (arith, less, en, once))
 
-  hand_root : (s : St) (r : IsSound stands l s) (id p : ℕ) (v : SeatView) (lt : p < l.shape.lanes * l.shape.handles) → get_elem? s.views id ≡ some v → InHand p v → NoneWaits p v → IsVacantIn p (r.objects (Root p) lt).history
+  hand_root : (s : St) (r : IsSound stands l s) (id p : ℕ) (v : SeatView) (lt : p < l.shape.lanes * l.shape.handles) → get_elem? s.views id ≡ some v → InHand p v → NoneWaits p v → root_after p (r.objects (Root p) lt).history ≡ None
   hand_root s r id p v lt at has none_waits =
       let k = r.counts p lt in let h = (r.objects (Root p) lt).history in let pl = place_there l.shape p h (r.objects (Root p) lt).accepted in let n : ℕ = pl.0.generation in
       let nb = history_births s r p lt pl.0 pl.1 in let lo = no_fewer s r p lt in let hi = no_other s r id p v lt at has none_waits in
@@ -170,10 +144,43 @@ module _ {H : Type 0} (stands : List ℕ → Grounds → List Noted → H → Ty
           let once : tally ref_vacated p n s.views ≡ k.vacant = ap (λ (y : ℕ). tally ref_vacated p y s.views) same ∙ k.vacated (omega (arith, pos, same)) in
           let le = vacated_le s r p n in let en = ends_in s r p n lt in absurd (omega (arith, once, le, en, z, vac))
 
+  -- the root of that generation is this one
+  exactly : (s : St) (r : IsSound stands l s) (p : ℕ) (lt : p < l.shape.lanes * l.shape.handles) (q : RootId) → q.place ≡ p → IsBorn s.views q → IsPresentIn p q.generation (r.objects (Root p) lt).history → root_after p (r.objects (Root p) lt).history ≡ Some q
+  exactly s r p lt q here born is =
+      let same : is.0 ≡ q = one_born stands l s r q is.0 born (present_born stands l s r p lt is.0 is.1 is.2) (is.2 ∙ sym here) is.3 in is.1 ∙ ap (λ (t : RootId). Some t) same
+
+  -- no birth waits where a view has the end token of the last root
+  token_alone : (s : St) (r : IsSound stands l s) (id p g : ℕ) (v : SeatView) (lt : p < l.shape.lanes * l.shape.handles) → get_elem? s.views id ≡ some v → TokenAt p g v → NoneWaits p v
+  token_alone s r id p g v lt at has =
+      let k = r.counts p lt in let tok = token_word stands l s r id p g v lt at has in let hi = no_more s r p lt in let none : k.vacant ≡ 0 = tok.3 in
+      dite (dec_le (weigh (at_birth p) v) (weigh (on_place ref_born p) v))
+      (λ le. le)
+      (λ gt. let more : weigh (on_place ref_born p) v < weigh (at_birth p) v = lt_of_not-le gt in
+      let all = All-weaker (IsView l.shape r.setting) (λ (v : SeatView). weigh (on_place ref_born p) v + weigh (on_place ref_born p) v ≤ weigh (at_birth p) v + weigh (at_birth p) v) (λ v fine. let q = fine.roots.borne p in omega (arith, q)) s.views r.views in
+      let a = strict_sum (weigh (on_place ref_born p)) (weigh (on_place ref_born p)) (weigh (at_birth p)) (weigh (at_birth p)) s.views id v all at (omega (arith, more)) in let b = k.all_born in
+      let bo : ℕ = place_tally ref_born p s.views in let bi : ℕ = sum_by (weigh (at_birth p)) s.views in let a' : bo + bo < bi + bi = a in let b' : bo ≡ k.generation = b in let hi' : bi ≤ k.generation + k.vacant = hi in absurd (omega (arith, a', b', hi', none)))
+
+  -- few roots were born at a place
+  few_births : (s : St) (r : IsSound stands l s) (p : ℕ) (lt : p < l.shape.lanes * l.shape.handles) (x : RootPlace) → IsPlaceAfter p (r.objects (Root p) lt).history x → x.generation ≤ 1073741824
+  few_births s r p lt x after =
+      let k = r.counts p lt in let nb = history_births s r p lt x after in let hi = no_more s r p lt in let f = k.free in let small = small_generation stands l s r p lt in
+      let bi : ℕ = sum_by (weigh (at_birth p)) s.views in let n : ℕ = x.generation in let nb' : bi ≡ n = nb in let hi' : bi ≤ k.generation + k.vacant = hi in let small' : k.generation < 1073741824 = small in omega (arith, nb', hi', f, small')
+
   -- what a view learns of a root place
   pub tells_root : (s : St) (r : IsSound stands l s) (id : ℕ) (v : SeatView) (o : Object) (fits : IsObjectOf l.shape o) → get_elem? s.views id ≡ some v → (p : ℕ) → o ≡ Root p → TellsRoot p v (r.objects o fits).history
   tells_root s r id v o fits at p e = subst (λ (o : Object). (fits : IsObjectOf l.shape o) → TellsRoot p v (r.objects o fits).history) (sym e)
-      (λ lt. record { counted = λ g has. counted_root s r id p g v lt at has; ended = λ g has z. token_root s r id p g v lt at has z; in_hand = λ has z. hand_root s r id p v lt at has z }) fits
+      (λ lt. record {
+        counted = λ q here has.
+            let c = subst (λ (n : ℕ). CountsAt n q.generation v) here (count_at stands l s r id v at q has) in
+            exactly s r p lt q here (count_born stands l s r id v at q has) (counted_root s r id p q.generation v lt at c);
+        ended = λ q here has z.
+            let t = subst (λ (n : ℕ). TokenAt n q.generation v) here (token_at stands l s r id v at q has) in
+            let e = subst (λ (n : ℕ). weigh (ends q) v ≡ weigh (at_end n q.generation) v) here (ends_at stands l s r id v at q has) in
+            exactly s r p lt q here (token_born stands l s r id v at q has) (token_root s r id p q.generation v lt at t (omega (arith, e, z)));
+        in_hand = λ has z. hand_root s r id p v lt at has z;
+        none_waits = λ q here has. token_alone s r id p q.generation v lt at (subst (λ (n : ℕ). TokenAt n q.generation v) here (token_at stands l s r id v at q has));
+        few = λ x after. few_births s r p lt x after;
+      }) fits
 
   -- a view that may note a birth has none that waits
   pub birth_alone : (s : St) (r : IsSound stands l s) (id p : ℕ) (v : SeatView) (lt : p < l.shape.lanes * l.shape.handles) (e : Noted) → get_elem? s.views id ≡ some v → IsHistory l.shape (Root p) ((r.objects (Root p) lt).history ++ e ∷ []) → (q : ℕ) → 0 < did_birth q e.did → NoneWaits p v
@@ -184,7 +191,7 @@ module _ {H : Type 0} (stands : List ℕ → Grounds → List Noted → H → Ty
       dite (dec_le (weigh (at_birth p) v) (weigh (on_place ref_born p) v))
       (λ le. le)
       (λ gt. let more : weigh (on_place ref_born p) v < weigh (at_birth p) v = lt_of_not-le gt in
-      let all = All-weaker (IsView l.shape r.grounds) (λ (v : SeatView). weigh (on_place ref_born p) v + weigh (on_place ref_born p) v ≤ weigh (at_birth p) v + weigh (at_birth p) v) (λ v fine. let q = fine.roots.borne p in omega (arith, q)) s.views r.views in
+      let all = All-weaker (IsView l.shape r.setting) (λ (v : SeatView). weigh (on_place ref_born p) v + weigh (on_place ref_born p) v ≤ weigh (at_birth p) v + weigh (at_birth p) v) (λ v fine. let q = fine.roots.borne p in omega (arith, q)) s.views r.views in
       let a = strict_sum (weigh (on_place ref_born p)) (weigh (on_place ref_born p)) (weigh (at_birth p)) (weigh (at_birth p)) s.views id v all at (omega (arith, more)) in let b = k.all_born in
       let bo : ℕ = place_tally ref_born p s.views in let bi : ℕ = sum_by (weigh (at_birth p)) s.views in let a' : bo + bo < bi + bi = a in let b' : bo ≡ k.generation = b in let nb' : bi ≡ n = nb in
       let past : k.generation < n = omega (arith, a', b', nb') in
@@ -192,7 +199,7 @@ module _ {H : Type 0} (stands : List ℕ → Grounds → List Noted → H → Ty
       let none_yet : tally ref_ended p n s.views ≡ 0 = k.later ref_ended n (inr past) in let le = ends_le s r p n in let en = ends_in s r p n lt in absurd (omega (arith, gone, none_yet, le, en)))
 
   -- a view that may note an end hasn't noted it
-  pub end_first : (s : St) (r : IsSound stands l s) (id p : ℕ) (v : SeatView) (lt : p < l.shape.lanes * l.shape.handles) (e : Noted) → get_elem? s.views id ≡ some v → IsHistory l.shape (Root p) ((r.objects (Root p) lt).history ++ e ∷ []) → (g : ℕ) → 0 < did_end p g e.did → HasToken p g v
+  pub end_first : (s : St) (r : IsSound stands l s) (id p : ℕ) (v : SeatView) (lt : p < l.shape.lanes * l.shape.handles) (e : Noted) → get_elem? s.views id ≡ some v → IsHistory l.shape (Root p) ((r.objects (Root p) lt).history ++ e ∷ []) → (g : ℕ) → 0 < did_end p g e.did → TokenAt p g v
       → weigh (at_end p g) v < weigh (on_root ref_ended p g) v
   end_first s r id p v lt e at accepted g here has =
       let h = (r.objects (Root p) lt).history in let last = last_place l.shape p h e accepted in let x : RootPlace = last.0 in let n : ℕ = x.generation in let t = (r.objects (Root p) lt).accepted in
@@ -204,13 +211,13 @@ module _ {H : Type 0} (stands : List ℕ → Grounds → List Noted → H → Ty
       let t : ℕ = sum_by (weigh (at_end p g)) s.views in let en' : t ≡ w = en in let le' : weigh (at_end p g) v ≤ t = le in omega (arith, z', sg', en', le', has)
 
   births_of_in : (s : St) (r : IsSound stands l s) (p g : ℕ) (lt : p < l.shape.lanes * l.shape.handles) → sum_by (weigh (at_birth_of p g)) s.views ≡ sum_by (λ (n : Noted). did_birth_of p g n.did) (r.objects (Root p) lt).history
-  births_of_in s r p g lt = root_notes s r p lt (did_birth_of p g) (λ d z y. of_birth p g d z)
+  births_of_in s r p g lt = root_notes stands l s r p lt (did_birth_of p g) (λ d z y. of_birth p g d z)
 
   -- the birth that a view has noted and not made is of the next generation
   pub next_birth : (s : St) (r : IsSound stands l s) (id p g : ℕ) (v : SeatView) (lt : p < l.shape.lanes * l.shape.handles) → get_elem? s.views id ≡ some v → weigh (on_root ref_born p g) v < weigh (at_birth_of p g) v → g ≡ (r.counts p lt).generation + 1
   next_birth s r id p g v lt at less =
       let k = r.counts p lt in let h = (r.objects (Root p) lt).history in let pl = place_there l.shape p h (r.objects (Root p) lt).accepted in let n : ℕ = pl.0.generation in
-      let all = All-weaker (IsView l.shape r.grounds) (λ (v : SeatView). weigh (on_root ref_born p g) v + weigh (on_root ref_born p g) v ≤ weigh (at_birth_of p g) v + weigh (at_birth_of p g) v) (λ v fine. let q = fine.roots.borne_of p g in omega (arith, q)) s.views r.views in
+      let all = All-weaker (IsView l.shape r.setting) (λ (v : SeatView). weigh (on_root ref_born p g) v + weigh (on_root ref_born p g) v ≤ weigh (at_birth_of p g) v + weigh (at_birth_of p g) v) (λ v fine. let q = fine.roots.borne_of p g in omega (arith, q)) s.views r.views in
       let a = strict_sum (weigh (on_root ref_born p g)) (weigh (on_root ref_born p g)) (weigh (at_birth_of p g)) (weigh (at_birth_of p g)) s.views id v all at (omega (arith, less)) in
       let bo : ℕ = tally ref_born p g s.views in let bi : ℕ = sum_by (weigh (at_birth_of p g)) s.views in let a' : bo + bo < bi + bi = a in
       let hb : ℕ = sum_by (λ (e : Noted). did_birth_of p g e.did) h in let same : bi ≡ hb = births_of_in s r p g lt in

@@ -1,17 +1,17 @@
--- Seats are cut, joined and told the grounds, and the rule stays.
-use Rattle.ground.specs.Grounds.{Grounds}
-use Rattle.std.proofs.Common.{◌≡◌, ℕ, ◌+◌, ◌*◌, ◌≤◌, List, [], ◌∷◌, ◌++◌, map, set, cond, sym, refl, ap, ◌∙◌, subst, arith, le_refl}
+-- Seats are cut, joined and told the setting, and the rule stays.
+use Rattle.step_law.specs.Settings.{Setting}
+use Rattle.std.proofs.Common.{◌≡◌, ℕ, ◌+◌, ◌*◌, ◌≤◌, List, [], ◌∷◌, ◌++◌, map, set, cond, sym, refl, ap, ◌∙◌, subst, arith}
 use Rattle.std.specs.Prelude.{Option, None, All, sum_by, count_by, slice_index}
 use Rattle.std.proofs.lemmas.List.Elements.{All-cons, All-push, All-set, All-append, All-nil, All-map}
 use Rattle.std.proofs.lemmas.List.Sums.{sum_by-cons, sum_by_push, sum_by-append}
-use Rattle.std.proofs.lemmas.List.{map-set, map_push, set-get_or}
-use mathlib.Core.Option.{some, none}
+use Rattle.std.proofs.lemmas.List.{map-set, map_push}
+use mathlib.Core.Option.{some}
 use lib.ListN.{get_elem?}
-use Rattle.atomic_table.specs.Table.{State, Me, step, keeps, Allows, Splits, Joins}
+use Rattle.atomic_table.specs.Table.{State, Splits, Joins}
 use Rattle.atomic_table.proofs.Lists.{set_else, at_map}
 use Rattle.step_law.proofs.Changes.{each_at, sum_set, sum_mapped, each_unmapped, each_front, each_back}
 use Rattle.pool_law.specs.declared.note.Noted.{Noted}
-use Rattle.pool_law.specs.Homes.{home_of, objects_of}
+use Rattle.pool_law.specs.Homes.{home_of}
 use Rattle.pool_table.specs.Words.{word_of, count_word_of}
 use Rattle.pool_table.specs.declared.views.Entry.{Entry}
 use Rattle.pool_table.specs.declared.views.Layout.{Layout}
@@ -19,17 +19,18 @@ use Rattle.pool_table.specs.declared.views.Part.{Part}
 use Rattle.pool_table.specs.declared.views.SeatView.{SeatView}
 use Rattle.pool_table.specs.Views.{Face, parts_of, is_at, is_lane, face, strand, inside_at, is_in, in_face, noted_weight, noted_in, numbered, spent, empty_part, one_if, blank, joined}
 use Rattle.pool_table.specs.Counts.{weigh, on_root, on_place, ref_born, at_gain, at_loss, any_gain, reached, ref_gain, ref_loss, ref_ended, ref_vacated, on_exact, ref_retain, weigh_in}
-use Rattle.pool_table.specs.Hands.{at_in, at_out, at_birth, at_end, at_birth_of, at_birth_as, from_arena, to_arena, from_cache, to_cache, from_place, to_place}
-use Rattle.pool_table.proofs.Weights.{same_parts, counted_none, settled_none, handy_none, orderly_none, orderly_parts, enters_none}
+use Rattle.pool_table.specs.Hands.{at_in, at_out, at_birth, at_end, at_birth_of, at_birth_as}
+use Rattle.pool_table.proofs.Holdings.{held_both}
+use Rattle.pool_table.proofs.Weights.{counted_none, settled_none, handy_none, orderly_none, enters_none}
 use Rattle.pool_table.proofs.Counts.{other_kept}
-use Rattle.pool_table.proofs.Looks.{looks_same, looks_regroup}
-use Rattle.pool_table.proofs.Order.{order_same, order_regroups}
+use Rattle.pool_table.proofs.Looks.{looks_regroup}
+use Rattle.pool_table.proofs.Order.{order_regroups}
+use Rattle.pool_table.proofs.Births.{born_regroups}
 use Rattle.pool_table.specs.Sound.{IsKept, IsSound, IsView, Stands, OnceBelow}
-use Rattle.pool_table.specs.Steps.{blank_beside, learns, with_grounds}
+use Rattle.pool_table.specs.Steps.{blank_beside}
 use Rattle.pool_table.proofs.Objects.{split_kept, joined_kept}
-use Rattle.pool_table.proofs.Tables.{unseen}
 
-module _ {H : Type 0} (stands : List ℕ → Grounds → List Noted → H → Type 0) (l : Layout) where
+module _ {H : Type 0} (stands : List ℕ → Setting → List Noted → H → Type 0) (l : Layout) where
   abbrev St : Type 0
   St = State (Option H) SeatView
 
@@ -37,10 +38,10 @@ module _ {H : Type 0} (stands : List ℕ → Grounds → List Noted → H → Ty
   pub cut_in_two : (s : St) (r : IsSound stands l s) (id : ℕ) (v left right : SeatView) → get_elem? s.views id ≡ some v → v.inside ≡ None → left.inside ≡ None → right.inside ≡ None
       → ((f : Part → ℕ) → f (empty_part None) ≡ 0 → sum_by f (parts_of left) + sum_by f (parts_of right) ≡ sum_by f (parts_of v))
       → ((P : Part → Type 0) → P (empty_part None) → All P (parts_of v) → All P (parts_of left) × All P (parts_of right))
-      → left.turns + right.turns ≡ v.turns → left.moves + right.moves ≡ v.moves → (IsView l.shape r.grounds v → IsView l.shape r.grounds left × IsView l.shape r.grounds right)
+      → left.turns + right.turns ≡ v.turns → left.moves + right.moves ≡ v.moves → (IsView l.shape r.setting v → IsView l.shape r.setting left × IsView l.shape r.setting right)
       → IsSound stands l (record { words = s.words; homes = s.homes; views = set s.views id left ++ right ∷ [] })
   cut_in_two s r id v left right at vo lo ro adds shares turns moves fine =
-      let both = fine (each_at (IsView l.shape r.grounds) s.views id v r.views at) in
+      let both = fine (each_at (IsView l.shape r.setting) s.views id v r.views at) in
       let same : (f : SeatView → ℕ) → f left + f right ≡ f v → sum_by f (set s.views id left ++ right ∷ []) ≡ sum_by f s.views = (λ f e.
       let a : sum_by f (set s.views id left ++ right ∷ []) ≡ sum_by f (set s.views id left) + f right = sum_by_push f (set s.views id left) right in
       let b : sum_by f (set s.views id left) + f v ≡ sum_by f s.views + f left = sum_set f s.views id v left at in omega (arith, a, b, e)) in
@@ -48,15 +49,15 @@ module _ {H : Type 0} (stands : List ℕ → Grounds → List Noted → H → Ty
       let regroups : (P : Part → Type 0) → ((q : Part) → q.notes ≡ [] → P q) → All (λ (u : SeatView). All P (parts_of u)) s.views → All (λ (u : SeatView). All P (parts_of u)) (set s.views id left ++ right ∷ []) = (λ P none_of all.
       let got = shares P (none_of (empty_part None) refl) (each_at (λ (u : SeatView). All P (parts_of u)) s.views id v all at) in
       All-push (λ (u : SeatView). All P (parts_of u)) (set s.views id left) right (All-set (λ (u : SeatView). All P (parts_of u)) s.views id left got.0 all) got.1) in record {
-        grounds = r.grounds;
+        setting = r.setting;
         words = r.words;
         homes = r.homes;
-        views = All-push (IsView l.shape r.grounds) (set s.views id left) right (All-set (IsView l.shape r.grounds) s.views id left both.0 r.views) both.1;
+        views = All-push (IsView l.shape r.setting) (set s.views id left) right (All-set (IsView l.shape r.setting) s.views id left both.0 r.views) both.1;
         lanes = λ m. subst (OnceBelow l.shape.lanes m) (sym (same (numbered m) (adds (λ (p : Part). cond {A = ℕ} (is_lane m p.number) 1 0) refl))) (r.lanes m);
         objects = λ o fits. let j : ℕ = home_of l.shape o in
-            subst (λ (x : List Face). IsKept stands l.shape r.grounds o x (slice_index s.words (word_of l.shape o)) (get_elem? s.homes j))
+            subst (λ (x : List Face). IsKept stands l.shape r.setting o x (slice_index s.words (word_of l.shape o)) (get_elem? s.homes j))
             (sym (map_push (face l.shape j) (set s.views id left) right ∙ ap (λ (x : List Face). x ++ face l.shape j right ∷ []) (map-set (face l.shape j) s.views id left)))
-            (split_kept stands l.shape r.grounds o (map (face l.shape j) s.views) (slice_index s.words (word_of l.shape o)) (get_elem? s.homes j) id (face l.shape j v) (face l.shape j left) (face l.shape j right) (r.objects o fits) (at_map (face l.shape j) s.views id v at)
+            (split_kept stands l.shape r.setting o (map (face l.shape j) s.views) (slice_index s.words (word_of l.shape o)) (get_elem? s.homes j) id (face l.shape j v) (face l.shape j left) (face l.shape j right) (r.objects o fits) (at_map (face l.shape j) s.views id v at)
             (out j v vo) (out j left lo) (out j right ro)
             (λ test. let g : Part → ℕ = λ (p : Part). count_by test (strand l.shape j p).notes in
             let q : Part → ℕ = λ (p : Part). count_by test p.notes in
@@ -69,6 +70,7 @@ module _ {H : Type 0} (stands : List ℕ → Grounds → List Noted → H → Ty
             let b : noted_in f (face l.shape j right) ≡ sum_by g (parts_of right) = sum_mapped q (strand l.shape j) (parts_of right) in
             let c : noted_in f (face l.shape j v) ≡ sum_by g (parts_of v) = sum_mapped q (strand l.shape j) (parts_of v) in let d = adds g refl in omega (arith, a, b, c, d))
             (λ P e all. let got = shares (λ (p : Part). P (strand l.shape j p)) e (each_unmapped P (strand l.shape j) (parts_of v) all) in (All-map P (strand l.shape j) (parts_of left) got.0, All-map P (strand l.shape j) (parts_of right) got.1)));
+        born = born_regroups s.views (set s.views id left ++ right ∷ []) (λ f. same (weigh f) (adds (λ (q : Part). sum_by f q.notes) refl)) regroups r.born;
         looks = looks_regroup s.views (set s.views id left ++ right ∷ []) (λ p g. same (weigh (on_root ref_retain p g)) (adds (λ (q : Part). sum_by (on_root ref_retain p g) q.notes) refl)) regroups r.looks;
         order = order_regroups s.views (set s.views id left ++ right ∷ []) regroups r.order;
         room = r.room;
@@ -92,7 +94,7 @@ module _ {H : Type 0} (stands : List ℕ → Grounds → List Noted → H → Ty
           enters = enters_none (blank_beside v) refl;
           handy = handy_none (blank_beside v) (All-cons (λ (p : Part). p.notes ≡ []) (empty_part None) [] refl (All-nil (λ (p : Part). p.notes ≡ [])));
           roots = orderly_none (blank_beside v) (All-cons (λ (p : Part). p.notes ≡ []) (empty_part None) [] refl (All-nil (λ (p : Part). p.notes ≡ [])));
-          grounds_are = fine.grounds_are;
+          setting_is = fine.setting_is;
           unnumbered = λ _. record { notes = All-cons (λ (p : Part). p.notes ≡ []) (empty_part None) [] refl (All-nil (λ (p : Part). p.notes ≡ [])); inside = refl; moves = refl; turns = refl };
           inside = tt;
           notes = All-cons (λ (p : Part). All (Stands l.shape p.number) p.notes) (empty_part None) [] (All-nil (Stands l.shape None)) (All-nil (λ (p : Part). All (Stands l.shape p.number) p.notes));
@@ -104,8 +106,8 @@ module _ {H : Type 0} (stands : List ℕ → Grounds → List Noted → H → Ty
   joins_allowed id other v w vo wo s r at ne at' =
       let b : SeatView = joined v w in let z : SeatView = blank None in
       let before : get_elem? s.views other ≡ some w = sym (set_else s.views id other b ne) ∙ at' in
-      let fv : IsView l.shape r.grounds v = each_at (IsView l.shape r.grounds) s.views id v r.views at in
-      let fw : IsView l.shape r.grounds w = each_at (IsView l.shape r.grounds) s.views other w r.views before in
+      let fv : IsView l.shape r.setting v = each_at (IsView l.shape r.setting) s.views id v r.views at in
+      let fw : IsView l.shape r.setting w = each_at (IsView l.shape r.setting) s.views other w r.views before in
       let same : (f : SeatView → ℕ) → f b + f z ≡ f v + f w → sum_by f (set (set s.views id b) other z) ≡ sum_by f s.views = (λ f e.
       let a : sum_by f (set (set s.views id b) other z) + f w ≡ sum_by f (set s.views id b) + f z = sum_set f (set s.views id b) other w z at' in
       let c : sum_by f (set s.views id b) + f v ≡ sum_by f s.views + f b = sum_set f s.views id v b at in omega (arith, a, c, e)) in
@@ -117,16 +119,16 @@ module _ {H : Type 0} (stands : List ℕ → Grounds → List Noted → H → Ty
       let mine = each_at (λ (u : SeatView). All P (parts_of u)) s.views id v all at in let theirs = each_at (λ (u : SeatView). All P (parts_of u)) s.views other w all before in
       All-set (λ (u : SeatView). All P (parts_of u)) (set s.views id b) other z (All-cons P (empty_part None) [] (none_of (empty_part None) refl) (All-nil P))
       (All-set (λ (u : SeatView). All P (parts_of u)) s.views id b (All-append P (parts_of v) (parts_of w) mine theirs) all)) in record {
-        grounds = r.grounds;
+        setting = r.setting;
         words = r.words;
         homes = r.homes;
-        views = All-set (IsView l.shape r.grounds) (set s.views id b) other z (blank_view r.grounds) (All-set (IsView l.shape r.grounds) s.views id b (joined_view r.grounds fv fw) r.views);
+        views = All-set (IsView l.shape r.setting) (set s.views id b) other z (blank_view r.setting) (All-set (IsView l.shape r.setting) s.views id b (joined_view r.setting fv fw) r.views);
         lanes = λ m. subst (OnceBelow l.shape.lanes m) (sym (same (numbered m) (parts (λ (p : Part). cond {A = ℕ} (is_lane m p.number) 1 0) refl))) (r.lanes m);
         objects = λ o fits. let j : ℕ = home_of l.shape o in
             let there : get_elem? (set (map (face l.shape j) s.views) id (face l.shape j b)) other ≡ some (face l.shape j w) = ap (λ (x : List Face). get_elem? x other) (sym (map-set (face l.shape j) s.views id b)) ∙ at_map (face l.shape j) (set s.views id b) other w at' in
-            subst (λ (x : List Face). IsKept stands l.shape r.grounds o x (slice_index s.words (word_of l.shape o)) (get_elem? s.homes j))
+            subst (λ (x : List Face). IsKept stands l.shape r.setting o x (slice_index s.words (word_of l.shape o)) (get_elem? s.homes j))
             (sym (map-set (face l.shape j) (set s.views id b) other z ∙ ap (λ (x : List Face). set x other (face l.shape j z)) (map-set (face l.shape j) s.views id b)))
-            (joined_kept stands l.shape r.grounds o (map (face l.shape j) s.views) (slice_index s.words (word_of l.shape o)) (get_elem? s.homes j) id other (face l.shape j v) (face l.shape j w) (face l.shape j b) (face l.shape j z) (r.objects o fits)
+            (joined_kept stands l.shape r.setting o (map (face l.shape j) s.views) (slice_index s.words (word_of l.shape o)) (get_elem? s.homes j) id other (face l.shape j v) (face l.shape j w) (face l.shape j b) (face l.shape j z) (r.objects o fits)
             (at_map (face l.shape j) s.views id v at) ne there (out j v vo) (out j w wo) (out j b vo) (out j z refl)
             (λ test. let g : Part → ℕ = λ (p : Part). count_by test (strand l.shape j p).notes in let q : Part → ℕ = λ (p : Part). count_by test p.notes in
             let a : in_face test (face l.shape j b) ≡ sum_by g (parts_of b) = sum_mapped q (strand l.shape j) (parts_of b) in
@@ -142,6 +144,7 @@ module _ {H : Type 0} (stands : List ℕ → Grounds → List Noted → H → Ty
               All-map P (strand l.shape j) (parts_of b) (All-append (λ (p : Part). P (strand l.shape j p)) (parts_of v) (parts_of w) (each_unmapped P (strand l.shape j) (parts_of v) all) (each_unmapped P (strand l.shape j) (parts_of w) more)),
               All-cons P (empty_part None) [] e (All-nil P),
             )));
+        born = born_regroups s.views (set (set s.views id b) other z) (λ f. same (weigh f) (parts (λ (q : Part). sum_by f q.notes) refl)) regroups r.born;
         looks = looks_regroup s.views (set (set s.views id b) other z) (λ p g. same (weigh (on_root ref_retain p g)) (parts (λ (q : Part). sum_by (on_root ref_retain p g) q.notes) refl)) regroups r.looks;
         order = order_regroups s.views (set (set s.views id b) other z) regroups r.order;
         room = r.room;
@@ -151,7 +154,7 @@ module _ {H : Type 0} (stands : List ℕ → Grounds → List Noted → H → Ty
         counts = λ p lt. other_kept p s.views (set (set s.views id b) other z) (slice_index s.words (count_word_of l.shape p)) (λ f g. same (weigh (on_root f p g)) (parts (λ (q : Part). sum_by (on_root f p g) q.notes) refl)) (λ f. same (weigh (on_place f p)) (parts (λ (q : Part). sum_by (on_place f p) q.notes) refl)) (r.counts p lt);
       }
     where
-      blank_view : (gs : Grounds) → IsView l.shape gs (blank None)
+      blank_view : (gs : Setting) → IsView l.shape gs (blank None)
       blank_view gs = record {
         beside = λ p g. omega arith;
         counted = counted_none (blank None) (All-cons (λ (p : Part). p.notes ≡ []) (empty_part None) [] refl (All-nil (λ (p : Part). p.notes ≡ [])));
@@ -159,7 +162,7 @@ module _ {H : Type 0} (stands : List ℕ → Grounds → List Noted → H → Ty
         enters = enters_none (blank None) refl;
         handy = handy_none (blank None) (All-cons (λ (p : Part). p.notes ≡ []) (empty_part None) [] refl (All-nil (λ (p : Part). p.notes ≡ [])));
         roots = orderly_none (blank None) (All-cons (λ (p : Part). p.notes ≡ []) (empty_part None) [] refl (All-nil (λ (p : Part). p.notes ≡ [])));
-        grounds_are = tt;
+        setting_is = tt;
         unnumbered = λ _. record { notes = All-cons (λ (p : Part). p.notes ≡ []) (empty_part None) [] refl (All-nil (λ (p : Part). p.notes ≡ [])); inside = refl; moves = refl; turns = refl };
         inside = tt;
         notes = All-cons (λ (p : Part). All (Stands l.shape p.number) p.notes) (empty_part None) [] (All-nil (Stands l.shape None)) (All-nil (λ (p : Part). All (Stands l.shape p.number) p.notes));
@@ -171,13 +174,13 @@ module _ {H : Type 0} (stands : List ℕ → Grounds → List Noted → H → Ty
       apart : (f : Entry → ℕ) → weigh_in f (joined v w).others ≡ weigh_in f v.others + weigh f w
       apart f = sum_by-append (λ (p : Part). sum_by f p.notes) v.others (parts_of w)
 
-      joined_view : (gs : Grounds) → IsView l.shape gs v → IsView l.shape gs w → IsView l.shape gs (joined v w)
+      joined_view : (gs : Setting) → IsView l.shape gs v → IsView l.shape gs w → IsView l.shape gs (joined v w)
       joined_view gs fv fw = record {
         enters = enters_none (joined v w) vo;
         roots = record {
           borne_of = λ p g. let q = fv.roots.borne_of p g in let u = fw.roots.borne_of p g in let a = both (on_root ref_born p g) in let b = both (at_birth_of p g) in omega (arith, q, u, a, b);
           borne_as = λ p g x. let q = fv.roots.borne_as p g x in let u = fw.roots.borne_as p g x in let a = both (on_exact ref_born p g x) in let b = both (at_birth_as p g x) in omega (arith, q, u, a, b);
-          holds = λ x t. let q = fv.roots.holds x t in let u = fw.roots.holds x t in let a = both (to_arena x t) in let b = both (to_cache x t) in let c = both (to_place x t) in let d = both (from_arena x t) in let e = both (from_cache x t) in let f = both (from_place x t) in omega (arith, q, u, a, b, c, d, e, f);
+          held = λ q. held_both q v w (joined v w) both (fv.roots.held q) (fw.roots.held q);
           borne = λ p. let q = fv.roots.borne p in let u = fw.roots.borne p in let a = both (on_place ref_born p) in let b = both (at_birth p) in omega (arith, q, u, a, b);
           bears = λ p. let q = fv.roots.bears p in let u = fw.roots.bears p in let a = both (at_in p) in let b = both (at_birth p) in let c = both (at_out p) in let d = both (on_place ref_born p) in let e = both (on_place ref_vacated p) in omega (arith, q, u, a, b, c, d, e);
           ending = λ p g. let q = fv.roots.ending p g in let u = fw.roots.ending p g in let a = both (at_end p g) in let b = both (on_root ref_ended p g) in omega (arith, q, u, a, b);
@@ -187,21 +190,9 @@ module _ {H : Type 0} (stands : List ℕ → Grounds → List Noted → H → Ty
         settled = λ p g. let q = fv.settled p g in let u = fw.settled p g in let a = both (on_root ref_ended p g) in let c = both (on_root ref_vacated p g) in omega (arith, q, u, a, c);
         beside = λ p g. let q = fv.beside p g in let u = fw.counted p g in let a = apart (on_root ref_gain p g) in let c = apart (on_root ref_loss p g) in let d = apart (at_gain p g) in let e = apart (at_loss p g) in omega (arith, q, u, a, c, d, e);
         counted = λ p g. let q = fv.counted p g in let u = fw.counted p g in let a = both (on_root ref_gain p g) in let c = both (on_root ref_loss p g) in let d = both (at_gain p g) in let e = both (at_loss p g) in omega (arith, q, u, a, c, d, e);
-        grounds_are = fv.grounds_are;
+        setting_is = fv.setting_is;
         unnumbered = λ all. let iv = fv.unnumbered (each_front (λ (p : Part). p.number ≡ None) (parts_of v) (parts_of w) all) in let iw = fw.unnumbered (each_back (λ (p : Part). p.number ≡ None) (parts_of v) (parts_of w) all) in
             record { notes = All-append (λ (p : Part). p.notes ≡ []) (parts_of v) (parts_of w) iv.notes iw.notes; inside = iv.inside; moves = (let a = iv.moves in let b = iw.moves in omega (arith, a, b)); turns = (let a = iv.turns in let b = iw.turns in omega (arith, a, b)) };
         inside = fv.inside;
         notes = All-append (λ (p : Part). All (Stands l.shape p.number) p.notes) (parts_of v) (parts_of w) fv.notes fw.notes;
       }
-
-  -- a seat learns the grounds
-  pub learns_allowed : (id : ℕ) (me : Me (Option H) SeatView) → Allows (IsSound stands l) (objects_of l.shape) id me 0 (λ n. n) (learns (step (objects_of l.shape) 0 0 0 none) me)
-  learns_allowed id me s r _ at _ = let fine = each_at (IsView l.shape r.grounds) s.views id me.0 r.views at in (
-    with_grounds me.0 r.grounds,
-    keeps,
-    tt,
-    subst (λ (x : List ℕ). IsSound stands l (record { words = x; homes = s.homes; views = set s.views id (with_grounds me.0 r.grounds) })) (sym (set-get_or s.words 0 0))
-        (unseen stands l s r id me.0 (with_grounds me.0 r.grounds) at (λ j. refl) (λ m. refl) (same_parts me.0 (with_grounds me.0 r.grounds) refl refl)
-        (record { counted = fine.counted; settled = fine.settled; handy = fine.handy; roots = orderly_parts me.0 (with_grounds me.0 r.grounds) refl fine.roots; enters = fine.enters; beside = fine.beside; grounds_are = refl; unnumbered = λ all. let i = fine.unnumbered all in record { notes = i.notes; inside = i.inside; moves = i.moves; turns = i.turns }; inside = fine.inside; notes = fine.notes }) (le_refl (spent me.0)) (looks_same s.views id me.0 (with_grounds me.0 r.grounds) at refl r.looks) (order_same s.views id me.0 (with_grounds me.0 r.grounds) at refl r.order)),
-    (r.grounds, refl, refl),
-  )

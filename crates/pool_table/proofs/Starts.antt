@@ -1,14 +1,14 @@
 -- The steps of `new` as its calls ask for them.
-use Rattle.ground.specs.Grounds.{Grounds}
+use Rattle.step_law.specs.Settings.{Setting}
 use Rattle.std.proofs.Common.{◌≡◌, ℕ, zero, suc, ◌+◌, ◌-◌, ◌*◌, ◌<◌, List, [], ◌∷◌, ◌++◌, map, length, get_or, sym, refl, ap, ◌∙◌, subst, arith}
 use Rattle.std.specs.Prelude.{Option, Some, All, slice_get, IsSome, HoldsAt, unwrap_or}
 use Rattle.std.proofs.lemmas.List.{length-map, get_or_push, get_or_append_left}
 use mathlib.Core.Logic.{dite}
 use native.Mathlib.Decide.{ℕ_discrete}
 use Rattle.std.proofs.lemmas.List.Elements.{All-map}
-use mathlib.Core.Option.{some, none}
+use mathlib.Core.Option.{some}
 use lib.ListN.{get_elem?}
-use Rattle.atomic_table.specs.Table.{Me, step, Allows, Splits, opening}
+use Rattle.atomic_table.specs.Table.{Splits, opening}
 use Rattle.pool_law.specs.declared.note.Noted.{Noted}
 use Rattle.pool_law.specs.Homes.{home_of, objects_of}
 use Rattle.pool_table.specs.Opened.{StandAtFirst}
@@ -16,8 +16,7 @@ use Rattle.pool_table.specs.Words.{IsOpening}
 use Rattle.pool_table.specs.declared.views.Layout.{Layout}
 use Rattle.pool_table.specs.declared.views.SeatView.{SeatView}
 use Rattle.pool_table.specs.Sound.{IsSound, IsShape}
-use Rattle.pool_table.specs.Steps.{learns, first_view, rest_view, lane_view, first_lane, rest_of_lanes}
-use Rattle.pool_table.proofs.Seatings.{learns_allowed}
+use Rattle.pool_table.specs.Steps.{first_view, rest_view, lane_view, first_lane, rest_of_lanes}
 use Rattle.pool_table.proofs.Openings.{cuts_allowed, cut_first, cut_rest, opens}
 
 -- a value of a list, in the list of all of them wrapped
@@ -26,27 +25,24 @@ wrapped_at [] i x e = absurd (cc e)
 wrapped_at (y ∷ ys) zero x e = ap some e
 wrapped_at (y ∷ ys) (suc i) x e = wrapped_at ys i x e
 
-module _ {H : Type 0} (stands : List ℕ → Grounds → List Noted → H → Type 0) (l : Layout) where
-  pub learns_as : (key : Layout) (slots id : ℕ) (me : Me (Option H) SeatView) → key ≡ l → slots ≡ objects_of l.shape → Allows (IsSound stands key) slots id me 0 (λ n. n) (learns (step slots 0 0 0 none) me)
-  learns_as key slots id me ke se = subst (λ (y : Layout × ℕ). Allows (IsSound stands y.0) y.1 id me 0 (λ n. n) (learns (step y.1 0 0 0 none) me)) (λ q. (sym ke q, sym se q)) (learns_allowed stands l id me)
-
-  pub cuts_as : (key : Layout) (id i n : ℕ) (g : Grounds) (v : SeatView) → key ≡ l → 0 < n → v ≡ rest_view l i n g → Splits (IsSound stands key) id v (rest_of_lanes v) (first_lane v)
+module _ {H : Type 0} (stands : List ℕ → Setting → List Noted → H → Type 0) (l : Layout) where
+  pub cuts_as : (key : Layout) (id i n : ℕ) (g : Setting) (v : SeatView) → key ≡ l → 0 < n → v ≡ rest_view l i n g → Splits (IsSound stands key) id v (rest_of_lanes v) (first_lane v)
   cuts_as key id i n g v ke lt is = cut n lt is
     where
       cut : (n : ℕ) → 0 < n → v ≡ rest_view l i n g → Splits (IsSound stands key) id v (rest_of_lanes v) (first_lane v)
       cut zero lt is = absurd (omega (arith, lt))
       cut (suc n) lt is = subst (λ (y : Layout × SeatView). Splits (IsSound stands y.0) id y.1 (rest_of_lanes y.1) (first_lane y.1)) (λ q. (sym ke q, sym is q)) (cuts_allowed stands l id i n g)
 
-  pub cut_views : (i n : ℕ) (g : Grounds) (v : SeatView) → 0 < n → v ≡ rest_view l i n g → (first_lane v ≡ lane_view l i g) × (rest_of_lanes v ≡ rest_view l (i + 1) (n - 1) g)
+  pub cut_views : (i n : ℕ) (g : Setting) (v : SeatView) → 0 < n → v ≡ rest_view l i n g → (first_lane v ≡ lane_view l i g) × (rest_of_lanes v ≡ rest_view l (i + 1) (n - 1) g)
   cut_views i zero g v lt is = absurd (omega (arith, lt))
   cut_views i (suc n) g v lt is = (
     ap first_lane is ∙ cut_first stands l i n g,
     ap rest_of_lanes is ∙ (cut_rest stands l i n g ∙ (let a : suc i ≡ i + 1 = omega arith in let b : n ≡ suc n - 1 = omega arith in λ k. rest_view l (a k) (b k) g)),
   )
 
-  pub opens_as : (gs : Grounds) (words : List ℕ) (slots : List (Option H)) (homes : List H) → IsShape l.shape → l.shape.lanes * l.turns < 4611686018427387904 → l.shape.lanes * l.moves < 1073741824 → IsOpening l.shape words
-      → slots ≡ map Some homes → length homes ≡ objects_of l.shape → StandAtFirst stands l.shape gs homes → IsSound stands l (opening words slots (first_view l))
-  opens_as gs words slots homes shape room few is wrapped wide all = subst (λ (ys : List (Option H)). IsSound stands l (opening words ys (first_view l))) (sym wrapped)
+  pub opens_as : (gs : Setting) (words : List ℕ) (slots : List (Option H)) (homes : List H) → IsShape l.shape → l.shape.lanes * l.turns < 4611686018427387904 → l.shape.lanes * l.moves < 1073741824 → IsOpening l.shape words
+      → slots ≡ map Some homes → length homes ≡ objects_of l.shape → StandAtFirst stands l.shape gs homes → IsSound stands l (opening words slots (first_view l gs))
+  opens_as gs words slots homes shape room few is wrapped wide all = subst (λ (ys : List (Option H)). IsSound stands l (opening words ys (first_view l gs))) (sym wrapped)
       (opens stands l gs words (map Some homes) shape room few is (length-map homes Some ∙ wide) (λ o fits. let h = all o fits in (h.0, wrapped_at homes (home_of l.shape o) h.0 h.1, h.2)))
 
 some_inj : {H : Type 0} {x y : H} → Some x ≡ Some y → x ≡ y

@@ -1,5 +1,5 @@
 -- The rule after a change of one word and one view, and what the rule tells of the views.
-use Rattle.ground.specs.Grounds.{Grounds}
+use Rattle.step_law.specs.Settings.{Setting}
 use Rattle.std.proofs.Common.{◌≡◌, ◌≢◌, ℕ, suc, ◌+◌, ◌*◌, ◌<◌, ◌≤◌, List, [], ◌∷◌, ◌++◌, map, length, set, Bool, true, false, cond, sym, refl, ap, ◌∙◌, subst, arith, length-set, append-nil, eq-eqb, get_or-set_same, get_or-set_other, lt_of_not-le}
 use Rattle.std.specs.Prelude.{Option, Some, All, sum_by, count_by, filter, slice_index}
 use Rattle.std.proofs.lemmas.List.Elements.{All-cons, All-head, All-tail, All-set, All-nil, filter-append}
@@ -28,35 +28,37 @@ use Rattle.pool_table.proofs.Weights.{IsWeighedSame, reached_same}
 use Rattle.pool_table.proofs.Counts.{other_kept}
 use Rattle.pool_table.specs.Looks.{AreLooksRight}
 use Rattle.pool_table.specs.Order.{AreInOrder}
+use Rattle.pool_table.specs.Births.{AreBorn}
 use Rattle.pool_table.specs.Sound.{IsKept, IsSound, IsView, OnceBelow}
 
-module _ {H : Type 0} (stands : List ℕ → Grounds → List Noted → H → Type 0) (l : Layout) where
+module _ {H : Type 0} (stands : List ℕ → Setting → List Noted → H → Type 0) (l : Layout) where
   abbrev pub St : Type 0
   St = State (Option H) SeatView
 
   -- the word and the view of one object's step change
   pub changes : (s : St) (r : IsSound stands l s) (id : ℕ) (v w : SeatView) (o : Object) (n : ℕ) (homes' : List (maybe.Option (Option H))) → IsObjectOf l.shape o → get_elem? s.views id ≡ some v
-      → ((j : ℕ) → j ≢ home_of l.shape o → face l.shape j w ≡ face l.shape j v) → ((m : ℕ) → numbered m w ≡ numbered m v) → IsWeighedSame v w → IsView l.shape r.grounds w → spent w ≤ spent v → AreLooksRight (set s.views id w) → AreInOrder (set s.views id w)
+      → ((j : ℕ) → j ≢ home_of l.shape o → face l.shape j w ≡ face l.shape j v) → ((m : ℕ) → numbered m w ≡ numbered m v) → IsWeighedSame v w → IsView l.shape r.setting w → spent w ≤ spent v → AreLooksRight (set s.views id w) → AreInOrder (set s.views id w) → AreBorn (set s.views id w)
       → length homes' ≡ length s.homes → ((j : ℕ) → j ≢ home_of l.shape o → get_elem? homes' j ≡ get_elem? s.homes j)
-      → IsKept stands l.shape r.grounds o (set (map (face l.shape (home_of l.shape o)) s.views) id (face l.shape (home_of l.shape o) w)) n (get_elem? homes' (home_of l.shape o))
+      → IsKept stands l.shape r.setting o (set (map (face l.shape (home_of l.shape o)) s.views) id (face l.shape (home_of l.shape o) w)) n (get_elem? homes' (home_of l.shape o))
       → IsSound stands l (record { words = set s.words (word_of l.shape o) n; homes = homes'; views = set s.views id w })
-  changes s r id v w o n homes' fits at elsewhere numbers refs fine spends looks order wide homes kept =
+  changes s r id v w o n homes' fits at elsewhere numbers refs fine spends looks order born wide homes kept =
       let i : ℕ = home_of l.shape o in
       let d : ℕ = word_of l.shape o in
       let inside : d < length s.words = subst (λ (n : ℕ). d < n) (sym r.words) (object_word l.shape o fits) in record {
-        grounds = r.grounds;
+        setting = r.setting;
         words = length-set s.words d n ∙ r.words;
         homes = wide ∙ r.homes;
-        views = All-set (IsView l.shape r.grounds) s.views id w fine r.views;
+        views = All-set (IsView l.shape r.setting) s.views id w fine r.views;
         lanes = λ m. subst (OnceBelow l.shape.lanes m) (sym (sum_same (numbered m) s.views id v w at (numbers m))) (r.lanes m);
         objects = λ p fits'. dite (ℕ_discrete (home_of l.shape p) i)
             (λ same. let po : o ≡ p = one_home l.shape o p fits fits' (sym same) in
-            subst (λ (p : Object). IsKept stands l.shape r.grounds p (map (face l.shape (home_of l.shape p)) (set s.views id w)) (slice_index (set s.words d n) (word_of l.shape p)) (get_elem? homes' (home_of l.shape p))) po
-            (subst (λ (x : List Face × ℕ). IsKept stands l.shape r.grounds o x.0 x.1 (get_elem? homes' i)) (λ k. (sym (map-set (face l.shape i) s.views id w) k, sym (get_or-set_same s.words d n 0 inside) k)) kept))
+            subst (λ (p : Object). IsKept stands l.shape r.setting p (map (face l.shape (home_of l.shape p)) (set s.views id w)) (slice_index (set s.words d n) (word_of l.shape p)) (get_elem? homes' (home_of l.shape p))) po
+            (subst (λ (x : List Face × ℕ). IsKept stands l.shape r.setting o x.0 x.1 (get_elem? homes' i)) (λ k. (sym (map-set (face l.shape i) s.views id w) k, sym (get_or-set_same s.words d n 0 inside) k)) kept))
             (λ (ne : home_of l.shape p ≢ i). let j : ℕ = home_of l.shape p in
-            subst (λ (x : List Face × (ℕ × maybe.Option (maybe.Option (Option H)))). IsKept stands l.shape r.grounds p x.0 x.1.0 x.1.1)
+            subst (λ (x : List Face × (ℕ × maybe.Option (maybe.Option (Option H)))). IsKept stands l.shape r.setting p x.0 x.1.0 x.1.1)
             (λ k. (sym (map_same (face l.shape j) s.views id v w at (elsewhere j ne)) k, (sym (get_or-set_other s.words d (word_of l.shape p) n 0 (object_once l.shape p o fits' fits ne)) k, sym (homes j ne) k)))
             (r.objects p fits'));
+        born = born;
         looks = looks;
         order = order;
         room = r.room;
@@ -69,15 +71,16 @@ module _ {H : Type 0} (stands : List ℕ → Grounds → List Noted → H → Ty
       }
 
   -- a view changes, and no object sees it
-  pub unseen : (s : St) (r : IsSound stands l s) (id : ℕ) (v w : SeatView) → get_elem? s.views id ≡ some v → ((j : ℕ) → face l.shape j w ≡ face l.shape j v) → ((m : ℕ) → numbered m w ≡ numbered m v) → IsWeighedSame v w → IsView l.shape r.grounds w → spent w ≤ spent v → AreLooksRight (set s.views id w) → AreInOrder (set s.views id w)
+  pub unseen : (s : St) (r : IsSound stands l s) (id : ℕ) (v w : SeatView) → get_elem? s.views id ≡ some v → ((j : ℕ) → face l.shape j w ≡ face l.shape j v) → ((m : ℕ) → numbered m w ≡ numbered m v) → IsWeighedSame v w → IsView l.shape r.setting w → spent w ≤ spent v → AreLooksRight (set s.views id w) → AreInOrder (set s.views id w) → AreBorn (set s.views id w)
       → IsSound stands l (record { words = s.words; homes = s.homes; views = set s.views id w })
-  unseen s r id v w at everywhere numbers refs fine spends looks order = record {
-    grounds = r.grounds;
+  unseen s r id v w at everywhere numbers refs fine spends looks order born = record {
+    setting = r.setting;
     words = r.words;
     homes = r.homes;
-    views = All-set (IsView l.shape r.grounds) s.views id w fine r.views;
+    views = All-set (IsView l.shape r.setting) s.views id w fine r.views;
     lanes = λ m. subst (OnceBelow l.shape.lanes m) (sym (sum_same (numbered m) s.views id v w at (numbers m))) (r.lanes m);
-    objects = λ p fits. subst (λ (x : List Face). IsKept stands l.shape r.grounds p x (slice_index s.words (word_of l.shape p)) (get_elem? s.homes (home_of l.shape p))) (sym (map_same (face l.shape (home_of l.shape p)) s.views id v w at (everywhere (home_of l.shape p)))) (r.objects p fits);
+    objects = λ p fits. subst (λ (x : List Face). IsKept stands l.shape r.setting p x (slice_index s.words (word_of l.shape p)) (get_elem? s.homes (home_of l.shape p))) (sym (map_same (face l.shape (home_of l.shape p)) s.views id v w at (everywhere (home_of l.shape p)))) (r.objects p fits);
+    born = born;
     looks = looks;
     order = order;
     room = r.room;

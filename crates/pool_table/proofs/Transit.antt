@@ -1,5 +1,5 @@
 -- No root is fetched more often than it was posted, in all views together.
-use Rattle.ground.specs.Grounds.{Grounds}
+use Rattle.step_law.specs.Settings.{Setting}
 use Rattle.std.proofs.Common.{◌≡◌, ℕ, ◌+◌, ◌*◌, ◌/◌, ◌%◌, ◌<◌, ◌≤◌, List, map, eqb, refl, ap, subst, inl, inr, ⊎_elim, arith, mod-lt, div-add-mod'}
 use Rattle.std.proofs.Math.Nat.{div-lt_iff_lt-mul}
 use Rattle.std.specs.Prelude.{Option, All, sum_by}
@@ -38,12 +38,12 @@ among s p g w bound lane (At o k n) t = ⊎_elim
 among s p g w bound lane (Ref r d) t = inl refl
 among s p g w bound lane (Busy b) t = inl refl
 
-module _ {H : Type 0} (stands : List ℕ → Grounds → List Noted → H → Type 0) (l : Layout) where
+module _ {H : Type 0} (stands : List ℕ → Setting → List Noted → H → Type 0) (l : Layout) where
   pub transit : (s : State (Option H) SeatView) (r : IsSound stands l s) (p g : ℕ) → sum_by (weigh (at_gain p g)) s.views ≤ sum_by (weigh (at_loss p g)) s.views
   transit s r p g =
       let n : ℕ = l.shape.lanes in let base : ℕ = mails l.shape in
       let all : (w : Did → ℕ) → ((d : Did) → w d ≤ did_fetch p g d + did_post p g d) → All (λ (v : SeatView). All (λ (q : Part). All (IsAmong l.shape base (n * n) (λ (x : Noted). w x.did)) q.notes) (parts_of v)) s.views = (λ w bound.
-      All-weaker (IsView l.shape r.grounds) (λ (v : SeatView). All (λ (q : Part). All (IsAmong l.shape base (n * n) (λ (x : Noted). w x.did)) q.notes) (parts_of v))
+      All-weaker (IsView l.shape r.setting) (λ (v : SeatView). All (λ (q : Part). All (IsAmong l.shape base (n * n) (λ (x : Noted). w x.did)) q.notes) (parts_of v))
       (λ v fine. All-weaker (λ (q : Part). All (Stands l.shape q.number) q.notes) (λ (q : Part). All (IsAmong l.shape base (n * n) (λ (x : Noted). w x.did)) q.notes)
       (λ q st. All-weaker (Stands l.shape q.number) (IsAmong l.shape base (n * n) (λ (x : Noted). w x.did)) (among l.shape p g w bound q.number) q.notes st) (parts_of v) fine.notes) s.views r.views) in
       let a = in_views l.shape base (n * n) (λ (x : Noted). did_fetch p g x.did) s.views (all (did_fetch p g) (λ d. omega arith)) in

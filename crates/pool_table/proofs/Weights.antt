@@ -16,8 +16,11 @@ use Rattle.pool_table.specs.declared.views.Entry.{Entry}
 use Rattle.pool_table.specs.declared.views.Part.{Part}
 use Rattle.pool_table.specs.declared.views.SeatView.{SeatView}
 use Rattle.pool_table.specs.Views.{parts_of, with_entry}
-use Rattle.pool_table.specs.Counts.{ref_gain, ref_loss, ref_ended, ref_vacated, ref_born, weigh, on_root, on_place, at_gain, at_loss, any_gain, gained, lost, HasCount, reached, on_exact, lost_beside, gained_beside}
-use Rattle.pool_table.specs.Hands.{at_in, at_out, taken, put_down, InHand, MayEnter, at_birth, at_end, IsOrderly, NoneWaits, from_arena, to_arena, from_cache, to_cache, from_place, to_place, HasRegion, at_birth_of, at_birth_as}
+use Rattle.pool_table.specs.Counts.{ref_gain, ref_loss, ref_ended, ref_vacated, ref_born, weigh, on_root, on_place, at_gain, at_loss, any_gain, gained, lost, reached, on_exact, lost_beside, gained_beside}
+use Rattle.pool_table.specs.Hands.{at_in, at_out, taken, put_down, InHand, MayEnter, at_birth, at_end, IsOrderly, NoneWaits, at_birth_of, at_birth_as}
+use Rattle.pool_table.proofs.AtPlace.{CountsAt}
+use Rattle.pool_law.specs.declared.id.RegionId.{RegionId}
+use Rattle.pool_table.proofs.Holdings.{Handles, held_same, held_none, held_more}
 
 pub record IsWeighedSame (v w : SeatView) : Type 0 where
   pub refs : (f : RefDid → ℕ) (p g : ℕ) → weigh (on_root f p g) w ≡ weigh (on_root f p g) v
@@ -56,7 +59,7 @@ pub counted_parts : (v w : SeatView) → parts_of w ≡ parts_of v → ((p g : �
 counted_parts v w e c p g = subst (λ (ps : List Part). sum_by (λ (q : Part). sum_by (on_root ref_loss p g) q.notes) ps + sum_by (λ (q : Part). sum_by (at_loss p g) q.notes) ps ≤ sum_by (λ (q : Part). sum_by (on_root ref_gain p g) q.notes) ps + sum_by (λ (q : Part). sum_by (at_gain p g) q.notes) ps) (sym e) (c p g)
 
 -- with one entry more, which isn't on a reference word and loses only what is counted
-pub counted_entry : (v : SeatView) (e : Entry) (t : ℕ) → ((f : RefDid → ℕ) (p g : ℕ) → on_root f p g e ≡ 0) → ((p g : ℕ) → at_loss p g e ≤ 1) → ((p g : ℕ) → 0 < at_loss p g e → HasCount p g v) → ((p g : ℕ) → lost p g v ≤ gained p g v) → (p g : ℕ) → lost p g (with_entry v e t) ≤ gained p g (with_entry v e t)
+pub counted_entry : (v : SeatView) (e : Entry) (t : ℕ) → ((f : RefDid → ℕ) (p g : ℕ) → on_root f p g e ≡ 0) → ((p g : ℕ) → at_loss p g e ≤ 1) → ((p g : ℕ) → 0 < at_loss p g e → CountsAt p g v) → ((p g : ℕ) → lost p g v ≤ gained p g v) → (p g : ℕ) → lost p g (with_entry v e t) ≤ gained p g (with_entry v e t)
 counted_entry v e t off most has c p g =
     let a = weigh_entry (at_loss p g) v e t in let b = weigh_entry (on_root ref_loss p g) v e t in let d = weigh_entry (at_gain p g) v e t in let f = weigh_entry (on_root ref_gain p g) v e t in
     let x = off ref_loss p g in let y = off ref_gain p g in let m = most p g in let h = c p g in
@@ -127,7 +130,7 @@ orderly_parts v w e k =
       over = λ p g. let a = all (at_end p g) in let b = all (on_root ref_vacated p g) in let c = k.over p g in omega (arith, a, b, c);
       borne_of = λ p g. let a = all (on_root ref_born p g) in let b = all (at_birth_of p g) in let c = k.borne_of p g in omega (arith, a, b, c);
       borne_as = λ p g x. let a = all (on_exact ref_born p g x) in let b = all (at_birth_as p g x) in let c = k.borne_as p g x in omega (arith, a, b, c);
-      holds = λ x t. let a = all (to_arena x t) in let b = all (to_cache x t) in let c = all (to_place x t) in let d = all (from_arena x t) in let f = all (from_cache x t) in let g = all (from_place x t) in let h = k.holds x t in omega (arith, a, b, c, d, f, g, h);
+      held = λ q. held_same q v w all (k.held q);
     }
 
 pub orderly_none : (v : SeatView) → All (λ (p : Part). p.notes ≡ []) (parts_of v) → IsOrderly v
@@ -139,21 +142,18 @@ orderly_none v all =
       over = λ p g. let a = z (on_root ref_vacated p g) in omega (arith, a);
       borne_of = λ p g. let a = z (on_root ref_born p g) in omega (arith, a);
       borne_as = λ p g x. let a = z (on_exact ref_born p g x) in omega (arith, a);
-      holds = λ x t. let a = z (to_arena x t) in let b = z (to_cache x t) in let c = z (to_place x t) in omega (arith, a, b, c);
+      held = λ q. held_none q v z;
     }
 
 -- with one entry more, which isn't on a reference word
 pub orderly_entry : (v : SeatView) (e : Entry) (t : ℕ) → ((f : RefDid → ℕ) (p g c : ℕ) → on_exact f p g c e ≡ 0) → ((f : RefDid → ℕ) (p g : ℕ) → on_root f p g e ≡ 0) → ((f : RefDid → ℕ) (p : ℕ) → on_place f p e ≡ 0)
     → ((p : ℕ) → (at_birth p e + at_out p e ≡ 0) ⊎ ((at_birth p e + at_out p e ≡ 1) × InHand p v × NoneWaits p v))
     → ((p g : ℕ) → (at_end p g e ≡ 0) ⊎ ((at_end p g e ≡ 1) × (weigh (at_end p g) v < weigh (on_root ref_ended p g) v)))
-    → ((a u : ℕ) → (to_arena a u e + (to_cache a u e + to_place a u e) ≡ 0) ⊎ ((to_arena a u e + (to_cache a u e + to_place a u e) ≡ 1) × HasRegion a u v)) → IsOrderly v → IsOrderly (with_entry v e t)
+    → ((q : RegionId) → Handles q v e) → IsOrderly v → IsOrderly (with_entry v e t)
 orderly_entry v e t exact off away births ends lays k = record {
   borne_of = λ p g. let a = weigh_entry (on_root ref_born p g) v e t in let b = weigh_entry (at_birth_of p g) v e t in let x = off ref_born p g in let c = k.borne_of p g in omega (arith, a, b, x, c);
   borne_as = λ p g y. let a = weigh_entry (on_exact ref_born p g y) v e t in let b = weigh_entry (at_birth_as p g y) v e t in let x = exact ref_born p g y in let c = k.borne_as p g y in omega (arith, a, b, x, c);
-  holds = λ x u. let a = weigh_entry (to_arena x u) v e t in let b = weigh_entry (to_cache x u) v e t in let c = weigh_entry (to_place x u) v e t in let d = weigh_entry (from_arena x u) v e t in let f = weigh_entry (from_cache x u) v e t in let g = weigh_entry (from_place x u) v e t in let h = k.holds x u in ⊎_elim
-      (λ (z : to_arena x u e + (to_cache x u e + to_place x u e) ≡ 0). omega (arith, a, b, c, d, f, g, h, z))
-      (λ (z : (to_arena x u e + (to_cache x u e + to_place x u e) ≡ 1) × HasRegion x u v). let z0 = z.0 in let z1 = z.1 in omega (arith, a, b, c, d, f, g, z0, z1))
-      (lays x u);
+  held = λ q. held_more q v (with_entry v e t) e (λ f. weigh_entry f v e t) (lays q) (k.held q);
   borne = λ p. let a = weigh_entry (on_place ref_born p) v e t in let b = weigh_entry (at_birth p) v e t in let x = away ref_born p in let c = k.borne p in omega (arith, a, b, x, c);
   bears = λ p. let a = weigh_entry (on_place ref_born p) v e t in let b = weigh_entry (at_birth p) v e t in let d = weigh_entry (at_in p) v e t in let f = weigh_entry (at_out p) v e t in let g = weigh_entry (on_place ref_vacated p) v e t in
       let x = away ref_born p in let y = away ref_vacated p in let c = k.bears p in ⊎_elim

@@ -4,7 +4,8 @@ use Rattle.pool_law.specs.declared.id.RootId.{RootId}
 use Rattle.pool_law.specs.declared.note.RefDid.{RefDid}
 use Rattle.pool_law.specs.declared.note.RefDid.TheVariants.{Born, Retain, Kept, Ended, Vacated, Look}
 use Rattle.pool_law.specs.declared.note.Noted.{Noted}
-use Rattle.table_law.specs.NoteCounts.{is_root, did_fetch, did_post}
+use Rattle.pool_law.specs.Same.{same_root}
+use Rattle.table_law.specs.NoteCounts.{is_root, did_fetch, did_post, did_fetch_of, did_post_of}
 use Rattle.pool_table.specs.declared.views.Entry.{Entry}
 use Rattle.pool_table.specs.declared.views.Entry.TheVariants.{At, Ref, Busy}
 use Rattle.pool_table.specs.declared.views.Part.{Part}
@@ -96,10 +97,6 @@ gained p g v = weigh (on_root ref_gain p g) v + weigh (at_gain p g) v
 abbrev pub lost : ℕ → ℕ → SeatView → ℕ
 lost p g v = weigh (on_root ref_loss p g) v + weigh (at_loss p g) v
 
--- a view counts the root
-abbrev pub HasCount : ℕ → ℕ → SeatView → Type 0
-HasCount p g v = lost p g v < gained p g v
-
 -- the same over the parts other than the seat's own
 abbrev pub gained_beside : ℕ → ℕ → SeatView → ℕ
 gained_beside p g v = weigh_in (on_root ref_gain p g) v.others + weigh_in (at_gain p g) v.others
@@ -110,10 +107,6 @@ lost_beside p g v = weigh_in (on_root ref_loss p g) v.others + weigh_in (at_loss
 -- the births and retains made, and the moves left
 abbrev pub reached : SeatView → ℕ
 reached v = weigh any_gain v + v.moves
-
--- a view has the end token of a root that it ended and hasn't vacated
-abbrev pub HasToken : ℕ → ℕ → SeatView → Type 0
-HasToken p g v = weigh (on_root ref_ended p g) v ≡ weigh (on_root ref_vacated p g) v + 1
 
 -- the same for all roots of the place p
 abbrev pub on_place : (RefDid → ℕ) → ℕ → Entry → ℕ
@@ -130,8 +123,35 @@ on_exact weight p g c (At o k n) = 0
 on_exact weight p g c (Ref r d) = cond (is_root p g r && (r.capacity == c)) (weight d) 0
 on_exact weight p g c (Busy b) = 0
 
--- the word of the root place p: its generation, twice the count while it is live, and 1 once it is vacant;
--- and what the steps on it in all views add up to
+-- the steps on the word of this very root, with its capacity
+abbrev pub on_this : (RefDid → ℕ) → RootId → Entry → ℕ
+on_this weight r (At o k n) = 0
+on_this weight r (Ref q d) = cond (same_root q r) (weight d) 0
+on_this weight r (Busy b) = 0
+
+-- the views of it that an entry fetches, and posts
+abbrev pub fetches : RootId → Entry → ℕ
+fetches r e = noted_weight (λ (n : Noted). did_fetch_of r n.did) e
+
+abbrev pub posts : RootId → Entry → ℕ
+posts r e = noted_weight (λ (n : Noted). did_post_of r n.did) e
+
+-- a view counts the root: it gained more counts of it than it lost
+abbrev pub gained_of : RootId → SeatView → ℕ
+gained_of r v = weigh (on_this ref_gain r) v + weigh (fetches r) v
+
+abbrev pub lost_of : RootId → SeatView → ℕ
+lost_of r v = weigh (on_this ref_loss r) v + weigh (posts r) v
+
+abbrev pub HasCount : RootId → SeatView → Type 0
+HasCount r v = lost_of r v < gained_of r v
+
+-- a view has the end token of a root that it ended and hasn't vacated
+abbrev pub HasToken : RootId → SeatView → Type 0
+HasToken r v = weigh (on_this ref_ended r) v ≡ weigh (on_this ref_vacated r) v + 1
+
+-- the word of the root place p: its generation, twice the count while it is live, and 1 once it is
+-- vacant; and what the steps on it in all views add up to
 pub record IsCounted (p : ℕ) (views : List SeatView) (word : ℕ) : Type 0 where
   pub generation : ℕ
   pub count : ℕ
@@ -160,4 +180,7 @@ pub record IsCounted (p : ℕ) (views : List SeatView) (word : ℕ) : Type 0 whe
 -- the view after a step on a reference word
 abbrev pub with_ref : SeatView → RootId → RefDid → ℕ → SeatView
 with_ref v r d moves =
-    record v { own = record { number = v.own.number; notes = v.own.notes ++ Ref r d ∷ [] }; moves = moves }
+    record v {
+      own = record { number = v.own.number; notes = v.own.notes ++ Ref r d ∷ [] };
+      moves = moves;
+    }

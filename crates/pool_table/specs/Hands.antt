@@ -1,12 +1,16 @@
 -- What a view has in its hands: root places, and the regions of takings.
-use Rattle.std.specs.Prelude.{ℕ, ◌+◌, ◌<◌, ◌≤◌, ◌⊎◌}
+use Rattle.std.specs.Prelude.{◌≡◌, ℕ, ◌+◌, ◌<◌, ◌≤◌, ◌⊎◌, ⊤, IfSome}
+use Rattle.pool_law.specs.declared.id.RootId.{RootId}
+use Rattle.pool_law.specs.declared.id.ViewData.{ViewData}
+use Rattle.pool_law.specs.declared.id.RegionId.{RegionId}
 use Rattle.pool_law.specs.declared.note.Did.{Did}
+use Rattle.pool_law.specs.declared.note.Did.TheVariants.{Give, Kept, Home, Post, Birth, End}
 use Rattle.pool_law.specs.declared.note.Noted.{Noted}
-use Rattle.table_law.specs.NoteCounts.{did_handle, did_home, did_post, did_birth, did_birth_of, did_birth_as, did_end, arena_out, arena_in, cache_out, cache_in, place_out, place_in}
+use Rattle.table_law.specs.NoteCounts.{did_handle, did_home, did_birth, did_birth_of, did_birth_as, did_end, did_end_of, is_taking, uses_in, arena_out, arena_in, cache_out, cache_in, place_out, place_in}
 use Rattle.pool_table.specs.declared.views.Entry.{Entry}
 use Rattle.pool_table.specs.declared.views.SeatView.{SeatView}
 use Rattle.pool_table.specs.Views.{noted_weight}
-use Rattle.pool_table.specs.Counts.{weigh, on_root, on_place, on_exact, ref_born, ref_ended, ref_vacated, HasCount, HasToken}
+use Rattle.pool_table.specs.Counts.{weigh, on_root, on_place, on_exact, on_this, ref_born, ref_ended, ref_vacated, HasCount, HasToken}
 
 -- the place p is taken out of its bin, and comes home
 abbrev pub at_in : ℕ → Entry → ℕ
@@ -42,76 +46,118 @@ at_end p g e = noted_weight (λ (n : Noted). did_end p g n.did) e
 abbrev pub IsBearing : ℕ → SeatView → Type 0
 IsBearing p v = weigh (on_place ref_born p) v < weigh (at_birth p) v
 
--- the birth that it has noted and not made is of this capacity
-abbrev pub Expects : ℕ → ℕ → SeatView → Type 0
-Expects p c v =
-    (g : ℕ) × (weigh (on_root ref_born p g) v < weigh (at_birth_of p g) v) × (0 < weigh (at_birth_as p g c) v)
+-- the birth of this root is the one that it has noted and not made
+pub record Waits (r : RootId) (v : SeatView) : Type 0 where
+  pub place : IsBearing r.place v
+  pub generation :
+      weigh (on_root ref_born r.place r.generation) v < weigh (at_birth_of r.place r.generation) v
+  pub capacity : 0 < weigh (at_birth_as r.place r.generation r.capacity) v
+
+-- the birth that it has noted and not made is at this place, of this capacity
+abbrev pub IsAwaited : ℕ → ℕ → SeatView → Type 0
+IsAwaited p c v = (r : RootId) × (r.place ≡ p) × (r.capacity ≡ c) × Waits r v
 
 abbrev pub NoneWaits : ℕ → SeatView → Type 0
 NoneWaits p v = weigh (at_birth p) v ≤ weigh (on_place ref_born p) v
 
 -- a view has noted the end of the root, and not yet vacated its place
-abbrev pub HasEnded : ℕ → ℕ → SeatView → Type 0
-HasEnded p g v = weigh (on_root ref_vacated p g) v < weigh (at_end p g) v
+abbrev pub ends : RootId → Entry → ℕ
+ends r e = noted_weight (λ (n : Noted). did_end_of r n.did) e
 
--- the taking t of the arena a leaves its arena, a cache, a root place, and enters them
-abbrev pub from_arena : ℕ → ℕ → Entry → ℕ
-from_arena a t e = noted_weight (λ (n : Noted). arena_out a t n.did) e
+abbrev pub HasNoEnd : RootId → SeatView → Type 0
+HasNoEnd r v = weigh (ends r) v ≡ 0
 
-abbrev pub to_arena : ℕ → ℕ → Entry → ℕ
-to_arena a t e = noted_weight (λ (n : Noted). arena_in a t n.did) e
+abbrev pub HasEnded : RootId → SeatView → Type 0
+HasEnded r v = weigh (on_this ref_vacated r) v < weigh (ends r) v
 
-abbrev pub from_cache : ℕ → ℕ → Entry → ℕ
-from_cache a t e = noted_weight (λ (n : Noted). cache_out a t n.did) e
+-- by a weight of regions: what an entry takes out of an arena, a cache, a root place, and puts
+-- there
+abbrev pub from_arena : (RegionId → ℕ) → Entry → ℕ
+from_arena w e = noted_weight (λ (n : Noted). arena_out w n.did) e
 
-abbrev pub to_cache : ℕ → ℕ → Entry → ℕ
-to_cache a t e = noted_weight (λ (n : Noted). cache_in a t n.did) e
+abbrev pub to_arena : (RegionId → ℕ) → Entry → ℕ
+to_arena w e = noted_weight (λ (n : Noted). arena_in w n.did) e
 
-abbrev pub from_place : ℕ → ℕ → Entry → ℕ
-from_place a t e = noted_weight (place_out a t) e
+abbrev pub from_cache : (RegionId → ℕ) → Entry → ℕ
+from_cache w e = noted_weight (λ (n : Noted). cache_out w n.did) e
 
-abbrev pub to_place : ℕ → ℕ → Entry → ℕ
-to_place a t e = noted_weight (λ (n : Noted). place_in a t n.did) e
+abbrev pub to_cache : (RegionId → ℕ) → Entry → ℕ
+to_cache w e = noted_weight (λ (n : Noted). cache_in w n.did) e
 
--- how often a view took the taking into its hands, and laid it down
-abbrev pub grasped : ℕ → ℕ → SeatView → ℕ
-grasped a t v = weigh (from_arena a t) v + (weigh (from_cache a t) v + weigh (from_place a t) v)
+abbrev pub from_place : (RegionId → ℕ) → Entry → ℕ
+from_place w e = noted_weight (place_out w) e
 
-abbrev pub laid : ℕ → ℕ → SeatView → ℕ
-laid a t v = weigh (to_arena a t) v + (weigh (to_cache a t) v + weigh (to_place a t) v)
+abbrev pub to_place : (RegionId → ℕ) → Entry → ℕ
+to_place w e = noted_weight (λ (n : Noted). place_in w n.did) e
 
-abbrev pub HasRegion : ℕ → ℕ → SeatView → Type 0
-HasRegion a t v = laid a t v < grasped a t v
+-- what a view took into its hands, and laid down
+abbrev pub grasped : (RegionId → ℕ) → SeatView → ℕ
+grasped w v = weigh (from_arena w) v + (weigh (from_cache w) v + weigh (from_place w) v)
 
-abbrev pub did_lay : ℕ → ℕ → Did → ℕ
-did_lay a t d = arena_in a t d + (cache_in a t d + place_in a t d)
+abbrev pub laid : (RegionId → ℕ) → SeatView → ℕ
+laid w v = weigh (to_arena w) v + (weigh (to_cache w) v + weigh (to_place w) v)
 
--- what a note puts down is in the view's hands, and what it tells of a root is the view's to tell
-pub record PutsDown (v : SeatView) (d : Did) : Type 0 where
-  -- a place comes home, and no birth waits there
-  pub home : (p : ℕ) → 0 < did_home p d → InHand p v × NoneWaits p v
-  pub birth : (p : ℕ) → 0 < did_birth p d → InHand p v
-  pub token : (p g : ℕ) → 0 < did_end p g d → HasToken p g v
-  pub posted : (p g : ℕ) → 0 < did_post p g d → HasCount p g v
-  pub region : (a t : ℕ) → 0 < did_lay a t d → HasRegion a t v
+-- the taking of q is in the view's hands
+abbrev pub HasTaking : RegionId → SeatView → Type 0
+HasTaking q v = laid (is_taking q) v < grasped (is_taking q) v
 
--- a view notes a birth before the step that makes it, with the place in hand, and an end between the two steps of its
--- root; it lays no taking down that it hasn't in hand
+-- the uses with which it came into the hands, with one more for each birth of theirs, and those
+-- with which it left them
+abbrev pub uses_come : RegionId → SeatView → ℕ
+uses_come q v = grasped (uses_in q) v + weigh (to_place (is_taking q)) v
+
+abbrev pub uses_gone : RegionId → SeatView → ℕ
+uses_gone q v = laid (uses_in q) v
+
+-- the region is in the view's hands: its taking, with these uses
+pub record HasRegion (r : RegionId) (v : SeatView) : Type 0 where
+  pub taking : HasTaking r v
+  pub uses : uses_gone r v + r.uses ≡ uses_come r v
+
+-- the taking of q isn't in the view's hands
+pub record IsLaidDown (q : RegionId) (v : SeatView) : Type 0 where
+  pub taking : laid (is_taking q) v ≡ grasped (is_taking q) v
+  pub uses : uses_gone q v ≡ uses_come q v
+
+-- no taking is laid down that isn't in hand, and with it all its uses are
+pub record IsHeldRight (q : RegionId) (v : SeatView) : Type 0 where
+  pub holds : laid (is_taking q) v ≤ grasped (is_taking q) v
+  pub used : uses_gone q v ≤ uses_come q v
+  pub emptied : laid (is_taking q) v ≡ grasped (is_taking q) v → uses_gone q v ≡ uses_come q v
+
+-- what a note puts down is in the view's hands, and what it tells of a root is the view's to tell:
+-- a place comes home where no birth waits; a birth has its place, and its region with one use less;
+-- an end has its token; a root that is posted is counted
+abbrev pub PutsDown : SeatView → Did → Type 0
+PutsDown v (Home p) = InHand p v × NoneWaits p v
+PutsDown v (Give r) = HasRegion r v
+PutsDown v (Kept r) = HasRegion r v
+PutsDown v (Birth root r) =
+    InHand root.place v
+    × ((z : RegionId) × HasRegion z v × (r ≡ record z { uses = z.uses + 1 }))
+PutsDown v (End root) = HasToken root v
+PutsDown v (Post q) = IfSome q.view (λ (w : ViewData). HasCount w.root v)
+PutsDown v d = ⊤
+
+-- a view notes a birth before the step that makes it, with the place in hand, and an end between
+-- the two steps of its root; it lays no taking down that it hasn't in hand
 pub record IsOrderly (v : SeatView) : Type 0 where
-  -- no more births are made at a place than were noted, and at most as many more are noted as the place is in hand
+  -- no more births are made at a place than were noted, and at most as many more are noted as the
+  -- place is in hand
   pub borne : (p : ℕ) → weigh (on_place ref_born p) v ≤ weigh (at_birth p) v
   pub bears : (p : ℕ) →
       weigh (at_birth p) v + put_down p v ≤ weigh (on_place ref_born p) v + taken p v
-  -- the note of an end stands between the step that ends the root and the one that vacates its place
+  -- the note of an end stands between the step that ends the root and the one that vacates its
+  -- place
   pub ending : (p g : ℕ) → weigh (at_end p g) v ≤ weigh (on_root ref_ended p g) v
   pub over : (p g : ℕ) → weigh (on_root ref_vacated p g) v ≤ weigh (at_end p g) v
   -- what is made is of the generation and the capacity that were noted
   pub borne_of : (p g : ℕ) → weigh (on_root ref_born p g) v ≤ weigh (at_birth_of p g) v
   pub borne_as : (p g c : ℕ) → weigh (on_exact ref_born p g c) v ≤ weigh (at_birth_as p g c) v
   -- no taking is laid down that isn't in hand
-  pub holds : (a t : ℕ) → laid a t v ≤ grasped a t v
+  pub held : (q : RegionId) → IsHeldRight q v
 
--- a view may be in the section of a root place: it counts its root, has its end token, or has the place in
--- hand
+-- a view may be in the section of a root place: it counts its root, has its end token, or has the
+-- place in hand
 abbrev pub MayEnter : ℕ → SeatView → Type 0
-MayEnter p v = ((g : ℕ) × (HasCount p g v ⊎ HasToken p g v)) ⊎ InHand p v
+MayEnter p v = ((r : RootId) × (r.place ≡ p) × (HasCount r v ⊎ HasToken r v)) ⊎ InHand p v

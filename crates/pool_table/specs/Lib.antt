@@ -3,9 +3,11 @@ pub mod Views
 pub mod Counts
 pub mod Looks
 pub mod Order
-pub mod Sound
-pub mod Steps
 pub mod Hands
+pub mod Births
+pub mod Sound
+pub mod Learned
+pub mod Steps
 pub mod Seats
 pub mod Sections
 pub mod Opened
@@ -13,3 +15,4 @@ pub mod Homing
 pub mod Closed
 pub mod Holders
 pub mod Dropping
+pub mod LaneLogs

@@ -9,9 +9,10 @@ use Rattle.pool_table.specs.declared.views.SeatView.{SeatView}
 use Rattle.pool_table.specs.Views.{parts_of}
 use Rattle.pool_table.specs.Counts.{on_root, at_gain, at_loss, ref_gain, ref_loss, ref_retain, tally}
 
--- a look that answered k, after the entries `before` of a part with the entries `own`, where the root (p, g) was retained
--- `retains` times in all parts: what the part counted then is at most k, and k at most 1 more than the part's own retains
--- then and those of all other parts, less the part's own releases then
+-- a look that answered k, after the entries `before` of a part with the entries `own`, where the
+-- root (p, g) was retained `retains` times in all parts: what the part counted then is at most k,
+-- and k at most 1 more than the part's own retains then and those of all other parts, less the
+-- part's own releases then
 pub record IsLookRight (p g k retains : ℕ) (own before : List Entry) : Type 0 where
   pub least : sum_by (on_root ref_gain p g) before + sum_by (at_gain p g) before
       ≤ k + (sum_by (on_root ref_loss p g) before + sum_by (at_loss p g) before)

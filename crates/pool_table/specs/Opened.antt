@@ -1,5 +1,5 @@
 -- What a contract says of a table that has just been made.
-use Rattle.ground.specs.Grounds.{Grounds}
+use Rattle.step_law.specs.Settings.{Setting}
 use Rattle.std.specs.Prelude.{◌≡◌, ℕ, ◌<◌, List, [], length, Some, slice_get, HoldsAt}
 use Rattle.step_law.specs.declared.Told.{Ghosts}
 use Rattle.pool_law.specs.declared.note.Noted.{Noted}
@@ -15,19 +15,18 @@ use Rattle.pool_table.specs.Steps.{lane_view}
 
 -- the first seat of a lane: its lane's number, its share of moves and turns, and no notes
 abbrev pub IsFirstSeat : {H : Type 0} {G : Ghosts H Noted} →
-    Layout → Grounds → ℕ → PoolTable H → PoolSeat H G → Type 0
+    Layout → Setting → ℕ → PoolTable H → PoolSeat H G → Type 0
 IsFirstSeat l g lane t s = IsSeatOf t s × HasView s (lane_view l lane g)
 
--- the seats are the first seats of all lanes, in order
+-- the seats are the first seats of all lanes, in order, under this setting
 pub record AreFirstSeats {H : Type 0} {G : Ghosts H Noted}
-    (l : Layout) (t : PoolTable H) (seats : List (PoolSeat H G)) : Type 0 where
-  pub grounds : Grounds
+    (l : Layout) (g : Setting) (t : PoolTable H) (seats : List (PoolSeat H G)) : Type 0 where
   pub many : length seats ≡ l.shape.lanes
-  pub each : (k : ℕ) → k < l.shape.lanes → HoldsAt (IsFirstSeat l grounds k t) seats k
+  pub each : (k : ℕ) → k < l.shape.lanes → HoldsAt (IsFirstSeat l g k t) seats k
 
 -- each object's home value stands for no notes
 abbrev pub StandAtFirst : {H : Type 0} →
-    (List ℕ → Grounds → List Noted → H → Type 0) → Shape → Grounds → List H → Type 0
-StandAtFirst {H} stands s grounds homes =
+    (List ℕ → Setting → List Noted → H → Type 0) → Shape → Setting → List H → Type 0
+StandAtFirst {H} stands s setting homes =
     (o : Object) → IsObjectOf s o →
-    (x : H) × (slice_get homes (home_of s o) ≡ Some x) × stands (measures_of s o) grounds [] x
+    (x : H) × (slice_get homes (home_of s o) ≡ Some x) × stands (measures_of s o) setting [] x

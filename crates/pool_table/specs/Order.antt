@@ -13,8 +13,9 @@ abbrev pub IsBelow : Entry → Entry → Type 0
 IsBelow (At o j m) (At p k n) = o ≡ p → j < k
 IsBelow x y = ⊤
 
--- what stands in one part after a note is numbered above what stands in another part before an earlier note of the same
--- object; so what follows a fetch is numbered above what the post of that view followed
+-- what stands in one part after a note is numbered above what stands in another part before an
+-- earlier note of the same object; so what follows a fetch is numbered above what the post of that
+-- view followed
 abbrev pub IsInOrder : Part → Part → Type 0
 IsInOrder q p =
     (before after early late : List Entry) (o : Object) (j k : ℕ) (m n : Noted) →

@@ -1,9 +1,7 @@
 -- What a contract sees of a seat.
-use Rattle.std.specs.Prelude.{◌≡◌, ℕ, ◌*◌, ◌<◌, [], ⊤}
-use Rattle.pool_law.specs.declared.run.Shape.{Shape}
+use Rattle.std.specs.Prelude.{◌≡◌, [], ⊤}
 use Rattle.step_law.specs.declared.Told.{Ghosts}
 use Rattle.pool_law.specs.declared.note.Noted.{Noted}
-use Rattle.pool_law.specs.declared.id.RootId.{RootId}
 use Rattle.pool_law.specs.declared.note.Object.{Object}
 use Rattle.pool_law.specs.declared.note.Object.TheVariants.{Mail}
 use Rattle.pool_table.specs.declared.views.SeatView.{SeatView}
@@ -31,13 +29,6 @@ module _ {H : Type 0} {G : Ghosts H Noted} where
   -- it knows this, and holds no home value
   abbrev pub HasView : PoolSeat H G → SeatView → Type 0
   HasView s v = s.seat.me ≡ (v, [])
-
--- the place is one of the shape's
-abbrev pub IsPlaceOf : Shape → ℕ → Type 0
-IsPlaceOf s p = p < s.lanes * s.handles
-
-abbrev pub IsRootOf : Shape → RootId → Type 0
-IsRootOf s r = IsPlaceOf s r.place
 
 abbrev pub IsMail : Object → Type 0
 IsMail (Mail f t) = ⊤

@@ -1,5 +1,6 @@
--- The table's rule: what holds of its words, its home values and the views of all seats between any two steps.
-use Rattle.ground.specs.Grounds.{Grounds}
+-- The table's rule: what holds of its words, its home values and the views of all seats between any
+-- two steps.
+use Rattle.step_law.specs.Settings.{Setting}
 use Rattle.std.specs.Prelude.{◌≡◌, ℕ, ◌+◌, ◌-◌, ◌*◌, ◌<◌, ◌≤◌, ◌≢◌, List, [], map, length, Option, Some, None, IfSome, filter, filter_map, sum_by, All, AllPairs, slice_get, slice_index, ⊤}
 use mathlib.Core.Option.{some, none}
 use mathlib.Core.Option as maybe
@@ -11,8 +12,8 @@ use Rattle.pool_law.specs.declared.note.Noted.{Noted}
 use Rattle.pool_law.specs.declared.note.Object.{Object}
 use Rattle.pool_law.specs.declared.note.Object.TheVariants.{Cache, Root}
 use Rattle.pool_law.specs.Homes.{home_of, objects_of, IsObjectOf}
-use Rattle.pool_table.specs.Words.{words_of, word_of, count_word_of}
 use Rattle.table_law.specs.Measures.{measures_of}
+use Rattle.pool_table.specs.Words.{words_of, word_of, count_word_of}
 use Rattle.table_law.specs.Histories.{IsHistory}
 use Rattle.table_law.specs.Standing.{IsInPlace}
 use Rattle.pool_table.specs.declared.views.Entry.{Entry}
@@ -23,12 +24,13 @@ use Rattle.pool_table.specs.declared.views.SeatView.{SeatView}
 use Rattle.pool_table.specs.declared.views.Layout.{Layout}
 use Rattle.pool_table.specs.Counts.{IsCounted, gained, lost, gained_beside, lost_beside, reached, weigh, on_root, ref_ended, ref_vacated}
 use Rattle.pool_table.specs.Hands.{put_down, taken, MayEnter, IsOrderly}
+use Rattle.pool_table.specs.Births.{AreBorn}
 use Rattle.pool_table.specs.Looks.{AreLooksRight}
 use Rattle.pool_table.specs.Order.{AreInOrder}
 use Rattle.pool_table.specs.Views.{Face, parts_of, is_at, is_numbered, noted_of, is_lane, face, is_in, inside_total, total, noted_total, numbered, spent}
 
--- of two entries of one part on one object, the first and the second: numbers rise, and the note after a busy mark is
--- another part's
+-- of two entries of one part on one object, the first and the second: numbers rise, and the note
+-- after a busy mark is another part's
 abbrev pub Before : Entry → Entry → Type 0
 Before (At o j m) (At p k n) = j < k
 Before (At o j m) (Busy b) = j ≤ b.number
@@ -44,7 +46,8 @@ IsMarked (Cache l c) = ⊤
 IsMarked (Root p) = ⊤
 IsMarked o = ⊥
 
--- a note is the one that the history has at its number, by this part's seat; a mark is below the limit
+-- a note is the one that the history has at its number, by this part's seat; a mark is below the
+-- limit
 abbrev pub Tells : Object → List Noted → ℕ → Option ℕ → Entry → Type 0
 Tells o h limit lane (At p k n) = (0 < k) × (slice_get h (k - 1) ≡ Some n) × (n.lane ≡ lane)
 Tells o h limit lane (Busy b) = (b.number < limit) × IsMarked o
@@ -54,8 +57,8 @@ Tells o h limit lane (Ref r d) = ⊤
 pub record IsTold (o : Object) (h : List Noted) (limit : ℕ) (p : Part) : Type 0 where
   -- they come in the order of their numbers
   pub ordered : AllPairs Before p.notes
-  -- each note is the history's at its number, and after each mark a note of another part stands, or another view is in the
-  -- section
+  -- each note is the history's at its number, and after each mark a note of another part stands, or
+  -- another view is in the section
   pub told : All (Tells o h limit p.number) p.notes
   -- a numbered part has all notes of the history that have its number
   pub own : (m : ℕ) → p.number ≡ Some m →
@@ -67,7 +70,7 @@ Knows h f = IfSome f.inside (λ (x : Inside). (x.history ≡ h) × (x.number ≡
 
 -- what the word and the home of one object are to what all views show of it
 pub record IsKept {H : Type 0}
-    (stands : List ℕ → Grounds → List Noted → H → Type 0) (shape : Shape) (grounds : Grounds) (o : Object)
+    (stands : List ℕ → Setting → List Noted → H → Type 0) (shape : Shape) (setting : Setting) (o : Object)
     (faces : List Face) (word : ℕ) (home : maybe.Option (maybe.Option (Option H))) : Type 0 where
   pub history : List Noted
   pub accepted : IsHistory shape o history
@@ -77,19 +80,21 @@ pub record IsKept {H : Type 0}
   pub alone : inside_total faces ≤ 1
   -- that view knows the history
   pub knows : All (Knows history) faces
-  -- the entries of each part are told by the history; a mark is below the number of notes, or of one more where another
-  -- view is in the section
+  -- the entries of each part are told by the history; a mark is below the number of notes, or of
+  -- one more where another view is in the section
   pub told :
-      All (λ (f : Face). All (IsTold o history (length history + (inside_total faces - is_in f))) f.parts) faces
+      All (λ (f : Face).
+      All (IsTold o history (length history + (inside_total faces - is_in f))) f.parts) faces
   -- the notes in all parts are those of the history, each once
   pub once : (k : ℕ) → k < length history → total (is_numbered (k + 1)) faces ≡ 1
   pub as_many : total is_at faces ≡ length history
   pub weights : (f : Noted → ℕ) → noted_total f faces ≡ sum_by f history
   -- where no view is in the section the home value is in its slot, and stands for the history
   pub home_is : inside_total faces ≡ 0 →
-      (x : H) × (home ≡ some (some (Some x))) × stands (measures_of shape o) grounds history x
+      (x : H) × (home ≡ some (some (Some x))) × stands (measures_of shape o) setting history x
 
--- a note stands on an object of the shape, in the log of a lane that may note it, where it may move what it moves
+-- a note stands on an object of the shape, in the log of a lane that may note it, where it may move
+-- what it moves
 pub record NoteStands (s : Shape) (lane : Option ℕ) (o : Object) (n : Noted) : Type 0 where
   pub object : IsObjectOf s o
   pub lane_may : MayNote s lane o n.did
@@ -97,7 +102,7 @@ pub record NoteStands (s : Shape) (lane : Option ℕ) (o : Object) (n : Noted) :
 
 abbrev pub Stands : Shape → Option ℕ → Entry → Type 0
 Stands s lane (At o k n) = NoteStands s lane o n
-Stands s lane (Ref r d) = ⊤
+Stands s lane (Ref r d) = r.place < s.lanes * s.handles
 Stands s lane (Busy b) = IsObjectOf s b.object × IsMarked b.object
 
 -- a view with nothing but empty parts
@@ -108,9 +113,9 @@ pub record IsIdle (v : SeatView) : Type 0 where
   pub turns : v.turns ≡ 0
 
 -- what holds of one view
-pub record IsView (s : Shape) (grounds : Grounds) (v : SeatView) : Type 0 where
-  -- all views have the same grounds, as far as they know them
-  pub grounds_are : IfSome v.grounds (λ (g : Grounds). g ≡ grounds)
+pub record IsView (s : Shape) (setting : Setting) (v : SeatView) : Type 0 where
+  -- all views have the same setting, as far as they know them
+  pub setting_is : IfSome v.setting (λ (g : Setting). g ≡ setting)
   -- a view without a numbered part has nothing
   pub unnumbered : All (λ (p : Part). p.number ≡ None) (parts_of v) → IsIdle v
   -- its section is on an object of the shape
@@ -133,6 +138,7 @@ pub record IsShape (s : Shape) : Type 0 where
   pub arenas : s.arenas ≤ 8
   pub some_lane : 0 < s.lanes
   pub lanes : s.lanes ≤ 16
+  pub some_handle : 0 < s.handles
   pub handles : s.handles ≤ 4096
 
 -- once for each number below n, and else never
@@ -141,40 +147,46 @@ OnceBelow n m times = (m < n → times ≡ 1) × (n ≤ m → times ≡ 0)
 
 -- the table is sound: this holds between any two steps, whatever the threads do
 --
--- Read it as what a lock protects, said for all locks at once. `s.words` are the atomic words, `s.homes` the values in
--- their slots, and `s.views` what the seats know: all that was noted so far, split over the seats that noted it.
+-- Read it as what a lock protects, said for all locks at once. `s.words` are the atomic words,
+-- `s.homes` the values in their slots, and `s.views` what the seats know: all that was noted so
+-- far, split over the seats that noted it.
 pub record IsSound {H : Type 0}
-    (stands : List ℕ → Grounds → List Noted → H → Type 0) (l : Layout) (s : State (Option H) SeatView) : Type 0 where
-  -- one list of grounds, which never changes
-  pub grounds : Grounds
+    (stands : List ℕ → Setting → List Noted → H → Type 0) (l : Layout) (s : State (Option H) SeatView) :
+    Type 0 where
+  -- one setting, which never changes
+  pub setting : Setting
   pub words : length s.words ≡ words_of l.shape
   pub homes : length s.homes ≡ objects_of l.shape
   -- each view by itself
-  pub views : All (IsView l.shape grounds) s.views
+  pub views : All (IsView l.shape setting) s.views
   -- each lane's number is that of one part
   pub lanes : (m : ℕ) → OnceBelow l.shape.lanes m (sum_by (numbered m) s.views)
   -- each object, with its word and its home
   pub objects : (o : Object) → IsObjectOf l.shape o →
-      IsKept stands l.shape grounds o
+      IsKept stands l.shape setting o
       (map (face l.shape (home_of l.shape o)) s.views)
       (slice_index s.words (word_of l.shape o))
       (get_elem? s.homes (home_of l.shape o))
   -- each root place, with the word of its count
   pub counts : (p : ℕ) → p < l.shape.lanes * l.shape.handles →
       IsCounted p s.views (slice_index s.words (count_word_of l.shape p))
+  -- each root that a step, a parcel or an end token names was born with this capacity
+  pub born : AreBorn s.views
   -- each look told the truth, and notes that follow an earlier note have the higher numbers
   pub looks : AreLooksRight s.views
   pub order : AreInOrder s.views
-  -- the notes made and the turns left are within what was given, and so are births and retains with the moves left; so no
-  -- word overflows
+  -- the notes made and the turns left are within what was given, and so are births and retains with
+  -- the moves left; so no word overflows
   pub room : l.shape.lanes * l.turns < 4611686018427387904
   pub budget : sum_by spent s.views ≤ l.shape.lanes * l.turns
   pub few : l.shape.lanes * l.moves < 1073741824
   pub moved : sum_by reached s.views ≤ l.shape.lanes * l.moves
 
--- at one moment, in this table, a seat had the view v while another was in the section of o after n notes
+-- at one moment, in this table, a seat had the view v while another was in the section of o after n
+-- notes
 pub record WasHeld {H : Type 0}
-    (stands : List ℕ → Grounds → List Noted → H → Type 0) (l : Layout) (o : Object) (n : ℕ) (v : SeatView) : Type 0 where
+    (stands : List ℕ → Setting → List Noted → H → Type 0) (l : Layout) (o : Object) (n : ℕ) (v : SeatView) :
+    Type 0 where
   pub moment : State (Option H) SeatView
   pub sound : IsSound stands l moment
   pub seat : ℕ

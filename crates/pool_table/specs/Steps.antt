@@ -1,28 +1,29 @@
 -- What each kind of step tells its seat.
-use Rattle.ground.specs.Grounds.{Grounds}
-use Rattle.std.specs.Prelude.{◌≡◌, ℕ, zero, suc, ◌+◌, ◌-◌, ◌*◌, ◌/◌, ◌%◌, ◌<◌, ◌≢◌, List, [], ◌∷◌, length, Option, Some, None, IfSome, filter, filter_map, count_by, sum_by, ◌==◌}
+use Rattle.step_law.specs.Settings.{Setting}
+use Rattle.std.specs.Prelude.{◌≡◌, ℕ, zero, suc, ◌+◌, ◌-◌, ◌*◌, ◌/◌, ◌%◌, ◌<◌, ◌≢◌, List, [], ◌∷◌, length, Option, Some, None, IfSome}
 use Rattle.atomic_table.specs.Table.{Me, Step, rest}
 use Rattle.pool_law.specs.declared.run.Level.TheVariants.{Disabled}
 use Rattle.pool_law.specs.declared.note.Noted.{Noted}
 use Rattle.pool_law.specs.declared.note.Object.{Object}
-use Rattle.pool_law.specs.declared.note.Object.TheVariants.{Arena, Bin, Root}
+use Rattle.pool_law.specs.declared.note.Object.TheVariants.{Arena}
 use Rattle.pool_law.specs.Homes.{home_of}
-use Rattle.pool_law.specs.Arenas.{Arena as ArenaState}
-use Rattle.table_law.specs.Measures.{measures_of}
-use Rattle.table_law.specs.Histories.{IsHistory, root_after, IsBinAfter, IsArenaAfter}
-use Rattle.table_law.specs.NoteCounts.{is_taking}
 use Rattle.pool_law.specs.Naming.{noted_by}
 use Rattle.pool_table.specs.declared.views.Entry.TheVariants.{At, Busy}
 use Rattle.pool_table.specs.declared.views.Layout.{Layout}
 use Rattle.pool_table.specs.declared.views.Part.{Part}
 use Rattle.pool_table.specs.declared.views.Inside.{Inside}
 use Rattle.pool_table.specs.declared.views.SeatView.{SeatView}
-use Rattle.pool_table.specs.Views.{empty_part, blank, entered, left, with_entry, noted_of, is_about, is_lane}
+use Rattle.pool_table.specs.Views.{empty_part, blank, entered, left, with_entry}
 use Rattle.pool_law.specs.declared.id.RootId.{RootId}
 use Rattle.pool_law.specs.declared.note.RefDid.TheVariants.{Born, Retain, Kept, Ended, Vacated, Look}
-use Rattle.pool_table.specs.Counts.{with_ref, weigh, HasCount, HasToken}
-use Rattle.pool_table.specs.Hands.{at_end, InHand, NoneWaits, HasRegion}
+use Rattle.pool_table.specs.Counts.{with_ref, HasCount, HasToken}
+use Rattle.pool_table.specs.Hands.{Waits, InHand, HasNoEnd}
+use Rattle.pool_table.specs.Learned.{Enters}
 use Rattle.pool_table.specs.Sound.{WasHeld}
+
+-- what a step tells: the step, what the seat had, the word that was found, what the seat has then
+abbrev pub Told : Type 0 → Type 1
+Told H = Step (Option H) → Me (Option H) SeatView → ℕ → Me (Option H) SeatView → Type 0
 
 abbrev pub no_object : Object
 no_object = Arena 0
@@ -34,7 +35,15 @@ abbrev pub no_layout : Layout
 no_layout =
     record {
       shape =
-          record { order = 0; arenas = 0; chunks = 0; handles = 0; lanes = 0; level = Disabled; interval = 0 };
+          record {
+            order = 0;
+            arenas = 0;
+            chunks = 0;
+            handles = 0;
+            lanes = 0;
+            level = Disabled;
+            interval = 0;
+          };
       moves = 0;
       turns = 0;
     }
@@ -45,19 +54,19 @@ lane_parts i zero = []
 lane_parts i (suc n) = empty_part (Some i) ∷ lane_parts (suc i) n
 
 -- the opening view, of which the first seats are cut
-abbrev pub first_view : Layout → SeatView
-first_view l =
+abbrev pub first_view : Layout → Setting → SeatView
+first_view l g =
     record {
       own = empty_part None;
       others = lane_parts 0 l.shape.lanes;
       inside = None;
       moves = l.shape.lanes * l.moves;
       turns = l.shape.lanes * l.turns;
-      grounds = None;
+      setting = Some g;
     }
 
 -- what is left of the opening view, with n lanes from the lane i on
-abbrev pub rest_view : Layout → ℕ → ℕ → Grounds → SeatView
+abbrev pub rest_view : Layout → ℕ → ℕ → Setting → SeatView
 rest_view l i n g =
     record {
       own = empty_part None;
@@ -65,11 +74,11 @@ rest_view l i n g =
       inside = None;
       moves = n * l.moves;
       turns = n * l.turns;
-      grounds = Some g;
+      setting = Some g;
     }
 
 -- the view of the first seat of lane i
-abbrev pub lane_view : Layout → ℕ → Grounds → SeatView
+abbrev pub lane_view : Layout → ℕ → Setting → SeatView
 lane_view l i g =
     record {
       own = empty_part (Some i);
@@ -77,7 +86,7 @@ lane_view l i g =
       inside = None;
       moves = l.moves;
       turns = l.turns;
-      grounds = Some g;
+      setting = Some g;
     }
 
 abbrev pub first_of : List Part → Part
@@ -102,7 +111,7 @@ first_lane v =
       inside = None;
       moves = share v.moves v.others;
       turns = share v.turns v.others;
-      grounds = v.grounds;
+      setting = v.setting;
     }
 
 abbrev pub rest_of_lanes : SeatView → SeatView
@@ -114,49 +123,13 @@ rest_of_lanes v =
     }
 
 abbrev pub blank_beside : SeatView → SeatView
-blank_beside v = blank v.grounds
-
-abbrev pub with_grounds : SeatView → Grounds → SeatView
-with_grounds v g = record v { grounds = Some g }
+blank_beside v = blank v.setting
 
 -- a seat in no section, which holds no home value
 abbrev pub IsFree : {H : Type 0} → Me (Option H) SeatView → Type 0
 IsFree me = (me.0.inside ≡ None) × (me.1 ≡ [])
 
--- the root of generation g is present at the place p whose history is h
-abbrev pub IsPresentIn : ℕ → ℕ → List Noted → Type 0
-IsPresentIn p g h = (r : RootId) × (root_after p h ≡ Some r) × (r.place ≡ p) × (r.generation ≡ g)
-
-abbrev pub IsVacantIn : ℕ → List Noted → Type 0
-IsVacantIn p h = root_after p h ≡ None
-
--- what the history of a root place tells a view: the present root is the one that it counts, or that it ended and whose
--- end it hasn't noted; the place in hand is vacant, where no birth waits
-pub record TellsRoot (p : ℕ) (v : SeatView) (h : List Noted) : Type 0 where
-  pub counted : (g : ℕ) → HasCount p g v → IsPresentIn p g h
-  pub ended : (g : ℕ) → HasToken p g v → weigh (at_end p g) v ≡ 0 → IsPresentIn p g h
-  pub in_hand : InHand p v → NoneWaits p v → IsVacantIn p h
-
--- what a seat that got into the section of o learns: the history h, for which the home value x stands
-pub record Enters {H : Type 0}
-    (stands : List ℕ → Grounds → List Noted → H → Type 0) (l : Layout) (o : Object) (v : SeatView) (h : List Noted) (x : H) :
-    Type 0 where
-  pub accepted : IsHistory l.shape o h
-  pub stands_for : IfSome v.grounds (λ (g : Grounds). stands (measures_of l.shape o) g h x)
-  pub short : length h < 4611686018427387904
-  pub root : (p : ℕ) → o ≡ Root p → TellsRoot p v h
-  -- a taking in hand is out of its arena, once
-  pub arena : (a t : ℕ) (x : ArenaState) → o ≡ Arena a → IsArenaAfter l.shape a h x → HasRegion a t v →
-      sum_by (is_taking a t) x.out ≡ 1
-  -- no place in hand is in the bin
-  pub bin : (b p : ℕ) (m : List ℕ) → o ≡ Bin b → IsBinAfter l.shape b h m →
-      p < l.shape.lanes * l.shape.handles → InHand p v → count_by (λ (x : ℕ). x == p) m ≡ 0
-  -- a numbered seat's own notes are those of the history that have its number
-  pub own : (m : ℕ) → v.own.number ≡ Some m →
-      filter_map noted_of (filter (is_about l.shape (home_of l.shape o)) v.own.notes)
-      ≡ filter (λ (n : Noted). is_lane m n.lane) h
-
-module _ {H : Type 0} (stands : List ℕ → Grounds → List Noted → H → Type 0) (l : Layout) (o : Object) where
+module _ {H : Type 0} (stands : List ℕ → Setting → List Noted → H → Type 0) (l : Layout) (o : Object) where
   -- it got in
   abbrev pub GotIn : ℕ → Me (Option H) SeatView → ℕ → Me (Option H) SeatView → Type 0
   GotIn slot me found after =
@@ -164,13 +137,13 @@ module _ {H : Type 0} (stands : List ℕ → Grounds → List Noted → H → Ty
       × (after.1 ≡ (slot, Some x) ∷ me.1) × Enters stands l o me.0 h x
 
   -- it got in where the word was even, and else another view was in the section
-  abbrev pub claims : Step (Option H) → Me (Option H) SeatView → ℕ → Me (Option H) SeatView → Type 0
+  abbrev pub claims : Told H
   claims s me found after =
       (found % 2 ≡ 0 → GotIn (home_of l.shape o) me found after)
       × (found % 2 ≡ 1 → (after.0 ≡ me.0) × (after.1 ≡ me.1) × WasHeld stands l o (found / 2) me.0)
 
   -- the same, with a busy mark
-  abbrev pub marks_claims : Step (Option H) → Me (Option H) SeatView → ℕ → Me (Option H) SeatView → Type 0
+  abbrev pub marks_claims : Told H
   marks_claims s me found after =
       (found % 2 ≡ 0 → GotIn (home_of l.shape o) me found after)
       × (found % 2 ≡ 1 →
@@ -179,42 +152,47 @@ module _ {H : Type 0} (stands : List ℕ → Grounds → List Noted → H → Ty
 
 module _ {H : Type 0} where
   -- the note that is named, by this seat, at the next number of the section's object
-  abbrev pub dones : Noted → Step (Option H) → Me (Option H) SeatView → ℕ → Me (Option H) SeatView → Type 0
+  abbrev pub dones : Noted → Told H
   dones note s me found after =
       IfSome me.0.inside (λ (x : Inside).
       (found ≡ 2 * x.number + 1)
       × (after.0
-      ≡ with_entry me.0 (At x.object (x.number + 1) (noted_by me.0.own.number note)) (me.0.turns - 1))
+      ≡ with_entry me.0
+      (At x.object (x.number + 1) (noted_by me.0.own.number note)) (me.0.turns - 1))
       × (after.1 ≡ rest me.1))
 
-  abbrev pub idles : Step (Option H) → Me (Option H) SeatView → ℕ → Me (Option H) SeatView → Type 0
+  abbrev pub idles : Told H
   idles s me found after =
       IfSome me.0.inside (λ (x : Inside).
       (found ≡ 2 * x.number + 1) × (after.0 ≡ left me.0) × (after.1 ≡ rest me.1))
 
-  abbrev pub learns : Step (Option H) → Me (Option H) SeatView → ℕ → Me (Option H) SeatView → Type 0
-  learns s me found after = (g : Grounds) × (after.0 ≡ with_grounds me.0 g) × (after.1 ≡ me.1)
-
   -- steps on the word of a root
-  abbrev pub retains : RootId → Step (Option H) → Me (Option H) SeatView → ℕ → Me (Option H) SeatView → Type 0
+  abbrev pub retains : RootId → Told H
   retains r s me found after = after ≡ (with_ref me.0 r Retain (me.0.moves - 1), me.1)
 
-  abbrev pub looks : RootId → Step (Option H) → Me (Option H) SeatView → ℕ → Me (Option H) SeatView → Type 0
+  abbrev pub looks : RootId → Told H
   looks r s me found after =
       after ≡ (with_ref me.0 r (Look (found % 4294967296 / 2)) me.0.moves, me.1)
 
   -- the release that found the raw count 2 ends it
-  abbrev pub releases : RootId → Step (Option H) → Me (Option H) SeatView → ℕ → Me (Option H) SeatView → Type 0
+  abbrev pub releases : RootId → Told H
   releases r s me found after =
-      (found % 4294967296 ≡ 2 → after ≡ (with_ref me.0 r Ended me.0.moves, me.1))
+      (found % 4294967296 ≡ 2 →
+      (after ≡ (with_ref me.0 r Ended me.0.moves, me.1))
+      × HasToken r (with_ref me.0 r Ended me.0.moves)
+      × HasNoEnd r (with_ref me.0 r Ended me.0.moves))
       × (found % 4294967296 ≢ 2 → after ≡ (with_ref me.0 r Kept me.0.moves, me.1))
 
-  abbrev pub vacates : RootId → Step (Option H) → Me (Option H) SeatView → ℕ → Me (Option H) SeatView → Type 0
-  vacates r s me found after = after ≡ (with_ref me.0 r Vacated me.0.moves, me.1)
+  abbrev pub vacates : RootId → Told H
+  vacates r s me found after =
+      (after ≡ (with_ref me.0 r Vacated me.0.moves, me.1))
+      × InHand r.place (with_ref me.0 r Vacated me.0.moves)
 
   -- the birth of the next root at a vacant place
-  abbrev pub births : RootId → Step (Option H) → Me (Option H) SeatView → ℕ → Me (Option H) SeatView → Type 0
+  abbrev pub births : RootId → Told H
   births r s me found after =
       let root : RootId =
       record { place = r.place; generation = found / 4294967296 + 1; capacity = r.capacity } in
       (found / 4294967296 < 1073741824) × (after ≡ (with_ref me.0 root Born (me.0.moves - 1), me.1))
+      × HasCount root (with_ref me.0 root Born (me.0.moves - 1))
+      × ((q : RootId) → q.place ≡ r.place → q.capacity ≡ r.capacity → Waits q me.0 → root ≡ q)

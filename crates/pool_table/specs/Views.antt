@@ -1,5 +1,5 @@
 -- What is read off a view.
-use Rattle.ground.specs.Grounds.{Grounds}
+use Rattle.step_law.specs.Settings.{Setting}
 use Rattle.std.specs.Prelude.{ℕ, ◌+◌, ◌==◌, Bool, true, false, cond, List, [], ◌∷◌, ◌++◌, map, Option, Some, None, filter, sum_by, count_by}
 use Rattle.pool_law.specs.declared.run.Shape.{Shape}
 use Rattle.pool_law.specs.declared.note.Noted.{Noted}
@@ -34,8 +34,8 @@ abbrev pub is_lane : ℕ → Option ℕ → Bool
 is_lane m (Some k) = k == m
 is_lane m None = false
 
--- a view as the object with the home i sees it: of each part the entries on that object, and the section if it is on
--- that object
+-- a view as the object with the home i sees it: of each part the entries on that object, and the
+-- section if it is on that object
 pub record Face : Type 0 where
   pub parts : List Part
   pub inside : Option Inside
@@ -98,9 +98,16 @@ spent v = sum_by (λ (p : Part). count_by is_at p.notes) (parts_of v) + v.turns
 abbrev pub empty_part : Option ℕ → Part
 empty_part n = record { number = n; notes = [] }
 
-abbrev pub blank : Option Grounds → SeatView
-blank grounds =
-    record { own = empty_part None; others = []; inside = None; moves = 0; turns = 0; grounds = grounds }
+abbrev pub blank : Option Setting → SeatView
+blank setting =
+    record {
+      own = empty_part None;
+      others = [];
+      inside = None;
+      moves = 0;
+      turns = 0;
+      setting = setting;
+    }
 
 abbrev pub entered : SeatView → Object → List Noted → ℕ → SeatView
 entered v o h n = record v { inside = Some (record { object = o; number = n; history = h }) }
@@ -111,8 +118,16 @@ left v = record v { inside = None }
 -- the view with one entry more
 abbrev pub with_entry : SeatView → Entry → ℕ → SeatView
 with_entry v e turns =
-    record v { own = record { number = v.own.number; notes = v.own.notes ++ e ∷ [] }; inside = None; turns = turns }
+    record v {
+      own = record { number = v.own.number; notes = v.own.notes ++ e ∷ [] };
+      inside = None;
+      turns = turns;
+    }
 
 abbrev pub joined : SeatView → SeatView → SeatView
 joined v w =
-    record v { others = v.others ++ parts_of w; moves = v.moves + w.moves; turns = v.turns + w.turns }
+    record v {
+      others = v.others ++ parts_of w;
+      moves = v.moves + w.moves;
+      turns = v.turns + w.turns;
+    }

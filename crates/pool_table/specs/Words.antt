@@ -1,6 +1,6 @@
--- Where a table's words lie. They are listed in the order of the objects' homes, then one for the count of each root
--- place. `lies` alone says where a listed word lies. Proofs know of it only that each word of the list has a place of its
--- own among the table's words.
+-- Where a table's words lie. They are listed in the order of the objects' homes, then one for the
+-- count of each root place. `lies` alone says where a listed word lies. Proofs know of it only that
+-- each word of the list has a place of its own among the table's words.
 use Rattle.std.specs.Prelude.{◌≡◌, ℕ, ◌+◌, ◌-◌, ◌*◌, ◌/◌, ◌%◌, ◌<◌, nat_lt, cond, List, length, slice_index}
 use Rattle.pool_law.specs.declared.run.Shape.{Shape}
 use Rattle.pool_law.specs.declared.note.Object.{Object}
@@ -17,8 +17,8 @@ single_of s = s.arenas + s.lanes * 41 + s.lanes * s.lanes
 abbrev pub padding : Shape → ℕ
 padding s = (16 - s.handles % 16) % 16
 
--- single words lie 16 words apart, so that no two of them share a cache line; behind them the words of root places, then
--- those of counts, are packed, each lane's from a multiple of 16 on
+-- single words lie 16 words apart, so that no two of them share a cache line; behind them the words
+-- of root places, then those of counts, are packed, each lane's from a multiple of 16 on
 abbrev pub lies : Shape → ℕ → ℕ
 lies s i =
     cond (nat_lt i (single_of s))

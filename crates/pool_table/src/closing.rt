@@ -15,8 +15,9 @@ use std::alloc::Global;
 use step_law::Told;
 
 impl<H: Told<Note = Noted>> PoolTable<H> {
-    /// The home values in the order of the objects, each there, and the words: those of the objects in the same
-    /// order, then those of the counts by root place. The seat has the parts of all lanes, so no section is open.
+    /// The home values in the order of the objects, each there, and the words: those of the objects
+    /// in the same order, then those of the counts by root place. The seat has the parts of all
+    /// lanes, so no section is open.
     pub fn close_with(self, seat: PoolSeat<H>) -> (Vec<Option<H>>, Vec<u64>)
         requires own { IsSeatOf self seat }
         requires outside { IsOutside seat }
@@ -45,7 +46,8 @@ fn take_words<S>(closed: &Closed<S, Global>, shape: &Shape, mut words: Vec<u64>)
     requires room { (words.items ≡ []) × (listed_of shape.now ≤ vec_capacity words) }
     ensures many { length result.items ≡ listed_of shape.now }
     ensures laid { (k : ℕ) → k < listed_of shape.now →
-        slice_index result.items k ≡ slice_index (slots_items closed.now.words) (word_at shape.now k) }
+        slice_index result.items k
+        ≡ slice_index (slots_items closed.now.words) (word_at shape.now k) }
 {
     let count = listed_count(shape);
     for i in 0..count {

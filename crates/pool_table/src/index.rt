@@ -1,6 +1,7 @@
 //! Where an object's word and slot are.
 ghost use Rattle.std.specs.Prelude.{◌≡◌, ◌≤◌, ◌<◌, ◌*◌};
 ghost use Rattle.pool_law.specs.Homes.{home_of, objects_of, IsObjectOf};
+ghost use Rattle.pool_law.specs.declared.note.Object.TheVariants.{Root};
 ghost use Rattle.pool_table.specs.Sound.{IsShape};
 ghost use Rattle.pool_table.specs.Words.{listed_of, word_at, words_of, count_word_of};
 
@@ -65,6 +66,36 @@ pub(crate) fn word_index(shape: &Shape, listed: usize) -> usize
         return single * 16 + packed;
     }
     single * 16 + (packed + packed / handles * padding)
+}
+
+/// Where the word of a root's count lies. No root is at a place that the shape doesn't have, and no
+/// step is made there; for such a place the answer is the first word.
+pub(crate) fn root_index(shape: &Shape, place: u32) -> usize
+    requires shape { IsShape shape.now }
+    ensures within { result < words_of shape.now }
+    ensures there { place < shape.now.lanes * shape.now.handles →
+        result ≡ count_word_of shape.now place }
+{
+    if place < shape.lanes * shape.handles {
+        count_index(shape, place)
+    } else {
+        0
+    }
+}
+
+/// Where the slot of a root place is. No place is claimed that the shape doesn't have; for such a place
+/// the answer is the first slot.
+pub(crate) fn place_index(shape: &Shape, place: u32) -> usize
+    requires shape { IsShape shape.now }
+    ensures within { result < objects_of shape.now }
+    ensures there { place < shape.now.lanes * shape.now.handles →
+        result ≡ home_of shape.now (Root place) }
+{
+    if place < shape.lanes * shape.handles {
+        home_index(shape, Object::Root(place))
+    } else {
+        0
+    }
 }
 
 /// Where the word of a root place's count lies.

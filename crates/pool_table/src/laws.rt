@@ -1,19 +1,35 @@
 //! Laws of the sound table. Each is the contract of a function that does nothing.
 
 ghost use Rattle.pool_table.specs.declared.views.Layout.{Layout};
-ghost use Rattle.pool_table.specs.Holders.{PlacesInOneHand, PlacesInOnePlace, TakingsInOneHand, TakingsInOneHold};
+ghost use Rattle.pool_table.specs.Holders.{
+  PlacesInOneHand,
+  PlacesInOnePlace,
+  RootsBornAlone,
+  RootsBornAsNamed,
+  TakingsInOneHand,
+  TakingsInOneHold,
+};
 
 use pool_law::Noted;
 use step_law::Told;
 
-/// Between any two steps a vacant root place is in its bin or in one seat's hands, and no other place is in either.
+/// Between any two steps a vacant root place is in its bin or in one seat's hands, and no other
+/// place is in either.
 pub fn places_have_one_holder<H: Told<Note = Noted>>()
     ensures one_hand { (l : Layout) → PlacesInOneHand H.stands l }
     ensures one_place { (l : Layout) → PlacesInOnePlace H.stands l }
 {}
 
-/// Between any two steps a taking that is out of its arena is in one seat's hands, in one cache or at one root place.
+/// Between any two steps a taking that is out of its arena is in one seat's hands, in one cache or
+/// at one root place.
 pub fn takings_have_one_holder<H: Told<Note = Noted>>()
     ensures one_hand { (l : Layout) → TakingsInOneHand H.stands l }
     ensures one_hold { (l : Layout) → TakingsInOneHold H.stands l }
+{}
+
+/// Between any two steps each root that a seat counts or ended was born as it names it, and no two
+/// roots of one place and generation were born.
+pub fn roots_have_one_name<H: Told<Note = Noted>>()
+    ensures named { (l : Layout) → RootsBornAsNamed H.stands l }
+    ensures alone { (l : Layout) → RootsBornAlone H.stands l }
 {}

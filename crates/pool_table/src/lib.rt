@@ -1,13 +1,16 @@
 #![tactic(auto)]
-//! The table of words through which threads share a pool: sections on its objects, and the counts of its roots.
+//! The table of words through which threads share a pool: sections on its objects, and the counts
+//! of its roots.
 //!
-//! Each step is one atomic step on one word. Between any two steps the table is sound (`specs/Sound.antt`).
+//! Each step is one atomic step on one word. Between any two steps the table is sound
+//! (`specs/Sound.antt`).
 
 mod closing;
 mod index;
 pub mod laws;
 mod making;
 mod opening;
+mod root_sections;
 mod root_words;
 mod roots;
 mod rule;
@@ -17,9 +20,10 @@ mod sections;
 mod table;
 #[cfg(test)]
 mod tests;
+mod tokens;
 mod views;
 
 pub use roots::{Dropped, EndToken};
-pub use rule::{Blanks, Claiming, Claims, Dones, Idles, Joins, Learns, MarksClaims, Rule};
+pub use rule::{Blanks, Claiming, Claims, Dones, Idles, Joins, MarksClaims, Opening, Rule};
 pub use table::{PoolSeat, PoolTable, Section};
-pub use views::{Entry, GroundList, Inside, Layout, Part, SeatView};
+pub use views::{Entry, Fixed, Inside, Layout, Part, SeatView};

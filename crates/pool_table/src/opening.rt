@@ -1,6 +1,5 @@
 //! How a table is made, and its first seats.
 
-ghost use Rattle.ground.specs.Grounds.{Grounds};
 ghost use Rattle.std.specs.Prelude.{◌≡◌, ◌*◌, ◌<◌, ◌≤◌, ◌^◌, [], length, IfOk, IfErr, vec_capacity};
 ghost use Rattle.pool_law.specs.Homes.{objects_of};
 ghost use Rattle.pool_table.specs.Words.{listed_of, IsOpening};
@@ -10,12 +9,13 @@ ghost use Rattle.pool_table.specs.Opened.{AreFirstSeats, StandAtFirst};
 
 use crate::index::{listed_count, object_count};
 use crate::making::{opening_words, unwrapped, wrapped};
-use crate::rule::{Cuts, Learns};
+use crate::rule::{Cuts, Opening};
 use crate::table::{PoolSeat, PoolTable};
 use crate::views::{Layout, SeatView};
 use atomic_table::{Refused, Seat, Table};
 use pool_law::{Noted, Shape};
 use std::alloc::{AllocError, Global};
+use std::snapshot::Snapshot;
 use step_law::Told;
 
 // All memory that a table takes.
@@ -30,10 +30,14 @@ struct Room<H: Told<Note = Noted>> {
 fn take_room<H: Told<Note = Noted>>(alloc: Global, shape: &Shape) -> Result<Room<H>, AllocError>
     requires { IsShape shape.now }
     ensures words { IfOk result (λ r. IsOpening shape.now r.words.items) }
-    ensures slots { IfOk result (λ r. (r.slots.items ≡ []) × (objects_of shape.now ≤ vec_capacity r.slots)) }
-    ensures spare_words { IfOk result (λ r. (r.spare_words.items ≡ []) × (listed_of shape.now ≤ vec_capacity r.spare_words)) }
-    ensures spare_homes { IfOk result (λ r. (r.spare_homes.items ≡ []) × (objects_of shape.now ≤ vec_capacity r.spare_homes)) }
-    ensures seats { IfOk result (λ r. (r.seats.items ≡ []) × (shape.now.lanes ≤ vec_capacity r.seats)) }
+    ensures slots { IfOk result (λ r.
+        (r.slots.items ≡ []) × (objects_of shape.now ≤ vec_capacity r.slots)) }
+    ensures spare_words { IfOk result (λ r.
+        (r.spare_words.items ≡ []) × (listed_of shape.now ≤ vec_capacity r.spare_words)) }
+    ensures spare_homes { IfOk result (λ r.
+        (r.spare_homes.items ≡ []) × (objects_of shape.now ≤ vec_capacity r.spare_homes)) }
+    ensures seats { IfOk result (λ r.
+        (r.seats.items ≡ []) × (shape.now.lanes ≤ vec_capacity r.seats)) }
 {
     let objects = object_count(shape);
     let count = listed_count(shape);
@@ -66,11 +70,12 @@ impl<H: Told<Note = Noted>> PoolTable<H> {
         mut seats: Vec<PoolSeat<H>>,
     ) -> Vec<PoolSeat<H>>
         requires own { rest.table_id ≡ self.now.table.shared.table_id }
-        requires rest { rest.me ≡ (first_view self.now.layout, []) }
+        requires rest { let homes = self.now.table.shared.key.homes.value in
+            rest.me ≡ (first_view self.now.layout (H.settles homes.items), []) }
         requires room { (seats.items ≡ []) × (self.now.layout.shape.lanes ≤ vec_capacity seats) }
-        ensures { AreFirstSeats self.now.layout self.now result.items }
+        ensures { let homes = self.now.table.shared.key.homes.value in
+            AreFirstSeats self.now.layout (H.settles homes.items) self.now result.items }
     {
-        self.table.shared.load::<Learns>(&mut rest, 0);
         for i in 0..self.layout.shape.lanes {
             let seat = self.table.shared.split_seat::<Cuts>(&mut rest);
             let pushed = seats.push(PoolSeat {
@@ -82,8 +87,8 @@ impl<H: Told<Note = Noted>> PoolTable<H> {
         seats
     }
 
-    /// A table with one home value for each object, and a seat for each lane. It takes all memory that a table needs.
-    /// Where memory is refused, the home values come back.
+    /// A table with one home value for each object, and a seat for each lane. It takes all memory
+    /// that a table needs. Where memory is refused, the home values come back.
     pub fn new(
         alloc: Global,
         layout: Layout,
@@ -91,11 +96,12 @@ impl<H: Told<Note = Noted>> PoolTable<H> {
     ) -> Result<(PoolTable<H>, Vec<PoolSeat<H>>), Vec<H>>
         requires shape { IsShape layout.shape }
         requires homes { length homes.items ≡ objects_of layout.shape }
-        requires stand { (g : Grounds) × StandAtFirst H.stands layout.shape g homes.items }
+        requires stand { StandAtFirst H.stands layout.shape (H.settles homes.items) homes.items }
         requires moves { layout.shape.lanes * layout.moves < 2 ^ 30 }
         requires turns { layout.shape.lanes * layout.turns < 2 ^ 62 }
         ensures layout { IfOk result (λ r. r.0.layout ≡ layout) }
-        ensures seats { IfOk result (λ r. AreFirstSeats layout r.0 r.1.items) }
+        ensures seats { IfOk result (λ r.
+            AreFirstSeats layout (H.settles homes.items) r.0 r.1.items) }
         ensures err { IfErr result (λ h. h.items ≡ homes.items) }
     {
         let Ok(room) = take_room(alloc, &layout.shape) else {
@@ -108,8 +114,12 @@ impl<H: Told<Note = Noted>> PoolTable<H> {
             spare_homes,
             seats,
         } = room;
+        let opening = Opening {
+            layout,
+            homes: Snapshot::of(&homes),
+        };
         let slots = wrapped(&mut homes, slots);
-        match Table::new(alloc, words.as_slice(), slots, &layout) {
+        match Table::new(alloc, words.as_slice(), slots, &opening) {
             Ok((table, rest)) => {
                 homes.destroy_empty();
                 let table = PoolTable {

@@ -1,4 +1,5 @@
-//! The one atomic step of each call on the word of a root's count. The answer is the word that it found.
+//! The one atomic step of each call on the word of a root's count. The answer is the word that it
+//! found.
 
 ghost use Rattle.std.specs.Prelude.{◌≡◌, ◌-◌, ◌%◌, ◌/◌, ◌<◌, None};
 ghost use mathlib.Core.Option.{none};
@@ -7,11 +8,10 @@ ghost use Rattle.pool_law.specs.Homes.{objects_of};
 ghost use Rattle.pool_law.specs.declared.note.RefDid.TheVariants.{Retain, Look, Vacated};
 ghost use Rattle.pool_table.specs.Words.{count_word_of};
 ghost use Rattle.pool_table.specs.Counts.{HasCount, HasToken, with_ref};
-ghost use Rattle.pool_table.specs.Hands.{HasEnded, InHand, IsBearing, Expects};
-ghost use Rattle.pool_table.specs.Seats.{IsRootOf};
+ghost use Rattle.pool_table.specs.Hands.{HasEnded, InHand, IsAwaited};
 ghost use Rattle.pool_table.specs.Steps.{births, releases};
 
-use crate::index::count_index;
+use crate::index::root_index;
 use crate::rule::{Births, Looks, Releases, Retains, Rooted, Vacates};
 use crate::table::PoolTable;
 use crate::views::SeatView;
@@ -28,17 +28,15 @@ impl<H: Told<Note = Noted>> PoolTable<H> {
         requires named { R.root ≡ root }
         requires own { seat.old.table_id ≡ self.now.table.shared.table_id }
         requires outside { seat.old.me.0.inside ≡ None }
-        requires place { IsRootOf self.now.layout.shape root }
         requires hand { InHand root.place seat.old.me.0 }
-        requires bearing { IsBearing root.place seat.old.me.0 }
-        requires capacity { Expects root.place root.capacity seat.old.me.0 }
+        requires waits { IsAwaited root.place root.capacity seat.old.me.0 }
         requires moves { 0 < seat.old.me.0.moves }
         ensures same { (seat.new.table_id ≡ seat.old.table_id) × (seat.new.id ≡ seat.old.id) }
         ensures told { let shape = self.now.layout.shape in
             let s = step (objects_of shape) (count_word_of shape root.place) 4294967297 0 none in
             births root s seat.old.me result seat.new.me }
     {
-        let word = count_index(&self.layout.shape, root.place);
+        let word = root_index(&self.layout.shape, root.place);
         self.table
             .shared
             .fetch_add::<Births<R>>(seat, word, (1 << 32) + 1)
@@ -52,13 +50,13 @@ impl<H: Told<Note = Noted>> PoolTable<H> {
         requires named { R.root ≡ root }
         requires own { seat.old.table_id ≡ self.now.table.shared.table_id }
         requires outside { seat.old.me.0.inside ≡ None }
-        requires place { IsRootOf self.now.layout.shape root }
-        requires counts { HasCount root.place root.generation seat.old.me.0 }
+        requires counts { HasCount root seat.old.me.0 }
         requires moves { 0 < seat.old.me.0.moves }
         ensures same { (seat.new.table_id ≡ seat.old.table_id) × (seat.new.id ≡ seat.old.id) }
-        ensures noted { seat.new.me ≡ (with_ref seat.old.me.0 root Retain (seat.old.me.0.moves - 1), seat.old.me.1) }
+        ensures noted { let v = seat.old.me.0 in
+            seat.new.me ≡ (with_ref v root Retain (v.moves - 1), seat.old.me.1) }
     {
-        let word = count_index(&self.layout.shape, root.place);
+        let word = root_index(&self.layout.shape, root.place);
         self.table.shared.fetch_add::<Retains<R>>(seat, word, 2)
     }
 
@@ -70,15 +68,14 @@ impl<H: Told<Note = Noted>> PoolTable<H> {
         requires named { R.root ≡ root }
         requires own { seat.old.table_id ≡ self.now.table.shared.table_id }
         requires outside { seat.old.me.0.inside ≡ None }
-        requires place { IsRootOf self.now.layout.shape root }
-        requires counts { HasCount root.place root.generation seat.old.me.0 }
+        requires counts { HasCount root seat.old.me.0 }
         ensures same { (seat.new.table_id ≡ seat.old.table_id) × (seat.new.id ≡ seat.old.id) }
         ensures number { seat.new.me.0.own.number ≡ seat.old.me.0.own.number }
         ensures told { let shape = self.now.layout.shape in
             let s = step (objects_of shape) (count_word_of shape root.place) 2 0 none in
             releases root s seat.old.me result seat.new.me }
     {
-        let word = count_index(&self.layout.shape, root.place);
+        let word = root_index(&self.layout.shape, root.place);
         self.table.shared.fetch_sub::<Releases<R>>(seat, word, 2)
     }
 
@@ -90,13 +87,14 @@ impl<H: Told<Note = Noted>> PoolTable<H> {
         requires named { R.root ≡ root }
         requires own { seat.old.table_id ≡ self.now.table.shared.table_id }
         requires outside { seat.old.me.0.inside ≡ None }
-        requires place { IsRootOf self.now.layout.shape root }
-        requires token { HasToken root.place root.generation seat.old.me.0 }
-        requires ended { HasEnded root.place root.generation seat.old.me.0 }
+        requires token { HasToken root seat.old.me.0 }
+        requires ended { HasEnded root seat.old.me.0 }
         ensures same { (seat.new.table_id ≡ seat.old.table_id) × (seat.new.id ≡ seat.old.id) }
-        ensures noted { seat.new.me ≡ (with_ref seat.old.me.0 root Vacated seat.old.me.0.moves, seat.old.me.1) }
+        ensures hand { InHand root.place seat.new.me.0 }
+        ensures noted { let v = seat.old.me.0 in
+            seat.new.me ≡ (with_ref v root Vacated v.moves, seat.old.me.1) }
     {
-        let word = count_index(&self.layout.shape, root.place);
+        let word = root_index(&self.layout.shape, root.place);
         self.table.shared.fetch_add::<Vacates<R>>(seat, word, 1)
     }
 
@@ -108,13 +106,12 @@ impl<H: Told<Note = Noted>> PoolTable<H> {
         requires named { R.root ≡ root }
         requires own { seat.old.table_id ≡ self.now.table.shared.table_id }
         requires outside { seat.old.me.0.inside ≡ None }
-        requires place { IsRootOf self.now.layout.shape root }
-        requires counts { HasCount root.place root.generation seat.old.me.0 }
+        requires counts { HasCount root seat.old.me.0 }
         ensures same { (seat.new.table_id ≡ seat.old.table_id) × (seat.new.id ≡ seat.old.id) }
         ensures noted { let look = Look (result % 4294967296 / 2) in
             seat.new.me ≡ (with_ref seat.old.me.0 root look seat.old.me.0.moves, seat.old.me.1) }
     {
-        let word = count_index(&self.layout.shape, root.place);
+        let word = root_index(&self.layout.shape, root.place);
         self.table.shared.load::<Looks<R>>(seat, word)
     }
 }

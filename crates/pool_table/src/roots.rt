@@ -1,13 +1,15 @@
 //! The counts of roots: births, retains, looks, releases, and the vacating of a place.
 //!
-//! A count's word has the root's generation in its high half and a raw count in its low half: twice the count while
-//! the root is live, 0 from the release that ended it on, and 1 once its place is vacant.
+//! A count's word has the root's generation in its high half and a raw count in its low half: twice
+//! the count while the root is live, 0 from the release that ended it on, and 1 once its place is
+//! vacant.
 
 ghost use Rattle.std.specs.Prelude.{◌≡◌, ◌-◌, ◌<◌};
+ghost use Rattle.pool_law.specs.declared.id.RootId.{RootId};
 ghost use Rattle.pool_law.specs.declared.note.RefDid.TheVariants.{Born, Retain, Look, Vacated};
 ghost use Rattle.pool_table.specs.Counts.{HasCount, HasToken, with_ref};
-ghost use Rattle.pool_table.specs.Hands.{HasEnded, InHand, IsBearing, Expects};
-ghost use Rattle.pool_table.specs.Seats.{view_of, IsSeatOf, IsOutside, HasView, SameSeat, IsRootOf, IsPlaceOf};
+ghost use Rattle.pool_table.specs.Hands.{HasEnded, InHand, IsAwaited, Waits};
+ghost use Rattle.pool_table.specs.Seats.{view_of, IsSeatOf, IsOutside, HasView, SameSeat};
 ghost use Rattle.pool_table.specs.Dropping.{IsDroppedAs};
 
 use crate::table::{PoolSeat, PoolTable};
@@ -15,7 +17,8 @@ use pool_law::{Noted, RootId};
 use std::marker::Brand;
 use step_law::Told;
 
-/// The right to note the end of a root whose count has ended, and to vacate its place. It must be spent.
+/// The right to note the end of a root whose count has ended, and to vacate its place. It must be
+/// spent.
 pub struct EndToken {
     pub(crate) root: RootId,
 }
@@ -27,19 +30,22 @@ pub enum Dropped {
 }
 
 impl<H: Told<Note = Noted>> PoolTable<H> {
-    /// The birth of the next root at a place that the seat has in its hands, after the note of that birth.
+    /// The birth of the next root at a place that the seat has in its hands, after the note of that
+    /// birth.
     pub fn birth(&self, seat: &mut PoolSeat<H>, place: u32, capacity: u32) -> RootId
         requires own { IsSeatOf self.now seat.old }
         requires outside { IsOutside seat.old }
-        requires place { IsPlaceOf self.now.layout.shape place }
         requires hand { InHand place (view_of seat.old) }
-        requires bearing { IsBearing place (view_of seat.old) }
-        requires capacity { Expects place capacity (view_of seat.old) }
+        requires waits { IsAwaited place capacity (view_of seat.old) }
         requires moves { 0 < (view_of seat.old).moves }
         ensures same { SameSeat seat.old seat.new }
         ensures place { result.place ≡ place }
         ensures capacity { result.capacity ≡ capacity }
-        ensures noted { let v = view_of seat.old in HasView seat.new (with_ref v result Born (v.moves - 1)) }
+        ensures root { (r : RootId) → r.place ≡ place → r.capacity ≡ capacity →
+            Waits r (view_of seat.old) → result ≡ r }
+        ensures counts { HasCount result (view_of seat.new) }
+        ensures noted { let v = view_of seat.old in
+            HasView seat.new (with_ref v result Born (v.moves - 1)) }
     {
         let root = RootId {
             place,
@@ -58,21 +64,21 @@ impl<H: Told<Note = Noted>> PoolTable<H> {
     pub fn retain(&self, seat: &mut PoolSeat<H>, root: RootId)
         requires own { IsSeatOf self.now seat.old }
         requires outside { IsOutside seat.old }
-        requires place { IsRootOf self.now.layout.shape root }
-        requires counts { HasCount root.place root.generation (view_of seat.old) }
+        requires counts { HasCount root (view_of seat.old) }
         requires moves { 0 < (view_of seat.old).moves }
         ensures same { SameSeat seat.old seat.new }
-        ensures noted { let v = view_of seat.old in HasView seat.new (with_ref v root Retain (v.moves - 1)) }
+        ensures noted { let v = view_of seat.old in
+            HasView seat.new (with_ref v root Retain (v.moves - 1)) }
     {
         self.retain_word::<Brand>(&mut seat.seat, root);
     }
 
-    /// One count less of a root that the seat counts. The release that finds one count left ends the root.
+    /// One count less of a root that the seat counts. The release that finds one count left ends
+    /// the root.
     pub fn release(&self, seat: &mut PoolSeat<H>, root: RootId) -> Dropped
         requires own { IsSeatOf self.now seat.old }
         requires outside { IsOutside seat.old }
-        requires place { IsRootOf self.now.layout.shape root }
-        requires counts { HasCount root.place root.generation (view_of seat.old) }
+        requires counts { HasCount root (view_of seat.old) }
         ensures same { SameSeat seat.old seat.new }
         ensures outside { IsOutside seat.new }
         ensures noted { IsDroppedAs result root (view_of seat.old) (view_of seat.new) }
@@ -89,11 +95,12 @@ impl<H: Told<Note = Noted>> PoolTable<H> {
     pub fn vacate(&self, seat: &mut PoolSeat<H>, token: EndToken)
         requires own { IsSeatOf self.now seat.old }
         requires outside { IsOutside seat.old }
-        requires place { IsRootOf self.now.layout.shape token.root }
-        requires token { HasToken token.root.place token.root.generation (view_of seat.old) }
-        requires ended { HasEnded token.root.place token.root.generation (view_of seat.old) }
+        requires token { HasToken token.root (view_of seat.old) }
+        requires ended { HasEnded token.root (view_of seat.old) }
         ensures same { SameSeat seat.old seat.new }
-        ensures noted { let v = view_of seat.old in HasView seat.new (with_ref v token.root Vacated v.moves) }
+        ensures hand { InHand token.root.place (view_of seat.new) }
+        ensures noted { let v = view_of seat.old in
+            HasView seat.new (with_ref v token.root Vacated v.moves) }
     {
         let EndToken { root } = token;
         self.vacate_word::<Brand>(&mut seat.seat, root);
@@ -103,10 +110,10 @@ impl<H: Told<Note = Noted>> PoolTable<H> {
     pub fn look(&self, seat: &mut PoolSeat<H>, root: RootId) -> u32
         requires own { IsSeatOf self.now seat.old }
         requires outside { IsOutside seat.old }
-        requires place { IsRootOf self.now.layout.shape root }
-        requires counts { HasCount root.place root.generation (view_of seat.old) }
+        requires counts { HasCount root (view_of seat.old) }
         ensures same { SameSeat seat.old seat.new }
-        ensures noted { let v = view_of seat.old in HasView seat.new (with_ref v root (Look result) v.moves) }
+        ensures noted { let v = view_of seat.old in
+            HasView seat.new (with_ref v root (Look result) v.moves) }
     {
         let word = self.look_word::<Brand>(&mut seat.seat, root);
         (word % (1 << 32) / 2) as u32

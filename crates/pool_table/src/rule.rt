@@ -3,17 +3,25 @@ use crate::views::{Layout, SeatView};
 use atomic_table::{Join, Play, Split, TableRule};
 use pool_law::{Named, Noted};
 use std::marker::{Brand, PhantomData};
+use std::snapshot::Snapshot;
 use step_law::Told;
 
 pub struct Rule;
 
-impl<H: Told<Note = Noted>> TableRule<Option<H>, SeatView, Layout> for Rule {
+/// What a table is made for: its layout, and the home values with which it opens.
+#[derive(Drop)]
+pub struct Opening<H> {
+    pub layout: Layout,
+    pub homes: Snapshot<Vec<H>>,
+}
+
+impl<H: Told<Note = Noted>> TableRule<Option<H>, SeatView, Opening<H>> for Rule {
     ghost use Rattle.pool_table.specs.Sound.{IsSound};
     ghost use Rattle.pool_table.specs.Steps.{first_view};
 
-    ghost holds = { IsSound H.stands };
+    ghost holds = { λ opening. IsSound H.stands opening.layout };
 
-    ghost first = { first_view };
+    ghost first = { λ opening. first_view opening.layout (H.settles opening.homes.value.items) };
 }
 
 /// Which object a claim is of, in which table.
@@ -70,14 +78,6 @@ impl<H: Told<Note = Noted>> Play<Option<H>, SeatView> for Idles {
     ghost use Rattle.pool_table.specs.Steps.{idles};
 
     ghost then = { idles };
-}
-
-pub struct Learns;
-
-impl<H: Told<Note = Noted>> Play<Option<H>, SeatView> for Learns {
-    ghost use Rattle.pool_table.specs.Steps.{learns};
-
-    ghost then = { learns };
 }
 
 pub struct Blanks;

@@ -26,7 +26,7 @@ impl<H: Told<Note = Noted>> PoolTable<H> {
         ensures same { SameSeat seat.old seat.new }
         ensures unchanged { HasView seat.new (view_of seat.old) }
         ensures made { IsSeatOf self.now result }
-        ensures empty { HasView result (blank (view_of seat.old).grounds) }
+        ensures empty { HasView result (blank (view_of seat.old).setting) }
     {
         let other = self.table.shared.split_seat::<Blanks>(&mut seat.seat);
         PoolSeat {

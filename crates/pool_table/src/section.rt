@@ -1,4 +1,5 @@
-//! The home value of a section. The clause names the row of `Section`, which the file that declares it can't import.
+//! The home value of a section. The clause names the row of `Section`, which the file that declares
+//! it can't import.
 
 ghost use Rattle.std.specs.Prelude.{◌≡◌};
 ghost use Rattle.std.specs.Borrow.{sem, Lends};
@@ -12,7 +13,8 @@ use step_law::Told;
 impl<H: Told<Note = Noted>> Section<H> {
     /// The home value. When the borrow ends, the section has what was written through it.
     pub fn home(section: &mut Section<H>) -> &mut H
-        ensures* writes_back { sem 𝓛 (Lends (the_row H.row) H.row section.entry result (with_home section.old)) }
+        ensures* writes_back { sem 𝓛
+            (Lends (the_row H.row) H.row section.entry result (with_home section.old)) }
         ensures value { result.now ≡ section.old.home }
     {
         &mut section.home

@@ -1,4 +1,5 @@
-//! Sections: a claim takes the home value out of its slot, and the step that ends the section follows its return.
+//! Sections: a claim takes the home value out of its slot, and the step that ends the section
+//! follows its return.
 
 ghost use Rattle.std.specs.Prelude.{◌≡◌, ℕ, [], None, ◌+◌, ◌-◌, ◌<◌, true, IfOk, IfErr, IfSome, MatchBool};
 ghost use mathlib.Core.Option.{none};
@@ -44,7 +45,8 @@ impl<H: Told<Note = Noted>> PoolTable<H> {
         requires marks { mark ≡ true → IsMarked object }
         ensures same { (seat.new.table_id ≡ seat.old.table_id) × (seat.new.id ≡ seat.old.id) }
         ensures number { seat.new.me.0.own.number ≡ seat.old.me.0.own.number }
-        ensures told { let s = step (objects_of self.now.layout.shape) (word_of self.now.layout.shape object) 1 0 none in
+        ensures told { let shape = self.now.layout.shape in
+            let s = step (objects_of shape) (word_of shape object) 1 0 none in
             MatchBool mark
             (marks_claims H.stands self.now.layout object s seat.old.me result seat.new.me)
             (claims H.stands self.now.layout object s seat.old.me result seat.new.me) }
@@ -58,8 +60,9 @@ impl<H: Told<Note = Noted>> PoolTable<H> {
         }
     }
 
-    /// Enters the section of an object, or finds another seat there, which with `mark` the seat notes.
-    /// A root place asks that the seat counts its root, has its end token, or has the place in its hands.
+    /// Enters the section of an object, or finds another seat there, which with `mark` the seat
+    /// notes. A root place asks that the seat counts its root, has its end token, or has the place
+    /// in its hands.
     pub fn claim(
         &self,
         seat: &mut PoolSeat<H>,
@@ -74,10 +77,12 @@ impl<H: Told<Note = Noted>> PoolTable<H> {
         requires marks { mark ≡ true → IsMarked object }
         ensures same { SameSeat seat.old seat.new }
         ensures got { IfOk result (GotSection H.stands self.now.layout object seat.old seat.new) }
-        ensures held { IfErr result (FoundHeld H.stands self.now.layout object mark seat.old seat.new) }
+        ensures held { IfErr result
+            (FoundHeld H.stands self.now.layout object mark seat.old seat.new) }
 
         // A seat with the place in its hands, or with the end token of its root, is never held up.
-        ensures free { IfErr result (λ _. (p : ℕ) → object ≡ Root p → HoldsPlace p (view_of seat.old) → ⊥) }
+        ensures free { IfErr result (λ _.
+            (p : ℕ) → object ≡ Root p → HoldsPlace p (view_of seat.old) → ⊥) }
     {
         let found = self.claim_word::<Brand>(&mut seat.seat, object, mark);
         if found % 2 == 1 {
@@ -98,7 +103,8 @@ impl<H: Told<Note = Noted>> PoolTable<H> {
         requires own { IsSeatOf self.now seat.old }
         requires turn { 0 < (view_of seat.old).turns }
         requires section { MayEnd H.stands self.now.layout.shape seat.old section N.note }
-        requires lane { MayNote self.now.layout.shape (view_of seat.old).own.number section.object N.note.did }
+        requires lane { let v = view_of seat.old in
+            MayNote self.now.layout.shape v.own.number section.object N.note.did }
         requires hands { PutsDown (view_of seat.old) N.note.did }
         ensures same { SameSeat seat.old seat.new }
         ensures number { IfSome (view_of seat.old).inside (λ x. result ≡ x.number + 1) }

@@ -5,7 +5,7 @@ ghost use Rattle.pool_law.specs.Homes.{objects_of};
 ghost use Rattle.pool_table.specs.Words.{listed_of, words_of};
 ghost use Rattle.pool_table.specs.Sound.{IsShape};
 
-use crate::rule::Rule;
+use crate::rule::{Opening, Rule};
 use crate::views::{Layout, SeatView};
 use atomic_table::{Seat, Table};
 use pool_law::{Noted, Object};
@@ -14,13 +14,13 @@ use step_law::Told;
 
 /// One word for each object and for each root's count, and a slot for each object's home value.
 pub struct PoolTable<H: Told<Note = Noted>> {
-    pub(crate) table: Table<Option<H>, SeatView, Layout, Rule, Global>,
+    pub(crate) table: Table<Option<H>, SeatView, Opening<H>, Rule, Global>,
     pub(crate) layout: Layout,
     pub(crate) spare_homes: Vec<Option<H>>,
     pub(crate) spare_words: Vec<u64>,
     ghost room_for_homes: { (spare_homes.items ≡ []) × (objects_of layout.shape ≤ vec_capacity spare_homes) },
     ghost room_for_words: { (spare_words.items ≡ []) × (listed_of layout.shape ≤ vec_capacity spare_words) },
-    ghost key: { table.shared.key ≡ layout },
+    ghost key: { table.shared.key.layout ≡ layout },
     ghost words: { table.shared.table_id.words ≡ words_of layout.shape },
     ghost slots: { table.shared.table_id.slots ≡ objects_of layout.shape },
     ghost shape: { IsShape layout.shape },
@@ -33,7 +33,8 @@ pub struct PoolSeat<H: Told<Note = Noted>> {
     ghost numbered: { seat.me.0.own.number ≡ number },
 }
 
-/// A section that a seat is in, with the home value of its object. It must be spent, by `done` or `idle`.
+/// A section that a seat is in, with the home value of its object. It must be spent, by `done` or
+/// `idle`.
 pub struct Section<H: Told<Note = Noted>> {
     pub(crate) home: H,
     pub(crate) object: Object,

@@ -1,6 +1,6 @@
 //! What the table does at single calls. A home value of these tests is the list of its own notes.
 
-ghost use Rattle.ground.specs.Grounds.{Grounds};
+ghost use Rattle.step_law.specs.Settings.{Setting};
 ghost use Rattle.std.specs.Prelude.{◌≡◌, ℕ, ◌<◌, ◌≤◌, ◌+◌, ◌-◌, ◌++◌, ◌∷◌, [], length, Some, None, OnOk, IfOk, All, List};
 ghost use Rattle.pool_law.specs.declared.note.Noted.{Noted};
 ghost use Rattle.pool_table.specs.Opened.{IsFirstSeat};
@@ -24,7 +24,7 @@ impl Told for Diary {
 
     type Note = Noted;
 
-    ghost stands = { λ object grounds notes d. d.notes.items ≡ notes };
+    ghost stands = { λ object setting notes d. d.notes.items ≡ notes };
 
     ghost may_follow = { λ d notes n. ⊤ };
 
@@ -32,7 +32,11 @@ impl Told for Diary {
 
     ghost losses = { λ place generation n. 0 };
 
-    ghost decides = { λ object grounds x xs ys a b n f. f };
+    ghost decides = { λ object setting x xs ys a b n f. f };
+
+    ghost use Rattle.step_law.specs.Settings.{no_setting};
+
+    ghost settles = { λ values. no_setting };
 }
 
 // Two lanes with one handle each.
@@ -73,8 +77,8 @@ struct Opened {
 
 fn open_table(alloc: Global) -> Result<Opened, AllocError>
     ensures layout { IfOk result (λ o. o.table.layout ≡ LAYOUT) }
-    ensures first { IfOk result (λ o. (g : Grounds) × IsFirstSeat LAYOUT g 0 o.table o.first) }
-    ensures second { IfOk result (λ o. (g : Grounds) × IsFirstSeat LAYOUT g 1 o.table o.second) }
+    ensures first { IfOk result (λ o. (g : Setting) × IsFirstSeat LAYOUT g 0 o.table o.first) }
+    ensures second { IfOk result (λ o. (g : Setting) × IsFirstSeat LAYOUT g 1 o.table o.second) }
 {
     let homes = empty_homes(alloc)?;
     let Ok((table, mut seats)) = PoolTable::new(alloc, LAYOUT, homes) else {
@@ -96,7 +100,8 @@ fn open_table(alloc: Global) -> Result<Opened, AllocError>
 
 // Writes the note into the home value.
 fn write(section: &mut Section<Diary>, noted: Noted) -> Result<(), AllocError>
-    ensures written { OnOk result (section.new.home.notes.items ≡ section.old.home.notes.items ++ noted ∷ []) }
+    ensures written { OnOk result
+        (section.new.home.notes.items ≡ section.old.home.notes.items ++ noted ∷ []) }
     ensures same { (section.new.object ≡ section.old.object) × (section.new.slot ≡ section.old.slot) }
 {
     let home = Section::home(section);
@@ -153,8 +158,8 @@ fn a_count_of_generation_two_is_packed(rt: HostRuntime) {
 // Claims a mail, and leaves it as it was. Answers whether it got in.
 fn visit(table: &PoolTable<Diary>, seat: &mut PoolSeat<Diary>, lane: u32) -> bool
     requires layout { table.now.layout ≡ LAYOUT }
-    requires seat { (g : Grounds) × IsFirstSeat LAYOUT g lane table.now seat.old }
-    ensures { (g : Grounds) × IsFirstSeat LAYOUT g lane table.now seat.new }
+    requires seat { (g : Setting) × IsFirstSeat LAYOUT g lane table.now seat.old }
+    ensures { (g : Setting) × IsFirstSeat LAYOUT g lane table.now seat.new }
 {
     let section = match table.claim(seat, Object::Mail { from: 0, to: 1 }, false) {
         Ok(section) => section,

@@ -1,5 +1,5 @@
 //! What a seat knows, as plain data. No value of these types but `Layout` is ever made.
-ghost use Rattle.ground.specs.Grounds.{Grounds};
+ghost use Rattle.step_law.specs.Settings.{Setting};
 
 use pool_law::{Held, Noted, Object, RefDid, RootId, Shape};
 use std::collections::LinkedList;
@@ -39,18 +39,18 @@ pub struct Inside {
     pub history: LinkedList<Noted>,
 }
 
-/// The grounds of the pool's chunk places, as contracts see them.
-pub struct GroundList {
-    pub ghost listed: { Grounds },
+/// What is settled once as a pool opens, as contracts see it.
+pub struct Fixed {
+    pub ghost told: { Setting },
 }
 
-impl Model for GroundList {
+impl Model for Fixed {
     ghost use base.Fml.{ftrue};
-    ghost use Rattle.ground.specs.Grounds.{Grounds};
+    ghost use Rattle.step_law.specs.Settings.{Setting};
 
-    ghost Value = { Grounds };
+    ghost Value = { Setting };
 
-    ghost view = { λ l. l.listed };
+    ghost view = { λ l. l.told };
 
     ghost also_owns = { λ _. ftrue };
 }
@@ -62,5 +62,5 @@ pub struct SeatView {
     pub inside: Option<Inside>,
     pub moves: u64,
     pub turns: u64,
-    pub grounds: Option<GroundList>,
+    pub setting: Option<Fixed>,
 }

@@ -2,16 +2,17 @@
 //! Values that stand for a numbered history, and the word of a count.
 
 ghost use Rattle.std.specs.Prelude.{◌≡◌, ℕ, ◌+◌, ◌*◌, ◌/◌, ◌%◌, ◌^◌, ◌<◌, List};
-ghost use Rattle.ground.specs.Grounds.{Grounds};
+ghost use Rattle.step_law.specs.Settings.{Setting};
 
 /// A value that stands for the notes made on it so far, oldest first.
 ///
-/// The grounds are seen by contracts alone: one for each chunk place of the pool, by arena and chunk.
+/// A setting is seen by contracts alone: the grounds of the pool's chunk places, by arena and chunk,
+/// and the room of its mails.
 pub trait Told {
     type Note;
 
-    // At an object with these measures the value stands for these notes, under these grounds.
-    ghost stands: { List ℕ → Grounds → List Self.Note → Self → Type 0 };
+    // At an object with these measures the value stands for these notes, under this setting.
+    ghost stands: { List ℕ → Setting → List Self.Note → Self → Type 0 };
 
     // The note may come after these, at an object with the measures of this value.
     ghost may_follow: { Self → List Self.Note → Self.Note → Type 0 };
@@ -23,8 +24,11 @@ pub trait Told {
     ghost losses: { ℕ → ℕ → Self.Note → ℕ };
 
     // A value that stands for a list decides which notes may follow.
-    ghost decides: { (measures : List ℕ) (grounds : Grounds) (x : Self) (xs ys : List Self.Note) →
-        stands measures grounds xs x → stands measures grounds ys x → (n : Self.Note) → may_follow x xs n → may_follow x ys n };
+    ghost decides: { (measures : List ℕ) (setting : Setting) (x : Self) (xs ys : List Self.Note) →
+        stands measures setting xs x → stands measures setting ys x → (n : Self.Note) → may_follow x xs n → may_follow x ys n };
+
+    // What is settled once, as a pool opens with these values, one for each object in order.
+    ghost settles: { List Self → Setting };
 }
 
 /// The word of a count: the generation in the high half, the raw count in the low.

@@ -8,6 +8,7 @@ use native.Mathlib.Decide.{ℕ_discrete, dec_le}
 use Rattle.size_classes.specs.Sizes.{below}
 use Rattle.pool_law.specs.declared.run.Shape.{Shape}
 use Rattle.pool_law.specs.declared.id.Parcel.{Parcel}
+use Rattle.pool_law.specs.declared.id.RootId.{RootId}
 use Rattle.pool_law.specs.declared.note.Did.{Did}
 use Rattle.pool_law.specs.declared.note.Did.TheVariants.{Take, Full, Give, Hit, Miss, Kept, Back, Trim, Close, Shed, Handle, NoHandle, Home, Post, Fetch, Birth, Set, Get, Touch, End}
 use Rattle.pool_law.specs.declared.note.Object.{Object}
@@ -17,12 +18,12 @@ use Rattle.pool_law.specs.Caches.{new_bin}
 use Rattle.pool_law.specs.Arenas.{Arena as ArenaState}
 use Rattle.pool_law.specs.Caches.{Cache as CacheState}
 use Rattle.pool_law.specs.Roots.{RootPlace}
-use Rattle.table_law.specs.NoteCounts.{place_lane, did_handle, did_home, parcel_weight, did_fetch, did_post}
+use Rattle.table_law.specs.NoteCounts.{place_lane, did_handle, did_home, parcel_weight, did_fetch, did_post, view_of_root, did_fetch_of, did_post_of}
 use Rattle.table_law.specs.Histories.{IsHistory, IsBinAfter}
 use Rattle.table_law.specs.Standing.{IsPlaced, IsMailed}
 use Rattle.table_law.proofs.Runs.{balance, keeps}
 use Rattle.table_law.proofs.Steps.{IsBinStep, bin_of, mapped-push, IsMailStep, IsArenaStep, IsCacheStep, IsPlaceStep}
-use Rattle.table_law.proofs.Told.{bin_there, bin_note, bin_runs, last_bin, mail_there, mail_note, mail_runs, last_mail, last_arena, last_cache, last_place}
+use Rattle.table_law.proofs.Told.{bin_there, bin_note, bin_runs, last_bin, mail_there, mail_note, mail_runs, last_mail, next_mail, last_arena, last_cache, last_place}
 
 -- the empty history is accepted
 pub no_history : (s : Shape) (o : Object) → IsHistory s o []
@@ -195,6 +196,25 @@ delivered s f u p g h t =
     let m = mail_there s f u h t in
     let a = balance mail_note (load p g) (λ n. did_post p g n.did) (λ n. did_fetch p g n.did) (λ x y n step. mail_step p g x y n.did step) h [] m.0 (mail_runs s f u h m.0 t m.1) in
     let z : load p g [] ≡ 0 = refl in omega (arith, a, z)
+
+-- what is fetched next was posted
+mail_front : (w : Parcel → ℕ) (q m : List Parcel) (x : Parcel) → IsMailStep q (Fetch x) m → w x ≤ sum_by w q
+mail_front w q m x t = let a = ap (λ (l : List Parcel). sum_by w l) t in let b = sum_by-cons w x m in omega (arith, a, b)
+
+abbrev by_root : RootId → Parcel → ℕ
+by_root r q = view_of_root r q.view
+
+root_step : (r : RootId) (q m : List Parcel) (d : Did) → IsMailStep q d m → sum_by (by_root r) q + did_post_of r d ≡ did_fetch_of r d + sum_by (by_root r) m
+root_step r q m (Post x) t = let a = ap (λ (l : List Parcel). sum_by (by_root r) l) t in let b = sum_by_push (by_root r) q x in omega (arith, a, b)
+root_step r q m (Fetch x) t = let a = ap (λ (l : List Parcel). sum_by (by_root r) l) t in let b = sum_by-cons (by_root r) x m in omega (arith, a, b)
+root_step r q m d t = absurd t
+
+pub posted_before : (s : Shape) (f u : ℕ) (r : RootId) (h : List Noted) (n : Noted) (x : Parcel) → IsHistory s (Mail f u) h → IsHistory s (Mail f u) (h ++ n ∷ []) → n.did ≡ Fetch x → view_of_root r x.view ≤ sum_by (λ (n : Noted). did_post_of r n.did) h
+posted_before s f u r h n x t more is =
+    let k = next_mail s f u h n more in
+    let a = balance mail_note (λ q. sum_by (by_root r) q) (λ n. did_post_of r n.did) (λ n. did_fetch_of r n.did) (λ x y n step. root_step r x y n.did step) h [] k.0 (mail_runs s f u h k.0 t k.2) in
+    let low = mail_front (by_root r) k.0 k.1 x (subst (λ (d : Did). IsMailStep k.0 d k.1) is k.3) in
+    let z : sum_by (by_root r) [] ≡ 0 = refl in omega (arith, a, low, z)
 
 bin_mailed : (s : Shape) (l : ℕ) (o : Object) (q m : List ℕ) (d : Did) → IsBinStep s l q d m → IsMailed o d
 bin_mailed s l o q m (Handle x) t p g = inl refl

@@ -1,5 +1,5 @@
 pub mod Apart
-mod Names
+pub mod Names
 pub mod Runs
 mod Frames
 pub mod Steps

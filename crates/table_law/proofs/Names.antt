@@ -1,5 +1,5 @@
 -- Tests of names: where they pass, the names are equal.
-use Rattle.std.proofs.Common.{◌≡◌, refl, ap, Bool, true, false, eqb-true, Some, None}
+use Rattle.std.proofs.Common.{◌≡◌, ◌⊎◌, inl, inr, ℕ, sym, refl, ap, ◌∙◌, Bool, true, false, eqb-true, eq-eqb, Some, None}
 use Rattle.std.specs.Prelude.{◌&&◌, ◌==◌, Option}
 use Rattle.pool_law.specs.declared.id.Place.{Place}
 use Rattle.pool_law.specs.declared.id.RootId.{RootId}
@@ -37,6 +37,20 @@ same_root-is a b e =
     let capacity = eqb-true a.capacity b.capacity (and-second (a.generation == b.generation) (a.capacity == b.capacity) second) in
     λ i. record { place = place i; generation = generation i; capacity = capacity i }
 
+-- a root is the same as another, or it is another one
+pub same_root-or : (a b : RootId) → ((same_root a b ≡ true) × (a ≡ b)) ⊎ (same_root a b ≡ false)
+same_root-or a b = one (same_root a b) refl
+  where
+    one : (t : Bool) → same_root a b ≡ t → ((t ≡ true) × (a ≡ b)) ⊎ (t ≡ false)
+    one true e = inl (refl, same_root-is a b e)
+    one false e = inr refl
+
+pub same_root-refl : (a : RootId) → same_root a a ≡ true
+same_root-refl a = λ i. e a.place i && (e a.generation i && e a.capacity i)
+  where
+    e : (n : ℕ) → (n == n) ≡ true
+    e n = eq-eqb n n refl
+
 -- regions of one taking differ in their uses alone
 pub record SameTaking (a b : RegionId) : Type 0 where
   pub place : a.place ≡ b.place
@@ -55,6 +69,33 @@ same_taking-is a b e =
       taking = eqb-true a.taking b.taking (and-first (a.taking == b.taking) (a.owner == b.owner) third);
       owner = eqb-true a.owner b.owner (and-second (a.taking == b.taking) (a.owner == b.owner) third);
     }
+
+-- regions of one taking are alike to every test of a taking
+pub same_taking-both : (q a b : RegionId) → same_taking a b ≡ true → same_taking q b ≡ same_taking q a
+same_taking-both q a b e =
+    let s = same_taking-is a b e in
+    λ i. same_place q.place (sym s.place i) && ((q.class == sym s.class i) && ((q.taking == sym s.taking i) && (q.owner == sym s.owner i)))
+
+pub same_taking-key : (q r x : RegionId) → same_taking q r ≡ true → same_taking q x ≡ same_taking r x
+same_taking-key q r x e =
+    let s = same_taking-is q r e in
+    λ i. same_place (s.place i) x.place && ((s.class i == x.class) && ((s.taking i == x.taking) && (s.owner i == x.owner)))
+
+pub same_taking-refl : (a : RegionId) → same_taking a a ≡ true
+same_taking-refl a = λ i. on i
+  where
+    e : (n : ℕ) → (n == n) ≡ true
+    e n = eq-eqb n n refl
+
+    place : same_place a.place a.place ≡ true
+    place = λ i. e a.place.arena i && (e a.place.chunk i && (e a.place.offset i && e a.place.len i))
+
+    on : same_taking a a ≡ true
+    on = λ i. place i && (e a.class i && (e a.taking i && e a.owner i))
+
+-- two that are of the taking of a third are of one
+pub same_taking-by : (q g x : RegionId) → same_taking q x ≡ true → same_taking g x ≡ true → same_taking q g ≡ true
+same_taking-by q g x a b = same_taking-key q x g a ∙ (sym (same_taking-key g x g b) ∙ same_taking-refl g)
 
 pub same_region-is : (a b : RegionId) → same_region a b ≡ true → a ≡ b
 same_region-is a b e =

@@ -16,7 +16,7 @@ use Rattle.pool_law.specs.declared.note.Noted.{Noted}
 use Rattle.pool_law.specs.Arenas.{Arena as ArenaState}
 use Rattle.pool_law.specs.Caches.{Cache as CacheState}
 use Rattle.pool_law.specs.Roots.{RootPlace, Present, new_place}
-use Rattle.table_law.specs.NoteCounts.{did_birth, did_birth_of, did_end}
+use Rattle.table_law.specs.NoteCounts.{did_birth, did_birth_of, did_birth_as, did_end}
 use Rattle.table_law.specs.Histories.{IsHistory, IsPlaceAfter}
 use Rattle.table_law.specs.Standing.{IsRooted}
 use Rattle.table_law.proofs.Runs.{Runs, balance}
@@ -192,6 +192,44 @@ of_birth p g (Birth r x) z = dite (ℕ_discrete r.place p)
     (λ e. let o = ap (λ (c : Bool). cond {A = ℕ} c 1 0) (eq-eqb r.place p e) in absurd (omega (arith, z, o)))
     (λ ne. ap (λ (c : Bool). cond {A = ℕ} (c && eqb r.generation g) 1 0) (ne_eqb r.place p ne))
 of_birth p g d z = refl
+
+-- ---- The root that is present.
+
+-- the birth of the root that is present was noted, if one was noted before or none was present
+step_present : (p : ℕ) (x : RootPlace) (d : Did) (region : Option RegionId) (y : RootPlace) (r : RootId) → IsPlaceStep p x d region y → root_in y ≡ Some r →
+    (root_in x ≡ Some r) ⊎ (did_birth_as r.place r.generation r.capacity d ≡ 1)
+step_present p x (Birth q z) region y r t is = let e : q ≡ r = same_one q r (sym t.root ∙ is) in inr (subst (λ (r : RootId). did_birth_as r.place r.generation r.capacity (Birth q z) ≡ 1) e (itself q z))
+  where
+    itself : (q : RootId) (z : RegionId) → did_birth_as q.place q.generation q.capacity (Birth q z) ≡ 1
+    itself q z = λ i. cond {A = ℕ} ((on q.place i && on q.generation i) && on q.capacity i) 1 0
+      where
+        on : (n : ℕ) → eqb n n ≡ true
+        on n = eq-eqb n n refl
+step_present p x (End q) region y r t is = none_some r (sym (none_in y t.vacant) ∙ is)
+step_present p x (Set i bs) region y r t is = inl (sym t.same_root ∙ is)
+step_present p x (Get i bs) region y r t is = inl (sym t.same_root ∙ is)
+step_present p x Touch region y r t is = inl (sym t.same_root ∙ is)
+step_present p x d region y r t is = absurd t
+
+run_present : (p : ℕ) (h : List Noted) (x y : RootPlace) (r : RootId) → Runs (place_note p) x h y → root_in y ≡ Some r →
+    (root_in x ≡ Some r) ⊎ (0 < sum_by (λ (n : Noted). did_birth_as r.place r.generation r.capacity n.did) h)
+run_present p [] x y r t is = inl (ap root_in t ∙ is)
+run_present p (n ∷ h) x y r t is =
+    let c = sum_by-cons (λ (n : Noted). did_birth_as r.place r.generation r.capacity n.did) n h in ⊎_elim
+    (λ (e : root_in t.0 ≡ Some r). ⊎_elim
+    (λ (e : root_in x ≡ Some r). inl e)
+    (λ (e : did_birth_as r.place r.generation r.capacity n.did ≡ 1). inr (omega (arith, c, e)))
+    (step_present p x n.did n.region t.0 r t.1 e))
+    (λ (lt : 0 < sum_by (λ (n : Noted). did_birth_as r.place r.generation r.capacity n.did) h). inr (omega (arith, c, lt)))
+    (run_present p h t.0 y r t.2 is)
+
+-- the root that is present was born as it is
+pub place_present : (s : Shape) (p : ℕ) (h : List Noted) (x : RootPlace) (r : RootId) → IsHistory s (Root p) h → IsPlaceAfter p h x → root_in x ≡ Some r →
+    0 < sum_by (λ (n : Noted). did_birth_as r.place r.generation r.capacity n.did) h
+place_present s p h x r t e is = ⊎_elim
+    (λ (e : root_in new_place ≡ Some r). none_some r e)
+    (λ (lt : 0 < sum_by (λ (n : Noted). did_birth_as r.place r.generation r.capacity n.did) h). lt)
+    (run_present p h new_place x r (place_runs s p h x t e) is)
 
 -- ---- The last note.
 

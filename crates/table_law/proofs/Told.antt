@@ -64,6 +64,11 @@ last_mail s f u h n t =
     let m = mail_there s f u (h ++ n ∷ []) t in let k = last_note mail_step h n [] m.0 m.1 in
     (k.0, m.0, mail_told k.0 m.0 n.did k.2)
 
+pub next_mail : (s : Shape) (f u : ℕ) (h : List Noted) (n : Noted) → IsHistory s (Mail f u) (h ++ n ∷ []) → (q : List Parcel) × (m : List Parcel) × (mail_after (noted_dids h) ≡ Some q) × IsMailStep q n.did m
+next_mail s f u h n t =
+    let m = mail_there s f u (h ++ n ∷ []) t in let k = last_note mail_step h n [] m.0 m.1 in
+    (k.0, m.0, k.1, mail_told k.0 m.0 n.did k.2)
+
 -- ---- Arenas.
 
 abbrev pub arena_note : ℕ → ArenaState → Noted → ArenaState → Type 0
@@ -91,6 +96,11 @@ pub last_cache : (s : Shape) (l c : ℕ) (h : List Noted) (n : Noted) → IsHist
 last_cache s l c h n t =
     let y = cache_there s l c (h ++ n ∷ []) t in let k = last_note (lane_cache_step l c) h n new_cache y.0 y.1 in
     (k.0, y.0, cache_told l c k.0 y.0 n.did k.2)
+
+pub next_cache : (s : Shape) (l c : ℕ) (h : List Noted) (n : Noted) → IsHistory s (Cache l c) (h ++ n ∷ []) → (x : CacheState) × (y : CacheState) × IsCacheAfter l c h x × IsCacheStep l c x n.did y
+next_cache s l c h n t =
+    let y = cache_there s l c (h ++ n ∷ []) t in let k = last_note (lane_cache_step l c) h n new_cache y.0 y.1 in
+    (k.0, y.0, k.1, cache_told l c k.0 y.0 n.did k.2)
 
 -- ---- Root places.
 

@@ -9,5 +9,5 @@ abbrev pub measures_of : Shape → Object → List ℕ
 measures_of s (Arena a) = 0 ∷ a ∷ s.order ∷ s.chunks ∷ []
 measures_of s (Cache lane class) = 1 ∷ lane ∷ class ∷ []
 measures_of s (Bin lane) = 2 ∷ lane ∷ s.handles ∷ []
-measures_of s (Mail from to) = 3 ∷ from ∷ to ∷ []
-measures_of s (Root place) = 4 ∷ place ∷ s.handles ∷ []
+measures_of s (Mail from to) = 3 ∷ from ∷ to ∷ s.lanes ∷ []
+measures_of s (Root place) = 4 ∷ place ∷ s.handles ∷ s.lanes ∷ s.order ∷ []

@@ -8,6 +8,7 @@ use Rattle.pool_law.specs.declared.id.RegionId.{RegionId}
 use Rattle.pool_law.specs.declared.note.Did.{Did}
 use Rattle.pool_law.specs.declared.note.Did.TheVariants.{Take, Give, Hit, Kept, Shed, Handle, Home, Post, Fetch, Birth, End}
 use Rattle.pool_law.specs.declared.note.Noted.{Noted}
+use Rattle.pool_law.specs.Same.{same_root, same_taking}
 
 -- the lane of a root place
 abbrev pub place_lane : Shape → ℕ → ℕ
@@ -47,6 +48,19 @@ abbrev pub did_post : ℕ → ℕ → Did → ℕ
 did_post p g (Post q) = parcel_weight p g q
 did_post p g d = 0
 
+-- the parcel carries a view of this very root; the note fetches one, and posts one
+abbrev pub view_of_root : RootId → Option ViewData → ℕ
+view_of_root r (Some v) = one_if_so (same_root v.root r)
+view_of_root r None = 0
+
+abbrev pub did_fetch_of : RootId → Did → ℕ
+did_fetch_of r (Fetch q) = view_of_root r q.view
+did_fetch_of r d = 0
+
+abbrev pub did_post_of : RootId → Did → ℕ
+did_post_of r (Post q) = view_of_root r q.view
+did_post_of r d = 0
+
 -- a root is born at the place p; the root (p, g) is; it is with the capacity c
 abbrev pub did_birth : ℕ → Did → ℕ
 did_birth p (Birth r x) = one_if_so (r.place == p)
@@ -65,41 +79,52 @@ abbrev pub did_end : ℕ → ℕ → Did → ℕ
 did_end p g (End r) = one_if_so (is_root p g r)
 did_end p g d = 0
 
--- the region is of the taking t of the arena a
-abbrev pub is_taking : ℕ → ℕ → RegionId → ℕ
-is_taking a t r = one_if_so ((r.place.arena == a) && (r.taking == t))
+-- this very root ends
+abbrev pub did_end_of : RootId → Did → ℕ
+did_end_of r (End q) = one_if_so (same_root q r)
+did_end_of r d = 0
 
-abbrev pub taking_or : ℕ → ℕ → Option RegionId → ℕ
-taking_or a t (Some r) = is_taking a t r
-taking_or a t None = 0
+-- a region of the taking of q weighs 1; it weighs its uses; and one with its number weighs 1
+abbrev pub is_taking : RegionId → RegionId → ℕ
+is_taking q r = one_if_so (same_taking q r)
 
--- the note takes the taking out of its arena, and gives it back
-abbrev pub arena_out : ℕ → ℕ → Did → ℕ
-arena_out a t (Take c r) = is_taking a t r
-arena_out a t d = 0
+abbrev pub uses_in : RegionId → RegionId → ℕ
+uses_in q r = cond (same_taking q r) r.uses 0
 
-abbrev pub arena_in : ℕ → ℕ → Did → ℕ
-arena_in a t (Give r) = is_taking a t r
-arena_in a t d = 0
+abbrev pub has_number : ℕ → ℕ → RegionId → ℕ
+has_number a t r = one_if_so ((r.place.arena == a) && (r.taking == t))
 
--- it takes the taking out of a cache, and puts it there
-abbrev pub cache_out : ℕ → ℕ → Did → ℕ
-cache_out a t (Hit r) = is_taking a t r
-cache_out a t (Shed r) = is_taking a t r
-cache_out a t d = 0
+-- by a weight of regions: what a note takes out of an arena, and gives back
+abbrev pub arena_out : (RegionId → ℕ) → Did → ℕ
+arena_out w (Take c r) = w r
+arena_out w d = 0
 
-abbrev pub cache_in : ℕ → ℕ → Did → ℕ
-cache_in a t (Kept r) = is_taking a t r
-cache_in a t d = 0
+abbrev pub arena_in : (RegionId → ℕ) → Did → ℕ
+arena_in w (Give r) = w r
+arena_in w d = 0
 
--- it takes the taking out of a root place, as the region that goes with the note, and puts it there
+-- what it takes out of a cache, and puts there
+abbrev pub cache_out : (RegionId → ℕ) → Did → ℕ
+cache_out w (Hit r) = w r
+cache_out w (Shed r) = w r
+cache_out w d = 0
+
+abbrev pub cache_in : (RegionId → ℕ) → Did → ℕ
+cache_in w (Kept r) = w r
+cache_in w d = 0
+
+-- what it takes out of a root place, as the region that goes with the note, and puts there
+abbrev pub weight_or : (RegionId → ℕ) → Option RegionId → ℕ
+weight_or w (Some r) = w r
+weight_or w None = 0
+
 abbrev pub ended_region : Did → Option RegionId → Option RegionId
 ended_region (End r) region = region
 ended_region d region = None
 
-abbrev pub place_out : ℕ → ℕ → Noted → ℕ
-place_out a t n = taking_or a t (ended_region n.did n.region)
+abbrev pub place_out : (RegionId → ℕ) → Noted → ℕ
+place_out w n = weight_or w (ended_region n.did n.region)
 
-abbrev pub place_in : ℕ → ℕ → Did → ℕ
-place_in a t (Birth r x) = is_taking a t x
-place_in a t d = 0
+abbrev pub place_in : (RegionId → ℕ) → Did → ℕ
+place_in w (Birth r x) = w x
+place_in w d = 0

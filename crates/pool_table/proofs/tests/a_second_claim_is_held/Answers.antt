@@ -1,5 +1,5 @@
 use Rattle.std.proofs.Common.{rules, ◌≡◌, ℕ, ◌∷◌, ◌++◌, [], List, length, sym, ap, ◌∙◌, subst, arith}
-use Rattle.ground.specs.Grounds.{Grounds}
+use Rattle.step_law.specs.Settings.{Setting}
 use Rattle.std.specs.Prelude.{Option, Some, None, IfSome}
 use Rattle.pool_law.specs.declared.note.Noted.{Noted}
 use Rattle.pool_law.specs.declared.note.Did.TheVariants.{Handle}
@@ -14,10 +14,10 @@ pub done-noted_at-requires-clause-section : goal.done-noted_at-requires-clause-s
 done-noted_at-requires-clause-section g c =
     let got = c.in-Ok.ensures.got in let first = c.in_ok-table.ensures.first in let shape = c.in_ok-table.field-0.table.layout.shape in
     let h : List Noted = got.history in let items : List Noted = c.in-Ok.section.home.notes.items in
-    let known : (view_of c.in_ok-table.field-0.first).grounds ≡ Some first.0 = ap (λ m. m.0.grounds) first.1.1 in
+    let known : (view_of c.in_ok-table.field-0.first).setting ≡ Some first.0 = ap (λ m. m.0.setting) first.1.1 in
     let numbered : (view_of c.in_ok-table.field-0.first).own.number ≡ Some 0 = ap (λ m. m.0.own.number) first.1.1 in
     let number : (view_of c.claim.new.seat).own.number ≡ Some 0 = ap (λ v. v.own.number) got.view ∙ numbered in
-    let stood : items ≡ h = subst (λ (y : Option Grounds). IfSome y (λ (g : Grounds). items ≡ h)) known got.learned.stands_for in
+    let stood : items ≡ h = subst (λ (y : Option Setting). IfSome y (λ (g : Setting). items ≡ h)) known got.learned.stands_for in
     let len : length items ≡ 0 = (let a = c.if-before-gt0.false in let b = c.len-before.ensures in let d : length items ≡ c.len-before.result = search (rules, b) in omega (arith, a, d)) in
     let same = c.write.ensures.same in let object = same.0 ∙ got.object in
     let n : Noted = record { did = Handle 0; lane = None; watch = None; root = None; region = None } in record {
@@ -25,8 +25,8 @@ done-noted_at-requires-clause-section g c =
       inside = subst (λ (y : Object × ℕ). IsInside shape c.claim.new.seat.seat.me y.0 y.1 h) (λ q. (sym object q, sym same.1 q)) got.inside;
       follows = first_handle shape c.write.new.section.object h (view_of c.claim.new.seat).own.number (ap (λ l. l.shape.handles) c.in_ok-table.ensures.layout) object (sym stood ∙ none_of items len);
       stands_for = record {
-        grounds = first.0;
-        known = ap (λ v. v.grounds) got.view ∙ known;
+        setting = first.0;
+        known = ap (λ v. v.setting) got.view ∙ known;
         stands_for = c.in-Ok-write.ensures.written ∙ (λ q. stood q ++ noted_by (sym number q) n ∷ []);
       };
     }

@@ -2,12 +2,19 @@ use Rattle.std.proofs.Common.{◌≡◌, length, sym, ap, ◌∙◌, subst, arit
 use Rattle.std.specs.Prelude.{Some}
 use Rattle.std.proofs.lemmas.List.{length-map}
 use Rattle.std.proofs.lemmas.Grind.{common_steps}
+use Rattle.atomic_table.specs.Table.{opening}
+use Rattle.step_law.specs.Settings.{Setting}
 use Rattle.pool_table.specs.Words.{IsOpening}
+use Rattle.pool_table.specs.Sound.{IsSound}
+use Rattle.pool_table.specs.Steps.{first_view}
 use Rattle.pool_table.proofs.Starts.{opens_as, map_some, all_some}
 use Rattle.pool_table.proofs.table.PoolTable.new.Goals as goal
 
 pub new-requires : goal.new-requires
-new-requires g c = opens_as g.H.Told.stands c.args.layout c.requires.stand.0 _ _ c.args.homes.items c.requires.shape c.requires.turns c.requires.moves (subst (IsOpening c.args.layout.shape) (sym c.as_slice.ensures.value) c.in-Ok.ensures.words) c.wrapped-slots.ensures.slots c.requires.homes c.requires.stand.1
+new-requires g c =
+    let gs : Setting = g.H.Told.settles c.args.homes.items in
+    subst (λ (y : Setting). IsSound g.H.Told.stands c.args.layout (opening c.as_slice.result.now c.wrapped-slots.result.items (first_view c.args.layout y))) (ap (λ v. g.H.Told.settles v.items) (sym c.of.ensures))
+    (opens_as g.H.Told.stands c.args.layout gs _ _ c.args.homes.items c.requires.shape c.requires.turns c.requires.moves (subst (IsOpening c.args.layout.shape) (sym c.as_slice.ensures.value) c.in-Ok.ensures.words) c.wrapped-slots.ensures.slots c.requires.homes c.requires.stand)
 
 pub unwrapped-requires : goal.unwrapped-requires
 unwrapped-requires g c = let same = c.in-Err.ensures.err ∙ c.wrapped-slots.ensures.slots in (

@@ -1,9 +1,17 @@
-use Rattle.pool_table.proofs.Calls.{ref_within, vacates_as}
+use mathlib.Core.Option.{none}
+use Rattle.atomic_table.specs.Table.{step}
+use Rattle.pool_law.specs.Homes.{objects_of}
+use Rattle.pool_table.specs.Words.{count_word_of}
+use Rattle.pool_table.proofs.Calls.{within, vacates_as, vacates_told}
 use Rattle.pool_table.proofs.table.PoolTable.vacate_word.Goals as goal
 
 pub fetch_add-requires : goal.fetch_add-requires
-fetch_add-requires g c = let is = c.count_index-word.ensures in (
+fetch_add-requires g c = (
   c.requires.own,
-  ref_within g.H.Told.stands c.args.self.now.layout c.args.root.place _ _ c.requires.place is c.args.self.now.words,
-  vacates_as g.H.Told.stands c.args.self.now.layout _ _ _ _ _ c.args.root _ c.args.self.now.key c.args.self.now.slots is c.requires.named c.requires.place c.requires.token c.requires.ended c.requires.outside,
+  within g.H.Told.stands c.args.self.now.layout _ _ c.root_index-word.ensures.within c.args.self.now.words,
+  vacates_as g.H.Told.stands c.args.self.now.layout _ _ _ _ _ c.args.root _ c.args.self.now.key c.args.self.now.slots c.requires.named c.root_index-word.ensures.there c.requires.outside c.requires.token c.requires.ended,
 )
+
+pub returns-clause-hand : goal.returns-clause-hand
+returns-clause-hand g c = let shape = c.args.self.now.layout.shape in
+    vacates_told g.R.Rooted.root c.args.root (step (objects_of shape) (count_word_of shape c.args.root.place) 1 0 none) c.args.seat.now.me c.fetch_add.result c.fetch_add.new.seat.me c.requires.named c.fetch_add.ensures.2
