@@ -1,0 +1,18 @@
+use Rattle.pool_arena.proofs.StandingLaws.{full-step}
+use Rattle.std.proofs.Common.{◌≡◌, ◌≤◌, sym, subst}
+use Rattle.size_classes.specs.Sizes.{Geometry, of_order}
+use Rattle.pool_law.specs.Arenas.{Arena}
+use Rattle.arena_law.specs.Orderly.{IsOrderly}
+use Rattle.arena_law.proofs.OrderlyTakes.{new-orderly}
+use Rattle.pool_arena.specs.Stocks.{arena_in}
+use Rattle.pool_arena.proofs.arena.Arena.new.Goals as goal
+
+pub invariant_of-result : goal.invariant_of-result
+invariant_of-result c =
+    let made = c.in_ok-stock.ensures {u = tt} in
+    record {
+      number = c.requires.number;
+      orderly =
+          subst (λ (g : Geometry). IsOrderly g (arena_in c.in_ok-stock.stock)) (sym made.geometry)
+          (subst (λ (a : Arena). IsOrderly (of_order c.args.order) a) (sym made.new) (new-orderly (of_order c.args.order) c.args.chunks c.requires.order.0));
+    }

@@ -1,0 +1,13 @@
+use Rattle.std.proofs.Common.{◌≡◌, ◌*◌, ◌^◌, ◌≤◌, arith}
+use Rattle.pool_arena.specs.Places.{PlaceState, state_of, runs_of}
+use Rattle.pool_chunk.specs.ChunkStates.{ChunkState}
+use Rattle.pool_arena.proofs.PlaceLaws.{chunk-small}
+use lib.Pow.{pow_pos}
+use Rattle.size_classes.specs.Sizes.{of_order}
+use Rattle.pool_arena.proofs.place.ChunkPlace.new.Goals as goal
+
+pub new-requires : goal.new-requires
+new-requires c =
+    let most = chunk-small (of_order c.args.order) c.requires.1 in
+    let some = pow_pos c.args.order in
+    (omega (arith, c.pow.ensures, some), omega (arith, c.pow.ensures, most))

@@ -1,0 +1,438 @@
+//! What an arena has to give: its chunks in their lists, and its subpages by class.
+
+ghost use Rattle.std.specs.Prelude.{◌≡◌, ◌⊎◌, ℕ, ◌+◌, ◌-◌, ◌*◌, ◌/◌, ◌^◌, ◌<◌, ◌≤◌, [], ◌∷◌, true, false, length, replicate, map, All, Option, Some, None, IfOk, IfSome, IfNone, IsSome, OnErr, slice_get, unwrap_or, position, not, is_some};
+ghost use Rattle.size_classes.specs.Sizes.{Geometry, below, of_order, page_of, chunk_pages, class_count, is_small, size_at, pages_of};
+ghost use Rattle.size_classes.specs.Pages.{NoneEmpty};
+ghost use Rattle.size_classes.specs.Elements.{is_idle, with_back};
+ghost use Rattle.pool_law.specs.Chunks.{new_chunk, usage, used_bytes, free_bytes};
+ghost use Rattle.pool_law.specs.declared.report.ListName.{ListName};
+ghost use Rattle.pool_law.specs.ChunkLists.{list_of};
+ghost use Rattle.pool_law.specs.Arenas.{new_arena, first_unused, opened, take_element, take_small, take_class, front_of, run_given, given_place, unless_gone, chunk_at};
+ghost use Rattle.arena_law.specs.Orderly.{IsOrderly, ChunkAtRest, chunk_of};
+ghost use Rattle.chunk_list.specs.Listing.{with_lists};
+ghost use Rattle.chunk_list.specs.Settling.{settled, goes_to, IsWithin};
+ghost use Rattle.pool_arena.specs.Held.{front_for};
+ghost use Rattle.pool_arena.specs.Places.{PlaceState, with_chunk, runs_of, IsWanted};
+ghost use Rattle.pool_arena.specs.declared.place.Wanted.{Wanted};
+
+use crate::front::{Front, Spot};
+use crate::place::{ChunkPlace, Cut, PAGE, Wanted};
+use chunk_list::{ChunkLists, Settled};
+use ground::Piece;
+use pool_law::ListName;
+use size_classes::SizeClasses;
+use std::alloc::{AllocError, Global};
+use std::marker::Model;
+
+/// The chunks of an arena in their lists, and the subpages that have a free element.
+///
+/// Only `new` takes memory. It must be spent.
+pub(crate) struct Stock {
+    classes: SizeClasses,
+    places: Vec<ChunkPlace>,
+    lists: ChunkLists,
+    fronts: Vec<Front>,
+}
+
+impl Model for Stock {
+    ghost use Rattle.pool_arena.specs.Stocks.{StockState};
+
+    ghost Value = { StockState };
+
+    ghost use Rattle.pool_arena.specs.Held.{stock_in, IsStock};
+
+    ghost view = { stock_in };
+
+    ghost invariant = { IsStock };
+}
+
+impl Stock {
+    ghost use Rattle.pool_arena.specs.Stocks.{arena_in, Becomes, Yields, YieldsNone, HasChunk, HasNoChunk, AreListed, CutsFrom, CutsOff, FindsNone, FindsIn, found_in, run_wanted, NewFront, IsOpen, GivesPlace, IsPlaceOut, IsElementOutOf, IsIdleAt, element_back, subpage_given};
+
+    /// Chunk places with chunks of `2^order` pages, none of them in use.
+    pub(crate) fn new(alloc: Global, order: u32, chunks: u32) -> Result<Stock, AllocError>
+        requires order { (3 ≤ order) × (order ≤ 11) }
+        requires chunks { (1 ≤ chunks) × (chunks ≤ 8) }
+        ensures geometry { IfOk result (λ stock. stock.geometry ≡ of_order order) }
+        ensures grounds { IfOk result (λ stock. length stock.grounds ≡ chunks) }
+        ensures new { IfOk result (λ stock. arena_in stock ≡ new_arena (of_order order) chunks) }
+    {
+        let classes = SizeClasses::new(alloc, order)?;
+        let lists = ChunkLists::new(alloc, chunks)?;
+        let room = chunks as usize * 2usize.pow(order);
+        let fronts = new_fronts(alloc, &classes, room)?;
+        let places = new_places(alloc, order, chunks)?;
+        Ok(Stock {
+            classes,
+            places,
+            lists,
+            fronts,
+        })
+    }
+
+    /// The list, the used bytes and the free bytes of the chunk of a place, if it has one.
+    pub(crate) fn end_of(&self, chunk: u32) -> Option<(ListName, u32, u32)>
+        requires within { chunk < length self.now.chunks }
+        requires listed { AreListed self.now }
+        ensures none { IfNone result (chunk_of (arena_in self.now) chunk ≡ None) }
+        ensures some { IfSome result (λ e. HasChunk self.now chunk
+            × (list_of self.now.lists chunk ≡ Some e.0)
+            × (e.1 ≡ used_bytes self.now.geometry (chunk_at (arena_in self.now) chunk))
+            × (e.2 ≡ free_bytes self.now.geometry (chunk_at (arena_in self.now) chunk))) }
+    {
+        let list = self.lists.list_of(chunk)?;
+        let place = &self.places[chunk as usize];
+        Some((list, place.used(), place.free()))
+    }
+
+    /// A place for a class, from the chunk at a place: its bytes.
+    /// None where nothing is free for it and each place has a chunk, and then nothing changes.
+    pub(crate) fn take(&mut self, class: u32) -> Option<(u32, Piece)>
+        requires class { class < class_count self.old.geometry }
+        requires orderly { IsOrderly self.old.geometry (arena_in self.old) }
+        ensures none { IfNone result ((self.new ≡ self.old)
+            × YieldsNone self.old (λ a. take_class self.old.geometry a class)) }
+        ensures some { IfSome result (λ x. GivesPlace self.old
+            (λ a. take_class self.old.geometry a class) class self.new x.0 x.1) }
+    {
+        if self.classes.is_small(class) {
+            self.take_small(class)
+        } else {
+            self.take_whole(class)
+        }
+    }
+
+    /// The place of a class in the chunk at a place comes back.
+    pub(crate) fn give(&mut self, class: u32, chunk: u32, piece: Piece)
+        requires orderly { IsOrderly self.old.geometry (arena_in self.old) }
+        requires out { IsPlaceOut self.old class chunk piece }
+        ensures { Becomes self.old
+            (λ a. given_place self.old.geometry a class chunk piece.start) self.new }
+    {
+        if self.is_small(class) {
+            self.give_element(class, chunk, piece);
+        } else {
+            self.give_run(class, chunk, piece);
+        }
+    }
+
+    // Whether a number is that of a small class.
+    fn is_small(&self, class: u32) -> bool
+        ensures { result ≡ is_small self.now.geometry class }
+    {
+        if class >= self.classes.count() {
+            return false;
+        }
+        self.classes.is_small(class)
+    }
+
+    // A run of the pages of a class, as a whole.
+    fn take_whole(&mut self, class: u32) -> Option<(u32, Piece)>
+        requires class { class < class_count self.old.geometry }
+        requires whole { is_small self.old.geometry class ≡ false }
+        requires orderly { IsOrderly self.old.geometry (arena_in self.old) }
+        ensures none { IfNone result ((self.new ≡ self.old)
+            × YieldsNone self.old (λ a. take_class self.old.geometry a class)) }
+        ensures some { IfSome result (λ x. GivesPlace self.old
+            (λ a. take_class self.old.geometry a class) class self.new x.0 x.1) }
+    {
+        let pages = self.classes.pages_of(class);
+        let (chunk, cut) = self.cut(Wanted::Run(pages))?;
+        let Cut::Run(piece) = cut else {
+            unreachable!();
+        };
+        Some((chunk, piece))
+    }
+
+    // An element of the front subpage of a class, or of a new one where there is none.
+    fn take_small(&mut self, class: u32) -> Option<(u32, Piece)>
+        requires class { (class < class_count self.old.geometry)
+            × (is_small self.old.geometry class ≡ true) }
+        requires orderly { IsOrderly self.old.geometry (arena_in self.old) }
+        ensures none { IfNone result ((self.new ≡ self.old)
+            × YieldsNone self.old (λ a. take_class self.old.geometry a class)) }
+        ensures some { IfSome result (λ x. GivesPlace self.old
+            (λ a. take_class self.old.geometry a class) class self.new x.0 x.1) }
+    {
+        if let Some(spot) = self.fronts[class as usize].first() {
+            let piece = self.take_element(class, spot);
+            return Some((spot.chunk, piece));
+        }
+        let spot = self.new_subpage(class)?;
+        let piece = self.take_element(class, spot);
+        Some((spot.chunk, piece))
+    }
+
+    // A subpage of a class that has none, which is then its front.
+    fn new_subpage(&mut self, class: u32) -> Option<Spot>
+        requires class { (class < class_count self.old.geometry)
+            × (is_small self.old.geometry class ≡ true) }
+        requires orderly { IsOrderly self.old.geometry (arena_in self.old) }
+        requires none { front_of (arena_in self.old) class ≡ [] }
+        ensures none { IfNone result ((self.new ≡ self.old)
+            × YieldsNone self.old (run_wanted self.old (Wanted.Subpage class))) }
+        ensures some { IfSome result (λ spot. NewFront self.old class self.new spot.chunk spot.page) }
+    {
+        let (chunk, cut) = self.cut(Wanted::Subpage(class))?;
+        let Cut::Subpage(page) = cut else {
+            unreachable!();
+        };
+        let spot = Spot { chunk, page };
+        self.fronts[class as usize].enter(spot);
+        Some(spot)
+    }
+
+    // The next element of a subpage, which leaves its list if it is then full.
+    fn take_element(&mut self, class: u32, spot: Spot) -> Piece
+        requires class { class < class_count self.old.geometry }
+        requires room { IsOpen self.old class spot.chunk spot.page }
+        requires some { NoneEmpty (chunk_at (arena_in self.old) spot.chunk) }
+        ensures { GivesPlace self.old
+            (λ a. take_element self.old.geometry a class (spot.chunk, spot.page))
+            class self.new spot.chunk result }
+    {
+        let place = &mut self.places[spot.chunk as usize];
+        let piece = place.take_element(spot.page);
+        if place.is_full(spot.page) {
+            self.fronts[class as usize].leave(spot);
+        }
+        piece
+    }
+
+    // What is wanted, from the first chunk that has it or from a new one, which settles.
+    fn cut(&mut self, wanted: Wanted) -> Option<(u32, Cut)>
+        requires wanted { IsWanted self.old.geometry wanted }
+        requires orderly { IsOrderly self.old.geometry (arena_in self.old) }
+        ensures none { IfNone result ((self.new ≡ self.old)
+            × YieldsNone self.old (run_wanted self.old wanted)) }
+        ensures some { IfSome result (λ x. CutsOff self.old wanted self.new x.0 x.1) }
+    {
+        if let Some((chunk, cut)) = self.cut_first(wanted) {
+            return Some((chunk, cut));
+        }
+        let chunk = self.first_unused()?;
+        self.start(chunk);
+        let Some(cut) = self.cut_from(chunk, wanted) else {
+            unreachable!();
+        };
+        Some((chunk, cut))
+    }
+
+    // What is wanted, from the first of the chunks in the order in which they are asked.
+    fn cut_first(&mut self, wanted: Wanted) -> Option<(u32, Cut)>
+        requires wanted { IsWanted self.old.geometry wanted }
+        requires orderly { IsOrderly self.old.geometry (arena_in self.old) }
+        ensures none { IfNone result ((self.new ≡ self.old) × FindsNone self.old wanted) }
+        ensures some { IfSome result (λ x. FindsIn self.old wanted self.new x.0 x.1) }
+    {
+        let mut k = 0;
+        while let Some(chunk) = self.lists.nth(k) {
+            if let Some(cut) = self.cut_from(chunk, wanted) {
+                return Some((chunk, cut));
+            }
+            k += 1;
+        }
+        None
+    }
+
+    // What is wanted, from the chunk at a place, which settles.
+    fn cut_from(&mut self, chunk: u32, wanted: Wanted) -> Option<Cut>
+        requires wanted { IsWanted self.old.geometry wanted }
+        requires there { HasChunk self.old chunk }
+        requires some { NoneEmpty (chunk_at (arena_in self.old) chunk) }
+        ensures none { IfNone result ((self.new ≡ self.old)
+            × (found_in self.old chunk wanted ≡ None)) }
+        ensures some { IfSome result (λ cut. CutsFrom self.old chunk wanted self.new cut) }
+    {
+        let place = &mut self.places[chunk as usize];
+        let cut = place.cut(wanted)?;
+        settle(place, &mut self.lists, chunk);
+        Some(cut)
+    }
+
+    // The lowest chunk place without a chunk.
+    fn first_unused(&self) -> Option<u32>
+        ensures { result ≡ first_unused self.now.chunks }
+    {
+        match first_unused(&self.places) {
+            Some(chunk) => Some(chunk as u32),
+            None => None,
+        }
+    }
+
+    // A chunk comes into use.
+    fn start(&mut self, chunk: u32)
+        requires { HasNoChunk self.old chunk }
+        ensures { Becomes self.old (λ a. opened self.old.geometry a chunk) self.new }
+    {
+        self.places[chunk as usize].start();
+        let _list = self.lists.add(chunk, 0);
+    }
+
+    // A run of the pages of a class comes back, and its chunk settles.
+    fn give_run(&mut self, class: u32, chunk: u32, piece: Piece)
+        requires whole { is_small self.old.geometry class ≡ false }
+        requires orderly { IsOrderly self.old.geometry (arena_in self.old) }
+        requires out { IsPlaceOut self.old class chunk piece }
+        ensures { Becomes self.old
+            (λ a. given_place self.old.geometry a class chunk piece.start) self.new }
+    {
+        let page = piece.start() as u32 / PAGE;
+        let pages = piece.len() as u32 / PAGE;
+        let place = &mut self.places[chunk as usize];
+        place.give_run(piece, page, pages);
+        settle(place, &mut self.lists, chunk);
+    }
+
+    // An element of a class comes back. Its subpage enters its list if it was full. If it is then
+    // idle and not alone there, it gives its run back.
+    fn give_element(&mut self, class: u32, chunk: u32, piece: Piece)
+        requires small { is_small self.old.geometry class ≡ true }
+        requires orderly { IsOrderly self.old.geometry (arena_in self.old) }
+        requires out { IsPlaceOut self.old class chunk piece }
+        ensures { Becomes self.old
+            (λ a. given_place self.old.geometry a class chunk piece.start) self.new }
+    {
+        let offset = piece.start() as u32;
+        let page = self.places[chunk as usize].start_of(offset);
+        let index = (offset - PAGE * page) / self.classes.size_of(class);
+        let spot = Spot { chunk, page };
+        let idle = self.element_back(class, spot, index, piece);
+        if !idle {
+            return;
+        }
+        let alone = self.fronts[class as usize].is_alone();
+        if !alone {
+            self.drop_subpage(class, spot);
+        }
+    }
+
+    // An element of a subpage comes back, and the subpage enters its list if it was full.
+    // Answers whether it is idle.
+    fn element_back(&mut self, class: u32, spot: Spot, index: u32, piece: Piece) -> bool
+        requires class { (class < class_count self.old.geometry)
+            × (is_small self.old.geometry class ≡ true) }
+        requires out { IsElementOutOf self.old class spot.chunk spot.page index piece }
+        requires word { spot.page < 2 ^ 15 }
+        requires some { NoneEmpty (chunk_at (arena_in self.old) spot.chunk) }
+        ensures idle { (out : IsElementOutOf self.old class spot.chunk spot.page index piece)
+            → result ≡ is_idle (with_back out.elements index) }
+        ensures back { (out : IsElementOutOf self.old class spot.chunk spot.page index piece)
+            → Becomes self.old
+            (element_back class spot.chunk spot.page index out.elements) self.new }
+    {
+        let pages = self.classes.subpage_pages(class);
+        let place = &mut self.places[spot.chunk as usize];
+        let was_full = place.is_full(spot.page);
+        let idle = place.give_element(piece, spot.page, pages, index);
+        if was_full {
+            self.fronts[class as usize].enter(spot);
+        }
+        idle
+    }
+
+    // An idle subpage leaves its list and gives its run back, and its chunk settles.
+    fn drop_subpage(&mut self, class: u32, spot: Spot)
+        requires class { class < class_count self.old.geometry }
+        requires idle { IsIdleAt self.old class spot.chunk spot.page }
+        requires some { NoneEmpty (chunk_at (arena_in self.old) spot.chunk) }
+        requires there { HasChunk self.old spot.chunk }
+        ensures { Becomes self.old
+            (subpage_given self.old.geometry class spot.chunk spot.page) self.new }
+    {
+        self.fronts[class as usize].leave(spot);
+        let place = &mut self.places[spot.chunk as usize];
+        place.drop_subpage(spot.page);
+        settle(place, &mut self.lists, spot.chunk);
+    }
+
+    /// Keeps all memory until the program ends.
+    pub(crate) fn leave(self) {
+        let Stock {
+            classes: _,
+            mut places,
+            lists: _,
+            fronts: _,
+        } = self;
+        while let Some(place) = places.pop() {
+            place.leave();
+        }
+        places.destroy_empty();
+    }
+}
+
+// A chunk settles by its usage. One that is destroyed leaves its place.
+fn settle(place: &mut ChunkPlace, lists: &mut ChunkLists, chunk: u32)
+    requires used { IsSome place.old.chunk }
+    requires order { place.old.geometry.order ≤ 11 }
+    requires listed { IsSome (list_of lists.old.lists chunk) }
+    ensures lists { lists.new ≡ with_lists lists.old
+        (settled lists.old.lists chunk (usage place.old.geometry (runs_of place.old))) }
+    ensures place { place.new ≡ with_chunk place.old (unless_gone (list_of lists.old.lists chunk)
+        (goes_to (usage place.old.geometry (runs_of place.old)) (list_of lists.old.lists chunk))
+        (runs_of place.old)) }
+    ensures list { list_of lists.new.lists chunk
+        ≡ goes_to (usage place.old.geometry (runs_of place.old)) (list_of lists.old.lists chunk) }
+    ensures within { (name : ListName) → list_of lists.new.lists chunk ≡ Some name
+        → IsWithin (usage place.old.geometry (runs_of place.old)) name }
+{
+    match lists.moved(chunk, place.usage()) {
+        Settled::At(_) => {}
+        Settled::Destroyed => place.end(),
+    }
+}
+
+// The place of the first chunk place without a chunk.
+fn first_unused(places: &[ChunkPlace]) -> Option<usize>
+    ensures place { result ≡ position (λ (p : PlaceState). not (is_some p.chunk)) places.now }
+    ensures within { IfSome result (λ i. i < length places.now) }
+{
+    places.iter().position(|place| !place.is_used())
+}
+
+// A front for each class, without a subpage: those of small classes have room for so many.
+fn new_fronts(alloc: Global, classes: &SizeClasses, room: usize) -> Result<Vec<Front>, AllocError>
+    ensures { IfOk result (λ fronts. fronts.items
+        ≡ map (front_for classes.now room) (below (class_count classes.now))) }
+{
+    let mut fronts = Vec::with_capacity(alloc, classes.count() as usize)?;
+    for class in 0..classes.count() {
+        let room = if classes.is_small(class) { room } else { 0 };
+        let front = Front::new(alloc, room)?;
+        fronts.push(front)?;
+    }
+    Ok(fronts)
+}
+
+// So many unused chunk places.
+fn new_places(alloc: Global, order: u32, chunks: u32) -> Result<Vec<ChunkPlace>, AllocError>
+    requires { (3 ≤ order) × (order ≤ 11) }
+    ensures count { IfOk result (λ places. length places.items ≡ chunks) }
+    ensures unused { IfOk result (λ places. All (λ (p : PlaceState).
+        (p.geometry ≡ of_order order) × (p.chunk ≡ None)) places.items) }
+{
+    let mut places = Vec::with_capacity(alloc, chunks as usize)?;
+    for _ in 0..chunks {
+        match ChunkPlace::new(alloc, order) {
+            Ok(place) => match places.push(place) {
+                Ok(()) => {}
+                Err(_) => unreachable!(),
+            },
+            Err(error) => {
+                close_all(places);
+                return Err(error);
+            }
+        }
+    }
+    Ok(places)
+}
+
+// Gives the memory of chunk places back, of which nothing is out.
+fn close_all(mut places: Vec<ChunkPlace>)
+    requires { All (λ (p : PlaceState). (p.chunk ≡ None) ⊎ (p.chunk ≡ Some (new_chunk p.geometry))) places.items }
+{
+    while let Some(place) = places.pop() {
+        place.close();
+    }
+    places.destroy_empty();
+}
