@@ -1,0 +1,185 @@
+-- The busy marks of the parts, as the logs have them.
+use Rattle.step_law.specs.Settings.{Setting}
+use Rattle.std.proofs.Common.{◌≡◌, ℕ, suc, ◌+◌, ◌<◌, ◌≤◌, List, [], ◌∷◌, length, get_or, Bool, true, false, cond, sym, refl, ap, ◌∙◌, subst, arith, ⊎_elim, eq-eqb, eqb-true, Some}
+use Rattle.std.specs.Prelude.{◌==◌, Option, option_map, unwrap_or, All, AllPairs, MatchBool, filter, slice_get}
+use Rattle.std.proofs.lemmas.Option.{slice_get-map, slice_get_within, get_or_from_slice_get}
+use Rattle.std.proofs.lemmas.List.Elements.{All-head, All-tail, All-weaker}
+use mathlib.Core.Logic.{dite}
+use native.Mathlib.Decide.{ℕ_discrete, dec_le}
+use Rattle.pool_law.specs.declared.run.Shape.{Shape}
+use Rattle.pool_law.specs.declared.note.Did.{Did}
+use Rattle.pool_law.specs.declared.note.Held.{Held}
+use Rattle.pool_law.specs.declared.note.Note.{Note}
+use Rattle.pool_law.specs.declared.note.Noted.{Noted}
+use Rattle.pool_law.specs.declared.note.Object.{Object}
+use Rattle.pool_law.specs.Homes.{home_of, IsObjectOf}
+use Rattle.pool_law.specs.Same.{same_object}
+use Rattle.pool_law.specs.Logs.{History as LawHistory, log_of, history_of}
+use Rattle.pool_law.specs.Busy.{Rises, IsOfAnother, MarksHold, BusyHolds}
+use Rattle.pool_table.specs.declared.views.Entry.{Entry}
+use Rattle.pool_table.specs.declared.views.Entry.TheVariants.{At, Ref, Busy}
+use Rattle.pool_table.specs.declared.views.Layout.{Layout}
+use Rattle.pool_table.specs.declared.views.Part.{Part}
+use Rattle.pool_table.specs.declared.views.SeatView.{SeatView}
+use Rattle.pool_table.specs.Views.{parts_of, is_about, is_numbered}
+use Rattle.pool_table.specs.Sound.{Before, Tells, Stands}
+use Rattle.pool_table.specs.Closed.{IsClosed}
+use Rattle.shared_pool.specs.Closing.{AreLanes, logs_in}
+use Rattle.shared_pool.proofs.ClosingNumbers.{with_lane}
+use Rattle.shared_pool.proofs.ClosingHistories.{object_or, same_about, no_same, notes_in, pairs_head, pairs_tail}
+use Rattle.shared_pool.proofs.ClosingWhole.{at, there_or, log_at, log_past, stands_at, told_at, history_at, note_there}
+use Rattle.shared_pool.proofs.ClosingEntries.{in_filter}
+
+by_test : (b c : Bool) (A B : Type 0) → b ≡ c → MatchBool c A B → MatchBool b A B
+by_test b c A B e t = subst (λ (x : Bool). MatchBool x A B) (sym e) t
+
+-- ---- Numbers rise.
+
+-- what stands in a lane's strand at an object is above what the lane has seen there
+abbrev RisesIn : ℕ → List Entry → Type 0
+RisesIn seen [] = Unit {0}
+RisesIn seen (At o k n ∷ es) = (seen < k) × RisesIn k es
+RisesIn seen (Ref r d ∷ es) = RisesIn seen es
+RisesIn seen (Busy b ∷ es) = (seen ≤ b.number) × RisesIn b.number es
+
+abbrev Above : ℕ → Entry → Type 0
+Above seen (At o k n) = seen < k
+Above seen (Ref r d) = Unit {0}
+Above seen (Busy b) = seen ≤ b.number
+
+after_note : (o : Object) (k : ℕ) (n : Noted) (e : Entry) → Before (At o k n) e → Above k e
+after_note o k n (At p j m) t = t
+after_note o k n (Ref r d) t = tt
+after_note o k n (Busy b) t = t
+
+after_mark : (b : Held) (e : Entry) → Before (Busy b) e → Above b.number e
+after_mark b (At p j m) t = let a : b.number + 1 < j = t in let g : b.number < j = omega (arith, a) in g
+after_mark b (Ref r d) t = tt
+after_mark b (Busy c) t = t
+
+rises_in : (seen : ℕ) (es : List Entry) → AllPairs Before es → All (Above seen) es → RisesIn seen es
+rises_in seen [] pairs above = tt
+rises_in seen (At o k n ∷ es) pairs above = (
+  All-head (Above seen) (At o k n) es above,
+  rises_in k es (pairs_tail Before (At o k n) es pairs) (All-weaker (Before (At o k n)) (Above k) (after_note o k n) es (pairs_head Before (At o k n) es pairs)),
+)
+rises_in seen (Ref r d ∷ es) pairs above = rises_in seen es (pairs_tail Before (Ref r d) es pairs) (All-tail (Above seen) (Ref r d) es above)
+rises_in seen (Busy b ∷ es) pairs above = (
+  All-head (Above seen) (Busy b) es above,
+  rises_in b.number es (pairs_tail Before (Busy b) es pairs) (All-weaker (Before (Busy b)) (Above b.number) (after_mark b) es (pairs_head Before (Busy b) es pairs)),
+)
+
+-- and so in the whole part
+rises_all : (s : Shape) (lane : Option ℕ) (o : Object) → IsObjectOf s o → (seen : ℕ) (es : List Entry) → All (Stands s lane) es → RisesIn seen (filter (is_about s (home_of s o)) es) → Rises o seen (notes_in es)
+rises_all s lane o fits seen [] all r = tt
+rises_all s lane o fits seen (At p k n ∷ es) all r =
+    let st = All-head (Stands s lane) (At p k n) es all in let rest = All-tail (Stands s lane) (At p k n) es all in
+    by_test (same_object o p) (home_of s p == home_of s o) ((seen < k) × Rises o k (notes_in es)) (Rises o seen (notes_in es)) (same_about s o p fits st.object)
+    (by (home_of s p == home_of s o) (λ x t. rises_all s lane o fits x es rest t) r)
+  where
+    by : (b : Bool) → ((x : ℕ) → RisesIn x (filter (is_about s (home_of s o)) es) → Rises o x (notes_in es)) →
+        RisesIn seen (cond b (At p k n ∷ filter (is_about s (home_of s o)) es) (filter (is_about s (home_of s o)) es)) →
+        MatchBool b ((seen < k) × Rises o k (notes_in es)) (Rises o seen (notes_in es))
+    by true ih r = (r.0, ih k r.1)
+    by false ih r = ih seen r
+rises_all s lane o fits seen (Ref x d ∷ es) all r = rises_all s lane o fits seen es (All-tail (Stands s lane) (Ref x d) es all) r
+rises_all s lane o fits seen (Busy h ∷ es) all r =
+    let st = All-head (Stands s lane) (Busy h) es all in let rest = All-tail (Stands s lane) (Busy h) es all in
+    by_test (same_object o h.object) (home_of s h.object == home_of s o) ((seen ≤ h.number) × Rises o h.number (notes_in es)) (Rises o seen (notes_in es)) (same_about s o h.object fits st.0)
+    (by (home_of s h.object == home_of s o) (λ x t. rises_all s lane o fits x es rest t) r)
+  where
+    by : (b : Bool) → ((x : ℕ) → RisesIn x (filter (is_about s (home_of s o)) es) → Rises o x (notes_in es)) →
+        RisesIn seen (cond b (Busy h ∷ filter (is_about s (home_of s o)) es) (filter (is_about s (home_of s o)) es)) →
+        MatchBool b ((seen ≤ h.number) × Rises o h.number (notes_in es)) (Rises o seen (notes_in es))
+    by true ih r = (r.0, ih h.number r.1)
+    by false ih r = ih seen r
+
+rises_none : (s : Shape) (lane : Option ℕ) (o : Object) → (IsObjectOf s o → ⊥) → (seen : ℕ) (es : List Entry) → All (Stands s lane) es → Rises o seen (notes_in es)
+rises_none s lane o none seen [] all = tt
+rises_none s lane o none seen (At p k n ∷ es) all =
+    let st = All-head (Stands s lane) (At p k n) es all in
+    by_test (same_object o p) false ((seen < k) × Rises o k (notes_in es)) (Rises o seen (notes_in es)) (no_same s o p none st.object) (rises_none s lane o none seen es (All-tail (Stands s lane) (At p k n) es all))
+rises_none s lane o none seen (Ref r d ∷ es) all = rises_none s lane o none seen es (All-tail (Stands s lane) (Ref r d) es all)
+rises_none s lane o none seen (Busy h ∷ es) all =
+    let st = All-head (Stands s lane) (Busy h) es all in
+    by_test (same_object o h.object) false ((seen ≤ h.number) × Rises o h.number (notes_in es)) (Rises o seen (notes_in es)) (no_same s o h.object none st.0) (rises_none s lane o none seen es (All-tail (Stands s lane) (Busy h) es all))
+
+told_above : (o : Object) (h : List Noted) (limit : ℕ) (lane : Option ℕ) (e : Entry) → Tells o h limit lane e → Above 0 e
+told_above o h limit lane (At p k n) t = t.0
+told_above o h limit lane (Ref r d) t = tt
+told_above o h limit lane (Busy b) t = omega arith
+
+-- ---- Marks.
+
+-- two of a list at two places
+pairs_at : {X : Type 0} (R : X → X → Type 0) (xs : List X) (i j : ℕ) (x y : X) → AllPairs R xs → slice_get xs i ≡ Some x → slice_get xs j ≡ Some y → i < j → R x y
+pairs_at {X = X} R xs i j x y all is there lt =
+    let p = all i j x lt (slice_get_within xs j y there) in
+    let a = get_or_from_slice_get xs i x x is in let b = get_or_from_slice_get xs j y x there in
+    subst (λ (z : X). R z y) a (subst (λ (z : X). R (get_or xs i x) z) b p)
+
+-- no note of a lane stands where its mark says that another's does
+not_both : (es : List Entry) (i j : ℕ) (b : Held) (e : Entry) → AllPairs Before es → slice_get es i ≡ Some (Busy b) → slice_get es j ≡ Some e → is_numbered (b.number + 1) e ≡ true → ⊥
+not_both es i j b (At p k n) pairs is there t =
+    let same : k ≡ b.number + 1 = eqb-true k (b.number + 1) t in
+    dite (ℕ_discrete i j)
+    (λ e. let one : Some (Busy b) ≡ Some (At p k n) = sym is ∙ (ap (λ (x : ℕ). slice_get es x) e ∙ there) in absurd (cc one))
+    (λ ne. dite (dec_le i j)
+    (λ le. let a : b.number + 1 < k = pairs_at Before es i j (Busy b) (At p k n) pairs is there (omega (arith, le, ne)) in omega (arith, a, same))
+    (λ gt. let a : k ≤ b.number = pairs_at Before es j i (At p k n) (Busy b) pairs there is (omega (arith, gt)) in omega (arith, a, same)))
+not_both es i j b (Ref r d) pairs is there t = absurd (cc t)
+not_both es i j b (Busy c) pairs is there t = absurd (cc t)
+
+-- the marks of a list, each by itself
+marks_from : (lane : ℕ) (history : Object → LawHistory) (es : List Entry) → ((j : ℕ) (b : Held) → slice_get es j ≡ Some (Busy b) → IsOfAnother lane (slice_get (history b.object) b.number)) →
+    MarksHold lane history (notes_in es)
+marks_from lane history [] each = tt
+marks_from lane history (At o k n ∷ es) each = marks_from lane history es (λ j b is. each (suc j) b is)
+marks_from lane history (Ref r d ∷ es) each = marks_from lane history es (λ j b is. each (suc j) b is)
+marks_from lane history (Busy h ∷ es) each = (each 0 h refl, marks_from lane history es (λ j b is. each (suc j) b is))
+
+module _ {H : Type 0} (stands : List ℕ → Setting → List Noted → H → Type 0) (l : Layout) (v : SeatView) (homes : List (Option H)) (words : List ℕ)
+    (closed : IsClosed stands l v homes words) (lanes : AreLanes l.shape (parts_of v)) where
+  abbrev histories : Object → LawHistory
+  histories o = history_of o (logs_in (parts_of v))
+
+  rises_at : (lane : ℕ) (p : Part) → slice_get (parts_of v) lane ≡ Some p → (o : Object) → Rises o 0 (notes_in p.notes)
+  rises_at lane p there o = ⊎_elim
+      (λ (fits : IsObjectOf l.shape o).
+      let h = (closed.objects o fits).history in let t = told_at stands l v homes words closed lanes o fits lane p there in
+      rises_all l.shape p.number o fits 0 p.notes (stands_at stands l v homes words closed lanes lane p there)
+      (rises_in 0 (filter (is_about l.shape (home_of l.shape o)) p.notes) t.ordered
+      (All-weaker (Tells o h (length h) p.number) (Above 0) (told_above o h (length h) p.number) (filter (is_about l.shape (home_of l.shape o)) p.notes) t.told)))
+      (λ (none : IsObjectOf l.shape o → ⊥). rises_none l.shape p.number o none 0 p.notes (stands_at stands l v homes words closed lanes lane p there))
+      (object_or l.shape o)
+
+  mark_at : (lane : ℕ) (p : Part) → slice_get (parts_of v) lane ≡ Some p → (j : ℕ) (b : Held) → slice_get p.notes j ≡ Some (Busy b) → IsOfAnother lane (slice_get (histories b.object) b.number)
+  mark_at lane p there j b is =
+      let st = at (Stands l.shape p.number) p.notes j (Busy b) (stands_at stands l v homes words closed lanes lane p there) is in
+      let fits : IsObjectOf l.shape b.object = st.0 in let h = (closed.objects b.object fits).history in
+      let es : List Entry = filter (is_about l.shape (home_of l.shape b.object)) p.notes in
+      let t = told_at stands l v homes words closed lanes b.object fits lane p there in
+      let f = in_filter (is_about l.shape (home_of l.shape b.object)) p.notes j (Busy b) is (eq-eqb (home_of l.shape b.object) (home_of l.shape b.object) refl) in
+      let tells = at (Tells b.object h (length h) p.number) es f.0 (Busy b) t.told f.1 in
+      ⊎_elim
+      (λ (x : (n : Noted) × (slice_get h b.number ≡ Some n)).
+      let law : slice_get (histories b.object) b.number ≡ Some (with_lane x.0) =
+      ap (λ (q : LawHistory). slice_get q b.number) (history_at stands l v homes words closed lanes b.object fits)
+      ∙ (slice_get-map with_lane h b.number ∙ ap (λ (o : Option Noted). option_map with_lane o) x.1) in
+      let s = note_there stands l v homes words closed lanes b.object fits b.number x.0 x.1 in
+      subst (λ (o : Option (ℕ × Did)). IsOfAnother lane o) (sym law)
+      (λ e. let same : s.lane ≡ lane = sym (ap (λ (o : Option ℕ). unwrap_or o 0) s.lane_is) ∙ e in
+      let part : Some s.part ≡ Some p = sym s.there ∙ (ap (λ (i : ℕ). slice_get (parts_of v) i) same ∙ there) in
+      let one : s.part ≡ p = cc part in
+      not_both es f.0 s.index b s.entry t.ordered f.1 (subst (λ (q : Part). slice_get (filter (is_about l.shape (home_of l.shape b.object)) q.notes) s.index ≡ Some s.entry) one s.stood) s.number))
+      (λ (past : length h ≤ b.number). let a : b.number < length h = tells.0 in let m : ℕ = length h in let a' : b.number < m = a in let c : m ≤ b.number = past in absurd (omega (arith, a', c)))
+      (there_or h b.number)
+
+  pub busy_holds : (lane : ℕ) → BusyHolds lane (λ o. history_of o (logs_in (parts_of v))) (log_of (logs_in (parts_of v)) lane)
+  busy_holds lane = ⊎_elim
+      (λ (t : (p : Part) × (slice_get (parts_of v) lane ≡ Some p)).
+      subst (λ (x : List Note). BusyHolds lane histories x) (sym (log_at (parts_of v) lane t.0 t.1))
+      (record { rises = rises_at lane t.0 t.1; marks = marks_from lane histories t.0.notes (mark_at lane t.0 t.1) }))
+      (λ (past : length (parts_of v) ≤ lane).
+      subst (λ (x : List Note). BusyHolds lane histories x) (sym (log_past (parts_of v) lane past)) (record { rises = λ o. tt; marks = tt }))
+      (there_or (parts_of v) lane)

@@ -1,0 +1,28 @@
+-- When the table is closed, the parts of all lanes are whole logs.
+use Rattle.step_law.specs.Settings.{Setting}
+use Rattle.std.proofs.Common.{ℕ, List}
+use Rattle.std.specs.Prelude.{Option}
+use Rattle.pool_law.specs.declared.note.Noted.{Noted}
+use Rattle.pool_table.specs.declared.views.Layout.{Layout}
+use Rattle.pool_table.specs.declared.views.SeatView.{SeatView}
+use Rattle.pool_table.specs.Views.{parts_of}
+use Rattle.pool_table.specs.Closed.{IsClosed}
+use Rattle.shared_pool.specs.Closing.{AreLanes, AreWhole, HasNoPlace}
+use Rattle.shared_pool.proofs.ClosingWhole.{histories_hold}
+use Rattle.shared_pool.proofs.ClosingEntries.{entries_hold}
+use Rattle.shared_pool.proofs.ClosingOrder.{order_holds}
+use Rattle.shared_pool.proofs.ClosingBusy.{busy_holds}
+use Rattle.shared_pool.proofs.ClosingLooks.{looks_hold}
+use Rattle.shared_pool.proofs.ClosingTotals.{totals_hold}
+
+-- only histories, entries and busy marks need the lanes to be in order, and only totals that no place is in hand
+pub parts-whole : {H : Type 0} (stands : List ℕ → Setting → List Noted → H → Type 0) (l : Layout) (v : SeatView) (homes : List (Option H)) (words : List ℕ) →
+    IsClosed stands l v homes words → AreLanes l.shape (parts_of v) → HasNoPlace v → AreWhole l.shape (parts_of v)
+parts-whole stands l v homes words closed lanes none = record {
+  histories = histories_hold stands l v homes words closed lanes;
+  entries = entries_hold stands l v homes words closed lanes;
+  totals = totals_hold stands l v homes words closed none;
+  looks = looks_hold stands l v homes words closed;
+  busy = busy_holds stands l v homes words closed lanes;
+  order = order_holds stands l v homes words closed;
+}

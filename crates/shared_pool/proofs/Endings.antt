@@ -1,0 +1,96 @@
+-- What a section tells, and when it may end.
+use Rattle.std.proofs.Common.{◌≡◌, ℕ, ◌+◌, ◌-◌, List, [], ◌∷◌, ◌++◌, sym, ap, ◌∙◌, subst, refl}
+use Rattle.std.specs.Prelude.{Option, Some, None, IfSome}
+use Rattle.step_law.specs.Settings.{Setting}
+use Rattle.step_law.specs.declared.Told.{Ghosts}
+use Rattle.pool_law.specs.declared.note.Did.{Did}
+use Rattle.pool_law.specs.declared.note.Did.TheVariants.{Birth}
+use Rattle.pool_law.specs.declared.note.Noted.{Noted}
+use Rattle.pool_law.specs.NotedHistories.{IsRightWatch}
+use Rattle.pool_law.specs.declared.note.Object.{Object}
+use Rattle.pool_law.specs.Naming.{noted_by}
+use Rattle.table_law.specs.Histories.{IsHistory}
+use Rattle.table_law.specs.Measures.{measures_of}
+use Rattle.pool_table.specs.declared.views.Entry.{Entry}
+use Rattle.pool_table.specs.declared.views.Entry.TheVariants.{At}
+use Rattle.pool_table.specs.declared.views.Layout.{Layout}
+use Rattle.pool_table.specs.declared.views.SeatView.{SeatView}
+use Rattle.pool_table.specs.declared.table.PoolSeat.{PoolSeat}
+use Rattle.pool_table.specs.declared.table.Section.{Section}
+use Rattle.pool_table.specs.Views.{with_entry}
+use Rattle.pool_table.specs.Seats.{view_of, HasView, SameSeat}
+use Rattle.pool_table.specs.Sections.{GotSection, MayEnd, IsInside}
+use Rattle.shared_pool.specs.declared.home.Home.{Home}
+use Rattle.shared_pool.specs.declared.pool.SharedPool.{SharedPool}
+use Rattle.shared_pool.specs.Standing.{HomeStands}
+use Rattle.shared_pool.specs.Seats.{IsPoolSeat, IsNoted}
+
+module _ {G : Ghosts Home Noted} (l : Layout) (o : Object) (old new : PoolSeat Home G) (section : Section Home) (got : GotSection HomeStands l o old new section) (setting : Setting) (known : (view_of old).setting ≡ Some setting) where
+  -- the home value of the section stands for the history
+  pub stood : HomeStands (measures_of l.shape o) setting got.history section.home
+  stood = subst (λ (y : Option Setting). IfSome y (λ g. HomeStands (measures_of l.shape o) g got.history section.home)) known got.learned.stands_for
+
+  -- the note as this seat makes it, after the history of the section
+  abbrev pub longer : Noted → List Noted
+  longer n = got.history ++ noted_by (view_of old).own.number n ∷ []
+
+  -- the note follows, and the home value stands for the longer history
+  pub record IsNext (after : Section Home) (n : Noted) : Type 0 where
+    pub same_object : after.object ≡ section.object
+    pub same_slot : after.slot ≡ section.slot
+    pub follows : IsHistory l.shape o (longer n)
+    pub stands : HomeStands (measures_of l.shape o) setting (longer n) after.home
+
+  -- the section may end with a note that follows
+  pub ends : (after : Section Home) (n : Noted) → IsNext after n → MayEnd HomeStands l.shape new after n
+  ends after n next =
+      record {
+        history = got.history;
+        inside = subst (λ (x : Object × ℕ). IsInside l.shape new.seat.me x.0 x.1 got.history) (λ i. (sym object_is i, sym next.same_slot i)) got.inside;
+        follows = subst (λ (x : Object × Option ℕ). IsHistory l.shape x.0 (got.history ++ noted_by x.1 n ∷ [])) (λ i. (sym object_is i, sym number_is i)) next.follows;
+        stands_for = record {
+          setting = setting;
+          known = ap (λ v. v.setting) got.view ∙ known;
+          stands_for = subst (λ (x : Object × Option ℕ). HomeStands (measures_of l.shape x.0) setting (got.history ++ noted_by x.1 n ∷ []) after.home) (λ i. (sym object_is i, sym number_is i)) next.stands;
+        };
+      }
+    where
+      object_is : after.object ≡ o
+      object_is = next.same_object ∙ got.object
+
+      number_is : (view_of new).own.number ≡ (view_of old).own.number
+      number_is = ap (λ v. v.own.number) got.view
+
+  -- the note that ended the section
+  pub made : (pool : SharedPool) (last : PoolSeat Home G) (after : Section Home) (number : ℕ) (n : Noted) → pool.table.layout ≡ l → IsNext after n →
+      IfSome (view_of new).inside (λ x. number ≡ x.number + 1) →
+      HasView last (with_entry (view_of new) (At after.object number (noted_by (view_of new).own.number n)) ((view_of new).turns - 1)) →
+      IsNoted pool old last o number n
+  made pool last after number n layout next counted has =
+      record {
+        history = got.history;
+        number_is = subst (λ (v : SeatView). IfSome v.inside (λ x. number ≡ x.number + 1)) got.view counted;
+        accepted = subst (λ (y : Layout). IsHistory y.shape o (longer n)) (sym layout) next.follows;
+        seat = subst (λ (x : SeatView × Object). HasView last (with_entry x.0 (At x.1 number (noted_by x.0.own.number n)) (x.0.turns - 1))) (λ i. (got.view i, (next.same_object ∙ got.object) i)) has;
+      }
+
+-- a plain note carries no watch
+pub plain_watch : (did : Did) → IsRightWatch did None
+plain_watch (Birth root region) = tt
+plain_watch _ = refl
+
+-- a seat stays one of the pool's under a note
+pub noted_seat : {G : Ghosts Home Noted} (pool : SharedPool) (old new : PoolSeat Home G) (e : Entry) (turns : ℕ) → IsPoolSeat pool old → SameSeat old new → HasView new (with_entry (view_of old) e turns) → IsPoolSeat pool new
+noted_seat pool old new e turns s same has =
+    record {
+      own = same.0 ∙ s.own;
+      outside = (ap (λ m. m.0.inside) has, ap (λ m. m.1) has);
+      alone = ap (λ m. m.0.others) has ∙ s.alone;
+      lane = s.lane;
+      number = ap (λ m. m.0.own.number) has ∙ s.number;
+      below = s.below;
+      setting = s.setting;
+      settled = ap (λ m. m.0.setting) has ∙ s.settled;
+      arenas = s.arenas;
+      mails = s.mails;
+    }

@@ -1,0 +1,71 @@
+-- What the parts of all seats are at the close, as logs of lanes.
+use Rattle.std.specs.Prelude.{◌≡◌, ℕ, ◌<◌, List, ◌∷◌, ◌++◌, length, map, Some, None, slice_get}
+use Rattle.pool_law.specs.declared.id.RootId.{RootId}
+use Rattle.pool_law.specs.declared.note.Object.{Object}
+use Rattle.pool_law.specs.declared.note.Did.{Did}
+use Rattle.pool_law.specs.declared.note.Note.{Note}
+use Rattle.pool_law.specs.declared.run.Shape.{Shape}
+use Rattle.pool_law.specs.NotedHistories.{entry_of_noted}
+use Rattle.pool_law.specs.Logs.{Logs, Entry, log_of, history_of, entries_of}
+use Rattle.pool_law.specs.Counts.{CountsHold, TotalHolds, count_over, is_birth}
+use Rattle.pool_law.specs.Busy.{BusyHolds}
+use Rattle.pool_law.specs.Legal.{HistoriesHold, LooksHold, others_retains}
+use Rattle.pool_table.specs.declared.views.Entry.{Entry as SeatEntry}
+use Rattle.pool_table.specs.declared.views.Entry.TheVariants.{At, Ref, Busy}
+use Rattle.pool_table.specs.declared.views.Part.{Part}
+use Rattle.pool_table.specs.declared.views.SeatView.{SeatView}
+use Rattle.pool_table.specs.Hands.{InHand}
+
+-- an entry of a part as a note of a log, and as an entry that knows its root and region
+abbrev pub note_of : SeatEntry → Note
+note_of (At object number noted) = Note.At object number noted.did
+note_of (Ref root did) = Note.Ref root did
+note_of (Busy held) = Note.Busy held
+
+abbrev pub entry_of : SeatEntry → Entry
+entry_of (At object number noted) = entry_of_noted object number noted
+entry_of (Ref root did) = record { note = Note.Ref root did; root = None; region = None }
+entry_of (Busy held) = record { note = Note.Busy held; root = None; region = None }
+
+-- the parts as logs
+abbrev pub logs_in : List Part → Logs
+logs_in parts = map (λ p. map note_of p.notes) parts
+
+-- and with what each entry knows
+abbrev pub entries_in : List Part → List (List Entry)
+entries_in parts = map (λ p. map entry_of p.notes) parts
+
+-- a note that stands after one at an object is numbered above all that stands, in another log,
+-- before an earlier note there: so what a lane did before a post has, at each object, a lower
+-- number than what the receiver did there after the fetch of it
+abbrev pub IsOrdered : Logs → Type 0
+IsOrdered logs =
+    (lane other : ℕ) (before after early late : List Note)
+    (o p : Object) (j k m n : ℕ) (a b d e : Did) (between beyond : List Note) →
+    log_of logs lane ≡ before ++ Note.At o k a ∷ (between ++ Note.At p n b ∷ after) →
+    log_of logs other ≡ early ++ Note.At p m d ∷ (beyond ++ Note.At o j e ∷ late) →
+    j < k → m < n
+
+-- the parts are those of the lanes, in order
+pub record AreLanes (shape : Shape) (parts : List Part) : Type 0 where
+  pub many : length parts ≡ shape.lanes
+  pub numbers : (lane : ℕ) (p : Part) → slice_get parts lane ≡ Some p → p.number ≡ Some lane
+
+-- no root place is in the view's hands
+abbrev pub HasNoPlace : SeatView → Type 0
+HasNoPlace v = (place : ℕ) → InHand place v → ⊥
+
+-- the logs are whole, and what the law says of logs alone holds. What a lane looked up is in its
+-- bounds where the lane's own count of the root holds.
+pub record AreWhole (shape : Shape) (parts : List Part) : Type 0 where
+  pub histories : HistoriesHold shape (logs_in parts)
+  pub entries : entries_of (logs_in parts) ≡ entries_in parts
+  pub totals : (root : RootId) → 0 < count_over (is_birth root) (entries_in parts) →
+      TotalHolds root (entries_in parts)
+  pub looks : (root : RootId) (lane : ℕ) →
+      CountsHold root 0 (log_of (entries_in parts) lane) →
+      LooksHold root (others_retains root lane 0 (entries_in parts)) 0 0 0
+      (log_of (entries_in parts) lane)
+  pub busy : (lane : ℕ) →
+      BusyHolds lane (λ object. history_of object (logs_in parts)) (log_of (logs_in parts) lane)
+  pub order : IsOrdered (logs_in parts)

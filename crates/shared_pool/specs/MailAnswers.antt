@@ -1,0 +1,30 @@
+-- What a fetch answered, and when a post finds room.
+use Rattle.std.specs.Prelude.{◌≡◌, ℕ, ◌+◌, ◌*◌, ◌<◌, Some, IfSome, slice_get}
+use Rattle.pool_law.specs.declared.id.Parcel.{Parcel}
+use Rattle.pool_law.specs.declared.note.Held.{Held}
+use Rattle.pool_law.specs.declared.run.Shape.{Shape}
+use Rattle.pool_table.specs.declared.views.SeatView.{SeatView}
+use Rattle.shared_pool.specs.Quotas.{posts}
+use Rattle.shared_pool.specs.declared.went.Fetched.{Fetched}
+use Rattle.shared_pool.specs.declared.went.Fetched.TheVariants.{Got, Empty, Held as Busy}
+
+abbrev pub IfGot : Fetched → (ℕ → Parcel → Type 0) → Type 0
+IfGot (Got number parcel) P = P number parcel
+IfGot Empty P = Unit {0}
+IfGot (Busy held) P = Unit {0}
+
+abbrev pub IfEmpty : Fetched → Type 0 → Type 0
+IfEmpty (Got number parcel) P = Unit {0}
+IfEmpty Empty P = P
+IfEmpty (Busy held) P = Unit {0}
+
+abbrev pub IfFetchHeld : Fetched → (Held → Type 0) → Type 0
+IfFetchHeld (Got number parcel) P = Unit {0}
+IfFetchHeld Empty P = Unit {0}
+IfFetchHeld (Busy held) P = P held
+
+-- the seat posted fewer parcels to the lane than the mail has room for
+pub record HasRoom (s : Shape) (sender receiver : ℕ) (v : SeatView) : Type 0 where
+  pub room : ℕ
+  pub known : IfSome v.setting (λ t. slice_get t.mail (sender * s.lanes + receiver) ≡ Some room)
+  pub fewer : posts sender receiver v.own.notes < room

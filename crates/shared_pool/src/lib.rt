@@ -1,0 +1,27 @@
+#![tactic(auto)]
+//! The pool for many threads: any thread with a seat allocates, writes, reads, retains, releases and
+//! hands over. Each call is one event of one object's history, or one step on one root's count.
+
+mod arenas;
+mod bins;
+mod caches;
+mod counts;
+mod home;
+mod laws;
+mod mail;
+mod mails;
+mod opening;
+mod place_sections;
+mod pool;
+mod root_notes;
+mod root_place;
+mod roots;
+mod told;
+mod went;
+
+pub use home::Home;
+pub use laws::parts_are_whole_logs;
+pub use mail::Mail;
+pub use pool::{PoolSeat, SharedPool};
+pub use root_place::RootPlace;
+pub use went::{Fetched, Put, Release, Retired, Went};

@@ -1,0 +1,248 @@
+//! How a pool is made: one home value for each object, in the order of the objects.
+
+ghost use Rattle.std.specs.Prelude.{◌≡◌, ◌*◌, ◌<◌, ◌≤◌, ◌^◌, ◌++◌, ◌∷◌, [], length, IfOk};
+ghost use Rattle.pool_law.specs.Limits.{IsShape, cache_capacity};
+ghost use Rattle.shared_pool.specs.Opening.{IsFirstArena, IsCacheOf, IsFirstCache, IsFirstBin, IsMailOf, IsFirstMail, IsNewRoot, Adds, AreFirst, AreOpened};
+
+use crate::home::Home;
+use crate::mail::Mail;
+use crate::pool::{PoolSeat, SharedPool};
+use crate::root_place::{Root, RootPlace};
+use handle_bin::Bin;
+use pool_arena::Arena;
+use pool_law::Shape;
+use pool_table::{Layout, PoolTable};
+use region_cache::Cache;
+use std::alloc::{AllocError, AllocFailed, Global};
+
+impl SharedPool {
+    /// A pool with all the memory that it needs, and a seat for each lane, in order. `mail` has for
+    /// each two lanes how many parcels the first may post to the second in all.
+    ///
+    /// After want of memory what was taken stays taken until the program ends.
+    pub fn new(
+        alloc: Global,
+        layout: Layout,
+        mail: &[u32],
+    ) -> Result<(SharedPool, Vec<PoolSeat>), AllocError>
+        requires shape { IsShape layout.shape }
+        requires mail { length mail.now ≡ layout.shape.lanes * layout.shape.lanes }
+        requires moves { layout.shape.lanes * layout.moves < 2 ^ 30 }
+        requires turns { layout.shape.lanes * layout.turns < 2 ^ 62 }
+        ensures layout { IfOk result (λ r. r.0.layout ≡ layout) }
+        ensures seats { IfOk result (λ r. AreOpened layout mail.now r.0 r.1.items) }
+    {
+        let mut homes = Vec::new(alloc);
+        let Ok(()) = fill(alloc, &layout.shape, mail, &mut homes) else {
+            spend_all(homes);
+            return Err(AllocError);
+        };
+        match PoolTable::new(alloc, layout, homes) {
+            Ok((table, seats)) => Ok((SharedPool { table, layout }, seats)),
+            Err(homes) => {
+                spend_all(homes);
+                Err(AllocError)
+            }
+        }
+    }
+}
+
+// The home values of all objects.
+fn fill(alloc: Global, shape: &Shape, mail: &[u32], homes: &mut Vec<Home>) -> Result<(), AllocError>
+    requires shape { IsShape shape.now }
+    requires mail { length mail.now ≡ shape.now.lanes * shape.now.lanes }
+    requires empty { homes.old.items ≡ [] }
+    ensures { IfOk result (λ u. AreFirst shape.now mail.now homes.new.items) }
+{
+    add_arenas(alloc, shape, homes)?;
+    add_caches(alloc, shape, homes)?;
+    add_bins(alloc, shape, homes)?;
+    add_mails(alloc, mail, homes)?;
+    add_roots(alloc, shape, homes)
+}
+
+fn add_arenas(alloc: Global, shape: &Shape, homes: &mut Vec<Home>) -> Result<(), AllocError>
+    requires { IsShape shape.now }
+    ensures { IfOk result (λ u.
+        Adds (IsFirstArena shape.now) shape.now.arenas homes.old.items homes.new.items) }
+{
+    for number in 0..shape.arenas {
+        let home = arena_home(alloc, shape, number)?;
+        add(homes, home)?;
+    }
+    Ok(())
+}
+
+fn add_caches(alloc: Global, shape: &Shape, homes: &mut Vec<Home>) -> Result<(), AllocError>
+    requires { IsShape shape.now }
+    ensures { IfOk result (λ u.
+        Adds IsFirstCache (shape.now.lanes * 40) homes.old.items homes.new.items) }
+{
+    for index in 0..shape.lanes * 40 {
+        let home = cache_home(alloc, index % 40)?;
+        add(homes, home)?;
+    }
+    Ok(())
+}
+
+fn add_bins(alloc: Global, shape: &Shape, homes: &mut Vec<Home>) -> Result<(), AllocError>
+    requires { IsShape shape.now }
+    ensures { IfOk result (λ u.
+        Adds (IsFirstBin shape.now.handles) shape.now.lanes homes.old.items homes.new.items) }
+{
+    for lane in 0..shape.lanes {
+        let home = bin_home(alloc, lane, shape.handles)?;
+        add(homes, home)?;
+    }
+    Ok(())
+}
+
+fn add_mails(alloc: Global, mail: &[u32], homes: &mut Vec<Home>) -> Result<(), AllocError>
+    ensures { IfOk result (λ u.
+        Adds (IsFirstMail mail.now) (length mail.now) homes.old.items homes.new.items) }
+{
+    for index in 0..mail.len() {
+        let home = mail_home(alloc, mail[index])?;
+        add(homes, home)?;
+    }
+    Ok(())
+}
+
+fn add_roots(alloc: Global, shape: &Shape, homes: &mut Vec<Home>) -> Result<(), AllocError>
+    requires { IsShape shape.now }
+    ensures { IfOk result (λ u.
+        Adds (λ k. IsNewRoot) (shape.now.lanes * shape.now.handles)
+        homes.old.items homes.new.items) }
+{
+    for _ in 0..shape.lanes * shape.handles {
+        let home = root_home(alloc)?;
+        add(homes, home)?;
+    }
+    Ok(())
+}
+
+// Puts a home value behind the others.
+fn add(homes: &mut Vec<Home>, home: Home) -> Result<(), AllocError>
+    ensures { IfOk result (λ u. homes.new.items ≡ homes.old.items ++ home ∷ []) }
+{
+    match homes.push(home) {
+        Ok(()) => Ok(()),
+        Err(AllocFailed { value }) => {
+            spend(value);
+            Err(AllocError)
+        }
+    }
+}
+
+fn arena_home(alloc: Global, shape: &Shape, number: u32) -> Result<Home, AllocError>
+    requires shape { IsShape shape.now }
+    requires number { number < shape.now.arenas }
+    ensures { IfOk result (IsFirstArena shape.now number) }
+{
+    let arena = Arena::new(alloc, number, shape.order, shape.chunks)?;
+    match Box::new(alloc, arena) {
+        Ok(arena) => Ok(Home::Arena(arena)),
+        Err(AllocFailed { value }) => {
+            value.leave();
+            Err(AllocError)
+        }
+    }
+}
+
+fn cache_home(alloc: Global, class: u32) -> Result<Home, AllocError>
+    requires { class < 40 }
+    ensures { IfOk result (IsCacheOf class) }
+{
+    let cache = Cache::new(alloc, capacity(class))?;
+    match Box::new(alloc, cache) {
+        Ok(cache) => Ok(Home::Cache(cache)),
+        Err(AllocFailed { value }) => {
+            value.leave();
+            Err(AllocError)
+        }
+    }
+}
+
+// How many regions the cache of a class holds.
+fn capacity(class: u32) -> u32
+    ensures { result ≡ cache_capacity class }
+{
+    if class < 39 { 256 } else { 64 }
+}
+
+fn bin_home(alloc: Global, lane: u32, handles: u32) -> Result<Home, AllocError>
+    requires lane { lane < 16 }
+    requires handles { (1 ≤ handles) × (handles ≤ 4096) }
+    ensures { IfOk result (IsFirstBin handles lane) }
+{
+    let bin = Bin::new(alloc, lane, handles)?;
+    match Box::new(alloc, bin) {
+        Ok(bin) => Ok(Home::Bin(bin)),
+        Err(AllocFailed { value }) => {
+            value.leave();
+            Err(AllocError)
+        }
+    }
+}
+
+fn mail_home(alloc: Global, room: u32) -> Result<Home, AllocError>
+    ensures { IfOk result (IsMailOf room) }
+{
+    let mail = Mail::new(alloc, room)?;
+    Ok(Home::Mail(Box::new(alloc, mail)?))
+}
+
+fn root_home(alloc: Global) -> Result<Home, AllocError>
+    ensures { IfOk result IsNewRoot }
+{
+    let place = RootPlace {
+        generation: 0,
+        present: None,
+    };
+    match Box::new(alloc, place) {
+        Ok(place) => Ok(Home::Root(place)),
+        Err(AllocFailed { value }) => {
+            spend_place(value);
+            Err(AllocError)
+        }
+    }
+}
+
+// Spends home values. Their memory stays taken until the program ends.
+fn spend_all(mut homes: Vec<Home>) {
+    while let Some(home) = homes.pop() {
+        spend(home);
+    }
+    homes.destroy_empty();
+}
+
+fn spend(home: Home) {
+    match home {
+        Home::Arena(arena) => Box::into_inner(arena).leave(),
+        Home::Cache(cache) => Box::into_inner(cache).leave(),
+        Home::Bin(bin) => Box::into_inner(bin).leave(),
+        Home::Mail(_mail) => (),
+        Home::Root(place) => spend_place(Box::into_inner(place)),
+    }
+}
+
+fn spend_place(place: RootPlace) {
+    let RootPlace {
+        generation: _,
+        present,
+    } = place;
+    match present {
+        Some(
+            Root {
+                root: _,
+                region: _,
+                piece,
+                handle,
+            },
+        ) => {
+            piece.leave();
+            handle.leave();
+        }
+        None => (),
+    }
+}

@@ -1,0 +1,233 @@
+//! The place of one root after another: the root that is there, its memory, and the place's handle.
+
+ghost use Rattle.std.specs.Prelude.{◌≡◌, ℕ, ◌+◌, ◌-◌, ◌^◌, ◌<◌, ◌≤◌, List, length, Some, None, IsSome};
+ghost use Rattle.std.specs.Fn.{FnOnceReturnsAt};
+ghost use Rattle.ground.specs.Ground.{with_bytes};
+ghost use Rattle.handle_bin.specs.Lending.{with_tracker};
+ghost use Rattle.leak_records.specs.Records.{with_access};
+ghost use Rattle.pool_law.specs.Roots.{laid_over, bytes_at};
+ghost use Rattle.pool_law.specs.declared.note.Did.{Did};
+ghost use Rattle.pool_law.specs.declared.report.Access.{Access};
+ghost use Rattle.shared_pool.specs.PlaceViews.{root_seen};
+ghost use Rattle.shared_pool.specs.PlaceSteps.{MayAccess, Accesses, shown, cleared, born_root, with_born, vacated};
+
+use ground::Piece;
+use handle_bin::Handle;
+use pool_law::{Access, Region, RegionId, RootId, Watch};
+use std::marker::Model;
+use std::mem::replace;
+
+// A root that is present. Its bytes are the first of the region's, as many as its capacity.
+pub(crate) struct Root {
+    pub(crate) root: RootId,
+    pub(crate) region: RegionId,
+    pub(crate) piece: Piece,
+    pub(crate) handle: Handle,
+}
+
+/// The place of one root after another (Netty: `PooledByteBuf`). It must be spent.
+pub struct RootPlace {
+    pub(crate) generation: u32,
+    pub(crate) present: Option<Root>,
+}
+
+impl Model for RootPlace {
+    ghost use Rattle.shared_pool.specs.RootPlaces.{PlaceState};
+
+    ghost Value = { PlaceState };
+
+    ghost use Rattle.shared_pool.specs.PlaceViews.{state_in};
+
+    ghost view = { state_in };
+}
+
+impl Root {
+    // Lays bytes over those that are there, from an offset on.
+    fn lay(&mut self, offset: u32, bytes: &[u8])
+        requires { offset + length bytes.now ≤ length self.old.piece.bytes }
+        ensures { let laid = laid_over self.old.piece.bytes offset bytes.now in
+            self.new ≡ record self.old { piece = with_bytes self.old.piece laid } }
+    {
+        let at = offset as usize;
+        let there = self.piece.bytes_mut();
+        there[at..at + bytes.len()].copy_from_slice(bytes);
+    }
+
+    // Copies bytes out, from an offset on.
+    fn copy(&self, offset: u32, out: &mut [u8])
+        requires { offset + length out.old ≤ length self.now.piece.bytes }
+        ensures { out.new ≡ bytes_at self.now.piece.bytes offset (length out.old) }
+    {
+        let at = offset as usize;
+        out.copy_from_slice(&self.piece.bytes()[at..at + out.len()]);
+    }
+
+    // Calls `f` with bytes, from an offset on.
+    fn show<R, F: FnOnce(&[u8]) -> R>(&self, offset: u32, len: u32, f: F) -> R
+        requires range { offset + len ≤ length self.now.piece.bytes }
+        requires callable { F.IsAlwaysCallable f }
+        ensures { FnOnceReturnsAt F.FnOnce f (bytes_at self.now.piece.bytes offset len) result }
+    {
+        let at = offset as usize;
+        f(&self.piece.bytes()[at..at + len as usize])
+    }
+
+    // How many bytes these are: no more than the region has, so that the number fits.
+    fn count(&self, bytes: &[u8]) -> u32
+        requires { length bytes.now ≤ length self.now.piece.bytes }
+        ensures { result ≡ length bytes.now }
+    {
+        let _most = self.piece.len();
+        bytes.len() as u32
+    }
+
+    // Records an access.
+    fn record(&mut self, access: Access)
+        requires { self.old.handle.tracker.dropped < 2 ^ 63 }
+        ensures { let tracker = with_access self.old.handle.tracker access in
+            self.new ≡ record self.old { handle = with_tracker self.old.handle tracker } }
+    {
+        self.handle.tracker().add(access);
+    }
+}
+
+impl RootPlace {
+    /// Notes that the root is still in use.
+    pub(crate) fn touch(&mut self, lane: u32)
+        requires { MayAccess 0 0 self.old }
+        ensures { Accesses self.old Did.Touch (Access.Touch lane) self.new }
+    {
+        let Some(root) = &mut self.present else {
+            unreachable!()
+        };
+        root.record(Access::Touch { lane });
+    }
+
+    /// Lays bytes over those of the root, from an offset on.
+    pub(crate) fn set(&mut self, lane: u32, offset: u32, bytes: &[u8])
+        requires { MayAccess offset (length bytes.now) self.old }
+        ensures { Accesses self.old (Did.Set offset bytes.now)
+            (Access.Set lane offset (length bytes.now)) self.new }
+    {
+        let Some(root) = &mut self.present else {
+            unreachable!()
+        };
+        root.lay(offset, bytes);
+        let len = root.count(bytes);
+        root.record(Access::Set { lane, offset, len });
+    }
+
+    /// Copies bytes of the root out, from an offset on.
+    pub(crate) fn get(&mut self, lane: u32, offset: u32, out: &mut [u8])
+        requires { MayAccess offset (length out.old) self.old }
+        ensures len { length out.new ≡ length out.old }
+        ensures did { Accesses self.old (Did.Get offset out.new)
+            (Access.Get lane offset (length out.new)) self.new }
+    {
+        let Some(root) = &mut self.present else {
+            unreachable!()
+        };
+        root.copy(offset, out);
+        let len = root.count(out);
+        root.record(Access::Get { lane, offset, len });
+    }
+
+    /// Calls `f` once with bytes of the root, from an offset on.
+    pub(crate) fn with_bytes<R, F: FnOnce(&[u8]) -> R>(
+        &mut self,
+        lane: u32,
+        offset: u32,
+        len: u32,
+        f: F,
+    ) -> R
+        requires may { MayAccess offset len self.old }
+        requires callable { F.IsAlwaysCallable f }
+        ensures len { length (bytes_at (shown self.new) offset len) ≡ len }
+        ensures answer { FnOnceReturnsAt F.FnOnce f (bytes_at (shown self.new) offset len) result }
+        ensures did { let bytes = bytes_at (shown self.new) offset len in
+            Accesses self.old (Did.Get offset bytes) (Access.Get lane offset (length bytes)) self.new }
+    {
+        let Some(root) = &mut self.present else {
+            unreachable!()
+        };
+        root.record(Access::Get { lane, offset, len });
+        root.show(offset, len, f)
+    }
+
+    /// A root is born at this place, with the handle of the place and a region whose first bytes are
+    /// cleared. It has the next generation.
+    pub(crate) fn bear(
+        &mut self,
+        mut handle: Handle,
+        region: Region,
+        capacity: u32,
+        watch: Option<Watch>,
+    ) -> RootId
+        requires vacant { self.old.present ≡ None }
+        requires few { self.old.generation < 2 ^ 32 - 1 }
+        requires uses { region.id.uses < 2 ^ 64 - 1 }
+        requires capacity { capacity ≤ region.id.place.len }
+        ensures root { result ≡ record {
+          place = handle.place;
+          generation = self.old.generation + 1;
+          capacity = capacity;
+        } }
+        ensures born { self.new ≡ with_born (born_root result region handle watch) }
+    {
+        let root = RootId {
+            place: handle.place(),
+            generation: self.generation + 1,
+            capacity,
+        };
+        let (id, mut piece) = region.into_parts();
+        clear(&mut piece, capacity);
+        handle.tracker().start(watch);
+        let region = RegionId {
+            uses: id.uses + 1,
+            ..id
+        };
+        self.generation = root.generation;
+        let none = replace(
+            &mut self.present,
+            Some(Root {
+                root,
+                region,
+                piece,
+                handle,
+            }),
+        );
+        let None = none else { unreachable!() };
+        root
+    }
+
+    /// Takes the root out. The place is vacant then.
+    pub(crate) fn end(&mut self) -> Root
+        requires { IsSome self.old.present }
+        ensures root { self.old.present ≡ Some (root_seen result) }
+        ensures vacated { self.new ≡ vacated self.old }
+    {
+        let Some(root) = replace(&mut self.present, None) else {
+            unreachable!()
+        };
+        root
+    }
+}
+
+// Clears the first bytes of a piece.
+fn clear(piece: &mut Piece, count: u32)
+    requires { count ≤ length piece.old.bytes }
+    ensures { piece.new ≡ with_bytes piece.old (cleared count piece.old.bytes) }
+{
+    let bytes = piece.bytes_mut();
+    zero(bytes, count as usize);
+}
+
+// Clears the first of these bytes.
+fn zero(bytes: &mut [u8], count: usize)
+    requires { count ≤ length bytes.old }
+    ensures { bytes.new ≡ cleared count bytes.old }
+{
+    for i in 0..count {
+        bytes[i] = 0;
+    }
+}

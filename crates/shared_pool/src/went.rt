@@ -1,0 +1,38 @@
+//! What the calls of a pool answer.
+
+use handle_bin::Handle;
+use pool_law::{CacheNo, Held, Parcel, Region};
+use pool_table::EndToken;
+
+/// A call that claims an object: it did its work as the note of this number, or another seat was at
+/// the object, and what was given comes back.
+pub enum Went<T, B> {
+    Did(u64, T),
+    Held(Held, B),
+}
+
+/// What a cache did with a region that was put.
+pub enum Put {
+    Kept,
+    Back(Region, CacheNo),
+}
+
+/// What a release came to.
+pub enum Release {
+    Kept,
+    Ended(EndToken),
+}
+
+/// What a fetch found.
+pub enum Fetched {
+    Got(u64, Parcel),
+    Empty,
+    Held(Held),
+}
+
+/// What is left of a root that ended: its region and its place's handle.
+pub struct Retired {
+    pub number: u64,
+    pub region: Region,
+    pub handle: Handle,
+}
