@@ -1,16 +1,14 @@
 -- What an arena keeps, and what its takings and givings are, in the law's words.
-use Rattle.std.proofs.Common.{◌≡◌, ℕ, ◌+◌, ◌<◌, List, [], ◌∷◌, ◌++◌, refl, sym, ap, ◌∙◌, subst, Bool, true, false, arith, ◌≤◌}
-use Rattle.std.specs.Prelude.{Option, option_map}
+use Rattle.std.proofs.Common.{◌≡◌, ℕ, [], refl, sym, subst, Bool, true, false, arith, ◌≤◌}
 use Rattle.size_classes.specs.Sizes.{Geometry, class_count, is_small}
 use Rattle.size_classes.proofs.SmallClasses.{small_below}
 use Rattle.pool_law.specs.declared.id.RegionId.{RegionId}
 use Rattle.pool_law.specs.Arenas.{Arena, chunk_at, take_class, given_place}
 use Rattle.arena_law.specs.Orderly.{IsOrderly}
 use Rattle.arena_law.specs.Slots.{IsSlot}
-use Rattle.arena_law.proofs.OrderlyParts.{orderly-same}
 use Rattle.arena_law.proofs.OrderlyTakes.{take_class-orderly}
 use Rattle.arena_law.proofs.OrderlyGives.{given_place-orderly}
-use Rattle.pool_arena.specs.Stocks.{StockState, arena_with, arena_in, Yields, Becomes}
+use Rattle.pool_arena.specs.Stocks.{StockState, arena_in, Yields, Becomes}
 
 -- a taking keeps the order
 pub taken-orderly : (old new : StockState) (class chunk at : ℕ) → IsOrderly old.geometry (arena_in old) → Yields old (λ a. take_class old.geometry a class) chunk at new

@@ -1,14 +1,13 @@
 -- An element that comes back to its subpage.
-use Rattle.std.proofs.Common.{◌≡◌, ℕ, ◌+◌, ◌*◌, ◌<◌, ◌≤◌, List, [], ◌∷◌, length, refl, sym, ap, ◌∙◌, subst, Bool, true, false, Some, None, arith}
+use Rattle.std.proofs.Common.{◌≡◌, ℕ, ◌*◌, ◌<◌, List, ◌∷◌, length, sym, ap, ◌∙◌, Bool, true, false, Some, arith}
 use Rattle.std.specs.Prelude.{Option, map, slice_get, slice_set, slice_index_or, if◌then◌else◌}
 use Rattle.std.proofs.lemmas.List.{length-map}
 use Rattle.ground.specs.Ground.{Segment, Origin}
-use Rattle.size_classes.specs.Sizes.{Geometry, page_of, is_small, size_at, chunk_pages}
-use Rattle.size_classes.specs.Pages.{Used, run_at, NoneEmpty}
+use Rattle.size_classes.specs.Sizes.{is_small, chunk_pages}
+use Rattle.size_classes.specs.Pages.{Used, run_at}
 use Rattle.size_classes.specs.Elements.{Elements, is_full, with_back}
 use Rattle.size_classes.proofs.Runs.{Begins-run_at}
-use Rattle.pool_law.specs.declared.id.RegionId.{RegionId}
-use Rattle.pool_law.specs.Chunks.{Chunk, Sub}
+use Rattle.pool_law.specs.Chunks.{Sub}
 use Rattle.pool_law.specs.Arenas.{Arena, chunk_at, front_of}
 use Rattle.pool_chunk.specs.ChunkStates.{with_elements, HasSubpage, IsElementOut}
 use Rattle.chunk_list.specs.Listing.{Listing}

@@ -1,19 +1,16 @@
 -- What is cut off a chunk, in the words of what the arena has.
-use Rattle.std.proofs.Common.{◌≡◌, ℕ, ◌*◌, ◌<◌, ◌≤◌, List, [], length, refl, sym, ap, ◌∙◌, subst, Some, None, arith}
-use Rattle.std.specs.Prelude.{Option, slice_get, slice_set}
-use Rattle.size_classes.specs.Sizes.{Geometry, chunk_pages}
-use Rattle.size_classes.specs.Pages.{Run, Free, free_runs, free_pages, chosen, taken_at, NoneEmpty}
-use Rattle.pool_law.specs.declared.report.ListName.{ListName}
-use Rattle.pool_law.specs.Chunks.{Chunk, Use, usage}
-use Rattle.pool_law.specs.ChunkLists.{list_of, least}
-use Rattle.pool_law.specs.Arenas.{Arena, chunk_at, with_run}
-use Rattle.pool_chunk.specs.ChunkStates.{IsBytesAt}
+use Rattle.std.proofs.Common.{◌≡◌, ℕ, ◌≤◌, sym, ap, ◌∙◌, subst, Some, arith}
+use Rattle.std.specs.Prelude.{slice_get}
+use Rattle.size_classes.specs.Sizes.{Geometry}
+use Rattle.size_classes.specs.Pages.{free_runs, free_pages, chosen, taken_at, NoneEmpty}
+use Rattle.pool_law.specs.Chunks.{Chunk, usage}
+use Rattle.pool_law.specs.ChunkLists.{least}
+use Rattle.pool_law.specs.Arenas.{chunk_at}
 use Rattle.pool_chunk.proofs.Steps.{chosen-begins}
-use Rattle.chunk_list.specs.Settling.{IsWithin}
 use Rattle.pool_arena.specs.declared.place.Wanted.{Wanted}
 use Rattle.pool_arena.specs.declared.place.Cut.{Cut}
-use Rattle.pool_arena.specs.Places.{PlaceState, runs_of, state_of, with_chunk, pages_wanted, use_wanted, cut_at, IsCutAt, Cuts}
-use Rattle.pool_arena.specs.Stocks.{StockState, arena_in, Becomes, IsCutIn, found_in, CutsFrom}
+use Rattle.pool_arena.specs.Places.{PlaceState, runs_of, state_of, pages_wanted, use_wanted, IsCutAt, Cuts}
+use Rattle.pool_arena.specs.Stocks.{arena_in, IsCutIn, found_in, CutsFrom}
 use Rattle.pool_arena.specs.Held.{stock_in, IsStock}
 use Rattle.pool_arena.specs.declared.stock.Stock.TheInside.{Inside}
 use Rattle.pool_arena.proofs.UsageLaws.{usage-rises, taken-free}

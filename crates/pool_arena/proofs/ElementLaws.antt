@@ -1,20 +1,18 @@
 -- An element of a subpage that is taken or comes back.
-use Rattle.std.proofs.Common.{◌≡◌, ◌≢◌, ℕ, zero, suc, ◌+◌, ◌-◌, ◌*◌, ◌<◌, ◌≤◌, List, [], ◌∷◌, length, refl, sym, ap, ◌∙◌, subst, Bool, true, false, Some, None, arith, eqb-true, eq-eqb}
-use Rattle.std.specs.Prelude.{Option, map, slice_get, slice_set, unwrap_or, nat_lt, ◌==◌, if◌then◌else◌, option_map, option_and_then}
+use Rattle.std.proofs.Common.{◌≡◌, ℕ, ◌+◌, ◌-◌, ◌*◌, ◌<◌, List, [], ◌∷◌, length, refl, sym, ap, ◌∙◌, subst, Bool, true, false, Some, None, arith, eqb-true}
+use Rattle.std.specs.Prelude.{Option, map, slice_get, slice_set, nat_lt, ◌==◌, if◌then◌else◌, option_map, option_and_then}
 use Rattle.std.proofs.lemmas.Bool.{cond_both}
 use Rattle.std.proofs.lemmas.List.{length-map}
 use Rattle.arena_law.proofs.ArenaSteps.{chunk_at-below}
 use Rattle.ground.specs.Ground.{Segment}
-use Rattle.size_classes.specs.Sizes.{Geometry, page_of, chunk_pages, size_at}
+use Rattle.size_classes.specs.Sizes.{page_of, chunk_pages, size_at}
 use Rattle.size_classes.specs.Pages.{Run, Free, Used, pages_in, replaced, run_at, NoneEmpty}
 use Rattle.size_classes.specs.Elements.{Elements, is_full, next_element, with_out}
 use Rattle.size_classes.proofs.Runs.{Begins-run_at}
-use Rattle.pool_law.specs.declared.id.RegionId.{RegionId}
-use Rattle.pool_law.specs.declared.report.ListName.{ListName}
 use Rattle.pool_law.specs.Chunks.{Chunk, Use, Whole, Sub, usage}
-use Rattle.pool_law.specs.ChunkLists.{Lists, list_of}
-use Rattle.pool_law.specs.Arenas.{Arena, Spotted, chunk_at, elements_in, elements_at, front_of, with_front, without_spot, element_taken, take_element}
-use Rattle.pool_chunk.specs.ChunkStates.{with_elements, HasSubpage, IsBytesAt, element_start}
+use Rattle.pool_law.specs.ChunkLists.{list_of}
+use Rattle.pool_law.specs.Arenas.{Arena, chunk_at, elements_in, front_of, without_spot, element_taken, take_element}
+use Rattle.pool_chunk.specs.ChunkStates.{with_elements, HasSubpage}
 use Rattle.chunk_list.specs.Listing.{Listing}
 use Rattle.chunk_list.specs.Settling.{IsWithin}
 use Rattle.pool_arena.specs.Places.{PlaceState, runs_of, state_of, with_chunk, HandsOut}

@@ -1,5 +1,5 @@
 -- The subpages of a front, as pairs.
-use Rattle.std.proofs.Common.{◌≡◌, ℕ, List, [], ◌∷◌, refl, ap, Bool, true, false, ◌∙◌}
+use Rattle.std.proofs.Common.{◌≡◌, ℕ, List, [], ◌∷◌, refl, ap, Bool}
 use Rattle.std.specs.Prelude.{not, ◌==◌, ◌&&◌, map, filter, if◌then◌else◌}
 use Rattle.std.proofs.lemmas.Bool.{cond_both}
 use Rattle.pool_law.specs.Arenas.{without_spot}

@@ -1,17 +1,17 @@
 -- The fronts of an arena, and after one of them is written.
-use Rattle.std.proofs.Common.{Vec, Global, ◌≡◌, ◌≢◌, ℕ, ◌*◌, ◌<◌, ◌≤◌, List, [], ◌∷◌, length, get_or, refl, sym, ap, ◌∙◌, subst, true, Some, None, arith, inl, inr}
-use Rattle.std.specs.Prelude.{◌⊎◌, Option, map, slice_get, slice_set, unwrap_or, option_map}
+use Rattle.std.proofs.Common.{Vec, Global, ◌≡◌, ◌≢◌, ℕ, ◌*◌, ◌<◌, ◌≤◌, List, [], ◌∷◌, length, get_or, refl, sym, ap, ◌∙◌, subst, true, Some, arith, inl, inr}
+use Rattle.std.specs.Prelude.{◌⊎◌, Option, map, slice_get, slice_set, unwrap_or, option_map, vec_len}
 use Rattle.std.proofs.lemmas.Option.{slice_get-map}
 use Rattle.std.proofs.Math.Nat.{le-mul_of_pos_right}
 use lib.Pow.{pow_pos}
 use Rattle.pool_arena.proofs.ListLaws.{found-is}
 use Rattle.std.proofs.lemmas.List.{map-set, length-set}
 use Rattle.size_classes.specs.Sizes.{Geometry, chunk_pages, class_count, is_small}
-use Rattle.pool_law.specs.Arenas.{Arena, front_of, with_front, without_spot, with_subpage}
+use Rattle.pool_law.specs.Arenas.{front_of, with_front, without_spot, with_subpage}
 use Rattle.pool_law.proofs.ListLemmas.{slice_get-set_same, slice_get-set_other, slice_get-below}
 use Rattle.arena_law.proofs.ChunkSteps.{same_or-not}
 use Rattle.pool_arena.specs.Fronts.{FrontState, with_spots}
-use Rattle.pool_arena.specs.Stocks.{StockState, arena_with, arena_in, Becomes}
+use Rattle.pool_arena.specs.Stocks.{StockState, arena_in, Becomes}
 use Rattle.pool_arena.specs.Held.{stock_in, HasRoomAt, IsStock}
 use Rattle.pool_arena.specs.declared.stock.Stock.TheInside.{Inside}
 
@@ -63,6 +63,16 @@ pub front-found : (s : Inside) (is : IsStock s) (g : Geometry) (class : ℕ) (f 
 front-found s is g class f same less here =
     let within : class < length s.fronts.items = omega (arith, is.fronts.count, less, ap class_count same) in
     found-is s.fronts.items class f within here
+
+pub front-index : (s : Inside) (is : IsStock s) (g : Geometry) (class : ℕ) → s.classes ≡ g → class < class_count g → class < vec_len s.fronts
+front-index s is g class same less = omega (arith, is.fronts.count, ap class_count same, less, s.fronts.ok.0)
+
+-- the subpages of a class, as a caller sees them
+pub front-seen : (s : Inside) (v : StockState) (class : ℕ) (f : FrontState) → IsStock s → stock_in s ≡ v → class < class_count v.geometry → f ≡ get_or s.fronts.items class f
+    → front_of (arena_in v) class ≡ f.spots
+front-seen s v class f is same less here =
+    ap (λ (w : StockState). front_of (arena_in w) class) (sym same)
+    ∙ front_of-is s class f (front-found s is v.geometry class f (ap (λ (w : StockState). w.geometry) same) less here)
 
 -- a front without a subpage has room for one
 pub front-room : (s : Inside) (is : IsStock s) (class : ℕ) (f : FrontState) → slice_get s.fronts.items class ≡ Some f → is_small s.classes class ≡ true

@@ -1,26 +1,24 @@
 -- A run that comes back, and its chunk, which settles.
-use Rattle.std.proofs.Common.{◌≡◌, ℕ, ◌*◌, ◌/◌, ◌+◌, ◌<◌, ◌≤◌, List, [], length, refl, sym, ap, ◌∙◌, subst, Bool, true, false, Some, None, arith, inl, inr}
-use Rattle.std.specs.Prelude.{Option, map, slice_get, unwrap_or, if◌then◌else◌}
+use Rattle.std.proofs.Common.{◌≡◌, ℕ, ◌*◌, ◌/◌, ◌<◌, ◌≤◌, List, length, refl, sym, ap, ◌∙◌, subst, Bool, true, false, Some, arith, inl, inr}
+use Rattle.std.specs.Prelude.{Option, map, slice_get, if◌then◌else◌}
 use Rattle.std.proofs.lemmas.List.{length-map}
 use Rattle.ground.specs.Ground.{Segment}
-use Rattle.size_classes.specs.Sizes.{Geometry, page_of, is_small, size_at}
+use Rattle.size_classes.specs.Sizes.{Geometry, page_of, is_small}
 use Rattle.size_classes.specs.Pages.{Run, Used, free_pages, given_at, run_at, NoneEmpty}
 use Rattle.size_classes.specs.Runs.{Begins}
-use Rattle.size_classes.proofs.Runs.{run_at-Begins, Begins-run_at}
-use Rattle.pool_law.specs.declared.id.RegionId.{RegionId}
+use Rattle.size_classes.proofs.Runs.{run_at-Begins}
 use Rattle.pool_law.specs.declared.report.ListName.{ListName}
-use Rattle.pool_law.specs.Chunks.{Chunk, Use, Whole, Sub, usage}
+use Rattle.pool_law.specs.Chunks.{Chunk, Use, Whole, usage}
 use Rattle.pool_law.specs.ChunkLists.{list_of, greatest}
 use Rattle.pool_law.specs.Arenas.{Arena, chunk_at, run_given, small_given, given_place}
 use Rattle.arena_law.specs.Slots.{IsWholeRun, IsElement, IsSlot}
-use Rattle.arena_law.specs.Orderly.{IsOrderly, chunk_of}
+use Rattle.arena_law.specs.Orderly.{IsOrderly}
 use Rattle.arena_law.proofs.ArenaSteps.{chunk_at-below}
 use Rattle.arena_law.proofs.OrderlyParts.{begins-listed}
-use Rattle.chunk_list.specs.Settling.{IsWithin}
 use Rattle.pool_chunk.specs.ChunkStates.{IsRunOut}
 use Rattle.pool_arena.specs.Places.{PlaceState, runs_of, state_of, with_chunk}
 use Rattle.pool_arena.specs.Fronts.{FrontState}
-use Rattle.pool_arena.specs.Stocks.{StockState, arena_with, arena_in, Becomes, IsPlaceOut}
+use Rattle.pool_arena.specs.Stocks.{StockState, arena_in, Becomes, IsPlaceOut}
 use Rattle.pool_arena.specs.Held.{stock_in, IsStock}
 use Rattle.pool_arena.specs.declared.stock.Stock.TheInside.{Inside}
 use Rattle.pool_arena.proofs.UsageLaws.{usage-rises, given-free}

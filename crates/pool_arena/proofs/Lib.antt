@@ -19,3 +19,4 @@ pub mod RoomLaws
 pub mod SmallGiveLaws
 pub mod NewStockLaws
 pub mod StandingLaws
+pub mod RestLaws

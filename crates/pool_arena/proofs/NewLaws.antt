@@ -1,16 +1,15 @@
 -- What is wanted, from the first chunk that has it or from a new one.
-use Rattle.std.proofs.Common.{◌≡◌, ℕ, ◌+◌, ◌*◌, ◌<◌, ◌≤◌, ◌^◌, List, [], ◌∷◌, length, refl, sym, ap, ◌∙◌, subst, Bool, true, false, Some, None, arith, eq-eqb, leb-true}
-use Rattle.std.specs.Prelude.{Option, option_map, slice_get, unwrap_or, nat_le, ◌&&◌, ◌==◌, if◌then◌else◌}
+use Rattle.std.proofs.Common.{◌≡◌, ℕ, ◌≤◌, List, [], ◌∷◌, refl, sym, ap, ◌∙◌, subst, true, Some, None, arith, eq-eqb}
+use Rattle.std.specs.Prelude.{Option, option_map, slice_get, unwrap_or, nat_le, ◌==◌}
 use Rattle.std.proofs.Math.Nat.{pow-le-pow_right}
 use Rattle.std.proofs.lemmas.Bool.Decides.{nat_tests}
-use Rattle.size_classes.specs.Sizes.{Geometry, chunk_pages, page_class_under, is_small, subpage_pages}
+use Rattle.size_classes.specs.Sizes.{Geometry, chunk_pages, page_class_under}
 use Rattle.size_classes.specs.Pages.{Span, free_runs, chosen, NoneEmpty}
 use Rattle.size_classes.proofs.Subpages.{subpage_pages_within}
 use Rattle.pool_law.specs.declared.id.RegionId.{RegionId}
-use Rattle.pool_law.specs.declared.report.ListName.{ListName}
 use Rattle.pool_law.specs.Chunks.{Chunk, Use, new_chunk}
-use Rattle.pool_law.specs.ChunkLists.{list_of, walk}
-use Rattle.pool_law.specs.Arenas.{Arena, Spotted, or_else, chunk_at, with_run, first_holding, first_unused, opened, run_from, run_taken, run_from_new, take_run}
+use Rattle.pool_law.specs.ChunkLists.{list_of}
+use Rattle.pool_law.specs.Arenas.{Arena, or_else, chunk_at, with_run, first_holding, first_unused, opened, run_from, run_taken, run_from_new}
 use Rattle.arena_law.specs.Orderly.{IsOrderly, chunk_of}
 use Rattle.arena_law.proofs.UsedSteps.{opened-below, opened-chunk}
 use Rattle.arena_law.proofs.ArenaSteps.{first_unused-is}
@@ -18,7 +17,7 @@ use Rattle.arena_law.proofs.OrderlySteps.{opened-orderly}
 use Rattle.pool_arena.specs.declared.place.Wanted.{Wanted}
 use Rattle.pool_arena.specs.declared.place.Cut.{Cut}
 use Rattle.pool_arena.specs.Places.{pages_wanted, use_wanted, IsWanted}
-use Rattle.pool_arena.specs.Stocks.{StockState, arena_with, arena_in, Becomes, HasChunk, HasNoChunk, IsCutIn, found_in, CutsFrom, FindsNone, FindsIn, CutsOff, run_wanted}
+use Rattle.pool_arena.specs.Stocks.{StockState, arena_with, arena_in, Becomes, HasChunk, HasNoChunk, IsCutIn, found_in, CutsFrom, FindsNone, FindsIn, CutsOff}
 use Rattle.pool_arena.proofs.WalkLaws.{there}
 
 -- ---- from a chunk that is there

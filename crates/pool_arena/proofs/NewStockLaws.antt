@@ -1,20 +1,18 @@
 -- An arena that is new, and its memory.
-use Rattle.std.proofs.Common.{◌≡◌, ℕ, zero, suc, ◌+◌, ◌*◌, ◌<◌, ◌≤◌, List, [], ◌∷◌, ◌++◌, length, get_or, replicate, refl, sym, ap, ◌∙◌, subst, true, Some, None, arith, add-one, inl, inr}
+use Rattle.std.proofs.Common.{◌≡◌, ℕ, zero, suc, ◌*◌, ◌<◌, ◌≤◌, List, [], ◌∷◌, ◌++◌, length, get_or, replicate, refl, sym, ap, ◌∙◌, subst, Some, None, arith, add-one, inl, inr}
 use Rattle.std.specs.Prelude.{◌⊎◌, Option, map, slice_get, All, option_map, if◌then◌else◌}
 use Rattle.std.proofs.lemmas.Option.{slice_get-map, slice_get-get_or}
 use Rattle.std.proofs.lemmas.List.{length-map, length-append, map-append, get_or_append_left, replicate-append-replicate}
 use Rattle.std.proofs.Math.Seq.{get_or-append_seam}
 use Rattle.size_classes.specs.Sizes.{Geometry, of_order, below, class_count, is_small, chunk_pages}
-use Rattle.pool_law.specs.declared.report.ListName.{ListName}
-use Rattle.pool_law.specs.Chunks.{Chunk, new_chunk}
 use Rattle.pool_law.specs.ChunkLists.{Lists, list_of, no_chunks}
-use Rattle.pool_law.specs.Arenas.{Arena, new_arena}
+use Rattle.pool_law.specs.Arenas.{new_arena}
 use Rattle.pool_law.proofs.ListLemmas.{slice_get-below}
 use Rattle.arena_law.proofs.ListSteps.{nowhere}
 use Rattle.chunk_list.specs.Listing.{Listing, new_listing}
 use Rattle.pool_arena.specs.Places.{PlaceState}
-use Rattle.pool_arena.specs.Fronts.{FrontState, new_front}
-use Rattle.pool_arena.specs.Stocks.{StockState, arena_in}
+use Rattle.pool_arena.specs.Fronts.{FrontState}
+use Rattle.pool_arena.specs.Stocks.{arena_in}
 use Rattle.pool_arena.specs.Held.{stock_in, front_for, HasRoomAt, IsStock}
 use Rattle.pool_arena.specs.declared.stock.Stock.TheInside.{Inside}
 

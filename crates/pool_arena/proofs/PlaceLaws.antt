@@ -1,11 +1,11 @@
 -- A chunk place, by its fields.
-use Rattle.std.proofs.Common.{◌≡◌, ℕ, ◌+◌, ◌*◌, ◌-◌, ◌/◌, ◌<◌, ◌≤◌, ◌^◌, List, [], ◌∷◌, refl, sym, ap, ◌∙◌, subst, Bool, true, false, Some, None, arith, ap₂, ne_eqb}
-use Rattle.std.specs.Prelude.{Option, IsSome, unwrap_or, ◌==◌, if◌then◌else◌}
+use Rattle.std.proofs.Common.{◌≡◌, ℕ, ◌*◌, ◌-◌, ◌/◌, ◌≤◌, ◌^◌, [], refl, sym, ap, ◌∙◌, subst, Bool, true, false, Some, arith, ap₂, ne_eqb}
+use Rattle.std.specs.Prelude.{IsSome, unwrap_or, ◌==◌, if◌then◌else◌}
 use Rattle.std.proofs.Math.Nat.{pow-le-pow_right}
 use Rattle.size_classes.specs.Sizes.{Geometry, chunk_bytes}
-use Rattle.size_classes.specs.Pages.{Run, Used, run_at}
-use Rattle.pool_law.specs.Chunks.{Chunk, Use, Sub, free_bytes, usage}
-use Rattle.pool_chunk.specs.ChunkStates.{ChunkState, with_runs, HasSubpage}
+use Rattle.size_classes.specs.Pages.{Run, run_at}
+use Rattle.pool_law.specs.Chunks.{Chunk, Use, free_bytes, usage}
+use Rattle.pool_chunk.specs.ChunkStates.{ChunkState, with_runs}
 use Rattle.pool_arena.specs.Places.{PlaceState, with_chunk, runs_of, state_of, if_used, place_in, IsPlace}
 use Rattle.pool_arena.specs.declared.place.ChunkPlace.TheInside.{Inside}
 

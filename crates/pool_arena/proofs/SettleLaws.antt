@@ -1,21 +1,20 @@
 -- A chunk that settles once a run is taken from it or comes back.
-use Rattle.std.proofs.Common.{◌≡◌, ◌≢◌, ℕ, ◌*◌, ◌<◌, ◌≤◌, List, [], length, refl, sym, ap, ◌∙◌, subst, Some, None, Bool, true, false, arith, lt-ltb}
+use Rattle.std.proofs.Common.{◌≡◌, ℕ, ◌*◌, ◌<◌, ◌≤◌, List, [], length, refl, sym, ap, ◌∙◌, subst, Some, Bool, true, false, arith}
 use Rattle.std.specs.Prelude.{Option, map, slice_get, slice_set, if◌then◌else◌, unwrap_or, nat_le}
 use Rattle.std.proofs.lemmas.Bool.Decides.{nat_tests}
 use Rattle.size_classes.specs.Sizes.{Geometry, chunk_pages}
 use Rattle.size_classes.specs.Pages.{taken_at, given_at}
-use Rattle.pool_law.specs.declared.id.RegionId.{RegionId}
 use Rattle.pool_law.specs.declared.report.ListName.{ListName}
 use Rattle.pool_law.specs.Chunks.{Chunk, Use, usage}
-use Rattle.pool_law.specs.ChunkLists.{Lists, list_of, least, greatest, lists_above, lists_below, risen, settled_up, settled_down, down_to}
-use Rattle.pool_law.specs.Arenas.{Arena, chunk_at, with_run, run_given, unless_gone}
+use Rattle.pool_law.specs.ChunkLists.{list_of, least, greatest, lists_above, lists_below, risen, settled_up, settled_down, down_to}
+use Rattle.pool_law.specs.Arenas.{chunk_at, with_run, run_given, unless_gone}
 use Rattle.arena_law.proofs.ListSteps.{down-other}
 use Rattle.chunk_list.specs.Listing.{Listing, with_lists}
-use Rattle.chunk_list.specs.Settling.{settled, goes_to, rises, IsWithin}
+use Rattle.chunk_list.specs.Settling.{settled, goes_to, IsWithin}
 use Rattle.chunk_list.proofs.SettlingLaws.{settled-is, settled-up, settled-down, sunk_stays}
 use Rattle.pool_arena.specs.Places.{PlaceState, runs_of, with_chunk}
 use Rattle.pool_arena.specs.Fronts.{FrontState}
-use Rattle.pool_arena.specs.Stocks.{StockState, arena_with, arena_in, Becomes}
+use Rattle.pool_arena.specs.Stocks.{arena_in, Becomes}
 use Rattle.pool_arena.specs.Held.{stock_in, HasRoomAt, AreSettled, IsStock}
 use Rattle.pool_arena.specs.declared.stock.Stock.TheInside.{Inside}
 use Rattle.pool_arena.proofs.StockLaws.{Written, place-geometry, written-grounds, written-chunks, written-held, written-settled}

@@ -1,15 +1,15 @@
 -- An element that comes back to an arena: which it is, and what becomes of its subpage.
-use Rattle.std.proofs.Common.{◌≡◌, ◌≢◌, ℕ, ◌+◌, ◌-◌, ◌*◌, ◌/◌, ◌<◌, ◌≤◌, List, [], ◌∷◌, length, refl, sym, ap, ◌∙◌, subst, Bool, true, false, Some, None, arith, inl, inr}
-use Rattle.std.specs.Prelude.{◌⊎◌, Option, slice_get, unwrap_or, if◌then◌else◌}
+use Rattle.std.proofs.Common.{◌≡◌, ℕ, ◌+◌, ◌-◌, ◌*◌, ◌/◌, ◌<◌, ◌≤◌, List, [], length, refl, sym, ap, ◌∙◌, subst, Bool, true, false, Some, arith, inl, inr}
+use Rattle.std.specs.Prelude.{◌⊎◌, Option, unwrap_or, if◌then◌else◌}
 use Rattle.ground.specs.Ground.{Segment}
-use Rattle.size_classes.specs.Sizes.{Geometry, page_of, chunk_pages, class_count, is_small, size_at, subpage_pages}
+use Rattle.size_classes.specs.Sizes.{Geometry, page_of, chunk_pages, class_count, is_small, size_at}
 use Rattle.size_classes.specs.Pages.{Run, Used, run_at, run_start, pages_in, total_pages, NoneEmpty}
 use Rattle.size_classes.specs.Runs.{Begins}
-use Rattle.size_classes.specs.Elements.{Elements, is_full, is_idle, is_out, with_back}
-use Rattle.size_classes.proofs.Runs.{run_at-Begins, Begins-run_at, Begins-inside, run_start-Begins}
+use Rattle.size_classes.specs.Elements.{Elements, is_full, is_idle, with_back}
+use Rattle.size_classes.proofs.Runs.{run_at-Begins, Begins-inside, run_start-Begins}
 use Rattle.size_classes.proofs.SmallClasses.{small_below}
 use Rattle.pool_law.specs.declared.id.RegionId.{RegionId}
-use Rattle.pool_law.specs.Chunks.{Chunk, Use, Sub, IsChunk}
+use Rattle.pool_law.specs.Chunks.{Use, Sub, IsChunk}
 use Rattle.pool_law.specs.ChunkLists.{list_of}
 use Rattle.pool_law.specs.Arenas.{Arena, chunk_at, elements_at, front_of, is_alone, run_given, idle_given, element_given, small_given, given_place}
 use Rattle.pool_law.proofs.ListLemmas.{slice_get-below}

@@ -1,20 +1,20 @@
 -- An element for a small class, from its front subpage or from a new one.
-use Rattle.std.proofs.Common.{◌≡◌, ℕ, ◌*◌, ◌<◌, ◌≤◌, List, [], ◌∷◌, length, refl, sym, ap, ◌∙◌, subst, Bool, true, false, Some, None, arith}
-use Rattle.std.specs.Prelude.{Option, slice_get, unwrap_or, option_map, option_and_then, if◌then◌else◌}
+use Rattle.std.proofs.Common.{◌≡◌, ℕ, ◌*◌, ◌<◌, List, [], ◌∷◌, refl, sym, ap, ◌∙◌, subst, Bool, true, Some, arith}
+use Rattle.std.specs.Prelude.{Option, slice_get, option_map, option_and_then, if◌then◌else◌}
 use Rattle.ground.specs.Ground.{Segment, Origin}
-use Rattle.size_classes.specs.Sizes.{Geometry, page_of, class_count, is_small, pages_of, subpage_pages, size_at}
+use Rattle.size_classes.specs.Sizes.{Geometry, page_of, class_count, is_small, pages_of, subpage_pages}
 use Rattle.size_classes.proofs.SmallClasses.{small_below}
 use Rattle.pool_law.specs.declared.id.RegionId.{RegionId}
 use Rattle.pool_law.specs.Chunks.{Whole}
-use Rattle.pool_law.specs.Arenas.{Arena, Spotted, chunk_at, front_of, with_subpage, take_run, take_element, take_small, take_class}
+use Rattle.pool_law.specs.Arenas.{Arena, Spotted, front_of, with_subpage, take_run, take_element, take_small, take_class}
 use Rattle.arena_law.specs.Orderly.{IsOrderly, has_spot}
 use Rattle.arena_law.proofs.FrontSteps.{spot-first, front-same}
 use Rattle.arena_law.proofs.OrderlyTakes.{take_subpage-orderly, take_run-fronts}
 use Rattle.pool_arena.specs.declared.place.Wanted.{Wanted}
 use Rattle.pool_arena.specs.declared.front.Spot.{Spot}
-use Rattle.pool_arena.specs.Fronts.{pair_of, first_spot, IsFirst}
+use Rattle.pool_arena.specs.Fronts.{pair_of, IsFirst}
 use Rattle.pool_arena.specs.Places.{use_wanted}
-use Rattle.pool_arena.specs.Stocks.{StockState, arena_with, arena_in, YieldsNone, run_wanted, NewFront, IsOpen, IsBytesIn, GivesPlace}
+use Rattle.pool_arena.specs.Stocks.{StockState, arena_with, arena_in, YieldsNone, run_wanted, NewFront, IsOpen, GivesPlace}
 
 -- a front subpage is before others
 pub first-is : (spots : List (ℕ × ℕ)) (s : Spot) → IsFirst spots (Some s) → (rest : List (ℕ × ℕ)) × (spots ≡ pair_of s ∷ rest)

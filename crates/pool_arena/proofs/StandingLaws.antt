@@ -1,12 +1,11 @@
 -- An arena stands for one note more after each of its calls.
-use Rattle.std.proofs.Common.{◌≡◌, ℕ, ◌<◌, List, [], ◌∷◌, ◌++◌, length, refl, sym, ap, ap₂, ◌∙◌, subst, Bool, true, false, Some, None, lt-ltb}
-use Rattle.std.specs.Prelude.{Option, option_map, option_and_then, nat_lt, slice_get, if◌then◌else◌}
+use Rattle.std.proofs.Common.{◌≡◌, ℕ, ◌<◌, List, [], ◌∷◌, ◌++◌, length, refl, sym, ap, ap₂, ◌∙◌, Bool, true, Some, None, lt-ltb}
+use Rattle.std.specs.Prelude.{Option, option_map, option_and_then, slice_get, if◌then◌else◌}
 use Rattle.std.proofs.lemmas.List.{length-replicate}
 use Rattle.ground.specs.Ground.{Origin}
 use Rattle.ground.specs.Grounds.{Grounds}
-use Rattle.size_classes.specs.Sizes.{Geometry, class_count}
+use Rattle.size_classes.specs.Sizes.{class_count}
 use Rattle.pool_law.specs.declared.id.RegionId.{RegionId}
-use Rattle.pool_law.specs.declared.note.Did.{Did}
 use Rattle.pool_law.specs.declared.note.Did.TheVariants.{Take, Full, Give}
 use Rattle.pool_law.specs.declared.note.Noted.{Noted}
 use Rattle.pool_law.specs.Arenas.{Arena, Spotted, new_arena, noted_taking, take_class, take, give, arena_step, as_noted, if_none, is_out_of}

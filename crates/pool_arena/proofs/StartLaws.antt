@@ -1,22 +1,20 @@
 -- A chunk that comes into use.
-use Rattle.std.proofs.Common.{◌≡◌, ◌≢◌, ℕ, ◌*◌, ◌-◌, ◌/◌, ◌+◌, ◌<◌, ◌≤◌, List, [], length, refl, sym, ap, ap₂, ◌∙◌, subst, Some, None, Bool, true, false, arith, eq-eqb, ne_eqb, add-zero}
-use Rattle.std.specs.Prelude.{Option, map, slice_get, slice_set, if◌then◌else◌, ◌==◌, unwrap_or}
+use Rattle.std.proofs.Common.{◌≡◌, ℕ, ◌*◌, ◌-◌, ◌/◌, ◌<◌, List, [], length, sym, ap, ◌∙◌, subst, Some, None, Bool, false, arith, ne_eqb}
+use Rattle.std.specs.Prelude.{Option, map, slice_set, if◌then◌else◌, ◌==◌, unwrap_or}
 use Rattle.std.proofs.Math.Nat.{mul-div_cancel_left}
-use Rattle.size_classes.specs.Sizes.{Geometry, page_of, chunk_pages, chunk_bytes}
-use Rattle.pool_law.specs.declared.id.RegionId.{RegionId}
+use Rattle.size_classes.specs.Sizes.{Geometry, chunk_pages, chunk_bytes}
 use Rattle.pool_law.specs.declared.report.ListName.{ListName}
 use Rattle.pool_law.specs.declared.report.ListName.TheVariants.{QInit}
 use Rattle.pool_law.specs.Chunks.{Chunk, new_chunk, usage_of, usage, free_bytes}
 use Rattle.pool_law.specs.ChunkLists.{list_of, entered}
-use Rattle.pool_law.specs.Arenas.{Arena, opened}
-use Rattle.arena_law.specs.Orderly.{chunk_of}
+use Rattle.pool_law.specs.Arenas.{opened}
 use Rattle.arena_law.proofs.ListSteps.{entered-other}
 use Rattle.chunk_list.specs.Listing.{Listing, with_lists}
 use Rattle.chunk_list.specs.Settling.{added, IsWithin}
 use Rattle.chunk_list.proofs.ListsLemmas.{in_none}
 use Rattle.chunk_list.proofs.SettlingLaws.{added-is}
-use Rattle.pool_arena.specs.Places.{PlaceState, with_chunk, runs_of}
-use Rattle.pool_arena.specs.Stocks.{StockState, arena_with, arena_in, Becomes, HasNoChunk}
+use Rattle.pool_arena.specs.Places.{PlaceState, runs_of}
+use Rattle.pool_arena.specs.Stocks.{Becomes}
 use Rattle.pool_arena.specs.Held.{stock_in, HasRoomAt, IsStock}
 use Rattle.pool_arena.specs.Fronts.{FrontState}
 use Rattle.pool_arena.specs.declared.stock.Stock.TheInside.{Inside}

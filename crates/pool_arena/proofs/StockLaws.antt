@@ -1,29 +1,25 @@
 -- What an arena has to give, by its fields, and after one of its chunk places is written.
-use Rattle.std.proofs.Common.{◌≡◌, ◌≢◌, ℕ, ◌*◌, ◌<◌, ◌≤◌, List, [], length, refl, sym, ap, ap₂, ◌∙◌, subst, Some, None, arith, inl, inr}
+use Rattle.std.proofs.Common.{◌≡◌, ◌≢◌, ℕ, ◌*◌, ◌<◌, ◌≤◌, List, [], length, sym, ap, ◌∙◌, subst, Some, None, arith, inl, inr}
 use Rattle.std.specs.Prelude.{◌⊎◌, Option, map, slice_get, slice_set, All, unwrap_or, option_map}
 use Rattle.std.proofs.lemmas.Option.{slice_get-map}
 use Rattle.std.proofs.lemmas.List.{map-set, length-set, length-map}
 use Rattle.std.proofs.Math.Seq.{map-set_same}
-use Rattle.ground.specs.Ground.{Origin}
 use Rattle.size_classes.specs.Sizes.{Geometry, chunk_pages}
-use Rattle.pool_law.specs.declared.id.RegionId.{RegionId}
 use Rattle.pool_law.specs.declared.report.ListName.{ListName}
-use Rattle.pool_law.specs.Chunks.{Chunk, Use, usage}
-use Rattle.pool_law.specs.ChunkLists.{Lists, list_of, least, greatest, settled_up, settled_down, down_to, lists_below}
-use Rattle.pool_law.specs.Arenas.{Arena, chunk_at, with_run, run_given, unless_gone}
+use Rattle.pool_law.specs.Chunks.{Chunk, usage}
+use Rattle.pool_law.specs.ChunkLists.{list_of}
+use Rattle.pool_law.specs.Arenas.{chunk_at}
 use Rattle.pool_law.proofs.ListLemmas.{slice_get-set_same, slice_get-set_other, slice_get-below}
 use Rattle.arena_law.specs.Orderly.{chunk_of}
 use Rattle.arena_law.proofs.ChunkSteps.{same_or-not}
-use Rattle.arena_law.proofs.ListSteps.{down-other}
-use Rattle.chunk_list.specs.Listing.{Listing, with_lists}
-use Rattle.chunk_list.specs.Settling.{settled, goes_to, IsWithin}
-use Rattle.chunk_list.proofs.SettlingLaws.{settled-is}
-use Rattle.pool_arena.specs.Places.{PlaceState, runs_of, with_chunk}
+use Rattle.chunk_list.specs.Listing.{Listing}
+use Rattle.chunk_list.specs.Settling.{settled, IsWithin}
+use Rattle.pool_arena.specs.Places.{PlaceState, runs_of}
 use Rattle.pool_arena.specs.Fronts.{FrontState}
-use Rattle.pool_arena.specs.Stocks.{StockState, arena_with, arena_in}
+use Rattle.pool_arena.specs.Stocks.{arena_in}
 use Rattle.pool_arena.specs.Held.{stock_in, HasRoomAt, AreSettled, IsStock}
 use Rattle.pool_arena.specs.declared.stock.Stock.TheInside.{Inside}
-use Rattle.pool_arena.proofs.ListLaws.{All-set, read-is, found-is, some-of}
+use Rattle.pool_arena.proofs.ListLaws.{All-set, read-is, some-of}
 
 -- ---- one place
 

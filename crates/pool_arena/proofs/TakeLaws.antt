@@ -1,11 +1,10 @@
 -- A run that is taken as a whole.
-use Rattle.std.proofs.Common.{◌≡◌, ℕ, ◌*◌, ◌<◌, ◌≤◌, List, length, refl, sym, ap, ◌∙◌, subst, Bool, true, false, Some, None, arith}
-use Rattle.std.specs.Prelude.{Option, option_map, if◌then◌else◌}
-use Rattle.size_classes.specs.Sizes.{Geometry, page_of, chunk_pages, chunk_bytes, class_count, is_small, pages_of, size_at}
+use Rattle.std.proofs.Common.{◌≡◌, ℕ, ◌*◌, ◌<◌, refl, sym, ap, ◌∙◌, Bool, false, Some, arith}
+use Rattle.std.specs.Prelude.{option_map, if◌then◌else◌}
+use Rattle.size_classes.specs.Sizes.{Geometry, page_of, class_count, is_small, pages_of, size_at}
 use Rattle.size_classes.proofs.Powers.{size_at-least}
 use Rattle.size_classes.proofs.Requests.{size_at-within_chunk}
 use Rattle.ground.specs.Ground.{Segment}
-use Rattle.pool_law.specs.declared.id.RegionId.{RegionId}
 use Rattle.pool_law.specs.Chunks.{Whole}
 use Rattle.pool_law.specs.Arenas.{Arena, Spotted, front_of, take_run, take_small, take_class}
 use Rattle.pool_arena.specs.declared.place.Wanted.{Wanted}

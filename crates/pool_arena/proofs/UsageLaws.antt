@@ -1,17 +1,17 @@
 -- How much of a chunk is used, before and after a run is taken or comes back.
-use Rattle.std.proofs.Common.{◌≡◌, ◌≢◌, ℕ, zero, suc, ◌+◌, ◌*◌, ◌-◌, ◌/◌, ◌<◌, ◌≤◌, ◌^◌, List, [], ◌∷◌, ◌++◌, refl, sym, ap, ◌∙◌, subst, Bool, true, false, Some, None, arith, eq-eqb, ne_eqb, eqb-true, inl, inr}
+use Rattle.std.proofs.Common.{◌≡◌, ℕ, zero, suc, ◌+◌, ◌*◌, ◌-◌, ◌/◌, ◌<◌, ◌≤◌, [], ◌∷◌, ◌++◌, refl, sym, ap, ◌∙◌, true, false, Some, None, arith, eq-eqb, ne_eqb, eqb-true, inl, inr}
 use Rattle.std.specs.Prelude.{◌==◌, ◌⊎◌, if◌then◌else◌, Option, nat_le, IsSome, unwrap_or}
 use Rattle.std.proofs.lemmas.Bool.{cond_both}
 use Rattle.std.proofs.Math.Nat.{div-mul-le_self}
 use Rattle.std.proofs.lemmas.Nat.{le-div}
 use lib.Pow.{pow_pos}
-use Rattle.size_classes.specs.Sizes.{Geometry, page_of, chunk_pages, chunk_bytes}
-use Rattle.size_classes.specs.Pages.{Run, Free, Used, pages_in, total_pages, free_in, free_pages, rest_of, front_used, freed, joined, merged, replaced, taken_at, given_at, NoneEmpty, NoneSideBySide, begins_free}
+use Rattle.size_classes.specs.Sizes.{Geometry, page_of, chunk_bytes}
+use Rattle.size_classes.specs.Pages.{Run, Free, Used, pages_in, total_pages, free_in, free_pages, rest_of, front_used, freed, joined, merged, replaced, taken_at, given_at, NoneEmpty, NoneSideBySide}
 use Rattle.size_classes.specs.Runs.{Begins}
 use Rattle.size_classes.specs.Elements.{Elements}
 use Rattle.pool_law.specs.declared.report.ListName.{ListName}
 use Rattle.pool_law.specs.Chunks.{Chunk, Use, Sub, IsChunk, usage_of, usage, free_bytes, new_chunk}
-use Rattle.pool_law.specs.ChunkLists.{greatest, least, lists_above, lists_below, risen, sunk, down_to}
+use Rattle.pool_law.specs.ChunkLists.{greatest, lists_above, lists_below, risen, down_to}
 use Rattle.pool_chunk.specs.ChunkStates.{with_elements}
 use Rattle.chunk_list.specs.Settling.{goes_to, answer_of}
 use Rattle.chunk_list.specs.declared.lists.Settled.{Settled}
@@ -123,7 +123,7 @@ goes-somewhere percent here some =
     (λ _ e. sunk-stays percent here (lists_below here) some (lists_below-low here) e)
 
 -- where all is free there is one free run
-all-free : (rs : Chunk) → NoneEmpty rs → NoneSideBySide rs → total_pages rs ≤ free_pages rs → 0 < total_pages rs → rs ≡ Free (total_pages rs) ∷ []
+pub all-free : (rs : Chunk) → NoneEmpty rs → NoneSideBySide rs → total_pages rs ≤ free_pages rs → 0 < total_pages rs → rs ≡ Free (total_pages rs) ∷ []
 all-free [] ne apart all some = absurd (omega (arith, some))
 all-free (Free n ∷ []) ne apart all some = ap (λ (k : ℕ). Free k ∷ []) (omega arith)
 all-free (Free n ∷ Free m ∷ rs) ne apart all some = absurd (cc apart.0)

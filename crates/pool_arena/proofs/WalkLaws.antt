@@ -1,14 +1,11 @@
 -- The chunks in the order in which they are asked.
-use Rattle.std.proofs.Common.{◌≡◌, ℕ, zero, suc, ◌+◌, ◌-◌, ◌<◌, ◌≤◌, List, [], ◌∷◌, ◌++◌, length, drop, refl, sym, ap, ◌∙◌, subst, Bool, true, false, Some, None, arith, eq-eqb}
+use Rattle.std.proofs.Common.{◌≡◌, ℕ, zero, suc, List, [], ◌∷◌, ◌++◌, drop, refl, ap, ◌∙◌, Bool, true, false, Some, None, eq-eqb}
 use Rattle.std.specs.Prelude.{Option, ◌==◌, ◌||◌, slice_get, option_map}
 use Rattle.pool_law.specs.declared.id.RegionId.{RegionId}
-use Rattle.pool_law.specs.declared.report.ListName.{ListName}
 use Rattle.pool_law.specs.declared.report.ListName.TheVariants.{QInit, Q000, Q025, Q050, Q075}
-use Rattle.size_classes.specs.Sizes.{Geometry}
-use Rattle.size_classes.specs.Pages.{Span, free_runs, chosen}
-use Rattle.pool_law.specs.Chunks.{Chunk}
-use Rattle.pool_law.specs.ChunkLists.{Lists, has, list_of, list_named, walk}
-use Rattle.pool_law.specs.Arenas.{Arena, or_else, chunk_at, first_holding}
+use Rattle.size_classes.specs.Pages.{Span}
+use Rattle.pool_law.specs.ChunkLists.{Lists, has, list_of, walk}
+use Rattle.pool_law.specs.Arenas.{or_else, first_holding}
 use Rattle.arena_law.specs.Orderly.{IsOrderly, chunk_of}
 use Rattle.arena_law.proofs.ListSteps.{in-none}
 use Rattle.pool_arena.specs.declared.place.Wanted.{Wanted}

@@ -1,5 +1,5 @@
 -- How an arena holds what it has to give. No public clause cites this module.
-use Rattle.std.specs.Prelude.{◌≡◌, ℕ, ◌+◌, ◌*◌, ◌≤◌, ◌<◌, true, if◌then◌else◌, List, [], length, map, All, Option, Some, None, slice_get}
+use Rattle.std.specs.Prelude.{◌≡◌, ℕ, ◌*◌, ◌≤◌, ◌<◌, true, if◌then◌else◌, List, length, map, All, Some, slice_get}
 use Rattle.size_classes.specs.Sizes.{Geometry, chunk_pages, class_count, is_small}
 use Rattle.pool_law.specs.declared.report.ListName.{ListName}
 use Rattle.pool_law.specs.ChunkLists.{list_of}
@@ -10,7 +10,7 @@ use Rattle.arena_law.specs.Orderly.{IsOrderly}
 use Rattle.pool_arena.specs.Places.{PlaceState}
 use Rattle.pool_arena.specs.Fronts.{FrontState, new_front}
 use Rattle.pool_arena.specs.Stocks.{StockState, arena_in}
-use Rattle.pool_arena.specs.ArenaStates.{ArenaState, law_of}
+use Rattle.pool_arena.specs.ArenaStates.{ArenaState}
 use Rattle.pool_arena.specs.declared.stock.Stock.TheInside.{Inside as StockInside}
 use Rattle.pool_arena.specs.declared.arena.Arena.TheInside.{Inside as ArenaInside}
 

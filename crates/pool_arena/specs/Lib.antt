@@ -4,3 +4,4 @@ pub mod Fronts
 pub mod Stocks
 pub mod Held
 pub mod Standing
+pub mod Closing

@@ -13,7 +13,8 @@ use Rattle.pool_arena.specs.ArenaStates.{ArenaState, law_of, AreGroundsOf, IsOut
 
 -- what the notes make of a new arena of this number
 abbrev pub arena_told : Geometry → ℕ → ℕ → List Noted → Option Arena
-arena_told g number chunks notes = after (arena_step g number) (new_arena g chunks) (noted_dids notes)
+arena_told g number chunks notes =
+    after (arena_step g number) (new_arena g chunks) (noted_dids notes)
 
 -- the notes make this arena of a new one, with these takings out, and the grounds have its own
 pub record StandsFor (grounds : Grounds) (notes : List Noted) (a : ArenaState) : Type 0 where

@@ -6,7 +6,7 @@ use Rattle.size_classes.specs.Pages.{Span, Used, free_runs, chosen, run_at}
 use Rattle.size_classes.specs.Elements.{Elements, is_full, is_idle, is_out, with_back}
 use Rattle.pool_law.specs.declared.id.RegionId.{RegionId}
 use Rattle.pool_law.specs.declared.report.ListName.{ListName}
-use Rattle.pool_law.specs.Chunks.{Chunk, Whole, Sub}
+use Rattle.pool_law.specs.Chunks.{Chunk, Sub}
 use Rattle.pool_law.specs.ChunkLists.{Lists, list_of, walk}
 use Rattle.pool_law.specs.Arenas.{Arena, Spotted, chunk_at, elements_at, front_of, with_front, without_spot, with_elements, run_given, with_run, first_holding, take_run, with_subpage}
 use Rattle.arena_law.specs.Orderly.{chunk_of}

@@ -52,8 +52,8 @@ impl Arena {
 
     /// A region of a class for an owner, with the next taking number.
     ///
-    /// None comes exactly where nothing is free for the class and each chunk place has a chunk. Then
-    /// nothing changes.
+    /// None comes exactly where nothing is free for the class and each chunk place has a chunk.
+    /// Then nothing changes.
     pub fn take(&mut self, class: u32, owner: u32) -> Option<Region>
         requires class { class < class_count self.old.geometry }
         requires takings { self.old.takings < 2 ^ 63 }
@@ -111,6 +111,18 @@ impl Arena {
         ensures { result ≡ self.now.takings }
     {
         self.takings
+    }
+
+    /// Gives all memory back. Nothing is out.
+    pub fn close(self)
+        requires { AtRest self }
+    {
+        let Arena {
+            number: _,
+            stock,
+            takings: _,
+        } = self;
+        stock.close();
     }
 
     /// Spends the arena in any state. Its memory stays taken until the program ends.

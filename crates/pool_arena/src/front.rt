@@ -1,6 +1,6 @@
 //! The subpages of a class that have a free element.
 
-ghost use Rattle.std.specs.Prelude.{◌≡◌, ◌<◌, ◌∷◌, length, map, IfOk};
+ghost use Rattle.std.specs.Prelude.{◌≡◌, ◌<◌, ◌∷◌, length, IfOk};
 ghost use Rattle.pool_law.specs.Arenas.{without_spot, is_alone};
 
 use std::alloc::{AllocError, Global};
@@ -66,7 +66,8 @@ impl Front {
 
     /// A subpage leaves.
     pub(crate) fn leave(&mut self, spot: Spot)
-        ensures { self.new ≡ with_spots self.old (without_spot spot.chunk spot.page self.old.spots) }
+        ensures { self.new
+            ≡ with_spots self.old (without_spot spot.chunk spot.page self.old.spots) }
     {
         self.spots
             .retain(|s| !(s.chunk == spot.chunk && s.page == spot.page));

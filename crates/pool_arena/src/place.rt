@@ -1,12 +1,13 @@
 //! A chunk place: the memory of a chunk, whether or not the arena has a chunk there.
 
-ghost use Rattle.std.specs.Prelude.{◌≡◌, ◌⊎◌, ◌+◌, ◌/◌, ◌^◌, ◌<◌, ◌≤◌, false, is_some, IsSome, Some, None, IfOk, IfSome, IfNone};
+ghost use Rattle.std.specs.Prelude.{◌≡◌, ◌+◌, ◌/◌, ◌^◌, ◌<◌, ◌≤◌, false, is_some, IsSome, Some, None, IfOk, IfSome, IfNone};
 ghost use Rattle.size_classes.specs.Sizes.{of_order, chunk_bytes};
 ghost use Rattle.size_classes.specs.Pages.{run_start, given_at};
 ghost use Rattle.size_classes.specs.Elements.{is_full, is_idle, with_back};
 ghost use Rattle.pool_law.specs.Chunks.{new_chunk, used_bytes, free_bytes, usage, IsChunk};
 ghost use Rattle.pool_chunk.specs.ChunkStates.{IsInUse, HasSubpage, HasIdleSubpage, IsRunOut, IsElementOut};
 ghost use Rattle.pool_chunk.specs.Outcomes.{element_back};
+ghost use Rattle.pool_arena.specs.Closing.{IsAllFree};
 
 use ground::{Ground, Piece};
 use pool_chunk::{Chunk, Freed, place_pack};
@@ -214,11 +215,13 @@ impl ChunkPlace {
         self.chunk.drop_subpage(page);
     }
 
-    /// Gives the memory back. Nothing of a chunk is out, nor an idle subpage.
+    /// Gives the memory back. All of it is free.
     pub(crate) fn close(self)
-        requires { (self.chunk ≡ None) ⊎ (self.chunk ≡ Some (new_chunk self.geometry)) }
+        requires { IsAllFree self }
     {
         let ChunkPlace { chunk, used: _ } = self;
+        // Its runs are a chunk.
+        let _free = chunk.free();
         chunk.into_piece().close();
     }
 

@@ -1,6 +1,6 @@
 //! What an arena has to give: its chunks in their lists, and its subpages by class.
 
-ghost use Rattle.std.specs.Prelude.{◌≡◌, ◌⊎◌, ℕ, ◌+◌, ◌-◌, ◌*◌, ◌/◌, ◌^◌, ◌<◌, ◌≤◌, [], ◌∷◌, true, false, length, replicate, map, All, Option, Some, None, IfOk, IfSome, IfNone, IsSome, OnErr, slice_get, unwrap_or, position, not, is_some};
+ghost use Rattle.std.specs.Prelude.{◌≡◌, ◌≢◌, ℕ, ◌+◌, ◌-◌, ◌*◌, ◌/◌, ◌^◌, ◌<◌, ◌≤◌, [], ◌∷◌, true, false, length, replicate, map, All, Option, Some, None, IfOk, IfSome, IfNone, IsSome, OnErr, slice_get, unwrap_or, position, not, is_some};
 ghost use Rattle.size_classes.specs.Sizes.{Geometry, below, of_order, page_of, chunk_pages, class_count, is_small, size_at, pages_of};
 ghost use Rattle.size_classes.specs.Pages.{NoneEmpty};
 ghost use Rattle.size_classes.specs.Elements.{is_idle, with_back};
@@ -8,11 +8,12 @@ ghost use Rattle.pool_law.specs.Chunks.{new_chunk, usage, used_bytes, free_bytes
 ghost use Rattle.pool_law.specs.declared.report.ListName.{ListName};
 ghost use Rattle.pool_law.specs.ChunkLists.{list_of};
 ghost use Rattle.pool_law.specs.Arenas.{new_arena, first_unused, opened, take_element, take_small, take_class, front_of, run_given, given_place, unless_gone, chunk_at};
-ghost use Rattle.arena_law.specs.Orderly.{IsOrderly, ChunkAtRest, chunk_of};
+ghost use Rattle.arena_law.specs.Orderly.{IsOrderly, chunk_of};
 ghost use Rattle.chunk_list.specs.Listing.{with_lists};
 ghost use Rattle.chunk_list.specs.Settling.{settled, goes_to, IsWithin};
 ghost use Rattle.pool_arena.specs.Held.{front_for};
 ghost use Rattle.pool_arena.specs.Places.{PlaceState, with_chunk, runs_of, IsWanted};
+ghost use Rattle.pool_arena.specs.Closing.{IsAllFree, IsResting, HasNoFront};
 ghost use Rattle.pool_arena.specs.declared.place.Wanted.{Wanted};
 
 use crate::front::{Front, Spot};
@@ -171,7 +172,8 @@ impl Stock {
         requires none { front_of (arena_in self.old) class ≡ [] }
         ensures none { IfNone result ((self.new ≡ self.old)
             × YieldsNone self.old (run_wanted self.old (Wanted.Subpage class))) }
-        ensures some { IfSome result (λ spot. NewFront self.old class self.new spot.chunk spot.page) }
+        ensures some { IfSome result (λ spot.
+            NewFront self.old class self.new spot.chunk spot.page) }
     {
         let (chunk, cut) = self.cut(Wanted::Subpage(class))?;
         let Cut::Subpage(page) = cut else {
@@ -346,6 +348,48 @@ impl Stock {
         settle(place, &mut self.lists, spot.chunk);
     }
 
+    // The subpages of a class that have a free element give their runs back. All are idle.
+    fn drop_front(&mut self, class: u32)
+        requires small { is_small self.old.geometry class ≡ true }
+        requires rests { IsResting self.old }
+        ensures rests { IsResting self.new }
+        ensures geometry { self.new.geometry ≡ self.old.geometry }
+        ensures none { front_of (arena_in self.new) class ≡ [] }
+        ensures others { (k : ℕ) → k ≢ class
+            → front_of (arena_in self.new) k ≡ front_of (arena_in self.old) k }
+    {
+        while let Some(spot) = self.fronts[class as usize].first() {
+            self.drop_subpage(class, spot);
+        }
+    }
+
+    // All subpages give their runs back. All are idle.
+    fn drop_idle(&mut self)
+        requires { IsResting self.old }
+        ensures rests { IsResting self.new }
+        ensures none { HasNoFront self.new }
+    {
+        for class in 0..self.classes.count() {
+            if self.is_small(class) {
+                self.drop_front(class);
+            }
+        }
+    }
+
+    /// Gives all memory back. Nothing is out.
+    pub(crate) fn close(mut self)
+        requires { IsResting self }
+    {
+        self.drop_idle();
+        let Stock {
+            classes: _,
+            places,
+            lists: _,
+            fronts: _,
+        } = self;
+        close_all(places);
+    }
+
     /// Keeps all memory until the program ends.
     pub(crate) fn leave(self) {
         let Stock {
@@ -427,9 +471,9 @@ fn new_places(alloc: Global, order: u32, chunks: u32) -> Result<Vec<ChunkPlace>,
     Ok(places)
 }
 
-// Gives the memory of chunk places back, of which nothing is out.
+// Gives the memory of chunk places back, of which all is free.
 fn close_all(mut places: Vec<ChunkPlace>)
-    requires { All (λ (p : PlaceState). (p.chunk ≡ None) ⊎ (p.chunk ≡ Some (new_chunk p.geometry))) places.items }
+    requires { All IsAllFree places.items }
 {
     while let Some(place) = places.pop() {
         place.close();

@@ -1,5 +1,5 @@
-use Rattle.std.proofs.Common.{◌≡◌, ◌≤◌, map}
-use Rattle.size_classes.specs.Sizes.{below, class_count}
+use Rattle.std.proofs.Common.{◌≡◌, map}
+use Rattle.size_classes.specs.Sizes.{below}
 use Rattle.pool_arena.specs.Held.{front_for}
 use Rattle.pool_arena.proofs.stock.new_fronts.Given as goal
 

@@ -1,4 +1,4 @@
-use Rattle.std.proofs.Common.{◌≡◌, ap, ◌∙◌, sym, Some}
+use Rattle.std.proofs.Common.{ap, ◌∙◌, sym, Some}
 use Rattle.pool_law.specs.ChunkLists.{list_of}
 use Rattle.chunk_list.specs.Settling.{goes_to, answer_of}
 use Rattle.pool_arena.specs.Places.{runs_of}

@@ -1,5 +1,4 @@
-use Rattle.pool_arena.proofs.StandingLaws.{full-step}
-use Rattle.std.proofs.Common.{◌≡◌, ◌≤◌, sym, subst}
+use Rattle.std.proofs.Common.{sym, subst}
 use Rattle.size_classes.specs.Sizes.{Geometry, of_order}
 use Rattle.pool_law.specs.Arenas.{Arena}
 use Rattle.arena_law.specs.Orderly.{IsOrderly}

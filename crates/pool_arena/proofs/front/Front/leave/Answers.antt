@@ -1,8 +1,7 @@
-use Rattle.std.proofs.Common.{rules, ◌≡◌, ap, ◌∙◌, List}
+use Rattle.std.proofs.Common.{rules, ◌≡◌, ap, ◌∙◌}
 use Rattle.std.specs.Prelude.{filter, map}
 use Rattle.std.proofs.lemmas.Fn.{filter_same}
 use Rattle.pool_law.specs.Arenas.{without_spot}
-use Rattle.pool_arena.specs.declared.front.Spot.{Spot}
 use Rattle.pool_arena.specs.Fronts.{pair_of, with_spots}
 use Rattle.pool_arena.proofs.FrontLaws.{is_other, pairs-left}
 use Rattle.pool_arena.proofs.front.Front.leave.Goals as goal

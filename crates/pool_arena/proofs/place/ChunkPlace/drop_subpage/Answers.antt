@@ -1,8 +1,6 @@
-use Rattle.std.proofs.Common.{◌≡◌, sym, subst}
-use Rattle.pool_arena.specs.Places.{PlaceState, state_of, runs_of}
+use Rattle.std.proofs.Common.{sym, subst}
 use Rattle.pool_chunk.specs.ChunkStates.{ChunkState, HasIdleSubpage}
-use Rattle.pool_arena.proofs.PlaceLaws.{run-used, place-chunk, place-changed, place-held}
-use Rattle.size_classes.specs.Pages.{given_at}
+use Rattle.pool_arena.proofs.PlaceLaws.{run-used, place-chunk}
 use Rattle.pool_arena.proofs.place.ChunkPlace.drop_subpage.Goals as goal
 
 pub drop_subpage-requires : goal.drop_subpage-requires

@@ -1,9 +1,9 @@
-use Rattle.std.proofs.Common.{◌≡◌, ◌∙◌, ap, refl, sym, subst, inr, ℕ, ◌<◌, ◌^◌, Bool, true, false, Some}
+use Rattle.std.proofs.Common.{◌≡◌, ◌∙◌, ap, refl, sym, subst, inr, ℕ, Bool, true, false, Some}
 use Rattle.std.specs.Prelude.{if◌then◌else◌, Option}
 use Rattle.size_classes.specs.Elements.{Elements, with_back, is_idle}
 use Rattle.pool_chunk.specs.declared.chunk.Freed.{Freed}
 use Rattle.pool_chunk.specs.Outcomes.{freed_by, element_back}
-use Rattle.pool_arena.specs.Places.{PlaceState, state_of, runs_of, with_chunk, place_in}
+use Rattle.pool_arena.specs.Places.{state_of, runs_of, with_chunk, place_in}
 use Rattle.pool_chunk.specs.ChunkStates.{ChunkState, IsElementOut, IsElementPlace, with_elements}
 use Rattle.pool_arena.proofs.PlaceLaws.{run-used, place-chunk, place-changed}
 use Rattle.size_classes.specs.Pages.{Run, Used, run_at}

@@ -1,5 +1,4 @@
 use Rattle.std.proofs.Common.{◌≡◌, ◌∙◌, ap, sym, subst, inl}
-use Rattle.pool_arena.specs.Places.{PlaceState, state_of, runs_of}
 use Rattle.pool_chunk.specs.ChunkStates.{ChunkState, IsRunOut, IsRunPlace}
 use Rattle.pool_arena.proofs.PlaceLaws.{run-used, place-chunk, place-changed}
 use Rattle.size_classes.specs.Pages.{given_at}

@@ -1,5 +1,4 @@
 use Rattle.std.proofs.Common.{◌≡◌, subst}
-use Rattle.pool_arena.specs.Places.{PlaceState, state_of, runs_of}
 use Rattle.pool_chunk.specs.ChunkStates.{ChunkState, HasSubpage}
 use Rattle.pool_arena.proofs.PlaceLaws.{run-used, place-chunk}
 use Rattle.size_classes.specs.Elements.{is_full}

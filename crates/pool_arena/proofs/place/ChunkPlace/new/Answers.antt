@@ -1,6 +1,4 @@
-use Rattle.std.proofs.Common.{◌≡◌, ◌*◌, ◌^◌, ◌≤◌, arith}
-use Rattle.pool_arena.specs.Places.{PlaceState, state_of, runs_of}
-use Rattle.pool_chunk.specs.ChunkStates.{ChunkState}
+use Rattle.std.proofs.Common.{arith}
 use Rattle.pool_arena.proofs.PlaceLaws.{chunk-small}
 use lib.Pow.{pow_pos}
 use Rattle.size_classes.specs.Sizes.{of_order}

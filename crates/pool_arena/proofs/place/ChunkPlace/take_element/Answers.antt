@@ -1,5 +1,4 @@
-use Rattle.std.proofs.Common.{◌≡◌, sym, subst, refl, Bool, true, false, None, Some}
-use Rattle.pool_arena.specs.Places.{PlaceState, state_of, runs_of}
+use Rattle.std.proofs.Common.{◌≡◌, subst, refl, Bool, true, false, None, Some}
 use Rattle.pool_chunk.specs.ChunkStates.{ChunkState, HasSubpage}
 use Rattle.pool_arena.proofs.PlaceLaws.{run-used, place-chunk}
 use Rattle.std.specs.Prelude.{◌↔◌, IsNone, Option}

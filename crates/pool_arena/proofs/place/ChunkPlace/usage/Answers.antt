@@ -1,6 +1,5 @@
-use Rattle.std.proofs.Common.{◌≡◌, refl, Bool, ◌-◌, ◌+◌, ◌*◌, ◌/◌, ◌≤◌, ◌^◌, sym, ap, ◌∙◌, arith, ne_eqb, eq-eqb, Fits, w32}
-use Rattle.pool_arena.specs.Places.{PlaceState, state_of, runs_of}
-use Rattle.pool_chunk.specs.ChunkStates.{ChunkState}
+use Rattle.std.proofs.Common.{◌≡◌, refl, Bool, ◌-◌, ◌+◌, ◌*◌, ◌/◌, sym, ap, ◌∙◌, arith, ne_eqb, eq-eqb}
+use Rattle.pool_arena.specs.Places.{runs_of}
 use Rattle.pool_arena.proofs.PlaceLaws.{chunk-small, usage-some}
 use Rattle.std.specs.Prelude.{if◌then◌else◌}
 use Rattle.size_classes.specs.Sizes.{chunk_bytes}

@@ -1,10 +1,8 @@
-use Rattle.std.proofs.Common.{◌≡◌, refl, sym, ap, ◌∙◌, subst, Some, None}
-use Rattle.std.specs.Prelude.{Option, ℕ}
+use Rattle.std.proofs.Common.{sym, ap, ◌∙◌, subst}
 use Rattle.size_classes.specs.Sizes.{Geometry}
-use Rattle.pool_law.specs.Arenas.{first_unused, opened}
 use Rattle.arena_law.specs.Orderly.{IsOrderly}
 use Rattle.pool_arena.specs.Places.{IsWanted}
-use Rattle.pool_arena.specs.Stocks.{StockState, arena_in, Becomes, HasNoChunk, found_in, FindsNone, CutsOff}
+use Rattle.pool_arena.specs.Stocks.{StockState, arena_in, FindsNone, CutsOff}
 use Rattle.pool_arena.proofs.NewLaws.{cuts-first, unused-none, mid-some, mid-there, mid-has, cuts-new}
 use Rattle.pool_arena.proofs.stock.Stock.cut.Goals as goal
 

@@ -1,13 +1,10 @@
-use Rattle.std.proofs.Common.{◌≡◌, ℕ, ◌+◌, ◌-◌, ◌<◌, List, length, refl, sym, ap, ◌∙◌, subst, arith, Some, None, add-one}
-use Rattle.std.specs.Prelude.{Option, slice_get}
-use Rattle.size_classes.specs.Pages.{NoneEmpty}
-use Rattle.pool_law.specs.declared.id.RegionId.{RegionId}
+use Rattle.std.proofs.Common.{◌≡◌, ℕ, ◌+◌, ◌-◌, ◌<◌, length, refl, sym, ap, ◌∙◌, subst, arith, Some, None, add-one}
+use Rattle.std.specs.Prelude.{slice_get}
 use Rattle.pool_law.specs.ChunkLists.{walk}
-use Rattle.pool_law.specs.Arenas.{chunk_at}
 use Rattle.pool_law.proofs.ListLemmas.{slice_get-below}
 use Rattle.arena_law.specs.Orderly.{IsOrderly}
 use Rattle.pool_arena.specs.Places.{IsWanted}
-use Rattle.pool_arena.specs.Stocks.{StockState, arena_in, HasChunk, CutsFrom, FindsIn, found_in}
+use Rattle.pool_arena.specs.Stocks.{StockState, arena_in, CutsFrom, found_in}
 use Rattle.pool_arena.proofs.WalkLaws.{first_from, walked-chunk, first-passed, first-found, first-none}
 use Rattle.pool_arena.proofs.stock.Stock.cut_first.Goals as goal
 

@@ -1,10 +1,8 @@
-use Rattle.std.proofs.Common.{◌≡◌, refl, sym, ap, ◌∙◌, subst, None, Some, arith, ◌<◌, ◌≤◌, length}
+use Rattle.std.proofs.Common.{◌≡◌, refl, sym, ap, ◌∙◌, subst, None, ◌≤◌}
 use Rattle.std.specs.Vec.{with_item}
-use Rattle.std.specs.Prelude.{Option, IfNone}
 use Rattle.size_classes.specs.Sizes.{Geometry}
 use Rattle.size_classes.specs.Pages.{NoneEmpty, chosen, free_runs}
 use Rattle.pool_law.specs.Chunks.{Chunk}
-use Rattle.pool_law.specs.ChunkLists.{list_of}
 use Rattle.pool_law.specs.Arenas.{chunk_at}
 use Rattle.pool_arena.specs.Places.{PlaceState, runs_of, pages_wanted}
 use Rattle.pool_arena.specs.Stocks.{StockState, arena_in, HasChunk, CutsFrom, found_in}

@@ -1,8 +1,8 @@
-use Rattle.std.proofs.Common.{◌≡◌, ℕ, ◌*◌, ◌≤◌, List, length, refl, sym, ap, ◌∙◌, subst, Some}
+use Rattle.std.proofs.Common.{◌≡◌, ℕ, ◌*◌, ◌≤◌, length, refl, sym, ap, ◌∙◌, subst, Some}
 use Rattle.std.specs.Vec.{with_item}
 use Rattle.std.specs.Prelude.{slice_get, slice_set, slice_index_or, map}
 use Rattle.size_classes.specs.Sizes.{Geometry, chunk_pages}
-use Rattle.size_classes.specs.Pages.{Used, NoneEmpty, run_at, given_at}
+use Rattle.size_classes.specs.Pages.{Used, NoneEmpty, run_at}
 use Rattle.size_classes.proofs.Runs.{Begins-run_at}
 use Rattle.pool_law.specs.Chunks.{Chunk, Sub}
 use Rattle.pool_law.specs.Arenas.{chunk_at, front_of, without_spot}

@@ -1,9 +1,9 @@
-use Rattle.std.proofs.Common.{◌≡◌, ℕ, ◌*◌, ◌<◌, List, length, refl, sym, ap, ◌∙◌, subst, true, Some}
+use Rattle.std.proofs.Common.{◌≡◌, ℕ, ◌*◌, length, refl, sym, ap, ◌∙◌, subst, true, Some}
 use Rattle.std.specs.Vec.{with_item}
-use Rattle.std.specs.Prelude.{slice_get, slice_set, map}
+use Rattle.std.specs.Prelude.{slice_get}
 use Rattle.size_classes.specs.Sizes.{Geometry, is_small, chunk_pages}
 use Rattle.size_classes.specs.Pages.{NoneEmpty}
-use Rattle.size_classes.specs.Elements.{is_full, is_idle, with_back}
+use Rattle.size_classes.specs.Elements.{is_idle, with_back}
 use Rattle.pool_law.specs.Chunks.{Chunk}
 use Rattle.pool_law.specs.Arenas.{chunk_at}
 use Rattle.pool_arena.specs.Places.{PlaceState, runs_of}

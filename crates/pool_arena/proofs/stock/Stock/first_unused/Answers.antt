@@ -1,4 +1,4 @@
-use Rattle.std.proofs.Common.{◌≡◌, List, ap, sym, ◌∙◌, Some, None}
+use Rattle.std.proofs.Common.{◌≡◌, List, ap, sym, ◌∙◌}
 use Rattle.std.specs.Prelude.{position, not, is_some, Option, ℕ, map}
 use Rattle.pool_arena.specs.Places.{PlaceState}
 use Rattle.pool_arena.specs.Stocks.{StockState}

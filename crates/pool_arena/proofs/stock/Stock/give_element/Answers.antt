@@ -1,24 +1,23 @@
-use Rattle.std.proofs.Common.{◌≡◌, ℕ, ◌-◌, ◌*◌, ◌/◌, ◌<◌, List, length, refl, sym, ap, ap₂, ◌∙◌, subst, Bool, true, false, Some, arith}
-use Rattle.std.specs.Prelude.{slice_get, slice_index_or, vec_len}
+use Rattle.std.proofs.Common.{◌≡◌, ℕ, ◌-◌, ◌*◌, ◌/◌, ◌<◌, sym, ap, ap₂, ◌∙◌, subst, Bool, true, Some}
+use Rattle.std.specs.Prelude.{slice_get, slice_index_or}
 use Rattle.ground.specs.Ground.{Segment}
 use Rattle.size_classes.specs.Sizes.{Geometry, class_count, is_small, size_at}
-use Rattle.size_classes.specs.Pages.{Used, run_start, NoneEmpty}
+use Rattle.size_classes.specs.Pages.{Used, run_start}
 use Rattle.size_classes.specs.Runs.{Begins}
 use Rattle.size_classes.specs.Elements.{is_idle, with_back}
 use Rattle.pool_law.specs.Chunks.{Chunk, Sub, IsChunk}
-use Rattle.pool_law.specs.Arenas.{chunk_at, front_of, is_alone, given_place}
+use Rattle.pool_law.specs.Arenas.{chunk_at, is_alone}
 use Rattle.arena_law.specs.Orderly.{IsOrderly}
 use Rattle.pool_chunk.specs.ChunkStates.{IsInUse}
 use Rattle.pool_arena.specs.Places.{PlaceState, runs_of, state_of}
-use Rattle.pool_arena.specs.Fronts.{FrontState}
-use Rattle.pool_arena.specs.Stocks.{StockState, arena_in, Becomes, HasChunk, IsPlaceOut, IsElementOutOf, IsIdleAt, element_back, subpage_given}
+use Rattle.pool_arena.specs.Stocks.{StockState, arena_in, Becomes, IsPlaceOut, IsElementOutOf, IsIdleAt, element_back, subpage_given}
 use Rattle.pool_arena.specs.Held.{stock_in, IsStock}
 use Rattle.pool_arena.specs.declared.stock.Stock.TheInside.{Inside}
 use Rattle.pool_arena.proofs.ListLaws.{found-is}
 use Rattle.pool_arena.proofs.StockLaws.{place-chunk_at, place-geometry}
-use Rattle.pool_arena.proofs.FrontsLaws.{front-found, front_of-is}
+use Rattle.pool_arena.proofs.FrontsLaws.{front-index, front-seen}
 use Rattle.pool_arena.proofs.GiveLaws.{begins-within}
-use Rattle.pool_arena.proofs.SmallGiveLaws.{small-class, it, it-begins, it-in_use, it-page, it-index, it-out, mid-orderly, mid-some, mid-idle, mid-there, not-idle, idle-alone, idle-dropped}
+use Rattle.pool_arena.proofs.SmallGiveLaws.{small-class, it, it-begins, it-in_use, it-page, it-index, it-out, mid-some, mid-idle, mid-there, not-idle, idle-alone, idle-dropped}
 use Rattle.pool_arena.proofs.stock.Stock.give_element.Goals as goal
 
 -- what is asked, by the fields
@@ -75,16 +74,6 @@ module _ (s : Inside) (is : IsStock s) (v : StockState) (class c : ℕ) (piece :
           let P : ℕ → ℕ → Type 0 = λ p k. (o : IsElementOutOf v class c p k piece) → idle ≡ is_idle (with_back o.elements k) in
           subst (λ (p : ℕ). P p (it v orderly class c piece asked small).at) its_page (subst (λ (k : ℕ). P page k) its_index is_so)
           (it-out v orderly class c piece asked small its_chunk)
-
--- the subpages of the class, as a caller sees them
-front_is : (s : Inside) (is : IsStock s) (v : StockState) (class : ℕ) (f : FrontState) → stock_in s ≡ v → class < class_count v.geometry → f ≡ slice_index_or s.fronts.items class f
-    → front_of (arena_in v) class ≡ f.spots
-front_is s is v class f same less here =
-    ap (λ (w : StockState). front_of (arena_in w) class) (sym same)
-    ∙ front_of-is s class f (front-found s is v.geometry class f (ap (λ (w : StockState). w.geometry) same) less here)
-
-front-index : (s : Inside) (is : IsStock s) (g : Geometry) (class : ℕ) → s.classes ≡ g → class < class_count g → class < vec_len s.fronts
-front-index s is g class same less = omega (arith, is.fronts.count, ap class_count same, less, s.fronts.ok.0)
 
 pub start_of-page-requires : goal.start_of-page-requires
 start_of-page-requires c =
@@ -182,7 +171,7 @@ returns-then-not-alone c =
     c.start_of-page.ensures.chunk in
     let mid = c.element_back-idle.new.self in
     let less = subst (λ (g : Geometry). c.args.class < class_count g) (sym back.geometry) (small-class c.args.self.now.geometry (arena_in c.args.self.now) c.args.class c.requires.orderly c.requires.small) in
-    let front = front_is c.self-2.inside c.self-2.invariant mid c.args.class c.index-2.result.now c.self-2.view_is less c.index-2.ensures in
+    let front = front-seen c.self-2.inside mid c.args.class c.index-2.result.now c.self-2.invariant c.self-2.view_is less c.index-2.ensures in
     let dropped = subst (λ (p : ℕ). Becomes mid (subpage_given mid.geometry c.args.class c.args.chunk p) c.drop_subpage.new.self) page_is c.drop_subpage.ensures in
     idle-dropped c.args.self.now c.requires.orderly c.args.class c.args.chunk c.args.piece c.requires.out c.requires.small c.element_back-idle.new.self back c.drop_subpage.new.self (sym idle_is ∙ c.if-not-idle.false)
     (ap is_alone front ∙ sym c.is_alone-alone.ensures ∙ c.if-not-alone.true) dropped
@@ -199,6 +188,6 @@ returns-else-not-alone c =
     c.element_back-idle.new.self c.element_back-idle.result c.element_back-idle.ensures.idle in
     let mid = c.element_back-idle.new.self in
     let less = subst (λ (g : Geometry). c.args.class < class_count g) (sym back.geometry) (small-class c.args.self.now.geometry (arena_in c.args.self.now) c.args.class c.requires.orderly c.requires.small) in
-    let front = front_is c.self-2.inside c.self-2.invariant mid c.args.class c.index-2.result.now c.self-2.view_is less c.index-2.ensures in
+    let front = front-seen c.self-2.inside mid c.args.class c.index-2.result.now c.self-2.invariant c.self-2.view_is less c.index-2.ensures in
     idle-alone c.args.self.now c.requires.orderly c.args.class c.args.chunk c.args.piece c.requires.out c.requires.small c.element_back-idle.new.self back (sym idle_is ∙ c.if-not-idle.false)
     (ap is_alone front ∙ sym c.is_alone-alone.ensures ∙ c.if-not-alone.false)

@@ -1,12 +1,12 @@
-use Rattle.std.proofs.Common.{◌≡◌, ℕ, ◌*◌, ◌/◌, ◌≤◌, List, length, refl, sym, ap, ◌∙◌, subst, false, Some}
+use Rattle.std.proofs.Common.{◌≡◌, ℕ, ◌/◌, ◌≤◌, refl, sym, ap, ◌∙◌, subst, false, Some}
 use Rattle.std.specs.Vec.{with_item}
 use Rattle.std.specs.Prelude.{slice_get, slice_index_or}
 use Rattle.ground.specs.Ground.{Segment}
 use Rattle.size_classes.specs.Sizes.{Geometry, is_small}
-use Rattle.size_classes.specs.Pages.{Used, NoneEmpty, given_at}
+use Rattle.size_classes.specs.Pages.{Used, NoneEmpty}
 use Rattle.size_classes.specs.Runs.{Begins}
 use Rattle.pool_law.specs.Chunks.{Chunk, Whole}
-use Rattle.pool_law.specs.Arenas.{chunk_at, run_given, given_place}
+use Rattle.pool_law.specs.Arenas.{chunk_at, given_place}
 use Rattle.arena_law.specs.Slots.{IsWholeRun}
 use Rattle.arena_law.specs.Orderly.{IsOrderly}
 use Rattle.pool_arena.specs.Places.{PlaceState, runs_of}

@@ -1,4 +1,4 @@
-use Rattle.std.proofs.Common.{◌≡◌, ℕ, ◌*◌, ap, refl}
+use Rattle.std.proofs.Common.{ℕ, ◌*◌, ap}
 use Rattle.pool_arena.specs.declared.stock.Stock.TheInside.{Inside}
 use Rattle.pool_arena.proofs.NewStockLaws.{new-held, new-state}
 use Rattle.pool_arena.proofs.stock.Stock.new.Goals as goal

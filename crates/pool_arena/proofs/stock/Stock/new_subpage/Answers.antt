@@ -1,17 +1,13 @@
-use Rattle.std.proofs.Common.{◌≡◌, ℕ, ◌*◌, ◌<◌, ◌≤◌, List, [], ◌∷◌, length, refl, sym, ap, subst, ◌∙◌, arith, Some, true}
+use Rattle.std.proofs.Common.{◌≡◌, ℕ, ◌*◌, List, [], length, refl, sym, ap, subst, ◌∙◌, true}
 use Rattle.std.specs.Vec.{with_item}
-use Rattle.std.specs.Prelude.{slice_get, slice_set, unwrap_or, map}
-use Rattle.std.proofs.Math.Nat.{le-mul_of_pos_right}
-use lib.Pow.{pow_pos}
-use Rattle.size_classes.specs.Sizes.{Geometry, class_count, is_small, chunk_pages}
-use Rattle.pool_law.specs.Arenas.{front_of, with_subpage}
+use Rattle.std.specs.Prelude.{slice_get, unwrap_or}
+use Rattle.size_classes.specs.Sizes.{Geometry, is_small, chunk_pages}
+use Rattle.pool_law.specs.Arenas.{with_subpage}
 use Rattle.pool_arena.specs.declared.place.Wanted.{Wanted}
 use Rattle.pool_arena.specs.declared.place.Cut.{Cut}
 use Rattle.pool_arena.specs.Fronts.{FrontState}
-use Rattle.pool_arena.specs.Stocks.{StockState, arena_with, arena_in, Becomes, Yields, run_wanted, IsCutIn, NewFront}
+use Rattle.pool_arena.specs.Stocks.{StockState, Becomes, Yields, run_wanted, IsCutIn}
 use Rattle.pool_arena.specs.Held.{stock_in}
-use Rattle.pool_arena.specs.declared.stock.Stock.TheInside.{Inside}
-use Rattle.pool_arena.proofs.ListLaws.{found-is}
 use Rattle.pool_arena.proofs.FrontsLaws.{front-found, front-room, rooms-set, with_fronts, fronts-held, enter-law}
 use Rattle.pool_arena.proofs.stock.Stock.new_subpage.Goals as goal
 

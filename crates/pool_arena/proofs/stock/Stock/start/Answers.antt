@@ -1,7 +1,6 @@
-use Rattle.std.proofs.Common.{◌≡◌, refl, sym, ap, ◌∙◌, subst, None, Some, Option, arith, ◌<◌, length}
+use Rattle.std.proofs.Common.{refl, sym, ap, subst, arith}
 use Rattle.std.specs.Vec.{with_item}
 use Rattle.std.proofs.lemmas.List.{length-map}
-use Rattle.pool_law.specs.ChunkLists.{list_of}
 use Rattle.pool_law.specs.Arenas.{opened}
 use Rattle.pool_arena.specs.Places.{PlaceState}
 use Rattle.pool_arena.specs.Stocks.{StockState, Becomes, HasNoChunk}

@@ -1,20 +1,19 @@
-use Rattle.std.proofs.Common.{◌≡◌, ℕ, ◌*◌, ◌<◌, List, length, refl, sym, ap, ◌∙◌, subst, Bool, true, false, Some, arith}
+use Rattle.std.proofs.Common.{◌≡◌, ℕ, ◌*◌, length, refl, sym, ap, ◌∙◌, subst, Some}
 use Rattle.std.specs.Vec.{with_item}
-use Rattle.std.specs.Prelude.{slice_get, slice_set, slice_index_or, map, if◌then◌else◌}
-use Rattle.size_classes.specs.Sizes.{Geometry, class_count, chunk_pages}
+use Rattle.std.specs.Prelude.{slice_get, slice_index_or}
+use Rattle.size_classes.specs.Sizes.{chunk_pages}
 use Rattle.size_classes.specs.Pages.{NoneEmpty}
-use Rattle.size_classes.specs.Elements.{is_full, with_out}
+use Rattle.size_classes.specs.Elements.{with_out}
 use Rattle.pool_law.specs.Chunks.{Chunk}
-use Rattle.pool_law.specs.Arenas.{chunk_at, front_of, without_spot, take_element}
-use Rattle.pool_chunk.specs.ChunkStates.{HasSubpage}
-use Rattle.pool_arena.specs.Places.{PlaceState, state_of, runs_of, HandsOut}
+use Rattle.pool_law.specs.Arenas.{chunk_at, take_element}
+use Rattle.pool_arena.specs.Places.{PlaceState, runs_of}
 use Rattle.pool_arena.specs.Fronts.{FrontState}
 use Rattle.pool_arena.specs.Stocks.{StockState, arena_in, IsOpen, GivesPlace}
 use Rattle.pool_arena.specs.Held.{stock_in}
 use Rattle.pool_arena.specs.declared.stock.Stock.TheInside.{Inside}
 use Rattle.pool_arena.proofs.ListLaws.{found-is}
 use Rattle.pool_arena.proofs.StockLaws.{place-chunk_at}
-use Rattle.pool_arena.proofs.FrontsLaws.{front-found, front_of-is, rooms-set, spots-set}
+use Rattle.pool_arena.proofs.FrontsLaws.{front-found, rooms-set}
 use Rattle.pool_arena.proofs.ElementLaws.{open-sub, subpage-changed, elements-held, take-law, open-within, full-fronts, other-fronts}
 use Rattle.pool_arena.proofs.stock.Stock.take_element.Goals as goal
 

@@ -1,7 +1,7 @@
-use Rattle.std.proofs.Common.{◌≡◌, ◌*◌, sym, ap, subst, ◌∙◌, false}
-use Rattle.size_classes.specs.Sizes.{Geometry, page_of, size_at, is_small, pages_of}
+use Rattle.std.proofs.Common.{◌≡◌, ◌*◌, subst}
+use Rattle.size_classes.specs.Sizes.{page_of, size_at}
 use Rattle.pool_arena.specs.Stocks.{StockState}
-use Rattle.pool_arena.proofs.TakeLaws.{whole-wanted, whole-none, whole-gives}
+use Rattle.pool_arena.proofs.TakeLaws.{whole-wanted}
 use Rattle.pool_arena.proofs.stock.Stock.take_whole.Goals as goal
 
 pub cut-requires-clause-wanted : goal.cut-requires-clause-wanted
