@@ -20,3 +20,4 @@ pub mod SmallGiveLaws
 pub mod NewStockLaws
 pub mod StandingLaws
 pub mod RestLaws
+pub mod OutLaws

@@ -7,6 +7,8 @@ mod arena;
 mod front;
 mod place;
 mod stock;
+#[cfg(test)]
+mod tests;
 mod told;
 
 pub use arena::Arena;

@@ -30,3 +30,4 @@ pub mod ClosingLaw
 pub mod PlaceBirths
 pub mod PlaceCalls
 pub mod PlaceEnds
+mod Trials

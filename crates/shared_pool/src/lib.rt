@@ -16,6 +16,8 @@ mod pool;
 mod root_notes;
 mod root_place;
 mod roots;
+#[cfg(test)]
+mod tests;
 mod told;
 mod went;
 
