@@ -41,6 +41,9 @@ impl Model for Rack {
 // `at` points to memory that `raw_rack` owns.
 unsafe impl Send for Rack {}
 
+// A `&` to it shows nothing.
+unsafe impl Sync for Rack {}
+
 // The block goes out with the first element.
 fn block_for(block: &mut Option<Block<Global>>, i: usize) -> Option<Block<Global>>
     ensures first { i ≡ 0 → (result ≡ block.old) × (block.new ≡ None) }
