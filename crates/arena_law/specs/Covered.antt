@@ -13,10 +13,13 @@ use Rattle.pool_law.specs.Histories.{arena_after}
 use Rattle.arena_law.specs.Slots.{IsOne}
 use Rattle.arena_law.specs.Orderly.{ChunkAtRest}
 
--- a fact of the chunk and the first byte of each run in use as a whole, and of each element that is out
+-- a fact of the chunk and the first byte of each run in use as a whole, and each element that is out
 pub record EachUsed (g : Geometry) (a : Arena) (P : ℕ → ℕ → Type 0) : Type 0 where
-  pub runs : (c page pages : ℕ) → Begins page (Used pages Whole) (chunk_at a c) → P c (page_of g * page)
-  pub elements : (c page pages class at : ℕ) (e : Elements) → Begins page (Used pages (Sub class e)) (chunk_at a c) →
+  pub runs :
+      (c page pages : ℕ) → Begins page (Used pages Whole) (chunk_at a c) → P c (page_of g * page)
+  pub elements :
+      (c page pages class at : ℕ) (e : Elements) →
+      Begins page (Used pages (Sub class e)) (chunk_at a c) →
       slice_get e.out at ≡ Some true → P c (page_of g * page + at * size_at class)
 
 -- one of these takings begins there
@@ -33,4 +36,5 @@ IsCovered g a = EachUsed g a (IsTakenAt a.out)
 -- after a history that gave all back nothing of a chunk is out
 abbrev pub RestsWhenAllIsBack : Shape → ℕ → Type 0
 RestsWhenAllIsBack shape number =
-    (ds : List Did) (a : Arena) → arena_after shape number ds ≡ Some a → a.out ≡ [] → (c : ℕ) → ChunkAtRest (chunk_at a c)
+    (ds : List Did) (a : Arena) → arena_after shape number ds ≡ Some a → a.out ≡ [] →
+    (c : ℕ) → ChunkAtRest (chunk_at a c)

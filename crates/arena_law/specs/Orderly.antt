@@ -29,8 +29,8 @@ abbrev pub chunk_of : Arena → ℕ → Option Chunk
 chunk_of a c = unwrap_or (slice_get a.chunks c) None
 
 -- a chunk place has a chunk exactly where it is in a list of chunks; each subpage that has a free
--- element stands in the list of its class, once, and no other does (of a chunk of eight pages or more,
--- each small class is a class)
+-- element stands in the list of its class, once, and no other does (of a chunk of eight pages or
+-- more, each small class is a class)
 pub record IsOrderly (g : Geometry) (a : Arena) : Type 0 where
   pub order : 3 ≤ g.order
   pub sound : (c : ℕ) → IsSound g (chunk_at a c)

@@ -31,17 +31,20 @@ pub record TakesSubpage (before after : ChunkState) (class page : ℕ) : Type 0 
   pub long : ℕ
   pub run : IsChosen before (subpage_pages before.geometry class) (page, long)
   pub rest : after ≡ with_runs before
-      (taken_at page (subpage_pages before.geometry class) (new_subpage before.geometry class) before.runs)
+      (taken_at page (subpage_pages before.geometry class)
+      (new_subpage before.geometry class) before.runs)
 
 -- the next element of the subpage at the page is out from now on: s is its bytes
-pub record TakesElement (before after : ChunkState) (page : ℕ) (s : Segment) (word : ℕ) : Type 0 where
-  pub subpage : HasSubpage before page
-  pub element : ℕ
-  pub next : next_element subpage.elements ≡ Some element
-  pub piece : IsBytesAt before (element_start before page subpage.class element) (size_at subpage.class) s
-  pub place : word ≡ element_word page subpage.pages element
-  pub rest : after ≡ with_runs before
-      (with_elements page subpage.class (with_out subpage.elements element) before.runs)
+pub record TakesElement (before after : ChunkState) (page : ℕ) (s : Segment) (word : ℕ) : Type 0
+  where
+    pub subpage : HasSubpage before page
+    pub element : ℕ
+    pub next : next_element subpage.elements ≡ Some element
+    pub piece :
+        IsBytesAt before (element_start before page subpage.class element) (size_at subpage.class) s
+    pub place : word ≡ element_word page subpage.pages element
+    pub rest : after ≡ with_runs before
+        (with_elements page subpage.class (with_out subpage.elements element) before.runs)
 
 -- the chunk once the run that begins at a page is given back
 abbrev pub run_back : ChunkState → ℕ → ChunkState

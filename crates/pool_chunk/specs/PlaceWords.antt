@@ -1,5 +1,5 @@
--- Places of a chunk as words of 64 bits. From the top: the first page in 15 bits, the pages in 15, a
--- bit for in use, a bit for an element of a subpage, and the number of the element in 32.
+-- Places of a chunk as words of 64 bits. From the top: the first page in 15 bits, the pages in 15,
+-- a bit for in use, a bit for an element of a subpage, and the number of the element in 32.
 use Rattle.std.specs.Prelude.{ℕ, ◌+◌, ◌*◌, ◌^◌, ◌<◌, Bool, true, false}
 
 abbrev pub bit_of : Bool → ℕ

@@ -147,7 +147,8 @@ impl Chunk {
     ///
     /// None where no free run has so many pages, and then nothing changes.
     pub fn take_subpage(&mut self, class: u32) -> Option<u32>
-        requires { (class < class_count self.old.geometry) × (is_small self.old.geometry class ≡ true) }
+        requires { (class < class_count self.old.geometry)
+            × (is_small self.old.geometry class ≡ true) }
         ensures none { IfNone result ((self.new ≡ self.old)
             × (chosen self.old.geometry (subpage_pages self.old.geometry class)
             (free_runs 0 self.old.runs) ≡ None)) }
@@ -187,8 +188,9 @@ impl Chunk {
         run.hand_out(page)
     }
 
-    /// Gives the place of a word back, whose bytes are the piece. A run is merged with the free runs
-    /// beside it. An element is remembered by its subpage, which keeps its run even if it is now idle.
+    /// Gives the place of a word back, whose bytes are the piece. A run is merged with the free
+    /// runs beside it. An element is remembered by its subpage, which keeps its run even if it is
+    /// now idle.
     pub fn give(&mut self, piece: Piece, word: u64) -> Freed
         requires { IsPlaceOut self.old piece word }
         ensures run { (out : IsRunPlace self.old piece word)

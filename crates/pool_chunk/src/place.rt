@@ -22,8 +22,8 @@ fn bit(flag: bool) -> u64
     if flag { 1 } else { 0 }
 }
 
-/// The word of a place: its first page, its pages, whether it is in use, whether it is an element of
-/// a subpage, and the number of that element (the handle of Netty's `PoolChunk`).
+/// The word of a place: its first page, its pages, whether it is in use, whether it is an element
+/// of a subpage, and the number of that element (the handle of Netty's `PoolChunk`).
 pub fn place_pack(page: u32, pages: u32, used: bool, sub: bool, index: u32) -> u64
     requires { (page < 2 ^ 15) × (pages < 2 ^ 15) }
     ensures { result ≡ place_word page pages used sub index }

@@ -22,13 +22,15 @@ Exchange = Command × Reply
 -- the name is bound to a root
 abbrev pub is_bound : ℕ → List Exchange → Bool
 is_bound name [] = false
-is_bound name ((Alloc new size, replies.OkPlace n place) ∷ earlier) = if new == name then true else is_bound name earlier
+is_bound name ((Alloc new size, replies.OkPlace n place) ∷ earlier) =
+    if new == name then true else is_bound name earlier
 is_bound name (_ ∷ earlier) = is_bound name earlier
 
 -- the root's count has ended
 abbrev pub is_freed : ℕ → List Exchange → Bool
 is_freed name [] = false
-is_freed name ((Release of, replies.Freed) ∷ earlier) = if of == name then true else is_freed name earlier
+is_freed name ((Release of, replies.Freed) ∷ earlier) =
+    if of == name then true else is_freed name earlier
 is_freed name (_ ∷ earlier) = is_freed name earlier
 
 -- the bytes with these laid on
@@ -38,8 +40,10 @@ laid_on bytes at new = take at bytes ++ new ++ drop (at + length new) bytes
 -- the root's bytes: zeros of the capacity, with what each `set` wrote laid on in order
 abbrev pub bytes_of : ℕ → List Exchange → List ℕ
 bytes_of name [] = []
-bytes_of name ((Alloc new size, replies.OkPlace n place) ∷ earlier) = if new == name then replicate size 0 else bytes_of name earlier
-bytes_of name ((Set to at new tries, replies.Ok) ∷ earlier) = if to == name then laid_on (bytes_of name earlier) at new else bytes_of name earlier
+bytes_of name ((Alloc new size, replies.OkPlace n place) ∷ earlier) =
+    if new == name then replicate size 0 else bytes_of name earlier
+bytes_of name ((Set to at new tries, replies.Ok) ∷ earlier) =
+    if to == name then laid_on (bytes_of name earlier) at new else bytes_of name earlier
 bytes_of name (_ ∷ earlier) = bytes_of name earlier
 
 -- the class of the region that was taken
@@ -48,7 +52,7 @@ region_class g [] = None
 region_class g ((Alloc new size, replies.OkPlace n place) ∷ earlier) = class_of g size
 region_class g (_ ∷ earlier) = region_class g earlier
 
--- ---- The reply to a command after these exchanges. A command that this stage does not read is stopped.
+-- ---- The reply to a command after these exchanges. A command that this stage does not read stops it.
 
 -- a region of this size at the chunk's front
 abbrev pub front : ℕ → Reply
@@ -61,7 +65,10 @@ placed (Some class) = front (size_at class)
 
 -- a reply where the lane counts the root
 abbrev pub when_counted : ℕ → List Exchange → Reply → Reply
-when_counted name earlier reply = if is_bound name earlier then (if is_freed name earlier then replies.Illegal else reply) else replies.Unbound
+when_counted name earlier reply =
+    if is_bound name earlier
+    then (if is_freed name earlier then replies.Illegal else reply)
+    else replies.Unbound
 
 -- a reply where the range lies in the bytes
 abbrev pub in_range : ℕ → ℕ → List ℕ → Reply → Reply
@@ -69,9 +76,13 @@ in_range at len bytes reply = if nat_le (at + len) (length bytes) then reply els
 
 -- the reply to a command
 abbrev pub reply_to : Geometry → Command → List Exchange → Reply
-reply_to g (Alloc new size) earlier = if is_some (region_class g earlier) then replies.Taken else placed (class_of g size)
-reply_to g (Set name at new tries) earlier = when_counted name earlier (in_range at (length new) (bytes_of name earlier) replies.Ok)
-reply_to g (Get name at len tries) earlier = when_counted name earlier (in_range at len (bytes_of name earlier) (replies.OkBytes (take len (drop at (bytes_of name earlier)))))
+reply_to g (Alloc new size) earlier =
+    if is_some (region_class g earlier) then replies.Taken else placed (class_of g size)
+reply_to g (Set name at new tries) earlier =
+    when_counted name earlier (in_range at (length new) (bytes_of name earlier) replies.Ok)
+reply_to g (Get name at len tries) earlier =
+    let bytes = bytes_of name earlier in
+    when_counted name earlier (in_range at len bytes (replies.OkBytes (take len (drop at bytes))))
 reply_to g (Release name) earlier = when_counted name earlier replies.Freed
 reply_to g _ earlier = replies.Stopped
 
@@ -83,7 +94,8 @@ exchanges g (c ∷ commands) earlier = exchanges g commands ((c, reply_to g c ea
 -- the replies to these commands, after the earlier exchanges
 abbrev pub replies_to : Geometry → List Command → List Exchange → List Reply
 replies_to g [] earlier = []
-replies_to g (c ∷ commands) earlier = reply_to g c earlier ∷ replies_to g commands ((c, reply_to g c earlier) ∷ earlier)
+replies_to g (c ∷ commands) earlier =
+    reply_to g c earlier ∷ replies_to g commands ((c, reply_to g c earlier) ∷ earlier)
 
 -- ---- A legal run.
 
@@ -94,7 +106,9 @@ run_bytes g class = if is_small g class then page_of g * subpage_pages g class e
 -- the chunk in use holds one run, and an idle subpage stays
 abbrev pub chunk_ends : Geometry → Option ℕ → List ChunkEnd
 chunk_ends g None = []
-chunk_ends g (Some class) = record { arena = 0; chunk = 0; list = QInit; used = run_bytes g class; free = chunk_bytes g - run_bytes g class } ∷ []
+chunk_ends g (Some class) =
+    let used = run_bytes g class in
+    record { arena = 0; chunk = 0; list = QInit; used = used; free = chunk_bytes g - used } ∷ []
 
 -- the answers that a lane's log keeps: these replies, none of which made a note
 abbrev pub without_notes : List Reply → List Answered
@@ -106,7 +120,9 @@ pub record IsOneLane (run : Run) (commands : List Command) (logged : LaneLog) : 
   pub log : run.logs ≡ logged ∷ []
   pub replies : logged.replies ≡ without_notes (replies_to (geometry_of run.shape) commands [])
   pub notes : logged.notes ≡ []
-  pub chunks : run.chunks ≡ chunk_ends (geometry_of run.shape) (region_class (geometry_of run.shape) (exchanges (geometry_of run.shape) commands []))
+  pub chunks :
+      let g = geometry_of run.shape in
+      run.chunks ≡ chunk_ends g (region_class g (exchanges g commands []))
   pub leaks : run.leaks ≡ []
 
 -- a run of one lane with one allocation

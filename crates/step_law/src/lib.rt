@@ -6,8 +6,8 @@ ghost use Rattle.step_law.specs.Settings.{Setting};
 
 /// A value that stands for the notes made on it so far, oldest first.
 ///
-/// A setting is seen by contracts alone: the grounds of the pool's chunk places, by arena and chunk,
-/// and the room of its mails.
+/// A setting is seen by contracts alone: the grounds of the pool's chunk places, by arena and
+/// chunk, and the room of its mails.
 pub trait Told {
     type Note;
 
@@ -25,7 +25,8 @@ pub trait Told {
 
     // A value that stands for a list decides which notes may follow.
     ghost decides: { (measures : List ℕ) (setting : Setting) (x : Self) (xs ys : List Self.Note) →
-        stands measures setting xs x → stands measures setting ys x → (n : Self.Note) → may_follow x xs n → may_follow x ys n };
+        stands measures setting xs x → stands measures setting ys x →
+        (n : Self.Note) → may_follow x xs n → may_follow x ys n };
 
     // What is settled once, as a pool opens with these values, one for each object in order.
     ghost settles: { List Self → Setting };
