@@ -1,19 +1,16 @@
 -- What a caller knows of an arena by the takings that are out.
-use Rattle.std.proofs.Common.{◌≡◌, ◌≢◌, ℕ, ◌+◌, ◌-◌, ◌*◌, ◌/◌, ◌<◌, List, [], ◌∷◌, ◌++◌, length, refl, sym, ap, ◌∙◌, subst, Bool, true, false, Some, None, arith, ne_eqb, inl, inr}
-use Rattle.std.specs.Prelude.{◌⊎◌, ◌==◌, ◌&&◌, ◌||◌, not, Option, option_map, unwrap_or, slice_get, if◌then◌else◌}
+use Rattle.std.proofs.Common.{◌≡◌, ◌≢◌, ℕ, ◌+◌, ◌<◌, List, [], ◌∷◌, ◌++◌, length, refl, sym, ap, ◌∙◌, subst, Bool, true, false, Some, None, arith, ne_eqb, inl, inr}
+use Rattle.std.specs.Prelude.{◌==◌, ◌&&◌, ◌||◌, not, slice_get, if◌then◌else◌}
 use Rattle.std.proofs.lemmas.Bool.{cond_both}
-use Rattle.std.proofs.lemmas.List.{length-set, length-replicate}
+use Rattle.std.proofs.lemmas.List.{length-replicate}
 use Rattle.std.specs.List.{list_any}
-use Rattle.ground.specs.Ground.{Origin, Segment}
-use Rattle.ground.specs.Grounds.{Grounds}
-use Rattle.size_classes.specs.Sizes.{Geometry, of_order, page_of, size_at, is_small}
-use Rattle.size_classes.specs.Pages.{Used, pages_in, replaced, given_at, run_start}
-use Rattle.size_classes.specs.Elements.{Elements, is_full, is_idle, with_back}
+use Rattle.ground.specs.Ground.{Segment}
+use Rattle.size_classes.specs.Sizes.{Geometry, of_order}
+use Rattle.size_classes.specs.Pages.{Used}
 use Rattle.pool_law.specs.declared.id.RegionId.{RegionId}
 use Rattle.pool_law.specs.Same.{same_place, same_taking}
-use Rattle.pool_law.specs.Chunks.{Whole, Sub, usage}
-use Rattle.pool_law.specs.ChunkLists.{list_of, down_to}
-use Rattle.pool_law.specs.Arenas.{Arena, new_arena, chunk_at, front_of, with_front, without_spot, with_elements, elements_at, unless_gone, run_given, is_alone, idle_given, element_given, small_given, given_place, take, give, is_out_of}
+use Rattle.pool_law.specs.Chunks.{Whole, Sub}
+use Rattle.pool_law.specs.Arenas.{Arena, chunk_at}
 use Rattle.pool_law.proofs.PatternLemmas.{same_taking-refl}
 use Rattle.arena_law.specs.Slots.{IsOne, IsSlot, IsLocated, ArenaHolds}
 use Rattle.arena_law.specs.Covered.{IsCovered}
@@ -24,12 +21,8 @@ use Rattle.arena_law.proofs.TakingLaw.{take-numbers, give-numbers}
 use Rattle.arena_law.proofs.CoveredSteps.{take-covered, new-covered}
 use Rattle.arena_law.proofs.CoveredGives.{give-covered}
 use Rattle.arena_law.proofs.CoveredLaw.{covered-rests}
-use Rattle.pool_arena.specs.ArenaStates.{ArenaState, IsNew, law_of, AreGroundsOf, IsInPlaceAt, IsInPlaceUnder, IsOutOf, IsSameArena, Takes, Gives, AtRest, without_taking}
-
--- these takings are out of the arena, and no others
-pub record HasOut (a : ArenaState) (out : List RegionId) : Type 0 where
-  pub holds : ArenaHolds a.geometry a.number (law_of a out)
-  pub covered : IsCovered a.geometry (law_of a out)
+use Rattle.pool_arena.specs.Trials.{HasOut}
+use Rattle.pool_arena.specs.ArenaStates.{ArenaState, IsNew, law_of, IsInPlaceAt, IsInPlaceUnder, IsOutOf, Takes, Gives, AtRest, without_taking}
 
 has-out : (g : Geometry) (number : ℕ) (a : ArenaState) (out : List RegionId) → a.geometry ≡ g → a.number ≡ number → ArenaHolds g number (law_of a out)
     → IsCovered g (law_of a out) → HasOut a out
@@ -121,6 +114,11 @@ left-first r out = ap (λ (b : Bool). if not b then r ∷ without_taking r out e
 pub left-other : (r s : RegionId) (out : List RegionId) → r.taking ≢ s.taking → without_taking r (s ∷ out) ≡ s ∷ without_taking r out
 left-other r s out other = ap (λ (b : Bool). if not b then s ∷ without_taking r out else without_taking r out) (other_taking r s other)
 
+-- the last one is one of them
+pub taken-last : (r : RegionId) (out : List RegionId) → IsOne r (out ++ r ∷ [])
+taken-last r [] = inl refl
+taken-last r (s ∷ out) = inr (taken-last r out)
+
 -- and stays out
 pub stays-out : (r s : RegionId) (out : List RegionId) → r.taking ≢ s.taking → IsOne s out → IsOne s (without_taking r out)
 stays-out r s [] other one = absurd one
@@ -130,8 +128,6 @@ stays-out r s (x ∷ out) other (inr one) =
     cond_both (not (same_taking r x)) (x ∷ without_taking r out) (without_taking r out) (λ z. IsOne s z)
     (λ _. inr (stays-out r s out other one)) (λ _. stays-out r s out other one)
 
--- ---- the number of chunk places
-
 -- where something is out there is a place
 pub some-places : (a : ArenaState) (r : RegionId) → IsOutOf a r → 0 < length a.chunks
 some-places a r out = by out.1
@@ -139,50 +135,6 @@ some-places a r out = by out.1
     by : IsSlot a.geometry (chunk_at (law_of a []) r.place.chunk) r → 0 < length a.chunks
     by (inl x) = omega (arith, chunk_at-below (law_of a []) r.place.chunk x.page (Used x.pages Whole) x.begins)
     by (inr x) = omega (arith, chunk_at-below (law_of a []) r.place.chunk x.page (Used x.pages (Sub r.class x.elements)) x.begins)
-
-run-places : (g : Geometry) (a : Arena) (c page : ℕ) → length (run_given g a c page).chunks ≡ length a.chunks
-run-places g a c page =
-    length-set a.chunks c
-    (unless_gone (list_of a.lists c) (down_to (usage g (given_at page (chunk_at a c))) (list_of a.lists c)) (given_at page (chunk_at a c)))
-
-element-places : (g : Geometry) (a : Arena) (class c page k : ℕ) (e : Elements) → length (element_given g a class c page k e).chunks ≡ length a.chunks
-element-places g a class c page k e =
-    cond_both (is_idle (with_back e k)) (idle_given g d class c page) d (λ (x : Arena). length x.chunks ≡ length a.chunks)
-    (λ _. cond_both (is_alone (front_of d class)) d (run_given g (with_front d class (without_spot c page (front_of d class))) c page) (λ (x : Arena). length x.chunks ≡ length a.chunks)
-    (λ _. back)
-    (λ _. run-places g (with_front d class (without_spot c page (front_of d class))) c page ∙ back))
-    (λ _. back)
-  where
-    b : Arena
-    b = with_elements a c page class (with_back e k)
-
-    d : Arena
-    d = if is_full e then with_front b class ((c, page) ∷ front_of b class) else b
-
-    written : length b.chunks ≡ length a.chunks
-    written = length-set a.chunks c (Some (replaced page (λ r. Used (pages_in r) (Sub class (with_back e k)) ∷ []) (chunk_at a c)))
-
-    back : length d.chunks ≡ length a.chunks
-    back = cond_both (is_full e) (with_front b class ((c, page) ∷ front_of b class)) b (λ (x : Arena). length x.chunks ≡ length a.chunks) (λ _. written) (λ _. written)
-
-given-places : (g : Geometry) (a : Arena) (class c offset : ℕ) → length (given_place g a class c offset).chunks ≡ length a.chunks
-given-places g a class c offset =
-    cond_both (is_small g class) (small_given g a class c offset) (run_given g a c (offset / page_of g)) (λ (x : Arena). length x.chunks ≡ length a.chunks)
-    (λ _. by (elements_at a class c page))
-    (λ _. run-places g a c (offset / page_of g))
-  where
-    page : ℕ
-    page = run_start (offset / page_of g) (chunk_at a c)
-
-    by : (o : Option Elements) → length (unwrap_or (option_map (element_given g a class c page ((offset - page_of g * page) / size_at class)) o) a).chunks ≡ length a.chunks
-    by None = refl
-    by (Some e) = element-places g a class c page ((offset - page_of g * page) / size_at class) e
-
--- a region that comes back leaves as many
-pub give-places : (old new : ArenaState) (r : RegionId) → Gives old r new → length new.chunks ≡ length old.chunks
-give-places old new r gives =
-    ap (λ (x : Arena). length x.chunks) (sym (gives.step []))
-    ∙ given-places old.geometry (law_of old []) r.class r.place.chunk r.place.offset
 
 -- ---- the memory of a taking
 

@@ -65,6 +65,7 @@ pub record IsSameArena (old new : ArenaState) : Type 0 where
   pub number : new.number ≡ old.number
   pub geometry : new.geometry ≡ old.geometry
   pub grounds : new.grounds ≡ old.grounds
+  pub places : length new.chunks ≡ length old.chunks
 
 -- the arena gives an owner this region for a class
 pub record Takes (old : ArenaState) (class owner : ℕ) (new : ArenaState) (r : RegionId) : Type 0

@@ -5,3 +5,4 @@ pub mod Stocks
 pub mod Held
 pub mod Standing
 pub mod Closing
+pub mod Trials

@@ -32,7 +32,9 @@ impl Model for Arena {
 }
 
 impl Arena {
+    ghost use Rattle.pool_law.specs.declared.note.Did.{Did};
     ghost use Rattle.pool_arena.specs.ArenaStates.{IsNew, IsOutOf, IsInPlaceAt, IsInPlaceUnder, Takes, IsFullFor, Gives, AtRest, end_of};
+    ghost use Rattle.pool_arena.specs.Standing.{StandsMore, taken_or_full};
 
     /// An arena with so many chunk places of `2^order` pages, none of them in use.
     /// It takes the memory of all its chunks and of their tables.
@@ -61,6 +63,7 @@ impl Arena {
         ensures full { IfNone result (IsFullFor self.old class owner) }
         ensures some { IfSome result (λ r. Takes self.old class owner self.new r.id) }
         ensures place { IfSome result (λ r. IsInPlaceAt self.old r.id r.piece) }
+        ensures stands { StandsMore self.old (taken_or_full class result) self.new }
     {
         let (chunk, piece) = self.stock.take(class)?;
         self.takings += 1;
@@ -84,7 +87,8 @@ impl Arena {
     pub fn give(&mut self, region: Region)
         requires out { IsOutOf self.old region.id }
         requires place { IsInPlaceUnder self.old region.id region.piece }
-        ensures { Gives self.old region.id self.new }
+        ensures gives { Gives self.old region.id self.new }
+        ensures stands { StandsMore self.old (Did.Give region.id) self.new }
     {
         let (id, piece) = region.into_parts();
         self.stock.give(id.class, id.place.chunk, piece);

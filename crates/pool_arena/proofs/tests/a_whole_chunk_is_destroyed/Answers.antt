@@ -1,7 +1,8 @@
-use Rattle.std.proofs.Common.{ℕ, ◌∙◌, List, [], ◌∷◌, refl, sym, subst, arith, inl}
+use Rattle.std.proofs.Common.{ℕ, ◌∙◌, List, [], ◌∷◌, refl, subst, arith, inl}
 use Rattle.pool_law.specs.declared.id.RegionId.{RegionId}
 use Rattle.pool_arena.specs.ArenaStates.{ArenaState, IsNew, Takes, Gives, AtRest, IsOutOf}
-use Rattle.pool_arena.proofs.OutLaws.{HasOut, new-out, new-takings, take-out, out-of, give-out, none-out, left-first, some-places, give-places, first-place}
+use Rattle.pool_arena.specs.Trials.{HasOut}
+use Rattle.pool_arena.proofs.OutLaws.{new-out, new-takings, take-out, out-of, give-out, none-out, left-first, some-places, first-place}
 use Rattle.pool_arena.proofs.tests.a_whole_chunk_is_destroyed.Goals as goal
 
 -- the one taking of a new arena
@@ -38,8 +39,8 @@ give-requires-clause-place g c =
 pub list_now-requires-2 : goal.list_now-requires-2
 list_now-requires-2 g c =
     let out = its_out c.new_arena-arena.result c.take-a.new.arena 9 4 67 0 c.new_arena-arena.ensures.new c.take-a.result.id c.take-a.ensures.takes in
-    omega (arith, some-places c.take-a.new.arena c.take-a.result.id out, give-places c.take-a.new.arena c.give.new.self c.take-a.result.id c.give.ensures)
+    omega (arith, some-places c.take-a.new.arena c.take-a.result.id out, c.give.ensures.gives.same.places)
 
 pub close-requires : goal.close-requires
 close-requires g c =
-    its_rest c.new_arena-arena.result c.take-a.new.arena 9 4 67 0 c.new_arena-arena.ensures.new c.take-a.result.id c.take-a.ensures.takes c.give.new.self c.give.ensures
+    its_rest c.new_arena-arena.result c.take-a.new.arena 9 4 67 0 c.new_arena-arena.ensures.new c.take-a.result.id c.take-a.ensures.takes c.give.new.self c.give.ensures.gives

@@ -1,8 +1,9 @@
-use Rattle.std.proofs.Common.{◌≡◌, ◌≢◌, ℕ, ◌<◌, ◌∙◌, List, [], ◌∷◌, refl, sym, ap, subst, arith, inl, inr, lit<}
+use Rattle.std.proofs.Common.{◌≡◌, ◌≢◌, ◌<◌, ◌∙◌, List, [], ◌∷◌, refl, sym, ap, subst, arith, inl, inr, lit<}
 use Rattle.size_classes.specs.Sizes.{Geometry, class_count}
 use Rattle.pool_law.specs.declared.id.RegionId.{RegionId}
-use Rattle.pool_arena.specs.ArenaStates.{ArenaState, IsNew, Takes, Gives, AtRest, IsOutOf, without_taking}
-use Rattle.pool_arena.proofs.OutLaws.{HasOut, new-out, new-takings, new-places, take-out, take-takings, taken-number, out-of, give-out, none-out, left-first, left-other, some-places, give-places, first-place}
+use Rattle.pool_arena.specs.ArenaStates.{ArenaState, IsNew, Takes, Gives, AtRest, IsOutOf}
+use Rattle.pool_arena.specs.Trials.{HasOut}
+use Rattle.pool_arena.proofs.OutLaws.{new-out, new-takings, new-places, take-out, take-takings, taken-number, out-of, give-out, none-out, left-first, left-other, some-places, first-place}
 use Rattle.pool_arena.proofs.tests.the_last_small_class_and_the_first_normal.Goals as goal
 
 -- two takings of a new arena, of which the second comes back first
@@ -68,24 +69,24 @@ give-requires-clause-place g c =
 pub give-requires-2-clause-out : goal.give-requires-2-clause-out
 give-requires-2-clause-out g c =
     first_out c.new_arena-arena.result c.take-a.new.arena c.take-b.new.arena c.new_arena-arena.ensures.new c.take-a.result.id c.take-b.result.id
-    c.take-a.ensures.takes c.take-b.ensures.takes c.give.new.self c.give.ensures
+    c.take-a.ensures.takes c.take-b.ensures.takes c.give.new.self c.give.ensures.gives
 
 pub give-requires-2-clause-place : goal.give-requires-2-clause-place
 give-requires-2-clause-place g c =
     let new = c.new_arena-arena.ensures.new.number_is in
     let one = c.take-a.ensures.takes.same in
     let two = c.take-b.ensures.takes.same in
-    let back = c.give.ensures.same in
+    let back = c.give.ensures.gives.same in
     first-place c.new_arena-arena.result c.give.new.self c.take-a.result.id c.take-a.result.piece new (back.number ∙ two.number ∙ one.number ∙ new)
     (back.grounds ∙ two.grounds ∙ one.grounds) c.take-a.ensures.place
 
 pub chunk_now-requires-2 : goal.chunk_now-requires-2
 chunk_now-requires-2 g c =
     let out = first_out c.new_arena-arena.result c.take-a.new.arena c.take-b.new.arena c.new_arena-arena.ensures.new c.take-a.result.id c.take-b.result.id
-    c.take-a.ensures.takes c.take-b.ensures.takes c.give.new.self c.give.ensures in
-    omega (arith, some-places c.give.new.self c.take-a.result.id out, give-places c.give.new.self c.give-2.new.self c.take-a.result.id c.give-2.ensures)
+    c.take-a.ensures.takes c.take-b.ensures.takes c.give.new.self c.give.ensures.gives in
+    omega (arith, some-places c.give.new.self c.take-a.result.id out, c.give-2.ensures.gives.same.places)
 
 pub close-requires : goal.close-requires
 close-requires g c =
     rest c.new_arena-arena.result c.take-a.new.arena c.take-b.new.arena c.new_arena-arena.ensures.new c.take-a.result.id c.take-b.result.id
-    c.take-a.ensures.takes c.take-b.ensures.takes c.give.new.self c.give.ensures c.give-2.new.self c.give-2.ensures
+    c.take-a.ensures.takes c.take-b.ensures.takes c.give.new.self c.give.ensures.gives c.give-2.new.self c.give-2.ensures.gives
