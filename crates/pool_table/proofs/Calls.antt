@@ -29,10 +29,11 @@ use Rattle.pool_table.specs.Steps.{IsFree}
 use Rattle.std.specs.Prelude.{Bool, true, false, MatchBool}
 use Rattle.atomic_table.specs.Table.{Step, rest}
 use Rattle.pool_table.specs.Views.{blank, joined}
-use Rattle.pool_table.specs.Steps.{claims, marks_claims, GotIn, dones, idles, blank_beside, retains, looks, releases, vacates, births}
+use Rattle.pool_table.specs.Steps.{claims, marks_claims, GotIn, counts_one, dones, idles, blank_beside, retains, looks, releases, vacates, births}
 use Rattle.pool_table.proofs.Seatings.{splits_allowed, joins_allowed}
 use Rattle.pool_table.proofs.Hands.{births_allowed, hand_place}
 use Rattle.pool_table.proofs.Exact.{born_place, count_born, token_born}
+use Rattle.pool_table.proofs.OneRoot.{one_allowed}
 use mathlib.Core.Option.{some}
 use lib.ListN.{get_elem?}
 use Rattle.atomic_table.specs.Table.{State}
@@ -76,10 +77,11 @@ module _ {H : Type 0} (stands : List ℕ → Setting → List Noted → H → Ty
   -- the seat as it is once the home value is back in the slot
   pub dones_as : (l key : Layout) (o : Object) (slots slot word id id' : ℕ) (me me' : Me (Option H) SeatView) (h : List Noted) (home : H) (note : Noted) → key ≡ l → slots ≡ objects_of l.shape → word ≡ word_of l.shape o → IsInside l.shape me o slot h → id' ≡ id → me' ≡ (me.0, (slot, Some home) ∷ [])
       → 0 < me.0.turns → MayNote l.shape me.0.own.number o note.did → PutsDown me.0 note.did → IsHistory l.shape o (h ++ noted_by me.0.own.number note ∷ []) → StandsFor stands (measures_of l.shape o) me.0 (h ++ noted_by me.0.own.number note ∷ []) home
-      → Allows (IsSound stands key) slots id' me' word (λ n. (n + 1) % 2 ^ 64) (dones note (step slots word 1 0 none) me')
+      → Allows (IsSound stands key) slots id' me' word (λ n. (n + 1) % 2 ^ 64) (counts_one (dones note) (step slots word 1 0 none) me')
   dones_as l key o slots slot word id id' me me' h home note ke se we inside ide is turn may hands accepted stands_for =
-      subst (λ (y : Layout × ℕ × ℕ × ℕ × Me (Option H) SeatView). Allows (IsSound stands y.0) y.1 y.2 y.4 y.3 (λ n. (n + 1) % 2 ^ 64) (dones note (step y.1 y.3 1 0 none) y.4)) (λ q. (sym ke q, sym se q, sym ide q, sym we q, sym is q))
-      (dones_allowed stands l id (me.0, (slot, Some home) ∷ []) o slot h home note inside.object inside.slot_is inside.inside refl turn may hands accepted stands_for)
+      one_allowed stands key slots id' me' word (λ n. (n + 1) % 2 ^ 64) (dones note) (step slots word 1 0 none)
+      (subst (λ (y : Layout × ℕ × ℕ × ℕ × Me (Option H) SeatView). Allows (IsSound stands y.0) y.1 y.2 y.4 y.3 (λ n. (n + 1) % 2 ^ 64) (dones note (step y.1 y.3 1 0 none) y.4)) (λ q. (sym ke q, sym se q, sym ide q, sym we q, sym is q))
+      (dones_allowed stands l id (me.0, (slot, Some home) ∷ []) o slot h home note inside.object inside.slot_is inside.inside refl turn may hands accepted stands_for))
 
   pub idles_as : (l key : Layout) (o : Object) (slots slot word id id' : ℕ) (me me' : Me (Option H) SeatView) (h : List Noted) (home : H) → key ≡ l → slots ≡ objects_of l.shape → word ≡ word_of l.shape o → IsInside l.shape me o slot h → id' ≡ id → me' ≡ (me.0, (slot, Some home) ∷ [])
       → IsMail o → StandsFor stands (measures_of l.shape o) me.0 h home
@@ -124,23 +126,28 @@ module _ {H : Type 0} (stands : List ℕ → Setting → List Noted → H → Ty
     counted_fits : HasCount root me.0 → (s : State (Option H) SeatView) (r : IsSound stands l s) → get_elem? s.views id ≡ some me.0 → root.place < l.shape.lanes * l.shape.handles
     counted_fits has s r at = born_place stands l s r root (count_born stands l s r id me.0 at root has)
 
-    pub retains_as : HasCount root me.0 → 0 < me.0.moves → Allows (IsSound stands key) slots id me word (λ n. (n + 2) % 2 ^ 64) (retains root' (step slots word 2 0 none) me)
-    retains_as has moves = subst (λ (y : Layout × ℕ × RootId). Allows (IsSound stands y.0) y.1 id me word (λ n. (n + 2) % 2 ^ 64) (retains y.2 (step y.1 word 2 0 none) me)) (λ q. (sym ke q, sym se q, sym re q))
-        (at_root id me root.place word (λ n. (n + 2) % 2 ^ 64) (retains root (step (objects_of l.shape) word 2 0 none) me) (counted_fits has) is (λ lt. retains_allowed stands l id me root lt has out moves))
+    pub retains_as : HasCount root me.0 → 0 < me.0.moves → Allows (IsSound stands key) slots id me word (λ n. (n + 2) % 2 ^ 64) (counts_one (retains root') (step slots word 2 0 none) me)
+    retains_as has moves = one_allowed stands key slots id me word (λ n. (n + 2) % 2 ^ 64) (retains root') (step slots word 2 0 none)
+        (subst (λ (y : Layout × ℕ × RootId). Allows (IsSound stands y.0) y.1 id me word (λ n. (n + 2) % 2 ^ 64) (retains y.2 (step y.1 word 2 0 none) me)) (λ q. (sym ke q, sym se q, sym re q))
+        (at_root id me root.place word (λ n. (n + 2) % 2 ^ 64) (retains root (step (objects_of l.shape) word 2 0 none) me) (counted_fits has) is (λ lt. retains_allowed stands l id me root lt has out moves)))
 
-    pub looks_as : HasCount root me.0 → Allows (IsSound stands key) slots id me word (λ n. n) (looks root' (step slots word 0 0 none) me)
-    looks_as has = subst (λ (y : Layout × ℕ × RootId). Allows (IsSound stands y.0) y.1 id me word (λ n. n) (looks y.2 (step y.1 word 0 0 none) me)) (λ q. (sym ke q, sym se q, sym re q))
-        (at_root id me root.place word (λ n. n) (looks root (step (objects_of l.shape) word 0 0 none) me) (counted_fits has) is (λ lt. looks_allowed stands l id me root lt has out))
+    pub looks_as : HasCount root me.0 → Allows (IsSound stands key) slots id me word (λ n. n) (counts_one (looks root') (step slots word 0 0 none) me)
+    looks_as has = one_allowed stands key slots id me word (λ n. n) (looks root') (step slots word 0 0 none)
+        (subst (λ (y : Layout × ℕ × RootId). Allows (IsSound stands y.0) y.1 id me word (λ n. n) (looks y.2 (step y.1 word 0 0 none) me)) (λ q. (sym ke q, sym se q, sym re q))
+        (at_root id me root.place word (λ n. n) (looks root (step (objects_of l.shape) word 0 0 none) me) (counted_fits has) is (λ lt. looks_allowed stands l id me root lt has out)))
 
-    pub releases_as : HasCount root me.0 → Allows (IsSound stands key) slots id me word (λ n. (n + (2 ^ 64 - 2)) % 2 ^ 64) (releases root' (step slots word 2 0 none) me)
-    releases_as has = subst (λ (y : Layout × ℕ × RootId). Allows (IsSound stands y.0) y.1 id me word (λ n. (n + (2 ^ 64 - 2)) % 2 ^ 64) (releases y.2 (step y.1 word 2 0 none) me)) (λ q. (sym ke q, sym se q, sym re q))
-        (at_root id me root.place word (λ n. (n + (2 ^ 64 - 2)) % 2 ^ 64) (releases root (step (objects_of l.shape) word 2 0 none) me) (counted_fits has) is (λ lt. releases_allowed stands l id me root lt has out))
+    pub releases_as : HasCount root me.0 → Allows (IsSound stands key) slots id me word (λ n. (n + (2 ^ 64 - 2)) % 2 ^ 64) (counts_one (releases root') (step slots word 2 0 none) me)
+    releases_as has = one_allowed stands key slots id me word (λ n. (n + (2 ^ 64 - 2)) % 2 ^ 64) (releases root') (step slots word 2 0 none)
+        (subst (λ (y : Layout × ℕ × RootId). Allows (IsSound stands y.0) y.1 id me word (λ n. (n + (2 ^ 64 - 2)) % 2 ^ 64) (releases y.2 (step y.1 word 2 0 none) me)) (λ q. (sym ke q, sym se q, sym re q))
+        (at_root id me root.place word (λ n. (n + (2 ^ 64 - 2)) % 2 ^ 64) (releases root (step (objects_of l.shape) word 2 0 none) me) (counted_fits has) is (λ lt. releases_allowed stands l id me root lt has out)))
 
-    pub vacates_as : HasToken root me.0 → HasEnded root me.0 → Allows (IsSound stands key) slots id me word (λ n. (n + 1) % 2 ^ 64) (vacates root' (step slots word 1 0 none) me)
-    vacates_as has ended = subst (λ (y : Layout × ℕ × RootId). Allows (IsSound stands y.0) y.1 id me word (λ n. (n + 1) % 2 ^ 64) (vacates y.2 (step y.1 word 1 0 none) me)) (λ q. (sym ke q, sym se q, sym re q))
-        (at_root id me root.place word (λ n. (n + 1) % 2 ^ 64) (vacates root (step (objects_of l.shape) word 1 0 none) me) (λ s r at. born_place stands l s r root (token_born stands l s r id me.0 at root has)) is (λ lt. vacates_allowed stands l id me root lt has ended out))
+    pub vacates_as : HasToken root me.0 → HasEnded root me.0 → Allows (IsSound stands key) slots id me word (λ n. (n + 1) % 2 ^ 64) (counts_one (vacates root') (step slots word 1 0 none) me)
+    vacates_as has ended = one_allowed stands key slots id me word (λ n. (n + 1) % 2 ^ 64) (vacates root') (step slots word 1 0 none)
+        (subst (λ (y : Layout × ℕ × RootId). Allows (IsSound stands y.0) y.1 id me word (λ n. (n + 1) % 2 ^ 64) (vacates y.2 (step y.1 word 1 0 none) me)) (λ q. (sym ke q, sym se q, sym re q))
+        (at_root id me root.place word (λ n. (n + 1) % 2 ^ 64) (vacates root (step (objects_of l.shape) word 1 0 none) me) (λ s r at. born_place stands l s r root (token_born stands l s r id me.0 at root has)) is (λ lt. vacates_allowed stands l id me root lt has ended out)))
 
-    pub births_as : 0 < l.shape.handles → InHand root.place me.0 → (q : RootId) × (q.place ≡ root.place) × (q.capacity ≡ root.capacity) × Waits q me.0 → 0 < me.0.moves → Allows (IsSound stands key) slots id me word (λ n. (n + 4294967297) % 2 ^ 64) (births root' (step slots word 4294967297 0 none) me)
-    births_as some_handle has waits moves = subst (λ (y : Layout × ℕ × RootId). Allows (IsSound stands y.0) y.1 id me word (λ n. (n + 4294967297) % 2 ^ 64) (births y.2 (step y.1 word 4294967297 0 none) me)) (λ q. (sym ke q, sym se q, sym re q))
+    pub births_as : 0 < l.shape.handles → InHand root.place me.0 → (q : RootId) × (q.place ≡ root.place) × (q.capacity ≡ root.capacity) × Waits q me.0 → 0 < me.0.moves → Allows (IsSound stands key) slots id me word (λ n. (n + 4294967297) % 2 ^ 64) (counts_one (births root') (step slots word 4294967297 0 none) me)
+    births_as some_handle has waits moves = one_allowed stands key slots id me word (λ n. (n + 4294967297) % 2 ^ 64) (births root') (step slots word 4294967297 0 none)
+        (subst (λ (y : Layout × ℕ × RootId). Allows (IsSound stands y.0) y.1 id me word (λ n. (n + 4294967297) % 2 ^ 64) (births y.2 (step y.1 word 4294967297 0 none) me)) (λ q. (sym ke q, sym se q, sym re q))
         (at_root id me root.place word (λ n. (n + 4294967297) % 2 ^ 64) (births root (step (objects_of l.shape) word 4294967297 0 none) me) (λ s r at. hand_place stands l some_handle s r id root.place me.0 at has) is
-        (λ lt. births_allowed stands l id me root lt has waits (λ s r lt g at less. next_birth stands l s r id root.place g me.0 lt at less) moves out))
+        (λ lt. births_allowed stands l id me root lt has waits (λ s r lt g at less. next_birth stands l s r id root.place g me.0 lt at less) moves out)))

@@ -22,7 +22,7 @@ use Rattle.pool_table.specs.declared.views.SeatView.{SeatView}
 use Rattle.pool_table.specs.Views.{Face, parts_of, is_at, is_lane, is_numbered, face, strand, inside_at, is_in, inside_total, in_face, total, numbered, one_if}
 use Rattle.std.proofs.lemmas.List.Sums.{sum_by-cons}
 use Rattle.std.proofs.lemmas.List.Elements.{All-cons, All-nil}
-use Rattle.pool_table.specs.Counts.{IsCounted, weigh, on_root, on_place, ref_retain}
+use Rattle.pool_table.specs.Counts.{IsCounted, weigh, on_root, on_place, ref_retain, reached}
 use Rattle.pool_table.proofs.Looks.{looks_regroup}
 use Rattle.pool_table.proofs.Order.{order_regroups}
 use Rattle.pool_table.proofs.Births.{born_regroups}
@@ -118,6 +118,7 @@ module _ {H : Type 0} (stands : List ℕ → Setting → List Noted → H → Ty
         home_count = wide;
         setting = r.setting;
         view = fine;
+        few = (let a = r.few in let b = r.moved in let c = sum_at reached s.views id v at in omega (arith, a, b, c));
         alone = λ q t bq bt ep eg. one_born stands l s r q t (in_all s r id v at all q bq) (in_all s r id v at all t bt) ep eg;
         born = born_regroups s.views (v ∷ []) (λ f. alone_weighs s r id v at all f) (regroups s id v at) r.born;
         takings = λ q fits arena caches places are.

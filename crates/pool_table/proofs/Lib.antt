@@ -4,6 +4,7 @@ pub mod Looks
 pub mod Births
 pub mod Makers
 pub mod Newest
+pub mod Numbers
 pub mod Words
 pub mod Counts
 pub mod AtPlace
@@ -23,6 +24,7 @@ pub mod Exact
 pub mod Putting
 pub mod Transit
 pub mod References
+pub mod OneRoot
 pub mod Hands
 pub mod Regions
 pub mod OwnCaches

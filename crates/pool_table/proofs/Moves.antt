@@ -61,6 +61,7 @@ use Rattle.pool_table.proofs.Putting.{puts_at, note_born}
 use Rattle.pool_table.proofs.Exact.{counted_of, vacated_of}
 use Rattle.pool_table.proofs.Order.{IsNewest, newest, order_same, order_entry}
 use Rattle.pool_table.proofs.Newest.{newest_note}
+use Rattle.pool_table.proofs.Numbers.{next_above, last_not_below}
 use Rattle.pool_law.specs.NotedHistories.{MayNote}
 use Rattle.pool_table.specs.Sound.{IsKept, IsSound, IsView, IsTold, IsMarked, Stands, Knows, WasHeld}
 use Rattle.pool_table.specs.Sections.{StandsFor}
@@ -157,6 +158,15 @@ module _ {H : Type 0} (stands : List ℕ → Setting → List Noted → H → Ty
   fitting : (y : Option Inside) (x : Inside) → y ≡ Some x → IfSome y (λ (x : Inside). IsObjectOf l.shape x.object) → IsObjectOf l.shape x.object
   fitting y x e f = subst (λ (y : Option Inside). IfSome y (λ (x : Inside). IsObjectOf l.shape x.object)) e f
 
+  -- the history tells the entries of a view's own part
+  told_own : (s : State (Option H) SeatView) (r : IsSound stands l s) (id : ℕ) (v : SeatView) (o : Object) (fits : IsObjectOf l.shape o) → get_elem? s.views id ≡ some v
+      → let i = home_of l.shape o in let h = (r.objects o fits).history in IsTold o h (length h + (inside_total (map (face l.shape i) s.views) - is_in (face l.shape i v))) (strand l.shape i v.own)
+  told_own s r id v o fits at =
+      let i : ℕ = home_of l.shape o in let k = r.objects o fits in let h : List Noted = k.history in
+      let t : ℕ = inside_total (map (face l.shape i) s.views) in let limit : Face → ℕ = λ (f : Face). length h + (t - is_in f) in
+      All-head (IsTold o h (limit (face l.shape i v))) (strand l.shape i v.own) (map (strand l.shape i) v.others)
+      (each_at (λ (f : Face). All (IsTold o h (limit f)) f.parts) (map (face l.shape i) s.views) id (face l.shape i v) k.told (at_map (face l.shape i) s.views id v at))
+
   -- some other view is in the section
   was_held : (s : State (Option H) SeatView) (r : IsSound stands l s) (id : ℕ) (v : SeatView) (o : Object) (fits : IsObjectOf l.shape o) → get_elem? s.views id ≡ some v → v.inside ≡ None
       → inside_total (map (face l.shape (home_of l.shape o)) s.views) ≡ 1 → WasHeld stands l o (length (r.objects o fits).history) v
@@ -169,7 +179,7 @@ module _ {H : Type 0} (stands : List ℕ → Setting → List Noted → H → Ty
       let knows = each_at (Knows k.history) (map (face l.shape i) s.views) j (face l.shape i u) k.knows (at_map (face l.shape i) s.views j u b.2) in
       let fine = each_at (IsView l.shape r.setting) s.views j u r.views b.2 in
       let x = section_at i k.history u.inside b.3 knows in
-      record { moment = s; sound = r; seat = id; view = at; other = j; apart = ne; holder = u; section = x.0; holds = b.2; inside = x.1; object = one_home l.shape x.0.object o (fitting u.inside x.0 x.1 fine.inside) fits x.2; number = x.4 }
+      record { moment = s; sound = r; seat = id; view = at; other = j; apart = ne; holder = u; section = x.0; holds = b.2; inside = x.1; object = one_home l.shape x.0.object o (fitting u.inside x.0 x.1 fine.inside) fits x.2; number = x.4; seen = last_not_below l.shape o k.history (length k.history + (t - is_in (face l.shape i v))) v.own.number (let n : ℕ = length k.history in let z : ℕ = is_in (face l.shape i v) in omega (arith, one')) v.own.notes (told_own s r id v o fits at).told }
 
   half : (word n t : ℕ) → t ≡ 1 → word ≡ 2 * n + t → word / 2 ≡ n
   half word n t e w = omega (arith, e, w)
@@ -202,7 +212,7 @@ module _ {H : Type 0} (stands : List ℕ → Setting → List Noted → H → Ty
       let vf : face l.shape i v ≡ record { parts = map (strand l.shape i) (parts_of v); inside = None } = outside_face i v out.0 in
       let wf : face l.shape i w ≡ record { parts = map (strand l.shape i) (parts_of v); inside = Some x } = inside_face i w x refl refl in
       let there = at_map (face l.shape i) s.views id v at in
-      let told = All-head (IsTold o h (n + (t - is_in (face l.shape i v)))) (strand l.shape i v.own) (map (strand l.shape i) v.others) (each_at (λ (f : Face). All (IsTold o h (n + (t - is_in f))) f.parts) (map (face l.shape i) s.views) id (face l.shape i v) k.told there) in
+      let told = told_own s r id v o fits at in let last : n + (t - is_in (face l.shape i v)) ≤ n = omega (arith, z) in
       let kept = claimed_kept stands l.shape r.setting o (map (face l.shape i) s.views) word (get_elem? s.homes i) (get_elem? (set s.homes i none) i) id (face l.shape i v) x k there nobody refl refl in
       let kept' : IsKept stands l.shape r.setting o (set (map (face l.shape i) s.views) id (face l.shape i w)) (bit_or word 1) (get_elem? (set s.homes i none) i) =
       subst (λ (y : Face × ℕ). IsKept stands l.shape r.setting o (set (map (face l.shape i) s.views) id y.0) y.1 (get_elem? (set s.homes i none) i)) (λ q. (sym wf q, sym (or_even word n w0) q)) kept in (
@@ -219,7 +229,7 @@ module _ {H : Type 0} (stands : List ℕ → Setting → List Noted → H → Ty
             (let e : word ≡ 2 * n = omega (arith, w0) in e),
             refl,
             refl,
-            record { object = fits; accepted = k.accepted; stands_for = under v.setting r.setting (λ g. stands (measures_of l.shape o) g h hv.0) fine.setting_is hv.2; short = short stands l s r o fits; root = tells_root stands l s r id v o fits at; bin = λ b p m e after has. hand_bin stands l s r id v o fits at b p m e after (hand_place stands l some_handle s r id p v at has) has; arena = arena_tells stands l s r id v o fits at; cache = cache_tells stands l s r id v o fits at; setting = r.setting; view = fine; counted = counted_of stands l s r id v at; vacated = vacated_of stands l s r id v at; uses = few_uses stands l s r id v at; once = in_hand_once stands l s r id v at; free = λ q n more lt. next_free stands l s r id v at q n o fits more lt; lanes = each_may stands l s r o fits; own = told.own },
+            record { object = fits; accepted = k.accepted; stands_for = under v.setting r.setting (λ g. stands (measures_of l.shape o) g h hv.0) fine.setting_is hv.2; short = short stands l s r o fits; root = tells_root stands l s r id v o fits at; bin = λ b p m e after has. hand_bin stands l s r id v o fits at b p m e after (hand_place stands l some_handle s r id p v at has) has; arena = arena_tells stands l s r id v o fits at; cache = cache_tells stands l s r id v o fits at; setting = r.setting; view = fine; counted = counted_of stands l s r id v at; vacated = vacated_of stands l s r id v at; uses = few_uses stands l s r id v at; once = in_hand_once stands l s r id v at; free = λ q n more lt. next_free stands l s r id v at q n o fits more lt; lanes = each_may stands l s r o fits; seen = next_above l.shape o h (n + (t - is_in (face l.shape i v))) v.own.number last v.own.notes told.told; own = told.own },
           ),
         ),
       )

@@ -1,7 +1,8 @@
 -- A note that a section ends with is the newest of its object.
 use Rattle.step_law.specs.Settings.{Setting}
-use Rattle.std.proofs.Common.{◌≡◌, ℕ, zero, suc, ◌+◌, ◌-◌, ◌<◌, List, [], ◌∷◌, map, length, Bool, true, false, cond, sym, refl, ap, ◌∙◌, arith, eq-eqb}
-use Rattle.std.specs.Prelude.{Option, Some, All, filter, slice_get}
+use Rattle.std.proofs.Common.{◌≡◌, ℕ, ◌+◌, ◌-◌, List, [], ◌∷◌, map, length, Bool, true, false, cond, sym, refl, ap, ◌∙◌, arith, eq-eqb}
+use Rattle.std.specs.Prelude.{Option, All, filter}
+use Rattle.std.proofs.lemmas.Option.{slice_get_within}
 use Rattle.std.proofs.lemmas.List.Elements.{All-cons, All-head, All-tail, All-nil, All-weaker}
 use Rattle.atomic_table.specs.Table.{State}
 use Rattle.pool_law.specs.declared.note.Noted.{Noted}
@@ -18,13 +19,8 @@ use Rattle.pool_table.specs.Sound.{IsSound, IsTold, Tells}
 use Rattle.pool_table.proofs.Order.{IsBelowAll, IsNewest}
 use Rattle.step_law.proofs.Changes.{each_unmapped}
 
-within_get : {X : Type 0} (xs : List X) (j : ℕ) (x : X) → slice_get xs j ≡ Some x → j < length xs
-within_get [] j x e = absurd (cc e)
-within_get (y ∷ xs) zero x e = omega arith
-within_get (y ∷ xs) (suc j) x e = let h = within_get xs j x e in omega (arith, h)
-
 -- a fact of what a filter lets through
-filtered : {X : Type 0} (P : X → Type 0) (t : X → Bool) (xs : List X) → All P (filter t xs) → All (λ (x : X). t x ≡ true → P x) xs
+pub filtered : {X : Type 0} (P : X → Type 0) (t : X → Bool) (xs : List X) → All P (filter t xs) → All (λ (x : X). t x ≡ true → P x) xs
 filtered {X} P t [] all = All-nil (λ (x : X). t x ≡ true → P x)
 filtered {X} P t (x ∷ xs) all = one (t x) refl all (λ rest. filtered P t xs rest)
   where
@@ -37,7 +33,7 @@ module _ {H : Type 0} (stands : List ℕ → Setting → List Noted → H → Ty
   below_next : (o : Object) (h : List Noted) (limit : ℕ) (lane : Option ℕ) (n : Noted) (y : Entry) → (is_about l.shape (home_of l.shape o) y ≡ true → Tells o h limit lane y) → IsBelow y (At o (length h + 1) n)
   below_next o h limit lane n (At p k m) told = λ same.
       let t = told (eq-eqb (home_of l.shape p) (home_of l.shape o) (ap (home_of l.shape) same)) in
-      let in_range = within_get h (k - 1) m t.1 in let pos = t.0 in omega (arith, in_range, pos)
+      let in_range = slice_get_within h (k - 1) m t.1 in let pos = t.0 in omega (arith, in_range, pos)
   below_next o h limit lane n (Ref r d) told = tt
   below_next o h limit lane n (Busy b) told = tt
 

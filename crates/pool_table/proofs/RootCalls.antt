@@ -1,5 +1,5 @@
 -- The claim of a root place as its call asks for it: by a view that may be in its section, the place is one of the shape's.
-use Rattle.std.proofs.Common.{◌≡◌, ℕ, ◌*◌, ◌<◌, List, sym, subst, ◌⊎◌, inl, inr, ⊎_elim, refl}
+use Rattle.std.proofs.Common.{◌≡◌, ℕ, ◌*◌, ◌<◌, List, sym, subst, inl, inr, ⊎_elim}
 use Rattle.step_law.specs.Settings.{Setting}
 use Rattle.std.specs.Prelude.{Option, Some, IfSome, bit_or}
 use mathlib.Core.Option.{some, none}
@@ -8,7 +8,6 @@ use Rattle.atomic_table.specs.Table.{Me, State, step, Allows}
 use Rattle.pool_law.specs.declared.note.Noted.{Noted}
 use Rattle.pool_law.specs.declared.note.Object.{Object}
 use Rattle.pool_law.specs.declared.note.Object.TheVariants.{Root}
-use Rattle.pool_law.specs.declared.id.RootId.{RootId}
 use Rattle.pool_law.specs.Homes.{objects_of, IsObjectOf}
 use Rattle.pool_table.specs.declared.views.Layout.{Layout}
 use Rattle.pool_table.specs.declared.views.SeatView.{SeatView}

@@ -18,7 +18,7 @@ use Rattle.table_law.specs.Measures.{measures_of}
 use Rattle.pool_table.specs.declared.views.Layout.{Layout}
 use Rattle.pool_table.specs.declared.views.SeatView.{SeatView}
 use Rattle.pool_table.specs.Views.{is_at, is_numbered, face, in_face, numbered}
-use Rattle.pool_table.specs.Counts.{IsCounted}
+use Rattle.pool_table.specs.Counts.{IsCounted, reached}
 use Rattle.pool_table.specs.Births.{IsBorn, AreBorn}
 use Rattle.pool_table.specs.Looks.{AreLooksRight}
 use Rattle.pool_table.specs.Order.{AreInOrder}
@@ -57,6 +57,8 @@ pub record IsClosed {H : Type 0}
       IsWhole stands l.shape v o (slice_index words (home_of l.shape o)) homes
   pub counts : (p : ℕ) → p < l.shape.lanes * l.shape.handles →
       IsCounted p (v ∷ []) (slice_index words (objects_of l.shape + p))
+  -- births and retains are few, so that each word tells its count
+  pub few : reached v < 1073741824
   -- each taking that is out is in the view's hands, in a cache or at a root place
   pub takings : (q : RegionId) (fits : q.place.arena < l.shape.arenas)
       (arena : ArenaState) (caches : ℕ → ℕ → CacheState) (places : ℕ → RootPlace) →

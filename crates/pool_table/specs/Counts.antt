@@ -150,6 +150,11 @@ HasCount r v = lost_of r v < gained_of r v
 abbrev pub HasToken : RootId → SeatView → Type 0
 HasToken r v = weigh (on_this ref_ended r) v ≡ weigh (on_this ref_vacated r) v + 1
 
+-- a view counts at most one root of each place, and none whose end token it has
+pub record CountsOne (v : SeatView) : Type 0 where
+  pub one : (q r : RootId) → HasCount q v → HasCount r v → q.place ≡ r.place → q ≡ r
+  pub ended : (r : RootId) → HasToken r v → HasCount r v → ⊥
+
 -- the word of the root place p: its generation, twice the count while it is live, and 1 once it is
 -- vacant; and what the steps on it in all views add up to
 pub record IsCounted (p : ℕ) (views : List SeatView) (word : ℕ) : Type 0 where

@@ -21,6 +21,7 @@ use Rattle.pool_table.specs.declared.views.Layout.{Layout}
 use Rattle.pool_table.specs.declared.views.SeatView.{SeatView}
 use Rattle.pool_table.specs.Views.{noted_of, noted_weight, is_about, is_lane}
 use Rattle.pool_table.specs.Counts.{weigh, on_this, ref_vacated, gained_of, lost_of, HasCount, HasToken}
+use Rattle.pool_table.specs.Numbers.{IsAbove}
 use Rattle.pool_table.specs.Hands.{ends, HasNoEnd, InHand, NoneWaits, from_arena, to_arena, grasped, laid, HasTaking, HasRegion, IsLaidDown}
 use Rattle.pool_table.specs.Sound.{IsView}
 
@@ -102,6 +103,8 @@ pub record Enters {H : Type 0}
       count_by (λ (x : ℕ). x == p) m ≡ 0
   -- each note is one that its lane may make there
   pub lanes : All (λ (n : Noted). MayNote l.shape n.lane o n.did) h
+  -- the next note's number is above all that the seat has noted of the object
+  pub seen : IsAbove o (length h + 1) v.own.notes
   -- a numbered seat's own notes are those of the history that have its number
   pub own : (m : ℕ) → v.own.number ≡ Some m →
       filter_map noted_of (filter (is_about l.shape (home_of l.shape o)) v.own.notes)

@@ -3,6 +3,7 @@ pub mod Views
 pub mod Counts
 pub mod Looks
 pub mod Order
+pub mod Numbers
 pub mod Hands
 pub mod Births
 pub mod Sound

@@ -39,7 +39,8 @@ pub record StandsFor {H : Type 0}
   pub known : v.setting ≡ Some setting
   pub stands_for : stands measures setting h x
 
-module _ {H : Type 0} {G : Ghosts H Noted} (stands : List ℕ → Setting → List Noted → H → Type 0) where
+module _ {H : Type 0} {G : Ghosts H Noted}
+    (stands : List ℕ → Setting → List Noted → H → Type 0) where
   -- the seat got into the section of the object, and learned its history
   pub record GotSection (l : Layout) (o : Object) (old new : PoolSeat H G) (section : Section H) :
       Type 0 where
@@ -75,4 +76,5 @@ module _ {H : Type 0} {G : Ghosts H Noted} (stands : List ℕ → Setting → Li
   pub record MayIdle (s : Shape) (seat : PoolSeat H G) (section : Section H) : Type 0 where
     pub history : List Noted
     pub inside : IsInside s seat.seat.me section.object section.slot history
-    pub stands_for : StandsFor stands (measures_of s section.object) (view_of seat) history section.home
+    pub stands_for :
+        StandsFor stands (measures_of s section.object) (view_of seat) history section.home

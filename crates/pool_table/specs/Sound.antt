@@ -27,6 +27,7 @@ use Rattle.pool_table.specs.Hands.{put_down, taken, MayEnter, IsOrderly}
 use Rattle.pool_table.specs.Births.{AreBorn}
 use Rattle.pool_table.specs.Looks.{AreLooksRight}
 use Rattle.pool_table.specs.Order.{AreInOrder}
+use Rattle.pool_table.specs.Numbers.{IsNotBelow}
 use Rattle.pool_table.specs.Views.{Face, parts_of, is_at, is_numbered, noted_of, is_lane, face, is_in, inside_total, total, noted_total, numbered, spent}
 
 -- of two entries of one part on one object, the first and the second: numbers rise, and the note
@@ -70,7 +71,8 @@ Knows h f = IfSome f.inside (λ (x : Inside). (x.history ≡ h) × (x.number ≡
 
 -- what the word and the home of one object are to what all views show of it
 pub record IsKept {H : Type 0}
-    (stands : List ℕ → Setting → List Noted → H → Type 0) (shape : Shape) (setting : Setting) (o : Object)
+    (stands : List ℕ → Setting → List Noted → H → Type 0)
+    (shape : Shape) (setting : Setting) (o : Object)
     (faces : List Face) (word : ℕ) (home : maybe.Option (maybe.Option (Option H))) : Type 0 where
   pub history : List Noted
   pub accepted : IsHistory shape o history
@@ -151,7 +153,8 @@ OnceBelow n m times = (m < n → times ≡ 1) × (n ≤ m → times ≡ 0)
 -- `s.homes` the values in their slots, and `s.views` what the seats know: all that was noted so
 -- far, split over the seats that noted it.
 pub record IsSound {H : Type 0}
-    (stands : List ℕ → Setting → List Noted → H → Type 0) (l : Layout) (s : State (Option H) SeatView) :
+    (stands : List ℕ → Setting → List Noted → H → Type 0)
+    (l : Layout) (s : State (Option H) SeatView) :
     Type 0 where
   -- one setting, which never changes
   pub setting : Setting
@@ -185,7 +188,8 @@ pub record IsSound {H : Type 0}
 -- at one moment, in this table, a seat had the view v while another was in the section of o after n
 -- notes
 pub record WasHeld {H : Type 0}
-    (stands : List ℕ → Setting → List Noted → H → Type 0) (l : Layout) (o : Object) (n : ℕ) (v : SeatView) :
+    (stands : List ℕ → Setting → List Noted → H → Type 0)
+    (l : Layout) (o : Object) (n : ℕ) (v : SeatView) :
     Type 0 where
   pub moment : State (Option H) SeatView
   pub sound : IsSound stands l moment
@@ -199,3 +203,5 @@ pub record WasHeld {H : Type 0}
   pub inside : holder.inside ≡ Some section
   pub object : section.object ≡ o
   pub number : section.number ≡ n
+  -- so all that the view had noted of the object was up to then
+  pub seen : IsNotBelow o n v.own.notes

@@ -16,7 +16,7 @@ use Rattle.pool_table.specs.declared.views.SeatView.{SeatView}
 use Rattle.pool_table.specs.Views.{empty_part, blank, entered, left, with_entry}
 use Rattle.pool_law.specs.declared.id.RootId.{RootId}
 use Rattle.pool_law.specs.declared.note.RefDid.TheVariants.{Born, Retain, Kept, Ended, Vacated, Look}
-use Rattle.pool_table.specs.Counts.{with_ref, HasCount, HasToken}
+use Rattle.pool_table.specs.Counts.{with_ref, HasCount, HasToken, CountsOne}
 use Rattle.pool_table.specs.Hands.{Waits, InHand, HasNoEnd}
 use Rattle.pool_table.specs.Learned.{Enters}
 use Rattle.pool_table.specs.Sound.{WasHeld}
@@ -129,7 +129,8 @@ blank_beside v = blank v.setting
 abbrev pub IsFree : {H : Type 0} → Me (Option H) SeatView → Type 0
 IsFree me = (me.0.inside ≡ None) × (me.1 ≡ [])
 
-module _ {H : Type 0} (stands : List ℕ → Setting → List Noted → H → Type 0) (l : Layout) (o : Object) where
+module _ {H : Type 0} (stands : List ℕ → Setting → List Noted → H → Type 0)
+    (l : Layout) (o : Object) where
   -- it got in
   abbrev pub GotIn : ℕ → Me (Option H) SeatView → ℕ → Me (Option H) SeatView → Type 0
   GotIn slot me found after =
@@ -151,6 +152,10 @@ module _ {H : Type 0} (stands : List ℕ → Setting → List Noted → H → Ty
       × (after.1 ≡ me.1) × WasHeld stands l o (found / 2) me.0)
 
 module _ {H : Type 0} where
+  -- the same, and the view that the seat has then counts at most one root of each place
+  abbrev pub counts_one : Told H → Told H
+  counts_one told s me found after = told s me found after × CountsOne after.0
+
   -- the note that is named, by this seat, at the next number of the section's object
   abbrev pub dones : Noted → Told H
   dones note s me found after =

@@ -7,6 +7,7 @@ ghost use Rattle.pool_table.specs.Words.{listed_of, word_at, words_of, count_wor
 
 use pool_law::{Object, Shape};
 
+#[inline(always)]
 pub(crate) fn home_index(shape: &Shape, object: Object) -> usize
     requires shape { IsShape shape.now }
     requires object { IsObjectOf shape.now object }
@@ -23,6 +24,7 @@ pub(crate) fn home_index(shape: &Shape, object: Object) -> usize
     }
 }
 
+#[inline(always)]
 pub(crate) fn object_count(shape: &Shape) -> usize
     requires { IsShape shape.now }
     ensures { result ≡ objects_of shape.now }
@@ -49,6 +51,7 @@ pub(crate) fn word_count(shape: &Shape) -> usize
 }
 
 /// Where a word of the list lies. With a multiple of 16 handles a lane it divides nothing.
+#[inline(always)]
 pub(crate) fn word_index(shape: &Shape, listed: usize) -> usize
     requires shape { IsShape shape.now }
     requires listed { listed < listed_of shape.now }
@@ -70,6 +73,7 @@ pub(crate) fn word_index(shape: &Shape, listed: usize) -> usize
 
 /// Where the word of a root's count lies. No root is at a place that the shape doesn't have, and no
 /// step is made there; for such a place the answer is the first word.
+#[inline(always)]
 pub(crate) fn root_index(shape: &Shape, place: u32) -> usize
     requires shape { IsShape shape.now }
     ensures within { result < words_of shape.now }
@@ -83,8 +87,9 @@ pub(crate) fn root_index(shape: &Shape, place: u32) -> usize
     }
 }
 
-/// Where the slot of a root place is. No place is claimed that the shape doesn't have; for such a place
-/// the answer is the first slot.
+/// Where the slot of a root place is. No place is claimed that the shape doesn't have; for such a
+/// place the answer is the first slot.
+#[inline(always)]
 pub(crate) fn place_index(shape: &Shape, place: u32) -> usize
     requires shape { IsShape shape.now }
     ensures within { result < objects_of shape.now }
@@ -99,6 +104,7 @@ pub(crate) fn place_index(shape: &Shape, place: u32) -> usize
 }
 
 /// Where the word of a root place's count lies.
+#[inline(always)]
 pub(crate) fn count_index(shape: &Shape, place: u32) -> usize
     requires shape { IsShape shape.now }
     requires place { place < shape.now.lanes * shape.now.handles }

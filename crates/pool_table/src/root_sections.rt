@@ -23,6 +23,7 @@ use step_law::Told;
 
 impl<H: Told<Note = Noted>> PoolTable<H> {
     // The one step of a claim of a root place. Its answer is the word that it found.
+    #[inline(always)]
     fn claim_place_word<C: Claiming>(
         &self,
         seat: &mut Seat<Option<H>, SeatView>,
@@ -51,8 +52,9 @@ impl<H: Told<Note = Noted>> PoolTable<H> {
         }
     }
 
-    /// Enters the section of a root place, as `claim` does. The seat counts the root that is there, has
-    /// its end token, or has the place in its hands; so the place is one of the table's.
+    /// Enters the section of a root place, as `claim` does. The seat counts the root that is there,
+    /// has its end token, or has the place in its hands; so the place is one of the table's.
+    #[inline(always)]
     pub fn claim_place(
         &self,
         seat: &mut PoolSeat<H>,

@@ -7,7 +7,7 @@ ghost use Rattle.atomic_table.specs.Table.{step};
 ghost use Rattle.pool_law.specs.Homes.{objects_of};
 ghost use Rattle.pool_law.specs.declared.note.RefDid.TheVariants.{Retain, Look, Vacated};
 ghost use Rattle.pool_table.specs.Words.{count_word_of};
-ghost use Rattle.pool_table.specs.Counts.{HasCount, HasToken, with_ref};
+ghost use Rattle.pool_table.specs.Counts.{CountsOne, HasCount, HasToken, with_ref};
 ghost use Rattle.pool_table.specs.Hands.{HasEnded, InHand, IsAwaited};
 ghost use Rattle.pool_table.specs.Steps.{births, releases};
 
@@ -20,6 +20,7 @@ use pool_law::{Noted, RootId};
 use step_law::Told;
 
 impl<H: Told<Note = Noted>> PoolTable<H> {
+    #[inline(always)]
     pub(crate) fn birth_word<R: Rooted>(
         &self,
         seat: &mut Seat<Option<H>, SeatView>,
@@ -32,6 +33,7 @@ impl<H: Told<Note = Noted>> PoolTable<H> {
         requires waits { IsAwaited root.place root.capacity seat.old.me.0 }
         requires moves { 0 < seat.old.me.0.moves }
         ensures same { (seat.new.table_id ≡ seat.old.table_id) × (seat.new.id ≡ seat.old.id) }
+        ensures counts { CountsOne seat.new.me.0 }
         ensures told { let shape = self.now.layout.shape in
             let s = step (objects_of shape) (count_word_of shape root.place) 4294967297 0 none in
             births root s seat.old.me result seat.new.me }
@@ -42,6 +44,7 @@ impl<H: Told<Note = Noted>> PoolTable<H> {
             .fetch_add::<Births<R>>(seat, word, (1 << 32) + 1)
     }
 
+    #[inline(always)]
     pub(crate) fn retain_word<R: Rooted>(
         &self,
         seat: &mut Seat<Option<H>, SeatView>,
@@ -53,6 +56,7 @@ impl<H: Told<Note = Noted>> PoolTable<H> {
         requires counts { HasCount root seat.old.me.0 }
         requires moves { 0 < seat.old.me.0.moves }
         ensures same { (seat.new.table_id ≡ seat.old.table_id) × (seat.new.id ≡ seat.old.id) }
+        ensures counts { CountsOne seat.new.me.0 }
         ensures noted { let v = seat.old.me.0 in
             seat.new.me ≡ (with_ref v root Retain (v.moves - 1), seat.old.me.1) }
     {
@@ -60,6 +64,7 @@ impl<H: Told<Note = Noted>> PoolTable<H> {
         self.table.shared.fetch_add::<Retains<R>>(seat, word, 2)
     }
 
+    #[inline(always)]
     pub(crate) fn release_word<R: Rooted>(
         &self,
         seat: &mut Seat<Option<H>, SeatView>,
@@ -70,6 +75,7 @@ impl<H: Told<Note = Noted>> PoolTable<H> {
         requires outside { seat.old.me.0.inside ≡ None }
         requires counts { HasCount root seat.old.me.0 }
         ensures same { (seat.new.table_id ≡ seat.old.table_id) × (seat.new.id ≡ seat.old.id) }
+        ensures counts { CountsOne seat.new.me.0 }
         ensures number { seat.new.me.0.own.number ≡ seat.old.me.0.own.number }
         ensures told { let shape = self.now.layout.shape in
             let s = step (objects_of shape) (count_word_of shape root.place) 2 0 none in
@@ -79,6 +85,7 @@ impl<H: Told<Note = Noted>> PoolTable<H> {
         self.table.shared.fetch_sub::<Releases<R>>(seat, word, 2)
     }
 
+    #[inline(always)]
     pub(crate) fn vacate_word<R: Rooted>(
         &self,
         seat: &mut Seat<Option<H>, SeatView>,
@@ -90,6 +97,7 @@ impl<H: Told<Note = Noted>> PoolTable<H> {
         requires token { HasToken root seat.old.me.0 }
         requires ended { HasEnded root seat.old.me.0 }
         ensures same { (seat.new.table_id ≡ seat.old.table_id) × (seat.new.id ≡ seat.old.id) }
+        ensures counts { CountsOne seat.new.me.0 }
         ensures hand { InHand root.place seat.new.me.0 }
         ensures noted { let v = seat.old.me.0 in
             seat.new.me ≡ (with_ref v root Vacated v.moves, seat.old.me.1) }
@@ -98,6 +106,7 @@ impl<H: Told<Note = Noted>> PoolTable<H> {
         self.table.shared.fetch_add::<Vacates<R>>(seat, word, 1)
     }
 
+    #[inline(always)]
     pub(crate) fn look_word<R: Rooted>(
         &self,
         seat: &mut Seat<Option<H>, SeatView>,
@@ -108,6 +117,7 @@ impl<H: Told<Note = Noted>> PoolTable<H> {
         requires outside { seat.old.me.0.inside ≡ None }
         requires counts { HasCount root seat.old.me.0 }
         ensures same { (seat.new.table_id ≡ seat.old.table_id) × (seat.new.id ≡ seat.old.id) }
+        ensures counts { CountsOne seat.new.me.0 }
         ensures noted { let look = Look (result % 4294967296 / 2) in
             seat.new.me ≡ (with_ref seat.old.me.0 root look seat.old.me.0.moves, seat.old.me.1) }
     {

@@ -7,7 +7,7 @@
 ghost use Rattle.std.specs.Prelude.{◌≡◌, ◌-◌, ◌<◌};
 ghost use Rattle.pool_law.specs.declared.id.RootId.{RootId};
 ghost use Rattle.pool_law.specs.declared.note.RefDid.TheVariants.{Born, Retain, Look, Vacated};
-ghost use Rattle.pool_table.specs.Counts.{HasCount, HasToken, with_ref};
+ghost use Rattle.pool_table.specs.Counts.{CountsOne, HasCount, HasToken, with_ref};
 ghost use Rattle.pool_table.specs.Hands.{HasEnded, InHand, IsAwaited, Waits};
 ghost use Rattle.pool_table.specs.Seats.{view_of, IsSeatOf, IsOutside, HasView, SameSeat};
 ghost use Rattle.pool_table.specs.Dropping.{IsDroppedAs};
@@ -32,6 +32,7 @@ pub enum Dropped {
 impl<H: Told<Note = Noted>> PoolTable<H> {
     /// The birth of the next root at a place that the seat has in its hands, after the note of that
     /// birth.
+    #[inline(always)]
     pub fn birth(&self, seat: &mut PoolSeat<H>, place: u32, capacity: u32) -> RootId
         requires own { IsSeatOf self.now seat.old }
         requires outside { IsOutside seat.old }
@@ -44,6 +45,7 @@ impl<H: Told<Note = Noted>> PoolTable<H> {
         ensures root { (r : RootId) → r.place ≡ place → r.capacity ≡ capacity →
             Waits r (view_of seat.old) → result ≡ r }
         ensures counts { HasCount result (view_of seat.new) }
+        ensures counts_one { CountsOne (view_of seat.new) }
         ensures noted { let v = view_of seat.old in
             HasView seat.new (with_ref v result Born (v.moves - 1)) }
     {
@@ -61,12 +63,14 @@ impl<H: Told<Note = Noted>> PoolTable<H> {
     }
 
     /// One count more of a root that the seat counts.
+    #[inline(always)]
     pub fn retain(&self, seat: &mut PoolSeat<H>, root: RootId)
         requires own { IsSeatOf self.now seat.old }
         requires outside { IsOutside seat.old }
         requires counts { HasCount root (view_of seat.old) }
         requires moves { 0 < (view_of seat.old).moves }
         ensures same { SameSeat seat.old seat.new }
+        ensures counts { CountsOne (view_of seat.new) }
         ensures noted { let v = view_of seat.old in
             HasView seat.new (with_ref v root Retain (v.moves - 1)) }
     {
@@ -75,12 +79,14 @@ impl<H: Told<Note = Noted>> PoolTable<H> {
 
     /// One count less of a root that the seat counts. The release that finds one count left ends
     /// the root.
+    #[inline(always)]
     pub fn release(&self, seat: &mut PoolSeat<H>, root: RootId) -> Dropped
         requires own { IsSeatOf self.now seat.old }
         requires outside { IsOutside seat.old }
         requires counts { HasCount root (view_of seat.old) }
         ensures same { SameSeat seat.old seat.new }
         ensures outside { IsOutside seat.new }
+        ensures counts { CountsOne (view_of seat.new) }
         ensures noted { IsDroppedAs result root (view_of seat.old) (view_of seat.new) }
     {
         let word = self.release_word::<Brand>(&mut seat.seat, root);
@@ -92,6 +98,7 @@ impl<H: Told<Note = Noted>> PoolTable<H> {
     }
 
     /// Makes the place of an ended root vacant, after the note of its end.
+    #[inline(always)]
     pub fn vacate(&self, seat: &mut PoolSeat<H>, token: EndToken)
         requires own { IsSeatOf self.now seat.old }
         requires outside { IsOutside seat.old }
@@ -99,6 +106,7 @@ impl<H: Told<Note = Noted>> PoolTable<H> {
         requires ended { HasEnded token.root (view_of seat.old) }
         ensures same { SameSeat seat.old seat.new }
         ensures hand { InHand token.root.place (view_of seat.new) }
+        ensures counts { CountsOne (view_of seat.new) }
         ensures noted { let v = view_of seat.old in
             HasView seat.new (with_ref v token.root Vacated v.moves) }
     {
@@ -107,11 +115,13 @@ impl<H: Told<Note = Noted>> PoolTable<H> {
     }
 
     /// The root's count, by its word.
+    #[inline(always)]
     pub fn look(&self, seat: &mut PoolSeat<H>, root: RootId) -> u32
         requires own { IsSeatOf self.now seat.old }
         requires outside { IsOutside seat.old }
         requires counts { HasCount root (view_of seat.old) }
         ensures same { SameSeat seat.old seat.new }
+        ensures counts { CountsOne (view_of seat.new) }
         ensures noted { let v = view_of seat.old in
             HasView seat.new (with_ref v root (Look result) v.moves) }
     {

@@ -67,9 +67,9 @@ pub struct Dones<N> {
 }
 
 impl<H: Told<Note = Noted>, N: Named> Play<Option<H>, SeatView> for Dones<N> {
-    ghost use Rattle.pool_table.specs.Steps.{dones};
+    ghost use Rattle.pool_table.specs.Steps.{counts_one, dones};
 
-    ghost then = { dones N.note };
+    ghost then = { counts_one (dones N.note) };
 }
 
 pub struct Idles;
@@ -130,9 +130,9 @@ pub struct Retains<R> {
 }
 
 impl<H: Told<Note = Noted>, R: Rooted> Play<Option<H>, SeatView> for Retains<R> {
-    ghost use Rattle.pool_table.specs.Steps.{retains};
+    ghost use Rattle.pool_table.specs.Steps.{counts_one, retains};
 
-    ghost then = { retains R.root };
+    ghost then = { counts_one (retains R.root) };
 }
 
 pub struct Looks<R> {
@@ -140,9 +140,9 @@ pub struct Looks<R> {
 }
 
 impl<H: Told<Note = Noted>, R: Rooted> Play<Option<H>, SeatView> for Looks<R> {
-    ghost use Rattle.pool_table.specs.Steps.{looks};
+    ghost use Rattle.pool_table.specs.Steps.{counts_one, looks};
 
-    ghost then = { looks R.root };
+    ghost then = { counts_one (looks R.root) };
 }
 
 pub struct Releases<R> {
@@ -150,9 +150,9 @@ pub struct Releases<R> {
 }
 
 impl<H: Told<Note = Noted>, R: Rooted> Play<Option<H>, SeatView> for Releases<R> {
-    ghost use Rattle.pool_table.specs.Steps.{releases};
+    ghost use Rattle.pool_table.specs.Steps.{counts_one, releases};
 
-    ghost then = { releases R.root };
+    ghost then = { counts_one (releases R.root) };
 }
 
 pub struct Vacates<R> {
@@ -160,9 +160,9 @@ pub struct Vacates<R> {
 }
 
 impl<H: Told<Note = Noted>, R: Rooted> Play<Option<H>, SeatView> for Vacates<R> {
-    ghost use Rattle.pool_table.specs.Steps.{vacates};
+    ghost use Rattle.pool_table.specs.Steps.{counts_one, vacates};
 
-    ghost then = { vacates R.root };
+    ghost then = { counts_one (vacates R.root) };
 }
 
 pub struct Births<R> {
@@ -170,7 +170,7 @@ pub struct Births<R> {
 }
 
 impl<H: Told<Note = Noted>, R: Rooted> Play<Option<H>, SeatView> for Births<R> {
-    ghost use Rattle.pool_table.specs.Steps.{births};
+    ghost use Rattle.pool_table.specs.Steps.{births, counts_one};
 
-    ghost then = { births R.root };
+    ghost then = { counts_one (births R.root) };
 }

@@ -12,6 +12,7 @@ use step_law::Told;
 
 impl<H: Told<Note = Noted>> Section<H> {
     /// The home value. When the borrow ends, the section has what was written through it.
+    #[inline(always)]
     pub fn home(section: &mut Section<H>) -> &mut H
         ensures* writes_back { sem 𝓛
             (Lends (the_row H.row) H.row section.entry result (with_home section.old)) }

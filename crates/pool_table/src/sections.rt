@@ -8,6 +8,7 @@ ghost use Rattle.pool_law.specs.Homes.{objects_of, IsObjectOf};
 ghost use Rattle.pool_law.specs.Naming.{noted_by};
 ghost use Rattle.pool_law.specs.declared.note.Object.TheVariants.{Root};
 ghost use Rattle.pool_table.specs.declared.views.Entry.TheVariants.{At};
+ghost use Rattle.pool_table.specs.Counts.{CountsOne};
 ghost use Rattle.pool_table.specs.Words.{word_of};
 ghost use Rattle.pool_table.specs.Hands.{MayEnter};
 ghost use Rattle.pool_table.specs.Views.{left, with_entry};
@@ -30,6 +31,7 @@ use step_law::Told;
 
 impl<H: Told<Note = Noted>> PoolTable<H> {
     // The one step of a claim. Its answer is the word that it found.
+    #[inline(always)]
     fn claim_word<C: Claiming>(
         &self,
         seat: &mut Seat<Option<H>, SeatView>,
@@ -63,6 +65,7 @@ impl<H: Told<Note = Noted>> PoolTable<H> {
     /// Enters the section of an object, or finds another seat there, which with `mark` the seat
     /// notes. A root place asks that the seat counts its root, has its end token, or has the place
     /// in its hands.
+    #[inline(always)]
     pub fn claim(
         &self,
         seat: &mut PoolSeat<H>,
@@ -99,6 +102,7 @@ impl<H: Told<Note = Noted>> PoolTable<H> {
     }
 
     /// Ends a section with the note that `N` names, and answers its number.
+    #[inline(always)]
     pub fn done<N: Named>(&self, seat: &mut PoolSeat<H>, section: Section<H>) -> u64
         requires own { IsSeatOf self.now seat.old }
         requires turn { 0 < (view_of seat.old).turns }
@@ -108,6 +112,7 @@ impl<H: Told<Note = Noted>> PoolTable<H> {
         requires hands { PutsDown (view_of seat.old) N.note.did }
         ensures same { SameSeat seat.old seat.new }
         ensures number { IfSome (view_of seat.old).inside (λ x. result ≡ x.number + 1) }
+        ensures counts { CountsOne (view_of seat.new) }
         ensures noted { let v = view_of seat.old in
             let note = At section.object result (noted_by v.own.number N.note) in
             HasView seat.new (with_entry v note (v.turns - 1)) }
@@ -128,6 +133,7 @@ impl<H: Told<Note = Noted>> PoolTable<H> {
     }
 
     /// Ends the section of a mail with no note, where its home value is as it was.
+    #[inline(always)]
     pub fn idle(&self, seat: &mut PoolSeat<H>, section: Section<H>)
         requires own { IsSeatOf self.now seat.old }
         requires section { MayIdle H.stands self.now.layout.shape seat.old section }

@@ -18,8 +18,10 @@ pub struct PoolTable<H: Told<Note = Noted>> {
     pub(crate) layout: Layout,
     pub(crate) spare_homes: Vec<Option<H>>,
     pub(crate) spare_words: Vec<u64>,
-    ghost room_for_homes: { (spare_homes.items ≡ []) × (objects_of layout.shape ≤ vec_capacity spare_homes) },
-    ghost room_for_words: { (spare_words.items ≡ []) × (listed_of layout.shape ≤ vec_capacity spare_words) },
+    ghost room_for_homes: { (spare_homes.items ≡ [])
+        × (objects_of layout.shape ≤ vec_capacity spare_homes) },
+    ghost room_for_words: { (spare_words.items ≡ [])
+        × (listed_of layout.shape ≤ vec_capacity spare_words) },
     ghost key: { table.shared.key.layout ≡ layout },
     ghost words: { table.shared.table_id.words ≡ words_of layout.shape },
     ghost slots: { table.shared.table_id.slots ≡ objects_of layout.shape },

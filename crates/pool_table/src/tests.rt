@@ -102,7 +102,8 @@ fn open_table(alloc: Global) -> Result<Opened, AllocError>
 fn write(section: &mut Section<Diary>, noted: Noted) -> Result<(), AllocError>
     ensures written { OnOk result
         (section.new.home.notes.items ≡ section.old.home.notes.items ++ noted ∷ []) }
-    ensures same { (section.new.object ≡ section.old.object) × (section.new.slot ≡ section.old.slot) }
+    ensures same { (section.new.object ≡ section.old.object)
+        × (section.new.slot ≡ section.old.slot) }
 {
     let home = Section::home(section);
     let Ok(()) = home.notes.push(noted) else {

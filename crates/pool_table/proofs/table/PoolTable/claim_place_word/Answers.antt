@@ -1,7 +1,6 @@
 use Rattle.std.proofs.Common.{◌<◌, ◌+◌, ◌*◌, ◌∙◌, ap, sym, subst, ℕ, arith}
 use Rattle.pool_law.specs.Homes.{objects_of}
-use Rattle.pool_law.specs.declared.note.Object.TheVariants.{Root}
-use Rattle.pool_table.specs.Words.{listed_of, word_at, words_of}
+use Rattle.pool_table.specs.Words.{listed_of, word_at}
 use Rattle.pool_table.proofs.Words.{word_there}
 use Rattle.pool_table.proofs.RootCalls.{claims_place, marks_place}
 use Rattle.pool_table.proofs.table.PoolTable.claim_place_word.Goals as goal
