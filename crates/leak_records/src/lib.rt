@@ -1,10 +1,12 @@
 #![tactic(auto)]
-//! Which births of a lane are sampled, and the last accesses to a sampled root.
+//! Which births of a lane are sampled, the last accesses to a sampled root, and what is leaked.
 
+pub mod live;
 pub mod sampler;
 #[cfg(test)]
 mod tests;
 pub mod tracker;
 
+pub use live::{LiveList, LiveRoot, report};
 pub use sampler::Sampler;
 pub use tracker::Tracker;

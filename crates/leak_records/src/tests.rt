@@ -1,10 +1,11 @@
-//! A sampler and a tracker as a caller uses them.
+//! A sampler, a tracker and a report as a caller uses them.
 
 ghost use Rattle.std.specs.Prelude.{◌≡◌, []};
 ghost use Rattle.leak_records.specs.Records.{HasRecords};
 
-use crate::{Sampler, Tracker};
-use pool_law::{Access, Level, Watch};
+use crate::{LiveList, LiveRoot, Sampler, Tracker, report};
+use pool_law::{Access, Level, Records, Watch};
+use std::alloc::{AllocError, Global};
 use std::test::*;
 
 fn crosses<T: Send>(x: T) -> T
@@ -91,4 +92,42 @@ fn a_watch_has_its_lane_and_serial(rt: HostRuntime) {
         keeps: true,
     };
     assert_eq!(rt; sampler.next(), Some(third));
+}
+
+// A live root with one touch by its own lane.
+fn live(alloc: Global, lane: u32, serial: u32) -> Result<LiveRoot, AllocError> {
+    let mut records = Vec::new(alloc);
+    records.push(Access::Touch { lane })?;
+    let keeps = true;
+    Ok(LiveRoot {
+        capacity: 100,
+        count: 2,
+        watch: Watch {
+            lane,
+            serial,
+            keeps,
+        },
+        records: Records::of(records),
+        dropped: 7,
+    })
+}
+
+// The lower serial is of the higher lane.
+#[test]
+fn leaks_are_in_order_of_lane_and_then_serial(rt: HostRuntime) -> Result<(), Fail> {
+    let alloc = rt.alloc();
+    let mut roots = Vec::new(alloc);
+    roots.push(live(alloc, 1, 1)?)?;
+    roots.push(live(alloc, 0, 10)?)?;
+    roots.push(live(alloc, 0, 9)?)?;
+    let leaks = report(alloc, &LiveList::of(roots))?;
+    let order = [(0, 9), (0, 10), (1, 1)];
+    assert_eq!(rt; leaks.items().len(), order.len());
+    for (leak, (lane, serial)) in leaks.items().iter().zip(order) {
+        assert_eq!(rt; (leak.lane, leak.serial), (lane, serial));
+        assert_eq!(rt; (leak.capacity, leak.count, leak.dropped), (100, 2, 7));
+        let touch = Access::Touch { lane };
+        assert_eq!(rt; leak.records.items().first(), Some(&touch));
+    }
+    Ok(())
 }
