@@ -3,7 +3,7 @@ use Rattle.std.proofs.Common.{◌≡◌, ℕ, ◌+◌, ◌-◌, ◌<◌, sym, ap
 use Rattle.std.specs.Prelude.{Option, Some, IfSome}
 use Rattle.step_law.specs.Settings.{Setting}
 use Rattle.step_law.specs.declared.Told.{Ghosts}
-use Rattle.size_classes.specs.Sizes.{class_count}
+use Rattle.size_classes.specs.Sizes.{class_count, size_at}
 use Rattle.pool_law.specs.declared.id.Region.{Region}
 use Rattle.pool_law.specs.declared.id.RegionId.{RegionId}
 use Rattle.pool_law.specs.declared.note.Did.TheVariants.{Take}
@@ -53,13 +53,14 @@ has_taken v o number turns lane class r before unused =
 
 -- a call that noted a taking leaves the seat with the region
 pub took_region : {G : Ghosts Home Noted} (pool : SharedPool) (old new : PoolSeat Home G) (o : Object) (number class : ℕ) (r : Region) (setting : Setting) → (view_of old).setting ≡ Some setting → IsNoted pool old new o number (plain (Take class r.id)) →
-    IsLaidDown r.id (view_of old) → r.id.uses ≡ 0 → IsInPlace setting.grounds r.id.place r.piece → r.id.owner < pool.table.layout.shape.lanes → r.id.class < class_count (geometry_of pool.table.layout.shape) → HoldsRegion pool new r
-took_region pool old new o number class r setting known noted before unused place owner below =
+    IsLaidDown r.id (view_of old) → r.id.uses ≡ 0 → IsInPlace setting.grounds r.id.place r.piece → r.id.owner < pool.table.layout.shape.lanes → r.id.class < class_count (geometry_of pool.table.layout.shape) → r.id.place.len ≡ size_at r.id.class → HoldsRegion pool new r
+took_region pool old new o number class r setting known noted before unused place owner below len =
     record {
       hand = subst (λ (w : SeatView). HasRegion r.id w) (sym view) (has_taken (view_of old) o number ((view_of old).turns - 1) (view_of old).own.number class r.id before unused);
       here = subst (λ (x : Option Setting). IfSome x (λ t. IsInPlace t.grounds r.id.place r.piece)) (sym (ap (λ (w : SeatView). w.setting) view ∙ known)) place;
       owner = owner;
       class = below;
+      len = len;
     }
   where
     after : SeatView

@@ -1,20 +1,17 @@
 -- The home value of an arena: which it is, and what it stands for after a call.
-use Rattle.std.proofs.Common.{◌≡◌, ℕ, ◌+◌, ◌≤◌, ◌<◌, List, [], ◌∷◌, ◌++◌, length, sym, ap, ◌∙◌, subst, refl, arith, true, eq-eqb, lt-ltb}
-use Rattle.std.specs.Prelude.{Some, None, is_some, IsTrue, slice_get, ◌&&◌, if◌then◌else◌, option_and_then}
-use Rattle.ground.specs.Ground.{Origin}
+use Rattle.std.proofs.Common.{◌≡◌, ℕ, ◌+◌, ◌≤◌, ◌<◌, List, [], ◌∷◌, ◌++◌, length, sym, ap, ◌∙◌, subst, refl, arith, true}
+use Rattle.std.specs.Prelude.{Some, is_some, IsTrue}
 use Rattle.step_law.specs.Settings.{Setting}
-use Rattle.size_classes.specs.Sizes.{Geometry, class_count}
 use Rattle.pool_law.specs.declared.run.Shape.{Shape}
 use Rattle.pool_law.specs.declared.id.RegionId.{RegionId}
 use Rattle.pool_law.specs.declared.note.Did.{Did}
-use Rattle.pool_law.specs.declared.note.Did.TheVariants.{Take, Full, Give}
+use Rattle.pool_law.specs.declared.note.Did.TheVariants.{Take, Give}
 use Rattle.pool_law.specs.declared.note.Noted.{Noted}
 use Rattle.pool_law.specs.declared.note.Object.TheVariants.{Arena as ArenaOf}
-use Rattle.pool_law.specs.Arenas.{Arena as ArenaLaw, new_arena, take, give, as_noted, if_none, is_out_of, arena_step}
+use Rattle.pool_law.specs.Arenas.{Arena as ArenaLaw, new_arena, take, give, is_out_of}
 use Rattle.pool_law.specs.Histories.{after}
 use Rattle.pool_law.specs.NotedHistories.{noted_dids, IsRightAt, IsRightWatch}
 use Rattle.pool_law.specs.Naming.{noted_by}
-use Rattle.pool_law.proofs.HistoryLemmas.{after-noted}
 use Rattle.table_law.specs.Histories.{IsHistory, IsArenaAfter}
 use Rattle.table_law.specs.Measures.{measures_of}
 use Rattle.table_law.proofs.Names.{same_taking-refl}
@@ -30,8 +27,9 @@ use Rattle.arena_law.proofs.TakingLaw.{after-numbers}
 use Rattle.table_law.specs.NoteCounts.{one_if_so}
 use Rattle.pool_table.specs.Hands.{HasTaking, IsLaidDown}
 use Rattle.pool_table.specs.Learned.{did_take_up}
-use Rattle.pool_arena.specs.ArenaStates.{ArenaState, law_of, IsOutOf, IsInPlaceAt, IsSameArena, Takes, IsFullFor, Gives, without_taking}
-use Rattle.pool_arena.specs.Standing.{arena_told}
+use Rattle.pool_arena.specs.ArenaStates.{ArenaState, law_of, IsOutOf, IsInPlaceAt, IsSameArena, Gives}
+use Rattle.pool_arena.specs.Standing.{arena_told, IsOutIfGiven, StandsMore as ArenaStandsMore}
+use Rattle.pool_arena.proofs.StandingLaws.{gives-stands}
 use Rattle.step_law.specs.declared.Told.{Ghosts}
 use Rattle.pool_table.specs.declared.views.Layout.{Layout}
 use Rattle.pool_table.specs.declared.table.PoolSeat.{PoolSeat}
@@ -42,56 +40,16 @@ use Rattle.shared_pool.specs.declared.home.Home.{Home}
 use Rattle.shared_pool.specs.declared.home.Home.TheVariants.{Arena, Cache, Bin, Mail, Root}
 use Rattle.shared_pool.specs.Standing.{HomeStands, IsArenaAt, IsArena, IfArena, StandsMore}
 use Rattle.shared_pool.specs.Notes.{plain}
-use Rattle.shared_pool.proofs.ArenaPlaces.{IsTakenFrom, take-is, full-for, give-keeps}
 use Rattle.shared_pool.proofs.Endings.{stood, IsNext, plain_watch}
 
--- an arena after a step that a note makes stands for one note more
-pub stands_more : (measures : List ℕ) (setting : Setting) (h : List Noted) (n : Noted) (d : Did) (old new : ArenaState) (out : List RegionId) → n.did ≡ d →
-    (at : IsArenaAt measures setting h old) → IsSameArena old new → length new.chunks ≡ length old.chunks →
-    arena_step old.geometry old.number (law_of old at.stands.out) d ≡ Some (law_of new out) → IsArenaAt measures setting (h ++ n ∷ []) new
-stands_more measures setting h n d old new out is at same places step =
+-- an arena that stands for one note more is where it was
+pub stood_more : (measures : List ℕ) (setting : Setting) (h : List Noted) (n : Noted) (d : Did) (old new : ArenaState) → n.did ≡ d → IsSameArena old new → ArenaStandsMore old d new →
+    (at : IsArenaAt measures setting h old) → IsOutIfGiven (law_of old at.stands.out) d → IsArenaAt measures setting (h ++ n ∷ []) new
+stood_more measures setting h n d old new is same more at out =
     record {
-      measured = at.measured ∙ (λ i. 0 ∷ sym same.number i ∷ (sym same.geometry i).order ∷ sym places i ∷ []);
-      stands = record {
-        out = out;
-        told = subst (λ (x : Geometry × ℕ × ℕ). arena_told x.0 x.1 x.2 (h ++ n ∷ []) ≡ Some (law_of new out)) (λ i. (sym same.geometry i, sym same.number i, sym places i)) told;
-        on = subst (λ (x : ℕ × List Origin). slice_get setting.grounds x.0 ≡ Some x.1) (λ i. (sym same.number i, sym same.grounds i)) at.stands.on;
-      };
+      measured = at.measured ∙ (λ i. 0 ∷ sym same.number i ∷ (sym same.geometry i).order ∷ sym same.places i ∷ []);
+      stands = more setting.grounds h n is at.stands out;
     }
-  where
-    told : arena_told old.geometry old.number (length old.chunks) (h ++ n ∷ []) ≡ Some (law_of new out)
-    told =
-        after-noted (arena_step old.geometry old.number) (new_arena old.geometry (length old.chunks)) h n
-        ∙ (ap (option_and_then (λ (t : ArenaLaw). arena_step old.geometry old.number t n.did)) at.stands.told
-        ∙ (ap (arena_step old.geometry old.number (law_of old at.stands.out)) is ∙ step))
-
--- a note of taking finds its region
-noted-as : (r : RegionId) (a : ArenaLaw) → as_noted r (Some (r, a)) ≡ Some a
-noted-as r a = ap (λ b. if b then Some a else None) (λ i. same_taking-refl r i && eq-eqb r.uses r.uses refl i)
-
-pub took : (measures : List ℕ) (setting : Setting) (h : List Noted) (n : Noted) (class owner : ℕ) (r : RegionId) (old new : ArenaState) → n.did ≡ Take class r → Takes old class owner new r →
-    IsArenaAt measures setting h old → IsArenaAt measures setting (h ++ n ∷ []) new
-took measures setting h n class owner r old new is takes at =
-    stands_more measures setting h n (Take class r) old new (at.stands.out ++ r ∷ []) is at takes.same taken.same
-    (ap (λ (o : ℕ). as_noted r (take old.geometry old.number (law_of old at.stands.out) class o)) taken.owner_is
-    ∙ (ap (as_noted r) (takes.step at.stands.out) ∙ noted-as r (law_of new (at.stands.out ++ r ∷ []))))
-  where
-    taken : IsTakenFrom old.geometry old.number (law_of old at.stands.out) class owner (r, law_of new (at.stands.out ++ r ∷ []))
-    taken = take-is old.geometry old.number (law_of old at.stands.out) class owner (r, law_of new (at.stands.out ++ r ∷ [])) (takes.step at.stands.out)
-
-pub was_full : (measures : List ℕ) (setting : Setting) (h : List Noted) (n : Noted) (class owner : ℕ) (a : ArenaState) → n.did ≡ Full class → class < class_count a.geometry → IsFullFor a class owner →
-    IsArenaAt measures setting h a → IsArenaAt measures setting (h ++ n ∷ []) a
-was_full measures setting h n class owner a is below full at =
-    stands_more measures setting h n (Full class) a a at.stands.out is at (record { number = refl; geometry = refl; grounds = refl }) refl
-    (ap (λ b. if b then if_none (take a.geometry a.number (law_of a at.stands.out) class 0) (law_of a at.stands.out) else None) (lt-ltb class (class_count a.geometry) below)
-    ∙ ap (λ o. if_none o (law_of a at.stands.out)) (full-for a.geometry a.number (law_of a at.stands.out) class owner 0 (full at.stands.out)))
-
-pub gave : (measures : List ℕ) (setting : Setting) (h : List Noted) (n : Noted) (r : RegionId) (old new : ArenaState) → n.did ≡ Give r → Gives old r new →
-    (at : IsArenaAt measures setting h old) → is_out_of (law_of old at.stands.out) r ≡ true → IsArenaAt measures setting (h ++ n ∷ []) new
-gave measures setting h n r old new is gives at out =
-    stands_more measures setting h n (Give r) old new (without_taking r at.stands.out) is at gives.same
-    (ap (λ (x : ArenaLaw). length x.chunks) (sym (gives.step at.stands.out)) ∙ give-keeps old.geometry (law_of old at.stands.out) r)
-    (ap (λ b. if b then Some (give old.geometry (law_of old at.stands.out) r) else None) out ∙ ap (λ (x : ArenaLaw). Some x) (gives.step at.stands.out))
 
 -- takings are at most as many as the notes
 takings-most : (number n : ℕ) (ds : List Did) (m : ℕ) → TakenInOrder number n ds m → m ≤ n + length ds
@@ -163,7 +121,7 @@ module _ {G : Ghosts Home Noted} (l : Layout) (number : ℕ) (old new : PoolSeat
     where
       go : (x y : Home) → IsArena x → IsArena y → IfArena x (λ a. IfArena y (Gives a r)) → HomeStands (measures_of l.shape (ArenaOf number)) setting got.history x → HomeStands (measures_of l.shape (ArenaOf number)) setting (longer n) y
       go (Arena a) (Arena b) was arena gives at =
-          gave (measures_of l.shape (ArenaOf number)) setting got.history (noted_by (view_of old).own.number n) r a.value b.value (ap (λ (x : Noted). x.did) is) gives at (is_out r here hand a.value at)
+          stood_more (measures_of l.shape (ArenaOf number)) setting got.history (noted_by (view_of old).own.number n) (Give r) a.value b.value (ap (λ (x : Noted). x.did) is) gives.same (gives-stands a.value b.value r gives) at (is_out r here hand a.value at)
       go (Arena a) (Mail y) was arena gives at = absurd arena
       go (Arena a) (Cache y) was arena gives at = absurd arena
       go (Arena a) (Bin y) was arena gives at = absurd arena

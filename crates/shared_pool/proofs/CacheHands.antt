@@ -110,15 +110,17 @@ module _ {G : Ghosts Home Noted} (pool : SharedPool) (lane class : ℕ) (old new
       let l = pool.table.layout in let v = view_of old in
       let at = stood l (CacheOf lane class) old new section got setting known in
       let step = next_cache s lane class got.history n follows in
+      let whole = was _ setting got.history at in
       let of : OfCache lane class (x.id ∷ step.1.regions) = subst (OfCache lane class) (front step.0 step.1 step.3) (cache_own s lane class got.history step.0 got.learned.accepted step.2) in
       let one = one_of x.id in let c = out.cache (is_taking x.id) in
       let down = got.learned.free x.id n follows (omega (arith, one, c)) in
       let order = shape.order_least in (
         record {
           hand = subst (HasRegion x.id) (sym seen) (taken_up v x.id (CacheOf lane class) number turns n out down);
-          here = subst (λ (y : Option Setting). IfSome y (λ t. IsInPlace t.grounds x.id.place x.piece)) (sym (ap (λ (w : SeatView). w.setting) seen ∙ known)) (was _ setting got.history at);
+          here = subst (λ (y : Option Setting). IfSome y (λ t. IsInPlace t.grounds x.id.place x.piece)) (sym (ap (λ (w : SeatView). w.setting) seen ∙ known)) whole.0;
           owner = subst (λ (k : ℕ). k < s.lanes) (sym of.0.0) below;
           class = subst (λ (k : ℕ). k < class_count (geometry_of s)) (sym of.0.1) (omega (arith, cached, order));
+          len = whole.1;
         },
         of.0.0,
         of.0.1,

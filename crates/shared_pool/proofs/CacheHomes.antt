@@ -28,20 +28,25 @@ use Rattle.pool_table.specs.Seats.{view_of}
 use Rattle.pool_table.specs.Sections.{GotSection}
 use Rattle.shared_pool.specs.declared.home.Home.{Home}
 use Rattle.shared_pool.specs.declared.home.Home.TheVariants.{Arena, Cache, Bin, Mail, Root}
-use Rattle.shared_pool.specs.Standing.{HomeStands, IsCacheAt, IsCache, IfCache}
+use Rattle.shared_pool.specs.Standing.{HomeStands, HasClassLength, IsCacheAt, IsCache, IfCache}
 use Rattle.shared_pool.specs.Notes.{plain}
 use Rattle.shared_pool.proofs.Endings.{IsNext, plain_watch}
 
--- a step of the cache stands for a note more, where its regions are in place
+-- the regions are as long as their classes say
+abbrev pub Lens : Queue → Type 0
+Lens q = All (λ r. HasClassLength r.id) q.regions
+
+-- a step of the cache stands for a note more, where its regions are in place and of their lengths
 pub cache_more : (did : Did) (old new : Queue) → Makes old did new → (measures : List ℕ) (setting : Setting) (h : List Noted) (n : Noted) → n.did ≡ did →
-    All (IsRegionOf setting.grounds) new.regions → IsCacheAt measures setting h old → IsCacheAt measures setting (h ++ n ∷ []) new
-cache_more did old new makes measures setting h n is in_place at =
+    All (IsRegionOf setting.grounds) new.regions → Lens new → IsCacheAt measures setting h old → IsCacheAt measures setting (h ++ n ∷ []) new
+cache_more did old new makes measures setting h n is in_place lens at =
     record {
       lane = at.lane;
       class = at.class;
       measured = at.measured;
       capacity = makes.capacity ∙ at.capacity;
       stands = stands_more setting.grounds h n old new at.stands (subst (λ d. Makes old d new) (sym is) makes) in_place;
+      lens = lens;
     }
 
 pub is_cache : (setting : Setting) (h : List Noted) (lane class : ℕ) (home : Home) → HomeStands (1 ∷ lane ∷ class ∷ []) setting h home → IsCache home

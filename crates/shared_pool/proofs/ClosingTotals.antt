@@ -73,7 +73,7 @@ module _ {H : Type 0} (stands : List ℕ → Setting → List Noted → H → Ty
   abbrev one_view : (Entry → ℕ) → ℕ
   one_view f = sum_by (weigh f) (v ∷ [])
 
-  one_is : (f : Entry → ℕ) → sum_by (weigh f) (v ∷ []) ≡ weigh f v
+  pub one_is : (f : Entry → ℕ) → sum_by (weigh f) (v ∷ []) ≡ weigh f v
   one_is f = let a = sum_by-cons (weigh f) v [] in let z : sum_by (weigh f) [] ≡ 0 = refl in omega (arith, a, z)
 
   birth_noted : (r : RootId) → 0 < count_over (is_birth r) (entries_in (parts_of v)) → IsBorn (v ∷ []) r
@@ -83,7 +83,7 @@ module _ {H : Type 0} (stands : List ℕ → Setting → List Noted → H → Ty
       let b = weigh_same (law (is_birth r)) f (parts_of v) (λ k d _ j e _. births_alike r _) in
       let c = one_is f in omega (arith, a, b, c, lt)
 
-  birth_place : (r : RootId) → IsBorn (v ∷ []) r → r.place < l.shape.lanes * l.shape.handles
+  pub birth_place : (r : RootId) → IsBorn (v ∷ []) r → r.place < l.shape.lanes * l.shape.handles
   birth_place r born =
       let f : Entry → ℕ = at_birth_as r.place r.generation r.capacity in
       let a = one_is f in
@@ -93,7 +93,7 @@ module _ {H : Type 0} (stands : List ℕ → Setting → List Noted → H → Ty
       stands_there l.shape q.1.number r.place r.generation r.capacity e.1 (at (Stands l.shape q.1.number) q.1.notes e.0 e.1 st e.2) e.3
 
   -- a birth that was noted was made, where the place is in no hands
-  made : (r : RootId) → IsBorn (v ∷ []) r → (InHand r.place v → ⊥) → 0 < tally ref_born r.place r.generation (v ∷ [])
+  pub made : (r : RootId) → IsBorn (v ∷ []) r → (InHand r.place v → ⊥) → 0 < tally ref_born r.place r.generation (v ∷ [])
   made r born none =
       let p : ℕ = r.place in let g : ℕ = r.generation in let c : ℕ = r.capacity in
       let of = sum_by-le-sum_by (λ (q : Part). sum_by (at_birth_as p g c) q.notes) (λ (q : Part). sum_by (at_birth_of p g) q.notes) (parts_of v) (λ q. sum_by-le-sum_by (at_birth_as p g c) (at_birth_of p g) q.notes (as_of p g c)) in
@@ -104,7 +104,7 @@ module _ {H : Type 0} (stands : List ℕ → Setting → List Noted → H → Ty
       let b = one_is (on_root ref_born p g) in omega (arith, b, x)
 
   -- the tallies of a root that was born are the law's counts
-  counts_are : (r : RootId) → IsBorn (v ∷ []) r → (test : Note → Bool) (f : Entry → ℕ) → ((e : Entry) → Alone r e → law test e ≡ f e) → count_over test (entries_in (parts_of v)) ≡ sum_by (weigh f) (v ∷ [])
+  pub counts_are : (r : RootId) → IsBorn (v ∷ []) r → (test : Note → Bool) (f : Entry → ℕ) → ((e : Entry) → Alone r e → law test e ≡ f e) → count_over test (entries_in (parts_of v)) ≡ sum_by (weigh f) (v ∷ [])
   counts_are r born test f alike =
       let a = count_over-is test (parts_of v) in
       let b = weigh_same (law test) f (parts_of v) (All-weaker (λ (q : Part). All (Alone r) q.notes) (λ (q : Part). All (λ (e : Entry). law test e ≡ f e) q.notes)
@@ -112,13 +112,13 @@ module _ {H : Type 0} (stands : List ℕ → Setting → List Noted → H → Ty
       let c = one_is f in omega (arith, a, b, c)
 
   -- what the word of a root's count tells of a root that was made
-  record IsTotal (p g : ℕ) : Type 0 where
+  pub record IsTotal (p g : ℕ) : Type 0 where
     pub once : tally ref_born p g (v ∷ []) ≡ 1
     pub counts : tally ref_loss p g (v ∷ []) ≤ tally ref_gain p g (v ∷ [])
     pub live : tally ref_loss p g (v ∷ []) ≢ tally ref_gain p g (v ∷ []) → tally ref_ended p g (v ∷ []) ≡ 0
     pub dead : tally ref_loss p g (v ∷ []) ≡ tally ref_gain p g (v ∷ []) → tally ref_ended p g (v ∷ []) ≡ 1
 
-  total_of_word : (p g word : ℕ) → IsCounted p (v ∷ []) word → 0 < tally ref_born p g (v ∷ []) → IsTotal p g
+  pub total_of_word : (p g word : ℕ) → IsCounted p (v ∷ []) word → 0 < tally ref_born p g (v ∷ []) → IsTotal p g
   total_of_word p g word k lt = dite (ℕ_discrete g 0)
       (λ z. let a = k.later ref_born g (inl z) in absurd (omega (arith, a, lt)))
       (λ some. dite (dec_le g k.generation)

@@ -1,6 +1,5 @@
 pub mod ArenaHands
 pub mod ArenaHomes
-pub mod ArenaPlaces
 pub mod BinHomes
 pub mod CacheHands
 pub mod CacheHomes
@@ -30,4 +29,11 @@ pub mod ClosingLaw
 pub mod PlaceBirths
 pub mod PlaceCalls
 pub mod PlaceEnds
+pub mod Keeps
+pub mod JoinedParts
+pub mod LastChunks
+pub mod PlaceLives
+pub mod ClosingLives
+pub mod LiveTold
+pub mod ClosedPool
 mod Trials

@@ -6,6 +6,7 @@ use Rattle.std.proofs.lemmas.List.Elements.{All-nil, filter_map-append}
 use Rattle.ground.specs.Ground.{Origin}
 use Rattle.step_law.specs.Settings.{Setting}
 use Rattle.pool_law.specs.declared.id.Parcel.{Parcel}
+use Rattle.pool_law.specs.declared.id.Region.{Region}
 use Rattle.pool_law.specs.declared.note.Noted.{Noted}
 use Rattle.pool_law.specs.declared.note.Object.TheVariants.{Arena as ArenaOf, Cache as CacheOf, Bin as BinOf, Mail as MailOf, Root as RootOf}
 use Rattle.pool_law.specs.declared.run.Shape.{Shape}
@@ -22,7 +23,7 @@ use Rattle.shared_pool.specs.declared.home.Home.{Home}
 use Rattle.shared_pool.specs.declared.home.Home.TheVariants.{Arena, Cache, Bin, Mail, Root}
 use Rattle.shared_pool.specs.Mails.{IsSentBy}
 use Rattle.shared_pool.specs.Settling.{grounds_in, room_in, settled_by}
-use Rattle.shared_pool.specs.Standing.{HomeStands, IsArenaAt, IsCacheAt, IsBinAt, IsMailAt, IsPlaceAt}
+use Rattle.shared_pool.specs.Standing.{HomeStands, HasClassLength, IsArenaAt, IsCacheAt, IsBinAt, IsMailAt, IsPlaceAt}
 use Rattle.shared_pool.specs.Opening.{IsFirstArena, IsCacheOf, IsFirstCache, IsFirstBin, IsMailOf, IsFirstMail, IsNewRoot, AreFirst}
 use Rattle.shared_pool.proofs.Openings.{added, there_at, kept, longer_by, silent, told_at, map_at, rooms}
 
@@ -45,7 +46,7 @@ arena_stands s g k a new here =
 cache_stands : (s : Shape) (g : Setting) (lane class : ℕ) (x : Home) → IsCacheOf class x → HomeStands (measures_of s (CacheOf lane class)) g [] x
 cache_stands s g lane class (Cache q) is =
     subst (IsCacheAt (1 ∷ lane ∷ class ∷ []) g []) (sym is)
-    (record { lane = lane; class = class; measured = refl; capacity = refl; stands = cache_new g.grounds (cache_capacity class) })
+    (record { lane = lane; class = class; measured = refl; capacity = refl; stands = cache_new g.grounds (cache_capacity class); lens = All-nil (λ (r : Region). HasClassLength r.id) })
 cache_stands s g lane class (Arena a) is = absurd is
 cache_stands s g lane class (Bin b) is = absurd is
 cache_stands s g lane class (Mail m) is = absurd is

@@ -37,12 +37,12 @@ mail_at (m ∷ mail) (suc k) d x is = mail_at mail k d x is
 
 -- ---- Where what was added stands.
 
-at_left : {X : Type 0} (xs ys : List X) (k : ℕ) (x : X) → slice_get xs k ≡ Some x → slice_get (xs ++ ys) k ≡ Some x
+pub at_left : {X : Type 0} (xs ys : List X) (k : ℕ) (x : X) → slice_get xs k ≡ Some x → slice_get (xs ++ ys) k ≡ Some x
 at_left [] ys k x e = absurd (cc e)
 at_left (z ∷ xs) ys zero x e = e
 at_left (z ∷ xs) ys (suc k) x e = at_left xs ys k x e
 
-at_right : {X : Type 0} (xs ys : List X) (k : ℕ) → slice_get (xs ++ ys) (length xs + k) ≡ slice_get ys k
+pub at_right : {X : Type 0} (xs ys : List X) (k : ℕ) → slice_get (xs ++ ys) (length xs + k) ≡ slice_get ys k
 at_right [] ys k = ap (slice_get ys) (let e : 0 + k ≡ k = omega arith in e)
 at_right (z ∷ xs) ys k = ap (slice_get (z ∷ xs ++ ys)) (let e : suc (length xs) + k ≡ suc (length xs + k) = omega arith in e) ∙ at_right xs ys k
 

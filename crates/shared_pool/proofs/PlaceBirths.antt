@@ -43,7 +43,7 @@ use Rattle.shared_pool.specs.RootPlaces.{RootState, PlaceState, law_root, law_pl
 use Rattle.shared_pool.specs.PlaceSteps.{MayBear, used, cleared, born_root, with_born}
 use Rattle.shared_pool.specs.declared.home.Home.{Home}
 use Rattle.shared_pool.specs.declared.home.Home.TheVariants.{Arena, Cache, Bin, Mail, Root}
-use Rattle.shared_pool.specs.Standing.{HomeStands, IsPlaceAt, IsPlace, IfPlace}
+use Rattle.shared_pool.specs.Standing.{HomeStands, HasClassLength, IsPlaceAt, IsPlace, IfPlace}
 use Rattle.shared_pool.proofs.PlaceLaws.{same_root-refl}
 use Rattle.shared_pool.proofs.PlaceRecords.{unborn, watch_born}
 use Rattle.shared_pool.proofs.PlaceHomes.{place_at}
@@ -92,9 +92,9 @@ birth_stands grounds p handles h n old root region handle watch at vacant place 
 
 -- the same, of the home value
 pub home_born : (s : Shape) (setting : Setting) (p : ℕ) (h : List Noted) (n : Noted) (old new : Home) (root : RootId) (region : Region) (handle : HandleValue) (watch : Option Watch) → HomeStands (measures_of s (RootOf p)) setting h old → IsPlace old → IsPlace new → IfPlace old MayBear → root.place ≡ p → IfPlace old (λ y. root.generation ≡ y.generation + 1) → root.capacity ≤ region.id.place.len →
-    IsInPlace setting.grounds region.id.place region.piece → region.id.owner < s.lanes → region.id.class < class_count (geometry_of s) → handle.place ≡ p → handle.lane ≡ p / s.handles → n.did ≡ Did.Birth root (used region.id) → n.watch ≡ watch →
+    IsInPlace setting.grounds region.id.place region.piece → region.id.owner < s.lanes → region.id.class < class_count (geometry_of s) → HasClassLength region.id → handle.place ≡ p → handle.lane ≡ p / s.handles → n.did ≡ Did.Birth root (used region.id) → n.watch ≡ watch →
     IfPlace new (λ t. t ≡ with_born (born_root root region handle watch)) → HomeStands (measures_of s (RootOf p)) setting (h ++ n ∷ []) new
-home_born s setting p h n (Root y) (Root t) root region handle watch at po pn may place next fits in_place owner class handle_place handle_lane is watch_is made =
+home_born s setting p h n (Root y) (Root t) root region handle watch at po pn may place next fits in_place owner class len handle_place handle_lane is watch_is made =
     let after_r : RootState = born_root root region handle watch in
     subst (λ (z : PlaceState). IsPlaceAt (measures_of s (RootOf p)) setting (h ++ n ∷ []) z) (sym made)
     (record {
@@ -104,16 +104,16 @@ home_born s setting p h n (Root y) (Root t) root region handle watch at po pn ma
       order = s.order;
       measured = refl;
       stands = birth_stands setting.grounds p s.handles h n y.value root region handle watch (place_at s setting p h (Root y) at) may.vacant place next fits in_place handle_place handle_lane is watch_is;
-      region = (owner, class);
+      region = (owner, class, len);
     })
-home_born s setting p h n (Root y) (Arena t) root region handle watch at po pn may place next fits in_place owner class handle_place handle_lane is watch_is made = absurd pn
-home_born s setting p h n (Root y) (Cache t) root region handle watch at po pn may place next fits in_place owner class handle_place handle_lane is watch_is made = absurd pn
-home_born s setting p h n (Root y) (Bin t) root region handle watch at po pn may place next fits in_place owner class handle_place handle_lane is watch_is made = absurd pn
-home_born s setting p h n (Root y) (Mail t) root region handle watch at po pn may place next fits in_place owner class handle_place handle_lane is watch_is made = absurd pn
-home_born s setting p h n (Arena y) new root region handle watch at po pn may place next fits in_place owner class handle_place handle_lane is watch_is made = absurd po
-home_born s setting p h n (Cache y) new root region handle watch at po pn may place next fits in_place owner class handle_place handle_lane is watch_is made = absurd po
-home_born s setting p h n (Bin y) new root region handle watch at po pn may place next fits in_place owner class handle_place handle_lane is watch_is made = absurd po
-home_born s setting p h n (Mail y) new root region handle watch at po pn may place next fits in_place owner class handle_place handle_lane is watch_is made = absurd po
+home_born s setting p h n (Root y) (Arena t) root region handle watch at po pn may place next fits in_place owner class len handle_place handle_lane is watch_is made = absurd pn
+home_born s setting p h n (Root y) (Cache t) root region handle watch at po pn may place next fits in_place owner class len handle_place handle_lane is watch_is made = absurd pn
+home_born s setting p h n (Root y) (Bin t) root region handle watch at po pn may place next fits in_place owner class len handle_place handle_lane is watch_is made = absurd pn
+home_born s setting p h n (Root y) (Mail t) root region handle watch at po pn may place next fits in_place owner class len handle_place handle_lane is watch_is made = absurd pn
+home_born s setting p h n (Arena y) new root region handle watch at po pn may place next fits in_place owner class len handle_place handle_lane is watch_is made = absurd po
+home_born s setting p h n (Cache y) new root region handle watch at po pn may place next fits in_place owner class len handle_place handle_lane is watch_is made = absurd po
+home_born s setting p h n (Bin y) new root region handle watch at po pn may place next fits in_place owner class len handle_place handle_lane is watch_is made = absurd po
+home_born s setting p h n (Mail y) new root region handle watch at po pn may place next fits in_place owner class len handle_place handle_lane is watch_is made = absurd po
 
 one : (n : ℕ) → (n == n) ≡ true
 one n = eq-eqb n n refl

@@ -22,6 +22,7 @@ use Rattle.pool_table.specs.declared.views.Layout.{Layout}
 use Rattle.pool_table.specs.declared.views.SeatView.{SeatView}
 use Rattle.pool_table.specs.declared.table.PoolSeat.{PoolSeat}
 use Rattle.pool_table.specs.declared.table.Section.{Section}
+use Rattle.pool_table.specs.Numbers.{IsAbove}
 use Rattle.pool_table.specs.Views.{with_entry}
 use Rattle.pool_table.specs.Counts.{with_ref}
 use Rattle.pool_table.specs.Hands.{InHand, NoneWaits}
@@ -33,7 +34,7 @@ use Rattle.shared_pool.specs.PlaceSteps.{MayBear, born_root, with_born}
 use Rattle.shared_pool.specs.declared.home.Home.{Home}
 use Rattle.shared_pool.specs.declared.home.Home.TheVariants.{Arena, Cache, Bin, Mail, Root}
 use Rattle.shared_pool.specs.declared.pool.SharedPool.{SharedPool}
-use Rattle.shared_pool.specs.Standing.{HomeStands, IsPlace, IfPlace}
+use Rattle.shared_pool.specs.Standing.{HomeStands, HasClassLength, IsPlace, IfPlace}
 use Rattle.shared_pool.specs.Seats.{IsNoted}
 use Rattle.shared_pool.proofs.PlaceHomes.{is_place, place_at, place_follows}
 use Rattle.shared_pool.proofs.PlaceBirths.{may_bear, home_born}
@@ -59,11 +60,11 @@ module _ {G : Ghosts Home Noted} (l : Layout) (p : ℕ) (old new : PoolSeat Home
 
   -- after a birth its note follows
   pub born_next : (after : Section Home) (root : RootId) (region : Region) (handle : HandleValue) (watch : Option Watch) → InHand p (view_of old) → NoneWaits p (view_of old) → after.object ≡ section.object → after.slot ≡ section.slot → IsPlace after.home → root.place ≡ p → IfPlace section.home (λ y. root.generation ≡ y.generation + 1) → root.capacity ≤ region.id.place.len →
-      IfSome (view_of old).setting (λ t. IsInPlace t.grounds region.id.place region.piece) → region.id.owner < l.shape.lanes → region.id.class < class_count (geometry_of l.shape) → handle.place ≡ p → handle.lane ≡ p / l.shape.handles →
+      IfSome (view_of old).setting (λ t. IsInPlace t.grounds region.id.place region.piece) → region.id.owner < l.shape.lanes → region.id.class < class_count (geometry_of l.shape) → HasClassLength region.id → handle.place ≡ p → handle.lane ≡ p / l.shape.handles →
       IfPlace after.home (λ t. t ≡ with_born (born_root root region handle watch)) → IsNext l (RootOf p) old new section got setting known after (birth root region.id watch)
-  born_next after root region handle watch hand waits same_object same_slot place root_place next fits in_place owner class handle_place handle_lane made =
+  born_next after root region handle watch hand waits same_object same_slot place root_place next fits in_place owner class len handle_place handle_lane made =
       let m : Noted = noted_by (view_of old).own.number (birth root region.id watch) in
-      let stands = home_born l.shape setting p got.history m section.home after.home root region handle watch stands_here place_here place (bears_here hand waits) root_place next fits (subst (λ (y : Option Setting). IfSome y (λ t. IsInPlace t.grounds region.id.place region.piece)) known in_place) owner class handle_place handle_lane refl refl made in
+      let stands = home_born l.shape setting p got.history m section.home after.home root region handle watch stands_here place_here place (bears_here hand waits) root_place next fits (subst (λ (y : Option Setting). IfSome y (λ t. IsInPlace t.grounds region.id.place region.piece)) known in_place) owner class len handle_place handle_lane refl refl made in
       record {
         same_object = same_object;
         same_slot = same_slot;
@@ -82,5 +83,6 @@ born_noted pool old last new p number root result region watch m place same has 
       history = m.history;
       number_is = m.number_is;
       accepted = subst (λ (x : ℕ). IsHistory pool.table.layout.shape (RootOf x) (m.history ++ n ∷ [])) (sym place) m.accepted;
+      above = subst (λ (x : ℕ). IsAbove (RootOf x) number v.own.notes) (sym place) m.above;
       seat = subst (λ (x : ℕ). HasView new (with_ref (with_entry v (At (RootOf x) number n) (v.turns - 1)) root Born (v.moves - 1))) (sym place) here;
     })

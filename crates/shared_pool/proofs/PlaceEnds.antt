@@ -3,7 +3,7 @@ use Rattle.std.proofs.Common.{◌≡◌, ℕ, ◌+◌, ◌/◌, ◌<◌, ◌≤�
 use Rattle.std.specs.Prelude.{Option, Some, IfSome, option_map, option_and_then}
 use Rattle.step_law.specs.Settings.{Setting}
 use Rattle.step_law.specs.declared.Told.{Ghosts}
-use Rattle.size_classes.specs.Sizes.{of_order, class_count}
+use Rattle.size_classes.specs.Sizes.{class_count}
 use Rattle.pool_law.specs.declared.run.Shape.{Shape}
 use Rattle.pool_law.specs.declared.id.RootId.{RootId}
 use Rattle.pool_law.specs.declared.id.Region.{Region}
@@ -34,9 +34,9 @@ use Rattle.shared_pool.specs.PlaceSteps.{MayEnd, vacated}
 use Rattle.shared_pool.specs.PlaceStanding.{IfPlaces}
 use Rattle.shared_pool.specs.declared.home.Home.{Home}
 use Rattle.shared_pool.specs.declared.home.Home.TheVariants.{Arena, Cache, Bin, Mail, Root}
-use Rattle.shared_pool.specs.Standing.{HomeStands, IsPlaceAt, IsPlace, IfPlace}
+use Rattle.shared_pool.specs.Standing.{HomeStands, HasClassLength, IsPlaceAt, IsPlace, IfPlace}
 use Rattle.shared_pool.proofs.PlaceLaws.{ends as law_ends}
-use Rattle.shared_pool.proofs.PlaceHomes.{is_place, place_at, place_follows, present_root}
+use Rattle.shared_pool.proofs.PlaceHomes.{Fits, is_place, place_at, place_follows, present_root}
 use Rattle.shared_pool.proofs.Endings.{stood, IsNext}
 
 -- an end takes its region up
@@ -53,6 +53,7 @@ pub record IsTakenOut (setting : Setting) (s : Shape) (p : ℕ) (root : RootId) 
   pub in_place : IsInPlace setting.grounds region.id.place region.piece
   pub owner : region.id.owner < s.lanes
   pub class : region.id.class < class_count (geometry_of s)
+  pub len : HasClassLength region.id
   pub lane : handle.lane ≡ handle.place / s.handles
   pub place : handle.place ≡ p
 
@@ -63,13 +64,14 @@ taken_out s setting p h root y region handle whole at is out =
     let here : IsRootAt setting.grounds p s.handles h r = subst (λ (o : Option RootState). IfSome o (IsRootAt setting.grounds p s.handles h)) there.1 at.root in
     let got : TakenOut region handle r = subst (λ (o : Option RootState). IfSome o (TakenOut region handle)) there.1 out in
     let lanes_is : whole.lanes ≡ s.lanes = cc whole.measured in let order_is : whole.order ≡ s.order = cc whole.measured in
-    let known : (r.region.owner < s.lanes) × (r.region.class < class_count (geometry_of s)) =
-    subst (λ (m : ℕ × ℕ). (r.region.owner < m.0) × (r.region.class < class_count (of_order m.1))) (λ i. (lanes_is i, order_is i)) (subst (λ (o : Option RootState). IfSome o (λ (q : RootState). (q.region.owner < whole.lanes) × (q.region.class < class_count (of_order whole.order)))) there.1 whole.region) in
+    let known : Fits s.lanes s.order r =
+    subst (λ (m : ℕ × ℕ). Fits m.0 m.1 r) (λ i. (lanes_is i, order_is i)) (subst (λ (o : Option RootState). IfSome o (Fits whole.lanes whole.order)) there.1 whole.region) in
     record {
       right = (refl, ap Some got.0 ∙ sym (ap (λ (o : Option RootPlace). option_map (λ (q : Present). q.region) (present_in o)) at.told ∙ ap (λ (o : Option RootState). option_map (λ (q : Present). q.region) (option_map law_root o)) there.1), refl);
       in_place = subst (λ (x : RegionId × _). IsInPlace setting.grounds x.0.place x.1) (λ i. (sym got.0 i, sym got.1 i)) here.in_place;
       owner = subst (λ (q : RegionId). q.owner < s.lanes) (sym got.0) known.0;
       class = subst (λ (q : RegionId). q.class < class_count (geometry_of s)) (sym got.0) known.1;
+      len = subst HasClassLength (sym got.0) known.2;
       lane = subst (λ (q : HandleValue). q.lane ≡ q.place / s.handles) (sym got.2) (here.lane_is ∙ ap (λ (n : ℕ). n / s.handles) (sym here.place_is));
       place = ap (λ (q : HandleValue). q.place) got.2 ∙ here.place_is;
     }

@@ -35,7 +35,7 @@ use Rattle.shared_pool.specs.PlaceSteps.{MayAccess, Accesses, accessed}
 use Rattle.shared_pool.specs.PlaceStanding.{IsAccessed}
 use Rattle.shared_pool.specs.declared.home.Home.{Home}
 use Rattle.shared_pool.specs.declared.home.Home.TheVariants.{Arena, Cache, Bin, Mail, Root}
-use Rattle.shared_pool.specs.Standing.{HomeStands, IsPlaceAt, IsPlace, IfPlace}
+use Rattle.shared_pool.specs.Standing.{HomeStands, HasClassLength, IsPlaceAt, IsPlace, IfPlace}
 use Rattle.shared_pool.proofs.PlaceLaws.{same_root-refl}
 use Rattle.shared_pool.proofs.PlaceRecords.{access_in, is_at, accesses_more, watch_same, short}
 use Rattle.shared_pool.proofs.Endings.{stood, IsNext}
@@ -119,8 +119,8 @@ access_stands grounds p handles h n access old new at a is =
     record { told = told; root = subst (λ (y : PlaceState). IfSome y.present (IsRootAt grounds p handles longer_h)) (sym a.is) there }
 
 -- what a root place's measures tell of its region
-abbrev Fits : ℕ → ℕ → RootState → Type 0
-Fits lanes order r = (r.region.owner < lanes) × (r.region.class < class_count (of_order order))
+abbrev pub Fits : ℕ → ℕ → RootState → Type 0
+Fits lanes order r = (r.region.owner < lanes) × (r.region.class < class_count (of_order order)) × HasClassLength r.region
 
 -- the same, of the home value
 pub place_more : (measures : List ℕ) (setting : Setting) (h : List Noted) (n : Noted) (access : Access) (old new : PlaceState) → IsPlaceAt measures setting h old → Accesses old n.did access new →

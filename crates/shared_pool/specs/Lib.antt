@@ -5,6 +5,7 @@ pub mod PlaceSteps
 pub mod Standing
 pub mod SeatLanes
 pub mod Seats
+pub mod Spending
 pub mod Answers
 pub mod Notes
 pub mod CacheAnswers
@@ -12,7 +13,12 @@ pub mod MailAnswers
 pub mod Holding
 pub mod RootNotes
 pub mod Closing
+pub mod Live
+pub mod Seated
 pub mod PlaceStanding
 pub mod Quotas
 pub mod Settling
 pub mod Opening
+pub mod Joining
+pub mod Rooms
+pub mod Ends

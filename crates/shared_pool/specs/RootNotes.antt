@@ -16,6 +16,7 @@ use Rattle.pool_table.specs.declared.views.Entry.TheVariants.{At}
 use Rattle.pool_table.specs.Views.{with_entry}
 use Rattle.pool_table.specs.Counts.{with_ref, HasToken}
 use Rattle.pool_table.specs.Hands.{HasNoEnd}
+use Rattle.pool_table.specs.Numbers.{IsAbove}
 use Rattle.pool_table.specs.Seats.{view_of, HasView}
 use Rattle.shared_pool.specs.declared.home.Home.{Home}
 use Rattle.shared_pool.specs.declared.pool.SharedPool.{SharedPool}
@@ -44,8 +45,8 @@ end_of root region =
     record { did = Did.End root; lane = None; watch = None; root = None; region = Some region }
 
 module _ {G : Ghosts Home Noted} where
-  -- the call made this note at the root's place, as the next after a history that the place accepts,
-  -- and then this step on its word
+  -- the call made this note at the root's place, as the next after a history that the place
+  -- accepts, and then this step on its word
   pub record IsNotedWith
       (pool : SharedPool) (old new : PoolSeat Home G) (root : RootId) (number : ℕ) (n : Noted)
       (step : RefDid) (moves : ℕ) : Type 0 where
@@ -53,6 +54,7 @@ module _ {G : Ghosts Home Noted} where
     pub number_is : number ≡ length history + 1
     pub accepted : IsHistory pool.table.layout.shape (Object.Root root.place)
         (history ++ noted_by (view_of old).own.number n ∷ [])
+    pub above : IsAbove (Object.Root root.place) number (view_of old).own.notes
     pub seat : let v = view_of old in
         let note = At (Object.Root root.place) number (noted_by v.own.number n) in
         HasView new (with_ref (with_entry v note (v.turns - 1)) root step moves)

@@ -55,8 +55,8 @@ watch_after w (n ∷ ns) = watch_after (watch_given w n.did n.watch) ns
 abbrev pub lane_dids : List Noted → History
 lane_dids notes = map (λ n. (unwrap_or n.lane 0, n.did)) notes
 
--- the root has its region's memory and the handle of its place, whose tracker holds the watch of its
--- birth and what is kept of the accesses since
+-- the root has its region's memory and the handle of its place, whose tracker holds the watch of
+-- its birth and what is kept of the accesses since
 pub record IsRootAt
     (grounds : Grounds) (place handles : ℕ) (notes : List Noted) (r : RootState) : Type 0 where
   pub in_place : IsInPlace grounds r.region.place r.piece

@@ -9,6 +9,8 @@ use Rattle.pool_law.specs.Naming.{noted_by}
 use Rattle.table_law.specs.Histories.{IsHistory}
 use Rattle.pool_table.specs.declared.views.Entry.TheVariants.{At}
 use Rattle.pool_table.specs.declared.table.PoolSeat.{PoolSeat}
+use Rattle.pool_table.specs.Counts.{CountsOne}
+use Rattle.pool_table.specs.Numbers.{IsAbove}
 use Rattle.pool_table.specs.Views.{with_entry}
 use Rattle.pool_table.specs.Seats.{view_of, IsSeatOf, IsOutside, HasView}
 use Rattle.pool_table.specs.Sections.{FoundHeld}
@@ -17,8 +19,8 @@ use Rattle.shared_pool.specs.declared.pool.SharedPool.{SharedPool}
 use Rattle.shared_pool.specs.Standing.{HomeStands}
 
 module _ {G : Ghosts Home Noted} where
-  -- a seat of the pool: it has a lane's number, the part of that number and no other, and is in no
-  -- section
+  -- a seat of the pool: it has a lane's number, the part of that number and no other, is in no
+  -- section, and counts at most one root of each place
   pub record IsPoolSeat (pool : SharedPool) (s : PoolSeat Home G) : Type 0 where
     pub own : IsSeatOf pool.table s
     pub outside : IsOutside s
@@ -30,19 +32,22 @@ module _ {G : Ghosts Home Noted} where
     pub settled : (view_of s).setting ≡ Some setting
     pub arenas : length setting.grounds ≡ pool.table.layout.shape.arenas
     pub mails : length setting.mail ≡ pool.table.layout.shape.lanes * pool.table.layout.shape.lanes
+    pub counts : CountsOne (view_of s)
 
-  -- the call made this note at the object, as the next after a history that the object accepts
-  pub record IsNoted (pool : SharedPool) (old new : PoolSeat Home G) (o : Object) (number : ℕ) (n : Noted) :
-      Type 0 where
+  -- the call made this note at the object, as the next after a history that the object accepts; its
+  -- number is above all that the seat had noted there
+  pub record IsNoted
+      (pool : SharedPool) (old new : PoolSeat Home G)
+      (o : Object) (number : ℕ) (n : Noted) : Type 0 where
     pub history : List Noted
     pub number_is : number ≡ length history + 1
     pub accepted :
         IsHistory pool.table.layout.shape o (history ++ noted_by (view_of old).own.number n ∷ [])
+    pub above : IsAbove o number (view_of old).own.notes
     pub seat : let v = view_of old in
         HasView new (with_entry v (At o number (noted_by v.own.number n)) (v.turns - 1))
 
-  -- the call found another seat at the object, and did nothing,
-  -- but with a mark it noted that
+  -- the call found another seat at the object, and did nothing, but with a mark it noted that
   abbrev pub FoundBusy :
       SharedPool → Object → Bool → PoolSeat Home G → PoolSeat Home G → Held → Type 0
   FoundBusy pool o mark old new held = FoundHeld HomeStands pool.table.layout o mark old new held

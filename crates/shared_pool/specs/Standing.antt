@@ -1,9 +1,10 @@
 -- When a home value stands for the history of its object.
 use Rattle.std.specs.Prelude.{◌≡◌, ℕ, ◌+◌, ◌*◌, ◌<◌, ⊤, List, [], ◌∷◌, ◌++◌, length, Some, IfSome, All, slice_get}
 use Rattle.step_law.specs.Settings.{Setting}
+use Rattle.pool_law.specs.declared.id.RegionId.{RegionId}
 use Rattle.pool_law.specs.declared.note.Did.{Did}
 use Rattle.pool_law.specs.declared.note.Noted.{Noted}
-use Rattle.size_classes.specs.Sizes.{of_order, class_count}
+use Rattle.size_classes.specs.Sizes.{of_order, class_count, size_at}
 use Rattle.pool_law.specs.Limits.{cache_capacity}
 use Rattle.pool_law.specs.Views.{IsView}
 use Rattle.pool_arena.specs.ArenaStates.{ArenaState}
@@ -18,25 +19,34 @@ use Rattle.shared_pool.specs.declared.home.Home.{Home}
 use Rattle.shared_pool.specs.declared.home.Home.TheVariants.{Arena, Cache, Bin, Mail, Root}
 
 -- the arena of these measures, and its history
-pub record IsArenaAt (measures : List ℕ) (setting : Setting) (h : List Noted) (a : ArenaState) : Type 0 where
+pub record IsArenaAt
+    (measures : List ℕ) (setting : Setting) (h : List Noted) (a : ArenaState) : Type 0 where
   pub measured : measures ≡ 0 ∷ a.number ∷ a.geometry.order ∷ length a.chunks ∷ []
   pub stands : ArenaStandsFor setting.grounds h a
 
+-- the region is as long as its class says
+abbrev pub HasClassLength : RegionId → Type 0
+HasClassLength r = r.place.len ≡ size_at r.class
+
 -- the cache of a lane and a class
-pub record IsCacheAt (measures : List ℕ) (setting : Setting) (h : List Noted) (q : Queue) : Type 0 where
+pub record IsCacheAt
+    (measures : List ℕ) (setting : Setting) (h : List Noted) (q : Queue) : Type 0 where
   pub lane : ℕ
   pub class : ℕ
   pub measured : measures ≡ 1 ∷ lane ∷ class ∷ []
   pub capacity : q.capacity ≡ cache_capacity class
   pub stands : CacheStandsFor setting.grounds h q
+  pub lens : All (λ r. HasClassLength r.id) q.regions
 
 -- the bin of a lane
-pub record IsBinAt (measures : List ℕ) (setting : Setting) (h : List Noted) (b : BinValue) : Type 0 where
+pub record IsBinAt
+    (measures : List ℕ) (setting : Setting) (h : List Noted) (b : BinValue) : Type 0 where
   pub measured : measures ≡ 2 ∷ b.lane ∷ b.handles ∷ []
   pub stands : BinStandsFor setting.grounds h b
 
 -- the mail of two lanes, with room for the posts of that pair
-pub record IsMailAt (measures : List ℕ) (setting : Setting) (h : List Noted) (m : MailState) : Type 0 where
+pub record IsMailAt
+    (measures : List ℕ) (setting : Setting) (h : List Noted) (m : MailState) : Type 0 where
   pub sender : ℕ
   pub receiver : ℕ
   pub lanes : ℕ
@@ -46,7 +56,8 @@ pub record IsMailAt (measures : List ℕ) (setting : Setting) (h : List Noted) (
   pub views : All (λ p. IfSome p.view IsView) m.parcels
 
 -- a root place
-pub record IsPlaceAt (measures : List ℕ) (setting : Setting) (h : List Noted) (s : PlaceState) : Type 0 where
+pub record IsPlaceAt
+    (measures : List ℕ) (setting : Setting) (h : List Noted) (s : PlaceState) : Type 0 where
   pub place : ℕ
   pub handles : ℕ
   pub lanes : ℕ
@@ -54,7 +65,7 @@ pub record IsPlaceAt (measures : List ℕ) (setting : Setting) (h : List Noted) 
   pub measured : measures ≡ 4 ∷ place ∷ handles ∷ lanes ∷ order ∷ []
   pub stands : PlaceStandsFor setting.grounds place handles h s
   pub region : IfSome s.present (λ r. (r.region.owner < lanes)
-      × (r.region.class < class_count (of_order order)))
+      × (r.region.class < class_count (of_order order)) × HasClassLength r.region)
 
 -- the value is that of the object with these measures, and stands for its history
 abbrev pub HomeStands : List ℕ → Setting → List Noted → Home → Type 0

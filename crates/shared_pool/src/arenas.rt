@@ -12,7 +12,7 @@ ghost use Rattle.shared_pool.specs.Holding.{HoldsRegion};
 ghost use Rattle.shared_pool.specs.Notes.{plain, taken_or_full};
 ghost use Rattle.shared_pool.specs.SeatLanes.{lane_of};
 ghost use Rattle.shared_pool.specs.Seats.{IsPoolSeat, IsNoted, FoundBusy};
-ghost use Rattle.shared_pool.specs.Standing.{IsArena, IfArena, StandsMore};
+ghost use Rattle.shared_pool.specs.Standing.{IsArena, IfArena, HasClassLength, StandsMore};
 
 use crate::home::Home;
 use crate::pool::{PoolSeat, SharedPool, lane_of, note, noted};
@@ -79,6 +79,7 @@ impl SharedPool {
 }
 
 // Takes a region from the arena of a section.
+#[inline(always)]
 fn take(section: &mut Section<Home>, class: u32, owner: u32) -> Option<Region>
     requires arena { IsArena section.old.home }
     requires class { IfArena section.old.home (λ a. class < class_count a.geometry) }
@@ -88,7 +89,8 @@ fn take(section: &mut Section<Home>, class: u32, owner: u32) -> Option<Region>
     ensures arena { IsArena section.new.home }
     ensures stands { StandsMore section.old.home (taken_or_full class result) section.new.home }
     ensures region { IfSome result (λ r.
-        (r.id.owner ≡ owner) × (r.id.class ≡ class) × (r.id.uses ≡ 0)) }
+        (r.id.owner ≡ owner) × (r.id.class ≡ class) × (r.id.uses ≡ 0)
+        × HasClassLength r.id) }
     ensures place { IfSome result (λ r.
         IfArena section.old.home (λ a. IsInPlaceAt a r.id r.piece)) }
 {
@@ -99,6 +101,7 @@ fn take(section: &mut Section<Home>, class: u32, owner: u32) -> Option<Region>
 }
 
 // What a take notes.
+#[inline(always)]
 fn taken(class: u32, region: &Option<Region>) -> Did
     ensures { result ≡ taken_or_full class region.now }
 {
@@ -112,6 +115,7 @@ fn taken(class: u32, region: &Option<Region>) -> Did
 }
 
 // Gives a region back to the arena of a section.
+#[inline(always)]
 fn give(section: &mut Section<Home>, region: Region)
     requires arena { IsArena section.old.home }
     requires out { IfArena section.old.home (λ a. IsOutOf a region.id) }

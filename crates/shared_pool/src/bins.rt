@@ -72,6 +72,7 @@ impl SharedPool {
 }
 
 // Takes the front handle out of the bin of a section.
+#[inline(always)]
 fn pop(section: &mut Section<Home>) -> Option<Handle>
     requires { IsBin section.old.home }
     ensures same { (section.new.object ≡ section.old.object)
@@ -89,6 +90,7 @@ fn pop(section: &mut Section<Home>) -> Option<Handle>
 }
 
 // Puts a handle into the bin of a section.
+#[inline(always)]
 fn put(section: &mut Section<Home>, handle: Handle)
     requires bin { IsBin section.old.home }
     requires homeless { IfBin section.old.home (λ b. IsHomeless b handle) }
@@ -104,6 +106,7 @@ fn put(section: &mut Section<Home>, handle: Handle)
 }
 
 // What a pop of a bin notes.
+#[inline(always)]
 fn taken(handle: &Option<Handle>) -> Did
     ensures { result ≡ popped handle.now }
 {

@@ -95,7 +95,8 @@ impl SharedPool {
         requires turn { 0 < (view_of seat.old).turns }
         requires class { class < cached_classes }
         requires no_quota { quota_left (lane_of seat.old) class (view_of seat.old).own.notes ≡ 0 }
-        requires not_closed { has_closed (lane_of seat.old) class (view_of seat.old).own.notes ≡ false }
+        requires not_closed { has_closed (lane_of seat.old) class
+            (view_of seat.old).own.notes ≡ false }
         ensures same { SameSeat seat.old seat.new }
         ensures seat { IsPoolSeat self.now seat.new }
         ensures did { IfDid result (λ number quota.
@@ -153,6 +154,7 @@ impl SharedPool {
 }
 
 // Takes the front region out of the cache of a section.
+#[inline(always)]
 fn pop(section: &mut Section<Home>) -> Option<Region>
     requires cache { IsCache section.old.home }
     requires no_quota { IfCache section.old.home (λ q. q.quota ≡ 0) }
@@ -169,6 +171,7 @@ fn pop(section: &mut Section<Home>) -> Option<Region>
 }
 
 // What a pop of a cache notes.
+#[inline(always)]
 fn popped(region: &Option<Region>) -> Did
     ensures { result ≡ hit region.now }
 {
@@ -179,12 +182,14 @@ fn popped(region: &Option<Region>) -> Did
 }
 
 // Puts a region into the cache of a section.
+#[inline(always)]
 fn put(section: &mut Section<Home>, region: Region) -> Put
     requires cache { IsCache section.old.home }
     ensures same { (section.new.object ≡ section.old.object)
         × (section.new.slot ≡ section.old.slot) }
     ensures cache { IsCache section.new.home }
-    ensures stands { StandsMoreWith region section.old.home (was_put region.id result) section.new.home }
+    ensures stands { StandsMoreWith region section.old.home
+        (was_put region.id result) section.new.home }
     ensures back { IfBack result (λ r no. r ≡ region) }
 {
     let Home::Cache(cache) = Section::home(section) else {
@@ -197,6 +202,7 @@ fn put(section: &mut Section<Home>, region: Region) -> Put
 }
 
 // What a put into a cache notes.
+#[inline(always)]
 fn answered(id: RegionId, put: &Put) -> Did
     ensures { result ≡ was_put id put.now }
 {
@@ -210,6 +216,7 @@ fn answered(id: RegionId, put: &Put) -> Did
 }
 
 // Closes the cache of a section, and answers its quota.
+#[inline(always)]
 fn close(section: &mut Section<Home>) -> u32
     requires cache { IsCache section.old.home }
     requires no_quota { IfCache section.old.home (λ q. q.quota ≡ 0) }
@@ -226,6 +233,7 @@ fn close(section: &mut Section<Home>) -> u32
 }
 
 // Sheds the front region of the cache of a section.
+#[inline(always)]
 fn shed(section: &mut Section<Home>) -> Region
     requires cache { IsCache section.old.home }
     requires quota { IfCache section.old.home (λ q. 0 < q.quota) }

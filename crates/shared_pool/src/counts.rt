@@ -20,13 +20,14 @@ impl SharedPool {
         requires moves { 0 < (view_of seat.old).moves }
         ensures same { SameSeat seat.old seat.new }
         ensures seat { IsPoolSeat self.now seat.new }
-        ensures did { let v = view_of seat.old in HasView seat.new (with_ref v root Retain (v.moves - 1)) }
+        ensures did { let v = view_of seat.old in
+            HasView seat.new (with_ref v root Retain (v.moves - 1)) }
     {
         self.table.retain(seat, root);
     }
 
-    /// One count less of a root that the seat counts. Ended comes exactly where it was the last one:
-    /// the seat then has the right to retire the root.
+    /// One count less of a root that the seat counts. Ended comes exactly where it was the last
+    /// one: the seat then has the right to retire the root.
     pub fn release(&self, seat: &mut PoolSeat, root: RootId) -> Release
         requires seat { IsPoolSeat self.now seat.old }
         requires counts { HasCount root (view_of seat.old) }
@@ -40,13 +41,15 @@ impl SharedPool {
         }
     }
 
-    /// The count of a root that the seat counts, over all seats and parcels, as this one step found it.
+    /// The count of a root that the seat counts, over all seats and parcels, as this one step found
+    /// it.
     pub fn look(&self, seat: &mut PoolSeat, root: RootId) -> u32
         requires seat { IsPoolSeat self.now seat.old }
         requires counts { HasCount root (view_of seat.old) }
         ensures same { SameSeat seat.old seat.new }
         ensures seat { IsPoolSeat self.now seat.new }
-        ensures did { let v = view_of seat.old in HasView seat.new (with_ref v root (Look result) v.moves) }
+        ensures did { let v = view_of seat.old in
+            HasView seat.new (with_ref v root (Look result) v.moves) }
     {
         self.table.look(seat, root)
     }

@@ -1,18 +1,22 @@
 #![tactic(auto)]
-//! The pool for many threads: any thread with a seat allocates, writes, reads, retains, releases and
-//! hands over. Each call is one event of one object's history, or one step on one root's count.
+//! The pool for many threads: any thread with a seat allocates, writes, reads, retains, releases
+//! and hands over. Each call is one event of one object's history, or one step on one root's count.
 
 mod arenas;
 mod bins;
 mod caches;
+mod closing;
 mod counts;
 mod home;
+mod last_chunks;
 mod laws;
+mod live_roots;
 mod mail;
 mod mails;
 mod opening;
 mod place_sections;
 mod pool;
+mod room;
 mod root_notes;
 mod root_place;
 mod roots;
@@ -26,4 +30,4 @@ pub use laws::parts_are_whole_logs;
 pub use mail::Mail;
 pub use pool::{PoolSeat, SharedPool};
 pub use root_place::RootPlace;
-pub use went::{Fetched, Put, Release, Retired, Went};
+pub use went::{Fetched, PoolEnd, Put, Release, Retired, Went};

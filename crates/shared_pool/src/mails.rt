@@ -27,7 +27,8 @@ impl SharedPool {
         requires seat { IsPoolSeat self.now seat.old }
         requires turn { 0 < (view_of seat.old).turns }
         requires to { to < self.now.table.layout.shape.lanes }
-        requires room { HasRoom self.now.table.layout.shape (lane_of seat.old) to (view_of seat.old) }
+        requires room { HasRoom self.now.table.layout.shape
+            (lane_of seat.old) to (view_of seat.old) }
         requires view { IfSome parcel.view IsView }
         requires counts { IfSome parcel.view (λ v. HasCount v.root (view_of seat.old)) }
         ensures same { SameSeat seat.old seat.new }
@@ -90,6 +91,7 @@ impl SharedPool {
 }
 
 // Puts a parcel into the mail of a section.
+#[inline(always)]
 fn post(section: &mut Section<Home>, parcel: Parcel)
     requires mail { IsMail section.old.home }
     requires room { IfMail section.old.home (λ m. length m.parcels < m.room) }
@@ -106,6 +108,7 @@ fn post(section: &mut Section<Home>, parcel: Parcel)
 }
 
 // Takes the front parcel out of the mail of a section.
+#[inline(always)]
 fn fetch(section: &mut Section<Home>) -> Option<Parcel>
     requires mail { IsMail section.old.home }
     ensures same { (section.new.object ≡ section.old.object)

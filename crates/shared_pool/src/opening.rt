@@ -216,7 +216,7 @@ fn spend_all(mut homes: Vec<Home>) {
     homes.destroy_empty();
 }
 
-fn spend(home: Home) {
+pub(crate) fn spend(home: Home) {
     match home {
         Home::Arena(arena) => Box::into_inner(arena).leave(),
         Home::Cache(cache) => Box::into_inner(cache).leave(),

@@ -16,10 +16,12 @@ use pool_law::{Region, RootId, Watch};
 use pool_table::Section;
 
 // Touches the root of a section.
+#[inline(always)]
 pub(crate) fn touch(section: &mut Section<Home>, lane: u32)
     requires place { IsPlace section.old.home }
     requires may { IfPlace section.old.home (MayAccess 0 0) }
-    ensures same { (section.new.object ≡ section.old.object) × (section.new.slot ≡ section.old.slot) }
+    ensures same { (section.new.object ≡ section.old.object)
+        × (section.new.slot ≡ section.old.slot) }
     ensures place { IsPlace section.new.home }
     ensures did { IsAccessed section.old.home Did.Touch (Access.Touch lane) section.new.home }
 {
@@ -30,10 +32,12 @@ pub(crate) fn touch(section: &mut Section<Home>, lane: u32)
 }
 
 // Lays bytes over those of the root of a section.
+#[inline(always)]
 pub(crate) fn set(section: &mut Section<Home>, lane: u32, offset: u32, bytes: &[u8])
     requires place { IsPlace section.old.home }
     requires may { IfPlace section.old.home (MayAccess offset (length bytes.now)) }
-    ensures same { (section.new.object ≡ section.old.object) × (section.new.slot ≡ section.old.slot) }
+    ensures same { (section.new.object ≡ section.old.object)
+        × (section.new.slot ≡ section.old.slot) }
     ensures place { IsPlace section.new.home }
     ensures did { let access = Access.Set lane offset (length bytes.now) in
         IsAccessed section.old.home (Did.Set offset bytes.now) access section.new.home }
@@ -45,10 +49,12 @@ pub(crate) fn set(section: &mut Section<Home>, lane: u32, offset: u32, bytes: &[
 }
 
 // Copies bytes of the root of a section out.
+#[inline(always)]
 pub(crate) fn get(section: &mut Section<Home>, lane: u32, offset: u32, out: &mut [u8])
     requires place { IsPlace section.old.home }
     requires may { IfPlace section.old.home (MayAccess offset (length out.old)) }
-    ensures same { (section.new.object ≡ section.old.object) × (section.new.slot ≡ section.old.slot) }
+    ensures same { (section.new.object ≡ section.old.object)
+        × (section.new.slot ≡ section.old.slot) }
     ensures place { IsPlace section.new.home }
     ensures len { length out.new ≡ length out.old }
     ensures did { let access = Access.Get lane offset (length out.new) in
@@ -61,6 +67,7 @@ pub(crate) fn get(section: &mut Section<Home>, lane: u32, offset: u32, out: &mut
 }
 
 // Calls `f` once with bytes of the root of a section.
+#[inline(always)]
 pub(crate) fn show<R, F: FnOnce(&[u8]) -> R>(
     section: &mut Section<Home>,
     lane: u32,
@@ -71,10 +78,12 @@ pub(crate) fn show<R, F: FnOnce(&[u8]) -> R>(
     requires place { IsPlace section.old.home }
     requires may { IfPlace section.old.home (MayAccess offset len) }
     requires callable { F.IsAlwaysCallable f }
-    ensures same { (section.new.object ≡ section.old.object) × (section.new.slot ≡ section.old.slot) }
+    ensures same { (section.new.object ≡ section.old.object)
+        × (section.new.slot ≡ section.old.slot) }
     ensures place { IsPlace section.new.home }
     ensures len { length (bytes_at (home_bytes section.new.home) offset len) ≡ len }
-    ensures answer { FnOnceReturnsAt F.FnOnce f (bytes_at (home_bytes section.new.home) offset len) result }
+    ensures answer { FnOnceReturnsAt F.FnOnce f
+        (bytes_at (home_bytes section.new.home) offset len) result }
     ensures did { let bytes = bytes_at (home_bytes section.new.home) offset len in
         IsAccessed section.old.home (Did.Get offset bytes) (Access.Get lane offset (length bytes))
         section.new.home }
@@ -86,6 +95,7 @@ pub(crate) fn show<R, F: FnOnce(&[u8]) -> R>(
 }
 
 // A root is born at the place of a section.
+#[inline(always)]
 pub(crate) fn bear(
     section: &mut Section<Home>,
     handle: Handle,
@@ -97,11 +107,13 @@ pub(crate) fn bear(
     requires vacant { IfPlace section.old.home MayBear }
     requires uses { region.id.uses < 2 ^ 64 - 1 }
     requires capacity { capacity ≤ region.id.place.len }
-    ensures same { (section.new.object ≡ section.old.object) × (section.new.slot ≡ section.old.slot) }
+    ensures same { (section.new.object ≡ section.old.object)
+        × (section.new.slot ≡ section.old.slot) }
     ensures place { IsPlace section.new.home }
     ensures root { (result.place ≡ handle.place) × (result.capacity ≡ capacity) }
     ensures next { IfPlace section.old.home (λ s. result.generation ≡ s.generation + 1) }
-    ensures born { IfPlace section.new.home (λ t. t ≡ with_born (born_root result region handle watch)) }
+    ensures born { IfPlace section.new.home (λ t.
+        t ≡ with_born (born_root result region handle watch)) }
 {
     let Home::Root(place) = Section::home(section) else {
         unreachable!()
@@ -110,10 +122,12 @@ pub(crate) fn bear(
 }
 
 // Takes the root of a section out: its region, and the handle of its place.
+#[inline(always)]
 pub(crate) fn end(section: &mut Section<Home>) -> (Region, Handle)
     requires place { IsPlace section.old.home }
     requires present { IfPlace section.old.home MayEnd }
-    ensures same { (section.new.object ≡ section.old.object) × (section.new.slot ≡ section.old.slot) }
+    ensures same { (section.new.object ≡ section.old.object)
+        × (section.new.slot ≡ section.old.slot) }
     ensures place { IsPlace section.new.home }
     ensures root { IfPlace section.old.home (λ s. IfSome s.present (λ r.
         (result.0.id ≡ r.region) × (result.0.piece ≡ r.piece) × (result.1 ≡ r.handle))) }

@@ -5,6 +5,7 @@ ghost use Rattle.pool_law.specs.Limits.{IsShape};
 ghost use Rattle.pool_law.specs.Naming.{noted_by};
 ghost use Rattle.pool_law.specs.NotedHistories.{MayNote};
 ghost use Rattle.pool_table.specs.declared.views.Entry.TheVariants.{At};
+ghost use Rattle.pool_table.specs.Counts.{CountsOne};
 ghost use Rattle.pool_table.specs.Views.{with_entry};
 ghost use Rattle.pool_table.specs.Seats.{view_of, IsSeatOf, HasView, SameSeat};
 ghost use Rattle.pool_table.specs.Hands.{PutsDown};
@@ -30,6 +31,7 @@ pub struct SharedPool {
 }
 
 // Ends a section with this note, and answers its number.
+#[inline(always)]
 pub(crate) fn note<N: Named>(
     table: &PoolTable<Home>,
     seat: &mut PoolSeat,
@@ -40,17 +42,21 @@ pub(crate) fn note<N: Named>(
     requires own { IsSeatOf table.now seat.old }
     requires turn { 0 < (view_of seat.old).turns }
     requires section { MayEnd HomeStands table.now.layout.shape seat.old section noted.now }
-    requires lane { MayNote table.now.layout.shape (view_of seat.old).own.number section.object noted.now.did }
+    requires lane { let v = view_of seat.old in
+        MayNote table.now.layout.shape v.own.number section.object noted.now.did }
     requires hands { PutsDown (view_of seat.old) noted.now.did }
     ensures same { SameSeat seat.old seat.new }
     ensures number { IfSome (view_of seat.old).inside (λ x. result ≡ x.number + 1) }
+    ensures counts { CountsOne (view_of seat.new) }
     ensures noted { let v = view_of seat.old in
-        HasView seat.new (with_entry v (At section.object result (noted_by v.own.number noted.now)) (v.turns - 1)) }
+        let note = At section.object result (noted_by v.own.number noted.now) in
+        HasView seat.new (with_entry v note (v.turns - 1)) }
 {
     table.done::<N>(seat, section)
 }
 
 // The lane of a seat that has one.
+#[inline(always)]
 pub(crate) fn lane_of(seat: &PoolSeat) -> u32
     requires { IsSome (view_of seat.now).own.number }
     ensures lane { result ≡ lane_of seat.now }
@@ -63,6 +69,7 @@ pub(crate) fn lane_of(seat: &PoolSeat) -> u32
 }
 
 // A note with nothing beside what was done.
+#[inline(always)]
 pub(crate) fn noted(did: Did) -> Noted
     ensures { result ≡ plain did }
 {

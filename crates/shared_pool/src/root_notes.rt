@@ -5,6 +5,7 @@ ghost use Rattle.pool_law.specs.Naming.{noted_by};
 ghost use Rattle.pool_law.specs.declared.note.Did.{Did};
 ghost use Rattle.pool_table.specs.declared.views.Entry.TheVariants.{At};
 ghost use Rattle.pool_law.specs.declared.note.Object.TheVariants.{Root};
+ghost use Rattle.pool_table.specs.Counts.{CountsOne};
 ghost use Rattle.pool_table.specs.Views.{with_entry};
 ghost use Rattle.pool_table.specs.Seats.{view_of, IsSeatOf, HasView, SameSeat};
 ghost use Rattle.pool_table.specs.Sections.{MayEnd};
@@ -19,6 +20,7 @@ use pool_law::{Named, RootId};
 use pool_table::{PoolTable, Section};
 
 // Ends a section with the note that these bytes were laid over the root's, and answers its number.
+#[inline(always)]
 pub(crate) fn note_set<N: Named>(
     table: &PoolTable<Home>,
     seat: &mut PoolSeat,
@@ -35,6 +37,7 @@ pub(crate) fn note_set<N: Named>(
         (access root (Did.Set offset bytes.now)) }
     ensures same { SameSeat seat.old seat.new }
     ensures number { IfSome (view_of seat.old).inside (λ x. result ≡ x.number + 1) }
+    ensures counts { CountsOne (view_of seat.new) }
     ensures noted { let v = view_of seat.old in
         let n = noted_by v.own.number (access root (Did.Set offset bytes.now)) in
         HasView seat.new (with_entry v (At section.object result n) (v.turns - 1)) }
@@ -43,6 +46,7 @@ pub(crate) fn note_set<N: Named>(
 }
 
 // Ends a section with the note that the root has these bytes, and answers its number.
+#[inline(always)]
 pub(crate) fn note_get<N: Named>(
     table: &PoolTable<Home>,
     seat: &mut PoolSeat,
@@ -59,6 +63,7 @@ pub(crate) fn note_get<N: Named>(
         (access root (Did.Get offset bytes.now)) }
     ensures same { SameSeat seat.old seat.new }
     ensures number { IfSome (view_of seat.old).inside (λ x. result ≡ x.number + 1) }
+    ensures counts { CountsOne (view_of seat.new) }
     ensures noted { let v = view_of seat.old in
         let n = noted_by v.own.number (access root (Did.Get offset bytes.now)) in
         HasView seat.new (with_entry v (At section.object result n) (v.turns - 1)) }
@@ -67,6 +72,7 @@ pub(crate) fn note_get<N: Named>(
 }
 
 // The same of the bytes that the section's root has there.
+#[inline(always)]
 pub(crate) fn note_shown<N: Named>(
     table: &PoolTable<Home>,
     seat: &mut PoolSeat,
@@ -81,9 +87,11 @@ pub(crate) fn note_shown<N: Named>(
     requires turn { 0 < (view_of seat.old).turns }
     requires object { section.object ≡ Root root.place }
     requires section { let bytes = bytes_at (home_bytes section.home) offset len in
-        MayEnd HomeStands table.now.layout.shape seat.old section (access root (Did.Get offset bytes)) }
+        MayEnd HomeStands table.now.layout.shape seat.old section
+        (access root (Did.Get offset bytes)) }
     ensures same { SameSeat seat.old seat.new }
     ensures number { IfSome (view_of seat.old).inside (λ x. result ≡ x.number + 1) }
+    ensures counts { CountsOne (view_of seat.new) }
     ensures noted { let v = view_of seat.old in
         let bytes = bytes_at (home_bytes section.home) offset len in
         let n = noted_by v.own.number (access root (Did.Get offset bytes)) in

@@ -43,6 +43,7 @@ impl Model for RootPlace {
 
 impl Root {
     // Lays bytes over those that are there, from an offset on.
+    #[inline]
     fn lay(&mut self, offset: u32, bytes: &[u8])
         requires { offset + length bytes.now ≤ length self.old.piece.bytes }
         ensures { let laid = laid_over self.old.piece.bytes offset bytes.now in
@@ -54,6 +55,7 @@ impl Root {
     }
 
     // Copies bytes out, from an offset on.
+    #[inline]
     fn copy(&self, offset: u32, out: &mut [u8])
         requires { offset + length out.old ≤ length self.now.piece.bytes }
         ensures { out.new ≡ bytes_at self.now.piece.bytes offset (length out.old) }
@@ -73,6 +75,7 @@ impl Root {
     }
 
     // How many bytes these are: no more than the region has, so that the number fits.
+    #[inline]
     fn count(&self, bytes: &[u8]) -> u32
         requires { length bytes.now ≤ length self.now.piece.bytes }
         ensures { result ≡ length bytes.now }
@@ -82,6 +85,7 @@ impl Root {
     }
 
     // Records an access.
+    #[inline]
     fn record(&mut self, access: Access)
         requires { self.old.handle.tracker.dropped < 2 ^ 63 }
         ensures { let tracker = with_access self.old.handle.tracker access in
@@ -93,6 +97,7 @@ impl Root {
 
 impl RootPlace {
     /// Notes that the root is still in use.
+    #[inline]
     pub(crate) fn touch(&mut self, lane: u32)
         requires { MayAccess 0 0 self.old }
         ensures { Accesses self.old Did.Touch (Access.Touch lane) self.new }
@@ -104,6 +109,7 @@ impl RootPlace {
     }
 
     /// Lays bytes over those of the root, from an offset on.
+    #[inline]
     pub(crate) fn set(&mut self, lane: u32, offset: u32, bytes: &[u8])
         requires { MayAccess offset (length bytes.now) self.old }
         ensures { Accesses self.old (Did.Set offset bytes.now)
@@ -118,6 +124,7 @@ impl RootPlace {
     }
 
     /// Copies bytes of the root out, from an offset on.
+    #[inline]
     pub(crate) fn get(&mut self, lane: u32, offset: u32, out: &mut [u8])
         requires { MayAccess offset (length out.old) self.old }
         ensures len { length out.new ≡ length out.old }
@@ -133,6 +140,7 @@ impl RootPlace {
     }
 
     /// Calls `f` once with bytes of the root, from an offset on.
+    #[inline]
     pub(crate) fn with_bytes<R, F: FnOnce(&[u8]) -> R>(
         &mut self,
         lane: u32,
@@ -145,7 +153,8 @@ impl RootPlace {
         ensures len { length (bytes_at (shown self.new) offset len) ≡ len }
         ensures answer { FnOnceReturnsAt F.FnOnce f (bytes_at (shown self.new) offset len) result }
         ensures did { let bytes = bytes_at (shown self.new) offset len in
-            Accesses self.old (Did.Get offset bytes) (Access.Get lane offset (length bytes)) self.new }
+            Accesses self.old (Did.Get offset bytes)
+            (Access.Get lane offset (length bytes)) self.new }
     {
         let Some(root) = &mut self.present else {
             unreachable!()
@@ -154,8 +163,9 @@ impl RootPlace {
         root.show(offset, len, f)
     }
 
-    /// A root is born at this place, with the handle of the place and a region whose first bytes are
-    /// cleared. It has the next generation.
+    /// A root is born at this place, with the handle of the place and a region whose first bytes
+    /// are cleared. It has the next generation.
+    #[inline]
     pub(crate) fn bear(
         &mut self,
         mut handle: Handle,
@@ -201,6 +211,7 @@ impl RootPlace {
     }
 
     /// Takes the root out. The place is vacant then.
+    #[inline]
     pub(crate) fn end(&mut self) -> Root
         requires { IsSome self.old.present }
         ensures root { self.old.present ≡ Some (root_seen result) }
@@ -214,6 +225,7 @@ impl RootPlace {
 }
 
 // Clears the first bytes of a piece.
+#[inline]
 fn clear(piece: &mut Piece, count: u32)
     requires { count ≤ length piece.old.bytes }
     ensures { piece.new ≡ with_bytes piece.old (cleared count piece.old.bytes) }
@@ -223,6 +235,7 @@ fn clear(piece: &mut Piece, count: u32)
 }
 
 // Clears the first of these bytes.
+#[inline]
 fn zero(bytes: &mut [u8], count: usize)
     requires { count ≤ length bytes.old }
     ensures { bytes.new ≡ cleared count bytes.old }

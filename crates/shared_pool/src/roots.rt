@@ -22,9 +22,9 @@ use pool_table::EndToken;
 use std::marker::Brand;
 
 impl SharedPool {
-    /// A root is born at a handle's place, with a region whose first bytes, as many as the capacity, are
-    /// cleared. The seat then counts it once. Nobody else can be there, since the place is in this seat's
-    /// hands.
+    /// A root is born at a handle's place, with a region whose first bytes, as many as the
+    /// capacity, are cleared. The seat then counts it once. Nobody else can be there, since the
+    /// place is in this seat's hands.
     pub fn birth(
         &self,
         seat: &mut PoolSeat,
@@ -68,8 +68,8 @@ impl SharedPool {
         (number, root)
     }
 
-    /// Lays bytes over those of a root, from an offset on. With `mark` the seat notes that another seat
-    /// was there.
+    /// Lays bytes over those of a root, from an offset on. With `mark` the seat notes that another
+    /// seat was there.
     pub fn write(
         &self,
         seat: &mut PoolSeat,
@@ -85,7 +85,8 @@ impl SharedPool {
         ensures same { SameSeat seat.old seat.new }
         ensures seat { IsPoolSeat self.now seat.new }
         ensures did { IfDid result (λ number done.
-            IsNoted self.now seat.old seat.new (Root root.place) number (access root (Did.Set offset bytes.now))) }
+            IsNoted self.now seat.old seat.new (Root root.place) number
+            (access root (Did.Set offset bytes.now))) }
         ensures held { IfHeld result (λ held back.
             FoundBusy self.now (Root root.place) mark seat.old seat.new held) }
     {
@@ -99,8 +100,8 @@ impl SharedPool {
         Went::Did(number, ())
     }
 
-    /// Reads bytes of a root, from an offset on. Where another seat was there nothing is read, and with
-    /// `mark` the seat notes that.
+    /// Reads bytes of a root, from an offset on. Where another seat was there nothing is read, and
+    /// with `mark` the seat notes that.
     pub fn read(
         &self,
         seat: &mut PoolSeat,
@@ -117,7 +118,8 @@ impl SharedPool {
         ensures seat { IsPoolSeat self.now seat.new }
         ensures len { length out.new ≡ length out.old }
         ensures did { IfDid result (λ number done.
-            IsNoted self.now seat.old seat.new (Root root.place) number (access root (Did.Get offset out.new))) }
+            IsNoted self.now seat.old seat.new (Root root.place) number
+            (access root (Did.Get offset out.new))) }
         ensures held { IfHeld result (λ held back. (out.new ≡ out.old)
             × FoundBusy self.now (Root root.place) mark seat.old seat.new held) }
     {
@@ -131,8 +133,8 @@ impl SharedPool {
         Went::Did(number, ())
     }
 
-    /// Calls `f` once with bytes of a root, from an offset on, and copies none. It is noted as a get of all
-    /// of them. Where another seat was there `f` comes back.
+    /// Calls `f` once with bytes of a root, from an offset on, and copies none. It is noted as a
+    /// get of all of them. Where another seat was there `f` comes back.
     pub fn with_bytes<R, F: FnOnce(&[u8]) -> R>(
         &self,
         seat: &mut PoolSeat,
@@ -150,7 +152,8 @@ impl SharedPool {
         ensures seat { IsPoolSeat self.now seat.new }
         ensures did { IfDid result (λ number answer. (bytes : List ℕ) × (length bytes ≡ len)
             × FnOnceReturnsAt F.FnOnce f bytes answer
-            × IsNoted self.now seat.old seat.new (Root root.place) number (access root (Did.Get offset bytes))) }
+            × IsNoted self.now seat.old seat.new (Root root.place) number
+            (access root (Did.Get offset bytes))) }
         ensures held { IfHeld result (λ held back. (back ≡ f)
             × FoundBusy self.now (Root root.place) false seat.old seat.new held) }
     {
@@ -204,7 +207,8 @@ impl SharedPool {
         ensures did { IsNotedWith self.now seat.old seat.new token.root result.number
             (end_of token.root result.region.id) Vacated (view_of seat.old).moves }
         ensures region { HoldsRegion self.now seat.new result.region }
-        ensures handle { HoldsHandle self.now seat.new result.handle × (result.handle.place ≡ token.root.place) }
+        ensures handle { HoldsHandle self.now seat.new result.handle
+            × (result.handle.place ≡ token.root.place) }
     {
         let root = token.root();
         let mut section = match self.table.claim_place(seat, root.place, false) {

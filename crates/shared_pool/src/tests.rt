@@ -2,8 +2,10 @@
 
 ghost use Rattle.std.specs.Prelude.{◌≡◌, ◌∷◌, [], IfOk};
 ghost use Rattle.shared_pool.specs.Opening.{IsOpened};
+ghost use Rattle.shared_pool.specs.Live.{AreLiveRoots};
+ghost use Rattle.shared_pool.specs.Seated.{AreDone, parts_in};
 
-use crate::{PoolSeat, SharedPool, Went};
+use crate::{PoolEnd, PoolSeat, SharedPool, Went};
 use pool_law::{Level, Shape};
 use pool_table::Layout;
 use std::alloc::{AllocError, Global};
@@ -82,5 +84,28 @@ fn a_handle_is_taken(rt: HostRuntime) -> Result<(), Fail> {
         }
     }
     leave(Opened { pool, seat });
+    Ok(())
+}
+
+// Closes a pool, or abandons it where memory is refused.
+fn close(alloc: Global, pool: SharedPool, seats: Vec<PoolSeat>) -> Result<PoolEnd, AllocError>
+    requires { AreDone pool seats.items }
+    ensures { IfOk result (λ end. AreLiveRoots (parts_in seats.items) end.live) }
+{
+    match pool.close(alloc, seats) {
+        Ok(end) => Ok(end),
+        Err((pool, seats)) => {
+            pool.abandon(seats);
+            Err(AllocError)
+        }
+    }
+}
+
+#[test]
+fn a_new_pool_closes_with_nothing(rt: HostRuntime) -> Result<(), Fail> {
+    let (pool, seats) = SharedPool::new(rt.alloc(), LAYOUT, &[1])?;
+    let end = close(rt.alloc(), pool, seats)?;
+    assert_eq!(rt; end.chunks.items().len(), 0);
+    assert_eq!(rt; end.live.items().len(), 0);
     Ok(())
 }

@@ -1,7 +1,8 @@
 //! What the calls of a pool answer.
 
 use handle_bin::Handle;
-use pool_law::{CacheNo, Held, Parcel, Region};
+use leak_records::LiveList;
+use pool_law::{CacheNo, ChunkEnds, Held, Parcel, Region};
 use pool_table::EndToken;
 
 /// A call that claims an object: it did its work as the note of this number, or another seat was at
@@ -35,4 +36,12 @@ pub struct Retired {
     pub number: u64,
     pub region: Region,
     pub handle: Handle,
+}
+
+/// What stands at the close of a pool: the chunks that are in a list, by arena and chunk, and the
+/// sampled roots that are live, by root place.
+#[derive(Drop)]
+pub struct PoolEnd {
+    pub chunks: ChunkEnds,
+    pub live: LiveList,
 }

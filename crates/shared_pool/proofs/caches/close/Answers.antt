@@ -4,7 +4,7 @@ use Rattle.pool_law.specs.declared.note.Did.{Did}
 use Rattle.region_cache.specs.Queues.{Queue, Makes}
 use Rattle.region_cache.specs.Standing.{IsRegionOf}
 use Rattle.shared_pool.specs.Standing.{HomeStands}
-use Rattle.shared_pool.proofs.CacheHomes.{cache_more}
+use Rattle.shared_pool.proofs.CacheHomes.{Lens, cache_more}
 use Rattle.shared_pool.proofs.caches.close.Goals as goal
 
 pub returns-clause-stands : goal.returns-clause-stands
@@ -16,4 +16,5 @@ returns-clause-stands c measures setting h n is at =
     measures setting h n is
     (subst (λ (q : Queue). All (IsRegionOf setting.grounds) q.regions) (sym c.close.ensures.rest)
     (subst (λ (q : Queue). All (IsRegionOf setting.grounds) q.regions) (sym now) at.stands.in_place))
+    (subst Lens (sym c.close.ensures.rest) (subst Lens (sym now) at.lens))
     at

@@ -33,7 +33,7 @@ note-number-requires-clause-section c =
     let region = c.args.region in let handle = c.args.handle in let got = c.in-Ok.ensures.got in
     ends l (Root p) c.args.seat.now c.claim_place.new.seat c.in-Ok.section got seat.setting seat.settled call.new.section (birth root region.id c.args.watch)
     (born_next l p c.args.seat.now c.claim_place.new.seat c.in-Ok.section got seat.setting seat.settled call.new.section root region handle c.args.watch (subst (λ (n : ℕ). InHand n v) is c.requires.handle.hand) (subst (λ (n : ℕ). NoneWaits n v) is c.requires.handle.waits)
-    call.ensures.same.0 call.ensures.same.1 call.ensures.place (call.ensures.root.0 ∙ is) call.ensures.next (subst (λ (n : ℕ). n ≤ region.id.place.len) (sym call.ensures.root.1) c.requires.capacity) c.requires.region.here c.requires.region.owner c.requires.region.class is (c.requires.handle.lane ∙ ap (λ (n : ℕ). n / l.shape.handles) is) call.ensures.born)
+    call.ensures.same.0 call.ensures.same.1 call.ensures.place (call.ensures.root.0 ∙ is) call.ensures.next (subst (λ (n : ℕ). n ≤ region.id.place.len) (sym call.ensures.root.1) c.requires.capacity) c.requires.region.here c.requires.region.owner c.requires.region.class c.requires.region.len is (c.requires.handle.lane ∙ ap (λ (n : ℕ). n / l.shape.handles) is) call.ensures.born)
 
 pub note-number-requires-clause-hands : goal.note-number-requires-clause-hands
 note-number-requires-clause-hands c =
@@ -47,7 +47,7 @@ birth-root-requires-clause-hand c =
     let region = c.args.region in let handle = c.args.handle in let got = c.in-Ok.ensures.got in
     let m = made l (Root p) c.args.seat.now c.claim_place.new.seat c.in-Ok.section got seat.setting seat.settled c.args.self.now c.note-number.new.seat call.new.section c.note-number.result (birth root region.id c.args.watch) refl
     (born_next l p c.args.seat.now c.claim_place.new.seat c.in-Ok.section got seat.setting seat.settled call.new.section root region handle c.args.watch (subst (λ (n : ℕ). InHand n v) is c.requires.handle.hand) (subst (λ (n : ℕ). NoneWaits n v) is c.requires.handle.waits)
-    call.ensures.same.0 call.ensures.same.1 call.ensures.place (call.ensures.root.0 ∙ is) call.ensures.next (subst (λ (n : ℕ). n ≤ region.id.place.len) (sym call.ensures.root.1) c.requires.capacity) c.requires.region.here c.requires.region.owner c.requires.region.class is (c.requires.handle.lane ∙ ap (λ (n : ℕ). n / l.shape.handles) is) call.ensures.born)
+    call.ensures.same.0 call.ensures.same.1 call.ensures.place (call.ensures.root.0 ∙ is) call.ensures.next (subst (λ (n : ℕ). n ≤ region.id.place.len) (sym call.ensures.root.1) c.requires.capacity) c.requires.region.here c.requires.region.owner c.requires.region.class c.requires.region.len is (c.requires.handle.lane ∙ ap (λ (n : ℕ). n / l.shape.handles) is) call.ensures.born)
     c.note-number.ensures.number c.note-number.ensures.noted in
     let waits = birth_waits v (Root p) c.note-number.result (v.turns - 1) v.own.number root region.id c.args.watch (subst (λ (n : ℕ). InHand n v) (sym call.ensures.root.0) c.requires.handle.hand) got.learned.view.roots in
     let seen : view_of c.note-number.new.seat ≡ _ = (λ i. (m.seat i).0) in
@@ -59,7 +59,7 @@ birth-root-requires-clause-waits c =
     let region = c.args.region in let handle = c.args.handle in let got = c.in-Ok.ensures.got in
     let m = made l (Root p) c.args.seat.now c.claim_place.new.seat c.in-Ok.section got seat.setting seat.settled c.args.self.now c.note-number.new.seat call.new.section c.note-number.result (birth root region.id c.args.watch) refl
     (born_next l p c.args.seat.now c.claim_place.new.seat c.in-Ok.section got seat.setting seat.settled call.new.section root region handle c.args.watch (subst (λ (n : ℕ). InHand n v) is c.requires.handle.hand) (subst (λ (n : ℕ). NoneWaits n v) is c.requires.handle.waits)
-    call.ensures.same.0 call.ensures.same.1 call.ensures.place (call.ensures.root.0 ∙ is) call.ensures.next (subst (λ (n : ℕ). n ≤ region.id.place.len) (sym call.ensures.root.1) c.requires.capacity) c.requires.region.here c.requires.region.owner c.requires.region.class is (c.requires.handle.lane ∙ ap (λ (n : ℕ). n / l.shape.handles) is) call.ensures.born)
+    call.ensures.same.0 call.ensures.same.1 call.ensures.place (call.ensures.root.0 ∙ is) call.ensures.next (subst (λ (n : ℕ). n ≤ region.id.place.len) (sym call.ensures.root.1) c.requires.capacity) c.requires.region.here c.requires.region.owner c.requires.region.class c.requires.region.len is (c.requires.handle.lane ∙ ap (λ (n : ℕ). n / l.shape.handles) is) call.ensures.born)
     c.note-number.ensures.number c.note-number.ensures.noted in
     let waits = birth_waits v (Root p) c.note-number.result (v.turns - 1) v.own.number root region.id c.args.watch (subst (λ (n : ℕ). InHand n v) (sym call.ensures.root.0) c.requires.handle.hand) got.learned.view.roots in
     let seen : view_of c.note-number.new.seat ≡ _ = (λ i. (m.seat i).0) in
@@ -71,7 +71,7 @@ returns-clause-did c =
     let region = c.args.region in let handle = c.args.handle in let got = c.in-Ok.ensures.got in
     let m = made l (Root p) c.args.seat.now c.claim_place.new.seat c.in-Ok.section got seat.setting seat.settled c.args.self.now c.note-number.new.seat call.new.section c.note-number.result (birth root region.id c.args.watch) refl
     (born_next l p c.args.seat.now c.claim_place.new.seat c.in-Ok.section got seat.setting seat.settled call.new.section root region handle c.args.watch (subst (λ (n : ℕ). InHand n v) is c.requires.handle.hand) (subst (λ (n : ℕ). NoneWaits n v) is c.requires.handle.waits)
-    call.ensures.same.0 call.ensures.same.1 call.ensures.place (call.ensures.root.0 ∙ is) call.ensures.next (subst (λ (n : ℕ). n ≤ region.id.place.len) (sym call.ensures.root.1) c.requires.capacity) c.requires.region.here c.requires.region.owner c.requires.region.class is (c.requires.handle.lane ∙ ap (λ (n : ℕ). n / l.shape.handles) is) call.ensures.born)
+    call.ensures.same.0 call.ensures.same.1 call.ensures.place (call.ensures.root.0 ∙ is) call.ensures.next (subst (λ (n : ℕ). n ≤ region.id.place.len) (sym call.ensures.root.1) c.requires.capacity) c.requires.region.here c.requires.region.owner c.requires.region.class c.requires.region.len is (c.requires.handle.lane ∙ ap (λ (n : ℕ). n / l.shape.handles) is) call.ensures.born)
     c.note-number.ensures.number c.note-number.ensures.noted in
     let waits = birth_waits v (Root p) c.note-number.result (v.turns - 1) v.own.number root region.id c.args.watch (subst (λ (n : ℕ). InHand n v) (sym call.ensures.root.0) c.requires.handle.hand) got.learned.view.roots in
     let seen : view_of c.note-number.new.seat ≡ _ = (λ i. (m.seat i).0) in

@@ -1,5 +1,5 @@
 use Rattle.std.proofs.Common.{◌≡◌, ◌-◌, sym, ap, ◌∙◌, subst, refl}
-use Rattle.std.specs.Prelude.{ℕ, IfSome}
+use Rattle.std.specs.Prelude.{ℕ, IfSome, true}
 use Rattle.pool_law.specs.Limits.{IsShape}
 use Rattle.pool_law.specs.Naming.{noted_by}
 use Rattle.pool_law.specs.declared.note.Noted.{Noted}
@@ -14,7 +14,7 @@ use Rattle.shared_pool.specs.Seats.{IsNoted}
 use Rattle.shared_pool.proofs.CacheHands.{popped_held, hit_own}
 use Rattle.shared_pool.proofs.CacheHomes.{next, is_cache, cache_has}
 use Rattle.shared_pool.proofs.CacheQuotas.{quota_is}
-use Rattle.shared_pool.proofs.Endings.{ends, made, stood}
+use Rattle.shared_pool.proofs.Endings.{ends, made, stood, held_seat}
 use Rattle.shared_pool.proofs.Numbers.{below}
 use Rattle.shared_pool.proofs.pool.SharedPool.pop_cached.Goals as goal
 
@@ -67,3 +67,6 @@ returns-clause-region c =
     (popped_held c.args.self.now lane class old c.claim.new.seat c.note-number.new.seat c.in-Ok.section got seat.setting seat.settled
     (below v.own.number seat.lane lane l.shape.lanes seat.number c.lane_of.ensures.number seat.below) c.requires.class shape
     c.note-number.result (v.turns - 1) (noted_by v.own.number c.noted-noted.result) c.pop-region.result (ap (λ (x : Noted). x.did) n) follows.follows c.pop-region.ensures.here (ap (λ m. m.0) seen.seat))
+
+pub returns-in-Err-clause-seat : goal.returns-in-Err-clause-seat
+returns-in-Err-clause-seat c = held_seat c.args.self.now (Cache c.lane_of.result c.args.class) true c.args.seat.now c.claim.new.seat c.in-Err.held c.requires.seat c.claim.ensures.same c.in-Err.ensures.held

@@ -1,5 +1,5 @@
 use Rattle.std.proofs.Common.{◌≡◌, ap, ◌∙◌, subst, refl}
-use Rattle.std.specs.Prelude.{Option, IfSome}
+use Rattle.std.specs.Prelude.{Option, IfSome, true}
 use Rattle.step_law.specs.Settings.{Setting}
 use Rattle.pool_law.specs.Places.{IsInPlace}
 use Rattle.pool_law.specs.declared.note.Noted.{Noted}
@@ -11,7 +11,7 @@ use Rattle.shared_pool.specs.Notes.{plain}
 use Rattle.shared_pool.specs.Seats.{IsNoted}
 use Rattle.shared_pool.proofs.CacheHands.{puts_down, put_own}
 use Rattle.shared_pool.proofs.CacheHomes.{next}
-use Rattle.shared_pool.proofs.Endings.{ends, made, stood}
+use Rattle.shared_pool.proofs.Endings.{ends, made, stood, held_seat}
 use Rattle.shared_pool.proofs.pool.SharedPool.put_cached.Goals as goal
 
 pub note-number-requires-clause-section : goal.note-number-requires-clause-section
@@ -21,7 +21,7 @@ note-number-requires-clause-section c =
     let here = subst (λ (y : Option Setting). IfSome y (λ t. IsInPlace t.grounds r.id.place r.piece)) seat.settled c.requires.region.here in
     ends l (Cache r.id.owner r.id.class) old c.claim.new.seat c.in-Ok.section got seat.setting seat.settled c.put-put.new.section c.noted-noted.result
     (next l r.id.owner r.id.class old c.claim.new.seat c.in-Ok.section got seat.setting seat.settled c.put-put.new.section (was_put r.id c.put-put.result) c.put-put.ensures.same.0 c.put-put.ensures.same.1 c.put-put.ensures.cache (put_own r.id c.put-put.result)
-    (λ m did_is. c.put-put.ensures.stands (measures_of l.shape (Cache r.id.owner r.id.class)) seat.setting got.history m did_is here (stood l (Cache r.id.owner r.id.class) old c.claim.new.seat c.in-Ok.section got seat.setting seat.settled))
+    (λ m did_is. c.put-put.ensures.stands (measures_of l.shape (Cache r.id.owner r.id.class)) seat.setting got.history m did_is here c.requires.region.len (stood l (Cache r.id.owner r.id.class) old c.claim.new.seat c.in-Ok.section got seat.setting seat.settled))
     c.noted-noted.result (c.noted-noted.ensures ∙ ap plain c.answered.ensures))
 
 pub note-number-requires-clause-hands : goal.note-number-requires-clause-hands
@@ -38,5 +38,8 @@ returns-clause-did c =
     subst (IsNoted c.args.self.now old c.note-number.new.seat (Cache r.id.owner r.id.class) c.note-number.result) n
     (made l (Cache r.id.owner r.id.class) old c.claim.new.seat c.in-Ok.section got seat.setting seat.settled c.args.self.now c.note-number.new.seat c.put-put.new.section c.note-number.result c.noted-noted.result refl
     (next l r.id.owner r.id.class old c.claim.new.seat c.in-Ok.section got seat.setting seat.settled c.put-put.new.section (was_put r.id c.put-put.result) c.put-put.ensures.same.0 c.put-put.ensures.same.1 c.put-put.ensures.cache (put_own r.id c.put-put.result)
-    (λ m did_is. c.put-put.ensures.stands (measures_of l.shape (Cache r.id.owner r.id.class)) seat.setting got.history m did_is here (stood l (Cache r.id.owner r.id.class) old c.claim.new.seat c.in-Ok.section got seat.setting seat.settled))
+    (λ m did_is. c.put-put.ensures.stands (measures_of l.shape (Cache r.id.owner r.id.class)) seat.setting got.history m did_is here c.requires.region.len (stood l (Cache r.id.owner r.id.class) old c.claim.new.seat c.in-Ok.section got seat.setting seat.settled))
     c.noted-noted.result n) c.note-number.ensures.number c.note-number.ensures.noted)
+
+pub returns-in-Err-clause-seat : goal.returns-in-Err-clause-seat
+returns-in-Err-clause-seat c = held_seat c.args.self.now (Cache c.args.region.id.owner c.args.region.id.class) true c.args.seat.now c.claim.new.seat c.in-Err.held c.requires.seat c.claim.ensures.same c.in-Err.ensures.held

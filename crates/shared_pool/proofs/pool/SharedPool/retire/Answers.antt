@@ -85,7 +85,7 @@ returns-clause-did c =
     let n : Noted = noted_by v.own.number (end_of r id) in let w : SeatView = with_ref (with_entry v (At (Root r.place) number n) (v.turns - 1)) r Vacated v.moves in
     let seen : HasView c.vacate.new.seat w = subst (λ (x : RootId × SeatView). HasView c.vacate.new.seat (with_ref x.1 x.0 Vacated x.1.moves)) (λ i. (sym e i, (m.seat i).0)) c.vacate.ensures.noted in
     subst (λ (q : RootId). IsNotedWith c.args.self.now old c.vacate.new.seat q number (end_of q id) Vacated v.moves) e
-    (record { history = m.history; number_is = m.number_is; accepted = m.accepted; seat = seen })
+    (record { history = m.history; number_is = m.number_is; accepted = m.accepted; above = m.above; seat = seen })
 
 pub returns-clause-region : goal.returns-clause-region
 returns-clause-region c =
@@ -108,6 +108,7 @@ returns-clause-region c =
       here = subst (λ (y : Option Setting). IfSome y (λ t. IsInPlace t.grounds id.place region.piece)) (sym (ap (λ (x : SeatView). x.setting) here ∙ seat.settled)) out.in_place;
       owner = out.owner;
       class = out.class;
+      len = out.len;
     }
 
 pub returns-clause-handle : goal.returns-clause-handle

@@ -11,7 +11,7 @@ use Rattle.shared_pool.specs.Holding.{HoldsRegion}
 use Rattle.shared_pool.specs.Notes.{plain, taken_or_full}
 use Rattle.shared_pool.specs.SeatLanes.{lane_of}
 use Rattle.shared_pool.specs.Seats.{IsNoted}
-use Rattle.shared_pool.specs.Standing.{IsArena, IfArena}
+use Rattle.shared_pool.specs.Standing.{IsArena, IfArena, HasClassLength}
 use Rattle.shared_pool.proofs.ArenaHands.{took_region}
 use Rattle.shared_pool.proofs.ArenaHomes.{is_arena, few_takings, next_take, not_yet, on_ground}
 use Rattle.shared_pool.proofs.Endings.{IsNext, stood, ends, made}
@@ -63,7 +63,7 @@ returns-clause-region c =
     below : lane_of c.args.seat.now < l.shape.lanes
     below = subst (λ (o : Option ℕ). unwrap_or o 0 < l.shape.lanes) (sym c.requires.seat.number) c.requires.seat.below
 
-    go : (r : Option Region) → c.noted-noted.result ≡ plain (taken_or_full c.args.class r) → IfSome r (λ x. (x.id.owner ≡ c.lane_of-lane.result) × (x.id.class ≡ c.args.class) × (x.id.uses ≡ 0)) → IfSome r (λ x. IfArena c.in-Ok.section.home (λ a. IsInPlaceAt a x.id x.piece)) →
+    go : (r : Option Region) → c.noted-noted.result ≡ plain (taken_or_full c.args.class r) → IfSome r (λ x. (x.id.owner ≡ c.lane_of-lane.result) × (x.id.class ≡ c.args.class) × (x.id.uses ≡ 0) × HasClassLength x.id) → IfSome r (λ x. IfArena c.in-Ok.section.home (λ a. IsInPlaceAt a x.id x.piece)) →
         IfSome r (λ x. HoldsRegion c.args.self.now c.note-number.new.seat x × (x.id.owner ≡ lane_of c.args.seat.now) × (x.id.class ≡ c.args.class) × (x.id.uses ≡ 0))
     go None n region place = tt
     go (Some r) n region place =
@@ -73,7 +73,8 @@ returns-clause-region c =
               (not_yet l number c.args.seat.now c.claim.new.seat c.in-Ok.section c.in-Ok.ensures.got c.requires.seat.setting c.requires.seat.settled c.take-region.new.section c.noted-noted.result c.args.class r.id n follows)
               region.2 (on_ground l number c.args.seat.now c.claim.new.seat c.in-Ok.section c.in-Ok.ensures.got c.requires.seat.setting c.requires.seat.settled r.id r.piece was place)
               (subst (λ (k : ℕ). k < l.shape.lanes) (sym owner) below)
-              (subst (λ (k : ℕ). k < class_count (geometry_of l.shape)) (sym region.1) c.requires.class),
+              (subst (λ (k : ℕ). k < class_count (geometry_of l.shape)) (sym region.1) c.requires.class)
+              region.3,
           owner,
           region.1,
           region.2,

@@ -4,7 +4,7 @@ use Rattle.pool_law.specs.declared.note.Object.TheVariants.{Root}
 use Rattle.pool_law.specs.declared.report.Access.{Access}
 use Rattle.std.specs.Prelude.{length}
 use Rattle.shared_pool.specs.RootNotes.{access}
-use Rattle.shared_pool.proofs.Endings.{ends, made}
+use Rattle.shared_pool.proofs.Endings.{ends, made, held_seat}
 use Rattle.shared_pool.proofs.PlaceHomes.{accessible, accessing, counts_root}
 use Rattle.shared_pool.proofs.pool.SharedPool.write.Goals as goal
 
@@ -28,3 +28,6 @@ returns-clause-did c =
 
 pub note_set-number-requires-clause-object : goal.note_set-number-requires-clause-object
 note_set-number-requires-clause-object c = c.set.ensures.same.0 ∙ c.in-Ok.ensures.got.object
+
+pub returns-in-Err-clause-seat : goal.returns-in-Err-clause-seat
+returns-in-Err-clause-seat c = held_seat c.args.self.now (Root c.args.root.place) c.args.mark c.args.seat.now c.claim_place.new.seat c.in-Err.held c.requires.seat c.claim_place.ensures.same c.in-Err.ensures.held

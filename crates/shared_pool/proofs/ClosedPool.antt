@@ -1,0 +1,62 @@
+-- What is known of a pool as it closes, from what the table's close told.
+use Rattle.std.proofs.Common.{◌≡◌, ℕ, ◌*◌, List, sym, ap, ◌∙◌, subst, refl, Some, None}
+use Rattle.std.specs.Prelude.{Option, IsSome}
+use Rattle.step_law.specs.Settings.{Setting}
+use Rattle.step_law.specs.declared.Told.{Ghosts}
+use Rattle.size_classes.specs.Sizes.{below}
+use Rattle.pool_law.specs.declared.note.Noted.{Noted}
+use Rattle.pool_law.specs.declared.run.Shape.{Shape}
+use Rattle.pool_law.specs.Legal.{ends_from}
+use Rattle.pool_table.specs.declared.table.PoolSeat.{PoolSeat}
+use Rattle.pool_table.specs.declared.views.Part.{Part}
+use Rattle.pool_table.specs.declared.views.SeatView.{SeatView}
+use Rattle.pool_table.specs.Closed.{IsClosed}
+use Rattle.pool_table.specs.Views.{parts_of}
+use Rattle.shared_pool.specs.declared.home.Home.{Home}
+use Rattle.shared_pool.specs.declared.pool.SharedPool.{SharedPool}
+use Rattle.shared_pool.specs.Closing.{AreLanes, HasNoPlace, AreWhole, logs_in}
+use Rattle.shared_pool.specs.Ends.{AreArenas, ArePlaces, chunks_from, told_from}
+use Rattle.shared_pool.specs.Live.{AreLiveRoots}
+use Rattle.shared_pool.specs.Seated.{AreDone, parts_in}
+use Rattle.shared_pool.specs.Standing.{HomeStands}
+use Rattle.shared_pool.proofs.ClosingLaw.{parts-whole}
+use Rattle.shared_pool.proofs.JoinedParts.{HasNoToken, lanes_joined, places_joined, tokens_joined}
+use Rattle.shared_pool.proofs.LastChunks.{arenas_here, chunks_told}
+use Rattle.shared_pool.proofs.LiveTold.{places_here, live_told}
+
+there : {X : Type 0} (o : Option X) → IsSome o → (x : X) × (o ≡ Some x)
+there None some = absurd (cc some)
+there (Some x) some = (x, refl)
+
+module _ {G : Ghosts Home Noted} (pool : SharedPool) (seats : List (PoolSeat Home G)) (done : AreDone pool seats) (v : SeatView) (parts : parts_of v ≡ parts_in seats)
+    (settled : IsSome v.setting) (homes : List (Option Home)) (words : List ℕ) (closed : IsClosed HomeStands pool.table.layout v homes words) where
+  abbrev shape : Shape
+  shape = pool.table.layout.shape
+
+  found : (x : Setting) × (v.setting ≡ Some x)
+  found = there v.setting settled
+
+  lanes : AreLanes shape (parts_of v)
+  lanes = lanes_joined pool seats done v parts
+
+  none : HasNoPlace v
+  none = places_joined pool seats done v parts
+
+  tokens : HasNoToken (parts_of v)
+  tokens = tokens_joined pool seats done v parts
+
+  pub arenas : AreArenas shape homes
+  arenas = arenas_here pool.table.layout v homes words closed lanes found.0 found.1
+
+  pub places : ArePlaces shape homes
+  places = places_here pool.table.layout v homes words closed lanes found.0 found.1 none tokens
+
+  pub whole : AreWhole shape (parts_in seats)
+  whole = subst (AreWhole shape) parts (parts-whole HomeStands pool.table.layout v homes words closed lanes none)
+
+  pub chunks : chunks_from homes (below shape.arenas) ≡ ends_from shape (logs_in (parts_in seats)) (below shape.arenas)
+  chunks = chunks_told pool.table.layout v homes words closed lanes found.0 found.1 ∙ ap (λ (ps : List Part). ends_from shape (logs_in ps) (below shape.arenas)) parts
+
+  pub live : AreLiveRoots (parts_in seats) (told_from shape homes words (below (shape.lanes * shape.handles)))
+  live = subst (λ (ps : List Part). AreLiveRoots ps (told_from shape homes words (below (shape.lanes * shape.handles)))) parts
+      (live_told pool.table.layout v homes words closed lanes found.0 found.1 none tokens)

@@ -1,0 +1,103 @@
+//! How a pool ends: closed, with what stands then, or abandoned.
+
+ghost use Rattle.std.specs.Prelude.{◌≡◌, ◌*◌, ◌<◌, ◌≤◌, ℕ, List, length, All, IfErr, IfOk, IsSome};
+ghost use Rattle.size_classes.specs.Sizes.{below};
+ghost use Rattle.pool_law.specs.Legal.{ends_from};
+ghost use Rattle.pool_table.specs.Views.{parts_of};
+ghost use Rattle.pool_table.specs.Seats.{view_of, IsSeatOf, IsOutside};
+ghost use Rattle.shared_pool.specs.Closing.{AreWhole, logs_in};
+ghost use Rattle.shared_pool.specs.Joining.{AreApart};
+ghost use Rattle.shared_pool.specs.Live.{AreLiveRoots};
+ghost use Rattle.shared_pool.specs.Seated.{AreDone, parts_in};
+ghost use Rattle.shared_pool.specs.Seats.{IsPoolSeat};
+
+use crate::home::Home;
+use crate::last_chunks::chunk_ends;
+use crate::live_roots::live_roots;
+use crate::opening::spend;
+use crate::pool::{PoolSeat, SharedPool};
+use crate::room::Room;
+use crate::went::PoolEnd;
+use pool_law::list::Items;
+use pool_table::PoolTable;
+use std::alloc::Global;
+use std::mem::ManuallyDrop;
+
+impl SharedPool {
+    /// Closes the pool with the seats of all lanes, in order, which have nothing in hand, and tells
+    /// what stands then: the chunks that are in a list, and the sampled roots that are live.
+    ///
+    /// It takes its memory first. After want of memory the pool and the seats come back as they
+    /// were. The memory of the arenas stays taken until the program ends.
+    pub fn close(
+        self,
+        alloc: Global,
+        seats: Vec<PoolSeat>,
+    ) -> Result<PoolEnd, (SharedPool, Vec<PoolSeat>)>
+        requires seats { AreDone self seats.items }
+        ensures err { IfErr result (λ e. (e.0 ≡ self) × (e.1.items ≡ seats.items)) }
+        ensures whole { IfOk result (λ end.
+            AreWhole self.table.layout.shape (parts_in seats.items)) }
+        ensures chunks { IfOk result (λ end. let shape = self.table.layout.shape in
+            end.chunks ≡ ends_from shape (logs_in (parts_in seats.items)) (below shape.arenas)) }
+        ensures live { IfOk result (λ end. AreLiveRoots (parts_in seats.items) end.live) }
+    {
+        let Ok(room) = Room::reserve(alloc, &self.layout.shape) else {
+            return Err((self, seats));
+        };
+        let SharedPool { table, layout } = self;
+        let seat = joined(&table, seats);
+        let (mut homes, words) = table.close_with(seat);
+        let Room {
+            chunks,
+            live,
+            records,
+        } = room;
+        let chunks = chunk_ends(&homes, &layout.shape, chunks);
+        let live = live_roots(&mut homes, &words, &layout.shape, records, live);
+        leave_all(homes);
+        Ok(PoolEnd {
+            chunks: Items::of(chunks),
+            live: Items::of(live),
+        })
+    }
+
+    /// Spends the pool and its seats as they are. All memory of the pool stays taken until the
+    /// program ends.
+    pub fn abandon(self, seats: Vec<PoolSeat>)
+        requires seats { All (λ s. IsPoolSeat self s) seats.items }
+    {
+        let _pool = unsafe { ManuallyDrop::new_unchecked(self) };
+        let _seats = unsafe { ManuallyDrop::new_unchecked(seats) };
+    }
+}
+
+// The seat that has the parts of all of these, in order.
+fn joined(table: &PoolTable<Home>, mut seats: Vec<PoolSeat>) -> PoolSeat
+    requires some_seat { 0 < length seats.items }
+    requires apart { AreApart table.now seats.items }
+    ensures own { IsSeatOf table.now result }
+    ensures outside { IsOutside result }
+    ensures settled { IsSome (view_of result).setting }
+    ensures parts { parts_of (view_of result) ≡ parts_in seats.items }
+{
+    seats.as_mut_slice().reverse();
+    let Some(mut whole) = seats.pop() else {
+        unreachable!()
+    };
+    while let Some(seat) = seats.pop() {
+        table.join(&mut whole, seat);
+    }
+    seats.destroy_empty();
+    whole
+}
+
+// Spends home values. Their memory stays taken until the program ends.
+fn leave_all(mut homes: Vec<Option<Home>>) {
+    while let Some(home) = homes.pop() {
+        if let Some(home) = home {
+            spend(home);
+        }
+    }
+    homes.destroy_empty();
+}
