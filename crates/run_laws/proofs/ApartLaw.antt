@@ -1,5 +1,5 @@
 -- Regions of different takings that overlap: one came back before the other was taken.
-use Rattle.std.proofs.Common.{⊎_elim, inl, inr, ◌≡◌, ℕ, zero, suc, ◌+◌, ◌≤◌, List, [], ◌∷◌, ◌++◌, refl, sym, ap, arith, Bool, true, false, Some, None, ◌∙◌, eq-eqb}
+use Rattle.std.proofs.Common.{⊎_elim, inl, inr, ◌≡◌, ℕ, zero, suc, ◌+◌, ◌≤◌, List, [], ◌∷◌, ◌++◌, refl, sym, ap, arith, Bool, true, false, Some, ◌∙◌, eq-eqb}
 use Rattle.std.specs.Prelude.{◌⊎◌, ◌<◌, ◌==◌, IsTrue, slice_get}
 use Rattle.std.specs.List.{list_any}
 use Rattle.pool_law.specs.declared.id.RegionId.{RegionId}
@@ -13,13 +13,13 @@ use Rattle.pool_law.specs.Limits.{geometry_of}
 use Rattle.pool_law.specs.Same.{same_taking}
 use Rattle.pool_law.specs.Arenas.{Arena, new_arena, arena_step}
 use Rattle.pool_law.specs.Histories.{after, arena_after}
-use Rattle.pool_law.specs.Logs.{Logs, dids, log_of, history_of, entries_of}
+use Rattle.pool_law.specs.Logs.{Logs, dids, log_of, history_of}
 use Rattle.pool_law.specs.Legal.{HistoriesHold}
 use Rattle.pool_law.specs.Lives.{Done, arena_of, with_uses, Before, LieApart}
 use Rattle.arena_law.specs.Returns.{gives}
-use Rattle.run_laws.specs.Hands.{hand_after}
 use Rattle.pool_law.proofs.SameLemmas.{same_region-is}
 use Rattle.pool_law.proofs.PatternLemmas.{same_taking-refl, both_true}
+use Rattle.run_laws.proofs.LogEntries.{LanesAct}
 use Rattle.run_laws.proofs.Numbered.{in-log}
 use Rattle.arena_law.proofs.ReturnLaw.{comes-back, after-append}
 use Rattle.run_laws.proofs.Placed.{placed, is-some, total-found, one-of-true}
@@ -69,18 +69,18 @@ pub gives-it : (r : RegionId) (d : Did) → gives r d ≡ true → (x : RegionId
 gives-it r (Give x) e = (x, refl, e)
 gives-it r _ e = absurd (cc e)
 
-module _ (shape : Shape) (logs : Logs) (holds : HistoriesHold shape logs) (hands : (lane : ℕ) → hand_after None (log_of (entries_of logs) lane) ≡ Some None) where
+module _ (shape : Shape) (logs : Logs) (holds : HistoriesHold shape logs) (acts : LanesAct logs) where
   -- a region that is used was taken
   pub taken-of : (n : ℕ) (r : RegionId) → 1 ≤ births_in logs (with_uses r n) → 1 ≤ takes_in logs (with_uses r 0)
-  taken-of zero r h = absurd (omega (arith, unused-none shape logs holds hands (with_uses r 0) refl, h))
+  taken-of zero r h = absurd (omega (arith, unused-none shape logs holds acts (with_uses r 0) refl, h))
   taken-of (suc n) r h =
-      let step : births_in logs (with_uses r (n + 1)) ≡ takes_in logs (with_uses r n) + hits_in logs (with_uses r n) = births-next shape logs holds hands (with_uses r n) in
+      let step : births_in logs (with_uses r (n + 1)) ≡ takes_in logs (with_uses r n) + hits_in logs (with_uses r n) = births-next shape logs holds acts (with_uses r n) in
       let number : suc n ≡ n + 1 = omega arith in
       go n (λ more. taken-of n r more) (omega (arith, h, step, ap (λ m. births_in logs (with_uses r m)) number))
     where
       go : (n : ℕ) → (1 ≤ births_in logs (with_uses r n) → 1 ≤ takes_in logs (with_uses r 0)) → 1 ≤ takes_in logs (with_uses r n) + hits_in logs (with_uses r n) → 1 ≤ takes_in logs (with_uses r 0)
-      go zero again some = omega (arith, some, hits-less shape logs holds hands (with_uses r 0), unused-none shape logs holds hands (with_uses r 0) refl)
-      go (suc m) again some = again (omega (arith, some, takes-unused shape logs holds hands (with_uses r (suc m)) (omega arith), hits-less shape logs holds hands (with_uses r (suc m))))
+      go zero again some = omega (arith, some, hits-less shape logs holds acts (with_uses r 0), unused-none shape logs holds acts (with_uses r 0) refl)
+      go (suc m) again some = again (omega (arith, some, takes-unused shape logs holds acts (with_uses r (suc m)) (omega arith), hits-less shape logs holds acts (with_uses r (suc m))))
 
   pub taken-at : (r : RegionId) → 1 ≤ takes_in logs (with_uses r 0) → (j : ℕ) × (slice_get (dids (history_of (arena_of r) logs)) j ≡ Some (Take r.class (with_uses r 0)))
   taken-at r h =
@@ -126,8 +126,8 @@ module _ (shape : Shape) (logs : Logs) (holds : HistoriesHold shape logs) (hands
       go : (t : Bool) → same_taking a b ≡ t → IsTrue (same_taking a b) ⊎ (Before logs a b ⊎ Before logs b a)
       go true e = inl e
       go false e =
-          let ta : (j : ℕ) × (slice_get (dids (history_of (arena_of a) logs)) j ≡ Some (Take a.class (with_uses a 0))) = taken-at a (taken-of a.uses a (use-counts shape logs holds hands first a u)) in
-          let tb : (j : ℕ) × (slice_get (dids (history_of (arena_of b) logs)) j ≡ Some (Take b.class (with_uses b 0))) = taken-at b (taken-of b.uses b (use-counts shape logs holds hands second b v)) in
+          let ta : (j : ℕ) × (slice_get (dids (history_of (arena_of a) logs)) j ≡ Some (Take a.class (with_uses a 0))) = taken-at a (taken-of a.uses a (use-counts shape logs holds acts first a u)) in
+          let tb : (j : ℕ) × (slice_get (dids (history_of (arena_of b) logs)) j ≡ Some (Take b.class (with_uses b 0))) = taken-at b (taken-of b.uses b (use-counts shape logs holds acts second b v)) in
           let tb_a : slice_get (dids (history_of (arena_of a) logs)) tb.0 ≡ Some (Take b.class (with_uses b 0)) = ap (λ k. slice_get (dids (history_of (Object.Arena k) logs)) tb.0) over.arena ∙ tb.1 in
           ⊎_elim
           (λ less. inr (inl (one-way a.place.arena a b ta.0 tb.0 refl over.arena ta.1 tb_a less over)))

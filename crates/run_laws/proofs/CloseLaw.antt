@@ -1,89 +1,32 @@
 -- Each cache of a lane ends empty: it is closed, and what it then has is shed.
-use Rattle.std.proofs.Common.{inl, inr, ◌≡◌, ℕ, zero, suc, ◌+◌, ◌-◌, ◌≤◌, List, [], ◌∷◌, ◌++◌, length, min, take, drop, refl, sym, ap, subst, arith, Bool, true, false, Some, None, ◌∙◌, eqb-true, eq-eqb}
+use Rattle.std.proofs.Common.{inl, inr, ◌≡◌, ℕ, zero, suc, ◌+◌, ◌-◌, ◌≤◌, List, [], ◌∷◌, ◌++◌, length, min, refl, sym, ap, subst, arith, Bool, true, false, Some, None, ◌∙◌, eqb-true, eq-eqb}
 use Rattle.std.specs.Prelude.{◌≢◌, ◌<◌, ◌==◌, ◌&&◌, not, nat_lt, if◌then◌else◌, Option, option_and_then}
 use Rattle.size_classes.specs.Sizes.{below}
 use Rattle.pool_law.specs.declared.id.RegionId.{RegionId}
-use Rattle.pool_law.specs.declared.command.Command.{Command}
 use Rattle.pool_law.specs.declared.note.Object.{Object}
 use Rattle.pool_law.specs.declared.note.Did.{Did}
 use Rattle.pool_law.specs.declared.note.Did.TheVariants.{Give, Hit, Miss, Kept, Back, Trim, Close, Shed}
 use Rattle.pool_law.specs.declared.note.Note.{Note}
 use Rattle.pool_law.specs.declared.note.Note.TheVariants.{At, Ref, Busy}
-use Rattle.pool_law.specs.declared.run.Shape.{Shape}
-use Rattle.pool_law.specs.declared.run.Reply.{Reply}
-use Rattle.pool_law.specs.declared.run.Answered.{Answered}
 use Rattle.pool_law.specs.Same.{same_object, same_region}
 use Rattle.pool_law.specs.Limits.{cached_classes, cache_capacity}
 use Rattle.pool_law.specs.Logs.{Entry}
-use Rattle.pool_law.specs.Reading.{◌>>=◌, front, at_end}
-use Rattle.arena_law.specs.Slots.{EachOf}
+use Rattle.pool_law.specs.Reading.{◌>>=◌, at_end}
 use Rattle.pool_law.specs.Caches.{Cache, new_cache, front_taken, after_hit, after_shed, is_empty, refusal_is, trim_quota, cache_step, is_own, lane_cache_step}
 use Rattle.pool_law.specs.Histories.{after, cache_after}
 use Rattle.run_laws.specs.CacheCounts.{total_by}
-use Rattle.pool_law.specs.Patterns.{Entries, done_at, next_at, given_of, give_back}
-use Rattle.pool_law.specs.Lanes.{LaneState, new_lane, Answer, answer_of}
-use Rattle.pool_law.specs.LaneLaw.{state_after, lane_step, lane_run, pieces, behind, shed_of, closed_with, sheds, close_cache, close_caches, closing, note_counts, replies_in, IsLaneLog}
-use Rattle.run_laws.proofs.HandLaw.{bind-some, front-is}
-use Rattle.run_laws.proofs.LogHands.{at_end-is, take-drop}
-use Rattle.pool_law.proofs.HistoryLemmas.{append-assoc}
+use Rattle.pool_law.specs.Patterns.{Entries, next_at, give_back}
+use Rattle.pool_law.specs.LaneLaw.{shed_of, closed_with, sheds, close_cache, close_caches, closing}
 use Rattle.run_laws.proofs.CacheLaw.{if_so-is, if-some, unless-some}
 use Rattle.run_laws.proofs.PlaceLaw.{if_so-test}
 use Rattle.pool_law.proofs.SameLemmas.{and-first, and-second}
 use Rattle.arena_law.proofs.GiveSteps.{IsOne}
 use Rattle.arena_law.proofs.ReturnLaw.{IsOne-front, IsOne-last}
-use Rattle.run_laws.proofs.Sums.{sum_by}
-use Rattle.pool_law.proofs.SameLemmas.{same_object-is}
+use Rattle.run_laws.proofs.Numbered.{at_object, plain}
+use Rattle.run_laws.proofs.Acts.{sum_notes, notes-append, IsOther, Less, less-acts, all_notes}
+use Rattle.run_laws.proofs.LaneActs.{bind-some, next_at-note, give_back-note, at_end-is, Parts, OfCommands}
 use Rattle.pool_law.proofs.PatternLemmas.{same_object-refl}
-use Rattle.run_laws.proofs.DueLaw.{Due, due_on, due_after}
-use Rattle.run_laws.proofs.LaneDues.{answer_of-empties}
 use Rattle.std.proofs.lemmas.Bool.{cond_both}
-
-abbrev pub Calm : Entries → Type 0
-Calm es = due_after None es ≡ Some None
-
-pub due-append : (xs ys : Entries) (h k : Due) → due_after h xs ≡ Some k → due_after h (xs ++ ys) ≡ due_after k ys
-due-append [] ys h k e = let same : h ≡ k = cc e in ap (λ x. due_after x ys) same
-due-append (x ∷ xs) ys h k e =
-    let f : (m : Due) × (due_on h x.note ≡ Some m) × (due_after m xs ≡ Some k) = bind-some (due_on h x.note) (λ m. due_after m xs) k e in
-    ap (λ o. o >>= (λ m. due_after m (xs ++ ys))) f.1 ∙ due-append xs ys f.0 k f.2
-
-pub lane_step-calm : (shape : Shape) (lane : ℕ) (s : LaneState) (c : Command) (es : Entries) (p : Reply × LaneState) → lane_step shape lane s c es ≡ Some p → Calm es
-lane_step-calm shape lane s c es p is =
-    let f : (x : Answer × Entries) × (answer_of shape lane s c es ≡ Some x) × ((at_end x.1 >>= (λ _. Some (x.0.reply, state_after s es x.0))) ≡ Some p) = bind-some (answer_of shape lane s c es) (λ x. at_end x.1 >>= (λ _. Some (x.0.reply, state_after s es x.0))) p is in
-    let u : (u : Unit {0}) × (at_end f.0.1 ≡ Some u) × (Some (f.0.0.reply, state_after s es f.0.0) ≡ Some p) = bind-some (at_end f.0.1) (λ _. Some (f.0.0.reply, state_after s es f.0.0)) p f.2 in
-    answer_of-empties shape lane s c es f.0 f.1 ∙ ap (due_after None) (at_end-is f.0.1 u.0 u.1)
-
-pub lane_run-calm : (shape : Shape) (lane : ℕ) (s : LaneState) (cs : List Command) (groups : List Entries) (p : List Reply × LaneState) → lane_run shape lane s cs groups ≡ Some p → EachOf Calm groups
-lane_run-calm shape lane s [] [] p is = tt
-lane_run-calm shape lane s [] (g ∷ groups) p is = absurd (cc is)
-lane_run-calm shape lane s (c ∷ cs) [] p is = absurd (cc is)
-lane_run-calm shape lane s (c ∷ cs) (g ∷ groups) p is =
-    let f : (x : Reply × LaneState) × (lane_step shape lane s c g ≡ Some x) × ((lane_run shape lane x.1 cs groups >>= (λ y. Some (x.0 ∷ y.0, y.1))) ≡ Some p) = bind-some (lane_step shape lane s c g) (λ x. lane_run shape lane x.1 cs groups >>= (λ y. Some (x.0 ∷ y.0, y.1))) p is in
-    let r : (y : List Reply × LaneState) × (lane_run shape lane f.0.1 cs groups ≡ Some y) × (Some (f.0.0 ∷ y.0, y.1) ≡ Some p) = bind-some (lane_run shape lane f.0.1 cs groups) (λ y. Some (f.0.0 ∷ y.0, y.1)) p f.2 in
-    (lane_step-calm shape lane s c g f.0 f.1, lane_run-calm shape lane f.0.1 cs groups r.0 r.1)
-
-pub pieces-calm : (ns : List ℕ) (es : Entries) → EachOf Calm (pieces ns es) → (first : Entries) × (es ≡ first ++ behind ns es) × Calm first
-pieces-calm [] es h = ([], refl, refl)
-pieces-calm (n ∷ ns) es h =
-    let r : (first : Entries) × (drop n es ≡ first ++ behind ns (drop n es)) × Calm first = pieces-calm ns (drop n es) h.1 in
-    (take n es ++ r.0, sym (take-drop n es) ∙ ap (λ xs. take n es ++ xs) r.1 ∙ sym (append-assoc (take n es) r.0 (behind ns (drop n es))), due-append (take n es) r.0 None None h.0 ∙ r.2)
-
--- a log is what its commands note, and the closing of its caches
-abbrev pub Parts : ℕ → Entries → Type 0
-Parts lane es = (first : Entries) × (last : Entries) × (es ≡ first ++ last) × Calm first × (closing lane last ≡ Some tt)
-
-pub log-parts : (shape : Shape) (lane : ℕ) (commands : List Command) (replies : List Answered) (es : Entries) → IsLaneLog shape lane commands replies es → Parts lane es
-log-parts shape lane commands replies es log =
-    let p : (first : Entries) × (es ≡ first ++ behind (note_counts replies) es) × Calm first = pieces-calm (note_counts replies) es (lane_run-calm shape lane new_lane commands (pieces (note_counts replies) es) (replies_in replies, log.last) log.answered) in
-    (p.0, behind (note_counts replies) es, p.1, p.2, log.closes)
-
--- a sum over entries, by their notes
-abbrev pub sum_notes : (Note → ℕ) → Entries → ℕ
-sum_notes f es = sum_by (λ e. f e.note) es
-
-pub notes-append : (f : Note → ℕ) (xs ys : Entries) → sum_notes f (xs ++ ys) ≡ sum_notes f xs + sum_notes f ys
-notes-append f [] ys = omega arith
-notes-append f (x ∷ xs) ys = omega (arith, notes-append f xs ys)
 
 abbrev pub many : ℕ → ℕ → ℕ
 many zero w = 0
@@ -97,33 +40,11 @@ pub many-one : (n : ℕ) → many n 1 ≡ n
 many-one zero = refl
 many-one (suc n) = omega (arith, many-one n)
 
-pub next_at-note : (o : Object) (es : Entries) (p : Did × Entries) → next_at o es ≡ Some p → (e : Entry) × (k : ℕ) × (es ≡ e ∷ p.1) × (e.note ≡ At o k p.0)
-next_at-note o es p is =
-    let f : (x : Entry × Entries) × (front es ≡ Some x) × ((done_at o x.0.note >>= (λ d. Some (d, x.1))) ≡ Some p) = bind-some (front es) (λ x. done_at o x.0.note >>= (λ d. Some (d, x.1))) p is in
-    let d : (d : Did) × (done_at o f.0.0.note ≡ Some d) × (Some (d, f.0.1) ≡ Some p) = bind-some (done_at o f.0.0.note) (λ d. Some (d, f.0.1)) p f.2 in
-    let same : ◌≡◌ {A = Did × Entries} (d.0, f.0.1) p = cc d.2 in
-    let n : (k : ℕ) × (f.0.0.note ≡ At o k d.0) = note f.0.0.note d.0 d.1 in
-    (f.0.0, n.0, front-is es f.0 f.1 ∙ ap (λ q. f.0.0 ∷ q.1) same, n.1 ∙ ap (λ q. At o n.0 q.0) same)
-  where
-    note : (n : Note) (d : Did) → done_at o n ≡ Some d → (k : ℕ) × (n ≡ At o k d)
-    note (At other k did) d e =
-        cond_both (same_object o other) (Some did) None (λ z. z ≡ Some d → (k' : ℕ) × (At other k did ≡ At o k' d))
-        (λ test is. let same : did ≡ d = cc is in (k, λ i. At (sym (same_object-is o other test) i) k (same i))) (λ _ is. absurd (cc is)) e
-    note (Ref root did) d e = absurd (cc e)
-    note (Busy held) d e = absurd (cc e)
-
 module _ (f : Note → ℕ) (gives : (o : Object) (k : ℕ) (r : RegionId) → f (At o k (Give r)) ≡ 0) where
   pub give_back-sum : (r : RegionId) (es rest : Entries) → give_back r es ≡ Some rest → sum_notes f es ≡ sum_notes f rest
   give_back-sum r es rest is =
-      let x : (x : Did × Entries) × (next_at (Object.Arena r.place.arena) es ≡ Some x) × ((given_of r x.0 >>= (λ _. Some x.1)) ≡ Some rest) = bind-some (next_at (Object.Arena r.place.arena) es) (λ x. given_of r x.0 >>= (λ _. Some x.1)) rest is in
-      let u : (u : Unit {0}) × (given_of r x.0.0 ≡ Some u) × (Some x.0.1 ≡ Some rest) = bind-some (given_of r x.0.0) (λ _. Some x.0.1) rest x.2 in
-      let same : x.0.1 ≡ rest = cc u.2 in
-      let e : (e : Entry) × (k : ℕ) × (es ≡ e ∷ x.0.1) × (e.note ≡ At (Object.Arena r.place.arena) k x.0.0) = next_at-note (Object.Arena r.place.arena) es x.0 x.1 in
-      omega (arith, ap (sum_notes f) e.2, ap f e.3, given x.0.0 e.1 u.0 u.1, ap (sum_notes f) same)
-    where
-      given : (d : Did) (k : ℕ) (u : Unit {0}) → given_of r d ≡ Some u → f (At (Object.Arena r.place.arena) k d) ≡ 0
-      given (Give x) k u e = gives (Object.Arena r.place.arena) k x
-      given _ k u e = absurd (cc e)
+      let g = give_back-note r es rest is in
+      omega (arith, ap (sum_notes f) g.2, ap f g.3, gives (Object.Arena r.place.arena) g.1 r)
 
   module _ (lane class : ℕ) (w : ℕ) (shed : (k : ℕ) (r : RegionId) → f (At (Object.Cache lane class) k (Shed r)) ≡ w) where
     pub sheds-sum : (n : ℕ) (es rest : Entries) → sheds lane class n es ≡ Some rest → sum_notes f es ≡ many n w + sum_notes f rest
@@ -156,15 +77,6 @@ close_cache-is lane class es rest is =
     let q : (q : ℕ) × (closed_with x.0.0 ≡ Some q) × (sheds lane class q x.0.1 ≡ Some rest) = bind-some (closed_with x.0.0) (λ q. sheds lane class q x.0.1) rest x.2 in
     (q.0, x.0.0, x.0.1, x.1, q.1, q.2)
 
--- what a closing has nothing of
-pub closing-none : (f : Note → ℕ) → ((o : Object) (k : ℕ) (r : RegionId) → f (At o k (Give r)) ≡ 0) → ((o : Object) (k : ℕ) (r : RegionId) → f (At o k (Shed r)) ≡ 0) → ((o : Object) (k q : ℕ) → f (At o k (Close q)) ≡ 0) →
-    (lane : ℕ) (classes : List ℕ) (es rest : Entries) → close_caches lane classes es ≡ Some rest → sum_notes f es ≡ sum_notes f rest
-closing-none f gives shed close lane [] es rest is = let same : es ≡ rest = cc is in ap (sum_notes f) same
-closing-none f gives shed close lane (class ∷ classes) es rest is =
-    let x : (x : Entries) × (close_cache lane class es ≡ Some x) × (close_caches lane classes x ≡ Some rest) = bind-some (close_cache lane class es) (λ x. close_caches lane classes x) rest is in
-    let c : (q : ℕ) × (d : Did) × (mid : Entries) × (next_at (Object.Cache lane class) es ≡ Some (d, mid)) × (closed_with d ≡ Some q) × (sheds lane class q mid ≡ Some x.0) = close_cache-is lane class es x.0 x.1 in
-    omega (arith, closed-sum f gives lane class 0 (shed (Object.Cache lane class)) (λ q. 0) (close (Object.Cache lane class)) c.0 c.1 es c.2 x.0 c.3 c.4 c.5, many-none c.0, closing-none f gives shed close lane classes x.0 rest x.2)
-
 -- at one cache: what may be shed, and what is shed
 abbrev pub one : Bool → ℕ
 one b = if b then 1 else 0
@@ -182,11 +94,6 @@ abbrev pub close_one : Did → ℕ
 close_one (Close q) = 1
 close_one _ = 0
 
-abbrev pub at_cache : (Did → ℕ) → Object → Note → ℕ
-at_cache f o (At other k d) = if same_object o other then f d else 0
-at_cache f o (Ref root did) = 0
-at_cache f o (Busy held) = 0
-
 pub zero-if : (b : Bool) → ◌≡◌ {A = ℕ} (if b then 0 else 0) 0
 zero-if true = refl
 zero-if false = refl
@@ -196,28 +103,28 @@ many-if true q = sym (many-one q)
 many-if false q = sym (many-none q)
 
 pub closing-even : (o : Object) (lane : ℕ) (classes : List ℕ) (es rest : Entries) → close_caches lane classes es ≡ Some rest →
-    sum_notes (at_cache grant o) es + sum_notes (at_cache shed_one o) rest ≡ sum_notes (at_cache shed_one o) es + sum_notes (at_cache grant o) rest
-closing-even o lane [] es rest is = let same : es ≡ rest = cc is in omega (arith, ap (sum_notes (at_cache grant o)) same, ap (sum_notes (at_cache shed_one o)) same)
+    sum_notes (at_object o (plain grant)) es + sum_notes (at_object o (plain shed_one)) rest ≡ sum_notes (at_object o (plain shed_one)) es + sum_notes (at_object o (plain grant)) rest
+closing-even o lane [] es rest is = let same : es ≡ rest = cc is in omega (arith, ap (sum_notes (at_object o (plain grant))) same, ap (sum_notes (at_object o (plain shed_one))) same)
 closing-even o lane (class ∷ classes) es rest is =
     let x : (x : Entries) × (close_cache lane class es ≡ Some x) × (close_caches lane classes x ≡ Some rest) = bind-some (close_cache lane class es) (λ x. close_caches lane classes x) rest is in
     let c : (q : ℕ) × (d : Did) × (mid : Entries) × (next_at (Object.Cache lane class) es ≡ Some (d, mid)) × (closed_with d ≡ Some q) × (sheds lane class q mid ≡ Some x.0) = close_cache-is lane class es x.0 x.1 in
     let b : Bool = same_object o (Object.Cache lane class) in
-    let g : sum_notes (at_cache grant o) es ≡ (if same_object o (Object.Cache lane class) then c.0 else 0) + (many c.0 0 + sum_notes (at_cache grant o) x.0) =
-    closed-sum (at_cache grant o) (λ other k r. zero-if (same_object o other)) lane class 0 (λ k r. zero-if (same_object o (Object.Cache lane class))) (λ q. if same_object o (Object.Cache lane class) then q else 0) (λ k q. refl) c.0 c.1 es c.2 x.0 c.3 c.4 c.5 in
-    let s : sum_notes (at_cache shed_one o) es ≡ 0 + (many c.0 (if same_object o (Object.Cache lane class) then 1 else 0) + sum_notes (at_cache shed_one o) x.0) =
-    closed-sum (at_cache shed_one o) (λ other k r. zero-if (same_object o other)) lane class (if same_object o (Object.Cache lane class) then 1 else 0) (λ k r. refl) (λ q. 0) (λ k q. zero-if (same_object o (Object.Cache lane class))) c.0 c.1 es c.2 x.0 c.3 c.4 c.5 in
+    let g : sum_notes (at_object o (plain grant)) es ≡ (if same_object o (Object.Cache lane class) then c.0 else 0) + (many c.0 0 + sum_notes (at_object o (plain grant)) x.0) =
+    closed-sum (at_object o (plain grant)) (λ other k r. zero-if (same_object o other)) lane class 0 (λ k r. zero-if (same_object o (Object.Cache lane class))) (λ q. if same_object o (Object.Cache lane class) then q else 0) (λ k q. refl) c.0 c.1 es c.2 x.0 c.3 c.4 c.5 in
+    let s : sum_notes (at_object o (plain shed_one)) es ≡ 0 + (many c.0 (if same_object o (Object.Cache lane class) then 1 else 0) + sum_notes (at_object o (plain shed_one)) x.0) =
+    closed-sum (at_object o (plain shed_one)) (λ other k r. zero-if (same_object o other)) lane class (if same_object o (Object.Cache lane class) then 1 else 0) (λ k r. refl) (λ q. 0) (λ k q. zero-if (same_object o (Object.Cache lane class))) c.0 c.1 es c.2 x.0 c.3 c.4 c.5 in
     omega (arith, g, s, many-none c.0, many-if (same_object o (Object.Cache lane class)) c.0, closing-even o lane classes x.0 rest x.2)
 
 pub closing-closes : (lane class : ℕ) → same_object (Object.Cache lane class) (Object.Cache lane class) ≡ true → (classes : List ℕ) (es rest : Entries) → close_caches lane classes es ≡ Some rest → IsOne class classes →
-    1 ≤ sum_notes (at_cache close_one (Object.Cache lane class)) es
+    1 ≤ sum_notes (at_object (Object.Cache lane class) (plain close_one)) es
 closing-closes lane class self [] es rest is one_of = absurd one_of
 closing-closes lane class self (other ∷ classes) es rest is one_of =
     let x : (x : Entries) × (close_cache lane other es ≡ Some x) × (close_caches lane classes x ≡ Some rest) = bind-some (close_cache lane other es) (λ x. close_caches lane classes x) rest is in
     let c : (q : ℕ) × (d : Did) × (mid : Entries) × (next_at (Object.Cache lane other) es ≡ Some (d, mid)) × (closed_with d ≡ Some q) × (sheds lane other q mid ≡ Some x.0) = close_cache-is lane other es x.0 x.1 in
-    let s : sum_notes (at_cache close_one (Object.Cache lane class)) es ≡ (if same_object (Object.Cache lane class) (Object.Cache lane other) then 1 else 0) + (many c.0 0 + sum_notes (at_cache close_one (Object.Cache lane class)) x.0) =
-    closed-sum (at_cache close_one (Object.Cache lane class)) (λ o k r. zero-if (same_object (Object.Cache lane class) o)) lane other 0 (λ k r. zero-if (same_object (Object.Cache lane class) (Object.Cache lane other)))
+    let s : sum_notes (at_object (Object.Cache lane class) (plain close_one)) es ≡ (if same_object (Object.Cache lane class) (Object.Cache lane other) then 1 else 0) + (many c.0 0 + sum_notes (at_object (Object.Cache lane class) (plain close_one)) x.0) =
+    closed-sum (at_object (Object.Cache lane class) (plain close_one)) (λ o k r. zero-if (same_object (Object.Cache lane class) o)) lane other 0 (λ k r. zero-if (same_object (Object.Cache lane class) (Object.Cache lane other)))
     (λ q. if same_object (Object.Cache lane class) (Object.Cache lane other) then 1 else 0) (λ k q. refl) c.0 c.1 es c.2 x.0 c.3 c.4 c.5 in
-    go one_of (many c.0 0) (sum_notes (at_cache close_one (Object.Cache lane class)) es) (sum_notes (at_cache close_one (Object.Cache lane class)) x.0) s (λ later. closing-closes lane class self classes x.0 rest x.2 later)
+    go one_of (many c.0 0) (sum_notes (at_object (Object.Cache lane class) (plain close_one)) es) (sum_notes (at_object (Object.Cache lane class) (plain close_one)) x.0) s (λ later. closing-closes lane class self classes x.0 rest x.2 later)
   where
     go : IsOne class (other ∷ classes) → (m n k : ℕ) → n ≡ (if same_object (Object.Cache lane class) (Object.Cache lane other) then 1 else 0) + (m + k) → (IsOne class classes → 1 ≤ k) → 1 ≤ n
     go (inl here) m n k s later =
@@ -225,48 +132,32 @@ closing-closes lane class self (other ∷ classes) es rest is one_of =
         omega (arith, s, ap one test)
     go (inr there) m n k s later = omega (arith, s, later there)
 
--- what the notes of commands have nothing of: grants, sheds and closings
-pub calm-none : (f : Note → ℕ) → ((n : Note) (due more : Due) → due_on due n ≡ Some more → f n ≡ 0) → (es : Entries) (due more : Due) → due_after due es ≡ Some more → sum_notes f es ≡ 0
-calm-none f quiet [] due more e = refl
-calm-none f quiet (x ∷ es) due more e =
-    let s : (m : Due) × (due_on due x.note ≡ Some m) × (due_after m es ≡ Some more) = bind-some (due_on due x.note) (λ m. due_after m es) more e in
-    omega (arith, quiet x.note due s.0 s.1, calm-none f quiet es s.0 more s.2)
-
-pub quiet-grant : (o : Object) (n : Note) (due more : Due) → due_on due n ≡ Some more → at_cache grant o n ≡ 0
-quiet-grant o (At other k (Trim q)) None more e = absurd (cc e)
-quiet-grant o (At other k (Trim q)) (Some d) more e = absurd (cc e)
-quiet-grant o (At other k (Close q)) None more e = absurd (cc e)
-quiet-grant o (At other k (Close q)) (Some d) more e = absurd (cc e)
-quiet-grant o (At other k _) due more e = zero-if (same_object o other)
-quiet-grant o (Ref root did) due more e = refl
-quiet-grant o (Busy held) due more e = refl
-
-pub quiet-shed : (o : Object) (n : Note) (due more : Due) → due_on due n ≡ Some more → at_cache shed_one o n ≡ 0
-quiet-shed o (At other k (Shed r)) None more e = absurd (cc e)
-quiet-shed o (At other k (Shed r)) (Some d) more e = absurd (cc e)
-quiet-shed o (At other k _) due more e = zero-if (same_object o other)
-quiet-shed o (Ref root did) due more e = refl
-quiet-shed o (Busy held) due more e = refl
-
 -- in a whole log: what may be shed at a cache is shed
 pub closing-rest : (lane : ℕ) (es : Entries) → closing lane es ≡ Some tt → close_caches lane (below cached_classes) es ≡ Some []
 closing-rest lane es is =
     let x : (x : Entries) × (close_caches lane (below cached_classes) es ≡ Some x) × (at_end x ≡ Some tt) = bind-some (close_caches lane (below cached_classes) es) at_end tt is in
     x.1 ∙ ap (λ y. Some y) (at_end-is x.0 tt x.2)
 
-pub log-even : (o : Object) (lane : ℕ) (es : Entries) → Parts lane es → sum_notes (at_cache grant o) es ≡ sum_notes (at_cache shed_one o) es
+pub grants-shed : (o : Object) → Less OfCommands (at_object o (plain grant)) (at_object o (plain shed_one)) × Less OfCommands (at_object o (plain shed_one)) (at_object o (plain grant))
+grants-shed o = (
+  record { other = λ n is. omega (arith, other n is); birth = λ x k root r. omega arith; end = λ x k root. omega arith; shed = λ x y k l r may. absurd may },
+  record { other = λ n is. omega (arith, other n is); birth = λ x k root r. omega arith; end = λ x k root. omega arith; shed = λ x y k l r may. absurd may },
+)
+  where
+    other : (n : Note) → IsOther OfCommands n → at_object o (plain grant) n ≡ at_object o (plain shed_one) n
+    other (At x k (Trim q)) is = absurd is
+    other (At x k (Close q)) is = absurd is
+    other (At x k (Shed r)) is = absurd is
+    other (At x k _) is = refl
+    other (Ref root d) is = refl
+    other (Busy held) is = refl
+
+pub log-even : (o : Object) (lane : ℕ) (es : Entries) → Parts OfCommands lane es → sum_notes (at_object o (plain grant)) es ≡ sum_notes (at_object o (plain shed_one)) es
 log-even o lane es p =
-    let e : sum_notes (at_cache grant o) p.1 + 0 ≡ sum_notes (at_cache shed_one o) p.1 + 0 = closing-even o lane (below cached_classes) p.1 [] (closing-rest lane p.1 p.4) in
-    omega (
-      arith,
-      ap (sum_notes (at_cache grant o)) p.2,
-      ap (sum_notes (at_cache shed_one o)) p.2,
-      notes-append (at_cache grant o) p.0 p.1,
-      notes-append (at_cache shed_one o) p.0 p.1,
-      calm-none (at_cache grant o) (quiet-grant o) p.0 None None p.3,
-      calm-none (at_cache shed_one o) (quiet-shed o) p.0 None None p.3,
-      e,
-    )
+    let e : sum_notes (at_object o (plain grant)) p.last + 0 ≡ sum_notes (at_object o (plain shed_one)) p.last + 0 = closing-even o lane (below cached_classes) p.last [] (closing-rest lane p.last p.closes) in
+    let less : sum_notes (at_object o (plain grant)) es ≤ sum_notes (at_object o (plain shed_one)) es = less-acts OfCommands (at_object o (plain grant)) (at_object o (plain shed_one)) (grants-shed o).0 es p.last p.first (omega (arith, e)) in
+    let more : sum_notes (at_object o (plain shed_one)) es ≤ sum_notes (at_object o (plain grant)) es = less-acts OfCommands (at_object o (plain shed_one)) (at_object o (plain grant)) (grants-shed o).1 es p.last p.first (omega (arith, e)) in
+    omega (arith, less, more)
 
 pub below-has : (n class : ℕ) → class < n → IsOne class (below n)
 below-has zero class h = absurd (omega arith)
@@ -279,13 +170,13 @@ below-has (suc n) class h = go (class == n) refl (λ less. below-has n class les
         less : (a b : ℕ) → a < suc b → a ≢ b → a < b
         less a b h ne = grind arith
 
-pub log-closes : (lane class : ℕ) (es : Entries) → Parts lane es → class < cached_classes → 1 ≤ sum_notes (at_cache close_one (Object.Cache lane class)) es
+pub log-closes : (lane class : ℕ) (es : Entries) → Parts OfCommands lane es → class < cached_classes → 1 ≤ sum_notes (at_object (Object.Cache lane class) (plain close_one)) es
 log-closes lane class es p low =
     omega (
       arith,
-      ap (sum_notes (at_cache close_one (Object.Cache lane class))) p.2,
-      notes-append (at_cache close_one (Object.Cache lane class)) p.0 p.1,
-      closing-closes lane class (same_object-refl (Object.Cache lane class)) (below cached_classes) p.1 [] (closing-rest lane p.1 p.4) (below-has cached_classes class low),
+      ap (sum_notes (at_object (Object.Cache lane class) (plain close_one))) p.first.are,
+      notes-append (at_object (Object.Cache lane class) (plain close_one)) (all_notes p.first.acts) p.last,
+      closing-closes lane class (same_object-refl (Object.Cache lane class)) (below cached_classes) p.last [] (closing-rest lane p.last p.closes) (below-has cached_classes class low),
     )
 
 -- what a note does to a cache
@@ -300,10 +191,6 @@ front-length region [] rest e = absurd (cc e)
 front-length region (x ∷ xs) rest e =
     cond_both (same_region region x) (Some xs) None (λ z. z ≡ Some rest → length (x ∷ xs) ≡ 1 + length rest)
     (λ _ is. let same : xs ≡ rest = cc is in omega (arith, ap length same)) (λ _ is. absurd (cc is)) e
-
-pub if-test : {X : Type 0} (test : Bool) (x : Option X) (y : X) → (if test then x else None) ≡ Some y → test ≡ true
-if-test true x y e = refl
-if-test false x y e = absurd (cc e)
 
 pub unless-test : {X : Type 0} (test : Bool) (x : Option X) (y : X) → (if test then None else x) ≡ Some y → test ≡ false
 unless-test true x y e = absurd (cc e)

@@ -1,5 +1,5 @@
 -- The life of each region.
-use Rattle.std.proofs.Common.{◌≡◌, ℕ, zero, suc, ◌+◌, ◌≤◌, take, refl, sym, ap, arith, true, Some, None, ◌∙◌, eq-eqb}
+use Rattle.std.proofs.Common.{◌≡◌, ℕ, zero, suc, ◌+◌, ◌≤◌, take, refl, sym, ap, arith, true, Some, ◌∙◌, eq-eqb}
 use Rattle.std.specs.Prelude.{◌<◌, ◌==◌, ◌-◌, option_map, slice_get}
 use Rattle.pool_law.specs.declared.id.RootId.{RootId}
 use Rattle.pool_law.specs.declared.id.RegionId.{RegionId}
@@ -11,19 +11,20 @@ use Rattle.pool_law.specs.declared.run.Shape.{Shape}
 use Rattle.pool_law.specs.Same.{same_taking, same_region}
 use Rattle.pool_law.specs.Roots.{RootPlace, Present}
 use Rattle.pool_law.specs.Histories.{place_after}
-use Rattle.pool_law.specs.Logs.{Logs, History, dids, log_of, history_of, entry_of, entries_of, present_in, present_before}
+use Rattle.pool_law.specs.Logs.{Logs, History, dids, log_of, history_of, entry_of, present_in, present_before}
 use Rattle.pool_law.specs.Legal.{HistoriesHold}
 use Rattle.pool_law.specs.Lives.{Use, Done, with_uses}
 use Rattle.run_laws.specs.CacheCounts.{one_of}
 use Rattle.pool_law.specs.Patterns.{one_more}
-use Rattle.run_laws.specs.Hands.{Got, hand_after}
+use Rattle.run_laws.specs.Hands.{Got}
 use Rattle.pool_law.proofs.SameLemmas.{same_region-is}
 use Rattle.pool_law.proofs.PatternLemmas.{same_region-refl, both_true}
 use Rattle.run_laws.proofs.Sums.{over-at, over-one, over-found}
 use Rattle.run_laws.proofs.Numbered.{in-history, in-log}
 use Rattle.run_laws.proofs.Placed.{is-some, end-born, one-of-true}
 use Rattle.run_laws.proofs.Totals.{dids-at, dids-there, note_tally, born_by, takes_in, hits_in, keeps_in, gives_in, births_in, ends_in, note-placed, births-next, put-down, drops, removes-less, takes-most, takes-unused, ends-born}
-use Rattle.run_laws.proofs.HandOrder.{FilledAt, birth-before}
+use Rattle.run_laws.proofs.LogEntries.{LanesAct}
+use Rattle.run_laws.proofs.Together.{FilledAt, note-together}
 
 pub same-as : (r y : RegionId) → with_uses r (r.uses + 1) ≡ one_more y → y ≡ r
 same-as r y e =
@@ -42,11 +43,11 @@ pub same_taking-uses : (a b : RegionId) → same_taking a b ≡ true → b ≡ w
 same_taking-uses a b e =
     sym (same_region-is (with_uses a b.uses) b (both_true (same_taking a b) (b.uses == b.uses) e (eq-eqb b.uses b.uses refl)))
 
-module _ (shape : Shape) (logs : Logs) (holds : HistoriesHold shape logs) (hands : (lane : ℕ) → hand_after None (log_of (entries_of logs) lane) ≡ Some None) where
+module _ (shape : Shape) (logs : Logs) (holds : HistoriesHold shape logs) (acts : LanesAct logs) where
   -- a birth in a log is a use, and counts
   pub birth-use : (lane i k : ℕ) (o : Object) (root : RootId) (r : RegionId) → slice_get (log_of logs lane) i ≡ Some (At o k (Birth root r)) → Use logs root r
   birth-use lane i k o root r is =
-      let here : o ≡ Object.Root root.place = note-placed shape logs holds hands lane i k o (Birth root r) is in
+      let here : o ≡ Object.Root root.place = note-placed shape logs holds acts lane i k o (Birth root r) is in
       record { lane = lane; at = i; number = k; birth = is ∙ ap (λ x. Some (At x k (Birth root r))) here }
 
   birth-weight : (root : RootId) (k : ℕ) (r x : RegionId) → same_region r x ≡ true → 1 ≤ note_tally logs (born_by r) (At (Object.Root root.place) k (Birth root x))
@@ -70,7 +71,7 @@ module _ (shape : Shape) (logs : Logs) (holds : HistoriesHold shape logs) (hands
   -- each birth is a use with number one or more
   pub use-used : (root : RootId) (r : RegionId) → Use logs root r → 1 ≤ r.uses
   use-used root r u =
-      let b : (y : RegionId) × (r ≡ one_more y) × FilledAt logs u.lane u.at Got y = birth-before logs u.lane (hands u.lane) u.at u.number (Object.Root root.place) root r u.birth in
+      let b : (y : RegionId) × (r ≡ one_more y) × FilledAt logs u.lane u.at Got y = (note-together logs u.lane (acts u.lane) u.at (At (Object.Root root.place) u.number (Birth root r)) u.birth).1 in
       omega (arith, ap (λ x. x.uses) b.1)
 
   pub unused-none : (r : RegionId) → r.uses ≡ 0 → births_in logs r ≡ 0
@@ -82,23 +83,23 @@ module _ (shape : Shape) (logs : Logs) (holds : HistoriesHold shape logs) (hands
 
   -- what is hit was born
   pub hits-less : (r : RegionId) → hits_in logs r + gives_in logs r ≤ births_in logs r
-  hits-less r = omega (arith, put-down shape logs holds hands r, removes-less shape logs holds hands r, ends-born shape logs holds hands r, drops shape logs holds hands r)
+  hits-less r = omega (arith, put-down shape logs holds acts r, removes-less shape logs holds acts r, ends-born shape logs holds acts r, drops shape logs holds acts r)
 
   pub keeps-less : (r : RegionId) → keeps_in logs r ≤ ends_in logs r
-  keeps-less r = omega (arith, put-down shape logs holds hands r, drops shape logs holds hands r)
+  keeps-less r = omega (arith, put-down shape logs holds acts r, drops shape logs holds acts r)
 
   -- at most one root has a use
   pub born-most : (n : ℕ) (r : RegionId) → births_in logs (with_uses r n) ≤ 1
   born-most zero r = omega (arith, unused-none (with_uses r 0) refl)
   born-most (suc n) r =
-      let step : births_in logs (one_more (with_uses r n)) ≡ takes_in logs (with_uses r n) + hits_in logs (with_uses r n) = births-next shape logs holds hands (with_uses r n) in
+      let step : births_in logs (one_more (with_uses r n)) ≡ takes_in logs (with_uses r n) + hits_in logs (with_uses r n) = births-next shape logs holds acts (with_uses r n) in
       let number : suc n ≡ n + 1 = omega arith in
       let ih : births_in logs (with_uses r n) ≤ 1 = born-most n r in
       omega (arith, ap (λ m. births_in logs (with_uses r m)) number, step, cases n r ih)
     where
       cases : (n : ℕ) (r : RegionId) → births_in logs (with_uses r n) ≤ 1 → takes_in logs (with_uses r n) + hits_in logs (with_uses r n) ≤ 1
-      cases zero r ih = omega (arith, takes-most shape logs holds hands (with_uses r 0), hits-less (with_uses r 0), unused-none (with_uses r 0) refl)
-      cases (suc m) r ih = omega (arith, takes-unused shape logs holds hands (with_uses r (suc m)) (omega arith), hits-less (with_uses r (suc m)), ih)
+      cases zero r ih = omega (arith, takes-most shape logs holds acts (with_uses r 0), hits-less (with_uses r 0), unused-none (with_uses r 0) refl)
+      cases (suc m) r ih = omega (arith, takes-unused shape logs holds acts (with_uses r (suc m)) (omega arith), hits-less (with_uses r (suc m)), ih)
 
   pub one-use : (first second : RootId) (r : RegionId) → Use logs first r → Use logs second r → first ≡ second
   one-use first second r a b =
@@ -110,7 +111,7 @@ module _ (shape : Shape) (logs : Logs) (holds : HistoriesHold shape logs) (hands
   -- an end takes out the region of a use
   pub end-use : (lane i k : ℕ) (o : Object) (root : RootId) (r : RegionId) → slice_get (log_of logs lane) i ≡ Some (At o k (End root)) → (entry_of logs (At o k (End root))).region ≡ Some r → Use logs root r × Done logs (Object.Root root.place) (End root)
   end-use lane i k o root r is region =
-      let here : o ≡ Object.Root root.place = note-placed shape logs holds hands lane i k o (End root) is in
+      let here : o ≡ Object.Root root.place = note-placed shape logs holds acts lane i k o (End root) is in
       let is' : slice_get (log_of logs lane) i ≡ Some (At (Object.Root root.place) k (End root)) = is ∙ ap (λ x. Some (At x k (End root))) here in
       let h : History = history_of (Object.Root root.place) logs in
       let at : (j : ℕ) × (k ≡ 1 + j) × (slice_get (history_of (Object.Root root.place) logs) j ≡ Some (lane, End root)) = in-history (Object.Root root.place) logs (history_of (Object.Root root.place) logs) (holds.whole (Object.Root root.place)) lane i k (End root) is' in

@@ -7,6 +7,7 @@ use Rattle.pool_law.specs.declared.note.Note.{Note}
 use Rattle.pool_law.specs.declared.note.Note.TheVariants.{At, Ref, Busy}
 use Rattle.pool_law.specs.Same.{same_object}
 use Rattle.pool_law.specs.Logs.{Logs, History, dids, own, own_note, numbered, log_of, IsHistory}
+use Rattle.run_laws.specs.CacheCounts.{total_by}
 use Rattle.run_laws.proofs.Sums.{sum_by, sum_over}
 use Rattle.run_laws.proofs.RegroupLaw.{weight_at, weights-one}
 use Rattle.pool_law.proofs.SameLemmas.{same_object-is}
@@ -25,6 +26,14 @@ total_numbers f (x ∷ xs) = f x.0 x.1 + total_numbers f xs
 abbrev pub total_from : Weight → ℕ → List Did → ℕ
 total_from f n [] = 0
 total_from f n (d ∷ ds) = f n d + total_from f (n + 1) ds
+
+-- a weight that does not look at numbers
+abbrev pub plain : (Did → ℕ) → Weight
+plain f n d = f d
+
+pub total-plain : (f : Did → ℕ) (n : ℕ) (ds : List Did) → total_from (plain f) n ds ≡ total_by f ds
+total-plain f n [] = refl
+total-plain f n (d ∷ ds) = omega (arith, total-plain f (n + 1) ds)
 
 pub total-numbered : (f : Weight) (l n : ℕ) (e : ℕ × Did) (h : History) → total_numbers f (numbered l n (e ∷ h)) ≡ weight_at (f n e.1) e.0 l + total_numbers f (numbered l (n + 1) h)
 total-numbered f l n e h =

@@ -24,7 +24,6 @@ use Rattle.arena_law.specs.Slots.{EachOf, ArenaHolds}
 use Rattle.arena_law.specs.Takings.{TakenInOrder}
 use Rattle.arena_law.specs.Returns.{gives}
 use Rattle.run_laws.specs.CacheCounts.{one_of, times, total_by, puts}
-use Rattle.run_laws.specs.Hands.{hand_after}
 use Rattle.run_laws.specs.HandCounts.{one_same, ended_by}
 use Rattle.pool_law.proofs.SameLemmas.{same_region-is, and-first, and-second}
 use Rattle.pool_law.proofs.PatternLemmas.{same_taking-refl, same_region-refl}
@@ -32,6 +31,7 @@ use Rattle.arena_law.proofs.ArenaLaw.{step-holds, after-holds, new-holds}
 use Rattle.arena_law.proofs.GiveSteps.{IsOne}
 use Rattle.arena_law.proofs.ReturnLaw.{take_note-out, after-keeps, after-append, one-step, IsOne-last}
 use Rattle.arena_law.proofs.TakingLaw.{takings-in_order}
+use Rattle.run_laws.proofs.LogEntries.{lane-there, LanesAct}
 use Rattle.run_laws.proofs.Sums.{sum_over, over-at, over-found, above}
 use Rattle.run_laws.proofs.Numbered.{in-log}
 use Rattle.run_laws.proofs.Placed.{placed, is-some, total-found, one-of-true, puts-kept}
@@ -39,8 +39,8 @@ use Rattle.run_laws.proofs.Totals.{dids-there, note_tally, takes, gives_of, take
 use Rattle.run_laws.proofs.LifeLaw.{same_taking-uses, use-counts, use-found, use-used, hits-less, one-use, end-use}
 use Rattle.run_laws.proofs.LifeOrder.{compare-uses, given-last}
 use Rattle.run_laws.proofs.ApartLaw.{split-at, any-at, same_taking-back, gives-it, taken-of, taken-at}
-use Rattle.run_laws.proofs.CloseLaw.{Parts}
-use Rattle.run_laws.proofs.EndLaw.{lane-there, cache-empty, kept-cached, end-in, dead-ended, ended-dead}
+use Rattle.run_laws.proofs.LaneActs.{Parts, OfCommands}
+use Rattle.run_laws.proofs.EndLaw.{cache-empty, kept-cached, end-in, dead-ended, ended-dead}
 use Rattle.std.proofs.lemmas.Bool.{cond_both}
 
 -- how often a taking is out
@@ -182,12 +182,12 @@ abbrev pub uses_number : Note → ℕ
 uses_number (At o k (Birth root x)) = x.uses
 uses_number _ = 0
 
-module _ (shape : Shape) (logs : Logs) (holds : HistoriesHold shape logs) (hands : (lane : ℕ) → hand_after None (log_of (entries_of logs) lane) ≡ Some None)
-    (parts : (lane : ℕ) → lane < length logs → Parts lane (map (entry_of logs) (log_of logs lane))) (counts : CountsAgree (entries_of logs)) where
+module _ (shape : Shape) (logs : Logs) (holds : HistoriesHold shape logs) (acts : LanesAct logs)
+    (parts : (lane : ℕ) → lane < length logs → Parts OfCommands lane (map (entry_of logs) (log_of logs lane))) (counts : CountsAgree (entries_of logs)) where
   -- a taking that was taken is its owner's, a lane of the run
   pub owner-there : (r : RegionId) → 1 ≤ takes_in logs (with_uses r 0) → r.owner < length logs
   owner-there r h =
-      let j : (j : ℕ) × (slice_get (dids (history_of (arena_of r) logs)) j ≡ Some (Take r.class (with_uses r 0))) = taken-at shape logs holds hands r h in
+      let j : (j : ℕ) × (slice_get (dids (history_of (arena_of r) logs)) j ≡ Some (Take r.class (with_uses r 0))) = taken-at shape logs holds acts r h in
       let l : (lane : ℕ) × (slice_get (history_of (arena_of r) logs) j.0 ≡ Some (lane, Take r.class (with_uses r 0))) = dids-there (history_of (arena_of r) logs) j.0 (Take r.class (with_uses r 0)) j.1 in
       let n : (i : ℕ) × (slice_get (log_of logs l.0) i ≡ Some (At (arena_of r) (1 + j.0) (Take r.class (with_uses r 0)))) = in-log (arena_of r) logs (history_of (arena_of r) logs) (holds.whole (arena_of r)) l.0 j.0 (Take r.class (with_uses r 0)) l.1 in
       let stands : ((l.0 % shape.arenas == r.place.arena) && (r.owner == l.0)) ≡ true = all-at (note_stands shape l.0) (log_of logs l.0) n.0 (At (arena_of r) (1 + j.0) (Take r.class (with_uses r 0))) (holds.stand l.0) n.1 in
@@ -201,10 +201,10 @@ module _ (shape : Shape) (logs : Logs) (holds : HistoriesHold shape logs) (hands
       let is : slice_get (dids (history_of (cache_of r) logs)) f.0 ≡ Some (Kept r) = f.2 ∙ ap (λ x. Some x) (puts-kept r f.1 f.3) in
       let l : (lane : ℕ) × (slice_get (history_of (cache_of r) logs) f.0 ≡ Some (lane, Kept r)) = dids-there (history_of (cache_of r) logs) f.0 (Kept r) is in
       let n : (i : ℕ) × (slice_get (log_of logs l.0) i ≡ Some (At (cache_of r) (1 + f.0) (Kept r))) = in-log (cache_of r) logs (history_of (cache_of r) logs) (holds.whole (cache_of r)) l.0 f.0 (Kept r) l.1 in
-      let has : has_cache r.class ≡ true = kept-cached shape logs holds hands parts l.0 n.0 (1 + f.0) (cache_of r) r n.1 in
+      let has : has_cache r.class ≡ true = kept-cached shape logs holds acts parts l.0 n.0 (1 + f.0) (cache_of r) r n.1 in
       let c : (c : Cache) × (cache_after r.owner r.class (dids (history_of (cache_of r) logs)) ≡ Some c) = is-some (cache_after r.owner r.class (dids (history_of (cache_of r) logs))) (holds.accepted (cache_of r)) in
-      let empty : c.0.regions ≡ [] = cache-empty shape logs holds hands parts r.owner r.class c.0 low (ltb-true r.class cached_classes has) c.1 in
-      omega (arith, through shape logs holds hands r c.0 c.1, ap (times r) empty)
+      let empty : c.0.regions ≡ [] = cache-empty shape logs holds acts parts r.owner r.class c.0 low (ltb-true r.class cached_classes has) c.1 in
+      omega (arith, through shape logs holds acts r c.0 c.1, ap (times r) empty)
 
   -- the last use of a taking
   last-use : (fuel n : ℕ) (r : RegionId) → 1 ≤ births_in logs (with_uses r n) → births_in logs (with_uses r (n + fuel)) ≡ 0 → (k : ℕ) × (1 ≤ births_in logs (with_uses r k)) × (births_in logs (with_uses r (k + 1)) ≡ 0)
@@ -222,25 +222,25 @@ module _ (shape : Shape) (logs : Logs) (holds : HistoriesHold shape logs) (hands
       go : (b : ℕ) → births_in logs (with_uses r n) ≡ b → births_in logs (with_uses r n) ≡ 0
       go zero e = e
       go (suc b) e =
-          let u : (root : RootId) × Use logs root (with_uses r n) = use-found shape logs holds hands (with_uses r n) (omega (arith, e)) in
+          let u : (root : RootId) × Use logs root (with_uses r n) = use-found shape logs holds acts (with_uses r n) (omega (arith, e)) in
           absurd (omega (arith, over-at uses_number logs u.1.lane u.1.at (At (Object.Root u.0.place) u.1.number (Birth u.0 (with_uses r n))) u.1.birth, high))
 
   -- a taking that was taken and did not come back is used by a live root
   pub held-by : (r : RegionId) → 1 ≤ takes_in logs (with_uses r 0) → ((n : ℕ) → gives_in logs (with_uses r n) ≡ 0) → IsHeld logs r
   held-by r taken none =
-      let first : births_in logs (with_uses r 1) ≡ takes_in logs (with_uses r 0) + hits_in logs (with_uses r 0) = births-next shape logs holds hands (with_uses r 0) in
+      let first : births_in logs (with_uses r 1) ≡ takes_in logs (with_uses r 0) + hits_in logs (with_uses r 0) = births-next shape logs holds acts (with_uses r 0) in
       let k : (k : ℕ) × (1 ≤ births_in logs (with_uses r k)) × (births_in logs (with_uses r (k + 1)) ≡ 0) = last-use (above uses_number logs) 1 r (omega (arith, first, taken)) (few-uses r (1 + above uses_number logs) (omega arith)) in
-      let u : (root : RootId) × Use logs root (with_uses r k.0) = use-found shape logs holds hands (with_uses r k.0) k.1 in
+      let u : (root : RootId) × Use logs root (with_uses r k.0) = use-found shape logs holds acts (with_uses r k.0) k.1 in
       record {
         root = u.0;
         region = with_uses r k.0;
         used = u.1;
         same = same_taking-refl r;
         live = λ dead.
-            let ends : 1 ≤ ends_in logs (with_uses r k.0) = end-in shape logs holds hands parts u.0 (with_uses r k.0) u.1 (dead-ended shape logs holds hands parts counts u.0 (with_uses r k.0) u.1 dead) in
-            let next : births_in logs (with_uses r (k.0 + 1)) ≡ takes_in logs (with_uses r k.0) + hits_in logs (with_uses r k.0) = births-next shape logs holds hands (with_uses r k.0) in
-            let kept : 1 ≤ keeps_in logs (with_uses r k.0) = omega (arith, ends, put-down shape logs holds hands (with_uses r k.0), none k.0) in
-            absurd (omega (arith, kept, k.2, next, kept-gone (with_uses r k.0) (owner-there r taken) kept, drops shape logs holds hands (with_uses r k.0), none k.0));
+            let ends : 1 ≤ ends_in logs (with_uses r k.0) = end-in shape logs holds acts parts counts u.0 (with_uses r k.0) u.1 (dead-ended shape logs holds acts parts counts u.0 (with_uses r k.0) u.1 dead) in
+            let next : births_in logs (with_uses r (k.0 + 1)) ≡ takes_in logs (with_uses r k.0) + hits_in logs (with_uses r k.0) = births-next shape logs holds acts (with_uses r k.0) in
+            let kept : 1 ≤ keeps_in logs (with_uses r k.0) = omega (arith, ends, put-down shape logs holds acts (with_uses r k.0), none k.0) in
+            absurd (omega (arith, kept, k.2, next, kept-gone (with_uses r k.0) (owner-there r taken) kept, drops shape logs holds acts (with_uses r k.0), none k.0));
       }
 
   ends-note : (r : RegionId) (n : Note) → 1 ≤ note_tally logs (ended_by r) n → (o : Object) × (k : ℕ) × (root : RootId) × (n ≡ At o k (End root)) × ((entry_of logs (At o k (End root))).region ≡ Some r)
@@ -262,29 +262,46 @@ module _ (shape : Shape) (logs : Logs) (holds : HistoriesHold shape logs) (hands
       go (suc n) e =
           let f : (lane : ℕ) × (i : ℕ) × (n : Note) × (slice_get (log_of logs lane) i ≡ Some n) × (1 ≤ note_tally logs (ended_by r) n) = over-found (note_tally logs (ended_by r)) logs (omega (arith, e)) in
           let a : (o : Object) × (k : ℕ) × (root : RootId) × (f.2 ≡ At o k (End root)) × ((entry_of logs (At o k (End root))).region ≡ Some r) = ends-note r f.2 f.4 in
-          let w : Use logs a.2 r × Done logs (Object.Root a.2.place) (End a.2) = end-use shape logs holds hands f.0 f.1 a.1 a.0 a.2 r (f.3 ∙ ap (λ x. Some x) a.3) a.4 in
-          let same : a.2 ≡ root = one-use shape logs holds hands a.2 root r w.0 u in
-          absurd (live (ended-dead shape logs holds hands parts counts root r u (subst (λ x. Done logs (Object.Root x.place) (End x)) same w.1)))
+          let w : Use logs a.2 r × Done logs (Object.Root a.2.place) (End a.2) = end-use shape logs holds acts f.0 f.1 a.1 a.0 a.2 r (f.3 ∙ ap (λ x. Some x) a.3) a.4 in
+          let same : a.2 ≡ root = one-use shape logs holds acts a.2 root r w.0 u in
+          absurd (live (ended-dead shape logs holds acts parts counts root r u (subst (λ x. Done logs (Object.Root x.place) (End x)) same w.1)))
 
-  -- so no use of its taking has come back
-  pub live-kept : (root : RootId) (r : RegionId) → Use logs root r → total_in logs root ≢ 0 → (n : ℕ) → gives_in logs (with_uses r n) ≡ 0
-  live-kept root r u live n = go (gives_in logs (with_uses r n)) refl
+  -- so its taking has no later use
+  pub no-later : (root : RootId) (r : RegionId) → Use logs root r → total_in logs root ≢ 0 → (n : ℕ) → r.uses < n → births_in logs (with_uses r n) ≡ 0
+  no-later root r u live n more =
+      let d = difference r.uses n more in
+      ap (λ k. births_in logs (with_uses r k)) d.1 ∙ none d.0
     where
-      born : 1 ≤ births_in logs r
-      born = use-counts shape logs holds hands root r u
-
-      -- a later use would have ended this one
-      down : (m : ℕ) → 1 ≤ births_in logs (with_uses r (r.uses + 1 + m)) → 1 ≤ births_in logs (with_uses r (r.uses + 1))
-      down zero h = omega (arith, h, ap (λ k. births_in logs (with_uses r k)) (let e : r.uses + 1 + 0 ≡ r.uses + 1 = omega arith in e))
-      down (suc m) h =
-          let next : births_in logs (with_uses r (r.uses + 1 + m + 1)) ≡ takes_in logs (with_uses r (r.uses + 1 + m)) + hits_in logs (with_uses r (r.uses + 1 + m)) = births-next shape logs holds hands (with_uses r (r.uses + 1 + m)) in
-          let number : r.uses + 1 + suc m ≡ r.uses + 1 + m + 1 = omega arith in
-          down m (omega (arith, h, ap (λ k. births_in logs (with_uses r k)) number, next, takes-unused shape logs holds hands (with_uses r (r.uses + 1 + m)) (omega arith), hits-less shape logs holds hands (with_uses r (r.uses + 1 + m))))
-
       difference : (a b : ℕ) → a < b → (m : ℕ) × (b ≡ a + 1 + m)
       difference a zero h = absurd (omega arith)
       difference zero (suc b) h = (b, omega arith)
       difference (suc a) (suc b) h = let d : (m : ℕ) × (b ≡ a + 1 + m) = difference a b (omega arith) in (d.0, omega (arith, d.1))
+
+      first : births_in logs (with_uses r (r.uses + 1)) ≡ 0
+      first =
+          omega (
+            arith,
+            births-next shape logs holds acts r,
+            takes-unused shape logs holds acts r (use-used shape logs holds acts root r u),
+            removes-less shape logs holds acts r,
+            put-down shape logs holds acts r,
+            drops shape logs holds acts r,
+            live-none root r u live,
+          )
+
+      none : (m : ℕ) → births_in logs (with_uses r (r.uses + 1 + m)) ≡ 0
+      none zero = let e : r.uses + 1 + 0 ≡ r.uses + 1 = omega arith in ap (λ k. births_in logs (with_uses r k)) e ∙ first
+      none (suc m) =
+          let next : births_in logs (with_uses r (r.uses + 1 + m + 1)) ≡ takes_in logs (with_uses r (r.uses + 1 + m)) + hits_in logs (with_uses r (r.uses + 1 + m)) = births-next shape logs holds acts (with_uses r (r.uses + 1 + m)) in
+          let number : r.uses + 1 + suc m ≡ r.uses + 1 + m + 1 = omega arith in
+          omega (arith, none m, ap (λ k. births_in logs (with_uses r k)) number, next, takes-unused shape logs holds acts (with_uses r (r.uses + 1 + m)) (omega arith), hits-less shape logs holds acts (with_uses r (r.uses + 1 + m)))
+
+  -- and no use of it has come back
+  pub live-kept : (root : RootId) (r : RegionId) → Use logs root r → total_in logs root ≢ 0 → (n : ℕ) → gives_in logs (with_uses r n) ≡ 0
+  live-kept root r u live n = go (gives_in logs (with_uses r n)) refl
+    where
+      born : 1 ≤ births_in logs r
+      born = use-counts shape logs holds acts root r u
 
       no_end : ends_in logs r ≡ 0
       no_end = live-none root r u live
@@ -294,22 +311,17 @@ module _ (shape : Shape) (logs : Logs) (holds : HistoriesHold shape logs) (hands
       go (suc g) e =
           ⊎_elim
           -- before this use
-          (λ less. absurd (omega (arith, born, given-last shape logs holds hands (with_uses r n) r.uses less (omega (arith, e)))))
+          (λ less. absurd (omega (arith, born, given-last shape logs holds acts (with_uses r n) r.uses less (omega (arith, e)))))
           (λ o. ⊎_elim
           (λ equal.
           let here : gives_in logs (with_uses r n) ≡ gives_in logs r = ap (λ k. gives_in logs (with_uses r k)) equal in
-          absurd (omega (arith, e, here, no_end, put-down shape logs holds hands r, keeps-removes, drops shape logs holds hands r)))
-          (λ more.
-          let d : (m : ℕ) × (n ≡ r.uses + 1 + m) = difference r.uses n more in
-          let used : 1 ≤ births_in logs (with_uses r n) = omega (arith, e, hits-less shape logs holds hands (with_uses r n)) in
-          let next : 1 ≤ births_in logs (with_uses r (r.uses + 1)) = down d.0 (omega (arith, used, ap (λ k. births_in logs (with_uses r k)) d.1)) in
-          let step : births_in logs (with_uses r (r.uses + 1)) ≡ takes_in logs r + hits_in logs r = births-next shape logs holds hands r in
-          absurd (omega (arith, next, step, takes-unused shape logs holds hands r (use-used shape logs holds hands root r u), keeps-removes, put-down shape logs holds hands r, drops shape logs holds hands r, no_end)))
+          absurd (omega (arith, e, here, no_end, put-down shape logs holds acts r, keeps-removes, drops shape logs holds acts r)))
+          (λ more. absurd (omega (arith, e, hits-less shape logs holds acts (with_uses r n), no-later root r u live n more)))
           o)
           (compare-uses n r.uses)
         where
           keeps-removes : hits_in logs r + sheds_in logs r ≤ keeps_in logs r
-          keeps-removes = removes-less shape logs holds hands r
+          keeps-removes = removes-less shape logs holds acts r
 
   pub out-at_end : OutAtEnd shape logs
   out-at_end number a e =
@@ -359,7 +371,7 @@ module _ (shape : Shape) (logs : Logs) (holds : HistoriesHold shape logs) (hands
       still : (root : RootId) (r : RegionId) → Use logs root r → total_in logs root ≢ 0 → r.place.arena ≡ number → (b : Bool) → is_out_of a r ≡ b → IsTrue (is_out_of a r)
       still root r u live here true out = out
       still root r u live here false _ =
-          let j : (j : ℕ) × (slice_get (dids (history_of (arena_of r) logs)) j ≡ Some (Take r.class (with_uses r 0))) = taken-at shape logs holds hands r (taken-of shape logs holds hands r.uses r (use-counts shape logs holds hands root r u)) in
+          let j : (j : ℕ) × (slice_get (dids (history_of (arena_of r) logs)) j ≡ Some (Take r.class (with_uses r 0))) = taken-at shape logs holds acts r (taken-of shape logs holds acts r.uses r (use-counts shape logs holds acts root r u)) in
           let at : slice_get ds j.0 ≡ Some (Take r.class (with_uses r 0)) = ap (λ k. slice_get (dids (history_of (Object.Arena k) logs)) j.0) (sym here) ∙ j.1 in
           let s : (between rest : List Did) × (ds ≡ (between ++ Take r.class (with_uses r 0) ∷ []) ++ rest) × ((m : ℕ) (z : Did) → slice_get between m ≡ Some z → (slice_get ds m ≡ Some z) × (m < j.0)) = split-at ds j.0 (Take r.class (with_uses r 0)) at in
           let x : (m : Arena) × (arena_after shape number (s.0 ++ Take r.class (with_uses r 0) ∷ []) ≡ Some m) × (after (arena_step (geometry_of shape) number) m s.1 ≡ Some a) =

@@ -24,15 +24,16 @@ use Rattle.pool_law.specs.Counts.{view_is_of, count_in, count_over, is_birth}
 use Rattle.run_laws.specs.CountLaw.{is_posted, is_fetched}
 use Rattle.run_laws.specs.Parcels.{parcels_of, parcels_if, unfetched_of, sum_up, unfetched, PostsWithin, TotalIsShared}
 use Rattle.pool_law.proofs.SameLemmas.{and-first, same_root-is}
+use Rattle.run_laws.proofs.LogEntries.{lane-there, entry-note}
 use Rattle.run_laws.proofs.CountSums.{total-is_counted}
 use Rattle.pool_law.proofs.HistoryLemmas.{over_lanes, over-same, over-add}
 use Rattle.run_laws.proofs.Sums.{sum_by, sum_over, over-at, over-alike, over-many}
-use Rattle.run_laws.proofs.Numbered.{at_object, regroup, in-history, in-log}
+use Rattle.run_laws.proofs.Numbered.{plain, total-plain, at_object, regroup, in-history, in-log}
 use Rattle.run_laws.proofs.Placed.{is-some, step-at, total-found}
-use Rattle.run_laws.proofs.Totals.{plain, total-plain, dids-at, dids-there, entry-note, pick, over_lanes-none}
+use Rattle.run_laws.proofs.Totals.{dids-at, dids-there, pick, over_lanes-none}
 use Rattle.pool_law.proofs.PatternLemmas.{same_object-refl}
 use Rattle.run_laws.proofs.CloseLaw.{zero-if}
-use Rattle.run_laws.proofs.EndLaw.{lane-there}
+use Rattle.run_laws.proofs.EndLaw.{}
 use Rattle.run_laws.proofs.OutLaw.{all-at}
 use Rattle.std.proofs.lemmas.Bool.{cond_both}
 

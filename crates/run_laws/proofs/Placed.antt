@@ -73,13 +73,6 @@ pub puts-kept : (r : RegionId) (d : Did) → 1 ≤ puts r d → d ≡ Kept r
 puts-kept r (Kept x) h = let same : r ≡ x = same_region-is r x (one-of-true (same_region r x) h) in ap (λ y. Kept y) (sym same)
 puts-kept r _ h = absurd (omega arith)
 
--- what a hit or a shed takes out is there
-pub hit-there : (capacity : ℕ) (c b : Cache) (r : RegionId) → cache_step capacity c (Hit r) ≡ Some b → 1 ≤ times r c.regions
-hit-there capacity c b r e = omega (arith, cache_step-balances capacity c b (Hit r) r e, ap one_of (same_region-refl r))
-
-pub shed-there : (capacity : ℕ) (c b : Cache) (r : RegionId) → cache_step capacity c (Shed r) ≡ Some b → 1 ≤ times r c.regions
-shed-there capacity c b r e = omega (arith, cache_step-balances capacity c b (Shed r) r e, ap one_of (same_region-refl r))
-
 module _ (lane class : ℕ) where
   -- before a region comes out of a cache it was kept there
   pub kept-before : (ds : List Did) (b : Cache) (j : ℕ) (d : Did) (r : RegionId) → cache_after lane class ds ≡ Some b → slice_get ds j ≡ Some d → 1 ≤ removes r d →

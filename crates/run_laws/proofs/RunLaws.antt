@@ -1,68 +1,63 @@
 -- What the laws need of a legal run.
-use Rattle.std.proofs.Common.{⊎_elim, ◌≡◌, ℕ, suc, ◌≤◌, List, [], ◌∷◌, length, refl, sym, ap, subst, arith, Some, None, ◌∙◌}
-use Rattle.std.specs.Prelude.{◌⊎◌, ◌<◌, map, unwrap_or}
+use Rattle.std.proofs.Common.{⊎_elim, ◌≡◌, ℕ, suc, List, [], ◌∷◌, length, refl, sym, ap, subst, arith, ◌∙◌}
+use Rattle.std.specs.Prelude.{◌<◌, map}
 use Rattle.pool_law.specs.declared.run.Run.{Run}
 use Rattle.pool_law.specs.Logs.{log_of, entry_of, entries_of}
 use Rattle.pool_law.specs.Legal.{IsLegal, logs_of, replies_of}
 use Rattle.pool_law.specs.Lives.{RegionsLive, LieApart}
-use Rattle.run_laws.specs.Hands.{hand_after}
 use Rattle.run_laws.specs.Conserved.{CachesEndEmpty, RegionsReturn, OutAtEnd}
-use Rattle.pool_law.proofs.ListLemmas.{slice_get-past}
-use Rattle.run_laws.proofs.LogHands.{log-empty}
+use Rattle.run_laws.proofs.Sums.{below-or}
+use Rattle.run_laws.proofs.Acts.{sum_notes, Acts, no-acts}
+use Rattle.run_laws.proofs.LaneActs.{Parts, AnyNote, OfCommands, all-send, log-parts, any-acts}
+use Rattle.run_laws.proofs.LogEntries.{LanesAct, entries-at, log-past}
 use Rattle.run_laws.proofs.LifeOrder.{lives}
 use Rattle.run_laws.proofs.ApartLaw.{apart}
-use Rattle.run_laws.proofs.HandOrder.{entries-at}
-use Rattle.run_laws.proofs.CloseLaw.{Parts, log-parts}
 use Rattle.run_laws.specs.Parcels.{PostsWithin, TotalsAreShared}
-use Rattle.run_laws.proofs.CloseLaw.{sum_notes}
 use Rattle.run_laws.proofs.ParcelLaw.{total-shared}
 use Rattle.run_laws.proofs.PostLaw.{strays, log-near, posts-within}
 use Rattle.run_laws.proofs.EndLaw.{cache-empty, returns-once, birth-counts}
+use Rattle.run_laws.specs.OneLog.{StandInOneLog}
+use Rattle.run_laws.proofs.OneLogLaw.{stand-in_one_log}
 use Rattle.run_laws.proofs.OutLaw.{out-at_end}
 
 pub map-length : {X Y : Type 0} (f : X → Y) (xs : List X) → length (map f xs) ≡ length xs
 map-length f [] = refl
 map-length f (x ∷ xs) = ap suc (map-length f xs)
 
-pub below-or : (a b : ℕ) → (a < b) ⊎ (b ≤ a)
-below-or a b = grind arith
-
-pub log-past : {X : Type 0} (logs : List (List X)) (lane : ℕ) → length logs ≤ lane → log_of logs lane ≡ []
-log-past logs lane h = ap (λ o. unwrap_or o []) (slice_get-past logs lane h)
-
--- every lane's hand is empty at its end
-pub hands-of : (run : Run) → IsLegal run → (lane : ℕ) → hand_after None (log_of (entries_of (logs_of run)) lane) ≡ Some None
-hands-of run legal lane =
+-- every lane's log is acts
+pub acts-of : (run : Run) → IsLegal run → LanesAct (logs_of run)
+acts-of run legal lane =
     ⊎_elim
-    (λ low. log-empty run.shape lane (log_of run.trace.lanes lane) (replies_of run lane) (log_of (entries_of (logs_of run)) lane) (legal.answers lane low))
-    (λ high. ap (hand_after None) (log-past (entries_of (logs_of run)) lane
-    (omega (arith, map-length (map (entry_of (logs_of run))) (logs_of run), map-length (λ l. l.notes) run.logs, legal.logs, high))))
+    (λ low.
+    subst (λ es. Acts AnyNote es []) (entries-at (logs_of run) (logs_of run) lane)
+    (any-acts run.shape lane (log_of run.trace.lanes lane) (replies_of run lane) (log_of (entries_of (logs_of run)) lane) (legal.answers lane low)))
+    (λ high. no-acts (map (entry_of (logs_of run)) (log_of (logs_of run) lane)) [] (ap (map (entry_of (logs_of run))) (log-past (logs_of run) lane (omega (arith, map-length (λ l. l.notes) run.logs, legal.logs, high)))))
     (below-or lane run.shape.lanes)
 
 pub regions-live : (run : Run) → IsLegal run → RegionsLive (logs_of run)
-regions-live run legal = lives run.shape (logs_of run) legal.histories (hands-of run legal)
+regions-live run legal = lives run.shape (logs_of run) legal.histories (acts-of run legal)
 
 pub regions-apart : (run : Run) → IsLegal run → LieApart (logs_of run)
-regions-apart run legal = apart run.shape (logs_of run) legal.histories (hands-of run legal)
+regions-apart run legal = apart run.shape (logs_of run) legal.histories (acts-of run legal)
 
 pub logs-length : (run : Run) → IsLegal run → length (logs_of run) ≡ run.shape.lanes
 logs-length run legal = omega (arith, map-length (λ l. l.notes) run.logs, legal.logs)
 
 -- each lane's log is what its commands note, and the closing of its caches
-pub parts-of : (run : Run) → IsLegal run → (lane : ℕ) → lane < length (logs_of run) → Parts lane (map (entry_of (logs_of run)) (log_of (logs_of run) lane))
+pub parts-of : (run : Run) → IsLegal run → (lane : ℕ) → lane < length (logs_of run) → Parts OfCommands lane (map (entry_of (logs_of run)) (log_of (logs_of run) lane))
 parts-of run legal lane low =
-    subst (Parts lane) (entries-at (logs_of run) (logs_of run) lane)
-    (log-parts run.shape lane (log_of run.trace.lanes lane) (replies_of run lane) (log_of (entries_of (logs_of run)) lane) (legal.answers lane (omega (arith, low, logs-length run legal))))
+    subst (Parts OfCommands lane) (entries-at (logs_of run) (logs_of run) lane)
+    (log-parts OfCommands run.shape lane (log_of run.trace.lanes lane) (replies_of run lane) (log_of (entries_of (logs_of run)) lane) (all-send (log_of run.trace.lanes lane)).1 (legal.answers lane (omega (arith, low, logs-length run legal))))
 
 pub caches-end_empty : (run : Run) → IsLegal run → CachesEndEmpty run.shape (logs_of run)
 caches-end_empty run legal lane class c low cached e =
-    cache-empty run.shape (logs_of run) legal.histories (hands-of run legal) (parts-of run legal) lane class c (omega (arith, low, logs-length run legal)) cached e
+    cache-empty run.shape (logs_of run) legal.histories (acts-of run legal) (parts-of run legal) lane class c (omega (arith, low, logs-length run legal)) cached e
 
 pub regions-return : (run : Run) → IsLegal run → RegionsReturn (logs_of run)
-regions-return run legal root region used = returns-once run.shape (logs_of run) legal.histories (hands-of run legal) (parts-of run legal) legal.counts root region used
+regions-return run legal root region used = returns-once run.shape (logs_of run) legal.histories (acts-of run legal) (parts-of run legal) legal.counts root region used
 
 pub arenas-end : (run : Run) → IsLegal run → OutAtEnd run.shape (logs_of run)
-arenas-end run legal = out-at_end run.shape (logs_of run) legal.histories (hands-of run legal) (parts-of run legal) legal.counts
+arenas-end run legal = out-at_end run.shape (logs_of run) legal.histories (acts-of run legal) (parts-of run legal) legal.counts
 
 pub posts-are_near : (run : Run) → IsLegal run → PostsWithin (logs_of run) run.shape.lanes
 posts-are_near run legal =
@@ -73,4 +68,7 @@ posts-are_near run legal =
 pub totals-are_shared : (run : Run) → IsLegal run → TotalsAreShared (logs_of run) run.shape.lanes
 totals-are_shared run legal root region used =
     total-shared run.shape (logs_of run) legal.histories root run.shape.lanes (omega (arith, logs-length run legal)) (posts-are_near run legal) legal.counts
-    (birth-counts run.shape (logs_of run) legal.histories (hands-of run legal) (parts-of run legal) root region used)
+    (birth-counts run.shape (logs_of run) legal.histories (acts-of run legal) (parts-of run legal) root region used)
+
+pub roots-in_one_log : (run : Run) → IsLegal run → StandInOneLog (logs_of run)
+roots-in_one_log run legal = stand-in_one_log run.shape (logs_of run) legal.histories (acts-of run legal) (parts-of run legal) legal.counts

@@ -13,15 +13,18 @@ use Rattle.pool_law.specs.Arenas.{Arena}
 use Rattle.pool_law.specs.Caches.{Cache}
 use Rattle.pool_law.specs.Roots.{RootPlace, Present, new_place, place_step, place_step_by}
 use Rattle.pool_law.specs.Histories.{after, place_after, cache_after, arena_after}
-use Rattle.pool_law.specs.Logs.{Logs, History, dids, log_of, history_of, entry_of, entries_of, present_in, present_before, region_for}
+use Rattle.pool_law.specs.Logs.{Logs, History, dids, log_of, history_of, entry_of, present_in, present_before, region_for}
 use Rattle.pool_law.specs.Legal.{HistoriesHold}
 use Rattle.pool_law.specs.Lives.{cache_of, arena_of}
 use Rattle.arena_law.specs.Takings.{TakenInOrder}
 use Rattle.run_laws.specs.CacheCounts.{one_of, times, puts, removes, total_by}
-use Rattle.pool_law.specs.Patterns.{Entries, one_more}
-use Rattle.run_laws.specs.Hands.{did_of, Got, Ended, Dropped, Hand, hand_by, hand_if, hand_step, hand_after}
+use Rattle.pool_law.specs.Patterns.{one_more}
+use Rattle.run_laws.specs.Hands.{did_of}
 use Rattle.run_laws.specs.HandCounts.{Tally, tally_if, tally, one_same, got_by, used_by, ended_by, shed_by, kept_by, given_by, HandsBalance}
-use Rattle.run_laws.proofs.HandLaw.{bind-some}
+use Rattle.run_laws.proofs.Acts.{IsOther, Acts, Less}
+use Rattle.run_laws.proofs.LaneActs.{AnyNote}
+use Rattle.run_laws.proofs.LogEntries.{LanesAct, entry-note, sums-less}
+use Rattle.run_laws.proofs.HandLaw.{acts-hand}
 use Rattle.run_laws.proofs.HandSums.{hands-balance}
 use Rattle.pool_law.proofs.SameLemmas.{same_region-is}
 use Rattle.pool_law.proofs.PatternLemmas.{same_object-refl}
@@ -30,7 +33,7 @@ use Rattle.arena_law.proofs.TakingLaw.{takings-in_order}
 use Rattle.run_laws.proofs.PlaceLaw.{place_step-does, Births, Stays}
 use Rattle.pool_law.proofs.HistoryLemmas.{append-assoc, after-push, over_lanes, lesser-or_same}
 use Rattle.run_laws.proofs.Sums.{sum_by, sum_over, over-at, over-alike, over-plus, over-many, above}
-use Rattle.run_laws.proofs.Numbered.{Weight, total_from, at_object, regroup, in-history}
+use Rattle.run_laws.proofs.Numbered.{plain, total-plain, Weight, total_from, at_object, regroup, in-history}
 use Rattle.run_laws.proofs.Placed.{IsPlaced, placed, is-some, total-found, one-of-true}
 use Rattle.std.proofs.lemmas.Bool.{cond_both}
 
@@ -44,23 +47,8 @@ dids-there [] j d e = absurd (cc e)
 dids-there (x ∷ h) zero d e = let same : x.1 ≡ d = cc e in (x.0, ap (λ y. Some (x.0, y)) same)
 dids-there (x ∷ h) (suc j) d e = dids-there h j d e
 
--- a weight that does not look at numbers
-abbrev pub plain : (Did → ℕ) → Weight
-plain f n d = f d
-
-pub total-plain : (f : Did → ℕ) (n : ℕ) (ds : List Did) → total_from (plain f) n ds ≡ total_by f ds
-total-plain f n [] = refl
-total-plain f n (d ∷ ds) = omega (arith, total-plain f (n + 1) ds)
-
 abbrev pub note_tally : Logs → Tally → Note → ℕ
 note_tally logs f n = tally_if f (entry_of logs n).region (did_of n)
-
--- an entry has the note that it is made of
-pub entry-note : (logs : Logs) (n : Note) → (entry_of logs n).note ≡ n
-entry-note logs (At (Object.Root p) k d) = refl
-entry-note logs (At _ k d) = refl
-entry-note logs (Ref root did) = refl
-entry-note logs (Busy held) = refl
 
 abbrev pub total : Logs → Tally → ℕ
 total logs f = sum_over (note_tally logs f) logs
@@ -107,55 +95,6 @@ births_in logs r = total logs (born_by r)
 
 abbrev pub ends_in : Logs → RegionId → ℕ
 ends_in logs r = total logs (ended_by r)
-
--- what was dropped is given back
-abbrev pub dropped : RegionId → Hand → ℕ
-dropped r None = 0
-dropped r (Some (Got, x)) = 0
-dropped r (Some (Ended, x)) = 0
-dropped r (Some (Dropped, x)) = one_of (same_region r x)
-
-abbrev pub DropsLess : RegionId → Hand → Hand → Option RegionId → Did → Type 0
-DropsLess r h k t d = dropped r h + shed_by r t d ≤ given_by r t d + dropped r k
-
-pub step-dropped : (r : RegionId) (h k : Hand) (t : Option RegionId) (d : Did) → hand_by h t d ≡ Some k → DropsLess r h k t d
-step-dropped r None k t (Take class x) e = omega arith
-step-dropped r (Some held) k t (Take class x) e = absurd (cc e)
-step-dropped r None k t (Hit x) e = omega arith
-step-dropped r (Some held) k t (Hit x) e = absurd (cc e)
-step-dropped r None k t (Shed x) e = let same : Some (Dropped, x) ≡ k = cc e in subst (λ y. DropsLess r None y t (Shed x)) same (omega arith)
-step-dropped r (Some held) k t (Shed x) e = absurd (cc e)
-step-dropped r None k None (End root) e = absurd (cc e)
-step-dropped r None k (Some x) (End root) e = omega arith
-step-dropped r (Some held) k None (End root) e = absurd (cc e)
-step-dropped r (Some held) k (Some x) (End root) e = absurd (cc e)
-step-dropped r None k t (Birth root x) e = absurd (cc e)
-step-dropped r (Some (Got, y)) k t (Birth root x) e = omega arith
-step-dropped r (Some (Ended, y)) k t (Birth root x) e = absurd (cc e)
-step-dropped r (Some (Dropped, y)) k t (Birth root x) e = absurd (cc e)
-step-dropped r None k t (Kept x) e = absurd (cc e)
-step-dropped r (Some (Got, y)) k t (Kept x) e = absurd (cc e)
-step-dropped r (Some (Ended, y)) k t (Kept x) e = omega arith
-step-dropped r (Some (Dropped, y)) k t (Kept x) e = absurd (cc e)
-step-dropped r None k t (Give x) e = absurd (cc e)
-step-dropped r (Some (Got, y)) k t (Give x) e = absurd (cc e)
-step-dropped r (Some (Ended, y)) k t (Give x) e = omega arith
-step-dropped r (Some (Dropped, y)) k t (Give x) e =
-    cond_both (same_region y x) (Some None) None (λ z. z ≡ Some k → DropsLess r (Some (Dropped, y)) k t (Give x))
-    (λ test is. let count : one_of (same_region r y) ≡ one_of (same_region r x) = ap (λ v. one_of (same_region r v)) (same_region-is y x test) in omega (arith, count))
-    (λ _ is. absurd (cc is)) e
-step-dropped r h k t _ e = let same : h ≡ k = cc e in subst (λ y. dropped r h + 0 ≤ 0 + dropped r y) same (omega arith)
-
-pub after-dropped : (r : RegionId) (es : Entries) (h k : Hand) → hand_after h es ≡ Some k → dropped r h + tally (shed_by r) es ≤ tally (given_by r) es + dropped r k
-after-dropped r [] h k e = let same : h ≡ k = cc e in subst (λ y. dropped r h + 0 ≤ 0 + dropped r y) same (omega arith)
-after-dropped r (e ∷ es) h k is =
-    let f : (m : Hand) × (hand_step h e ≡ Some m) × (hand_after m es ≡ Some k) = bind-some (hand_step h e) (λ m. hand_after m es) k is in
-    go (did_of e.note) f.0 f.1 (after-dropped r es f.0 k f.2)
-  where
-    go : (o : Option Did) (m : Hand) → hand_if h e.region o ≡ Some m → dropped r m + tally (shed_by r) es ≤ tally (given_by r) es + dropped r k →
-        dropped r h + (tally_if (shed_by r) e.region o + tally (shed_by r) es) ≤ (tally_if (given_by r) e.region o + tally (given_by r) es) + dropped r k
-    go None m same rest = let hand : h ≡ m = cc same in subst (λ y. dropped r y + (0 + tally (shed_by r) es) ≤ (0 + tally (given_by r) es) + dropped r k) (sym hand) (omega (arith, rest))
-    go (Some d) m same rest = omega (arith, step-dropped r h m e.region d same, rest)
 
 pub placed-weight : (r x : RegionId) (o other : Object) → (same_region r x ≡ true → other ≡ o) → one_of (same_region r x) ≡ (if same_object o other then one_of (same_region r x) else 0)
 placed-weight r x o other f = go (same_region r x) f
@@ -308,7 +247,7 @@ over-less-at {X = X} f g (xs ∷ logs) h = omega (arith, one xs (λ i x is. h 0 
     one (x ∷ xs) h = omega (arith, h 0 x refl, one xs (λ i y is. h (suc i) y is))
 
 -- the laws that need the histories and the hands of a run
-module _ (shape : Shape) (logs : Logs) (holds : HistoriesHold shape logs) (hands : (lane : ℕ) → hand_after None (log_of (entries_of logs) lane) ≡ Some None) where
+module _ (shape : Shape) (logs : Logs) (holds : HistoriesHold shape logs) (acts : LanesAct logs) where
   pub note-placed : (lane i k : ℕ) (o : Object) (d : Did) → slice_get (log_of logs lane) i ≡ Some (At o k d) → IsPlaced o d
   note-placed lane i k o d is =
       let at : (j : ℕ) × (k ≡ 1 + j) × (slice_get (history_of o logs) j ≡ Some (lane, d)) = in-history o logs (history_of o logs) (holds.whole o) lane i k d is in
@@ -318,22 +257,15 @@ module _ (shape : Shape) (logs : Logs) (holds : HistoriesHold shape logs) (hands
   tally-log f [] = refl
   tally-log f (n ∷ log) = omega (arith, tally-log f log, ap (λ m. tally_if f (entry_of logs n).region (did_of m)) (entry-note logs n))
 
-  pub hands-total : (r : RegionId) (rest : Logs) → ((lane : ℕ) → hand_after None (log_of (map (map (entry_of logs)) rest) lane) ≡ Some None) →
+  pub hands-total : (r : RegionId) (rest : Logs) → ((lane : ℕ) → Acts AnyNote (map (entry_of logs) (log_of rest lane)) []) →
       (sum_over (note_tally logs (got_by r)) rest ≡ sum_over (note_tally logs (used_by r)) rest)
-      × ((sum_over (note_tally logs (ended_by r)) rest + sum_over (note_tally logs (shed_by r)) rest ≡ sum_over (note_tally logs (kept_by r)) rest + sum_over (note_tally logs (given_by r)) rest)
-      × (sum_over (note_tally logs (shed_by r)) rest ≤ sum_over (note_tally logs (given_by r)) rest))
-  hands-total r [] h = (refl, (refl, omega arith))
+      × (sum_over (note_tally logs (ended_by r)) rest + sum_over (note_tally logs (shed_by r)) rest ≡ sum_over (note_tally logs (kept_by r)) rest + sum_over (note_tally logs (given_by r)) rest)
+  hands-total r [] h = (refl, refl)
   hands-total r (log ∷ rest) h =
-      let b : HandsBalance r (map (entry_of logs) log) = hands-balance r (map (entry_of logs) log) (h 0) in
-      let d : 0 + tally (shed_by r) (map (entry_of logs) log) ≤ tally (given_by r) (map (entry_of logs) log) + 0 = after-dropped r (map (entry_of logs) log) None None (h 0) in
-      let ih : (sum_over (note_tally logs (got_by r)) rest ≡ sum_over (note_tally logs (used_by r)) rest)
-      × ((sum_over (note_tally logs (ended_by r)) rest + sum_over (note_tally logs (shed_by r)) rest ≡ sum_over (note_tally logs (kept_by r)) rest + sum_over (note_tally logs (given_by r)) rest)
-      × (sum_over (note_tally logs (shed_by r)) rest ≤ sum_over (note_tally logs (given_by r)) rest)) = hands-total r rest (λ lane. h (suc lane)) in (
+      let b : HandsBalance r (map (entry_of logs) log) = hands-balance r (map (entry_of logs) log) (acts-hand AnyNote (map (entry_of logs) log) (h 0)) in
+      let ih = hands-total r rest (λ lane. h (suc lane)) in (
         omega (arith, b.used, tally-log (got_by r) log, tally-log (used_by r) log, ih.0),
-        (
-          omega (arith, b.put_down, tally-log (ended_by r) log, tally-log (shed_by r) log, tally-log (kept_by r) log, tally-log (given_by r) log, ih.1.0),
-          omega (arith, d, tally-log (shed_by r) log, tally-log (given_by r) log, ih.1.1),
-        ),
+        omega (arith, b.put_down, tally-log (ended_by r) log, tally-log (shed_by r) log, tally-log (kept_by r) log, tally-log (given_by r) log, ih.1),
       )
 
   module _ (r : RegionId) where
@@ -395,13 +327,23 @@ module _ (shape : Shape) (logs : Logs) (holds : HistoriesHold shape logs) (hands
     used-born (Busy held) = refl
 
     pub births-next : births_in logs (one_more r) ≡ takes_in logs r + hits_in logs r
-    births-next = sym (over-alike (note_tally logs (used_by r)) (note_tally logs (born_by (one_more r))) logs (λ lane i n is. used-born n)) ∙ sym (hands-total r logs hands).0 ∙ got-total
+    births-next = sym (over-alike (note_tally logs (used_by r)) (note_tally logs (born_by (one_more r))) logs (λ lane i n is. used-born n)) ∙ sym (hands-total r logs acts).0 ∙ got-total
 
     pub put-down : ends_in logs r + sheds_in logs r ≡ keeps_in logs r + gives_in logs r
-    put-down = omega (arith, (hands-total r logs hands).1.0, shed-total, kept-total, given-total)
+    put-down = omega (arith, (hands-total r logs acts).1, shed-total, kept-total, given-total)
+
+    -- what is shed is given back
+    shed-less : Less AnyNote (note_tally logs (shed_by r)) (note_tally logs (given_by r))
+    shed-less = record { other = other; birth = λ o k root x. omega arith; end = λ o k root. omega arith; shed = λ o p k l x may. omega arith }
+      where
+        other : (n : Note) → IsOther AnyNote n → note_tally logs (shed_by r) n ≤ note_tally logs (given_by r) n
+        other (At o k (Shed x)) is = absurd is
+        other (At o k _) is = omega arith
+        other (Ref root did) is = omega arith
+        other (Busy held) is = omega arith
 
     pub drops : sheds_in logs r ≤ gives_in logs r
-    drops = omega (arith, (hands-total r logs hands).1.1, shed-total, given-total)
+    drops = omega (arith, sums-less logs acts (note_tally logs (shed_by r)) (note_tally logs (given_by r)) shed-less, shed-total, given-total)
 
     pub removes-are : (ds : List Did) → total_by (removes r) ds ≡ total_by (hits r) ds + total_by (sheds_of r) ds
     removes-are [] = refl

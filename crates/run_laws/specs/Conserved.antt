@@ -1,5 +1,5 @@
--- What a legal run keeps: its caches end empty, a root's region is put away once where its total is 0, and what the arenas have out
--- at the end is what the live roots use.
+-- What a legal run keeps: its caches end empty, a root's region is put away once where its total is
+-- 0, and what the arenas have out at the end is what the live roots use.
 use Rattle.std.specs.Prelude.{◌≡◌, ◌≢◌, ◌⊎◌, ◌↔◌, ℕ, ◌<◌, IsTrue, [], Some}
 use Rattle.pool_law.specs.declared.id.RootId.{RootId}
 use Rattle.pool_law.specs.declared.id.RegionId.{RegionId}
@@ -18,34 +18,44 @@ use Rattle.pool_law.specs.Lives.{Use, Done, cache_of, arena_of}
 
 -- the cache of a lane and class, and an arena, at the end of the run
 abbrev pub EndsAsCache : Logs → ℕ → ℕ → Cache → Type 0
-EndsAsCache logs lane class c = cache_after lane class (dids (history_of (Object.Cache lane class) logs)) ≡ Some c
+EndsAsCache logs lane class c =
+    cache_after lane class (dids (history_of (Object.Cache lane class) logs)) ≡ Some c
 
 abbrev pub EndsAsArena : Shape → Logs → ℕ → Arena → Type 0
-EndsAsArena shape logs number a = arena_after shape number (dids (history_of (Object.Arena number) logs)) ≡ Some a
+EndsAsArena shape logs number a =
+    arena_after shape number (dids (history_of (Object.Arena number) logs)) ≡ Some a
 
 -- each cache ends empty
 abbrev pub CachesEndEmpty : Shape → Logs → Type 0
-CachesEndEmpty shape logs = (lane class : ℕ) (c : Cache) → lane < shape.lanes → class < cached_classes → EndsAsCache logs lane class c → c.regions ≡ []
+CachesEndEmpty shape logs =
+    (lane class : ℕ) (c : Cache) → lane < shape.lanes → class < cached_classes →
+    EndsAsCache logs lane class c → c.regions ≡ []
 
 abbrev pub total_in : Logs → RootId → ℕ
 total_in logs root = total_of root (entries_of logs)
 
--- after the end of a root its region is kept by its owner's cache, or given to its arena, in the same log
+-- after the end of a root its region is kept by its owner's cache, or given to its arena, in the
+-- same log
 pub record PutAway (logs : Logs) (root : RootId) (region : RegionId) : Type 0 where
   pub ended : Done logs (Object.Root root.place) (Did.End root)
   pub away :
-      ((kept : Done logs (cache_of region) (Did.Kept region)) × (kept.lane ≡ ended.lane) × (ended.at < kept.at))
-      ⊎ ((given : Done logs (arena_of region) (Did.Give region)) × (given.lane ≡ ended.lane) × (ended.at < given.at))
+      ((kept : Done logs (cache_of region) (Did.Kept region))
+      × (kept.lane ≡ ended.lane) × (ended.at < kept.at))
+      ⊎ ((given : Done logs (arena_of region) (Did.Give region))
+      × (given.lane ≡ ended.lane) × (ended.at < given.at))
 
--- the region of a root is put away exactly where the root's total is 0; a root ends at most once; and a region that was kept and
--- came back was shed, so that it is put away once
+-- the region of a root is put away exactly where the root's total is 0; a root ends at most once;
+-- and a region that was kept and came back was shed, so that it is put away once
 pub record ReturnsOnce (logs : Logs) (root : RootId) (region : RegionId) : Type 0 where
   pub exactly : PutAway logs root region ↔ (total_in logs root ≡ 0)
   pub once : (a b : Done logs (Object.Root root.place) (Did.End root)) → a.number ≡ b.number
-  pub shed_between : Done logs (cache_of region) (Did.Kept region) → Done logs (arena_of region) (Did.Give region) → Done logs (cache_of region) (Did.Shed region)
+  pub shed_between : Done logs (cache_of region) (Did.Kept region) →
+      Done logs (arena_of region) (Did.Give region) →
+      Done logs (cache_of region) (Did.Shed region)
 
 abbrev pub RegionsReturn : Logs → Type 0
-RegionsReturn logs = (root : RootId) (region : RegionId) → Use logs root region → ReturnsOnce logs root region
+RegionsReturn logs =
+    (root : RootId) (region : RegionId) → Use logs root region → ReturnsOnce logs root region
 
 -- a root that uses this taking has a total that is not 0
 pub record IsHeld (logs : Logs) (taking : RegionId) : Type 0 where
@@ -60,7 +70,9 @@ pub record OutIsHeld (logs : Logs) (number : ℕ) (a : Arena) : Type 0 where
   -- each of it is the taking of a live root
   pub held : EachOf (IsHeld logs) a.out
   -- and the taking of each live root whose place names the arena is among it
-  pub out : (root : RootId) (region : RegionId) → Use logs root region → total_in logs root ≢ 0 → region.place.arena ≡ number → IsTrue (is_out_of a region)
+  pub out : (root : RootId) (region : RegionId) → Use logs root region →
+      total_in logs root ≢ 0 → region.place.arena ≡ number → IsTrue (is_out_of a region)
 
 abbrev pub OutAtEnd : Shape → Logs → Type 0
-OutAtEnd shape logs = (number : ℕ) (a : Arena) → EndsAsArena shape logs number a → OutIsHeld logs number a
+OutAtEnd shape logs =
+    (number : ℕ) (a : Arena) → EndsAsArena shape logs number a → OutIsHeld logs number a

@@ -53,4 +53,5 @@ given_by r taken _ = 0
 -- in a lane's log: what is got is used once; what ends or is shed is kept or given once
 pub record HandsBalance (r : RegionId) (es : Entries) : Type 0 where
   pub used : tally (got_by r) es ≡ tally (used_by r) es
-  pub put_down : tally (ended_by r) es + tally (shed_by r) es ≡ tally (kept_by r) es + tally (given_by r) es
+  pub put_down : tally (ended_by r) es + tally (shed_by r) es
+      ≡ tally (kept_by r) es + tally (given_by r) es

@@ -6,3 +6,7 @@ pub mod Regroup
 pub mod PlaceLives
 pub mod Conserved
 pub mod Parcels
+pub mod OneLog
+pub mod Reads
+pub mod Reported
+pub mod Headline

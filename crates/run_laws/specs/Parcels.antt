@@ -1,4 +1,5 @@
--- The parcels that are not fetched at the end of a run, and how the total of a root is shared by lanes and parcels.
+-- The parcels that are not fetched at the end of a run, and how the total of a root is shared by
+-- lanes and parcels.
 use Rattle.std.specs.Prelude.{◌≡◌, ℕ, ◌+◌, ◌<◌, if◌then◌else◌, List, [], ◌∷◌, Option, Some, None}
 use Rattle.pool_law.specs.declared.id.RootId.{RootId}
 use Rattle.pool_law.specs.declared.id.RegionId.{RegionId}
@@ -24,7 +25,8 @@ parcels_if root (Some ps) = parcels_of root ps
 
 -- what was posted from one lane to another and not fetched
 abbrev pub unfetched_of : Logs → RootId → ℕ → ℕ → ℕ
-unfetched_of logs root from to = parcels_if root (mail_after (dids (history_of (Object.Mail from to) logs)))
+unfetched_of logs root from to =
+    parcels_if root (mail_after (dids (history_of (Object.Mail from to) logs)))
 
 -- a sum over numbers
 abbrev pub sum_up : List ℕ → (ℕ → ℕ) → ℕ
@@ -33,16 +35,21 @@ sum_up (k ∷ ks) f = f k + sum_up ks f
 
 -- over all mails between so many lanes
 abbrev pub unfetched : Logs → RootId → ℕ → ℕ
-unfetched logs root lanes = sum_up (below lanes) (λ from. sum_up (below lanes) (λ to. unfetched_of logs root from to))
+unfetched logs root lanes =
+    sum_up (below lanes) (λ from. sum_up (below lanes) (λ to. unfetched_of logs root from to))
 
 -- every parcel is posted to one of so many lanes
 abbrev pub PostsWithin : Logs → ℕ → Type 0
-PostsWithin logs lanes = (from to : ℕ) (parcel : Parcel) → Done logs (Object.Mail from to) (Did.Post parcel) → to < lanes
+PostsWithin logs lanes =
+    (from to : ℕ) (parcel : Parcel) → Done logs (Object.Mail from to) (Did.Post parcel) →
+    to < lanes
 
 -- the total of a root is the sum of the lanes' counts, and the parcels of it that are not fetched
 abbrev pub TotalIsShared : Logs → ℕ → RootId → Type 0
-TotalIsShared logs lanes root = total_in logs root ≡ counts_of root (entries_of logs) + unfetched logs root lanes
+TotalIsShared logs lanes root =
+    total_in logs root ≡ counts_of root (entries_of logs) + unfetched logs root lanes
 
 -- so it is for each root that was born
 abbrev pub TotalsAreShared : Logs → ℕ → Type 0
-TotalsAreShared logs lanes = (root : RootId) (region : RegionId) → Use logs root region → TotalIsShared logs lanes root
+TotalsAreShared logs lanes =
+    (root : RootId) (region : RegionId) → Use logs root region → TotalIsShared logs lanes root

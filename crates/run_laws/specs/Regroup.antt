@@ -16,4 +16,6 @@ total_at f object [] = 0
 total_at f object (log ∷ logs) = total_of_notes f (own object log) + total_at f object logs
 
 abbrev pub SumsAgree : Type 0
-SumsAgree = (f : Did → ℕ) (object : Object) (logs : Logs) (h : History) → IsHistory object logs h → total_at f object logs ≡ total_by f (dids h)
+SumsAgree =
+    (f : Did → ℕ) (object : Object) (logs : Logs) (h : History) → IsHistory object logs h →
+    total_at f object logs ≡ total_by f (dids h)

@@ -2,7 +2,7 @@
 //! Laws of legal runs: the life of each region, regions apart, totals, and what is out at the end.
 //! Each law is the contract of a function that does nothing.
 
-ghost use Rattle.std.specs.Prelude.{◌≡◌, ℕ, List, Some, None};
+ghost use Rattle.std.specs.Prelude.{◌≡◌, ℕ, List};
 ghost use Rattle.pool_law.specs.declared.run.Shape.{Shape};
 ghost use Rattle.pool_law.specs.declared.note.Object.{Object};
 ghost use Rattle.pool_law.specs.declared.id.RegionId.{RegionId};
@@ -14,10 +14,12 @@ ghost use Rattle.run_laws.specs.HandCounts.{HandsBalance};
 ghost use Rattle.run_laws.specs.Regroup.{SumsAgree};
 ghost use Rattle.pool_law.specs.declared.command.Command.{Command};
 ghost use Rattle.pool_law.specs.declared.run.Answered.{Answered};
-ghost use Rattle.run_laws.specs.Hands.{hand_after};
+ghost use Rattle.run_laws.specs.Hands.{EmptyHanded};
 ghost use Rattle.pool_law.specs.declared.run.Run.{Run};
 ghost use Rattle.pool_law.specs.Legal.{IsLegal, logs_of};
 ghost use Rattle.run_laws.specs.Conserved.{CachesEndEmpty, RegionsReturn, OutAtEnd};
+ghost use Rattle.run_laws.specs.Headline.{Headline};
+ghost use Rattle.run_laws.specs.OneLog.{StandInOneLog};
 ghost use Rattle.run_laws.specs.Parcels.{TotalsAreShared};
 ghost use Rattle.pool_law.specs.Lives.{RegionsLive, LieApart};
 ghost use Rattle.pool_law.specs.LaneLaw.{IsLaneLog};
@@ -30,29 +32,35 @@ pub fn regions_go_through()
     ensures through { (lane class : ℕ) → GoesThrough lane class }
 {}
 
-/// The births of a place have its generations in order, and an end takes out what was born with its region.
+/// The births of a place have its generations in order, and what an end takes out was born there
+/// with its region.
 pub fn places_live()
     ensures lives { (place : ℕ) → PlaceLives place }
 {}
 
 /// Logs give each object one history.
 pub fn one_history()
-    ensures one { (object : Object) (logs : Logs) (h : History) → IsHistory object logs h → history_of object logs ≡ h }
+    ensures one { (object : Object) (logs : Logs) (h : History) →
+        IsHistory object logs h → history_of object logs ≡ h }
 {}
 
-/// In a lane's log each region that is taken, hit, shed or ended is put down before the next, as a birth, kept or given.
+/// In a lane's log each region that is taken, hit, shed or ended is put down before the next: it is
+/// born with a root, kept or given.
 pub fn hands_are_empty()
-    ensures empty { (shape : Shape) (lane : ℕ) (commands : List Command) (replies : List Answered) (es : Entries) → IsLaneLog shape lane commands replies es → hand_after None es ≡ Some None }
+    ensures empty { (shape : Shape) (lane : ℕ) (commands : List Command) (replies : List Answered)
+        (es : Entries) → IsLaneLog shape lane commands replies es → EmptyHanded es }
 {}
 
 /// In a lane's log what is got is used once, and what ends or is shed is kept or given once.
 pub fn hands_balance()
-    ensures balance { (r : RegionId) (es : Entries) → hand_after None es ≡ Some None → HandsBalance r es }
+    ensures balance { (r : RegionId) (es : Entries) → EmptyHanded es → HandsBalance r es }
 {}
 
 /// The total of a root is what the lanes count, with what was posted and not fetched.
 pub fn totals_are_counted()
-    ensures counted { (root : RootId) (logs : List (List Entry)) → ((lane : ℕ) → CountsHold root 0 (log_of logs lane)) → TotalHolds root logs → TotalIsCounted root logs }
+    ensures counted { (root : RootId) (logs : List (List Entry)) →
+        ((lane : ℕ) → CountsHold root 0 (log_of logs lane)) → TotalHolds root logs →
+        TotalIsCounted root logs }
 {}
 
 /// A sum over the notes at an object, in all logs, is the sum over its history.
@@ -60,15 +68,23 @@ pub fn sums_agree()
     ensures agree { SumsAgree }
 {}
 
-/// In a legal run each region lives its life: its uses are numbered from 1, each once; between two of them its owner's cache kept
-/// it once; and it comes back at most once, after its last use.
+/// In a legal run each region lives its life: its uses are numbered from 1, each once; between two
+/// of them its owner's cache kept it once; and it comes back at most once, after its last use.
 pub fn regions_live()
     ensures live { (run : Run) → IsLegal run → RegionsLive (logs_of run) }
 {}
 
-/// In a legal run two roots whose places overlap use one taking, or the taking of one came back before that of the other was taken.
+/// In a legal run two roots whose places overlap use one taking, or the taking of one came back
+/// before that of the other was taken.
 pub fn regions_lie_apart()
     ensures apart { (run : Run) → IsLegal run → LieApart (logs_of run) }
+{}
+
+/// In a legal run a root that is born has in one log its birth and then the step that sets its
+/// word, each once; and a root that ends has in one log the release that ends its count, its end,
+/// and the step that vacates its place, in this order, each once.
+pub fn roots_in_one_log()
+    ensures one_log { (run : Run) → IsLegal run → StandInOneLog (logs_of run) }
 {}
 
 /// In a legal run each cache of each lane ends empty.
@@ -76,17 +92,29 @@ pub fn caches_end_empty()
     ensures empty { (run : Run) → IsLegal run → CachesEndEmpty run.shape (logs_of run) }
 {}
 
-/// In a legal run the region of a root is put away once, after the root's one end, exactly where the root's total is 0.
+/// In a legal run the region of a root is put away once, after the root's one end, exactly where
+/// the root's total is 0.
 pub fn regions_return()
     ensures returned { (run : Run) → IsLegal run → RegionsReturn (logs_of run) }
 {}
 
-/// At the end of a legal run each arena has out exactly the regions of the live roots whose places name it.
+/// At the end of a legal run each arena has out exactly the regions of the live roots whose places
+/// name it.
 pub fn live_regions_are_out()
     ensures out { (run : Run) → IsLegal run → OutAtEnd run.shape (logs_of run) }
 {}
 
-/// In a legal run the total of each root is the sum of the lanes' counts and the parcels of it that are not fetched.
+/// In a legal run the total of each root is the sum of the lanes' counts and the parcels of it that
+/// are not fetched.
 pub fn totals_are_shared()
     ensures shared { (run : Run) → IsLegal run → TotalsAreShared (logs_of run) run.shape.lanes }
+{}
+
+/// The headline. In a legal run, whatever its trace, its lanes and their interleaving: regions of
+/// live roots never overlap; each read gives the bytes last written to its root, at its view's
+/// offsets; a root's region returns once, by the release that ends its count, and otherwise never;
+/// at the end exactly the live roots' regions are out, and the leak report lists exactly the
+/// sampled roots never freed.
+pub fn headline()
+    ensures headline { (run : Run) → IsLegal run → Headline run }
 {}
