@@ -1,0 +1,4 @@
+pub mod WordLaws
+pub mod HexLaws
+pub mod LineLaws
+pub mod RootLaws
