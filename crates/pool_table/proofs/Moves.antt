@@ -57,7 +57,7 @@ use Rattle.pool_table.specs.Order.{IsBelow}
 use Rattle.pool_table.proofs.Looks.{looks_same, looks_entry}
 use Rattle.pool_table.proofs.AtPlace.{PutsAt}
 use Rattle.pool_table.proofs.Births.{born_same, born_entry}
-use Rattle.pool_table.proofs.Putting.{puts_at, note_born}
+use Rattle.pool_table.proofs.Putting.{puts_at, note_born, fetched_place}
 use Rattle.pool_table.proofs.Exact.{counted_of, vacated_of}
 use Rattle.pool_table.proofs.Order.{IsNewest, newest, order_same, order_entry}
 use Rattle.pool_table.proofs.Newest.{newest_note}
@@ -229,7 +229,7 @@ module _ {H : Type 0} (stands : List ℕ → Setting → List Noted → H → Ty
             (let e : word ≡ 2 * n = omega (arith, w0) in e),
             refl,
             refl,
-            record { object = fits; accepted = k.accepted; stands_for = under v.setting r.setting (λ g. stands (measures_of l.shape o) g h hv.0) fine.setting_is hv.2; short = short stands l s r o fits; root = tells_root stands l s r id v o fits at; bin = λ b p m e after has. hand_bin stands l s r id v o fits at b p m e after (hand_place stands l some_handle s r id p v at has) has; arena = arena_tells stands l s r id v o fits at; cache = cache_tells stands l s r id v o fits at; setting = r.setting; view = fine; counted = counted_of stands l s r id v at; vacated = vacated_of stands l s r id v at; uses = few_uses stands l s r id v at; once = in_hand_once stands l s r id v at; free = λ q n more lt. next_free stands l s r id v at q n o fits more lt; lanes = each_may stands l s r o fits; seen = next_above l.shape o h (n + (t - is_in (face l.shape i v))) v.own.number last v.own.notes told.told; own = told.own },
+            record { object = fits; accepted = k.accepted; stands_for = under v.setting r.setting (λ g. stands (measures_of l.shape o) g h hv.0) fine.setting_is hv.2; short = short stands l s r o fits; root = tells_root stands l s r id v o fits at; bin = λ b p m e after has. hand_bin stands l s r id v o fits at b p m e after (hand_place stands l some_handle s r id p v at has) has; arena = arena_tells stands l s r id v o fits at; cache = cache_tells stands l s r id v o fits at; setting = r.setting; view = fine; counted = counted_of stands l s r id v at; vacated = vacated_of stands l s r id v at; uses = few_uses stands l s r id v at; once = in_hand_once stands l s r id v at; free = λ q n more lt. next_free stands l s r id v at q n o fits more lt; fetched = λ a b n q is more fetch. fetched_place stands l s r id v at o fits a b n q is more fetch; lanes = each_may stands l s r o fits; seen = next_above l.shape o h (n + (t - is_in (face l.shape i v))) v.own.number last v.own.notes told.told; own = told.own },
           ),
         ),
       )

@@ -1,7 +1,7 @@
 -- What a note puts down and names, in all views: what it may tell of a root is so by its place and generation, and the
 -- root was born.
 use Rattle.step_law.specs.Settings.{Setting}
-use Rattle.std.proofs.Common.{◌≡◌, ℕ, suc, ◌+◌, ◌<◌, ◌≤◌, List, [], ◌∷◌, ◌++◌, map, Bool, true, false, cond, eqb, sym, refl, ap, subst, ⊎_elim, arith, eqb-true, eq-eqb, Some, None}
+use Rattle.std.proofs.Common.{◌≡◌, ℕ, suc, ◌+◌, ◌*◌, ◌<◌, ◌≤◌, List, [], ◌∷◌, ◌++◌, map, Bool, true, false, cond, eqb, sym, refl, ap, subst, ⊎_elim, arith, eqb-true, eq-eqb, Some, None}
 use Rattle.std.specs.Prelude.{Option, option_map, IfSome, sum_by, filter, ◌&&◌}
 use Rattle.std.proofs.lemmas.List.Sums.{sum_by-cons}
 use mathlib.Core.Logic.{dite}
@@ -36,7 +36,7 @@ use Rattle.pool_table.specs.Hands.{InHand, NoneWaits, PutsDown}
 use Rattle.pool_table.specs.Births.{carried, IsBorn, NamesBorn}
 use Rattle.pool_table.specs.Sound.{IsSound}
 use Rattle.pool_table.proofs.AtPlace.{CountsAt, TokenAt, PutsAt}
-use Rattle.pool_table.proofs.Exact.{count_at, count_born, token_at, token_born, some_named, post_names}
+use Rattle.pool_table.proofs.Exact.{born_place, count_at, count_born, token_at, token_born, some_named, post_names}
 
 yes : (b : Bool) → 0 < cond {A = ℕ} b 1 0 → b ≡ true
 yes true lt = refl
@@ -111,6 +111,15 @@ module _ {H : Type 0} (stands : List ℕ → Setting → List Noted → H → Ty
         by : (o : Option ViewData) → option_map (λ (w : ViewData). w.root) o ≡ Some t → view_of_root t o ≡ 1
         by None has = absurd (cc has)
         by (Some w) has = let e : w.root ≡ t = cc has in ap (λ (b : Bool). cond {A = ℕ} b 1 0) (subst (λ (x : RootId). same_root x t ≡ true) (sym e) (same_root-refl t))
+
+    -- so it is of one of the root places
+    pub fetched_place : (o : Object) (fits : IsObjectOf l.shape o) (f u : ℕ) (n : Noted) (q : Parcel) → o ≡ Mail f u → IsHistory l.shape o ((r.objects o fits).history ++ n ∷ []) → n.did ≡ Fetch q → IfSome q.view (λ w. w.root.place < l.shape.lanes * l.shape.handles)
+    fetched_place o fits f u n q is more fetch = by q.view refl
+      where
+        by : (x : Option ViewData) → q.view ≡ x → IfSome x (λ w. w.root.place < l.shape.lanes * l.shape.handles)
+        by None e = tt
+        by (Some w) e = born_place stands l s r w.root
+            (subst (λ (o : Object). (fits : IsObjectOf l.shape o) → IsHistory l.shape o ((r.objects o fits).history ++ n ∷ []) → IsBorn s.views w.root) (sym is) (λ fits more. fetched n q w.root fetch (ap (option_map (λ (w : ViewData). w.root)) e) f u fits more) fits more)
 
     at_mail : (o : Object) (n : Noted) (q : Parcel) (t : RootId) → n.did ≡ Fetch q → option_map (λ (w : ViewData). w.root) q.view ≡ Some t → IsMailed o n.did → (f : ℕ) × (u : ℕ) × (o ≡ Mail f u)
     at_mail o n q t is has mailed = by q.view has (subst (λ (d : Did). IsMailed o d) is mailed)
