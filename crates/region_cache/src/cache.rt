@@ -10,7 +10,7 @@ use std::marker::Model;
 /// Regions that wait for their next use, first in, first out.
 /// (Netty: `PoolThreadCache.MemoryRegionCache`.)
 ///
-/// It must be spent. Each call but `new` and `leave` is one note of the cache's history.
+/// It must be spent. Each call but `new`, `take_out` and `leave` is one note of its history.
 pub struct Cache {
     regions: HeapCircularBuffer<Region>,
     served: u32,
@@ -107,6 +107,16 @@ impl Cache {
         };
         self.quota -= 1;
         front
+    }
+
+    /// Takes the front region out of a cache in any state, whose history is over: it makes no note.
+    /// None comes exactly where there is none.
+    pub fn take_out(&mut self) -> Option<Region>
+        ensures some { IfSome result (λ r. self.old.regions ≡ r ∷ self.new.regions) }
+        ensures none { IfNone result (self.old.regions ≡ []) }
+    {
+        self.quota = 0;
+        self.regions.pop_front()
     }
 
     /// Ends a cache in any state. The memory of regions that are still in it stays taken.

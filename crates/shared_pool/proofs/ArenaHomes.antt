@@ -8,7 +8,7 @@ use Rattle.pool_law.specs.declared.note.Did.{Did}
 use Rattle.pool_law.specs.declared.note.Did.TheVariants.{Take, Give}
 use Rattle.pool_law.specs.declared.note.Noted.{Noted}
 use Rattle.pool_law.specs.declared.note.Object.TheVariants.{Arena as ArenaOf}
-use Rattle.pool_law.specs.Arenas.{Arena as ArenaLaw, new_arena, take, give, is_out_of}
+use Rattle.pool_law.specs.Arenas.{Arena as ArenaLaw, new_arena, is_out_of}
 use Rattle.pool_law.specs.Histories.{after}
 use Rattle.pool_law.specs.NotedHistories.{noted_dids, IsRightAt, IsRightWatch}
 use Rattle.pool_law.specs.Naming.{noted_by}

@@ -1,6 +1,6 @@
 -- What is known of a pool as it closes, from what the table's close told.
-use Rattle.std.proofs.Common.{◌≡◌, ℕ, ◌*◌, List, sym, ap, ◌∙◌, subst, refl, Some, None}
-use Rattle.std.specs.Prelude.{Option, IsSome}
+use Rattle.std.proofs.Common.{◌≡◌, ℕ, ◌+◌, ◌*◌, List, ap, ◌∙◌, subst, refl, arith, Some, None}
+use Rattle.std.specs.Prelude.{◌≤◌, Option, length}
 use Rattle.step_law.specs.Settings.{Setting}
 use Rattle.step_law.specs.declared.Told.{Ghosts}
 use Rattle.size_classes.specs.Sizes.{below}
@@ -15,26 +15,29 @@ use Rattle.pool_table.specs.Views.{parts_of}
 use Rattle.shared_pool.specs.declared.home.Home.{Home}
 use Rattle.shared_pool.specs.declared.pool.SharedPool.{SharedPool}
 use Rattle.shared_pool.specs.Closing.{AreLanes, HasNoPlace, AreWhole, logs_in}
+use Rattle.shared_pool.specs.Emptying.{left_of, AreOut}
 use Rattle.shared_pool.specs.Ends.{AreArenas, ArePlaces, chunks_from, told_from}
+use Rattle.shared_pool.specs.Joining.{arenas_known}
 use Rattle.shared_pool.specs.Live.{AreLiveRoots}
 use Rattle.shared_pool.specs.Seated.{AreDone, parts_in}
 use Rattle.shared_pool.specs.Standing.{HomeStands}
 use Rattle.shared_pool.proofs.ClosingLaw.{parts-whole}
-use Rattle.shared_pool.proofs.JoinedParts.{HasNoToken, lanes_joined, places_joined, tokens_joined}
+use Rattle.shared_pool.proofs.JoinedParts.{HasNoToken, lanes_joined, places_joined, takings_joined, tokens_joined}
+use Rattle.shared_pool.proofs.EmptyStart.{are_out}
 use Rattle.shared_pool.proofs.LastChunks.{arenas_here, chunks_told}
 use Rattle.shared_pool.proofs.LiveTold.{places_here, live_told}
 
-there : {X : Type 0} (o : Option X) → IsSome o → (x : X) × (o ≡ Some x)
-there None some = absurd (cc some)
-there (Some x) some = (x, refl)
+found_in : (n : ℕ) (o : Option Setting) → arenas_known o ≡ Some n → (x : Setting) × (o ≡ Some x) × (length x.grounds ≡ n)
+found_in n None e = absurd (cc e)
+found_in n (Some x) e = (x, refl, cc e)
 
 module _ {G : Ghosts Home Noted} (pool : SharedPool) (seats : List (PoolSeat Home G)) (done : AreDone pool seats) (v : SeatView) (parts : parts_of v ≡ parts_in seats)
-    (settled : IsSome v.setting) (homes : List (Option Home)) (words : List ℕ) (closed : IsClosed HomeStands pool.table.layout v homes words) where
+    (settled : arenas_known v.setting ≡ Some pool.table.layout.shape.arenas) (homes : List (Option Home)) (words : List ℕ) (closed : IsClosed HomeStands pool.table.layout v homes words) where
   abbrev shape : Shape
   shape = pool.table.layout.shape
 
-  found : (x : Setting) × (v.setting ≡ Some x)
-  found = there v.setting settled
+  found : (x : Setting) × (v.setting ≡ Some x) × (length x.grounds ≡ shape.arenas)
+  found = found_in shape.arenas v.setting settled
 
   lanes : AreLanes shape (parts_of v)
   lanes = lanes_joined pool seats done v parts
@@ -60,3 +63,10 @@ module _ {G : Ghosts Home Noted} (pool : SharedPool) (seats : List (PoolSeat Hom
   pub live : AreLiveRoots (parts_in seats) (told_from shape homes words (below (shape.lanes * shape.handles)))
   live = subst (λ (ps : List Part). AreLiveRoots ps (told_from shape homes words (below (shape.lanes * shape.handles)))) parts
       (live_told pool.table.layout v homes words closed lanes found.0 found.1 none tokens)
+
+  -- there is a home value for each arena, and more
+  pub many : shape.arenas ≤ length homes
+  many = let x : ℕ = shape.lanes * shape.lanes in let y : ℕ = shape.lanes * shape.handles in let e : length homes ≡ shape.arenas + shape.lanes * 41 + x + y = closed.home_count in omega (arith, e)
+
+  pub out : AreOut shape.arenas homes (left_of homes)
+  out = are_out pool.table.layout v homes words closed lanes found.0 found.1 found.2 (takings_joined pool seats done v parts)

@@ -1,7 +1,7 @@
 -- A root is present at its place, at the close, exactly where it is live.
 use Rattle.step_law.specs.Settings.{Setting}
-use Rattle.std.proofs.Common.{◌≡◌, ◌≢◌, ℕ, zero, suc, ◌+◌, ◌-◌, ◌*◌, ◌/◌, ◌%◌, ◌<◌, ◌≤◌, List, [], ◌∷◌, length, map, Bool, true, false, cond, sym, refl, ap, ◌∙◌, subst, arith, inl, inr, ⊎_elim, eq-eqb, eqb-true, Some, None}
-use Rattle.std.specs.Prelude.{◌⊎◌, ◌==◌, ◌&&◌, not, if◌then◌else◌, Option, All, unwrap_or, filter, sum_by, slice_get, slice_index}
+use Rattle.std.proofs.Common.{◌≡◌, ◌≢◌, ℕ, zero, suc, ◌+◌, ◌-◌, ◌*◌, ◌/◌, ◌%◌, ◌<◌, ◌≤◌, List, [], ◌∷◌, length, Bool, true, false, cond, sym, refl, ap, ◌∙◌, subst, arith, inl, inr, ⊎_elim, eq-eqb, eqb-true, Some}
+use Rattle.std.specs.Prelude.{◌==◌, ◌&&◌, Option, filter, sum_by, slice_get, slice_index}
 use Rattle.std.proofs.lemmas.List.Sums.{sum_by-cons, sum_by-le-sum_by}
 use mathlib.Core.Logic.{dite}
 use native.Mathlib.Decide.{ℕ_discrete, dec_le}
@@ -9,7 +9,6 @@ use Rattle.pool_law.specs.declared.id.RootId.{RootId}
 use Rattle.pool_law.specs.declared.id.RegionId.{RegionId}
 use Rattle.pool_law.specs.declared.note.Did.{Did}
 use Rattle.pool_law.specs.declared.note.Did.TheVariants.{Birth, End}
-use Rattle.pool_law.specs.declared.note.Note.{Note}
 use Rattle.pool_law.specs.declared.note.Noted.{Noted}
 use Rattle.pool_law.specs.declared.note.Object.{Object}
 use Rattle.pool_law.specs.declared.note.Object.TheVariants.{Root}
@@ -18,8 +17,6 @@ use Rattle.pool_law.specs.declared.note.RefDid.TheVariants as Step
 use Rattle.pool_law.specs.Homes.{home_of, objects_of, IsObjectOf}
 use Rattle.pool_law.specs.Same.{same_root}
 use Rattle.pool_law.specs.Counts.{TotalHolds, count_over, total_of, is_retain, is_release, is_birth, ends_root}
-use Rattle.pool_law.specs.Logs.{log_of, entries_of}
-use Rattle.pool_law.specs.Leaks.{is_live}
 use Rattle.table_law.specs.NoteCounts.{is_root, did_birth, did_birth_as, did_end}
 use Rattle.table_law.proofs.Apart.{one_home}
 use Rattle.table_law.proofs.Names.{and-first, and-second, same_root-is}
@@ -29,17 +26,17 @@ use Rattle.pool_table.specs.declared.views.Layout.{Layout}
 use Rattle.pool_table.specs.declared.views.Part.{Part}
 use Rattle.pool_table.specs.declared.views.SeatView.{SeatView}
 use Rattle.pool_table.specs.Views.{parts_of, is_about, is_numbered}
-use Rattle.pool_table.specs.Counts.{IsCounted, on_root, on_this, weigh, weigh_in, tally, any_gain, reached, ref_gain, ref_loss, ref_retain, ref_born, ref_ended, ref_vacated}
+use Rattle.pool_table.specs.Counts.{IsCounted, on_root, on_this, weigh, weigh_in, tally, any_gain, ref_gain, ref_loss, ref_retain, ref_born, ref_ended, ref_vacated}
 use Rattle.pool_table.specs.Births.{IsBorn}
 use Rattle.pool_table.specs.Hands.{at_birth_as, at_end}
 use Rattle.pool_table.specs.Sound.{Tells, Stands}
 use Rattle.pool_table.specs.Closed.{IsClosed}
 use Rattle.pool_table.proofs.Looks.{gains_are}
-use Rattle.shared_pool.specs.Closing.{AreLanes, HasNoPlace, logs_in, entries_in}
+use Rattle.shared_pool.specs.Closing.{AreLanes, HasNoPlace, entries_in}
 use Rattle.shared_pool.specs.Ends.{count_in}
-use Rattle.shared_pool.proofs.ClosingEntries.{told_note, entries_hold}
+use Rattle.shared_pool.proofs.ClosingEntries.{told_note}
 use Rattle.shared_pool.proofs.ClosingSums.{law, count_over-is, weigh_same, some_weighs, retains_alike, releases_alike, ends_alike, births_alike}
-use Rattle.shared_pool.proofs.ClosingTotals.{one_is, birth_place, made, counts_are, IsTotal, total_of_word, totals_hold}
+use Rattle.shared_pool.proofs.ClosingTotals.{one_is, birth_place, made, counts_are, total_of_word, totals_hold}
 use Rattle.shared_pool.proofs.ClosingWhole.{at, stands_at, note_there, told_at}
 use Rattle.shared_pool.proofs.JoinedParts.{HasNoToken}
 use Rattle.shared_pool.proofs.PlaceLives.{HasEnd}

@@ -1,31 +1,31 @@
 -- The parts of the seats with which a pool is closed, as the parts of one view.
-use Rattle.std.proofs.Common.{◌≡◌, ℕ, zero, suc, ◌+◌, ◌<◌, ◌≤◌, List, [], ◌∷◌, ◌++◌, append_assoc, length, map, Bool, true, false, cond, sym, refl, ap, ◌∙◌, subst, arith, eq-eqb, ne_eqb, Some}
-use Rattle.std.specs.Prelude.{◌==◌, Option, All, IsSome, reverse, slice_get, slice_index_or, sum_by, count_by}
+use Rattle.std.proofs.Common.{◌≡◌, ℕ, suc, ◌+◌, ◌<◌, ◌≤◌, List, [], ◌∷◌, ◌++◌, append_assoc, length, Bool, cond, sym, refl, ap, ◌∙◌, subst, arith, eq-eqb, ne_eqb, Some}
+use Rattle.std.specs.Prelude.{◌==◌, All, reverse, slice_get, sum_by, count_by}
 use Rattle.std.proofs.lemmas.Option.{slice_get_within, get_or_from_slice_get}
-use Rattle.std.proofs.lemmas.List.Elements.{All-head, All-tail, All-weaker}
-use Rattle.std.proofs.lemmas.List.{length-map, reverse-append}
+use Rattle.std.proofs.lemmas.List.Elements.{All-head, All-tail}
+use Rattle.std.proofs.lemmas.List.{length-map, reverse-append, reverse-reverse}
 use Rattle.std.proofs.lemmas.List.Sums.{sum_by-cons}
 use mathlib.Core.Logic.{dite}
 use native.Mathlib.Decide.{ℕ_discrete, dec_le}
-use Rattle.step_law.specs.Settings.{Setting}
 use Rattle.step_law.specs.declared.Told.{Ghosts}
 use Rattle.pool_law.specs.declared.id.RootId.{RootId}
 use Rattle.pool_law.specs.declared.note.Noted.{Noted}
 use Rattle.pool_law.specs.declared.run.Shape.{Shape}
 use Rattle.pool_table.specs.declared.table.PoolSeat.{PoolSeat}
 use Rattle.pool_table.specs.declared.views.Entry.{Entry}
-use Rattle.pool_table.specs.declared.views.Layout.{Layout}
 use Rattle.pool_table.specs.declared.views.Part.{Part}
 use Rattle.pool_table.specs.declared.views.SeatView.{SeatView}
 use Rattle.pool_table.specs.Closed.{HasAllLanes}
-use Rattle.pool_table.specs.Counts.{weigh, weigh_in, on_place, on_this, ref_born, ref_ended, ref_vacated, HasToken}
-use Rattle.pool_table.specs.Hands.{InHand, at_in, at_out, taken, put_down}
+use Rattle.pool_table.specs.Counts.{weigh, weigh_in, on_place, on_this, ref_born, ref_ended, ref_vacated}
+use Rattle.pool_law.specs.declared.id.RegionId.{RegionId}
+use Rattle.table_law.specs.NoteCounts.{is_taking}
+use Rattle.pool_table.specs.Hands.{HasTaking, at_in, at_out, taken, put_down, from_arena, to_arena, from_cache, to_cache, from_place, to_place, grasped, laid}
 use Rattle.pool_table.specs.Seats.{view_of}
 use Rattle.pool_table.specs.Views.{is_lane, joined, parts_of}
 use Rattle.shared_pool.specs.declared.home.Home.{Home}
 use Rattle.shared_pool.specs.declared.pool.SharedPool.{SharedPool}
 use Rattle.shared_pool.specs.Closing.{AreLanes, HasNoPlace}
-use Rattle.shared_pool.specs.Joining.{IsApart, AreApart}
+use Rattle.shared_pool.specs.Joining.{IsApart, AreApart, arenas_known}
 use Rattle.shared_pool.specs.Seated.{HasNothing, IsDone, AreDone, parts_in}
 use Rattle.shared_pool.proofs.ClosingEntries.{from_at}
 use Rattle.shared_pool.proofs.ClosingWhole.{in_map}
@@ -55,6 +55,11 @@ HasNoToken ps = (r : RootId) → weigh_in (on_this ref_ended r) ps ≡ 1 → wei
 abbrev HasNoPlaceIn : List Part → Type 0
 HasNoPlaceIn ps = (p : ℕ) → weigh_in (at_in p) ps + weigh_in (on_place ref_vacated p) ps ≤ weigh_in (at_out p) ps + weigh_in (on_place ref_born p) ps
 
+abbrev HasNoTakingIn : List Part → Type 0
+HasNoTakingIn ps =
+    (q : RegionId) → weigh_in (from_arena (is_taking q)) ps + (weigh_in (from_cache (is_taking q)) ps + weigh_in (from_place (is_taking q)) ps) ≤
+    weigh_in (to_arena (is_taking q)) ps + (weigh_in (to_cache (is_taking q)) ps + weigh_in (to_place (is_taking q)) ps)
+
 module _ {G : Ghosts Home Noted} where
   -- a view with one part
   own_weighs : (f : Entry → ℕ) (s : PoolSeat Home G) → (view_of s).others ≡ [] → weigh f (view_of s) ≡ sum_by f (view_of s).own.notes
@@ -70,6 +75,13 @@ module _ {G : Ghosts Home Noted} where
       ∙ ap (λ (ps : List Part). (view_of s).own ∷ ((view_of s).others ++ ((view_of t).own ∷ ps)) ++ parts_in (reverse rest)) alone
       ∙ ap (λ (ps : List Part). (view_of s).own ∷ ps) (append_assoc (view_of s).others ((view_of t).own ∷ []) (parts_in (reverse rest)))
       ∙ ap (λ (ss : List (PoolSeat Home G)). parts_of (view_of s) ++ parts_in ss) (sym (ap reverse popped ∙ reverse-append rest (t ∷ [])))
+
+  -- the parts of the first of them, and of the others
+  pub first_parts : (s : PoolSeat Home G) (rest seats : List (PoolSeat Home G)) → (view_of s).others ≡ [] → reverse seats ≡ rest ++ s ∷ [] →
+      parts_of (view_of s) ++ parts_in (reverse rest) ≡ parts_in seats
+  first_parts s rest seats alone is =
+      ap (λ (ps : List Part). (view_of s).own ∷ (ps ++ parts_in (reverse rest))) alone
+      ∙ ap (λ (ss : List (PoolSeat Home G)). parts_in ss) (sym (reverse-append rest (s ∷ [])) ∙ ap (λ (ss : List (PoolSeat Home G)). reverse ss) (sym is) ∙ reverse-reverse seats)
 
   pub record IsEmptyHanded (s : PoolSeat Home G) : Type 0 where
     pub alone : (view_of s).others ≡ []
@@ -88,6 +100,16 @@ module _ {G : Ghosts Home Noted} where
       let x : ℕ = taken p (view_of s) in let y : ℕ = put_down p (view_of s) in
       let le : x ≤ y = dite (dec_le x y) (λ le. le) (λ gt. absurd (e.nothing.place p (let z : y < x = omega (arith, gt) in z))) in
       omega (arith, a, b, c, d, ih, le)
+
+  no_taking : (ss : List (PoolSeat Home G)) → All IsEmptyHanded ss → HasNoTakingIn (parts_in ss)
+  no_taking [] all q = omega arith
+  no_taking (s ∷ ss) all q =
+      let e = All-head IsEmptyHanded s ss all in let ih = no_taking ss (All-tail IsEmptyHanded s ss all) q in
+      let a = more (from_arena (is_taking q)) s ss e.alone in let b = more (from_cache (is_taking q)) s ss e.alone in let c = more (from_place (is_taking q)) s ss e.alone in
+      let d = more (to_arena (is_taking q)) s ss e.alone in let f = more (to_cache (is_taking q)) s ss e.alone in let k = more (to_place (is_taking q)) s ss e.alone in
+      let x : ℕ = grasped (is_taking q) (view_of s) in let y : ℕ = laid (is_taking q) (view_of s) in
+      let le : x ≤ y = dite (dec_le x y) (λ le. le) (λ gt. absurd (e.nothing.region q (let z : y < x = omega (arith, gt) in z))) in
+      omega (arith, a, b, c, d, f, k, ih, le)
 
   no_token : (ss : List (PoolSeat Home G)) → All IsEmptyHanded ss → HasNoToken (parts_in ss)
   no_token [] all r one none = absurd (omega (arith, one))
@@ -116,7 +138,7 @@ module _ {G : Ghosts Home Noted} where
 
     pub apart : AreApart pool.table seats
     apart = from_at (IsApart pool.table) seats (λ lane s is. let d = (one lane s is).seat in
-        record { own = d.own; outside = d.outside; alone = d.alone; settled = subst (λ (o : Option Setting). IsSome o) (sym d.settled) refl })
+        record { own = d.own; outside = d.outside; alone = d.alone; settled = ap arenas_known d.settled ∙ ap (λ (n : ℕ). Some n) d.arenas })
 
     empty_handed : All IsEmptyHanded seats
     empty_handed = from_at IsEmptyHanded seats (λ lane s is. let d = one lane s is in record { alone = d.seat.alone; nothing = d.nothing })
@@ -135,6 +157,11 @@ module _ {G : Ghosts Home Noted} where
       places_joined p hand =
           let le = subst HasNoPlaceIn (sym parts) (no_place seats empty_handed) p in
           let x : ℕ = taken p v in let y : ℕ = put_down p v in let le' : x ≤ y = le in let lt : y < x = hand in absurd (omega (arith, le', lt))
+
+      pub takings_joined : (q : RegionId) → HasTaking q v → ⊥
+      takings_joined q hand =
+          let le = subst HasNoTakingIn (sym parts) (no_taking seats empty_handed) q in
+          let x : ℕ = grasped (is_taking q) v in let y : ℕ = laid (is_taking q) v in let le' : x ≤ y = le in let lt : y < x = hand in absurd (omega (arith, le', lt))
 
       pub tokens_joined : HasNoToken (parts_of v)
       tokens_joined = subst HasNoToken (sym parts) (no_token seats empty_handed)

@@ -1,5 +1,5 @@
 -- What a call leaves in a seat's hands, where its note moves nothing of that kind, and what it costs.
-use Rattle.std.proofs.Common.{◌≡◌, ℕ, ◌+◌, ◌-◌, ◌<◌, ◌≤◌, List, [], ◌∷◌, ◌++◌, Bool, true, false, refl, sym, ap, ◌∙◌, subst, arith}
+use Rattle.std.proofs.Common.{◌≡◌, ℕ, ◌+◌, ◌-◌, ◌≤◌, List, [], ◌∷◌, ◌++◌, Bool, true, false, refl, sym, ap, ◌∙◌, subst, arith}
 use Rattle.std.specs.Prelude.{Option, Some, None, IfSome, unwrap_or, if◌then◌else◌, ◌&&◌}
 use Rattle.step_law.specs.Settings.{Setting}
 use Rattle.step_law.specs.declared.Told.{Ghosts}
@@ -30,7 +30,8 @@ use Rattle.shared_pool.specs.declared.home.Home.{Home}
 use Rattle.shared_pool.specs.declared.pool.SharedPool.{SharedPool}
 use Rattle.shared_pool.specs.Holding.{HoldsHandle, HoldsRegion}
 use Rattle.shared_pool.specs.CacheAnswers.{was_put}
-use Rattle.shared_pool.specs.Notes.{popped, hit, taken_or_full}
+use Rattle.pool_arena.specs.Standing.{taken_or_full}
+use Rattle.shared_pool.specs.Notes.{popped, hit}
 use Rattle.shared_pool.specs.Quotas.{quota_after, quota_from, quota_left, is_post, posts as sent}
 use Rattle.shared_pool.specs.Answers.{IfDid}
 use Rattle.shared_pool.specs.declared.went.Went.{Went}
@@ -40,7 +41,7 @@ use Rattle.shared_pool.specs.declared.went.Put.TheVariants.{Kept, Back}
 use Rattle.shared_pool.specs.RootNotes.{IsNotedWith}
 use Rattle.shared_pool.specs.SeatLanes.{lane_of}
 use Rattle.shared_pool.specs.Seats.{IsNoted, FoundBusy}
-use Rattle.shared_pool.specs.Spending.{HasNoQuota, Spends}
+use Rattle.shared_pool.specs.Spending.{Spends, PostsNothing}
 
 -- a quota over two lists of entries
 quota_append : (lane class quota : ℕ) (xs ys : List Entry) → quota_from lane class quota (xs ++ ys) ≡ quota_from lane class (quota_from lane class quota xs) ys
@@ -92,6 +93,19 @@ sent_append a b (At o k n ∷ xs) ys = let t : ℕ = (if same_object o (Mail a b
 sent_append a b (Ref r d ∷ xs) ys = sent_append a b xs ys
 sent_append a b (Busy held ∷ xs) ys = sent_append a b xs ys
 
+-- an entry that posts nothing
+unposted : (a b : ℕ) (es : List Entry) (o : Object) (k : ℕ) (n : Noted) → is_post n.did ≡ false → sent a b (es ++ At o k n ∷ []) ≡ sent a b es
+unposted a b es o k n other =
+    let sum = sent_append a b es (At o k n ∷ []) in let none = go (same_object o (Mail a b)) (is_post n.did) other in omega (arith, sum, none)
+  where
+    go : (x y : Bool) → y ≡ false → (if x && y then 1 else 0) + 0 ≡ 0
+    go true true is = absurd (cc is)
+    go true false is = refl
+    go false y is = refl
+
+unposted_ref : (a b : ℕ) (es : List Entry) (root : RootId) (step : RefDid) → sent a b (es ++ Ref root step ∷ []) ≡ sent a b es
+unposted_ref a b es root step = let sum = sent_append a b es (Ref root step ∷ []) in omega (arith, sum)
+
 -- one entry more leaves no quota where there was none
 no_quota_more : (lane : ℕ) (es : List Entry) (e : Entry) → IsFrugal e → ((class : ℕ) → quota_left lane class es ≡ 0) → (class : ℕ) → quota_left lane class (es ++ e ∷ []) ≡ 0
 no_quota_more lane es e frugal none class = quota_append lane class 0 es (e ∷ []) ∙ ap (λ (q : ℕ). quota_from lane class q (e ∷ [])) (none class) ∙ frugal lane class
@@ -122,6 +136,17 @@ module _ {G : Ghosts Home Noted} where
     moves_left = subst (λ (x : SeatView). (view_of old).moves ≤ x.moves + moves) (sym is) m;
     no_quota = λ none. subst ViewNoQuota (sym is) (q none);
   }
+
+  -- a view known by its entries posts what they post
+  nothing_view : (old new : PoolSeat Home G) (w : SeatView) → view_of new ≡ w → w.setting ≡ (view_of old).setting → w.own.number ≡ (view_of old).own.number → ((a b : ℕ) → sent a b w.own.notes ≡ sent a b (view_of old).own.notes) → PostsNothing old new
+  nothing_view old new w is setting number posted = record {
+    setting = ap (λ (x : SeatView). x.setting) is ∙ setting;
+    number = ap (λ (x : SeatView). x.own.number) is ∙ number;
+    posted = λ a b. ap (λ (x : SeatView). sent a b x.own.notes) is ∙ posted a b;
+  }
+
+  pub nothing_both : (old mid new : PoolSeat Home G) → PostsNothing old mid → PostsNothing mid new → PostsNothing old new
+  nothing_both old mid new x y = record { setting = y.setting ∙ x.setting; number = y.number ∙ x.number; posted = λ a b. y.posted a b ∙ x.posted a b }
 
   -- a call that found another seat costs nothing
   pub held_free : (pool : SharedPool) (o : Object) (mark : Bool) (old new : PoolSeat Home G) (held : Held) → FoundBusy pool o mark old new held → Spends 0 0 old new
@@ -172,15 +197,8 @@ module _ {G : Ghosts Home Noted} where
     note_costs same = spends_view 1 0 old new (with_entry v e (v.turns - 1)) view (omega arith) (omega arith) (no_quota_more (lane_of old) v.own.notes e (frugal_note o number (noted_by v.own.number n) same))
 
     -- what isn't a post posts nothing
-    pub note_posts : is_post n.did ≡ false → (a b : ℕ) → sent a b (view_of new).own.notes ≡ sent a b v.own.notes
-    note_posts other a b =
-        let sum = sent_append a b v.own.notes (e ∷ []) in let none = go (same_object o (Mail a b)) (is_post n.did) other in
-        ap (λ (w : SeatView). sent a b w.own.notes) view ∙ (omega (arith, sum, none))
-      where
-        go : (x y : Bool) → y ≡ false → (if x && y then 1 else 0) + 0 ≡ 0
-        go true true is = absurd (cc is)
-        go true false is = refl
-        go false y is = refl
+    pub note_nothing : is_post n.did ≡ false → PostsNothing old new
+    note_nothing other = nothing_view old new (with_entry v e (v.turns - 1)) view refl refl (λ a b. unposted a b v.own.notes o number (noted_by v.own.number n) other)
 
     pub keeps_handle : (h : HandleValue) → did_home h.place n.did ≡ 0 → did_birth h.place n.did ≡ 0 → HoldsHandle pool old h → HoldsHandle pool new h
     keeps_handle h home birth = entry_handle pool old new e (v.turns - 1) view h (λ f. refl) home birth
@@ -226,3 +244,13 @@ module _ {G : Ghosts Home Noted} where
       let v = view_of old in let e : Entry = At (Root root.place) number (noted_by v.own.number n) in
       spends_view 1 spent old new (with_ref (with_entry v e (v.turns - 1)) root step moves) (ap (λ m. m.0) noted.seat) (omega arith) le
       (λ none. no_quota_more (lane_of old) (v.own.notes ++ e ∷ []) (Ref root step) (λ lane class. refl) (no_quota_more (lane_of old) v.own.notes e (frugal_note (Root root.place) number (noted_by v.own.number n) same) none))
+
+  -- neither a step on a root's word posts anything, nor a note with one
+  pub ref_nothing : (old new : PoolSeat Home G) (root : RootId) (step : RefDid) (moves : ℕ) → HasView new (with_ref (view_of old) root step moves) → PostsNothing old new
+  ref_nothing old new root step moves has = nothing_view old new (with_ref (view_of old) root step moves) (ap (λ m. m.0) has) refl refl (λ a b. unposted_ref a b (view_of old).own.notes root step)
+
+  pub with_nothing : (pool : SharedPool) (old new : PoolSeat Home G) (root : RootId) (number : ℕ) (n : Noted) (step : RefDid) (moves : ℕ) → IsNotedWith pool old new root number n step moves → is_post n.did ≡ false → PostsNothing old new
+  with_nothing pool old new root number n step moves noted other =
+      let v = view_of old in let e : Entry = At (Root root.place) number (noted_by v.own.number n) in
+      nothing_view old new (with_ref (with_entry v e (v.turns - 1)) root step moves) (ap (λ m. m.0) noted.seat) refl refl
+      (λ a b. unposted_ref a b (v.own.notes ++ e ∷ []) root step ∙ unposted a b v.own.notes (Root root.place) number (noted_by v.own.number n) other)

@@ -4,15 +4,13 @@ use Rattle.std.specs.Prelude.{Option, IfSome, unwrap_or, slice_get}
 use mathlib.Core.Option.{some, some-injective, some-ne-none}
 use lib.ListN.{get_elem?}
 use Rattle.step_law.specs.Settings.{Setting}
-use Rattle.size_classes.specs.Sizes.{Geometry, below}
+use Rattle.size_classes.specs.Sizes.{below}
 use Rattle.pool_law.specs.declared.id.RegionId.{RegionId}
-use Rattle.pool_law.specs.declared.note.Note.{Note}
-use Rattle.pool_law.specs.declared.note.Noted.{Noted}
 use Rattle.pool_law.specs.declared.note.Object.{Object}
 use Rattle.pool_law.specs.declared.note.Object.TheVariants.{Arena as ArenaOf}
 use Rattle.pool_law.specs.declared.report.ChunkEnd.{ChunkEnd}
 use Rattle.pool_law.specs.declared.run.Shape.{Shape}
-use Rattle.pool_law.specs.Arenas.{Arena as LawArena, listed, chunk_end, chunk_ends_from, chunk_ends}
+use Rattle.pool_law.specs.Arenas.{listed, chunk_end, chunk_ends_from, chunk_ends}
 use Rattle.pool_law.specs.Chunks.{Chunk}
 use Rattle.pool_law.specs.Histories.{arena_after}
 use Rattle.pool_law.specs.Homes.{home_of, IsObjectOf}
@@ -26,8 +24,8 @@ use Rattle.pool_table.specs.Closed.{IsClosed}
 use Rattle.pool_table.specs.Views.{parts_of}
 use Rattle.pool_arena.specs.ArenaStates.{ArenaState, law_of, end_of}
 use Rattle.shared_pool.specs.Closing.{AreLanes, logs_in}
-use Rattle.shared_pool.specs.Ends.{arena_chunks, chunks_in, chunks_from, IsArenaOf, AreArenas}
-use Rattle.shared_pool.specs.Standing.{HomeStands, IsArenaAt}
+use Rattle.shared_pool.specs.Ends.{chunks_in, chunks_from, IsArenaOf, AreArenas}
+use Rattle.shared_pool.specs.Standing.{HomeStands}
 use Rattle.shared_pool.specs.declared.home.Home.{Home}
 use Rattle.shared_pool.specs.declared.home.Home.TheVariants.{Arena, Cache, Bin, Mail, Root}
 use Rattle.shared_pool.proofs.ArenaHomes.{as_told}

@@ -35,5 +35,7 @@ pub mod LastChunks
 pub mod PlaceLives
 pub mod ClosingLives
 pub mod LiveTold
+pub mod Emptyings
+pub mod EmptyStart
 pub mod ClosedPool
 mod Trials

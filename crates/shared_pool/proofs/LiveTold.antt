@@ -1,6 +1,6 @@
 -- The watched roots that are present at the close are the live ones, each with its count and its records.
-use Rattle.std.proofs.Common.{◌≡◌, ◌≢◌, ℕ, zero, suc, ◌+◌, ◌-◌, ◌*◌, ◌<◌, ◌≤◌, List, [], ◌∷◌, ◌++◌, length, map, get_or, Bool, true, false, sym, refl, ap, ◌∙◌, subst, arith, ⊎_elim, ne_eqb, eq-eqb, append-nil, append_assoc, length-append, Some, None}
-use Rattle.std.specs.Prelude.{◌⊎◌, ◌==◌, not, if◌then◌else◌, Option, IfSome, option_map, unwrap_or, All, AllPairs, slice_get, slice_set, slice_index}
+use Rattle.std.proofs.Common.{◌≡◌, ◌≢◌, ℕ, zero, suc, ◌+◌, ◌-◌, ◌*◌, ◌<◌, ◌≤◌, List, [], ◌∷◌, ◌++◌, length, map, get_or, Bool, true, false, sym, refl, ap, ◌∙◌, subst, arith, ⊎_elim, ne_eqb, append-nil, append_assoc, Some, None}
+use Rattle.std.specs.Prelude.{◌==◌, not, if◌then◌else◌, Option, IfSome, option_map, unwrap_or, All, AllPairs, slice_get, slice_set, slice_index}
 use Rattle.std.proofs.lemmas.List.{map-append, length-drop}
 use Rattle.std.proofs.lemmas.List.Elements.{All-append, All-cons, All-nil, All-weaker, All-head}
 use Rattle.std.proofs.lemmas.List.Quantifiers.{all_pairs_push}
@@ -8,11 +8,9 @@ use Rattle.std.proofs.lemmas.Option.{slice_get-map, slice_get-get_or}
 use mathlib.Core.Logic.{dite}
 use native.Mathlib.Decide.{ℕ_discrete}
 use Rattle.step_law.specs.Settings.{Setting}
-use Rattle.ground.specs.Grounds.{Grounds}
 use Rattle.size_classes.specs.Sizes.{below}
 use Rattle.pool_law.specs.declared.id.RootId.{RootId}
 use Rattle.pool_law.specs.declared.note.Noted.{Noted}
-use Rattle.pool_law.specs.declared.note.Object.{Object}
 use Rattle.pool_law.specs.declared.note.Object.TheVariants.{Root as RootOf}
 use Rattle.pool_law.specs.declared.report.Access.{Access}
 use Rattle.pool_law.specs.declared.report.Watch.{Watch}
@@ -22,7 +20,7 @@ use Rattle.pool_law.specs.Counts.{total_of}
 use Rattle.pool_law.specs.Histories.{place_after}
 use Rattle.pool_law.specs.Homes.{home_of, objects_of, IsObjectOf}
 use Rattle.pool_law.specs.Leaks.{accesses, accesses_to, kept_of, dropped_of, is_live}
-use Rattle.pool_law.specs.Logs.{History as LawHistory, log_of, history_of, entries_of}
+use Rattle.pool_law.specs.Logs.{log_of, history_of, entries_of}
 use Rattle.pool_law.specs.NotedHistories.{noted_dids}
 use Rattle.pool_law.specs.Roots.{Present, RootPlace, new_place}
 use Rattle.table_law.specs.Measures.{measures_of}
@@ -37,17 +35,17 @@ use Rattle.pool_table.specs.Views.{parts_of}
 use Rattle.leak_records.specs.declared.live.LiveRoot.{LiveRoot}
 use Rattle.leak_records.specs.Records.{Tracked, HasRecords, is_keeping}
 use Rattle.shared_pool.specs.Closing.{AreLanes, HasNoPlace, logs_in, entries_in}
-use Rattle.shared_pool.specs.Ends.{count_in, told_with, told_of, told_in, told_here, told_from, first_place, IsShort, IsPlaceHere, ArePlaces}
-use Rattle.shared_pool.specs.Live.{WasWatched, IsLive, live_of, AreLiveRoots}
+use Rattle.shared_pool.specs.Ends.{count_in, told_with, told_of, told_here, told_from, first_place, IsPlaceHere, ArePlaces}
+use Rattle.shared_pool.specs.Live.{IsLive, live_of, AreLiveRoots}
 use Rattle.shared_pool.specs.RootPlaces.{RootState, PlaceState, law_root, law_place, lane_dids, watch_after, IsRootAt, PlaceStandsFor}
-use Rattle.shared_pool.specs.Standing.{HomeStands, IsPlaceAt}
+use Rattle.shared_pool.specs.Standing.{HomeStands}
 use Rattle.shared_pool.specs.declared.home.Home.{Home}
 use Rattle.shared_pool.specs.declared.home.Home.TheVariants.{Arena, Cache, Bin, Mail, Root}
 use Rattle.shared_pool.proofs.ClosingEntries.{told_note, entries_hold}
 use Rattle.shared_pool.proofs.ClosingLives.{standing, born_in, end_total, total_end, count_told}
 use Rattle.shared_pool.proofs.ClosingWhole.{history_at}
 use Rattle.shared_pool.proofs.JoinedParts.{HasNoToken}
-use Rattle.shared_pool.proofs.LastChunks.{Stood, stood}
+use Rattle.shared_pool.proofs.LastChunks.{stood}
 use Rattle.shared_pool.proofs.Openings.{at_left, at_right}
 use Rattle.shared_pool.proofs.PlaceHomes.{place_at}
 use Rattle.shared_pool.proofs.PlaceLives.{WasBorn, HasEnd, Has, root_from, root_to, after_end}

@@ -22,3 +22,4 @@ pub mod Opening
 pub mod Joining
 pub mod Rooms
 pub mod Ends
+pub mod Emptying

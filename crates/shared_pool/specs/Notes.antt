@@ -1,5 +1,5 @@
 -- The notes of the calls, by name.
-use Rattle.std.specs.Prelude.{ℕ, Option, Some, None}
+use Rattle.std.specs.Prelude.{Option, Some, None}
 use Rattle.pool_law.specs.declared.note.Did.{Did}
 use Rattle.pool_law.specs.declared.note.Noted.{Noted}
 use Rattle.pool_law.specs.declared.id.Region.{Region}
@@ -18,8 +18,3 @@ popped None = Did.NoHandle
 abbrev pub hit : Option Region → Did
 hit (Some r) = Did.Hit r.id
 hit None = Did.Miss
-
--- what a take of a class noted
-abbrev pub taken_or_full : ℕ → Option Region → Did
-taken_or_full class (Some r) = Did.Take class r.id
-taken_or_full class None = Did.Full class

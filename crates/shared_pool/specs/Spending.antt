@@ -5,7 +5,7 @@ use Rattle.pool_law.specs.declared.note.Noted.{Noted}
 use Rattle.pool_table.specs.declared.table.PoolSeat.{PoolSeat}
 use Rattle.pool_table.specs.Seats.{view_of}
 use Rattle.shared_pool.specs.declared.home.Home.{Home}
-use Rattle.shared_pool.specs.Quotas.{quota_left}
+use Rattle.shared_pool.specs.Quotas.{quota_left, posts}
 use Rattle.shared_pool.specs.SeatLanes.{lane_of}
 
 module _ {G : Ghosts Home Noted} where
@@ -18,3 +18,11 @@ module _ {G : Ghosts Home Noted} where
     pub turns_left : (view_of old).turns ≤ (view_of new).turns + turns
     pub moves_left : (view_of old).moves ≤ (view_of new).moves + moves
     pub no_quota : HasNoQuota old → HasNoQuota new
+
+  -- the seat posted nothing, and is of the same lane and setting
+  pub record PostsNothing (old new : PoolSeat Home G) : Type 0 where
+    pub setting : (view_of new).setting ≡ (view_of old).setting
+    pub number : (view_of new).own.number ≡ (view_of old).own.number
+    pub posted : (sender receiver : ℕ) →
+        posts sender receiver (view_of new).own.notes
+        ≡ posts sender receiver (view_of old).own.notes

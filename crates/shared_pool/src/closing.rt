@@ -1,20 +1,20 @@
 //! How a pool ends: closed, with what stands then, or abandoned.
 
-ghost use Rattle.std.specs.Prelude.{◌≡◌, ◌*◌, ◌<◌, ◌≤◌, ℕ, List, length, All, IfErr, IfOk, IsSome};
+ghost use Rattle.std.specs.Prelude.{◌≡◌, ◌*◌, ◌<◌, ◌≤◌, ℕ, List, length, All, IfErr, IfOk};
 ghost use Rattle.size_classes.specs.Sizes.{below};
 ghost use Rattle.pool_law.specs.Legal.{ends_from};
 ghost use Rattle.pool_table.specs.Views.{parts_of};
 ghost use Rattle.pool_table.specs.Seats.{view_of, IsSeatOf, IsOutside};
 ghost use Rattle.shared_pool.specs.Closing.{AreWhole, logs_in};
-ghost use Rattle.shared_pool.specs.Joining.{AreApart};
+ghost use Rattle.shared_pool.specs.Joining.{AreApart, IsSettled};
 ghost use Rattle.shared_pool.specs.Live.{AreLiveRoots};
 ghost use Rattle.shared_pool.specs.Seated.{AreDone, parts_in};
 ghost use Rattle.shared_pool.specs.Seats.{IsPoolSeat};
 
+use crate::emptying::close_arenas;
 use crate::home::Home;
 use crate::last_chunks::chunk_ends;
 use crate::live_roots::live_roots;
-use crate::opening::spend;
 use crate::pool::{PoolSeat, SharedPool};
 use crate::room::Room;
 use crate::went::PoolEnd;
@@ -28,7 +28,8 @@ impl SharedPool {
     /// what stands then: the chunks that are in a list, and the sampled roots that are live.
     ///
     /// It takes its memory first. After want of memory the pool and the seats come back as they
-    /// were. The memory of the arenas stays taken until the program ends.
+    /// were. Else what caches and live roots still have goes back to the arenas, which give the
+    /// memory of all chunks back.
     pub fn close(
         self,
         alloc: Global,
@@ -55,7 +56,7 @@ impl SharedPool {
         } = room;
         let chunks = chunk_ends(&homes, &layout.shape, chunks);
         let live = live_roots(&mut homes, &words, &layout.shape, records, live);
-        leave_all(homes);
+        close_arenas(homes, layout.shape.arenas as usize);
         Ok(PoolEnd {
             chunks: Items::of(chunks),
             live: Items::of(live),
@@ -78,7 +79,7 @@ fn joined(table: &PoolTable<Home>, mut seats: Vec<PoolSeat>) -> PoolSeat
     requires apart { AreApart table.now seats.items }
     ensures own { IsSeatOf table.now result }
     ensures outside { IsOutside result }
-    ensures settled { IsSome (view_of result).setting }
+    ensures settled { IsSettled table.now result }
     ensures parts { parts_of (view_of result) ≡ parts_in seats.items }
 {
     seats.as_mut_slice().reverse();
@@ -90,14 +91,4 @@ fn joined(table: &PoolTable<Home>, mut seats: Vec<PoolSeat>) -> PoolSeat
     }
     seats.destroy_empty();
     whole
-}
-
-// Spends home values. Their memory stays taken until the program ends.
-fn leave_all(mut homes: Vec<Option<Home>>) {
-    while let Some(home) = homes.pop() {
-        if let Some(home) = home {
-            spend(home);
-        }
-    }
-    homes.destroy_empty();
 }

@@ -7,6 +7,7 @@ mod bins;
 mod caches;
 mod closing;
 mod counts;
+mod emptying;
 mod home;
 mod last_chunks;
 mod laws;

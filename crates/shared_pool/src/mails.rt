@@ -1,6 +1,6 @@
 //! The mails: parcels go from one lane to another.
 
-ghost use Rattle.std.specs.Prelude.{◌≡◌, ◌<◌, [], ◌∷◌, ◌++◌, length, false, IfSome, IfNone};
+ghost use Rattle.std.specs.Prelude.{◌≡◌, ◌*◌, ◌<◌, [], ◌∷◌, ◌++◌, length, false, IfSome, IfNone};
 ghost use Rattle.pool_law.specs.declared.note.Did.{Did};
 ghost use Rattle.pool_law.specs.declared.note.Object.TheVariants.{Mail};
 ghost use Rattle.pool_law.specs.Views.{IsView};
@@ -65,6 +65,9 @@ impl SharedPool {
             IsNoted self.now seat.old seat.new (Mail «from» (lane_of seat.old)) number
             (plain (Did.Fetch parcel))) }
         ensures view { IfGot result (λ number parcel. IfSome parcel.view IsView) }
+        ensures place { let s = self.now.table.layout.shape in
+            IfGot result (λ number parcel.
+            IfSome parcel.view (λ w. w.root.place < s.lanes * s.handles)) }
         ensures empty { IfEmpty result (HasView seat.new (view_of seat.old)) }
         ensures held { IfFetchHeld result (λ held.
             FoundBusy self.now (Mail «from» (lane_of seat.old)) false seat.old seat.new held) }

@@ -1,6 +1,6 @@
 //! Roots: their births, the accesses to their bytes, and their ends.
 
-ghost use Rattle.std.specs.Prelude.{◌≡◌, ℕ, ◌+◌, ◌-◌, ◌<◌, ◌≤◌, false, List, length};
+ghost use Rattle.std.specs.Prelude.{◌≡◌, ℕ, ◌+◌, ◌-◌, ◌^◌, ◌<◌, ◌≤◌, false, List, length};
 ghost use Rattle.std.specs.Fn.{FnOnceReturnsAt};
 ghost use Rattle.pool_law.specs.declared.note.Did.{Did};
 ghost use Rattle.pool_law.specs.declared.note.Object.TheVariants.{Root};
@@ -45,6 +45,7 @@ impl SharedPool {
         ensures did { IsNotedWith self.now seat.old seat.new result.1 result.0
             (birth result.1 region.id watch) Born ((view_of seat.old).moves - 1) }
         ensures counts { HasCount result.1 (view_of seat.new) }
+        ensures uses { region.id.uses < 2 ^ 62 }
     {
         let place = handle.place();
         let mut section = match self.table.claim_place(seat, place, false) {

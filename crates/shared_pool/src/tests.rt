@@ -5,6 +5,8 @@ ghost use Rattle.shared_pool.specs.Opening.{IsOpened};
 ghost use Rattle.shared_pool.specs.Live.{AreLiveRoots};
 ghost use Rattle.shared_pool.specs.Seated.{AreDone, parts_in};
 
+mod rounds;
+
 use crate::{PoolEnd, PoolSeat, SharedPool, Went};
 use pool_law::{Level, Shape};
 use pool_table::Layout;
@@ -34,7 +36,8 @@ struct Opened {
 }
 
 fn open(alloc: Global) -> Result<Opened, AllocError>
-    ensures { IfOk result (λ o. IsOpened LAYOUT (1 ∷ []) o.pool 0 o.seat) }
+    ensures layout { IfOk result (λ o. o.pool.layout ≡ LAYOUT) }
+    ensures seat { IfOk result (λ o. IsOpened LAYOUT (1 ∷ []) o.pool 0 o.seat) }
 {
     let (pool, mut seats) = SharedPool::new(alloc, LAYOUT, &[1])?;
     let Some(seat) = seats.pop() else {

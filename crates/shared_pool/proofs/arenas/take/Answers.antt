@@ -4,9 +4,8 @@ use Rattle.std.specs.Box.{with_value}
 use Rattle.pool_law.specs.declared.id.Region.{Region}
 use Rattle.pool_law.specs.declared.note.Did.TheVariants.{Take, Full}
 use Rattle.pool_arena.specs.ArenaStates.{ArenaState, law_of, IsSameArena, Takes}
-use Rattle.pool_arena.specs.Standing.{StandsMore as ArenaStandsMore, taken_or_full as arena_did}
+use Rattle.pool_arena.specs.Standing.{StandsMore as ArenaStandsMore, taken_or_full}
 use Rattle.pool_arena.proofs.StandingLaws.{take-is}
-use Rattle.shared_pool.specs.Notes.{taken_or_full}
 use Rattle.shared_pool.specs.Standing.{HomeStands, IsArenaAt, HasClassLength, StandsMore}
 use Rattle.shared_pool.specs.declared.home.Home.TheVariants.{Arena}
 use Rattle.shared_pool.proofs.ArenaHomes.{stood_more}
@@ -25,7 +24,7 @@ returns-clause-stands c =
     here : c.args.section.now.home ≡ Arena c.in-Arena.arena
     here = sym c.home.ensures.value ∙ c.in-Arena.is
 
-    go : (r : Option Region) → IfSome r (λ x. Takes old c.args.class c.args.owner new x.id) → IfNone r (new ≡ old) → ArenaStandsMore old (arena_did c.args.class r) new →
+    go : (r : Option Region) → IfSome r (λ x. Takes old c.args.class c.args.owner new x.id) → IfNone r (new ≡ old) → ArenaStandsMore old (taken_or_full c.args.class r) new →
         StandsMore c.args.section.now.home (taken_or_full c.args.class r) (Arena (with_value c.in-Arena.arena new))
     go (Some r) some none more measures setting h n is at =
         stood_more measures setting h n (Take c.args.class r.id) old new is some.same more

@@ -1,8 +1,8 @@
 use Rattle.std.proofs.Common.{◌≡◌, ◌++◌}
-use Rattle.std.specs.Prelude.{IsSome, reverse}
+use Rattle.std.specs.Prelude.{reverse}
 use Rattle.pool_table.specs.Seats.{view_of, IsSeatOf, IsOutside}
 use Rattle.pool_table.specs.Views.{parts_of}
-use Rattle.shared_pool.specs.Joining.{AreApart}
+use Rattle.shared_pool.specs.Joining.{AreApart, IsSettled}
 use Rattle.shared_pool.specs.Seated.{parts_in}
 use Rattle.shared_pool.proofs.closing.joined.Given as goal
 
@@ -11,7 +11,7 @@ invariant-loop-seat l =
     record {
       own : IsSeatOf l.table l.whole;
       outside : IsOutside l.whole;
-      settled : IsSome (view_of l.whole).setting;
+      settled : IsSettled l.table l.whole;
       apart : AreApart l.table l.seats.items;
       parts : parts_of (view_of l.whole) ++ parts_in (reverse l.seats.items) ≡ parts_in l.fn.seats.items;
     }

@@ -1,5 +1,5 @@
-use Rattle.std.proofs.Common.{◌≡◌, ◌++◌, ◌+◌, ◌*◌, ◌<◌, ◌≤◌, ℕ, List, [], ◌∷◌, sym, ap, ◌∙◌, subst, arith, add-one, get_or}
-use Rattle.std.specs.Prelude.{Option, Some, None, length, slice_get, slice_set, slice_index, unwrap_or}
+use Rattle.std.proofs.Common.{◌≡◌, ◌++◌, ◌+◌, ◌<◌, ℕ, List, [], ◌∷◌, sym, ap, ◌∙◌, arith, add-one, get_or}
+use Rattle.std.specs.Prelude.{Option, None, length, slice_get, slice_index, unwrap_or}
 use Rattle.std.proofs.lemmas.List.{length-append}
 use Rattle.size_classes.specs.Sizes.{below}
 use Rattle.pool_law.specs.Arenas.{listed}

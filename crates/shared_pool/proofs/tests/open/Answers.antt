@@ -4,6 +4,6 @@ use Rattle.shared_pool.specs.declared.tests.TheConstants.{LAYOUT}
 use Rattle.shared_pool.proofs.Trials.{only_one}
 use Rattle.shared_pool.proofs.tests.open.Goals as goal
 
-pub returns : goal.returns
-returns c = let s = c.in_ok-pool.ensures.seats in
+pub returns-clause-seat : goal.returns-clause-seat
+returns-clause-seat c = let s = c.in_ok-pool.ensures.seats in
     only_one (IsOpened LAYOUT (1 ∷ []) c.in_ok-pool.pool 0) c.in_ok-pool.seats.items c.pop.new.self.items c.in-Some.seat s.many c.in-Some.ensures.items (s.each 0 (omega arith))

@@ -77,3 +77,6 @@ returns-clause-did c =
     let seen : view_of c.note-number.new.seat ≡ _ = (λ i. (m.seat i).0) in
     born_noted c.args.self.now c.args.seat.now c.note-number.new.seat c.birth-root.new.seat p c.note-number.result root c.birth-root.result region.id c.args.watch m (call.ensures.root.0 ∙ is)
     (c.birth-root.ensures.root root (call.ensures.root.0 ∙ is) call.ensures.root.1 (subst (λ (w : SeatView). Waits root w) (sym seen) waits.1)) c.birth-root.ensures.noted
+
+pub returns-clause-uses : goal.returns-clause-uses
+returns-clause-uses c = c.in-Ok.ensures.got.learned.uses c.args.region.id c.requires.region.hand

@@ -1,14 +1,16 @@
-use Rattle.std.proofs.Common.{◌≡◌, ◌*◌, ℕ, List, sym, ◌∙◌, subst}
+use Rattle.std.proofs.Common.{◌≡◌, ◌*◌, List, length, sym, ap, ◌∙◌, subst, arith}
 use Rattle.std.specs.Prelude.{Option}
 use Rattle.size_classes.specs.Sizes.{below}
 use Rattle.leak_records.specs.declared.live.LiveRoot.{LiveRoot}
 use Rattle.pool_table.specs.declared.views.Layout.{Layout}
 use Rattle.pool_table.specs.Seats.{view_of}
 use Rattle.shared_pool.specs.declared.home.Home.{Home}
+use Rattle.shared_pool.specs.Emptying.{left_of, AreOut}
 use Rattle.shared_pool.specs.Ends.{AreArenas, ArePlaces, chunks_from, told_from}
 use Rattle.shared_pool.specs.Live.{AreLiveRoots}
 use Rattle.shared_pool.specs.Seated.{parts_in}
-use Rattle.shared_pool.proofs.ClosedPool.{arenas, places, whole, chunks, live}
+use Rattle.shared_pool.proofs.ClosedPool.{arenas, places, whole, chunks, live, out}
+use Rattle.shared_pool.proofs.Emptyings.{written}
 use Rattle.shared_pool.proofs.JoinedParts.{all_lanes}
 use Rattle.shared_pool.proofs.pool.SharedPool.close.Goals as goal
 
@@ -44,3 +46,12 @@ returns-clause-live c =
     ∙ (λ i. told_from (layout i).shape (c.deref_mut.ensures.value i) (c.deref-2.ensures.value i) (below ((layout i).shape.lanes * (layout i).shape.handles))) in
     subst (λ (xs : List LiveRoot). AreLiveRoots (parts_in c.args.seats.items) xs) (sym is)
     (live c.args.self c.args.seats.items c.requires.seats (view_of c.joined-seat.result) c.joined-seat.ensures.parts c.joined-seat.ensures.settled c.close_with-homes.result.0.items c.close_with-homes.result.1.items c.close_with-homes.ensures)
+
+pub close_arenas-requires-clause-out : goal.close_arenas-requires-clause-out
+close_arenas-requires-clause-out c =
+    let homes : List (Option Home) = c.close_with-homes.result.0.items in
+    let same : c.live_roots-live.new.homes ≡ homes = c.live_roots-live.ensures.same ∙ c.deref_mut.ensures.value in
+    let long = ap (λ (xs : List (Option Home)). length xs) same in let many = c.close_with-homes.result.0.ok.0 in
+    subst (λ (y : Layout × List (Option Home)). AreOut y.0.shape.arenas y.1 (left_of y.1))
+    (λ i. (c.args.self.same_layout i, sym (written c.close_with-homes.result.0.len c.live_roots-live.new.homes homes (omega (arith, long, many)) ∙ same) i))
+    (out c.args.self c.args.seats.items c.requires.seats (view_of c.joined-seat.result) c.joined-seat.ensures.parts c.joined-seat.ensures.settled c.close_with-homes.result.0.items c.close_with-homes.result.1.items c.close_with-homes.ensures)

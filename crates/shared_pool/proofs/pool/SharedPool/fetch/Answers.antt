@@ -1,7 +1,9 @@
-use Rattle.std.proofs.Common.{subst, refl}
+use Rattle.std.proofs.Common.{subst, refl, ap}
 use Rattle.std.specs.Prelude.{ℕ}
 use Rattle.pool_law.specs.declared.note.Noted.{Noted}
 use Rattle.pool_law.specs.declared.note.Object.TheVariants.{Mail}
+use Rattle.pool_law.specs.Naming.{noted_by}
+use Rattle.pool_table.specs.Seats.{view_of}
 use Rattle.shared_pool.specs.Seats.{IsNoted}
 use Rattle.shared_pool.proofs.MailHomes.{next_fetch, home_view}
 use Rattle.shared_pool.proofs.Endings.{stood, ends, made}
@@ -28,3 +30,11 @@ returns-in-Some-clause-view c =
     let got = c.in-Ok.ensures.got in let seat = c.requires.seat in
     home_view seat.setting got.history c.args.from c.lane_of.result c.args.self.now.table.layout.shape.lanes c.in-Some.parcel c.in-Ok.section.home
     (stood c.args.self.now.table.layout (Mail c.args.from c.lane_of.result) c.args.seat.now c.claim.new.seat c.in-Ok.section got seat.setting seat.settled) c.in-Some.ensures.front
+
+pub returns-in-Some-clause-place : goal.returns-in-Some-clause-place
+returns-in-Some-clause-place c =
+    let got = c.in-Ok.ensures.got in let fetch = c.fetch in let seat = c.requires.seat in
+    got.learned.fetched c.args.from c.lane_of.result (noted_by (view_of c.args.seat.now).own.number c.noted-noted.result) c.in-Some.parcel refl
+    (next_fetch c.args.self.now.table.layout c.args.from c.lane_of.result c.args.seat.now c.claim.new.seat c.in-Ok.section got seat.setting seat.settled fetch.new.section c.in-Some.parcel c.in-Some.ensures.same.0 c.in-Some.ensures.same.1
+    c.in-Some.ensures.mail c.in-Some.ensures.stands c.noted-noted.result c.noted-noted.ensures).follows
+    (ap (λ (n : Noted). n.did) c.noted-noted.ensures)

@@ -6,9 +6,10 @@ use Rattle.pool_law.specs.declared.note.Noted.{Noted}
 use Rattle.pool_law.specs.declared.note.Object.TheVariants.{Arena}
 use Rattle.pool_law.specs.Limits.{geometry_of}
 use Rattle.pool_arena.specs.ArenaStates.{IsInPlaceAt}
+use Rattle.pool_arena.specs.Standing.{taken_or_full}
 use Rattle.pool_table.specs.declared.views.Layout.{Layout}
 use Rattle.shared_pool.specs.Holding.{HoldsRegion}
-use Rattle.shared_pool.specs.Notes.{plain, taken_or_full}
+use Rattle.shared_pool.specs.Notes.{plain}
 use Rattle.shared_pool.specs.SeatLanes.{lane_of}
 use Rattle.shared_pool.specs.Seats.{IsNoted}
 use Rattle.shared_pool.specs.Standing.{IsArena, IfArena, HasClassLength}
