@@ -1,0 +1,162 @@
+-- The turns of a command that begins an allocation, and what an allocation asks of the desk's counts.
+use Rattle.std.proofs.Common.{◌≡◌, ℕ, ◌*◌, ◌<◌, List, ◌++◌, Bool, length, map, refl, sym, ap, ◌∙◌, subst, arith, Option, Some, None}
+use Rattle.std.specs.Prelude.{if◌then◌else◌, is_some}
+use Rattle.std.proofs.lemmas.List.{length-map}
+use Rattle.size_classes.specs.Sizes.{class_of}
+use Rattle.pool_law.specs.declared.command.Command.{Command}
+use Rattle.pool_law.specs.declared.id.RegionId.{RegionId}
+use Rattle.pool_law.specs.declared.id.RootId.{RootId}
+use Rattle.pool_law.specs.declared.id.ViewData.{ViewData}
+use Rattle.pool_law.specs.declared.run.Reply.{Reply}
+use Rattle.pool_law.specs.Limits.{geometry_of}
+use Rattle.pool_law.specs.Lanes.{LaneState, Bound, answer_of, refuse, alloc}
+use Rattle.pool_law.specs.Patterns.{Entries, allot_class}
+use Rattle.pool_law.proofs.PatternLemmas.{same_root-refl}
+use Rattle.pool_table.specs.Seats.{view_of}
+use Rattle.shared_pool.specs.declared.pool.SharedPool.{SharedPool}
+use Rattle.shared_pool.specs.Closing.{entry_of}
+use Rattle.shared_pool.specs.SeatLanes.{lane_of}
+use Rattle.lane_core.specs.declared.counts.Counted.{Counted}
+use Rattle.lane_core.specs.declared.desk.Desk.{Desk}
+use Rattle.lane_core.specs.declared.desk.Stage.TheVariants.{Ready, Allotting, Ending, Closing}
+use Rattle.lane_core.specs.declared.desk.Turn.{Turn}
+use Rattle.lane_core.specs.declared.desk.Turn.TheVariants.{Went, Pending, Waiting}
+use Rattle.lane_core.specs.declared.access.Refusal.TheVariants.{Taken}
+use Rattle.lane_core.specs.declared.notes.Notes.{Notes}
+use Rattle.lane_core.specs.declared.allotment.Allotting.{Allotting as AllotStage}
+use Rattle.lane_core.specs.declared.allotment.Allotting.TheVariants.{Handle as AskHandle}
+use Rattle.lane_core.specs.declared.allotment.Allots.TheVariants.{New}
+use Rattle.lane_core.specs.NoteLists.{notes_in}
+use Rattle.lane_core.specs.Allotments as allotment
+use Rattle.lane_core.specs.Accesses.{IsState}
+use Rattle.lane_core.specs.Counting.{counted, one_for}
+use Rattle.lane_core.specs.Hands.{empty_hand}
+use Rattle.lane_core.specs.Named.{bound_at}
+use Rattle.lane_core.specs.Desks.{IsDesk, notes_of, entries_of, reads_from, reads_allot, left_for, HasRoomFor, HasTurned}
+use Rattle.lane_core.specs.DeskSteps.{HasNoted, HasReplied, MayTurn}
+use Rattle.lane_core.proofs.EntryCounts.{few_counted, alone_added}
+use Rattle.lane_core.proofs.StateReads.{looked_up}
+use Rattle.lane_core.proofs.Turning.{noteless, refused_turn}
+use Rattle.lane_core.proofs.StageTurns.{Staged, allotted, staged_counts, staged_names}
+
+-- a root was born, and what its count asks of the desk that noted that
+module _ (pool : SharedPool) (old start mid : Desk) (name size class : ℕ) (stage : AllotStage) (d : IsDesk pool (allotment.hand_of stage) old) (class_is : class_of (geometry_of old.shape) size ≡ Some class) (start_is : start ≡ record old { seat = start.seat; sampler = start.sampler }) (notes : Notes) (noted : HasNoted start mid (notes_in notes))
+    (root : RootId) (region : RegionId) (did : allotment.HasAllotted pool old.seat start.seat old.sampler start.sampler size class stage (New root region, notes)) where
+  new_staged : Staged pool (allotment.hand_of stage) empty_hand old start mid did.wrote.added (one_for root)
+  new_staged = allotted pool old start mid name size class stage d class_is start_is notes noted (New root region) did
+
+  counts_kept : mid.counts ≡ old.counts
+  counts_kept = staged_counts pool (allotment.hand_of stage) empty_hand old start mid did.wrote.added (one_for root) new_staged
+
+  -- the root's place is one of the desk's
+  pub new_place : root.place < length mid.counts
+  new_place =
+      let places : length mid.counts ≡ pool.table.layout.shape.lanes * pool.table.layout.shape.handles = ap (λ (cs : List Counted). length cs) counts_kept ∙ d.places ∙ (λ i. (d.shape i).lanes * (d.shape i).handles) in
+      subst (λ (n : ℕ). root.place < n) (sym places) did.place
+
+  -- of the place no other root is counted
+  pub new_alone : (other : RootId) → other.place ≡ root.place → 0 < counted mid.counts other → other ≡ root
+  new_alone other at some =
+      alone_added old.counts (view_of old.seat) (view_of start.seat) did.wrote.added (one_for root) d.counts did.wrote.seat.alone did.wrote.more.notes did.counts did.wrote.seat.counts root
+      (let a : one_for root root ≡ 1 = ap (λ (b : Bool). if b then 1 else 0) (same_root-refl root) in omega (arith, a))
+      other at (subst (λ (cs : List Counted). 0 < counted cs other) counts_kept some)
+
+  -- it isn't counted too often for one count more
+  pub new_few : HasRoomFor old (allotment.left_of stage) → counted mid.counts root < 4294967295
+  new_few room =
+      let a = few_counted old.counts (entries_of old) d.counts root in let b = length-map (notes_of old) entry_of in let e = room.few in
+      subst (λ (cs : List Counted). counted cs root < 4294967295) (sym counts_kept) (omega (arith, a, b, e))
+
+  pub new_name : name < length old.names → name < length mid.names
+  new_name lt = subst (λ (names : List (Option ViewData)). name < length names) (sym (staged_names pool (allotment.hand_of stage) empty_hand old start mid did.wrote.added (one_for root) new_staged)) lt
+
+module _ (pool : SharedPool) (old new : Desk) (name size : ℕ) (s : LaneState) (state : IsState s old.names old.counts) where
+  abbrev command : Command
+  command = Command.Alloc name size
+
+  -- the name is bound
+  pub taken_turn : MayTurn pool (left_for command) old → (v : ViewData) → bound_at old.names name ≡ Some v → HasReplied old new Reply.Taken → HasTurned pool old new s command Ready (Went Ready)
+  taken_turn may v bound replied =
+      refused_turn pool (left_for command) old new may Taken replied s command state.names_are
+      (λ rest. ap (λ (o : Option Bound). if is_some o then refuse s Reply.Taken rest else alloc old.shape (lane_of old.seat) s name size rest) (looked_up s old.names old.counts state name (Some v) bound))
+
+  module _ (none : bound_at old.names name ≡ None) where
+    reads_free : (rest : Entries) → answer_of old.shape (lane_of old.seat) s command rest ≡ alloc old.shape (lane_of old.seat) s name size rest
+    reads_free rest = ap (λ (o : Option Bound). if is_some o then refuse s Reply.Taken rest else alloc old.shape (lane_of old.seat) s name size rest) (looked_up s old.names old.counts state name None none)
+
+    reads_class : (class : Option ℕ) → class_of (geometry_of old.shape) size ≡ class → (rest : Entries) →
+        answer_of old.shape (lane_of old.seat) s command rest ≡ reads_allot old.shape (lane_of old.seat) s name (allot_class old.shape (lane_of old.seat) size class rest)
+    reads_class class is rest = reads_free rest ∙ ap (λ (k : Option ℕ). reads_allot old.shape (lane_of old.seat) s name (allot_class old.shape (lane_of old.seat) size k rest)) is
+
+    -- no class holds the size
+    pub too_large : MayTurn pool (left_for command) old → class_of (geometry_of old.shape) size ≡ None → HasReplied old new Reply.TooLarge → HasTurned pool old new s command Ready (Went Ready)
+    too_large may is replied = noteless pool old new may.desk old.names Reply.TooLarge replied refl s command s.names state.names_are (reads_class None is)
+
+    -- the allocation was begun
+    module _ (class : ℕ) (is : class_of (geometry_of old.shape) size ≡ Some class) where
+      begun_reads : (rest : Entries) → reads_from old.shape (lane_of old.seat) s command Ready rest ≡ reads_from old.shape (lane_of old.seat) s command (Allotting name size class AskHandle) rest
+      begun_reads rest = reads_class (Some class) is rest
+
+      pub begun_turn : (turn : Turn) → HasTurned pool old new s command (Allotting name size class AskHandle) turn → HasTurned pool old new s command Ready turn
+      begun_turn (Went Ready) t = record {
+        added = t.added;
+        grew = t.grew;
+        fits = t.fits;
+        name = t.name;
+        spends = t.spends;
+        comes = record {
+          answered = t.comes.answered;
+          replies = t.comes.replies;
+          notes = t.comes.notes;
+          begun = t.comes.begun;
+          bindings = t.comes.bindings;
+          names = t.comes.names;
+          reads = λ rest. begun_reads (map entry_of t.added ++ rest) ∙ t.comes.reads rest;
+        };
+        waits = tt;
+        held = tt;
+      }
+      begun_turn (Went (Allotting other more at next)) t = record {
+        added = t.added;
+        grew = t.grew;
+        fits = t.fits;
+        name = t.name;
+        spends = t.spends;
+        comes = record { some = t.comes.some; replies = t.comes.replies; names = t.comes.names; begun = t.comes.begun; reads = λ rest. begun_reads (map entry_of t.added ++ rest) ∙ t.comes.reads rest };
+        waits = tt;
+        held = tt;
+      }
+      begun_turn (Went (Ending next)) t = record {
+        added = t.added;
+        grew = t.grew;
+        fits = t.fits;
+        name = t.name;
+        spends = t.spends;
+        comes = record { some = t.comes.some; replies = t.comes.replies; names = t.comes.names; begun = t.comes.begun; reads = λ rest. begun_reads (map entry_of t.added ++ rest) ∙ t.comes.reads rest };
+        waits = tt;
+        held = tt;
+      }
+      begun_turn (Went (Closing next)) t = absurd t.comes
+      begun_turn (Pending held Ready) t = absurd (cc t.comes.0)
+      begun_turn (Pending held (Allotting other more at next)) t = record {
+        added = t.added;
+        grew = t.grew;
+        fits = t.fits;
+        name = t.name;
+        spends = t.spends;
+        comes = (λ rest. begun_reads rest ∙ t.comes.0 rest, t.comes.1);
+        waits = tt;
+        held = t.held;
+      }
+      begun_turn (Pending held (Ending next)) t = record {
+        added = t.added;
+        grew = t.grew;
+        fits = t.fits;
+        name = t.name;
+        spends = t.spends;
+        comes = (λ rest. begun_reads rest ∙ t.comes.0 rest, t.comes.1);
+        waits = tt;
+        held = t.held;
+      }
+      begun_turn (Pending held (Closing next)) t = absurd t.comes
+      begun_turn (Waiting sender) t = absurd (cc t.comes.0)

@@ -1,0 +1,538 @@
+-- A lane behind a turn of its desk: it is a lane again, and what the step says is so.
+use Rattle.std.proofs.Common.{◌≡◌, ℕ, suc, ◌+◌, ◌*◌, ◌<◌, ◌≤◌, List, [], ◌∷◌, ◌++◌, length, map, take, drop, get_or, refl, sym, ap, ◌∙◌, subst, arith, Some, append_assoc, append-nil, length-append}
+use Rattle.std.specs.Prelude.{sum, vec_capacity}
+use Rattle.std.proofs.lemmas.List.{map-append, length-map, take-append-le, drop-append-le, take-append-drop, length-take-le, drop_more}
+use Rattle.std.proofs.lemmas.List.Elements.{All-weaker}
+use Rattle.size_classes.specs.Sizes.{below}
+use Rattle.pool_law.specs.declared.command.Command.{Command}
+use Rattle.pool_law.specs.declared.note.Note.{Note}
+use Rattle.pool_law.specs.declared.run.Answered.{Answered}
+use Rattle.pool_law.specs.declared.run.Shape.{Shape}
+use Rattle.pool_law.specs.Legal.{AreCommands}
+use Rattle.pool_law.specs.Limits.{cached_classes, IsShape}
+use Rattle.pool_law.specs.LaneLaw.{lane_run, pieces, note_counts, replies_in, close_caches}
+use Rattle.pool_law.specs.Lanes.{LaneState, Answers, new_lane, answer_of}
+use Rattle.pool_law.specs.Patterns.{Entries}
+use Rattle.pool_table.specs.declared.views.Entry.{Entry}
+use Rattle.pool_table.specs.Seats.{view_of}
+use Rattle.shared_pool.specs.declared.pool.SharedPool.{SharedPool}
+use Rattle.shared_pool.specs.Closing.{note_of, entry_of}
+use Rattle.shared_pool.specs.SeatLanes.{lane_of}
+use Rattle.lane_core.specs.declared.desk.Desk.{Desk}
+use Rattle.lane_core.specs.declared.desk.Stage.{Stage}
+use Rattle.lane_core.specs.declared.desk.Stage.TheVariants.{Ready, Allotting, Ending, Closing}
+use Rattle.lane_core.specs.declared.desk.Turn.{Turn}
+use Rattle.lane_core.specs.declared.desk.Turn.TheVariants.{Went, Pending, Waiting}
+use Rattle.lane_core.specs.declared.closing.Closing.{Closing as CloseStage}
+use Rattle.lane_core.specs.declared.closing.Closing.TheVariants.{Close}
+use Rattle.lane_core.specs.declared.lane.Lane.{Lane}
+use Rattle.lane_core.specs.declared.lane.Stepped.{Stepped}
+use Rattle.lane_core.specs.Accesses.{IsState}
+use Rattle.lane_core.specs.Counting.{CountsAre}
+use Rattle.lane_core.specs.Budgets.{Left, Spends, notes_alone, all_takes}
+use Rattle.lane_core.specs.Closings as closing
+use Rattle.lane_core.specs.Hands.{Hand}
+use Rattle.lane_core.specs.Named.{NamesAre}
+use Rattle.lane_core.specs.Desks.{IsDesk, notes_of, entries_of, hand_of, Fits, FitsDesk, IsUnderway, HasRoomFor, left_for, left_at, reads_from, next_of, DeskGrew, IsAnswered, NameFits, HasTurned, HasTurnedClosing}
+use Rattle.lane_core.specs.Lanes.{IsLane, IsClosing, IsAtRest, HasAnswered, IsBegun, SameLane, SameLog, LogGrew, commands_left, answered_entries, entries_since, number_of, both, left_for_all, left_for_rest, left_for_closing, left_of}
+use Rattle.lane_core.specs.Steps.{HasStepped, ReceivesNext, stepped_of}
+use Rattle.lane_core.proofs.LaneLogs.{cut_at, cut_more, take_whole, drop_whole, pieces_more, counts_more, step_is, run_more}
+use Rattle.lane_core.proofs.LaneRooms.{closes_few, left_open, room_alone, room_front, room_less, lane_same, notes_grew, has_room}
+
+-- what a command asks of a desk it asks of one with as many names, of the same shape
+fits_still : (old new : Desk) → length new.names ≡ length old.names → new.shape ≡ old.shape → (c : Command) → FitsDesk old c → FitsDesk new c
+fits_still old new names shape (Command.Alloc name size) fits = omega (arith, names, fits)
+fits_still old new names shape (Command.Set name at bytes tries) fits = omega (arith, names, fits)
+fits_still old new names shape (Command.Get name at len tries) fits = omega (arith, names, fits)
+fits_still old new names shape (Command.Write name bytes) fits = omega (arith, names, fits)
+fits_still old new names shape (Command.Read name len) fits = omega (arith, names, fits)
+fits_still old new names shape (Command.Slice fresh name at len retained) fits = omega (arith, names, fits)
+fits_still old new names shape (Command.Dup fresh name) fits = omega (arith, names, fits)
+fits_still old new names shape (Command.Retain name) fits = tt
+fits_still old new names shape (Command.Release name) fits = tt
+fits_still old new names shape (Command.Refcnt name) fits = tt
+fits_still old new names shape (Command.Touch name) fits = tt
+fits_still old new names shape (Command.Forget name) fits = omega (arith, names, fits)
+fits_still old new names shape (Command.Send name lane) fits = subst (λ (s : Shape). lane < s.lanes) (sym shape) fits
+fits_still old new names shape (Command.Recv fresh lane) fits = (let a = fits.0 in omega (arith, names, a), subst (λ (s : Shape). lane < s.lanes) (sym shape) fits.1)
+fits_still old new names shape (Command.Compose fresh more) fits = absurd fits
+fits_still old new names shape (Command.Add whole name) fits = absurd fits
+
+-- a lane with another desk, at another stage
+abbrev pub lane_at : Lane → Desk → Stage → ℕ → Lane
+lane_at l d stage n = record l { desk = d; stage = stage; asked = n }
+
+-- the first of the commands that are left is to be begun
+left_ready : (cs : List Command) → left_for_rest cs Ready ≡ left_for_all cs
+left_ready [] = refl
+left_ready (c ∷ cs) = refl
+
+begun_ready : (shape : Shape) (lane : ℕ) (s : LaneState) (cs : List Command) → IsBegun shape lane s cs Ready []
+begun_ready shape lane s [] = λ rest. refl
+begun_ready shape lane s (c ∷ cs) = λ rest. refl
+
+module _ (pool : SharedPool) (l : Lane) (lane : IsLane pool l) (d : Desk) (n : ℕ) (few_asked : n ≤ length l.commands) (hand : Hand) (added : List Entry) (grew : DeskGrew pool hand l.desk d added) where
+  abbrev shape : Shape
+  shape = l.desk.shape
+
+  abbrev number : ℕ
+  number = number_of l
+
+  log_length : length l.desk.notes.items ≡ length (notes_of l.desk)
+  log_length = ap (λ (ns : List Note). length ns) lane.desk.log ∙ length-map (notes_of l.desk) note_of
+
+  new_length : length d.notes.items ≡ length (notes_of l.desk) + length added
+  new_length = ap (λ (ns : List Note). length ns) grew.desk.log ∙ length-map (notes_of d) note_of ∙ notes_grew pool hand l.desk d added grew
+
+  entries_grew : entries_of d ≡ entries_of l.desk ++ map entry_of added
+  entries_grew = ap (map entry_of) grew.more.notes ∙ map-append entry_of (notes_of l.desk) added
+
+  begun_within : l.desk.begun ≤ length (entries_of l.desk)
+  begun_within = let a = lane.desk.begun in let b = length-map (notes_of l.desk) entry_of in omega (arith, a, b)
+
+  number_same : lane_of d.seat ≡ number
+  number_same = lane_same pool hand l.desk d added grew
+
+  pub same_lane : (stage : Stage) → SameLane l (lane_at l d stage n)
+  same_lane stage = record { number = number_same; shape = grew.shape; commands = refl }
+
+  -- nothing was added to the log
+  pub same_log : added ≡ [] → d.replies.items ≡ l.desk.replies.items → (stage : Stage) → SameLog l (lane_at l d stage n)
+  same_log none replies stage = record {
+    replies = replies;
+    notes = grew.desk.log ∙ ap (map note_of) (grew.more.notes ∙ ap (λ (es : List Entry). notes_of l.desk ++ es) none ∙ append-nil (notes_of l.desk)) ∙ sym lane.desk.log;
+  }
+
+  -- a note or a reply was added
+  pub noted_more : 0 < length added → d.replies.items ≡ l.desk.replies.items → (stage : Stage) → LogGrew l (lane_at l d stage n)
+  noted_more some replies stage = record {
+    more = (let a = log_length in let b = new_length in let c = ap (λ (rs : List Answered). length rs) replies in omega (arith, a, b, c, some));
+  }
+
+  pub replied_more : (a : Answered) → d.replies.items ≡ l.desk.replies.items ++ a ∷ [] → (stage : Stage) → LogGrew l (lane_at l d stage n)
+  replied_more answered replies stage = record {
+    more =
+        (let a = log_length in let b = new_length in let c = ap (λ (rs : List Answered). length rs) replies in
+        let e = length-append l.desk.replies.items (answered ∷ []) in omega (arith, a, b, c, e));
+  }
+
+  -- what a lane keeps at every turn
+  pub lane_with : (stage : Stage) → IsDesk pool (hand_of stage) d → Fits pool d stage → NameFits d stage → length d.replies.items ≤ length l.commands → (s : LaneState) → HasAnswered shape number (lane_at l d stage n) s →
+      IsBegun shape number s (commands_left (lane_at l d stage n)) stage (entries_since (lane_at l d stage n)) → (IsClosing stage → commands_left (lane_at l d stage n) ≡ []) → (IsAtRest stage → d.begun ≡ length (notes_of d)) → (IsUnderway stage → length d.replies.items < length l.commands) → HasRoomFor d (left_of (lane_at l d stage n)) → IsLane pool (lane_at l d stage n)
+  lane_with stage desk fits name few s answered begun all_answered rest underway room =
+      let new : Lane = lane_at l d stage n in
+      record {
+        desk = desk;
+        fits = fits;
+        shape = subst IsShape (sym grew.shape) lane.shape;
+        commands = subst (λ (x : Shape). AreCommands x l.commands) (sym grew.shape) lane.commands;
+        plain = All-weaker (FitsDesk l.desk) (FitsDesk d) (fits_still l.desk d grew.name_count grew.shape) l.commands lane.plain;
+        few = few;
+        state = s;
+        answered = subst (λ (x : Shape × ℕ). HasAnswered x.0 x.1 new s) (λ i. (sym grew.shape i, sym number_same i)) answered;
+        begun = subst (λ (x : Shape × ℕ). IsBegun x.0 x.1 s (commands_left new) stage (entries_since new)) (λ i. (sym grew.shape i, sym number_same i)) begun;
+        all_answered = all_answered;
+        rest = rest;
+        underway = underway;
+        names = name;
+        room = room;
+        replies = (let a = lane.replies in let b = grew.replies_room in omega (arith, a, b));
+        asked = few_asked;
+        spare = subst (λ (x : Shape). x.lanes ≤ vec_capacity l.spare.seats) (sym grew.shape) lane.spare;
+      }
+
+  -- ---- Where no command was answered.
+
+  module _ (replies : d.replies.items ≡ l.desk.replies.items) (names : d.names ≡ l.desk.names) (begun : d.begun ≡ l.desk.begun) (stage : Stage) where
+    still_entries : answered_entries (lane_at l d stage n) ≡ answered_entries l
+    still_entries = (λ i. take (begun i) (entries_grew i)) ∙ take-append-le l.desk.begun (entries_of l.desk) (map entry_of added) begun_within
+
+    still_since : entries_since (lane_at l d stage n) ≡ entries_since l ++ map entry_of added
+    still_since = (λ i. drop (begun i) (entries_grew i)) ∙ drop-append-le l.desk.begun (entries_of l.desk) (map entry_of added) begun_within
+
+    still_left : commands_left (lane_at l d stage n) ≡ commands_left l
+    still_left = ap (λ (rs : List Answered). drop (length rs) l.commands) replies
+
+    still_few : length d.replies.items ≤ length l.commands
+    still_few = let a = lane.few in let b = ap (λ (rs : List Answered). length rs) replies in omega (arith, a, b)
+
+    still_answered : HasAnswered shape number (lane_at l d stage n) lane.state
+    still_answered =
+        let was = lane.answered in
+        record {
+          counted = ap (λ (rs : List Answered). sum (note_counts rs)) replies ∙ was.counted ∙ sym begun;
+          run =
+              subst (λ (x : List Answered × Entries). lane_run shape number new_lane (take (length x.0) l.commands) (pieces (note_counts x.0) x.1) ≡ Some (replies_in x.0, lane.state))
+              (λ i. (sym replies i, sym still_entries i)) was.run;
+          names = subst (NamesAre lane.state.names) (sym names) was.names;
+          seen = was.seen ∙ sym still_entries;
+        }
+
+    -- nothing was noted, where no command was under way
+    pub still_fresh : added ≡ [] → l.stage ≡ Ready → d.begun ≡ length (notes_of d)
+    still_fresh none is =
+        let a = lane.rest (subst IsAtRest (sym is) tt) in let b = notes_grew pool hand l.desk d added grew in let c = ap (λ (es : List Entry). length es) none in omega (arith, a, b, c, begun)
+
+    -- the command that is under way goes on at this stage
+    pub still_lane : (command : Command) (later : List Command) → commands_left l ≡ command ∷ later → (IsClosing l.stage → ⊥) → (IsClosing stage → ⊥) → (IsAtRest stage → d.begun ≡ length (notes_of d)) → IsDesk pool (hand_of stage) d → Fits pool d stage → NameFits d stage →
+        Spends (view_of l.desk.seat) (view_of d.seat) (left_at command l.stage) (left_at command stage) →
+        ((rest : Entries) → reads_from shape number lane.state command l.stage (map entry_of added ++ rest) ≡ reads_from shape number lane.state command stage rest) → IsLane pool (lane_at l d stage n)
+    still_lane command later left was_open is_open fresh desk fits name spends reads =
+        let new : Lane = lane_at l d stage n in let s = lane.state in
+        let left_now : commands_left new ≡ command ∷ later = still_left ∙ left in
+        let had : IsBegun shape number s (command ∷ later) l.stage (entries_since l) = subst (λ (cs : List Command). IsBegun shape number s cs l.stage (entries_since l)) left lane.begun in
+        let has : IsBegun shape number s (command ∷ later) stage (entries_since l ++ map entry_of added) =
+        (λ rest. ap (answer_of shape number s command) (append_assoc (entries_since l) (map entry_of added) rest) ∙ had (map entry_of added ++ rest) ∙ reads rest) in
+        let old_room : HasRoomFor l.desk (both (left_for_rest (command ∷ later) l.stage) (notes_alone (cached_classes + 2 * (all_takes (view_of l.desk.seat) + (left_for_rest (command ∷ later) l.stage).takes)))) =
+        subst (λ (x : List Command). HasRoomFor l.desk (both (left_for_rest x l.stage) (notes_alone (cached_classes + 2 * (all_takes (view_of l.desk.seat) + (left_for_rest x l.stage).takes))))) left
+        (subst (λ (x : Left). HasRoomFor l.desk (both (left_for_rest (commands_left l) l.stage) x)) (left_open l.stage l.desk (left_for_rest (commands_left l) l.stage).takes was_open) lane.room) in
+        let a = spends.notes in let b = spends.takes in let c = spends.moves in
+        let new_room : HasRoomFor d (both (left_for_rest (command ∷ later) stage) (notes_alone (cached_classes + 2 * (all_takes (view_of d.seat) + (left_for_rest (command ∷ later) stage).takes)))) =
+        has_room pool hand l.desk d added grew _ _ old_room (omega (arith, a, b)) (omega (arith, c)) (λ to. (let e = spends.sends to in omega (arith, e))) in
+        lane_with stage desk fits name still_few s still_answered
+        (subst (λ (x : List Command × Entries). IsBegun shape number s x.0 stage x.1) (λ i. (sym left_now i, sym still_since i)) has)
+        (λ closes. absurd (is_open closes)) fresh
+        (λ u. let e = (cut_more (length l.desk.replies.items) l.commands command later left).2 in let f = ap (λ (rs : List Answered). length rs) replies in omega (arith, e, f))
+        (subst (λ (x : List Command). HasRoomFor d (both (left_for_rest x stage) (left_for_closing stage d (left_for_rest x stage).takes))) (sym left_now)
+        (subst (λ (x : Left). HasRoomFor d (both (left_for_rest (command ∷ later) stage) x)) (sym (left_open stage d (left_for_rest (command ∷ later) stage).takes is_open)) new_room))
+
+  -- ---- Where the command was answered.
+
+  module _ (command : Command) (later : List Command) (left : commands_left l ≡ command ∷ later) (answered : IsAnswered l.desk d added (reads_from shape number lane.state command l.stage)) where
+    abbrev done : Lane
+    done = lane_at l d Ready n
+
+    cut : (take (suc (length l.desk.replies.items)) l.commands ≡ take (length l.desk.replies.items) l.commands ++ command ∷ []) × (drop (suc (length l.desk.replies.items)) l.commands ≡ later) × (length l.desk.replies.items < length l.commands)
+    cut = cut_more (length l.desk.replies.items) l.commands command later left
+
+    one_more : length d.replies.items ≡ suc (length l.desk.replies.items)
+    one_more = let a = ap (λ (rs : List Answered). length rs) answered.replies in let b = length-append l.desk.replies.items (answered.answered ∷ []) in omega (arith, a, b)
+
+    abbrev group : Entries
+    group = entries_since l ++ map entry_of added
+
+    all_length : length (entries_of d) ≤ d.begun
+    all_length = let a = length-map (notes_of d) entry_of in let b = answered.begun in omega (arith, a, b)
+
+    done_entries : answered_entries done ≡ entries_of d
+    done_entries = take_whole d.begun (entries_of d) all_length
+
+    done_since : entries_since done ≡ []
+    done_since = drop_whole d.begun (entries_of d) all_length
+
+    done_left : commands_left done ≡ later
+    done_left = ap (λ (k : ℕ). drop k l.commands) one_more ∙ cut.1
+
+    whole : answered_entries l ++ group ≡ entries_of d
+    whole =
+        sym (append_assoc (answered_entries l) (entries_since l) (map entry_of added))
+        ∙ ap (λ (es : Entries). es ++ map entry_of added) (take-append-drop l.desk.begun (entries_of l.desk)) ∙ sym entries_grew
+
+    before_length : length (answered_entries l) ≡ l.desk.begun
+    before_length = length-take-le l.desk.begun (entries_of l.desk) begun_within
+
+    group_length : answered.answered.notes ≡ length group
+    group_length =
+        let a = ap (λ (es : Entries). length es) whole in let b = length-append (answered_entries l) group in let c = before_length in
+        let e = length-map (notes_of d) entry_of in let f = answered.notes in omega (arith, a, b, c, e, f)
+
+    abbrev state_now : LaneState
+    state_now = record { names = answered.bindings; seen = lane.state.seen ++ group }
+
+    had : IsBegun shape number lane.state (command ∷ later) l.stage (entries_since l)
+    had = subst (λ (cs : List Command). IsBegun shape number lane.state cs l.stage (entries_since l)) left lane.begun
+
+    ran : lane_run shape number new_lane (take (length l.desk.replies.items) l.commands ++ command ∷ []) (pieces (note_counts l.desk.replies.items) (answered_entries l) ++ group ∷ []) ≡ Some (replies_in l.desk.replies.items ++ answered.answered.reply ∷ [], state_now)
+    ran =
+        run_more shape number new_lane lane.state state_now (take (length l.desk.replies.items) l.commands) command (pieces (note_counts l.desk.replies.items) (answered_entries l)) group (replies_in l.desk.replies.items) answered.answered.reply lane.answered.run
+        (step_is shape number lane.state command group answered.answered.reply answered.bindings
+        (λ rest. ap (answer_of shape number lane.state command) (append_assoc (entries_since l) (map entry_of added) rest) ∙ had (map entry_of added ++ rest) ∙ answered.reads rest))
+
+    done_pieces : pieces (note_counts d.replies.items) (answered_entries done) ≡ pieces (note_counts l.desk.replies.items) (answered_entries l) ++ group ∷ []
+    done_pieces =
+        (λ i. pieces (note_counts (answered.replies i)) (done_entries i))
+        ∙ (λ i. pieces (map-append (λ (x : Answered). x.notes) l.desk.replies.items (answered.answered ∷ []) i) (sym whole i))
+        ∙ pieces_more (note_counts l.desk.replies.items) answered.answered.notes (answered_entries l) group (lane.answered.counted ∙ sym before_length) group_length
+
+    done_answered : HasAnswered shape number done state_now
+    done_answered = record {
+      counted =
+          (let a = ap (λ (rs : List Answered). sum (note_counts rs)) answered.replies in let b = counts_more l.desk.replies.items answered.answered in
+          let c = lane.answered.counted in let e = answered.notes in let f = answered.begun in omega (arith, a, b, c, e, f));
+      run =
+          (λ i. lane_run shape number new_lane ((ap (λ (k : ℕ). take k l.commands) one_more ∙ cut.0) i) (done_pieces i)) ∙ ran
+          ∙ ap (λ rs. Some (rs, state_now)) (sym (ap replies_in answered.replies ∙ map-append (λ (x : Answered). x.reply) l.desk.replies.items (answered.answered ∷ [])));
+      names = answered.names;
+      seen = ap (λ (es : Entries). es ++ group) lane.answered.seen ∙ whole ∙ sym done_entries;
+    }
+
+    -- the next command is to be begun
+    pub answered_lane : (IsClosing l.stage → ⊥) → IsDesk pool (hand_of Ready) d → Spends (view_of l.desk.seat) (view_of d.seat) (left_at command l.stage) (notes_alone 0) → IsLane pool done
+    answered_lane was_open desk spends =
+        let old_room : HasRoomFor l.desk (both (left_for_rest (command ∷ later) l.stage) (notes_alone (cached_classes + 2 * (all_takes (view_of l.desk.seat) + (left_for_rest (command ∷ later) l.stage).takes)))) =
+        subst (λ (x : List Command). HasRoomFor l.desk (both (left_for_rest x l.stage) (notes_alone (cached_classes + 2 * (all_takes (view_of l.desk.seat) + (left_for_rest x l.stage).takes))))) left
+        (subst (λ (x : Left). HasRoomFor l.desk (both (left_for_rest (commands_left l) l.stage) x)) (left_open l.stage l.desk (left_for_rest (commands_left l) l.stage).takes was_open) lane.room) in
+        let a = spends.notes in let b = spends.takes in let c = spends.moves in
+        let new_room : HasRoomFor d (both (left_for_all later) (notes_alone (cached_classes + 2 * (all_takes (view_of d.seat) + (left_for_all later).takes)))) =
+        has_room pool hand l.desk d added grew _ _ old_room (omega (arith, a, b)) (omega (arith, c)) (λ to. (let e = spends.sends to in omega (arith, e))) in
+        lane_with Ready desk tt tt (let e = one_more in let f = cut.2 in omega (arith, e, f)) state_now done_answered
+        (subst (λ (es : Entries). IsBegun shape number state_now (commands_left done) Ready es) (sym done_since) (begun_ready shape number state_now (commands_left done)))
+        (λ closes. absurd closes) (λ ready. answered.begun)
+        (λ u. absurd u)
+        (subst (λ (x : Left). HasRoomFor d (both x (notes_alone (cached_classes + 2 * (all_takes (view_of d.seat) + x.takes))))) (sym (ap (λ (cs : List Command). left_for_rest cs Ready) done_left ∙ left_ready later)) new_room)
+
+  -- ---- The closing.
+
+  module _ (replies : d.replies.items ≡ l.desk.replies.items) (names : d.names ≡ l.desk.names) (begun : d.begun ≡ l.desk.begun) (stage after : CloseStage) (none : commands_left l ≡ []) where
+    -- it goes on at this stage
+    pub closed_lane : ((rest : Entries) → close_caches number (below cached_classes) (entries_since l ++ rest) ≡ closing.rest_of number stage rest) → HasRoomFor l.desk (closing.left_of stage (view_of l.desk.seat)) → IsDesk pool (closing.hand_of after) d → closing.Fits pool d.seat after →
+        Spends (view_of l.desk.seat) (view_of d.seat) (closing.left_of stage (view_of l.desk.seat)) (closing.left_of after (view_of d.seat)) →
+        ((rest : Entries) → closing.rest_of number stage (map entry_of added ++ rest) ≡ closing.rest_of number after rest) → IsLane pool (lane_at l d (Closing after) n)
+    closed_lane had room desk fits spends reads =
+        let new : Lane = lane_at l d (Closing after) n in
+        let none_now : commands_left new ≡ [] = still_left replies names begun (Closing after) ∙ none in
+        let has : IsBegun shape number lane.state [] (Closing after) (entries_since l ++ map entry_of added) =
+        (λ rest. ap (close_caches number (below cached_classes)) (append_assoc (entries_since l) (map entry_of added) rest) ∙ had (map entry_of added ++ rest) ∙ reads rest) in
+        let a = spends.notes in let b = spends.moves in
+        lane_with (Closing after) desk fits tt (still_few replies names begun (Closing after)) lane.state (still_answered replies names begun (Closing after))
+        (subst (λ (x : List Command × Entries). IsBegun shape number lane.state x.0 (Closing after) x.1) (λ i. (sym none_now i, sym (still_since replies names begun (Closing after)) i)) has)
+        (λ closes. none_now) (λ ready. absurd ready)
+        (λ u. absurd u)
+        (subst (λ (cs : List Command). HasRoomFor d (both (left_for_rest cs (Closing after)) (closing.left_of after (view_of d.seat)))) (sym none_now)
+        (has_room pool hand l.desk d added grew _ _ room (omega (arith, a)) (omega (arith, b)) (λ to. (let e = spends.sends to in omega (arith, e)))))
+
+-- ---- A turn of the command that is under way.
+
+module _ (pool : SharedPool) (l : Lane) (lane : IsLane pool l) (d : Desk) (n : ℕ) (few_asked : n ≤ length l.commands) (command : Command) (later : List Command) (left : commands_left l ≡ command ∷ later) (open_yet : IsClosing l.stage → ⊥) where
+  abbrev reads_so : Stage → Entries → Answers
+  reads_so stage es = reads_from l.desk.shape (number_of l) lane.state command stage es
+
+  pub turned_lane : (turn : Turn) → HasTurned pool l.desk d lane.state command l.stage turn → IsLane pool (lane_at l d (next_of l.stage turn) n)
+  turned_lane (Went Ready) t = answered_lane pool l lane d n few_asked (hand_of Ready) t.added t.grew command later left t.comes open_yet t.grew.desk t.spends
+  turned_lane (Went (Allotting name size class next)) t =
+      let x : Stage = Allotting name size class next in
+      still_lane pool l lane d n few_asked (hand_of x) t.added t.grew t.comes.replies t.comes.names t.comes.begun x command later left open_yet (λ c. c) (λ ready. absurd ready) t.grew.desk t.fits t.name t.spends t.comes.reads
+  turned_lane (Went (Ending next)) t =
+      let x : Stage = Ending next in
+      still_lane pool l lane d n few_asked (hand_of x) t.added t.grew t.comes.replies t.comes.names t.comes.begun x command later left open_yet (λ c. c) (λ ready. absurd ready) t.grew.desk t.fits t.name t.spends t.comes.reads
+  turned_lane (Went (Closing next)) t = absurd t.comes
+  turned_lane (Pending held Ready) t =
+      let none = t.comes.1.0 in
+      still_lane pool l lane d n few_asked (hand_of Ready) t.added t.grew t.comes.1.1 t.comes.1.2 t.comes.1.3 Ready command later left open_yet (λ c. c)
+      (λ ready. still_fresh pool l lane d n few_asked (hand_of Ready) t.added t.grew t.comes.1.1 t.comes.1.2 t.comes.1.3 Ready none t.comes.0) t.grew.desk t.fits t.name t.spends
+      (λ rest. ap (λ (es : List Entry). reads_so l.stage (map entry_of es ++ rest)) none ∙ ap (λ (x : Stage). reads_so x rest) t.comes.0)
+  turned_lane (Pending held (Allotting name size class next)) t =
+      let none = t.comes.1.0 in let x : Stage = Allotting name size class next in
+      still_lane pool l lane d n few_asked (hand_of x) t.added t.grew t.comes.1.1 t.comes.1.2 t.comes.1.3 x command later left open_yet (λ c. c) (λ ready. absurd ready) t.grew.desk t.fits t.name t.spends
+      (λ rest. ap (λ (es : List Entry). reads_so l.stage (map entry_of es ++ rest)) none ∙ t.comes.0 rest)
+  turned_lane (Pending held (Ending next)) t =
+      let none = t.comes.1.0 in let x : Stage = Ending next in
+      still_lane pool l lane d n few_asked (hand_of x) t.added t.grew t.comes.1.1 t.comes.1.2 t.comes.1.3 x command later left open_yet (λ c. c) (λ ready. absurd ready) t.grew.desk t.fits t.name t.spends
+      (λ rest. ap (λ (es : List Entry). reads_so l.stage (map entry_of es ++ rest)) none ∙ t.comes.0 rest)
+  turned_lane (Pending held (Closing next)) t = absurd t.comes
+  turned_lane (Waiting sender) t =
+      let none = t.comes.1.0 in
+      still_lane pool l lane d n few_asked (hand_of l.stage) t.added t.grew t.comes.1.1 t.comes.1.2 t.comes.1.3 l.stage command later left open_yet open_yet
+      (λ ready. still_fresh pool l lane d n few_asked (hand_of l.stage) t.added t.grew t.comes.1.1 t.comes.1.2 t.comes.1.3 l.stage none t.comes.0) t.grew.desk t.fits t.name t.spends
+      (λ rest. ap (λ (es : List Entry). reads_so l.stage (map entry_of es ++ rest)) none)
+
+  -- what the step says
+  pub turned_so : (turn : Turn) → HasTurned pool l.desk d lane.state command l.stage turn → HasStepped pool l (lane_at l d (next_of l.stage turn) n) (stepped_of turn)
+  turned_so (Went Ready) t = replied_more pool l lane d n few_asked (hand_of Ready) t.added t.grew t.comes.answered t.comes.replies Ready
+  turned_so (Went (Allotting name size class next)) t = noted_more pool l lane d n few_asked (hand_of (Allotting name size class next)) t.added t.grew t.comes.some t.comes.replies (Allotting name size class next)
+  turned_so (Went (Ending next)) t = noted_more pool l lane d n few_asked (hand_of (Ending next)) t.added t.grew t.comes.some t.comes.replies (Ending next)
+  turned_so (Went (Closing next)) t = absurd t.comes
+  turned_so (Pending held Ready) t = (same_log pool l lane d n few_asked (hand_of Ready) t.added t.grew t.comes.1.0 t.comes.1.1 Ready, t.held)
+  turned_so (Pending held (Allotting name size class next)) t = (same_log pool l lane d n few_asked (hand_of (Allotting name size class next)) t.added t.grew t.comes.1.0 t.comes.1.1 (Allotting name size class next), t.held)
+  turned_so (Pending held (Ending next)) t = (same_log pool l lane d n few_asked (hand_of (Ending next)) t.added t.grew t.comes.1.0 t.comes.1.1 (Ending next), t.held)
+  turned_so (Pending held (Closing next)) t = absurd t.comes
+  turned_so (Waiting sender) t =
+      (same_log pool l lane d n few_asked (hand_of l.stage) t.added t.grew t.comes.1.0 t.comes.1.1 l.stage, subst (λ (cs : List Command). ReceivesNext sender cs) (sym left) t.waits)
+
+  pub turned_same : (turn : Turn) → HasTurned pool l.desk d lane.state command l.stage turn → SameLane l (lane_at l d (next_of l.stage turn) n)
+  turned_same turn t = same_lane pool l lane d n few_asked (hand_of (next_of l.stage turn)) t.added t.grew (next_of l.stage turn)
+
+  -- what is to be done next, where nothing was kept
+  pub turned_next : (turn : Turn) → HasTurned pool l.desk d lane.state command l.stage turn → next_of Ready turn ≡ next_of l.stage turn
+  turned_next (Went next) t = refl
+  turned_next (Pending held next) t = refl
+  turned_next (Waiting sender) t = sym t.comes.0
+
+-- ---- A turn of the closing.
+
+module _ (pool : SharedPool) (l : Lane) (lane : IsLane pool l) where
+  -- a lane at a stage of the closing
+  module _ (stage : CloseStage) (is : l.stage ≡ Closing stage) where
+    pub close_none : commands_left l ≡ []
+    close_none = lane.all_answered (subst IsClosing (sym is) tt)
+
+    pub close_desk : IsDesk pool (closing.hand_of stage) l.desk
+    close_desk = subst (λ (x : Stage). IsDesk pool (hand_of x) l.desk) is lane.desk
+
+    pub close_fits : closing.Fits pool l.desk.seat stage
+    close_fits = subst (λ (x : Stage). Fits pool l.desk x) is lane.fits
+
+    pub close_had : (rest : Entries) → close_caches (number_of l) (below cached_classes) (entries_since l ++ rest) ≡ closing.rest_of (number_of l) stage rest
+    close_had = subst (λ (x : List Command × Stage). IsBegun l.desk.shape (number_of l) lane.state x.0 x.1 (entries_since l)) (λ i. (close_none i, is i)) lane.begun
+
+    pub close_room : HasRoomFor l.desk (closing.left_of stage (view_of l.desk.seat))
+    close_room = room_alone l.desk (closing.left_of stage (view_of l.desk.seat))
+        (subst (λ (x : List Command × Stage). HasRoomFor l.desk (both (left_for_rest x.0 x.1) (left_for_closing x.1 l.desk (left_for_rest x.0 x.1).takes))) (λ i. (close_none i, is i)) lane.room)
+
+  -- a lane whose commands are all answered
+  module _ (is : l.stage ≡ Ready) (none : commands_left l ≡ []) where
+    pub first_desk : IsDesk pool (closing.hand_of (Close 0)) l.desk
+    first_desk = subst (λ (x : Stage). IsDesk pool (hand_of x) l.desk) is lane.desk
+
+    pub first_had : (rest : Entries) → close_caches (number_of l) (below cached_classes) (entries_since l ++ rest) ≡ closing.rest_of (number_of l) (Close 0) rest
+    first_had = subst (λ (x : List Command × Stage). IsBegun l.desk.shape (number_of l) lane.state x.0 x.1 (entries_since l)) (λ i. (none i, is i)) lane.begun
+
+    pub first_room : HasRoomFor l.desk (closing.left_of (Close 0) (view_of l.desk.seat))
+    first_room =
+        let few = closes_few (view_of l.desk.seat) in
+        room_less l.desk (notes_alone (cached_classes + 2 * (all_takes (view_of l.desk.seat) + 0))) (closing.closes_from 0 (view_of l.desk.seat)) (omega (arith, few))
+        (room_alone l.desk (notes_alone (cached_classes + 2 * (all_takes (view_of l.desk.seat) + 0)))
+        (subst (λ (x : List Command × Stage). HasRoomFor l.desk (both (left_for_rest x.0 x.1) (left_for_closing x.1 l.desk (left_for_rest x.0 x.1).takes))) (λ i. (none i, is i)) lane.room))
+
+  module _ (d : Desk) (n : ℕ) (few_asked : n ≤ length l.commands) (stage : CloseStage) (turn : Turn) (t : HasTurnedClosing pool l.desk d stage turn) where
+    pub closing_lane : commands_left l ≡ [] → ((rest : Entries) → close_caches (number_of l) (below cached_classes) (entries_since l ++ rest) ≡ closing.rest_of (number_of l) stage rest) → HasRoomFor l.desk (closing.left_of stage (view_of l.desk.seat)) → IsLane pool (lane_at l d (Closing t.after) n)
+    closing_lane none had room = closed_lane pool l lane d n few_asked (closing.hand_of t.after) t.added t.grew t.replies t.names t.begun stage t.after none had room t.grew.desk t.fits t.spends t.reads
+
+    pub closing_same : SameLane l (lane_at l d (Closing t.after) n)
+    closing_same = same_lane pool l lane d n few_asked (closing.hand_of t.after) t.added t.grew (Closing t.after)
+
+  module _ (d : Desk) (n : ℕ) (few_asked : n ≤ length l.commands) (stage : CloseStage) where
+    pub closing_so : (turn : Turn) (t : HasTurnedClosing pool l.desk d stage turn) → HasStepped pool l (lane_at l d (Closing t.after) n) (stepped_of turn)
+    closing_so (Went (Closing next)) t = noted_more pool l lane d n few_asked (closing.hand_of t.after) t.added t.grew t.comes.1 t.replies (Closing t.after)
+    closing_so (Went Ready) t = absurd t.comes
+    closing_so (Went (Allotting name size class next)) t = absurd t.comes
+    closing_so (Went (Ending next)) t = absurd t.comes
+    closing_so (Pending held (Closing next)) t = (same_log pool l lane d n few_asked (closing.hand_of t.after) t.added t.grew t.comes.2 t.replies (Closing t.after), t.held)
+    closing_so (Pending held Ready) t = absurd t.comes
+    closing_so (Pending held (Allotting name size class next)) t = absurd t.comes
+    closing_so (Pending held (Ending next)) t = absurd t.comes
+    closing_so (Waiting sender) t = absurd t.comes
+
+    pub closing_next : (turn : Turn) (t : HasTurnedClosing pool l.desk d stage turn) → next_of Ready turn ≡ Closing t.after
+    closing_next (Went (Closing next)) t = ap (λ (x : CloseStage). Closing x) (sym t.comes.0)
+    closing_next (Went Ready) t = absurd t.comes
+    closing_next (Went (Allotting name size class next)) t = absurd t.comes
+    closing_next (Went (Ending next)) t = absurd t.comes
+    closing_next (Pending held (Closing next)) t = ap (λ (x : CloseStage). Closing x) (t.comes.0 ∙ sym t.comes.1)
+    closing_next (Pending held Ready) t = absurd t.comes
+    closing_next (Pending held (Allotting name size class next)) t = absurd t.comes
+    closing_next (Pending held (Ending next)) t = absurd t.comes
+    closing_next (Waiting sender) t = absurd t.comes
+
+-- the first command that is left has room
+pub front_room : (pool : SharedPool) (l : Lane) → IsLane pool l → (command : Command) (later : List Command) → commands_left l ≡ command ∷ later → HasRoomFor l.desk (left_at command l.stage)
+front_room pool l lane command later left =
+    room_front l.desk (left_at command l.stage) (left_for_all later) (left_for_closing l.stage l.desk (left_for_rest (command ∷ later) l.stage).takes)
+    (subst (λ (x : List Command). HasRoomFor l.desk (both (left_for_rest x l.stage) (left_for_closing l.stage l.desk (left_for_rest x l.stage).takes))) left lane.room)
+
+-- ---- A stage at which a command is under way.
+
+pub underway : (stage : Stage) → (stage ≡ Ready → ⊥) → ((x : CloseStage) → stage ≡ Closing x → ⊥) → IsUnderway stage
+underway Ready a b = absurd (a refl)
+underway (Allotting name size class stage) a b = tt
+underway (Ending stage) a b = tt
+underway (Closing stage) a b = absurd (b stage refl)
+
+not_closing : (stage : Stage) → IsUnderway stage → IsClosing stage → ⊥
+not_closing (Closing stage) a b = a
+not_closing Ready a b = b
+not_closing (Allotting name size class stage) a b = b
+not_closing (Ending stage) a b = b
+
+-- what is left of it is the same for each command
+same_left : (stage : Stage) → IsUnderway stage → (a b : Command) → left_at a stage ≡ left_at b stage
+same_left (Allotting name size class stage) u a b = refl
+same_left (Ending stage) u a b = refl
+same_left Ready u a b = absurd u
+same_left (Closing stage) u a b = absurd u
+
+module _ (pool : SharedPool) (l : Lane) (lane : IsLane pool l) (u : IsUnderway l.stage) where
+  pub underway_left : (command : Command) × (later : List Command) × (commands_left l ≡ command ∷ later)
+  underway_left = cut_at (length l.desk.replies.items) l.commands (lane.underway u)
+
+  pub underway_replies : length l.desk.replies.items < vec_capacity l.desk.replies
+  underway_replies = let a = lane.underway u in let b = lane.replies in omega (arith, a, b)
+
+  pub underway_room : (command : Command) → HasRoomFor l.desk (left_at command l.stage)
+  underway_room command =
+      let cut = underway_left in
+      subst (λ (x : Left). HasRoomFor l.desk x) (same_left l.stage u cut.0 command)
+      (front_room pool l lane cut.0 cut.1 cut.2)
+
+  module _ (d : Desk) (turn : Turn) (t : (s : LaneState) (command : Command) → NamesAre s.names l.desk.names → HasTurned pool l.desk d s command l.stage turn) (new : Lane) (is : new ≡ lane_at l d (next_of Ready turn) l.asked) where
+    turned : HasTurned pool l.desk d lane.state (underway_left).0 l.stage turn
+    turned = t lane.state (underway_left).0 lane.answered.names
+
+    new_is : new ≡ lane_at l d (next_of l.stage turn) l.asked
+    new_is = is ∙ ap (λ (x : Stage). lane_at l d x l.asked) (turned_next pool l lane d l.asked lane.asked (underway_left).0 (underway_left).1 (underway_left).2 (not_closing l.stage u) turn turned)
+
+    pub underway_lane : IsLane pool new
+    underway_lane = subst (λ (x : Lane). IsLane pool x) (sym new_is) (turned_lane pool l lane d l.asked lane.asked (underway_left).0 (underway_left).1 (underway_left).2 (not_closing l.stage u) turn turned)
+
+    pub underway_same : SameLane l new
+    underway_same = subst (λ (x : Lane). SameLane l x) (sym new_is) (turned_same pool l lane d l.asked lane.asked (underway_left).0 (underway_left).1 (underway_left).2 (not_closing l.stage u) turn turned)
+
+    pub underway_so : (result : Stepped) → result ≡ stepped_of turn → HasStepped pool l new result
+    underway_so result so =
+        subst (λ (x : Lane × Stepped). HasStepped pool l x.0 x.1) (λ i. (sym new_is i, sym so i))
+        (turned_so pool l lane d l.asked lane.asked (underway_left).0 (underway_left).1 (underway_left).2 (not_closing l.stage u) turn turned)
+
+-- the command at the line of the next reply, and none where there is no such line
+pub front_is : (l : Lane) (line : ℕ) (xs : List Command) (command : Command) → line ≡ length l.desk.replies.items → xs ≡ l.commands → line < length xs → command ≡ get_or xs line command → commands_left l ≡ command ∷ drop (line + 1) l.commands
+front_is l line xs command e f lt is =
+    ap (λ (k : ℕ). drop k l.commands) (sym e) ∙ ap (λ (cs : List Command). drop line cs) (sym f) ∙ drop_more xs line command lt ∙ (λ i. sym is i ∷ drop (line + 1) (f i))
+
+pub none_left : (l : Lane) (line : ℕ) (xs : List Command) → line ≡ length l.desk.replies.items → xs ≡ l.commands → length xs ≤ line → commands_left l ≡ []
+none_left l line xs e f le = let a = ap (λ (cs : List Command). length cs) f in drop_whole (length l.desk.replies.items) l.commands (omega (arith, a, e, le))
+
+-- a lane whose next command is to be begun
+module _ (pool : SharedPool) (l : Lane) (lane : IsLane pool l) (is : l.stage ≡ Ready) (command : Command) (later : List Command) (left : commands_left l ≡ command ∷ later) where
+  open_still : IsClosing l.stage → ⊥
+  open_still closes = absurd (subst IsClosing is closes)
+
+  -- the law's state is the desk's
+  pub begin_state : IsState lane.state l.desk.names l.desk.counts
+  begin_state =
+      let a = lane.rest (subst IsAtRest (sym is) tt) in let b = length-map (notes_of l.desk) entry_of in
+      let all : answered_entries l ≡ entries_of l.desk = take_whole l.desk.begun (entries_of l.desk) (omega (arith, a, b)) in
+      record { names_are = lane.answered.names; counts_are = subst (CountsAre l.desk.counts) (sym (lane.answered.seen ∙ all)) lane.desk.counts }
+
+  pub begin_room : HasRoomFor l.desk (left_for command)
+  begin_room = subst (λ (x : Stage). HasRoomFor l.desk (left_at command x)) is (front_room pool l lane command later left)
+
+  module _ (d : Desk) (n : ℕ) (few : n ≤ length l.commands) (turn : Turn) (t : HasTurned pool l.desk d lane.state command Ready turn) (new : Lane) (new_is : new ≡ lane_at l d (next_of Ready turn) n) where
+    begun : HasTurned pool l.desk d lane.state command l.stage turn
+    begun = subst (λ (x : Stage). HasTurned pool l.desk d lane.state command x turn) (sym is) t
+
+    at_next : new ≡ lane_at l d (next_of l.stage turn) n
+    at_next = new_is ∙ ap (λ (x : Stage). lane_at l d (next_of x turn) n) (sym is)
+
+    pub begun_lane : IsLane pool new
+    begun_lane = subst (λ (x : Lane). IsLane pool x) (sym at_next) (turned_lane pool l lane d n few command later left open_still turn begun)
+
+    pub begun_same : SameLane l new
+    begun_same = subst (λ (x : Lane). SameLane l x) (sym at_next) (turned_same pool l lane d n few command later left open_still turn begun)
+
+    pub begun_so : (result : Stepped) → result ≡ stepped_of turn → HasStepped pool l new result
+    begun_so result so =
+        subst (λ (x : Lane × Stepped). HasStepped pool l x.0 x.1) (λ i. (sym at_next i, sym so i)) (turned_so pool l lane d n few command later left open_still turn begun)
+
+-- a lane whose commands are all answered begins its closing
+module _ (pool : SharedPool) (l : Lane) (lane : IsLane pool l) (is : l.stage ≡ Ready) (none : commands_left l ≡ []) (d : Desk) (turn : Turn) (t : HasTurnedClosing pool l.desk d (Close 0) turn) (new : Lane) (new_is : new ≡ lane_at l d (next_of Ready turn) l.asked) where
+  at_closing : new ≡ lane_at l d (Closing t.after) l.asked
+  at_closing = new_is ∙ ap (λ (x : Stage). lane_at l d x l.asked) (closing_next pool l lane d l.asked lane.asked (Close 0) turn t)
+
+  pub closes_lane : IsLane pool new
+  closes_lane = subst (λ (x : Lane). IsLane pool x) (sym at_closing) (closing_lane pool l lane d l.asked lane.asked (Close 0) turn t none (first_had pool l lane is none) (first_room pool l lane is none))
+
+  pub closes_same : SameLane l new
+  closes_same = subst (λ (x : Lane). SameLane l x) (sym at_closing) (closing_same pool l lane d l.asked lane.asked (Close 0) turn t)
+
+  pub closes_so : (result : Stepped) → result ≡ stepped_of turn → HasStepped pool l new result
+  closes_so result so =
+      subst (λ (x : Lane × Stepped). HasStepped pool l x.0 x.1) (λ i. (sym at_closing i, sym so i)) (closing_so pool l lane d l.asked lane.asked (Close 0) turn t)

@@ -1,0 +1,38 @@
+pub mod NameLaws
+pub mod CountLaws
+pub mod AccessLaws
+pub mod RoomLaws
+pub mod OpenedLaws
+pub mod Grown
+pub mod HandLaws
+pub mod Holds
+pub mod Readings
+pub mod OneNote
+pub mod AllotSteps
+pub mod EndSteps
+pub mod CloseSteps
+pub mod ClassLaws
+pub mod EntryCounts
+pub mod StateReads
+pub mod DeskLaws
+pub mod Turning
+pub mod Commands
+pub mod AccessTurns
+pub mod ByteTurns
+pub mod PostTurns
+pub mod StageTurns
+pub mod AllocTurns
+pub mod LaneLogs
+pub mod LaneRooms
+pub mod LaneTurns
+mod PlayedLists
+mod PlayedRoom
+mod PlayedSeats
+mod PlayedLogs
+mod PlayedAnswers
+mod PlayedOrder
+mod PlayedReport
+mod PlayedBirths
+mod PlayedLeaks
+mod PlayedReported
+mod PlayedRun

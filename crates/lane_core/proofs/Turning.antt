@@ -1,0 +1,160 @@
+-- The turns of the commands that make no note, or one.
+use Rattle.std.proofs.Common.{◌≡◌, ℕ, ◌+◌, ◌-◌, ◌<◌, ◌≤◌, List, [], ◌∷◌, Bool, true, false, cond, length, refl, sym, ap, ◌∙◌, subst, arith, Option, Some, append-nil}
+use Rattle.std.specs.Prelude.{◌==◌}
+use Rattle.std.proofs.lemmas.List.Sums.{sum_by-cons}
+use Rattle.pool_law.specs.declared.command.Command.{Command}
+use Rattle.pool_law.specs.declared.id.RootId.{RootId}
+use Rattle.pool_law.specs.declared.id.ViewData.{ViewData}
+use Rattle.pool_law.specs.declared.note.Note.{Note}
+use Rattle.pool_law.specs.declared.note.RefDid.{RefDid}
+use Rattle.pool_law.specs.declared.note.RefDid.TheVariants.{Retain, Look}
+use Rattle.pool_law.specs.declared.run.Reply.{Reply}
+use Rattle.pool_law.specs.Lanes.{LaneState, Bound, answer, answer_of, retain, refcnt}
+use Rattle.pool_law.specs.Patterns.{Entries}
+use Rattle.pool_law.specs.Same.{same_root}
+use Rattle.pool_law.proofs.PatternLemmas.{next_to-is}
+use Rattle.pool_table.specs.declared.views.Entry.{Entry}
+use Rattle.pool_table.specs.declared.views.Entry.TheVariants.{Ref}
+use Rattle.pool_table.specs.declared.views.SeatView.{SeatView}
+use Rattle.pool_table.specs.Counts.{with_ref, ref_born, ref_ended, ref_vacated}
+use Rattle.pool_table.specs.Seats.{view_of, SameSeat, HasView}
+use Rattle.shared_pool.specs.declared.pool.SharedPool.{SharedPool}
+use Rattle.shared_pool.specs.Closing.{note_of, entry_of}
+use Rattle.shared_pool.specs.Quotas.{posts}
+use Rattle.shared_pool.specs.SeatLanes.{lane_of}
+use Rattle.shared_pool.specs.Seats.{IsPoolSeat}
+use Rattle.lane_core.specs.declared.access.Refusal.{Refusal}
+use Rattle.lane_core.specs.declared.counts.Counted.{Counted}
+use Rattle.lane_core.specs.declared.desk.Desk.{Desk}
+use Rattle.lane_core.specs.declared.desk.Stage.TheVariants.{Ready}
+use Rattle.lane_core.specs.declared.desk.Turn.TheVariants.{Went}
+use Rattle.lane_core.specs.Accesses.{reply_for, IsState}
+use Rattle.lane_core.specs.Budgets.{Left, notes_alone, takes, lane_in}
+use Rattle.lane_core.specs.Counting.{counted}
+use Rattle.lane_core.specs.Hands.{Hand, empty_hand}
+use Rattle.lane_core.specs.Named.{bound_at, NamesAre}
+use Rattle.lane_core.specs.Sampled.{AreSampled}
+use Rattle.lane_core.specs.Desks.{IsDesk, left_for, HasTurned}
+use Rattle.lane_core.specs.DeskSteps.{HasNoted, HasReplied, HasRetained, MayTurn}
+use Rattle.lane_core.proofs.Grown.{Grows, spends}
+use Rattle.lane_core.proofs.HandLaws.{Carries, held_on}
+use Rattle.lane_core.proofs.EntryCounts.{Recounts, none_recounted, looked, retained}
+use Rattle.lane_core.proofs.StateReads.{used}
+use Rattle.lane_core.proofs.DeskLaws.{Advances, grows_ref, mid_is, answered}
+
+grows_same : (v : SeatView) → v.others ≡ [] → Grows v v [] 0
+grows_same v alone = record {
+  more = record { notes = sym (append-nil v.own.notes); number = refl; setting = refl; turns = omega arith };
+  was_alone = alone;
+  alone = alone;
+  moves = omega arith;
+}
+
+-- a command that makes no note, and is answered
+module _ (pool : SharedPool) (old new : Desk) (d : IsDesk pool empty_hand old) (names : List (Option ViewData)) (reply : Reply) (replied : HasReplied (record old { names = names }) new reply) (name_count : length names ≡ length old.names) where
+  pub noteless : (s : LaneState) (command : Command) (bindings : List (ℕ × Bound)) → NamesAre bindings names → ((rest : Entries) → answer_of old.shape (lane_of old.seat) s command rest ≡ answer reply bindings rest) → HasTurned pool old new s command Ready (Went Ready)
+  noteless s command bindings are reads =
+      let v : SeatView = view_of old.seat in
+      let grows : Grows v v [] 0 = grows_same v d.seat.alone in
+      answered pool empty_hand empty_hand old old old d refl [] 0
+      (record { same = (refl, refl); seat = d.seat; grows = grows; held = d.held })
+      (record { log = sym (append-nil old.notes.items); room = omega arith; rest = refl })
+      new names old.counts reply replied refl (none_recounted old.counts) refl refl name_count s command Ready bindings are
+      (spends v v [] 0 grows (left_for command) (notes_alone 0) (omega arith) (omega arith) (omega arith) (λ to. omega arith))
+      reads
+
+-- a command that is refused
+pub refused_turn : (pool : SharedPool) (left : Left) (old new : Desk) → MayTurn pool left old → (refusal : Refusal) → HasReplied old new (reply_for refusal) → (s : LaneState) (command : Command) → NamesAre s.names old.names → ((rest : Entries) → answer_of old.shape (lane_of old.seat) s command rest ≡ answer (reply_for refusal) s.names rest) → HasTurned pool old new s command Ready (Went Ready)
+refused_turn pool left old new may refusal replied s command are reads = noteless pool old new may.desk old.names (reply_for refusal) replied refl s command s.names are reads
+
+-- a desk of which only the seat is new
+pub as_start : (old start : Desk) → start ≡ record old { seat = start.seat } → start ≡ record old { seat = start.seat; counts = start.counts; sampler = start.sampler }
+as_start old start is = is ∙ (λ i. record old { seat = start.seat; counts = sym (ap (λ (x : Desk). x.counts) is) i; sampler = sym (ap (λ (x : Desk). x.sampler) is) i })
+
+-- ---- A step on the count of a root.
+
+pub weightless : (b : Bool) (n : ℕ) → n ≡ 0 → cond {A = ℕ} b n 0 ≡ 0
+weightless true n e = e
+weightless false n e = refl
+
+ref_carries : (lane : ℕ) (h : Hand) (r : RootId) (did : RefDid) → ref_born did ≡ 0 → ref_ended did ≡ 0 → ref_vacated did ≡ 0 → Carries lane h h (Ref r did ∷ [])
+ref_carries lane h r did born ended vacated = record {
+  places = λ q. (let a = weightless (r.place == q) (ref_born did) born in let b = weightless (r.place == q) (ref_vacated did) vacated in omega (arith, a, b));
+  births = λ q. (let a = weightless (r.place == q) (ref_born did) born in omega (arith, a));
+  regions = λ q. omega arith;
+  uses = λ q. omega arith;
+  tokens = λ q. (let a = weightless (same_root r q) (ref_ended did) ended in let b = weightless (same_root r q) (ref_vacated did) vacated in omega (arith, a, b));
+  ended = λ q. (let b = weightless (same_root r q) (ref_vacated did) vacated in omega (arith, b));
+  quotas = λ class. refl;
+  closes = λ class. refl;
+}
+
+-- a seat that made a step on the count of a root, and has nothing more in hand
+pub ref_advances : (pool : SharedPool) (old start : Desk) → IsDesk pool empty_hand old → (r : RootId) (did : RefDid) (moves spent : ℕ) → SameSeat old.seat start.seat → IsPoolSeat pool start.seat → HasView start.seat (with_ref (view_of old.seat) r did moves) → (view_of old.seat).moves ≤ moves + spent →
+    ref_born did ≡ 0 → ref_ended did ≡ 0 → ref_vacated did ≡ 0 → Advances pool old.seat start.seat empty_hand (Ref r did ∷ []) spent
+ref_advances pool old start d r did moves spent same seat has enough born ended vacated =
+    let grows : Grows (view_of old.seat) (view_of start.seat) (Ref r did ∷ []) spent = grows_ref pool old.seat start.seat d.seat seat r did moves spent has enough in
+    record {
+      same = same;
+      seat = seat;
+      grows = grows;
+      held = held_on (view_of old.seat) (view_of start.seat) (Ref r did ∷ []) spent empty_hand empty_hand grows (ref_carries (lane_in (view_of old.seat)) empty_hand r did born ended vacated) d.held;
+    }
+
+-- ---- A command that makes one note, and is answered.
+
+module _ (pool : SharedPool) (old start mid new : Desk) (d : IsDesk pool empty_hand old) (start_is : start ≡ record old { seat = start.seat; counts = start.counts; sampler = start.sampler })
+    (e : Entry) (spent : ℕ) (adv : Advances pool old.seat start.seat empty_hand (e ∷ []) spent) (noted : HasNoted start mid (note_of e ∷ [])) where
+  mid_desk : mid ≡ record old { seat = start.seat; counts = start.counts; sampler = start.sampler; notes = mid.notes }
+  mid_desk = mid_is pool empty_hand empty_hand old start mid d start_is (e ∷ []) spent adv noted
+
+  -- with these names
+  pub one_turn : (names : List (Option ViewData)) (reply : Reply) → HasReplied (record mid { names = names }) new reply → Recounts old.counts start.counts (entry_of e ∷ []) → length start.counts ≡ length old.counts → AreSampled old.sampler (e ∷ []) start.sampler → length names ≡ length old.names →
+      (s : LaneState) (command : Command) (bindings : List (ℕ × Bound)) → NamesAre bindings names → 1 ≤ (left_for command).notes → takes e ≤ (left_for command).takes → spent ≤ (left_for command).moves → ((to : ℕ) → posts (lane_in (view_of old.seat)) to (e ∷ []) ≤ (left_for command).sends to) →
+      ((rest : Entries) → answer_of old.shape (lane_of old.seat) s command (entry_of e ∷ rest) ≡ answer reply bindings rest) → HasTurned pool old new s command Ready (Went Ready)
+  one_turn names reply replied recounts places sampled name_count s command bindings are notes taken moved sent reads =
+      let counts_are : mid.counts ≡ start.counts = ap (λ (x : Desk). x.counts) mid_desk in
+      answered pool empty_hand empty_hand old start mid d start_is (e ∷ []) spent adv noted new names mid.counts reply replied refl
+      (subst (λ (cs : List Counted). Recounts old.counts cs (entry_of e ∷ [])) (sym counts_are) recounts)
+      (ap (λ (cs : List Counted). length cs) counts_are ∙ places) sampled name_count s command Ready bindings are
+      (spends (view_of old.seat) (view_of start.seat) (e ∷ []) spent adv.grows (left_for command) (notes_alone 0) (omega (arith, notes)) (let t = sum_by-cons takes e [] in omega (arith, t, taken)) (omega (arith, moved)) (λ to. (let a = sent to in omega (arith, a))))
+      reads
+
+  pub mid_names : mid.names ≡ old.names
+  mid_names = ap (λ (x : Desk). x.names) mid_desk
+
+  -- with the names as they were
+  pub one_turn_same : (reply : Reply) → HasReplied mid new reply → Recounts old.counts start.counts (entry_of e ∷ []) → length start.counts ≡ length old.counts → AreSampled old.sampler (e ∷ []) start.sampler →
+      (s : LaneState) (command : Command) → NamesAre s.names old.names → 1 ≤ (left_for command).notes → takes e ≤ (left_for command).takes → spent ≤ (left_for command).moves → ((to : ℕ) → posts (lane_in (view_of old.seat)) to (e ∷ []) ≤ (left_for command).sends to) →
+      ((rest : Entries) → answer_of old.shape (lane_of old.seat) s command (entry_of e ∷ rest) ≡ answer reply s.names rest) → HasTurned pool old new s command Ready (Went Ready)
+  one_turn_same reply replied recounts places sampled s command are notes taken moved sent reads =
+      one_turn mid.names reply replied recounts places sampled (ap (λ (names : List (Option ViewData)). length names) mid_names) s command s.names (subst (NamesAre s.names) (sym mid_names) are) notes taken moved sent reads
+
+-- ---- The commands.
+
+-- how the law reads a look and a retain
+read_look : (s : LaneState) (v : ViewData) (k : ℕ) (rest : Entries) → refcnt s v (entry_of (Ref v.root (Look k)) ∷ rest) ≡ answer (Reply.OkNumber k) s.names rest
+read_look s v k rest = rw (next_to-is v.root (Look k) (entry_of (Ref v.root (Look k))) rest refl) refl
+
+read_retain : (s : LaneState) (v : ViewData) (rest : Entries) → retain s v (entry_of (Ref v.root Retain) ∷ rest) ≡ answer Reply.Ok s.names rest
+read_retain s v rest = rw (next_to-is v.root Retain (entry_of (Ref v.root Retain)) rest refl) refl
+
+pub look_turn : (pool : SharedPool) (name : ℕ) (old start mid new : Desk) → MayTurn pool (left_for (Command.Refcnt name)) old → start ≡ record old { seat = start.seat } →
+    SameSeat old.seat start.seat → IsPoolSeat pool start.seat → (v : ViewData) → bound_at old.names name ≡ Some v → 0 < counted old.counts v.root → (k : ℕ) → HasView start.seat (with_ref (view_of old.seat) v.root (Look k) (view_of old.seat).moves) →
+    HasNoted start mid (Note.Ref v.root (Look k) ∷ []) → HasReplied mid new (Reply.OkNumber k) → (s : LaneState) → IsState s old.names old.counts → HasTurned pool old new s (Command.Refcnt name) Ready (Went Ready)
+look_turn pool name old start mid new may start_is same seat v bound lt k has noted replied s state =
+    let adv = ref_advances pool old start may.desk v.root (Look k) (view_of old.seat).moves 0 same seat has (omega arith) refl refl refl in
+    let counts_are : start.counts ≡ old.counts = ap (λ (x : Desk). x.counts) start_is in
+    one_turn_same pool old start mid new may.desk (as_start old start start_is) (Ref v.root (Look k)) 0 adv noted (Reply.OkNumber k) replied
+    (subst (λ (cs : List Counted). Recounts old.counts cs (entry_of (Ref v.root (Look k)) ∷ [])) (sym counts_are) (looked old.counts v.root k lt))
+    (ap (λ (cs : List Counted). length cs) counts_are) (sym (ap (λ (x : Desk). x.sampler) start_is)) s (Command.Refcnt name) state.names_are (omega arith) (omega arith) (omega arith) (λ to. omega arith)
+    (λ rest. used s old.names old.counts state name v bound lt (λ reply es. answer reply s.names es) (refcnt s) (entry_of (Ref v.root (Look k)) ∷ rest) ∙ read_look s v k rest)
+
+pub retain_turn : (pool : SharedPool) (name : ℕ) (old mid new : Desk) → MayTurn pool (left_for (Command.Retain name)) old → (v : ViewData) → bound_at old.names name ≡ Some v → 0 < counted old.counts v.root →
+    HasRetained pool old mid v.root → HasReplied mid new Reply.Ok → (s : LaneState) → IsState s old.names old.counts → HasTurned pool old new s (Command.Retain name) Ready (Went Ready)
+retain_turn pool name old mid new may v bound lt did replied s state =
+    let start : Desk = record old { seat = mid.seat; counts = mid.counts } in
+    let adv = ref_advances pool old start may.desk v.root Retain ((view_of old.seat).moves - 1) 1 did.same did.seat did.did (omega arith) refl refl refl in
+    one_turn_same pool old start mid new may.desk refl (Ref v.root Retain) 1 adv did.noted Reply.Ok replied
+    (retained old.counts mid.counts v.root lt did.counts.counts) did.counts.places refl s (Command.Retain name) state.names_are (omega arith) (omega arith) (omega arith) (λ to. omega arith)
+    (λ rest. used s old.names old.counts state name v bound lt (λ reply es. answer reply s.names es) (retain s) (entry_of (Ref v.root Retain) ∷ rest) ∙ read_retain s v rest)

@@ -1,0 +1,31 @@
+use Rattle.std.proofs.Common.{List, sym, ap, subst, Option, None}
+use Rattle.pool_law.specs.declared.command.Command.{Command}
+use Rattle.pool_law.specs.declared.id.ViewData.{ViewData}
+use Rattle.pool_law.specs.declared.run.Reply.{Reply}
+use Rattle.lane_core.specs.declared.desk.Stage.TheVariants.{Ready}
+use Rattle.lane_core.specs.declared.desk.Turn.{Turn}
+use Rattle.lane_core.specs.Desks.{left_for, HasTurned}
+use Rattle.lane_core.specs.DeskSteps.{HasReplied}
+use Rattle.pool_law.specs.Lanes.{Bound, forget}
+use Rattle.lane_core.specs.declared.access.Refusal.TheVariants.{Unbound}
+use Rattle.lane_core.proofs.StateReads.{looked_up}
+use Rattle.lane_core.proofs.Turning.{refused_turn}
+use Rattle.lane_core.proofs.Commands.{forget_turn}
+use Rattle.lane_core.proofs.desk.Desk.forget.Goals as goal
+
+pub answer-requires : goal.answer-requires
+answer-requires c = record { begun = c.requires.may.begun; few = c.requires.may.few; room = c.requires.may.room }
+
+pub returns-in_default : goal.returns-in_default
+returns-in_default c = λ pool may s state.
+    let old = c.args.self.now in let new = c.answer.new.self in let command = Command.Forget c.args.name in
+    subst (λ (t : Turn). HasTurned pool old new s command Ready t) (sym c.answer.ensures.ready)
+    (forget_turn pool c.args.name old new may c.requires.name c.in_default.field-0.now.at c.in_default.ensures.bound
+    (subst (λ (names : List (Option ViewData)). HasReplied (record old { names = names }) new Reply.Ok) c.unbind.ensures c.answer.ensures.replied) s state)
+
+pub returns : goal.returns
+returns c = λ pool may s state.
+    let old = c.args.self.now in let new = c.refuse.new.self in let command = Command.Forget c.args.name in
+    subst (λ (t : Turn). HasTurned pool old new s command Ready t) (sym c.refuse.ensures.ready)
+    (refused_turn pool (left_for command) old new may Unbound c.refuse.ensures.replied s command state.names_are
+    (λ rest. ap (λ (o : Option Bound). forget s c.args.name o rest) (looked_up s old.names old.counts state c.args.name None c.in-None.ensures.unbound)))

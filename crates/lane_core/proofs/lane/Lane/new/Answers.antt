@@ -1,0 +1,27 @@
+use Rattle.lane_core.specs.declared.desk.Stage.TheVariants.{Ready}
+use Rattle.lane_core.proofs.OpenedLaws.{IsLane-first}
+use Rattle.lane_core.proofs.lane.Lane.new.Goals as goal
+
+pub returns-clause-lane : goal.returns-clause-lane
+returns-clause-lane c = λ pool first.
+    let p = c.in-Ok.parts in
+    IsLane-first pool c.args.shape.now
+    (record {
+      commands = c.args.commands;
+      desk =
+          record {
+            shape = c.args.shape.now;
+            classes = p.classes;
+            seat = c.args.seat;
+            names = p.names;
+            counts = p.counts;
+            sampler = p.sampler;
+            replies = p.log.0;
+            notes = p.log.1;
+            begun = 0;
+          };
+      stage = Ready;
+      asked = 0;
+      spare = p.spare;
+    })
+    p first c.requires.commands (c.in-Ok.ensures {u = tt})

@@ -1,0 +1,146 @@
+-- What a command that accesses bytes is prepared for, and how the law reads it.
+use Rattle.std.specs.Prelude.{◌≡◌, ℕ, ◌+◌, ◌<◌, ◌≤◌, Bool, true, false, ⊤, List, length, slice_set, Option, Some, None, Result, Ok, Err}
+use Rattle.pool_law.specs.declared.command.Command.{Command}
+use Rattle.pool_law.specs.declared.id.ViewData.{ViewData}
+use Rattle.pool_law.specs.declared.run.Reply.{Reply}
+use Rattle.pool_law.specs.declared.run.Shape.{Shape}
+use Rattle.pool_law.specs.Views.{root_index}
+use Rattle.pool_law.specs.Reading.{◌>>=◌}
+use Rattle.pool_law.specs.Patterns.{Entries}
+use Rattle.pool_law.specs.Lanes.{LaneState, Bound, Answers, answer, answer_of, refuse, tried, access, is_set, bytes_got}
+use Rattle.lane_core.specs.declared.access.Refusal.{Refusal}
+use Rattle.lane_core.specs.declared.access.Refusal.TheVariants.{Unbound, Taken, Illegal, Range}
+use Rattle.lane_core.specs.declared.access.Reach.{Reach}
+use Rattle.lane_core.specs.declared.access.Access.{Access}
+use Rattle.lane_core.specs.declared.access.Access.TheVariants.{Refused, Set, Get}
+use Rattle.lane_core.specs.declared.counts.Counted.{Counted}
+use Rattle.lane_core.specs.Named.{bound_at, NamesAre}
+use Rattle.lane_core.specs.Counting.{counted, CountsAre}
+
+abbrev pub reply_for : Refusal → Reply
+reply_for Unbound = Reply.Unbound
+reply_for Taken = Reply.Taken
+reply_for Illegal = Reply.Illegal
+reply_for Range = Reply.Range
+
+-- the lane's names and counts are those of this state of the law
+pub record IsState (s : LaneState) (names : List (Option ViewData)) (cs : List Counted) : Type 0
+  where
+    pub names_are : NamesAre s.names names
+    pub counts_are : CountsAre cs s.seen
+
+-- why a command on the view of a name is refused
+abbrev pub IsRefused : List (Option ViewData) → List Counted → ℕ → Refusal → Type 0
+IsRefused names cs name Unbound = bound_at names name ≡ None
+IsRefused names cs name Illegal =
+    (v : ViewData) × (bound_at names name ≡ Some v) × (counted cs v.root ≡ 0)
+IsRefused names cs name _ = ⊥
+
+-- and where it has a new name
+abbrev pub IsRefusedFresh : List (Option ViewData) → List Counted → ℕ → ℕ → Refusal → Type 0
+IsRefusedFresh names cs fresh name Unbound = bound_at names name ≡ None
+IsRefusedFresh names cs fresh name Taken =
+    (v w : ViewData) × (bound_at names name ≡ Some v) × (bound_at names fresh ≡ Some w)
+IsRefusedFresh names cs fresh name Illegal =
+    (v : ViewData) × (bound_at names name ≡ Some v) × (bound_at names fresh ≡ None)
+    × (counted cs v.root ≡ 0)
+IsRefusedFresh names cs fresh name Range = ⊥
+
+-- and where its range has to pass a test
+abbrev pub IsRefusedRange :
+    List (Option ViewData) → List Counted → ℕ → (ViewData → Bool) → Refusal → Type 0
+IsRefusedRange names cs name test Range =
+    (v : ViewData) × (bound_at names name ≡ Some v) × (0 < counted cs v.root) × (test v ≡ false)
+IsRefusedRange names cs name test refusal = IsRefused names cs name refusal
+
+-- a range of the view of a name that passes the test: where it begins, and what the view is behind
+-- the access
+pub record IsReached (names : List (Option ViewData)) (cs : List Counted) (name : ℕ) (tries : Bool)
+    (test : ViewData → Bool) (index : ViewData → ℕ) (behind : ViewData → ViewData) (r : Reach) :
+    Type 0
+  where
+    pub view : ViewData
+    pub bound : bound_at names name ≡ Some view
+    pub counts : 0 < counted cs view.root
+    pub passes : test view ≡ true
+    pub root : r.root ≡ view.root
+    pub offset : r.offset ≡ root_index view (index view)
+    pub after : r.after.at ≡ behind view
+    pub name_is : r.name ≡ name
+    pub tries_is : r.tries ≡ tries
+
+-- so many bytes of a root that the lane counts, from the offset on, lie in it; and the view that
+-- the name is bound to afterwards is one of this root
+pub record Reaches (cs : List Counted) (len : ℕ) (r : Reach) : Type 0 where
+  pub counts : 0 < counted cs r.root
+  pub inside : r.offset + len ≤ r.root.capacity
+  pub view : r.after.at.root ≡ r.root
+
+-- the names once a name is bound to the view behind an access
+abbrev pub names_after : List (Option ViewData) → Access → List (Option ViewData)
+names_after names (Refused refusal) = names
+names_after names (Set reach bytes) = slice_set names reach.name (Some reach.after.at)
+names_after names (Get reach note reply) = slice_set names reach.name (Some reach.after.at)
+
+-- how the law reads the notes of an access, after which its bindings are these
+abbrev pub reads_set : List (ℕ × Bound) → Reach → List ℕ → Entries → Answers
+reads_set bindings reach bytes es = do
+  (did, rest) ← access reach.root es
+  _ ← is_set reach.offset bytes did
+  answer Reply.Ok bindings rest
+
+abbrev pub reads_get : List (ℕ × Bound) → Reach → ℕ → Entries → Answers
+reads_get bindings reach len es = do
+  (did, rest) ← access reach.root es
+  bytes ← bytes_got reach.offset len did
+  answer (Reply.OkBytes bytes) bindings rest
+
+abbrev pub reads : LaneState → List (ℕ × Bound) → Access → Entries → Answers
+reads s bindings (Refused refusal) es = refuse s (reply_for refusal) es
+reads s bindings (Set reach bytes) es =
+    tried reach.tries s reach.after.at es (reads_set bindings reach bytes.items es)
+reads s bindings (Get reach note reply) es =
+    tried reach.tries s reach.after.at es (reads_get bindings reach (length note.items) es)
+
+-- an access has room for its bytes, and reaches them
+abbrev pub IsReady : List Counted → Access → Type 0
+IsReady cs (Refused refusal) = ⊤
+IsReady cs (Set reach bytes) = Reaches cs (length bytes.items) reach
+IsReady cs (Get reach note reply) =
+    Reaches cs (length note.items) reach × (length reply.items ≡ length note.items)
+
+-- a command is prepared: its access is what the law reads of it
+pub record IsPrepared (names : List (Option ViewData)) (cs : List Counted) (command : Command)
+    (made : Access) (s : LaneState) : Type 0 where
+  pub ready : IsReady cs made
+  pub bindings : List (ℕ × Bound)
+  pub names_are : NamesAre bindings (names_after names made)
+  pub read : (shape : Shape) (lane : ℕ) (rest : Entries) →
+      answer_of shape lane s command rest ≡ reads s bindings made rest
+
+-- the access of a set, of where it reaches
+abbrev pub IsMadeSet : Result Reach Refusal → List ℕ → Access → Type 0
+IsMadeSet (Ok reach) bytes (Set other copy) = (other ≡ reach) × (copy.items ≡ bytes)
+IsMadeSet (Err refusal) bytes (Refused other) = other ≡ refusal
+IsMadeSet _ bytes _ = ⊥
+
+-- and of a get, with room for its note and its reply
+abbrev pub IsMadeGet : Result Reach Refusal → ℕ → Access → Type 0
+IsMadeGet (Ok reach) len (Get other note reply) =
+    (other ≡ reach) × (length note.items ≡ len) × (length reply.items ≡ len)
+IsMadeGet (Err refusal) len (Refused other) = other ≡ refusal
+IsMadeGet _ len _ = ⊥
+
+-- a command accesses bytes
+abbrev pub IsAccess : Command → Type 0
+IsAccess (Command.Set name at bytes tries) = ⊤
+IsAccess (Command.Get name at len tries) = ⊤
+IsAccess (Command.Write name bytes) = ⊤
+IsAccess (Command.Read name len) = ⊤
+IsAccess _ = ⊥
+
+-- the name that an access binds, if it does, is below this
+abbrev pub BindsBelow : ℕ → Access → Type 0
+BindsBelow count (Refused refusal) = ⊤
+BindsBelow count (Set reach bytes) = reach.name < count
+BindsBelow count (Get reach note reply) = reach.name < count

@@ -1,0 +1,133 @@
+-- What the desk's own functions add to its log and its counts, before a command is answered.
+use Rattle.std.specs.Prelude.{◌≡◌, ℕ, ◌+◌, ◌-◌, ◌<◌, ◌≤◌, ◌==◌, if◌then◌else◌, Bool, true, false, List, [], ◌∷◌, ◌++◌, length, Option, Some, None, vec_capacity}
+use Rattle.pool_law.specs.declared.command.Command.{Command}
+use Rattle.pool_law.specs.declared.id.RootId.{RootId}
+use Rattle.pool_law.specs.declared.id.Parcel.{Parcel}
+use Rattle.pool_law.specs.declared.note.Did.{Did}
+use Rattle.pool_law.specs.declared.note.Held.{Held}
+use Rattle.pool_law.specs.declared.note.Note.{Note}
+use Rattle.pool_law.specs.declared.note.Object.TheVariants.{Mail}
+use Rattle.pool_law.specs.declared.note.RefDid.TheVariants.{Retain}
+use Rattle.pool_law.specs.declared.run.Reply.{Reply}
+use Rattle.pool_law.specs.Lanes.{LaneState}
+use Rattle.pool_table.specs.Counts.{with_ref}
+use Rattle.pool_table.specs.Seats.{view_of, SameSeat, HasView}
+use Rattle.shared_pool.specs.declared.pool.SharedPool.{SharedPool}
+use Rattle.shared_pool.specs.Notes.{plain}
+use Rattle.shared_pool.specs.SeatLanes.{lane_of}
+use Rattle.shared_pool.specs.Seats.{IsPoolSeat, IsNoted, FoundBusy}
+use Rattle.lane_core.specs.declared.access.Access.{Access}
+use Rattle.lane_core.specs.declared.counts.Counted.{Counted}
+use Rattle.lane_core.specs.declared.desk.Desk.{Desk}
+use Rattle.lane_core.specs.declared.desk.Stage.TheVariants.{Ready}
+use Rattle.lane_core.specs.declared.desk.Turn.{Turn}
+use Rattle.lane_core.specs.declared.desk.Turn.TheVariants.{Went, Pending}
+use Rattle.lane_core.specs.Accesses.{IsState, IsPrepared}
+use Rattle.lane_core.specs.Budgets.{Left}
+use Rattle.lane_core.specs.Counting.{counted, one_for}
+use Rattle.lane_core.specs.Hands.{empty_hand}
+use Rattle.lane_core.specs.Desks.{IsDesk, HasRoomFor, HasTurned}
+
+-- the log has these notes more, and nothing else at the desk is new
+pub record HasNoted (old new : Desk) (notes : List Note) : Type 0 where
+  pub log : new.notes.items ≡ old.notes.items ++ notes
+  pub room : vec_capacity old.notes ≤ vec_capacity new.notes
+  pub rest : new ≡ record old { notes = new.notes }
+
+-- there is a command under way, and room for its reply
+pub record CanAnswer (d : Desk) : Type 0 where
+  pub begun : d.begun ≤ length d.notes.items
+  pub few : length d.notes.items < 4294967296
+  pub room : length d.replies.items < vec_capacity d.replies
+
+-- the command that is under way has this reply, and the notes since it began are its own
+pub record HasReplied (old new : Desk) (reply : Reply) : Type 0 where
+  pub replies :
+      let notes = length old.notes.items - old.begun in
+      new.replies.items ≡ old.replies.items ++ record { reply = reply; notes = notes } ∷ []
+  pub room : vec_capacity old.replies ≤ vec_capacity new.replies
+  pub rest : new ≡ record old { replies = new.replies; begun = length old.notes.items }
+
+-- a root is counted once more, and once less
+pub record CountsMore (old new : List Counted) (root : RootId) : Type 0 where
+  pub counts : (other : RootId) → counted new other ≡ counted old other + one_for root other
+  pub places : length new ≡ length old
+
+pub record CountsLess (old new : List Counted) (root : RootId) : Type 0 where
+  pub counts : (other : RootId) → counted new other + one_for root other ≡ counted old other
+  pub places : length new ≡ length old
+
+-- another seat was there: a command that only tries notes that and says so, another waits
+abbrev pub FindsBusy : Bool → Desk → Desk → Held → Turn → Type 0
+FindsBusy true old new held turn =
+    (mid : Desk) × HasNoted old mid (Note.Busy held ∷ [])
+    × HasReplied mid new (Reply.Busy held.number) × (turn ≡ Went Ready)
+FindsBusy false old new held turn = (new ≡ old) × (turn ≡ Pending held Ready)
+
+-- a root was retained, noted and counted
+pub record HasRetained (pool : SharedPool) (old new : Desk) (root : RootId) : Type 0 where
+  pub same : SameSeat old.seat new.seat
+  pub seat : IsPoolSeat pool new.seat
+  pub did :
+      let v = view_of old.seat in HasView new.seat (with_ref v root Retain (v.moves - 1))
+  pub noted :
+      HasNoted (record old { seat = new.seat; counts = new.counts }) new
+      (Note.Ref root Retain ∷ [])
+  pub counts : CountsMore old.counts new.counts root
+
+-- a parcel was posted and noted
+pub record HasPosted (pool : SharedPool) (old new : Desk) (receiver : ℕ) (sent : Parcel) : Type 0
+  where
+    pub number : ℕ
+    pub same : SameSeat old.seat new.seat
+    pub seat : IsPoolSeat pool new.seat
+    pub did :
+        let mail = Mail (lane_of old.seat) receiver in
+        IsNoted pool old.seat new.seat mail number (plain (Did.Post sent))
+    pub noted :
+        let mail = Mail (lane_of old.seat) receiver in
+        HasNoted (record old { seat = new.seat }) new (Note.At mail number (Did.Post sent) ∷ [])
+
+-- another seat was in the mail, and nothing is new
+pub record HasNotPosted (pool : SharedPool) (old new : Desk) (receiver : ℕ) (held : Held) : Type 0
+  where
+    pub same : SameSeat old.seat new.seat
+    pub seat : IsPoolSeat pool new.seat
+    pub found :
+        let mail = Mail (lane_of old.seat) receiver in
+        FoundBusy pool mail false old.seat new.seat held
+    pub rest : new ≡ record old { seat = new.seat }
+
+-- the parcel is posted, or it waits
+abbrev pub PostsTo : SharedPool → Desk → Desk → ℕ → Parcel → Option Held → Type 0
+PostsTo pool old new receiver sent None = HasPosted pool old new receiver sent
+PostsTo pool old new receiver sent (Some held) = HasNotPosted pool old new receiver held
+
+-- what a parcel costs
+abbrev pub left_to_post : ℕ → Left
+left_to_post receiver =
+    record {
+      notes = 1;
+      takes = 0;
+      moves = 0;
+      sends = λ to. if receiver == to then 1 else 0;
+    }
+
+-- a desk with nothing in hand, and with room for what is left and for a reply
+pub record MayTurn (pool : SharedPool) (left : Left) (d : Desk) : Type 0 where
+  pub desk : IsDesk pool empty_hand d
+  pub room : HasRoomFor d left
+  pub replies : length d.replies.items < vec_capacity d.replies
+
+-- a turn of a command from its beginning on, whatever the law's bindings are
+abbrev pub Turns : SharedPool → Desk → Desk → Command → Turn → Type 0
+Turns pool old new command turn =
+    (s : LaneState) → IsState s old.names old.counts →
+    HasTurned pool old new s command Ready turn
+
+-- the same of a command that this access was prepared for
+abbrev pub AccessTurns : SharedPool → Desk → Desk → Access → Turn → Type 0
+AccessTurns pool old new access turn =
+    (s : LaneState) (command : Command) → IsState s old.names old.counts →
+    IsPrepared old.names old.counts command access s →
+    HasTurned pool old new s command Ready turn

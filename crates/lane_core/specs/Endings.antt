@@ -1,0 +1,123 @@
+-- The end of a root, step by step: what is in hand at each stage, and how the law reads the rest.
+use Rattle.std.specs.Prelude.{◌≡◌, ℕ, ◌/◌, ◌<◌, ⊤, false, [], length, map, Option, Some}
+use Rattle.step_law.specs.declared.Told.{Ghosts}
+use Rattle.pool_law.specs.declared.note.Noted.{Noted}
+use Rattle.pool_law.specs.declared.note.Object.TheVariants.{Bin}
+use Rattle.pool_law.specs.declared.run.Shape.{Shape}
+use Rattle.pool_law.specs.Limits.{cached_classes}
+use Rattle.pool_law.specs.Reading.{◌>>=◌}
+use Rattle.pool_law.specs.Patterns.{Entries, retire, offer, give_back, next_at, home_of}
+use Rattle.leak_records.specs.Records.{Sampling}
+use Rattle.pool_table.specs.declared.table.PoolSeat.{PoolSeat}
+use Rattle.pool_table.specs.Seats.{view_of}
+use Rattle.shared_pool.specs.declared.home.Home.{Home as HomeValue}
+use Rattle.shared_pool.specs.declared.pool.SharedPool.{SharedPool}
+use Rattle.shared_pool.specs.RootNotes.{HoldsToken}
+use Rattle.shared_pool.specs.Seats.{IsPoolSeat, FoundBusy}
+use Rattle.lane_core.specs.declared.notes.Notes.{Notes}
+use Rattle.lane_core.specs.declared.retirement.Ending.{Ending}
+use Rattle.lane_core.specs.declared.retirement.Ending.TheVariants.{Root, Cache, Arena, Home}
+use Rattle.lane_core.specs.declared.retirement.Ends.{Ends}
+use Rattle.lane_core.specs.declared.retirement.Ends.TheVariants.{More, Held, Done}
+use Rattle.lane_core.specs.NoteLists.{notes_in}
+use Rattle.lane_core.specs.Hands.{Hand, empty_hand, IsHeld, IsHandle, IsRegion}
+use Rattle.lane_core.specs.Budgets.{Left, notes_alone, Spends}
+use Rattle.lane_core.specs.Wrote.{Wrote}
+use Rattle.lane_core.specs.Counting.{AddCounts}
+use Rattle.shared_pool.specs.Closing.{entry_of}
+
+abbrev pub hand_of : Ending → Hand
+hand_of (Root token) = record empty_hand { token = Some token.root }
+hand_of (Cache region handle) =
+    record empty_hand { place = Some handle.place; region = Some region.id }
+hand_of (Arena region handle) =
+    record empty_hand { place = Some handle.place; region = Some region.id }
+hand_of (Home handle) = record empty_hand { place = Some handle.place }
+
+abbrev pub hand_after : Ends → Hand
+hand_after (More stage) = hand_of stage
+hand_after (Held held stage) = hand_of stage
+hand_after Done = empty_hand
+
+-- what may still be spent on the end of a root
+abbrev pub left_of : Ending → Left
+left_of (Root token) = notes_alone 5
+left_of (Cache region handle) = notes_alone 3
+left_of (Arena region handle) = notes_alone 2
+left_of (Home handle) = notes_alone 1
+
+abbrev pub left_after : Ends → Left
+left_after (More stage) = left_of stage
+left_after (Held held stage) = left_of stage
+left_after Done = notes_alone 0
+
+-- the handle of a place goes home
+abbrev pub goes_home : Shape → ℕ → Entries → Option Entries
+goes_home shape place es = do
+  (did, rest) ← next_at (Bin (place / shape.handles)) es
+  _ ← home_of place did
+  Some rest
+
+-- the region was put away, and the handle goes home
+abbrev pub away_then : Shape → ℕ → Option Entries → Option Entries
+away_then shape place put = do
+  rest ← put
+  goes_home shape place rest
+
+-- how a log is read from this stage on
+abbrev pub rest_of : Shape → Ending → Entries → Option Entries
+rest_of shape (Root token) es = retire shape token.root es
+rest_of shape (Cache region handle) es = away_then shape handle.place (offer region.id es)
+rest_of shape (Arena region handle) es = away_then shape handle.place (give_back region.id es)
+rest_of shape (Home handle) es = goes_home shape handle.place es
+
+-- and behind a step
+abbrev pub rest_after : Shape → Ends → Entries → Option Entries
+rest_after shape (More stage) es = rest_of shape stage es
+rest_after shape (Held held stage) es = rest_of shape stage es
+rest_after shape Done es = Some es
+
+module _ {G : Ghosts HomeValue Noted} where
+  -- where another seat was there the same is to be tried again, and nothing was noted; else
+  -- something was
+  abbrev pub IsTriedAgain :
+      SharedPool → PoolSeat HomeValue G → PoolSeat HomeValue G → Ending → Ends → Notes → Type 0
+  IsTriedAgain pool old new stage (Held held again) notes =
+      (again ≡ stage) × (notes_in notes ≡ []) × FoundBusy pool held.object false old new held
+  IsTriedAgain pool old new stage _ notes = 0 < length (notes_in notes)
+
+  -- what is in hand is the pool's
+  abbrev pub Fits : SharedPool → PoolSeat HomeValue G → Ending → Type 0
+  Fits pool seat (Root token) = HoldsToken seat token
+  Fits pool seat (Cache region handle) =
+      IsHandle pool handle × IsRegion pool seat region × (region.id.class < cached_classes)
+  Fits pool seat (Arena region handle) = IsHandle pool handle × IsRegion pool seat region
+  Fits pool seat (Home handle) = IsHandle pool handle
+
+  abbrev pub FitsAfter : SharedPool → PoolSeat HomeValue G → Ends → Type 0
+  FitsAfter pool seat (More stage) = Fits pool seat stage
+  FitsAfter pool seat (Held held stage) = Fits pool seat stage
+  FitsAfter pool seat Done = ⊤
+
+  -- a seat of the pool with a turn left, and just what the stage has in hand
+  pub record MayEnd (pool : SharedPool) (seat : PoolSeat HomeValue G) (stage : Ending) : Type 0
+    where
+      pub seat_is : IsPoolSeat pool seat
+      pub turn : 0 < (view_of seat).turns
+      pub hand : IsHeld (hand_of stage) (view_of seat)
+      pub fits : Fits pool seat stage
+
+  -- what a step at the end of a root came to
+  pub record HasEnded (pool : SharedPool) (old new : PoolSeat HomeValue G)
+      (stage : Ending) (result : Ends × Notes) : Type 0
+    where
+      pub wrote : (sampler : Sampling) →
+          let shape = pool.table.layout.shape in
+          Wrote pool old new (notes_in result.1) sampler sampler
+          (rest_of shape stage) (rest_after shape result.0)
+      pub counts : (sampler : Sampling) →
+          AddCounts (λ root. 0) (map entry_of (wrote sampler).added)
+      pub hand : IsHeld (hand_after result.0) (view_of new)
+      pub fits : FitsAfter pool new result.0
+      pub again : IsTriedAgain pool old new stage result.0 result.1
+      pub spends : Spends (view_of old) (view_of new) (left_of stage) (left_after result.0)

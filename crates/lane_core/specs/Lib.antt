@@ -1,0 +1,17 @@
+pub mod NoteLists
+pub mod Named
+pub mod Counting
+pub mod Budgets
+pub mod Hands
+pub mod Sampled
+pub mod Wrote
+pub mod Allotments
+pub mod Endings
+pub mod Closings
+pub mod Accesses
+pub mod Desks
+pub mod DeskSteps
+pub mod Lanes
+pub mod Opened
+pub mod Steps
+pub mod Played

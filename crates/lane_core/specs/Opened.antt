@@ -1,0 +1,62 @@
+-- The seat and the commands of a new lane.
+use Rattle.std.specs.Prelude.{◌≡◌, ℕ, ◌+◌, ◌*◌, ◌<◌, ◌≤◌, ⊤, List, [], length, replicate, All, Some, None, IfSome, slice_get, vec_capacity}
+use Rattle.step_law.specs.declared.Told.{Ghosts}
+use Rattle.size_classes.specs.Sizes.{of_order}
+use Rattle.pool_law.specs.declared.command.Command.{Command}
+use Rattle.pool_law.specs.declared.id.RootId.{RootId}
+use Rattle.pool_law.specs.declared.note.Noted.{Noted}
+use Rattle.pool_law.specs.declared.run.Shape.{Shape}
+use Rattle.pool_law.specs.Legal.{AreCommands}
+use Rattle.pool_law.specs.Limits.{IsShape}
+use Rattle.leak_records.specs.Records.{new_sampler}
+use Rattle.pool_table.specs.declared.table.PoolSeat.{PoolSeat}
+use Rattle.pool_table.specs.Seats.{view_of}
+use Rattle.shared_pool.specs.declared.home.Home.{Home}
+use Rattle.shared_pool.specs.declared.pool.SharedPool.{SharedPool}
+use Rattle.shared_pool.specs.SeatLanes.{lane_of}
+use Rattle.shared_pool.specs.Seats.{IsPoolSeat}
+use Rattle.lane_core.specs.declared.lane.Parts.{Parts}
+use Rattle.lane_core.specs.Named.{ChangesBelow}
+use Rattle.lane_core.specs.Counting.{counted}
+use Rattle.lane_core.specs.Lanes.{left_for_all, note_bound}
+
+-- it makes no composite
+abbrev pub IsPlain : Command → Type 0
+IsPlain (Command.Compose fresh names) = ⊥
+IsPlain (Command.Add whole name) = ⊥
+IsPlain _ = ⊤
+
+module _ {G : Ghosts Home Noted} where
+  -- the seat of a new lane of the pool, for these commands: it has noted nothing, has turns and
+  -- moves enough, and the mails have room for what it sends
+  pub record IsFirstSeat (pool : SharedPool) (shape : Shape) (commands : List Command)
+      (seat : PoolSeat Home G) : Type 0 where
+    pub shape_is : shape ≡ pool.table.layout.shape
+    pub limits : IsShape shape
+    pub seat_is : IsPoolSeat pool seat
+    pub notes : (view_of seat).own.notes ≡ []
+    pub turns : note_bound commands ≤ (view_of seat).turns
+    pub moves : (left_for_all commands).moves ≤ (view_of seat).moves
+    pub mails : (to : ℕ) → to < shape.lanes →
+        IfSome (view_of seat).setting (λ setting.
+        (room : ℕ)
+        × (slice_get setting.mail (lane_of seat * shape.lanes + to) ≡ Some room)
+        × ((left_for_all commands).sends to ≤ room))
+
+-- the commands of a new lane
+pub record AreFirst (shape : Shape) (commands : List Command) : Type 0 where
+  pub commands_are : AreCommands shape commands
+  pub plain : All IsPlain commands
+
+-- what a new lane of this number is made of, beside its commands and its seat: none of its names is
+-- bound, it counts no root, and there is room for its log
+pub record AreParts (shape : Shape) (lane : ℕ) (commands : List Command) (p : Parts) : Type 0 where
+  pub classes : p.classes ≡ of_order shape.order
+  pub names : p.names ≡ replicate (length p.names) None
+  pub below : All (ChangesBelow (length p.names)) commands
+  pub counts : (root : RootId) → counted p.counts root ≡ 0
+  pub places : length p.counts ≡ shape.lanes * shape.handles
+  pub sampler : p.sampler ≡ new_sampler lane shape.level shape.interval
+  pub replies : (p.log.0.items ≡ []) × (length commands ≤ vec_capacity p.log.0)
+  pub notes : (p.log.1.items ≡ []) × (note_bound commands ≤ vec_capacity p.log.1)
+  pub spare : shape.lanes ≤ vec_capacity p.spare.seats

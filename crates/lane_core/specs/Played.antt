@@ -1,0 +1,91 @@
+-- A run that was played: it is legal, and what was sent is seen in order.
+use Rattle.std.specs.Prelude.{◌≡◌, ℕ, ◌+◌, ◌<◌, ◌≤◌, if◌then◌else◌, Bool, false, List, [], ◌∷◌, ◌++◌, length, map, HoldsAt, Some, slice_get, vec_capacity}
+use Rattle.pool_law.specs.declared.command.Command.{Command}
+use Rattle.pool_law.specs.declared.id.Parcel.{Parcel}
+use Rattle.pool_law.specs.declared.note.Did.{Did}
+use Rattle.pool_law.specs.declared.note.Did.TheVariants.{Post, Fetch}
+use Rattle.pool_law.specs.declared.note.Note.{Note}
+use Rattle.pool_law.specs.declared.note.Note.TheVariants.{At}
+use Rattle.pool_law.specs.declared.note.Object.{Object}
+use Rattle.pool_law.specs.declared.note.Object.TheVariants.{Mail}
+use Rattle.pool_law.specs.declared.run.LaneLog.{LaneLog}
+use Rattle.pool_law.specs.declared.run.Run.{Run}
+use Rattle.pool_law.specs.declared.run.Shape.{Shape}
+use Rattle.pool_law.specs.Legal.{IsLegal, logs_of}
+use Rattle.pool_law.specs.Logs.{Logs, log_of}
+use Rattle.pool_law.specs.Same.{same_object}
+use Rattle.shared_pool.specs.declared.pool.SharedPool.{SharedPool}
+use Rattle.lane_core.specs.declared.lane.Lane.{Lane}
+use Rattle.lane_core.specs.declared.played.Parted.{Parted}
+use Rattle.lane_core.specs.Lanes.{IsLane, IsFinished, number_of}
+
+-- a note posts to a mail, and fetches from it
+abbrev pub is_post : Object → Note → Bool
+is_post mail (At object number (Post parcel)) = same_object object mail
+is_post mail _ = false
+
+abbrev pub is_fetch : Object → Note → Bool
+is_fetch mail (At object number (Fetch parcel)) = same_object object mail
+is_fetch mail _ = false
+
+-- how many notes pass a test
+abbrev pub how_many : (Note → Bool) → List Note → ℕ
+how_many test [] = 0
+how_many test (n ∷ ns) = (if test n then 1 else 0) + how_many test ns
+
+-- what a lane did before its k-th post to another has, at each object, a lower number than what
+-- that lane did there after its k-th fetch from it
+abbrev pub IsHandedOver : Logs → Type 0
+IsHandedOver logs =
+    (sender receiver : ℕ) (early late before after : List Note)
+    (sent taken : ℕ) (parcel got : Parcel) →
+    let mail = Mail sender receiver in
+    log_of logs sender ≡ early ++ At mail sent (Post parcel) ∷ late →
+    log_of logs receiver ≡ before ++ At mail taken (Fetch got) ∷ after →
+    how_many (is_post mail) early ≡ how_many (is_fetch mail) before →
+    (object : Object) (i j m n : ℕ) (d e : Did) →
+    slice_get early i ≡ Some (At object m d) →
+    slice_get after j ≡ Some (At object n e) →
+    m < n
+
+-- a legal run, in which what was sent is seen in order
+pub record IsPlayed (run : Run) : Type 0 where
+  pub legal : IsLegal run
+  pub handed_over : IsHandedOver (logs_of run)
+
+-- a lane of the pool that has finished, with this number
+pub record IsFinishedLane (pool : SharedPool) (number : ℕ) (l : Lane) : Type 0 where
+  pub lane : IsLane pool l
+  pub number_is : number_of l ≡ number
+  pub finished : IsFinished l
+
+-- all lanes of the pool, in order
+pub record AreFinished (pool : SharedPool) (lanes : List Lane) : Type 0 where
+  pub many : length lanes ≡ pool.table.layout.shape.lanes
+  pub each : (k : ℕ) → k < pool.table.layout.shape.lanes →
+      HoldsAt (IsFinishedLane pool k) lanes k
+
+-- the log that a lane wrote
+abbrev pub log_written : Lane → LaneLog
+log_written l = record { replies = l.desk.replies.items; notes = l.desk.notes.items }
+
+-- the run is that of these lanes
+pub record IsRunOf (shape : Shape) (lanes : List Lane) (run : Run) : Type 0 where
+  pub shape_is : run.shape ≡ shape
+  pub trace : run.trace.lanes ≡ map (λ l. l.commands) lanes
+  pub logs : run.logs ≡ map log_written lanes
+
+-- just these commands and logs
+pub record ArePartedAs (commands : List (List Command)) (logs : List LaneLog) (p : Parted) : Type 0
+  where
+    pub commands_are : p.commands.items ≡ commands
+    pub logs_are : p.logs.items ≡ logs
+
+-- there is room for the commands and the logs of so many lanes more
+pub record HasRoom (count : ℕ) (p : Parted) : Type 0 where
+  pub commands : length p.commands.items + count ≤ vec_capacity p.commands
+  pub logs : length p.logs.items + count ≤ vec_capacity p.logs
+
+-- the lane keeps room for so many seats
+abbrev pub HasSpare : ℕ → Lane → Type 0
+HasSpare count l = count ≤ vec_capacity l.spare.seats

@@ -1,0 +1,230 @@
+//! The accesses to a root's bytes that commands ask for.
+
+ghost use Rattle.std.specs.Prelude.{◌≡◌, ◌<◌, ◌≤◌, length, replicate, Some, None, IfOk, IfErr, IfSome, IfNone, true, false};
+ghost use Rattle.pool_law.specs.declared.command.Command.{Command};
+ghost use Rattle.pool_law.specs.Lanes.{LaneState};
+ghost use Rattle.pool_law.specs.Views.{in_range, can_read, can_write, after_read, after_write};
+ghost use Rattle.lane_core.specs.Named.{bound_at};
+ghost use Rattle.lane_core.specs.Counting.{counted};
+ghost use Rattle.lane_core.specs.Accesses.{IsState, IsRefused, IsRefusedFresh, IsRefusedRange, IsReached, IsPrepared, IsAccess, BindsBelow, IsMadeSet, IsMadeGet};
+
+use crate::counts::OwnCounts;
+use crate::names::Names;
+use byte_view::View;
+use pool_law::{Command, RootId};
+use std::alloc::{AllocError, Global};
+
+/// Why a command on a view is refused before it makes a note.
+#[derive(Clone, Copy, PartialEq, Eq, Debug, Drop)]
+pub(crate) enum Refusal {
+    Unbound,
+    Taken,
+    Illegal,
+    Range,
+}
+
+/// Where a command reaches bytes of a root, and what its name is bound to afterwards.
+#[derive(Drop)]
+pub(crate) struct Reach {
+    pub(crate) root: RootId,
+    pub(crate) offset: u32,
+    pub(crate) tries: bool,
+    pub(crate) name: u32,
+    pub(crate) after: View,
+}
+
+/// An access that a command asks for, with the memory for its note and its reply; or why it is
+/// refused.
+#[derive(Drop)]
+pub(crate) enum Access {
+    Refused(Refusal),
+    Set(Reach, Vec<u8>),
+    Get(Reach, Vec<u8>, Vec<u8>),
+}
+
+/// The view of a name, where the lane counts its root.
+pub(crate) fn counted<'a>(
+    names: &'a Names,
+    counts: &OwnCounts,
+    name: u32,
+) -> Result<&'a View, Refusal>
+    ensures ok { IfOk result (λ view. (bound_at names.now name ≡ Some view.now.at)
+        × (0 < counted counts.now view.now.at.root)) }
+    ensures refused { IfErr result (IsRefused names.now counts.now name) }
+{
+    let Some(view) = names.get(name) else {
+        return Err(Refusal::Unbound);
+    };
+    if counts.of(view.at.root) == 0 {
+        return Err(Refusal::Illegal);
+    }
+    Ok(view)
+}
+
+/// The same, with a new name that may not be bound.
+pub(crate) fn derived<'a>(
+    names: &'a Names,
+    counts: &OwnCounts,
+    fresh: u32,
+    name: u32,
+) -> Result<&'a View, Refusal>
+    ensures ok { IfOk result (λ view. (bound_at names.now name ≡ Some view.now.at)
+        × (bound_at names.now fresh ≡ None) × (0 < counted counts.now view.now.at.root)) }
+    ensures refused { IfErr result (IsRefusedFresh names.now counts.now fresh name) }
+{
+    let Some(view) = names.get(name) else {
+        return Err(Refusal::Unbound);
+    };
+    if let Some(_) = names.get(fresh) {
+        return Err(Refusal::Taken);
+    }
+    if counts.of(view.at.root) == 0 {
+        return Err(Refusal::Illegal);
+    }
+    Ok(view)
+}
+
+/// What a command would access now, if it is one that accesses bytes.
+pub(crate) fn prepare(
+    alloc: Global,
+    names: &Names,
+    counts: &OwnCounts,
+    command: &Command,
+) -> Result<Option<Access>, AllocError>
+    ensures access { IfOk result (λ made. IfSome made (λ access. (s : LaneState) →
+        IsState s names.now counts.now →
+        IsPrepared names.now counts.now command.now access s)) }
+    ensures within { IfOk result (λ made. IfSome made (BindsBelow (length names.now))) }
+    ensures other { IfOk result (λ made. IfNone made (IsAccess command.now → ⊥)) }
+    ensures none { IfOk result (λ made. IfSome made (λ access. IsAccess command.now)) }
+{
+    let access = match command {
+        Command::Set {
+            name,
+            at,
+            bytes,
+            tries,
+        } => {
+            let len = bytes.items().len();
+            set(
+                alloc,
+                reach_at(names, counts, *name, *at, len, *tries),
+                bytes.items(),
+            )?
+        }
+        Command::Get {
+            name,
+            at,
+            len,
+            tries,
+        } => get(
+            alloc,
+            reach_at(names, counts, *name, *at, *len as usize, *tries),
+            *len,
+        )?,
+        Command::Write { name, bytes } => {
+            let len = bytes.items().len();
+            set(alloc, reach_write(names, counts, *name, len), bytes.items())?
+        }
+        Command::Read { name, len } => get(alloc, reach_read(names, counts, *name, *len), *len)?,
+        _ => return Ok(None),
+    };
+    Ok(Some(access))
+}
+
+fn set(alloc: Global, reach: Result<Reach, Refusal>, bytes: &[u8]) -> Result<Access, AllocError>
+    ensures { IfOk result (IsMadeSet reach bytes.now) }
+{
+    match reach {
+        Ok(reach) => Ok(Access::Set(reach, Vec::from_slice(alloc, bytes)?)),
+        Err(refusal) => Ok(Access::Refused(refusal)),
+    }
+}
+
+fn get(alloc: Global, reach: Result<Reach, Refusal>, len: u32) -> Result<Access, AllocError>
+    ensures { IfOk result (IsMadeGet reach len) }
+{
+    match reach {
+        Ok(reach) => {
+            let note = Vec::from_elem(alloc, 0, len as usize)?;
+            let reply = Vec::from_elem(alloc, 0, len as usize)?;
+            Ok(Access::Get(reach, note, reply))
+        }
+        Err(refusal) => Ok(Access::Refused(refusal)),
+    }
+}
+
+// So many bytes of the view of a name, from an index on.
+fn reach_at(
+    names: &Names,
+    counts: &OwnCounts,
+    name: u32,
+    at: u32,
+    len: usize,
+    tries: bool,
+) -> Result<Reach, Refusal>
+    ensures ok { IfOk result (IsReached names.now counts.now name tries
+        (λ v. in_range v at len) (λ v. at) (λ v. v)) }
+    ensures refused { IfErr result
+        (IsRefusedRange names.now counts.now name (λ v. in_range v at len)) }
+{
+    let view = counted(names, counts, name)?;
+    if len > view.at.len as usize {
+        return Err(Refusal::Range);
+    }
+    let Ok((offset, _)) = view.range(at, len as u32) else {
+        return Err(Refusal::Range);
+    };
+    Ok(Reach {
+        root: view.at.root,
+        offset,
+        tries,
+        name,
+        after: view.duplicate(),
+    })
+}
+
+// So many bytes of the view of a name, from its writer on.
+fn reach_write(names: &Names, counts: &OwnCounts, name: u32, len: usize) -> Result<Reach, Refusal>
+    ensures ok { IfOk result (IsReached names.now counts.now name false
+        (λ v. can_write v len) (λ v. v.writer) (λ v. after_write v len)) }
+    ensures refused { IfErr result
+        (IsRefusedRange names.now counts.now name (λ v. can_write v len)) }
+{
+    let view = counted(names, counts, name)?;
+    if len > view.at.len as usize {
+        return Err(Refusal::Range);
+    }
+    let mut after = view.duplicate();
+    let Ok((offset, _)) = after.write_range(len as u32) else {
+        return Err(Refusal::Range);
+    };
+    Ok(Reach {
+        root: after.at.root,
+        offset,
+        tries: false,
+        name,
+        after,
+    })
+}
+
+// So many bytes of the view of a name, from its reader on.
+fn reach_read(names: &Names, counts: &OwnCounts, name: u32, len: u32) -> Result<Reach, Refusal>
+    ensures ok { IfOk result (IsReached names.now counts.now name false
+        (λ v. can_read v len) (λ v. v.reader) (λ v. after_read v len)) }
+    ensures refused { IfErr result
+        (IsRefusedRange names.now counts.now name (λ v. can_read v len)) }
+{
+    let view = counted(names, counts, name)?;
+    let mut after = view.duplicate();
+    let Ok((offset, _)) = after.read_range(len) else {
+        return Err(Refusal::Range);
+    };
+    Ok(Reach {
+        root: after.at.root,
+        offset,
+        tries: false,
+        name,
+        after,
+    })
+}

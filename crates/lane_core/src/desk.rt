@@ -1,0 +1,608 @@
+//! What a lane works with: its seat, its names, its counts, and the log that it writes.
+
+ghost use Rattle.std.specs.Prelude.{◌≡◌, ◌≢◌, ◌+◌, ◌-◌, ◌<◌, ◌≤◌, [], ◌∷◌, ◌++◌, length, Some, None, IfSome, vec_capacity};
+ghost use Rattle.pool_law.specs.Lanes.{LaneState};
+ghost use Rattle.pool_law.specs.declared.command.Command.{Command};
+ghost use Rattle.lane_core.specs.Hands.{empty_hand};
+ghost use Rattle.lane_core.specs.Accesses.{IsState, Reaches, IsReady, IsPrepared, IsAccess, reply_for};
+ghost use Rattle.lane_core.specs.declared.access.Access.TheVariants.{Set, Get};
+ghost use Rattle.pool_law.specs.Views.{IsView};
+ghost use Rattle.lane_core.specs.Allotments.{left_with};
+ghost use Rattle.lane_core.specs.Counting.{counted};
+ghost use Rattle.lane_core.specs.NoteLists.{notes_in};
+ghost use Rattle.lane_core.specs.DeskSteps.{CanAnswer, HasNoted, HasReplied, HasRetained, FindsBusy, PostsTo, left_to_post, MayTurn, Turns, AccessTurns};
+ghost use Rattle.lane_core.specs.declared.desk.Turn.{Turn};
+ghost use Rattle.shared_pool.specs.declared.pool.SharedPool.{SharedPool};
+ghost use Rattle.lane_core.specs.Named.{NamesAre};
+ghost use Rattle.lane_core.specs.Closings as closing;
+ghost use Rattle.lane_core.specs.Allotments as allotment;
+ghost use Rattle.lane_core.specs.Endings as ending;
+ghost use Rattle.lane_core.specs.Desks.{IsDesk, hand_of, Fits, FitsDesk, HasRoomFor, left_for, left_at, IsUnderway, NameFits, AccessFits, HasTurned, HasTurnedClosing};
+ghost use Rattle.lane_core.specs.declared.desk.Stage.{Stage};
+ghost use Rattle.lane_core.specs.declared.closing.Closing.{Closing};
+ghost use Rattle.lane_core.specs.Budgets.{notes_alone};
+ghost use Rattle.pool_table.specs.Seats.{view_of};
+
+use crate::access::{Access, Reach, Refusal, counted, derived};
+use crate::allotment::{Allots, Allotting, allot};
+use crate::closing::{Closes, Closing, close};
+use crate::counts::OwnCounts;
+use crate::names::Names;
+use crate::notes::{Notes, at, lane_of, to};
+use crate::retirement::{Ending, Ends, end};
+use byte_view::View;
+use leak_records::Sampler;
+use pool_law::{
+    Answered, Bytes, Command, Did, Held, Note, Object, Parcel, RefDid, Reply, RootId, Shape,
+};
+use shared_pool::{Fetched, PoolSeat, Release, SharedPool, Went};
+use size_classes::SizeClasses;
+
+/// What a lane works with. Its log has room for all that the lane's commands may note.
+pub(crate) struct Desk {
+    pub(crate) shape: Shape,
+    pub(crate) classes: SizeClasses,
+    pub(crate) seat: PoolSeat,
+    pub(crate) names: Names,
+    pub(crate) counts: OwnCounts,
+    pub(crate) sampler: Sampler,
+    pub(crate) replies: Vec<Answered>,
+    pub(crate) notes: Vec<Note>,
+    /// How many notes stood before the command that is under way.
+    pub(crate) begun: usize,
+}
+
+/// What a command has still to do once it has begun.
+pub(crate) enum Stage {
+    /// The next command is to be begun.
+    Ready,
+    Allotting {
+        name: u32,
+        size: u32,
+        class: u32,
+        stage: Allotting,
+    },
+    Ending(Ending),
+    Closing(Closing),
+}
+
+/// What a turn of a lane came to. The stage is what is to be done next.
+pub(crate) enum Turn {
+    Went(Stage),
+    Pending(Held, Stage),
+    Waiting { from: u32 },
+}
+
+// A command that waits to be tried again.
+fn waits(held: Held) -> Turn
+    ensures { result ≡ Turn.Pending held Stage.Ready }
+{
+    Turn::Pending(held, Stage::Ready)
+}
+
+fn reply_of(refusal: Refusal) -> Reply
+    ensures { result ≡ reply_for refusal }
+{
+    match refusal {
+        Refusal::Unbound => Reply::Unbound,
+        Refusal::Taken => Reply::Taken,
+        Refusal::Illegal => Reply::Illegal,
+        Refusal::Range => Reply::Range,
+    }
+}
+
+impl Desk {
+    // Writes a note.
+    fn note(&mut self, note: Note)
+        requires { length self.old.notes.items < vec_capacity self.old.notes }
+        ensures { HasNoted self.old self.new (note ∷ []) }
+    {
+        let Ok(()) = self.notes.push(note) else {
+            unreachable!()
+        };
+    }
+
+    // Writes the notes of a step.
+    fn note_all(&mut self, notes: Notes)
+        requires { length self.old.notes.items + length (notes_in notes)
+            ≤ vec_capacity self.old.notes }
+        ensures { HasNoted self.old self.new (notes_in notes) }
+    {
+        match notes {
+            Notes::None => {}
+            Notes::One(note) => self.note(note),
+            Notes::Two(first, second) => {
+                self.note(first);
+                self.note(second);
+            }
+        }
+    }
+
+    // Answers the command that is under way.
+    fn answer(&mut self, reply: Reply) -> Turn
+        requires { CanAnswer self.old }
+        ensures replied { HasReplied self.old self.new reply }
+        ensures ready { result ≡ Turn.Went Stage.Ready }
+    {
+        let notes = (self.notes.len() - self.begun) as u32;
+        self.begun = self.notes.len();
+        let Ok(()) = self.replies.push(Answered { reply, notes }) else {
+            unreachable!()
+        };
+        Turn::Went(Stage::Ready)
+    }
+
+    fn refuse(&mut self, refusal: Refusal) -> Turn
+        requires { CanAnswer self.old }
+        ensures replied { HasReplied self.old self.new (reply_for refusal) }
+        ensures ready { result ≡ Turn.Went Stage.Ready }
+    {
+        self.answer(reply_of(refusal))
+    }
+
+    /// Begins a command that accesses no bytes.
+    pub(crate) fn obey(&mut self, pool: &SharedPool, command: &Command) -> Turn
+        requires desk { IsDesk pool.now empty_hand self.old }
+        requires room { HasRoomFor self.old (left_for command.now) }
+        requires replies { length self.old.replies.items < vec_capacity self.old.replies }
+        requires fits { FitsDesk self.old command.now }
+        requires other { IsAccess command.now → ⊥ }
+        ensures { (s : LaneState) → IsState s self.old.names self.old.counts →
+            HasTurned pool.now self.old self.new s command.now Stage.Ready result }
+    {
+        match command {
+            Command::Alloc { name, size } => self.alloc(pool, *name, *size),
+            Command::Slice {
+                fresh,
+                name,
+                at,
+                len,
+                retained,
+            } => self.slice(pool, *fresh, *name, (*at, *len), *retained),
+            Command::Dup { fresh, name } => self.duplicate(*fresh, *name),
+            Command::Retain { name } => self.retain(pool, *name),
+            Command::Release { name } => self.release(pool, *name),
+            Command::Refcnt { name } => self.look(pool, *name),
+            Command::Touch { name } => self.touch(pool, *name),
+            Command::Forget { name } => self.forget(*name),
+            Command::Send { name, lane } => self.send(pool, *name, *lane),
+            Command::Recv { fresh, lane } => self.receive(pool, *fresh, *lane),
+            _ => unreachable!(),
+        }
+    }
+
+    /// Goes on with a command that was begun.
+    pub(crate) fn go_on(&mut self, pool: &SharedPool, stage: Stage) -> Turn
+        requires desk { IsDesk pool.now (hand_of stage) self.old }
+        requires fits { Fits pool.now self.old stage }
+        requires begun { IsUnderway stage }
+        requires room { (command : Command) → HasRoomFor self.old (left_at command stage) }
+        requires replies { length self.old.replies.items < vec_capacity self.old.replies }
+        requires name { NameFits self.old stage }
+        ensures { (s : LaneState) (command : Command) → NamesAre s.names self.old.names →
+            HasTurned pool.now self.old self.new s command stage result }
+    {
+        match stage {
+            Stage::Allotting {
+                name,
+                size,
+                class,
+                stage,
+            } => self.allot(pool, name, size, class, stage),
+            Stage::Ending(stage) => self.end(pool, stage),
+            _ => unreachable!(),
+        }
+    }
+
+    fn alloc(&mut self, pool: &SharedPool, name: u32, size: u32) -> Turn
+        requires may { MayTurn pool.now (left_for (Command.Alloc name size)) self.old }
+        requires name { name < length self.old.names }
+        ensures { Turns pool.now self.old self.new (Command.Alloc name size) result }
+    {
+        if let Some(_) = self.names.get(name) {
+            return self.refuse(Refusal::Taken);
+        }
+        let Some(class) = self.classes.class_of(size) else {
+            return self.answer(Reply::TooLarge);
+        };
+        self.allot(pool, name, size, class, Allotting::Handle)
+    }
+
+    /// Goes on with an allocation.
+    pub(crate) fn allot(
+        &mut self,
+        pool: &SharedPool,
+        name: u32,
+        size: u32,
+        class: u32,
+        stage: Allotting,
+    ) -> Turn
+        requires desk { IsDesk pool.now (hand_of (Stage.Allotting name size class stage)) self.old }
+        requires fits { Fits pool.now self.old (Stage.Allotting name size class stage) }
+        requires room { HasRoomFor self.old (allotment.left_of stage) }
+        requires replies { length self.old.replies.items < vec_capacity self.old.replies }
+        requires name { name < length self.old.names }
+        ensures { (s : LaneState) (command : Command) → NamesAre s.names self.old.names →
+            let stage = Stage.Allotting name size class stage in
+            HasTurned pool.now self.old self.new s command stage result }
+    {
+        let (allots, notes) = allot(
+            pool,
+            &self.shape,
+            &mut self.seat,
+            &mut self.sampler,
+            size,
+            class,
+            stage,
+        );
+        self.note_all(notes);
+        match allots {
+            Allots::More(stage) => Turn::Went(Stage::Allotting {
+                name,
+                size,
+                class,
+                stage,
+            }),
+            Allots::Held(held, stage) => {
+                let next = Stage::Allotting {
+                    name,
+                    size,
+                    class,
+                    stage,
+                };
+                Turn::Pending(held, next)
+            }
+            Allots::New(root, region) => {
+                self.counts.add(root);
+                self.names.bind(name, View::of_root(root));
+                self.answer(Reply::OkPlace {
+                    size: region.place.len,
+                    place: region.place,
+                })
+            }
+            Allots::NoHandle => self.answer(Reply::Handles),
+            Allots::Full => self.answer(Reply::Full),
+        }
+    }
+
+    /// Accesses bytes, or answers why not.
+    pub(crate) fn access(&mut self, pool: &SharedPool, access: Access) -> Turn
+        requires desk { IsDesk pool.now empty_hand self.old }
+        requires room { HasRoomFor self.old (notes_alone 1) }
+        requires replies { length self.old.replies.items < vec_capacity self.old.replies }
+        requires ready { IsReady self.old.counts access }
+        requires name { AccessFits self.old access }
+        ensures { (s : LaneState) (command : Command) → IsState s self.old.names self.old.counts →
+            IsPrepared self.old.names self.old.counts command access s →
+            HasTurned pool.now self.old self.new s command Stage.Ready result }
+    {
+        match access {
+            Access::Refused(refusal) => self.refuse(refusal),
+            Access::Set(reach, bytes) => self.set(pool, reach, bytes),
+            Access::Get(reach, note, reply) => self.get(pool, reach, note, reply),
+        }
+    }
+
+    fn set(&mut self, pool: &SharedPool, reach: Reach, bytes: Vec<u8>) -> Turn
+        requires may { MayTurn pool.now (notes_alone 1) self.old }
+        requires reaches { Reaches self.old.counts (length bytes.items) reach }
+        requires name { reach.name < length self.old.names }
+        ensures { AccessTurns pool.now self.old self.new (Set reach bytes) result }
+    {
+        let offset = reach.offset;
+        let root = reach.root;
+        match pool.write(&mut self.seat, root, offset, &bytes, reach.tries) {
+            Went::Did(number, ()) => {
+                let bytes = Bytes::of(bytes);
+                self.note(at(Object::Root(root.place), number, Did::Set { offset, bytes }));
+                self.names.bind(reach.name, reach.after);
+                self.answer(Reply::Ok)
+            }
+            Went::Held(held, ()) => self.find_busy(reach.tries, held),
+        }
+    }
+
+    fn get(
+        &mut self,
+        pool: &SharedPool,
+        reach: Reach,
+        mut note: Vec<u8>,
+        mut reply: Vec<u8>,
+    ) -> Turn
+        requires may { MayTurn pool.now (notes_alone 1) self.old }
+        requires reaches { Reaches self.old.counts (length note.items) reach }
+        requires reply { length reply.items ≡ length note.items }
+        requires name { reach.name < length self.old.names }
+        ensures { AccessTurns pool.now self.old self.new (Get reach note reply) result }
+    {
+        let offset = reach.offset;
+        let root = reach.root;
+        match pool.read(&mut self.seat, root, offset, &mut note, reach.tries) {
+            Went::Did(number, ()) => {
+                reply.copy_from_slice(&note);
+                let bytes = Bytes::of(note);
+                self.note(at(Object::Root(root.place), number, Did::Get { offset, bytes }));
+                self.names.bind(reach.name, reach.after);
+                self.answer(Reply::OkBytes(Bytes::of(reply)))
+            }
+            Went::Held(held, ()) => self.find_busy(reach.tries, held),
+        }
+    }
+
+    // Another seat was at the root: a command that only tries says so, another waits.
+    fn find_busy(&mut self, tries: bool, held: Held) -> Turn
+        requires may { CanAnswer self.old }
+        requires room { length self.old.notes.items < vec_capacity self.old.notes }
+        requires few { length self.old.notes.items < 4294967295 }
+        ensures { FindsBusy tries self.old self.new held result }
+    {
+        if !tries {
+            return waits(held);
+        }
+        self.note(Note::Busy(held));
+        self.answer(Reply::Busy(held.number))
+    }
+
+    fn slice(
+        &mut self,
+        pool: &SharedPool,
+        fresh: u32,
+        name: u32,
+        range: (u32, u32),
+        retained: bool,
+    ) -> Turn
+        requires may { MayTurn pool.now
+            (left_for (Command.Slice fresh name range.0 range.1 retained)) self.old }
+        requires name { fresh < length self.old.names }
+        ensures { let command = Command.Slice fresh name range.0 range.1 retained in
+            Turns pool.now self.old self.new command result }
+    {
+        let view = match derived(&self.names, &self.counts, fresh, name) {
+            Ok(view) => view,
+            Err(refusal) => return self.refuse(refusal),
+        };
+        let Ok(slice) = view.slice(range.0, range.1) else {
+            return self.refuse(Refusal::Range);
+        };
+        if retained {
+            self.count_more(pool, slice.at.root);
+        }
+        self.names.bind(fresh, slice);
+        self.answer(Reply::Ok)
+    }
+
+    fn duplicate(&mut self, fresh: u32, name: u32) -> Turn
+        requires may { CanAnswer self.old }
+        requires name { fresh < length self.old.names }
+        ensures { (pool : SharedPool) → MayTurn pool (left_for (Command.Dup fresh name)) self.old →
+            Turns pool self.old self.new (Command.Dup fresh name) result }
+    {
+        let view = match derived(&self.names, &self.counts, fresh, name) {
+            Ok(view) => view.duplicate(),
+            Err(refusal) => return self.refuse(refusal),
+        };
+        self.names.bind(fresh, view);
+        self.answer(Reply::Ok)
+    }
+
+    // One count more of a root.
+    fn count_more(&mut self, pool: &SharedPool, root: RootId)
+        requires desk { IsDesk pool.now empty_hand self.old }
+        requires room { HasRoomFor self.old (left_with 1 0 1) }
+        requires counts { 0 < counted self.old.counts root }
+        ensures { HasRetained pool.now self.old self.new root }
+    {
+        pool.retain(&mut self.seat, root);
+        self.note(to(root, RefDid::Retain));
+        self.counts.add(root);
+    }
+
+    fn retain(&mut self, pool: &SharedPool, name: u32) -> Turn
+        requires { MayTurn pool.now (left_for (Command.Retain name)) self.old }
+        ensures { Turns pool.now self.old self.new (Command.Retain name) result }
+    {
+        let root = match counted(&self.names, &self.counts, name) {
+            Ok(view) => view.at.root,
+            Err(refusal) => return self.refuse(refusal),
+        };
+        self.count_more(pool, root);
+        self.answer(Reply::Ok)
+    }
+
+    fn release(&mut self, pool: &SharedPool, name: u32) -> Turn
+        requires { MayTurn pool.now (left_for (Command.Release name)) self.old }
+        ensures { Turns pool.now self.old self.new (Command.Release name) result }
+    {
+        let root = match counted(&self.names, &self.counts, name) {
+            Ok(view) => view.at.root,
+            Err(refusal) => return self.refuse(refusal),
+        };
+        let release = pool.release(&mut self.seat, root);
+        self.counts.take(root);
+        match release {
+            Release::Kept => {
+                self.note(to(root, RefDid::Kept));
+                self.answer(Reply::Kept)
+            }
+            Release::Ended(token) => {
+                self.note(to(root, RefDid::Ended));
+                Turn::Went(Stage::Ending(Ending::Root(token)))
+            }
+        }
+    }
+
+    /// Goes on with the end of a root.
+    pub(crate) fn end(&mut self, pool: &SharedPool, stage: Ending) -> Turn
+        requires desk { IsDesk pool.now (hand_of (Stage.Ending stage)) self.old }
+        requires fits { Fits pool.now self.old (Stage.Ending stage) }
+        requires room { HasRoomFor self.old (ending.left_of stage) }
+        requires replies { length self.old.replies.items < vec_capacity self.old.replies }
+        ensures { (s : LaneState) (command : Command) → NamesAre s.names self.old.names →
+            HasTurned pool.now self.old self.new s command (Stage.Ending stage) result }
+    {
+        let (ends, notes) = end(pool, &mut self.seat, stage);
+        self.note_all(notes);
+        match ends {
+            Ends::More(stage) => Turn::Went(Stage::Ending(stage)),
+            Ends::Held(held, stage) => Turn::Pending(held, Stage::Ending(stage)),
+            Ends::Done => self.answer(Reply::Freed),
+        }
+    }
+
+    fn look(&mut self, pool: &SharedPool, name: u32) -> Turn
+        requires { MayTurn pool.now (left_for (Command.Refcnt name)) self.old }
+        ensures { Turns pool.now self.old self.new (Command.Refcnt name) result }
+    {
+        let root = match counted(&self.names, &self.counts, name) {
+            Ok(view) => view.at.root,
+            Err(refusal) => return self.refuse(refusal),
+        };
+        let count = pool.look(&mut self.seat, root);
+        self.note(to(root, RefDid::Look(count)));
+        self.answer(Reply::OkNumber(count))
+    }
+
+    fn touch(&mut self, pool: &SharedPool, name: u32) -> Turn
+        requires { MayTurn pool.now (left_for (Command.Touch name)) self.old }
+        ensures { Turns pool.now self.old self.new (Command.Touch name) result }
+    {
+        let root = match counted(&self.names, &self.counts, name) {
+            Ok(view) => view.at.root,
+            Err(refusal) => return self.refuse(refusal),
+        };
+        match pool.touch(&mut self.seat, root) {
+            Went::Did(number, ()) => {
+                self.note(at(Object::Root(root.place), number, Did::Touch));
+                self.answer(Reply::Ok)
+            }
+            Went::Held(held, ()) => waits(held),
+        }
+    }
+
+    fn forget(&mut self, name: u32) -> Turn
+        requires may { CanAnswer self.old }
+        requires name { name < length self.old.names }
+        ensures { (pool : SharedPool) → MayTurn pool (left_for (Command.Forget name)) self.old →
+            Turns pool self.old self.new (Command.Forget name) result }
+    {
+        let None = self.names.get(name) else {
+            self.names.unbind(name);
+            return self.answer(Reply::Ok);
+        };
+        self.refuse(Refusal::Unbound)
+    }
+
+    fn send(&mut self, pool: &SharedPool, name: u32, lane: u32) -> Turn
+        requires may { MayTurn pool.now (left_for (Command.Send name lane)) self.old }
+        requires lane { lane < self.old.shape.lanes }
+        ensures { Turns pool.now self.old self.new (Command.Send name lane) result }
+    {
+        match counted(&self.names, &self.counts, name) {
+            Ok(view) => {
+                let at = view.at;
+                match self.post(pool, lane, Parcel { view: Some(at) }) {
+                    Some(held) => waits(held),
+                    None => {
+                        self.counts.take(at.root);
+                        self.answer(Reply::Ok)
+                    }
+                }
+            }
+            Err(refusal) => match self.post(pool, lane, Parcel { view: None }) {
+                Some(held) => waits(held),
+                None => self.refuse(refusal),
+            },
+        }
+    }
+
+    // Posts a parcel and notes that, or answers that another seat was in the mail.
+    fn post(&mut self, pool: &SharedPool, lane: u32, sent: Parcel) -> Option<Held>
+        requires desk { IsDesk pool.now empty_hand self.old }
+        requires room { HasRoomFor self.old (left_to_post lane) }
+        requires lane { lane < self.old.shape.lanes }
+        requires view { IfSome sent.view IsView }
+        requires counts { IfSome sent.view (λ v. 0 < counted self.old.counts v.root) }
+        ensures { PostsTo pool.now self.old self.new lane sent result }
+    {
+        let mail = Object::Mail {
+            from: lane_of(&self.seat),
+            to: lane,
+        };
+        match pool.post(&mut self.seat, lane, sent) {
+            Went::Did(number, ()) => {
+                self.note(at(mail, number, Did::Post(sent)));
+                None
+            }
+            Went::Held(held, ()) => Some(held),
+        }
+    }
+
+    fn receive(&mut self, pool: &SharedPool, fresh: u32, lane: u32) -> Turn
+        requires may { MayTurn pool.now (left_for (Command.Recv fresh lane)) self.old }
+        requires name { fresh < length self.old.names }
+        requires lane { lane < self.old.shape.lanes }
+        ensures { Turns pool.now self.old self.new (Command.Recv fresh lane) result }
+    {
+        let mail = Object::Mail {
+            from: lane,
+            to: lane_of(&self.seat),
+        };
+        match pool.fetch(&mut self.seat, lane) {
+            Fetched::Got(number, parcel) => {
+                self.note(at(mail, number, Did::Fetch(parcel)));
+                match parcel.view {
+                    Some(view) => {
+                        self.counts.add(view.root);
+                        self.names.bind(fresh, View { at: view });
+                        self.answer(Reply::Ok)
+                    }
+                    None => self.answer(Reply::Nothing),
+                }
+            }
+            Fetched::Empty => Turn::Waiting { from: lane },
+            Fetched::Held(held) => waits(held),
+        }
+    }
+
+    /// Goes on with the closing of the caches.
+    pub(crate) fn close(&mut self, pool: &SharedPool, stage: Closing) -> Turn
+        requires desk { IsDesk pool.now (closing.hand_of stage) self.old }
+        requires fits { closing.Fits pool.now self.old.seat stage }
+        requires room { HasRoomFor self.old (closing.left_of stage (view_of self.old.seat)) }
+        requires more { stage ≢ Closing.Done }
+        ensures { HasTurnedClosing pool.now self.old self.new stage result }
+    {
+        let (closes, notes) = close(pool, &mut self.seat, stage);
+        self.note_all(notes);
+        match closes {
+            Closes::More(stage) => Turn::Went(Stage::Closing(stage)),
+            Closes::Held(held, stage) => Turn::Pending(held, Stage::Closing(stage)),
+        }
+    }
+
+    /// The seat, with what was written lost.
+    pub(crate) fn into_seat(self) -> PoolSeat
+        ensures { result ≡ self.seat }
+    {
+        let (seat, _replies, _notes) = self.into_log();
+        seat
+    }
+
+    /// The seat, the replies and the notes.
+    pub(crate) fn into_log(self) -> (PoolSeat, Vec<Answered>, Vec<Note>)
+        ensures { result ≡ (self.seat, self.replies, self.notes) }
+    {
+        let Desk {
+            shape: _,
+            classes: _,
+            seat,
+            names: _,
+            counts: _,
+            sampler: _,
+            replies,
+            notes,
+            begun: _,
+        } = self;
+        (seat, replies, notes)
+    }
+}

@@ -1,0 +1,20 @@
+//! What may stop a lane before a command.
+
+ghost use Rattle.std.specs.Prelude.{◌≡◌, ◌↔◌, ℕ, Bool, IsTrue};
+
+/// What a gate answers.
+#[derive(Clone, Copy, PartialEq, Eq, Debug)]
+pub enum Pass {
+    Go,
+    Stop,
+}
+
+/// It is asked once before each command of a lane, by the lane's number and the command's line.
+pub trait Gate: Sync {
+    /// Whether it stops this lane at this line.
+    ghost stops: { Self → ℕ → ℕ → Bool };
+
+    /// Answers `Stop` exactly where it stops the lane at the line.
+    fn pass(&self, lane: u32, line: u32) -> Pass
+        ensures { (result ≡ Pass.Stop) ↔ IsTrue (stops self.now lane line) };
+}

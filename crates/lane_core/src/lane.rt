@@ -1,0 +1,397 @@
+//! A lane, which is stepped over its pool.
+
+ghost use Rattle.std.specs.Prelude.{◌≡◌, ◌≢◌, ℕ, ◌<◌, ◌≤◌, [], false, length, IsSome, IfOk, IfErr, OnErr, Ok, vec_capacity};
+ghost use Rattle.pool_law.specs.declared.run.LaneLog.{LaneLog};
+ghost use Rattle.pool_law.specs.Limits.{IsShape};
+ghost use Rattle.pool_table.specs.Seats.{view_of};
+ghost use Rattle.shared_pool.specs.declared.pool.SharedPool.{SharedPool};
+ghost use Rattle.shared_pool.specs.SeatLanes.{lane_of};
+ghost use Rattle.lane_core.specs.declared.lane.Stepped.TheVariants.{Went, Finished};
+ghost use Rattle.lane_core.specs.Lanes.{IsLane, IsFinished, SameLane, number_of};
+ghost use Rattle.lane_core.specs.Opened.{IsFirstSeat, AreFirst, AreParts};
+ghost use Rattle.lane_core.specs.Steps.{HasStepped, at_stage, stepped_of};
+ghost use Rattle.lane_core.specs.Desks.{next_of};
+ghost use Rattle.lane_core.specs.declared.closing.Closing.{Closing};
+ghost use Rattle.lane_core.specs.declared.desk.Stage.{Stage};
+
+use crate::access::prepare;
+use crate::allotment::Allotting;
+use crate::closing::Closing;
+use crate::counts::OwnCounts;
+use crate::desk::{Desk, Stage, Turn};
+use crate::gate::{Gate, Pass};
+use crate::names::Names;
+use crate::notes::lane_of;
+use crate::retirement::Ending;
+use crate::room::{name_count, note_bound};
+use crate::spare::Spare;
+use leak_records::Sampler;
+use pool_law::{Answered, CommandList, Held, LaneLog, Note, NoteList, Region, ReplyList, Shape};
+use shared_pool::{PoolSeat, SharedPool};
+use size_classes::SizeClasses;
+use std::alloc::{AllocError, Global};
+use std::mem::replace;
+
+/// What a step did.
+pub enum Stepped {
+    /// A note or a reply was added to the log.
+    Went,
+    /// Another seat was at what the lane needs next; it waits.
+    Pending(Held),
+    /// No parcel from that lane is there.
+    Waiting { from: u32 },
+    /// All was done before: each command was answered, and all caches were closed and shed.
+    Finished,
+}
+
+/// A lane with its commands and its log. It must be spent.
+pub struct Lane {
+    commands: CommandList,
+    desk: Desk,
+    stage: Stage,
+    /// For how many lines the gate was asked.
+    asked: usize,
+    /// Room for the seats with which the pool is closed.
+    spare: Spare,
+}
+
+impl Lane {
+    /// A lane that has done nothing, with the memory for its log and its names.
+    pub fn new(
+        alloc: Global,
+        commands: CommandList,
+        shape: &Shape,
+        seat: PoolSeat,
+    ) -> Result<Lane, (CommandList, PoolSeat)>
+        requires commands { AreFirst shape.now commands }
+        requires seat { (pool : SharedPool) × IsFirstSeat pool shape.now commands seat }
+        ensures lane { IfOk result (λ lane. (pool : SharedPool) →
+            IsFirstSeat pool shape.now commands seat → IsLane pool lane) }
+        ensures commands { IfOk result (λ lane. lane.commands ≡ commands) }
+        ensures seat { IfOk result (λ lane. lane.desk.seat ≡ seat) }
+        ensures err { IfErr result (λ back. back ≡ (commands, seat)) }
+    {
+        let Ok(parts) = equipped(alloc, &commands, shape, &seat) else {
+            return Err((commands, seat));
+        };
+        let Parts {
+            classes,
+            names,
+            counts,
+            sampler,
+            log,
+            spare,
+        } = parts;
+        let desk = Desk {
+            shape: *shape,
+            classes,
+            seat,
+            names,
+            counts,
+            sampler,
+            replies: log.0,
+            notes: log.1,
+            begun: 0,
+        };
+        Ok(Lane {
+            commands,
+            desk,
+            stage: Stage::Ready,
+            asked: 0,
+            spare,
+        })
+    }
+
+    /// Does the next thing that the lane has to do: at most one section, and at most one step on a
+    /// reference word.
+    pub fn step<G: Gate>(
+        &mut self,
+        alloc: Global,
+        pool: &SharedPool,
+        gate: &G,
+    ) -> Result<Stepped, AllocError>
+        requires lane { IsLane pool.now self.old }
+        requires open { (line : ℕ) → G.stops gate.now (number_of self.old) line ≡ false }
+        ensures lane { IsLane pool.now self.new }
+        ensures same { SameLane self.old self.new }
+        ensures stepped { IfOk result (HasStepped pool.now self.old self.new) }
+        ensures finished { IsFinished self.old → result ≡ Ok Finished }
+        ensures err { OnErr result (self.new ≡ self.old) }
+    {
+        match replace(&mut self.stage, Stage::Ready) {
+            Stage::Ready => self.begin(alloc, pool, gate),
+            Stage::Closing(stage) => Ok(self.close(pool, stage)),
+            stage => {
+                let turn = self.desk.go_on(pool, stage);
+                Ok(self.after(turn))
+            }
+        }
+    }
+
+    // Begins the next command, or the closing.
+    fn begin<G: Gate>(
+        &mut self,
+        alloc: Global,
+        pool: &SharedPool,
+        gate: &G,
+    ) -> Result<Stepped, AllocError>
+        requires lane { IsLane pool.now self.old }
+        requires ready { self.old.stage ≡ Stage.Ready }
+        requires open { (line : ℕ) → G.stops gate.now (number_of self.old) line ≡ false }
+        ensures lane { IsLane pool.now self.new }
+        ensures same { SameLane self.old self.new }
+        ensures stepped { IfOk result (HasStepped pool.now self.old self.new) }
+        ensures err { OnErr result (self.new ≡ self.old) }
+    {
+        let line = self.desk.replies.len();
+        let Some(command) = self.commands.items().get(line) else {
+            let turn = self.desk.close(pool, Closing::Close { class: 0 });
+            return Ok(self.after(turn));
+        };
+        let access = prepare(alloc, &self.desk.names, &self.desk.counts, command)?;
+        self.asked = ask_once(gate, lane_of(&self.desk.seat), line, self.asked);
+        match access {
+            Some(access) => {
+                let turn = self.desk.access(pool, access);
+                Ok(self.after(turn))
+            }
+            None => {
+                let turn = self.desk.obey(pool, command);
+                Ok(self.after(turn))
+            }
+        }
+    }
+
+    // Goes on with the closing, unless it is done.
+    fn close(&mut self, pool: &SharedPool, stage: Closing) -> Stepped
+        requires lane { IsLane pool.now (at_stage self.old (Stage.Closing stage)) }
+        requires ready { self.old.stage ≡ Stage.Ready }
+        ensures lane { IsLane pool.now self.new }
+        ensures same { SameLane (at_stage self.old (Stage.Closing stage)) self.new }
+        ensures stepped { HasStepped pool.now (at_stage self.old (Stage.Closing stage))
+            self.new result }
+        ensures finished { stage ≡ Closing.Done → result ≡ Finished }
+    {
+        match stage {
+            Closing::Done => {
+                self.put(Stage::Closing(Closing::Done));
+                Stepped::Finished
+            }
+            stage => {
+                let turn = self.desk.close(pool, stage);
+                self.after(turn)
+            }
+        }
+    }
+
+    // Keeps what is to be done next, where nothing is kept.
+    fn put(&mut self, stage: Stage)
+        requires { self.old.stage ≡ Stage.Ready }
+        ensures { self.new ≡ at_stage self.old stage }
+    {
+        match replace(&mut self.stage, stage) {
+            Stage::Ready => {}
+            _ => unreachable!(),
+        }
+    }
+
+    // Keeps what is to be done next, and says what the turn came to.
+    fn after(&mut self, turn: Turn) -> Stepped
+        requires { self.old.stage ≡ Stage.Ready }
+        ensures next { self.new ≡ at_stage self.old (next_of Stage.Ready turn) }
+        ensures stepped { result ≡ stepped_of turn }
+    {
+        match turn {
+            Turn::Went(stage) => {
+                self.put(stage);
+                Stepped::Went
+            }
+            Turn::Pending(held, stage) => {
+                self.put(stage);
+                Stepped::Pending(held)
+            }
+            Turn::Waiting { from } => Stepped::Waiting { from },
+        }
+    }
+
+    /// The seat of a lane in any state, with its log lost. What the lane had in hand is spent.
+    pub fn abandon(self) -> PoolSeat
+        ensures { result ≡ self.desk.seat }
+    {
+        let (seat, spare) = self.into_seat();
+        spare.end();
+        seat
+    }
+
+    /// The same, and the room that the lane kept for the seats of all.
+    pub(crate) fn into_seat(self) -> (PoolSeat, Spare)
+        ensures { result ≡ (self.desk.seat, self.spare) }
+    {
+        let Lane {
+            commands: _,
+            desk,
+            stage,
+            asked: _,
+            spare,
+        } = self;
+        spend(stage);
+        (desk.into_seat(), spare)
+    }
+
+    /// The commands and the log of a lane that has finished, and its seat.
+    pub fn into_log(self) -> (CommandList, LaneLog, PoolSeat)
+        requires { IsFinished self }
+        ensures commands { result.0 ≡ self.commands }
+        ensures replies { result.1.replies ≡ self.desk.replies.items }
+        ensures notes { result.1.notes ≡ self.desk.notes.items }
+        ensures seat { result.2 ≡ self.desk.seat }
+    {
+        let (commands, log, seat, spare) = self.into_parts();
+        spare.end();
+        (commands, log, seat)
+    }
+
+    /// The same, and the room that the lane kept for the seats of all.
+    pub(crate) fn into_parts(self) -> (CommandList, LaneLog, PoolSeat, Spare)
+        requires { IsFinished self }
+        ensures commands { result.0 ≡ self.commands }
+        ensures replies { result.1.replies ≡ self.desk.replies.items }
+        ensures notes { result.1.notes ≡ self.desk.notes.items }
+        ensures seat { result.2 ≡ self.desk.seat }
+        ensures spare { result.3 ≡ self.spare }
+    {
+        let Lane {
+            commands,
+            desk,
+            stage,
+            asked: _,
+            spare,
+        } = self;
+        let Stage::Closing(Closing::Done) = stage else {
+            unreachable!()
+        };
+        let (seat, replies, notes) = desk.into_log();
+        let log = LaneLog {
+            replies: ReplyList::of(replies),
+            notes: NoteList::of(notes),
+        };
+        (commands, log, seat, spare)
+    }
+}
+
+// Asks the gate for a line, unless it was asked; answers for how many lines it was asked then.
+fn ask_once<G: Gate>(gate: &G, lane: u32, line: usize, asked: usize) -> usize
+    requires open { G.stops gate.now lane line ≡ false }
+    requires few { line < 65536 }
+    ensures { (count : ℕ) → asked ≤ count → line < count → result ≤ count }
+{
+    if asked != line {
+        return asked;
+    }
+    ask(gate, lane, line as u32);
+    line + 1
+}
+
+// Asks the gate for a line. Until lanes can be stopped, a gate stops nowhere.
+fn ask<G: Gate>(gate: &G, lane: u32, line: u32)
+    requires { G.stops gate.now lane line ≡ false }
+{
+    let Pass::Go = gate.pass(lane, line) else {
+        unreachable!()
+    };
+}
+
+// What a lane is made of beside its commands and its seat.
+struct Parts {
+    classes: SizeClasses,
+    names: Names,
+    counts: OwnCounts,
+    sampler: Sampler,
+    log: (Vec<Answered>, Vec<Note>),
+    spare: Spare,
+}
+
+fn equipped(
+    alloc: Global,
+    commands: &CommandList,
+    shape: &Shape,
+    seat: &PoolSeat,
+) -> Result<Parts, AllocError>
+    requires shape { IsShape shape.now }
+    requires few { length commands.now ≤ 65536 }
+    requires lane { IsSome (view_of seat.now).own.number }
+    ensures { IfOk result (AreParts shape.now (lane_of seat.now) commands.now) }
+{
+    let classes = SizeClasses::new(alloc, shape.order)?;
+    let names = Names::new(alloc, name_count(commands.items()))?;
+    let counts = OwnCounts::new(alloc, shape.lanes * shape.handles)?;
+    let replies = Vec::with_capacity(alloc, commands.items().len())?;
+    let notes = Vec::with_capacity(alloc, note_bound(commands.items()))?;
+    let spare = Spare::new(alloc, shape.lanes as usize)?;
+    Ok(Parts {
+        classes,
+        names,
+        counts,
+        sampler: Sampler::new(lane_of(seat), shape.level, shape.interval),
+        log: (replies, notes),
+        spare,
+    })
+}
+
+// Spends what a stage has in hand. A region's memory stays taken until the program ends.
+fn spend(stage: Stage) {
+    match stage {
+        Stage::Ready => {}
+        Stage::Allotting {
+            name: _,
+            size: _,
+            class: _,
+            stage,
+        } => spend_allotting(stage),
+        Stage::Ending(stage) => spend_ending(stage),
+        Stage::Closing(stage) => spend_closing(stage),
+    }
+}
+
+fn spend_closing(stage: Closing) {
+    match stage {
+        Closing::Close { class: _ } => {}
+        Closing::Shed { class: _, left: _ } => {}
+        Closing::Give {
+            class: _,
+            left: _,
+            region,
+        } => leave(region),
+        Closing::Done => {}
+    }
+}
+
+fn spend_allotting(stage: Allotting) {
+    match stage {
+        Allotting::Handle => {}
+        Allotting::Cache(handle) | Allotting::Arena(handle) | Allotting::Home(handle) => {
+            handle.leave()
+        }
+        Allotting::Birth(handle, region) => {
+            handle.leave();
+            leave(region)
+        }
+    }
+}
+
+fn spend_ending(stage: Ending) {
+    match stage {
+        Ending::Root(token) => token.leave(),
+        Ending::Cache(region, handle) | Ending::Arena(region, handle) => {
+            handle.leave();
+            leave(region)
+        }
+        Ending::Home(handle) => handle.leave(),
+    }
+}
+
+// Leaves a region's memory as it is.
+fn leave(region: Region) {
+    let (_id, piece) = region.into_parts();
+    piece.leave();
+}

@@ -1,0 +1,86 @@
+//! How much a lane of given commands can need: names, and notes.
+
+ghost use Rattle.std.specs.Prelude.{◌≡◌, ◌≤◌, All, length};
+ghost use Rattle.lane_core.specs.Desks.{left_for};
+ghost use Rattle.lane_core.specs.Lanes.{note_bound};
+ghost use Rattle.lane_core.specs.Named.{ChangesBelow};
+
+use pool_law::Command;
+
+/// One more than the greatest name of the commands, or none.
+pub(crate) fn name_count(commands: &[Command]) -> usize
+    ensures { All (ChangesBelow result) commands.now }
+{
+    let mut count = 0;
+    for command in commands {
+        count = count.max(names_of(command));
+    }
+    count
+}
+
+// One more than the greatest name of a command.
+fn names_of(command: &Command) -> usize
+    ensures { ChangesBelow result command.now }
+{
+    let name = match command {
+        Command::Slice { fresh, name, .. } | Command::Dup { fresh, name } => (*fresh).max(*name),
+        Command::Alloc { name, .. }
+        | Command::Set { name, .. }
+        | Command::Get { name, .. }
+        | Command::Write { name, .. }
+        | Command::Read { name, .. }
+        | Command::Retain { name }
+        | Command::Release { name }
+        | Command::Refcnt { name }
+        | Command::Touch { name }
+        | Command::Forget { name }
+        | Command::Send { name, .. } => *name,
+        Command::Recv { fresh, .. } => *fresh,
+        Command::Compose { fresh, .. } => *fresh,
+        Command::Add { whole, name } => (*whole).max(*name),
+    };
+    name as usize + 1
+}
+
+/// The most notes that a lane of these commands makes, its closing among them.
+pub(crate) fn note_bound(commands: &[Command]) -> usize
+    requires { length commands.now ≤ 65536 }
+    ensures bound { result ≡ note_bound commands.now }
+    ensures most { result ≤ 1048576 }
+{
+    let mut bound = 40;
+    let mut allocs = 0;
+    for command in commands {
+        bound += bound_of(command);
+        allocs += takes_of(command);
+    }
+    bound + 40 * (allocs / 8192) + 2 * allocs
+}
+
+// The most notes of one command.
+fn bound_of(command: &Command) -> usize
+    ensures notes { result ≡ (left_for command.now).notes }
+    ensures few { result ≤ 6 }
+{
+    match command {
+        Command::Alloc { .. } => 5,
+        Command::Release { .. } => 6,
+        Command::Slice {
+            retained: false,
+            ..
+        } => 0,
+        Command::Dup { .. } | Command::Forget { .. } => 0,
+        _ => 1,
+    }
+}
+
+// The most regions that one command takes.
+fn takes_of(command: &Command) -> usize
+    ensures takes { result ≡ (left_for command.now).takes }
+    ensures few { result ≤ 1 }
+{
+    match command {
+        Command::Alloc { .. } => 1,
+        _ => 0,
+    }
+}

@@ -1,0 +1,1 @@
+//! Lanes over a pool: the rows of `poolrun` step them.
