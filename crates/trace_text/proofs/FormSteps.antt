@@ -1,16 +1,15 @@
 -- What the form of a command gives: the lanes that it names are there.
-use Rattle.std.proofs.Common.{◌≡◌, ℕ, List, ◌∷◌, refl, sym, ◌∙◌, ap, true, false, Bool, subst}
-use Rattle.std.specs.Prelude.{Option, Some, None, IfSome, nat_lt, IsTrue, if◌then◌else◌}
+use Rattle.std.proofs.Common.{◌≡◌, ℕ, List, refl, true, false, Bool}
+use Rattle.std.specs.Prelude.{Option, Some, None, IfSome, nat_lt, if◌then◌else◌}
 use Rattle.serde_json.specs.Data.{Data}
-use Rattle.serde_json.specs.Find.{as_str}
 use Rattle.pool_law.specs.declared.command.Command.{Command}
 use Rattle.pool_law.specs.declared.command.Command.TheVariants as commands
 use Rattle.trace_text.specs.declared.words.Word.{Word}
 use Rattle.trace_text.specs.declared.words.Word.TheVariants as words
-use Rattle.trace_text.specs.Items.{◌>>=◌, only_if, array_in, item_at, name_in, number_in, lane_number_in, bytes_in}
+use Rattle.trace_text.specs.Items.{◌>>=◌, only_if, lane_number_in}
 use Rattle.trace_text.specs.Names.{Mentions}
-use Rattle.trace_text.specs.Forms.{Read, row_of, mentioned, alloc_of, set_of, get_of, write_of, read_of, slice_of, one_name_in, two_names_in, name_and_lane_in}
-use Rattle.trace_text.specs.Words.{word_of, form_of, command_in, read_as}
+use Rattle.trace_text.specs.Forms.{Read, mentioned, alloc_of, set_of, get_of, write_of, read_of, slice_of, one_name_in, two_names_in, name_and_lane_in}
+use Rattle.trace_text.specs.Words.{form_of, command_in, read_as}
 
 -- a lane that the command names is one of so many; it is no composite
 abbrev pub names_lanes : ℕ → Command → Bool

@@ -1,23 +1,17 @@
 -- The commands of a lane that was read are what a lane needs.
-use Rattle.std.proofs.Common.{◌≡◌, ℕ, ◌+◌, ◌<◌, ◌≤◌, List, [], ◌∷◌, ◌++◌, length, refl, sym, ◌∙◌, ap, true, false, Bool, subst, arith, append_assoc, append-nil, length-append, zero, suc}
-use Rattle.std.specs.Prelude.{Option, Some, None, IfSome, Result, Ok, Err, nat_lt, IsTrue, if◌then◌else◌, ◌&&◌, All, slice_get, unwrap_or}
+use Rattle.std.proofs.Common.{◌≡◌, ℕ, List, [], ◌∷◌, ◌++◌, length, refl, true, false, Bool, append_assoc, append-nil}
+use Rattle.std.specs.Prelude.{Option, Some, None, IfSome, Ok, Err, if◌then◌else◌, ◌&&◌}
 use Rattle.std.specs.Option.{option_map_or}
-use Rattle.std.proofs.lemmas.List.Elements.{All-push}
 use Rattle.serde_json.specs.Data.{Data}
 use Rattle.pool_law.specs.declared.command.Command.{Command}
 use Rattle.pool_law.specs.declared.command.Command.TheVariants as commands
 use Rattle.pool_law.specs.declared.run.Shape.{Shape}
-use Rattle.pool_law.specs.Legal.{AreCommands, all_fit, fits_after}
-use Rattle.pool_law.specs.Logs.{log_of}
-use Rattle.pool_law.specs.Stuck.{command_count, stuck_at}
-use Rattle.trace_text.specs.declared.TraceNo.{TraceNo}
+use Rattle.pool_law.specs.Legal.{all_fit, fits_after}
 use Rattle.trace_text.specs.declared.TraceNo.TheVariants as refusals
 use Rattle.trace_text.specs.Names.{Mentions}
 use Rattle.trace_text.specs.Words.{command_in}
 use Rattle.trace_text.specs.Items.{◌>>=◌, only_if, array_in}
 use Rattle.trace_text.specs.Lane.{LaneRead, nothing_read, may_follow, with_command, with_row, commands_after, lane_in}
-use Rattle.trace_text.specs.Reading.{Reading, limited, unstuck, lanes_after, lanes_in, trace_in, value_of, reading_of, command_limit}
-use Rattle.trace_text.specs.Lanes.{AreLanes}
 use Rattle.trace_text.proofs.FormSteps.{names_lanes, command_named, through_if}
 
 -- ---- Commands.

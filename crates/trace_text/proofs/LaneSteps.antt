@@ -4,7 +4,6 @@ use Rattle.std.specs.Prelude.{Result, Ok, Err, Some, IsErrAnd}
 use Rattle.std.proofs.lemmas.List.{length-map, get_or-map}
 use Rattle.serde_json.specs.declared.value.Value.{Value}
 use Rattle.serde_json.specs.View.{view}
-use Rattle.serde_json.specs.Data.{Data}
 use Rattle.pool_law.specs.declared.command.Command.{Command}
 use Rattle.trace_text.specs.declared.TraceNo.{TraceNo}
 use Rattle.trace_text.specs.declared.TraceNo.TheVariants as refusals

@@ -7,3 +7,4 @@ pub mod StuckSteps
 pub mod FormSteps
 pub mod LaneFits
 pub mod ReadingFits
+pub mod LaneCounts

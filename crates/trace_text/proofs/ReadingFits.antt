@@ -1,5 +1,5 @@
 -- The lanes of a trace that was read are what a run needs.
-use Rattle.std.proofs.Common.{◌≡◌, ℕ, zero, suc, ◌+◌, ◌<◌, ◌≤◌, List, [], ◌∷◌, ◌++◌, length, refl, sym, ◌∙◌, subst, arith, true, false, inl, inr, zero-add, length-append}
+use Rattle.std.proofs.Common.{◌≡◌, ℕ, zero, suc, ◌+◌, ◌≤◌, List, [], ◌∷◌, ◌++◌, length, refl, sym, ◌∙◌, subst, arith, true, false, inl, inr, zero-add, length-append}
 use Rattle.std.specs.Prelude.{Option, Some, None, Result, Ok, Err, All, IfOk, Bool, nat_lt, if◌then◌else◌}
 use Rattle.std.specs.Option.{option_map_or}
 use Rattle.std.proofs.lemmas.Bool.{cases_lt}
@@ -9,7 +9,6 @@ use Rattle.serde_json.specs.Data.{Data}
 use Rattle.pool_law.specs.declared.command.Command.{Command}
 use Rattle.pool_law.specs.declared.command.Trace.{Trace}
 use Rattle.pool_law.specs.declared.run.Shape.{Shape}
-use Rattle.pool_law.specs.Legal.{AreCommands}
 use Rattle.pool_law.specs.Logs.{log_of}
 use Rattle.pool_law.specs.Stuck.{command_count, stuck_at}
 use Rattle.trace_text.specs.declared.Limit.TheVariants.{Text}

@@ -1,5 +1,5 @@
 -- The form of each command: the items of its row, and what they are.
-use Rattle.std.specs.Prelude.{ℕ, ◌==◌, Bool, true, false, List, length, Option, Some, None}
+use Rattle.std.specs.Prelude.{ℕ, ◌==◌, Bool, List, length, Option, Some}
 use Rattle.serde_json.specs.Data.{Data}
 use Rattle.pool_law.specs.declared.command.Command.{Command}
 use Rattle.pool_law.specs.declared.command.Command.TheVariants as commands

@@ -44,8 +44,10 @@ with_row lanes read d = do
 abbrev pub commands_after : ℕ → ℕ → LaneRead → List Data → Result (List Command) TraceNo
 commands_after lanes lane read [] = Ok read.commands
 commands_after lanes lane read (d ∷ ds) =
-    option_map_or (λ next. commands_after lanes lane next ds) (with_row lanes read d) (Err (Shape lane (length read.commands)))
+    option_map_or (λ next. commands_after lanes lane next ds) (with_row lanes read d)
+    (Err (Shape lane (length read.commands)))
 
 -- the commands of a lane among so many; what is no array is at fault at its line 0
 unfoldable pub lane_in : ℕ → ℕ → Data → Result (List Command) TraceNo
-lane_in lanes lane d = option_map_or (commands_after lanes lane nothing_read) (array_in d) (Err (Shape lane 0))
+lane_in lanes lane d =
+    option_map_or (commands_after lanes lane nothing_read) (array_in d) (Err (Shape lane 0))

@@ -7,4 +7,6 @@ use Rattle.pool_law.specs.Logs.{log_of}
 
 -- in a run of so many lanes, the commands of each may be given to it
 abbrev pub AreLanes : List (List Command) → Type 0
-AreLanes lanes = (shape : Shape) → shape.lanes ≡ length lanes → (lane : ℕ) → AreCommands shape (log_of lanes lane)
+AreLanes lanes =
+    (shape : Shape) → shape.lanes ≡ length lanes →
+    (lane : ℕ) → AreCommands shape (log_of lanes lane)

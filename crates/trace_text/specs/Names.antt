@@ -12,4 +12,5 @@ number_of names name = unwrap_or (position (bytes_eq name) names) (length names)
 
 -- the names once this one is mentioned
 unfoldable pub with_name : Mentions → List ℕ → Mentions
-with_name names name = if is_some (position (bytes_eq name) names) then names else names ++ name ∷ []
+with_name names name =
+    if is_some (position (bytes_eq name) names) then names else names ++ name ∷ []

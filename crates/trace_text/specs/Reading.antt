@@ -1,5 +1,5 @@
 -- What a text is read as: the commands of each lane, or the first reason why there are none.
-use Rattle.std.specs.Prelude.{◌≡◌, ℕ, nat_lt, if◌then◌else◌, List, [], ◌∷◌, ◌++◌, length, Option, Some, None, Result, Ok, Err}
+use Rattle.std.specs.Prelude.{◌≡◌, ℕ, nat_lt, if◌then◌else◌, List, [], ◌∷◌, ◌++◌, length, Result, Ok, Err}
 use Rattle.std.specs.List.{sum_by}
 use Rattle.std.specs.Option.{option_map_or, ok_or}
 use Rattle.std.specs.Str.{is_utf8}
@@ -58,14 +58,16 @@ limited lanes =
 
 -- the lanes, where none gets stuck
 unfoldable pub unstuck : List (List Command) → Reading
-unstuck lanes = option_map_or (λ place. Err (refusals.Stuck place.0 place.1)) (stuck_at lanes) (Ok lanes)
+unstuck lanes =
+    option_map_or (λ place. Err (refusals.Stuck place.0 place.1)) (stuck_at lanes) (Ok lanes)
 
 -- ---- Lanes.
 
 -- the lanes behind these once their values are read too
 abbrev pub lanes_after : ℕ → List (List Command) → List Data → Reading
 lanes_after lanes front [] = Ok front
-lanes_after lanes front (d ∷ ds) = lane_in lanes (length front) d >>= (λ lane. lanes_after lanes (front ++ lane ∷ []) ds)
+lanes_after lanes front (d ∷ ds) =
+    lane_in lanes (length front) d >>= (λ lane. lanes_after lanes (front ++ lane ∷ []) ds)
 
 -- at least one lane
 abbrev pub lanes_in : List Data → Reading

@@ -28,7 +28,10 @@ TakesRow (Err refusals.Memory) lane old new read = Unit {0}
 TakesRow (Err e) lane old new read = (read ≡ None) × (e ≡ refusals.Shape lane (length old.commands))
 
 -- one more lane stands behind the others, or it is refused
-abbrev pub TakesLane : Result ⊤ TraceNo → List (List Command) → List (List Command) → Result (List Command) TraceNo → Type 0
-TakesLane (Ok u) old new reading = (lane : List Command) × ((reading ≡ Ok lane) × (new ≡ old ++ lane ∷ []))
+abbrev pub TakesLane :
+    Result ⊤ TraceNo → List (List Command) → List (List Command) →
+    Result (List Command) TraceNo → Type 0
+TakesLane (Ok u) old new reading =
+    (lane : List Command) × ((reading ≡ Ok lane) × (new ≡ old ++ lane ∷ []))
 TakesLane (Err refusals.Memory) old new reading = Unit {0}
 TakesLane (Err e) old new reading = reading ≡ Err e

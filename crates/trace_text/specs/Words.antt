@@ -61,8 +61,10 @@ form_of words.Release lanes names ds = read_as commands.Release (one_name_in nam
 form_of words.Refcnt lanes names ds = read_as commands.Refcnt (one_name_in names ds)
 form_of words.Touch lanes names ds = read_as commands.Touch (one_name_in names ds)
 form_of words.Forget lanes names ds = read_as commands.Forget (one_name_in names ds)
-form_of words.Send lanes names ds = read_as (λ p. commands.Send p.0 p.1) (name_and_lane_in lanes names ds)
-form_of words.Recv lanes names ds = read_as (λ p. commands.Recv p.0 p.1) (name_and_lane_in lanes names ds)
+form_of words.Send lanes names ds =
+    read_as (λ p. commands.Send p.0 p.1) (name_and_lane_in lanes names ds)
+form_of words.Recv lanes names ds =
+    read_as (λ p. commands.Recv p.0 p.1) (name_and_lane_in lanes names ds)
 
 -- the command of a row
 unfoldable pub command_in : ℕ → Mentions → Data → Read Command

@@ -35,7 +35,8 @@ impl Model for LaneReader {
 
     ghost view = { λ r. record { names = r.names; commands = r.commands.items } };
 
-    ghost invariant = { λ r. (name : ℕ) → contains nat_cmp r.new_names name ≡ not (is_new name r.commands.items) };
+    ghost invariant = { λ r. (name : ℕ) →
+        contains nat_cmp r.new_names name ≡ not (is_new name r.commands.items) };
 }
 
 impl LaneReader {
@@ -82,7 +83,8 @@ impl LaneReader {
     }
 
     fn push(&mut self, command: Command) -> Result<(), AllocError>
-        ensures { OnOk result (self.new ≡ record self.old { commands = self.old.commands ++ command ∷ [] }) }
+        ensures { OnOk result (self.new
+            ≡ record self.old { commands = self.old.commands ++ command ∷ [] }) }
     {
         let name = name_made(&command);
         self.commands.push(command)?;
@@ -127,7 +129,8 @@ fn commands_of(
     lane: u32,
     rows: &[Value],
 ) -> Result<CommandList, TraceNo>
-    ensures { GivesAs (λ commands. commands) result (commands_after lanes lane nothing_read (map view rows.now)) }
+    ensures { GivesAs (λ commands. commands) result
+        (commands_after lanes lane nothing_read (map view rows.now)) }
 {
     let mut reader = LaneReader::new(alloc);
     for row in rows {

@@ -23,7 +23,8 @@ impl Model for Names {
 
     ghost view = { λ n. map string_bytes n.texts.items };
 
-    ghost invariant = { λ n. (q : List ℕ) → get_by_text n.numbers q ≡ position (bytes_eq q) (map string_bytes n.texts.items) };
+    ghost invariant = { λ n. (q : List ℕ) →
+        get_by_text n.numbers q ≡ position (bytes_eq q) (map string_bytes n.texts.items) };
 }
 
 impl Names {

@@ -26,6 +26,8 @@ pub fn read_trace(alloc: Global, text: &[u8]) -> Result<Trace, TraceNo>
 
     // What a run needs of the lanes.
     ensures lanes { IfOk result (λ trace. AreLanes trace.lanes) }
+    ensures some_lane { IfOk result (λ trace. 1 ≤ length trace.lanes) }
+    ensures few_lanes { IfOk result (λ trace. length trace.lanes ≤ 16) }
 {
     if text.len() > TEXT_LIMIT {
         return Err(TraceNo::Limit(Limit::Text));
@@ -94,7 +96,8 @@ fn push_lane(
     lanes: &mut Vec<CommandList>,
     value: &Value,
 ) -> Result<(), TraceNo>
-    ensures { TakesLane result lanes.old.items lanes.new.items (lane_in count (length lanes.old.items) (view value.now)) }
+    ensures { TakesLane result lanes.old.items lanes.new.items
+        (lane_in count (length lanes.old.items) (view value.now)) }
 {
     let Ok(number) = u32::try_from(lanes.len()) else {
         return Err(TraceNo::Memory);

@@ -66,7 +66,8 @@ impl HandOvers<'_> {
     /// Each lane passes its next command, if it may.
     fn next_lines(&self, alloc: Global, at: &[usize]) -> Result<Vec<usize>, AllocError>
         requires { length at.now ≡ length self.now.lanes.now }
-        ensures lines { IfOk result (λ next. next.items ≡ moved self.now.lanes.now at.now 0 at.now) }
+        ensures lines { IfOk result
+            (λ next. next.items ≡ moved self.now.lanes.now at.now 0 at.now) }
         ensures size { IfOk result (λ next. length next.items ≡ length self.now.lanes.now) }
     {
         let mut next = Vec::new(alloc);
@@ -80,7 +81,8 @@ impl HandOvers<'_> {
     fn next_line(&self, at: &[usize], lane: usize) -> usize
         requires lane { lane < length self.now.lanes.now }
         requires size { length at.now ≡ length self.now.lanes.now }
-        ensures { result ≡ (if may_pass self.now.lanes.now at.now lane (next_of self.now.lanes.now at.now lane)
+        ensures { result ≡ (if may_pass self.now.lanes.now at.now lane
+            (next_of self.now.lanes.now at.now lane)
             then slice_index at.now lane + 1 else slice_index at.now lane) }
     {
         let here = at[lane];
@@ -116,7 +118,8 @@ impl HandOvers<'_> {
         requires lane { lane < length self.now.lanes.now }
         requires other { other < length self.now.lanes.now }
         requires size { length at.now ≡ length self.now.lanes.now }
-        ensures { result ≡ how_many (meets Side.Sends other) (passed self.now.lanes.now at.now lane) }
+        ensures { result
+            ≡ how_many (meets Side.Sends other) (passed self.now.lanes.now at.now lane) }
     {
         let here = at[lane].min(self.lanes[lane].items().len());
         let rows = &self.sends[lane];
@@ -129,7 +132,8 @@ impl HandOvers<'_> {
         requires lane { lane < length self.now.lanes.now }
         requires other { other < length self.now.lanes.now }
         requires size { length at.now ≡ length self.now.lanes.now }
-        ensures { result ≡ how_many (meets Side.Receives other) (passed self.now.lanes.now at.now lane) }
+        ensures { result
+            ≡ how_many (meets Side.Receives other) (passed self.now.lanes.now at.now lane) }
     {
         let here = at[lane].min(self.lanes[lane].items().len());
         let rows = &self.receives[lane];
