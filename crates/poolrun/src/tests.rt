@@ -8,7 +8,7 @@ use trace_top::{
     StdSink, StdSource, line_of, run,
 };
 
-const SMALLEST: &str = concat!(
+pub(crate) const SMALLEST: &str = concat!(
     r#"[[["alloc","a",24],["set","a",0,"68656c6c6f"],"#,
     r#"["get","a",0,5],["release","a"]]]"#,
 );
@@ -23,7 +23,7 @@ end roots 1 live 0 leaks 0
 ";
 
 /// Runs with the words of a text, which stand between its spaces.
-fn play<R: Threads + Wait + Sync + AllocGlobal, S: Source, K: Sink>(
+pub(crate) fn play<R: Threads + Wait + Sync + AllocGlobal, S: Source, K: Sink>(
     rt: &R,
     text: &str,
     source: &mut S,
@@ -48,11 +48,12 @@ fn writes_the_text_of_each_run(rt: HostRuntime) -> Result<(), Fail> {
 chunk 0.0 qInit used 8192 free 4186112
 end roots 1 live 0 leaks 0
 ";
-    let least_chunk = r#"[[["alloc","a",24]]]"#;
+    let least_chunk = r#"[[["alloc","a",24],["release","a"]]]"#;
     let least_chunk_text = "\
 0.0 alloc ok 32 0.0+0
+0.1 release freed
 chunk 0.0 qInit used 8192 free 57344
-end roots 1 live 1 leaks 0
+end roots 1 live 0 leaks 0
 ";
     let rows = [
         ("", SMALLEST, SMALLEST_TEXT),
@@ -121,9 +122,30 @@ no order=9
 no --orders 9
 no --=9
 no --help
-no --level simple
-no --interval 128
-no --history
+yes --level disabled
+yes --level=simple
+yes --level advanced
+yes --level paranoid
+no --level
+no --level=
+no --level Simple
+no --level none
+no --level 1
+no --level --history
+no --level simple --level=simple
+yes --interval 1
+yes --interval 65536
+no --interval 0
+no --interval 65537
+no --interval
+yes --history
+yes --order 4 --history
+yes --history --level advanced --interval=7
+no --history=
+no --history=1
+no --history simple
+no --history --history
+no --order --history
 no --generate 0
 no --lanes 4
 no --commands 65536
@@ -135,7 +157,7 @@ fn reads_the_words_at_each_bound(rt: HostRuntime) -> Result<(), Fail> {
         let (form, words) = row.split_once(' ').ok_or("a row has two parts")?;
         let has_form = form == "yes";
         let mut source = SafeSource::new(rt.alloc(), SMALLEST.as_bytes())?;
-        let mut sink = SafeSink::new(rt.alloc(), 1000, 1000)?;
+        let mut sink = SafeSink::new(rt.alloc(), 4000, 4000)?;
         let outcome = play(&rt, words, &mut source, &mut sink)?;
         let status = if has_form {
             Status::Whole

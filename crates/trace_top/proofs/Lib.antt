@@ -1,9 +1,11 @@
 pub mod Bytes
-pub mod Roots
-pub mod Lane
-pub mod Lines
+pub mod Sums
+pub mod Places
+pub mod Runs
+pub mod Plain
 pub mod Exact
 pub mod Explain
 pub mod Numerals
 pub mod WordLaws
 pub mod FormLaws
+pub mod Headlined

@@ -2,11 +2,11 @@ pub mod Ends
 pub mod Memory
 pub mod Standard
 pub mod Transfer
-pub mod First
-pub mod Text
 pub mod Settings
 pub mod Words
 pub mod WordForm
 pub mod Playable
+pub mod Needs
+pub mod Standing
 pub mod Outcomes
 pub mod Line

@@ -1,9 +1,10 @@
 -- What each status says: of the outcome, of what was read and of what was written.
-use Rattle.std.specs.Prelude.{◌≡◌, ◌≢◌, ◌⊎◌, ℕ, List, [], length, Option, Some, None, Ok, Err}
+use Rattle.std.specs.Prelude.{◌≡◌, ◌≢◌, ◌⊎◌, Bool, ℕ, List, [], length, Option, Some, None, Ok, Err}
 use Rattle.std.specs.Io.KnownBytes.{Appends, Keeps}
 use Rattle.pool_law.specs.declared.command.Command.{Command}
 use Rattle.pool_law.specs.declared.run.Run.{Run}
-use Rattle.pool_law.specs.FirstPath.{IsFirstRun}
+use Rattle.pool_law.specs.Text.{text_of}
+use Rattle.lane_core.specs.Played.{IsPlayed}
 use Rattle.trace_top.specs.Playable.{reading_of}
 use Rattle.trace_text.specs.declared.TraceNo.{TraceNo}
 use Rattle.trace_top.specs.declared.words.Options.{Options}
@@ -12,7 +13,6 @@ use Rattle.trace_top.specs.declared.answer.Status.TheVariants.{Whole, Leaks, Wor
 use Rattle.trace_top.specs.declared.answer.Outcome.{Outcome}
 use Rattle.trace_top.specs.Ends.{Rose, TakesSome}
 use Rattle.trace_top.specs.Transfer.{ReadsText}
-use Rattle.trace_top.specs.Text.{text_of_run}
 use Rattle.trace_top.specs.Words.{options_of, shape_of}
 
 -- a source before and after a call
@@ -70,23 +70,23 @@ pub record IsRefused (o : Outcome) (why : TraceNo) : Type 0 where
   pub run : o.run ≡ None
   pub refusal : o.refusal ≡ Some why
 
--- the outcome has this run, which is legal, of these lanes, with the shape that was asked for
+-- the outcome has this run, which was played, of these lanes, with the shape that was asked for
 pub record HasRun (o : Outcome) (options : Options)
     (lanes : List (List Command)) (played : Run) : Type 0 where
   pub run : o.run ≡ Some played
   pub refusal : o.refusal ≡ None
   pub trace : played.trace.lanes ≡ lanes
   pub shape : played.shape ≡ shape_of options (length lanes)
-  pub legal : IsFirstRun played
+  pub played_is : IsPlayed played
 
--- what was written is the run's text
-pub record IsWritten (run : Run) (out : SinkSpan) : Type 0 where
-  pub text : Appends out.got out.got_then (text_of_run run)
+-- what was written is the run's text, with its history or without
+pub record IsWritten (run : Run) (history : Bool) (out : SinkSpan) : Type 0 where
+  pub text : Appends out.got out.got_then (text_of run history)
   pub faults : out.faults_then ≡ out.faults
 
 -- the sink failed, or took nothing of a piece that isn't empty, and got a front of the run's text
-pub record IsCutOff (run : Run) (out : SinkSpan) : Type 0 where
-  pub front : TakesSome out.got out.got_then (text_of_run run)
+pub record IsCutOff (run : Run) (history : Bool) (out : SinkSpan) : Type 0 where
+  pub front : TakesSome out.got out.got_then (text_of run history)
   pub cause : Rose out.faults out.faults_then ⊎ Rose out.empty out.empty_then
 
 -- ---- What each status says: of an accepted trace, of a text, of words with a form, of all words.
@@ -94,11 +94,13 @@ pub record IsCutOff (run : Run) (out : SinkSpan) : Type 0 where
 -- an accepted trace was run and written, or cut off, or there was no memory
 unfoldable pub ExplainsRun : Status → Outcome → Options → List (List Command) → SinkSpan → Type 0
 ExplainsRun Whole o options lanes out =
-    (run : Run) × (HasRun o options lanes run × IsWritten run out × (run.leaks ≡ []))
+    (run : Run)
+    × (HasRun o options lanes run × IsWritten run options.history out × (run.leaks ≡ []))
 ExplainsRun Leaks o options lanes out =
-    (run : Run) × (HasRun o options lanes run × IsWritten run out × (run.leaks ≢ []))
+    (run : Run)
+    × (HasRun o options lanes run × IsWritten run options.history out × (run.leaks ≢ []))
 ExplainsRun WriteFault o options lanes out =
-    (run : Run) × (HasRun o options lanes run × IsCutOff run out)
+    (run : Run) × (HasRun o options lanes run × IsCutOff run options.history out)
 ExplainsRun Memory o options lanes out = IsBare o × IsUnwritten out
 ExplainsRun _ o options lanes out = ⊥
 

@@ -5,9 +5,12 @@ use Rattle.std.specs.List.{list_all}
 use Rattle.std.specs.Str.{bytes_eq}
 use Rattle.std.specs.Str.Parse.{digits_value}
 use Rattle.trace_top.specs.declared.settings.Setting.{Setting}
-use Rattle.trace_top.specs.declared.settings.Setting.TheVariants.{Order, Arenas, Chunks, Handles, Workers}
+use Rattle.pool_law.specs.declared.run.Level.{Level}
+use Rattle.pool_law.specs.declared.run.Level.TheVariants.{Disabled, Simple, Advanced, Paranoid}
+use Rattle.trace_top.specs.declared.settings.Setting.TheVariants.{Order, Arenas, Chunks, Handles, Workers, Interval}
 
--- a row: the word of an option, the least and the greatest number for it, and the number without it
+-- a row: the word of an option with a number, the least and the greatest number for it, and the
+-- number without it
 pub record RowData : Type 0 where
   pub name : List ℕ
   pub least : ℕ
@@ -25,12 +28,13 @@ row_of Arenas = row (codes "--arenas") 1 8 2
 row_of Chunks = row (codes "--chunks") 1 8 4
 row_of Handles = row (codes "--handles") 1 4096 1024
 row_of Workers = row (codes "--workers") 1 16 4
+row_of Interval = row (codes "--interval") 1 65536 128
 
--- all options, in the order of the table
+-- all options with a number, in the order of the table
 abbrev pub settings : List Setting
-settings = Order ∷ Arenas ∷ Chunks ∷ Handles ∷ Workers ∷ []
+settings = Order ∷ Arenas ∷ Chunks ∷ Handles ∷ Workers ∷ Interval ∷ []
 
--- the option that a word names
+-- the option with a number that a word names
 unfoldable pub named : List ℕ → Option Setting
 named word = find (λ s. bytes_eq (row_of s).name word) settings
 
@@ -49,3 +53,27 @@ number_for s text =
     if is_numeral text && is_within (row_of s) (digits_value 10 text)
     then Some (digits_value 10 text)
     else None
+
+-- ---- The two options without a number.
+
+-- the option with a level, and the one without a value
+abbrev pub level_name : List ℕ
+level_name = codes "--level"
+
+abbrev pub history_name : List ℕ
+history_name = codes "--history"
+
+-- the word of a level
+abbrev pub level_word : Level → List ℕ
+level_word Disabled = codes "disabled"
+level_word Simple = codes "simple"
+level_word Advanced = codes "advanced"
+level_word Paranoid = codes "paranoid"
+
+-- all levels
+abbrev pub levels : List Level
+levels = Disabled ∷ Simple ∷ Advanced ∷ Paranoid ∷ []
+
+-- the level that a word names
+unfoldable pub level_named : List ℕ → Option Level
+level_named word = find (λ l. bytes_eq (level_word l) word) levels

@@ -1,35 +1,49 @@
 -- The form of the words: how options are written, and what they then are.
-use Rattle.std.specs.Prelude.{◌≡◌, ℕ, ◌≤◌, Bool, true, if◌then◌else◌, List, [], ◌∷◌, ◌++◌, map, codes, All, Some}
+use Rattle.std.specs.Prelude.{⊤, ◌≡◌, ℕ, ◌≤◌, Bool, true, if◌then◌else◌, List, [], ◌∷◌, ◌++◌, map, codes, All, Some}
 use Rattle.std.specs.List.{flat_map}
 use Rattle.std.specs.Str.Parse.{digits_value}
+use Rattle.pool_law.specs.declared.run.Level.{Level}
 use Rattle.trace_top.specs.declared.settings.Setting.{Setting}
 use Rattle.trace_top.specs.declared.words.Given.{Given}
+use Rattle.trace_top.specs.declared.words.Given.TheVariants as givens
 use Rattle.trace_top.specs.declared.words.Options.{Options}
-use Rattle.trace_top.specs.Settings.{is_numeral, row_of}
+use Rattle.trace_top.specs.Settings.{history_name, is_numeral, level_name, level_word, row_of}
 use Rattle.trace_top.specs.Words.{options_given}
 
--- an option as it is written: the text of its value, and whether name and value are one word
-pub record Written : Type 0 where
-  pub setting : Setting
-  pub value : List ℕ
-  pub in_one : Bool
+-- an option as it is written: a number by its text, or a level, each with whether name and value
+-- are one word; or the option without a value
+pub data Written : Type 0 where
+  OfNumber : Setting → List ℕ → Bool → Written
+  OfLevel : Level → Bool → Written
+  OfHistory : Written
 
--- the words of an option: `--name=value`, or `--name` and `value`
+-- a name and a value: `name=value`, or `name` and `value`
+abbrev pub name_and_value : List ℕ → List ℕ → Bool → List (List ℕ)
+name_and_value name value in_one =
+    if in_one then (name ++ codes "=" ++ value) ∷ [] else name ∷ value ∷ []
+
+-- the words of an option
 abbrev pub words_of : Written → List (List ℕ)
-words_of w =
-    if w.in_one
-    then ((row_of w.setting).name ++ codes "=" ++ w.value) ∷ []
-    else (row_of w.setting).name ∷ w.value ∷ []
+words_of (OfNumber s value in_one) = name_and_value (row_of s).name value in_one
+words_of (OfLevel l in_one) = name_and_value level_name (level_word l) in_one
+words_of OfHistory = history_name ∷ []
 
--- the value is 1 to 20 decimal digits, and its number in the option's range
-pub record IsValued (w : Written) : Type 0 where
-  pub numeral : is_numeral w.value ≡ true
-  pub least : (row_of w.setting).least ≤ digits_value 10 w.value
-  pub greatest : digits_value 10 w.value ≤ (row_of w.setting).greatest
+-- the text is 1 to 20 decimal digits, and its number in the option's range
+pub record IsNumberFor (s : Setting) (text : List ℕ) : Type 0 where
+  pub numeral : is_numeral text ≡ true
+  pub least : (row_of s).least ≤ digits_value 10 text
+  pub greatest : digits_value 10 text ≤ (row_of s).greatest
 
--- the option with its number
+-- an option with a number is written with one for it
+abbrev pub IsValued : Written → Type 0
+IsValued (OfNumber s value in_one) = IsNumberFor s value
+IsValued _ = ⊤
+
+-- the option with its value
 abbrev pub given_of : Written → Given
-given_of w = record { setting = w.setting; number = digits_value 10 w.value }
+given_of (OfNumber s value in_one) = givens.Number s (digits_value 10 value)
+given_of (OfLevel l in_one) = givens.Level l
+given_of OfHistory = givens.History
 
 -- the words are options that are written so, in any order, and these are what they give
 pub record HasForm (words : List (List ℕ)) (options : Options) : Type 0 where

@@ -1,29 +1,34 @@
 -- The words of the command line.
-use Rattle.std.specs.Prelude.{ℕ, ◌*◌, ◌≤◌, nat_le, nat_lt, ◌==◌, Bool, if◌then◌else◌, List, [], ◌∷◌, length, find, filter, Option, Some, None, option_map, option_and_then}
-use Rattle.std.specs.List.{list_all, position_or_len, before_first, after_first}
-use Rattle.std.specs.Option.{option_map_or}
+use Rattle.std.specs.Prelude.{⊤, ℕ, ◌*◌, ◌≤◌, nat_le, nat_lt, ◌==◌, ◌||◌, Bool, true, false, if◌then◌else◌, List, [], ◌∷◌, length, Option, Some, None, IfSome, is_some, unwrap_or, option_map, option_and_then}
+use Rattle.std.specs.List.{position_or_len, before_first, after_first}
 use Rattle.std.specs.Str.{bytes_eq}
 use Rattle.size_classes.specs.Sizes.{chunk_bytes, of_order}
 use Rattle.pool_law.specs.Limits.{IsShape}
 use Rattle.pool_law.specs.declared.run.Shape.{Shape}
-use Rattle.pool_law.specs.declared.run.Level.TheVariants.{Disabled}
+use Rattle.pool_law.specs.declared.run.Level.TheVariants as levels
 use Rattle.trace_top.specs.declared.settings.Setting.{Setting}
-use Rattle.trace_top.specs.declared.settings.Setting.TheVariants.{Order, Arenas, Chunks, Handles, Workers}
+use Rattle.trace_top.specs.declared.settings.Setting.TheVariants.{Order, Arenas, Chunks, Handles, Workers, Interval}
 use Rattle.trace_top.specs.declared.words.Given.{Given}
+use Rattle.trace_top.specs.declared.words.Given.TheVariants as givens
+use Rattle.trace_top.specs.declared.words.Asked.{Asked}
 use Rattle.trace_top.specs.declared.words.Options.{Options}
-use Rattle.trace_top.specs.Settings.{named, number_for, row_of, settings}
+use Rattle.trace_top.specs.Settings.{history_name, level_name, level_named, named, number_for, row_of}
 
 -- ---- What the words give.
 
--- the option of this name with the number of this text
-unfoldable pub given_by : List ℕ → List ℕ → Option Given
-given_by name text = option_and_then
-    (λ s. option_map (λ n. record { setting = s; number = n }) (number_for s text)) (named name)
+-- the option with a number of this name, with the number of this text
+unfoldable pub number_given : List ℕ → List ℕ → Option Given
+number_given name text = option_and_then
+    (λ s. option_map (λ n. givens.Number s n) (number_for s text)) (named name)
 
--- the number is in the option's range
-pub record IsWithin (given : Given) : Type 0 where
-  pub least : (row_of given.setting).least ≤ given.number
-  pub greatest : given.number ≤ (row_of given.setting).greatest
+-- the level of this text
+abbrev pub level_given : List ℕ → Option Given
+level_given text = option_map (λ l. givens.Level l) (level_named text)
+
+-- the option of this name with the value of this text
+unfoldable pub given_by : List ℕ → List ℕ → Option Given
+given_by name text =
+    if bytes_eq name level_name then level_given text else number_given name text
 
 -- the sign between a name and its value in one word, a `=`
 abbrev pub is_sign : ℕ → Bool
@@ -33,51 +38,94 @@ is_sign c = c == 61
 abbrev pub has_sign : List ℕ → Bool
 has_sign word = nat_lt (position_or_len is_sign word) (length word)
 
--- what one word gives: the name stands before its first sign, the value behind it
-abbrev pub given_in_one : List ℕ → Option Given
-given_in_one word = given_by (before_first is_sign word) (after_first is_sign word)
+-- the word is the option without a value
+abbrev pub is_flag : List ℕ → Bool
+is_flag word = bytes_eq word history_name
+
+-- the word is a whole option
+unfoldable pub is_whole : List ℕ → Bool
+is_whole word = is_flag word || has_sign word
+
+-- what a word gives that is a whole option: its name stands before its first sign, its value behind
+unfoldable pub given_alone : List ℕ → Option Given
+given_alone word =
+    if is_flag word
+    then Some givens.History
+    else given_by (before_first is_sign word) (after_first is_sign word)
 
 -- these, if there is something at each place
 abbrev pub with_given : Option Given → Option (List Given) → Option (List Given)
 with_given given others = option_and_then (λ g. option_map (λ gs. g ∷ gs) others) given
 
--- what the words give, in their order: an option is one word with a sign, or a name and a value
+-- what the words give, in their order: an option is one word, or a name and a value
 unfoldable pub givens_in : List (List ℕ) → Option (List Given)
 givens_in [] = Some []
-givens_in (word ∷ []) = if has_sign word then with_given (given_in_one word) (Some []) else None
+givens_in (word ∷ []) = if is_whole word then with_given (given_alone word) (Some []) else None
 givens_in (word ∷ next ∷ words) =
-    if has_sign word
-    then with_given (given_in_one word) (givens_in (next ∷ words))
+    if is_whole word
+    then with_given (given_alone word) (givens_in (next ∷ words))
     else with_given (given_by word next) (givens_in words)
+
+-- ---- What is asked for by these, each option at most once.
+
+-- nothing is asked for
+abbrev pub nothing : Asked
+nothing = record {
+  order = None;
+  arenas = None;
+  chunks = None;
+  handles = None;
+  workers = None;
+  interval = None;
+  level = None;
+  history = false;
+}
+
+-- this, where it wasn't asked for before
+abbrev pub unless_before : Bool → Asked → Option Asked
+unless_before before asked = if before then None else Some asked
+
+-- with one more number
+unfoldable pub with_number : Asked → Setting → ℕ → Option Asked
+with_number a Order n = unless_before (is_some a.order) (record a { order = Some n })
+with_number a Arenas n = unless_before (is_some a.arenas) (record a { arenas = Some n })
+with_number a Chunks n = unless_before (is_some a.chunks) (record a { chunks = Some n })
+with_number a Handles n = unless_before (is_some a.handles) (record a { handles = Some n })
+with_number a Workers n = unless_before (is_some a.workers) (record a { workers = Some n })
+with_number a Interval n = unless_before (is_some a.interval) (record a { interval = Some n })
+
+-- with one more option
+unfoldable pub asked_with : Asked → Given → Option Asked
+asked_with a (givens.Number s n) = with_number a s n
+asked_with a (givens.Level l) = unless_before (is_some a.level) (record a { level = Some l })
+asked_with a givens.History = unless_before a.history (record a { history = true })
+
+-- with all these
+abbrev pub asked_from : Asked → List Given → Option Asked
+asked_from a [] = Some a
+asked_from a (g ∷ gs) = option_and_then (λ b. asked_from b gs) (asked_with a g)
+
+-- what the words ask for
+abbrev pub asked_by : List (List ℕ) → Option Asked
+asked_by words = option_and_then (asked_from nothing) (givens_in words)
 
 -- ---- The options that these are.
 
--- what is given is this option
-abbrev pub gives : Setting → Given → Bool
-gives s given = bytes_eq (row_of s).name (row_of given.setting).name
+-- the number that is asked for, or the option's default
+abbrev pub or_default : Setting → Option ℕ → ℕ
+or_default s asked = unwrap_or asked (row_of s).default
 
--- the option is given at most once
-abbrev pub is_once : List Given → Setting → Bool
-is_once givens s = nat_le (length (filter (gives s) givens)) 1
-
--- the number of an option: as it is given, or else its default
-abbrev pub number_of : List Given → Setting → ℕ
-number_of givens s = option_map_or (λ g. g.number) (find (gives s) givens) (row_of s).default
-
--- the number of an option that is given at most once
-abbrev pub number_once : Setting → List Given → Option ℕ
-number_once s givens = if is_once givens s then Some (number_of givens s) else None
-
--- the options with these numbers; leaks are not looked for yet
-abbrev pub options_with : (Setting → ℕ) → Options
-options_with number = record {
-  order = number Order;
-  arenas = number Arenas;
-  chunks = number Chunks;
-  handles = number Handles;
-  workers = number Workers;
-  level = Disabled;
-  interval = 128;
+-- the options that are asked for, the others at their defaults
+abbrev pub options_for : Asked → Options
+options_for a = record {
+  order = or_default Order a.order;
+  arenas = or_default Arenas a.arenas;
+  chunks = or_default Chunks a.chunks;
+  handles = or_default Handles a.handles;
+  workers = or_default Workers a.workers;
+  level = unwrap_or a.level levels.Simple;
+  interval = or_default Interval a.interval;
+  history = a.history;
 }
 
 -- the bytes of all chunks of all arenas
@@ -91,9 +139,7 @@ within_memory o = if nat_le (all_chunk_bytes o) 536870912 then Some o else None
 -- the options that are given, each at most once
 abbrev pub options_given : List Given → Option Options
 options_given givens =
-    if list_all (is_once givens) settings
-    then within_memory (options_with (number_of givens))
-    else None
+    option_and_then (λ asked. within_memory (options_for asked)) (asked_from nothing givens)
 
 -- the options that the words are, where they have a form
 unfoldable pub options_of : List (List ℕ) → Option Options
@@ -126,8 +172,27 @@ before others given = option_map (λ g. (g, others)) given
 -- what the first words give, and the words behind them
 abbrev pub first_given : List (List ℕ) → Option (Given × List (List ℕ))
 first_given [] = None
-first_given (word ∷ []) = if has_sign word then before [] (given_in_one word) else None
+first_given (word ∷ []) = if is_whole word then before [] (given_alone word) else None
 first_given (word ∷ next ∷ words) =
-    if has_sign word
-    then before (next ∷ words) (given_in_one word)
+    if is_whole word
+    then before (next ∷ words) (given_alone word)
     else before words (given_by word next)
+
+-- the number is in the option's range
+pub record IsInRange (s : Setting) (n : ℕ) : Type 0 where
+  pub least : (row_of s).least ≤ n
+  pub greatest : n ≤ (row_of s).greatest
+
+-- a number that is given is in its range
+abbrev pub IsWithin : Given → Type 0
+IsWithin (givens.Number s n) = IsInRange s n
+IsWithin _ = ⊤
+
+-- all numbers that are asked for are in their ranges
+pub record AreWithin (a : Asked) : Type 0 where
+  pub order : IfSome a.order (IsInRange Order)
+  pub arenas : IfSome a.arenas (IsInRange Arenas)
+  pub chunks : IfSome a.chunks (IsInRange Chunks)
+  pub handles : IfSome a.handles (IsInRange Handles)
+  pub workers : IfSome a.workers (IsInRange Workers)
+  pub interval : IfSome a.interval (IsInRange Interval)

@@ -1,7 +1,7 @@
 //! What the top call answers.
 ghost use Rattle.std.specs.Prelude.{◌≡◌, None};
 
-use pool_law::Run;
+use lane_core::Played;
 use trace_text::TraceNo;
 
 /// How a run of the program ended. The number is the program's exit status.
@@ -28,7 +28,7 @@ pub enum Status {
 pub struct Outcome {
     pub status: Status,
     /// The run, for `Whole`, `Leaks` and `WriteFault`.
-    pub run: Option<Run>,
+    pub run: Option<Played>,
     /// Why the text is no trace, for `Trace`.
     pub refusal: Option<TraceNo>,
 }

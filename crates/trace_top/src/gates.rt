@@ -1,22 +1,7 @@
-//! What may stop a lane.
-ghost use Rattle.std.specs.Prelude.{◌≡◌, ◌↔◌, ℕ, Bool, IsTrue, false};
+//! The gate that stops no lane.
+ghost use Rattle.std.specs.Prelude.{false};
 
-/// Whether a lane goes on.
-#[derive(Clone, Copy, Debug, PartialEq, Eq)]
-pub enum Pass {
-    Go,
-    Stop,
-}
-
-/// Is asked before a command of a lane whether the lane goes on.
-pub trait Gate: Sync {
-    /// Whether it stops this lane at this line.
-    ghost stops: { Self → ℕ → ℕ → Bool };
-
-    /// Answers `Stop` exactly where it stops the lane at the line.
-    fn pass(&self, lane: u32, line: u32) -> Pass
-        ensures { (result ≡ Pass.Stop) ↔ IsTrue (stops self.now lane line) };
-}
+use lane_core::{Gate, Pass};
 
 /// A gate that always answers `Go`.
 #[derive(Clone, Copy)]

@@ -1,19 +1,21 @@
-//! Which traces are played until lanes run over the pool: those of one lane with one small allocation.
-ghost use Rattle.std.specs.Prelude.{◌≡◌, IfOk, length, false};
+//! Which traces are played until lanes make composites: those without any.
+ghost use Rattle.std.specs.Prelude.{◌≡◌, ℕ, ◌≤◌, All, IfOk, length};
+ghost use Rattle.lane_core.specs.Opened.{IsPlain};
+ghost use Rattle.trace_text.specs.Lanes.{AreLanes};
 ghost use Rattle.trace_text.specs.Reading.{Gives};
-ghost use Rattle.trace_top.specs.Playable.{is_alloc, is_played, playable, reading_of, unplayed_line};
+ghost use Rattle.trace_top.specs.Playable.{is_composite, playable, reading_of, unplayed_line, unplayed_place};
 
-use pool_law::{Command, Trace};
+use pool_law::{Command, CommandList, Trace};
 use std::alloc::Global;
 use trace_text::{TraceNo, read_trace};
-
-/// The largest size that is allocated.
-const MOST_SIZE: u32 = 28_672;
 
 /// The trace that a text is, where it is played.
 pub fn read_playable(alloc: Global, text: &[u8]) -> Result<Trace, TraceNo>
     ensures reading { Gives result (reading_of text.now) }
-    ensures lane { IfOk result (λ trace. length trace.lanes ≡ 1) }
+    ensures lanes { IfOk result (λ trace. AreLanes trace.lanes) }
+    ensures plain { IfOk result (λ trace. All (All IsPlain) trace.lanes) }
+    ensures some_lane { IfOk result (λ trace. 1 ≤ length trace.lanes) }
+    ensures few_lanes { IfOk result (λ trace. length trace.lanes ≤ 16) }
 {
     let trace = read_trace(alloc, text)?;
     as_played(trace)
@@ -23,52 +25,43 @@ pub fn read_playable(alloc: Global, text: &[u8]) -> Result<Trace, TraceNo>
 #[tactic(auto, unfolding(crate::specs::Playable::playable))]
 fn as_played(trace: Trace) -> Result<Trace, TraceNo>
     ensures reading { Gives result (playable trace.lanes) }
-    ensures lane { IfOk result (λ trace. length trace.lanes ≡ 1) }
+    ensures same { IfOk result (λ played. played.lanes ≡ trace.lanes) }
+    ensures plain { IfOk result (λ played. All (All IsPlain) played.lanes) }
 {
-    let fault = match trace.lanes.items() {
-        [] => return Err(TraceNo::Shape { lane: 0, line: 0 }),
-        [commands, ..] => unplayed_line_of(commands.items()),
-    };
-    if let Some(line) = fault {
-        return match u32::try_from(line) {
-            Ok(line) => Err(TraceNo::Shape { lane: 0, line }),
-            Err(_) => Err(TraceNo::Memory),
-        };
+    match unplayed_place_of(trace.lanes.items()) {
+        None => Ok(trace),
+        Some((lane, line)) => match (u32::try_from(lane), u32::try_from(line)) {
+            (Ok(lane), Ok(line)) => Err(TraceNo::Shape { lane, line }),
+            _ => Err(TraceNo::Memory),
+        },
     }
-    if 1 < trace.lanes.items().len() {
-        return Err(TraceNo::Shape { lane: 1, line: 0 });
-    }
-    Ok(trace)
 }
 
-fn unplayed_line_of(commands: &[Command]) -> Option<usize>
-    ensures { result ≡ unplayed_line false 0 commands.now }
+// The lane and the line of the first command that isn't played.
+fn unplayed_place_of(lanes: &[CommandList]) -> Option<(usize, usize)>
+    ensures { result ≡ unplayed_place 0 lanes.now }
 {
-    let mut allocated = false;
-    for (line, command) in commands.iter().enumerate() {
-        if !is_played_command(allocated, command) {
-            return Some(line);
+    for (lane, commands) in lanes.iter().enumerate() {
+        if let Some(line) = unplayed_line_of(commands.items()) {
+            return Some((lane, line));
         }
-        allocated = allocated || is_allocation(command);
     }
     None
 }
 
-fn is_played_command(allocated: bool, command: &Command) -> bool
-    ensures { result ≡ is_played allocated command.now }
+fn unplayed_line_of(commands: &[Command]) -> Option<usize>
+    ensures { result ≡ unplayed_line 0 commands.now }
 {
-    match command {
-        Command::Alloc { size, .. } => !allocated && *size <= MOST_SIZE,
-        Command::Set { .. } | Command::Get { .. } | Command::Release { .. } => true,
-        _ => false,
+    for (line, command) in commands.iter().enumerate() {
+        if is_composite(command) {
+            return Some(line);
+        }
     }
+    None
 }
 
-fn is_allocation(command: &Command) -> bool
-    ensures { result ≡ is_alloc command.now }
+fn is_composite(command: &Command) -> bool
+    ensures { result ≡ is_composite command.now }
 {
-    match command {
-        Command::Alloc { .. } => true,
-        _ => false,
-    }
+    matches!(command, Command::Compose { .. } | Command::Add { .. })
 }

@@ -3,11 +3,12 @@ ghost use Rattle.std.specs.Prelude.{◌≡◌, ◌<◌, ◌^◌, ◌&&◌, nat_l
 ghost use Rattle.std.specs.Char.{is_ascii_digit};
 ghost use Rattle.std.specs.List.{list_all};
 ghost use Rattle.std.specs.Str.Parse.{digits_value};
-ghost use Rattle.trace_top.specs.Settings.{is_numeral, named, number_for, row_of};
+ghost use Rattle.trace_top.specs.Settings.{is_numeral, level_named, level_word, named, number_for, row_of};
 
+use pool_law::Level;
 use std::marker::Model;
 
-/// An option of the command line.
+/// An option of the command line that has a number.
 #[derive(Clone, Copy, Debug, PartialEq, Eq)]
 pub enum Setting {
     /// A chunk has `2^order` pages.
@@ -20,15 +21,26 @@ pub enum Setting {
     Handles,
     /// The threads that step the lanes.
     Workers,
+    /// One root in so many is sampled.
+    Interval,
 }
 
-/// All options, in the order of the table.
-const SETTINGS: [Setting; 5] = [
+/// All options with a number, in the order of the table.
+const SETTINGS: [Setting; 6] = [
     Setting::Order,
     Setting::Arenas,
     Setting::Chunks,
     Setting::Handles,
     Setting::Workers,
+    Setting::Interval,
+];
+
+/// All levels, in their order.
+const LEVELS: [Level; 4] = [
+    Level::Disabled,
+    Level::Simple,
+    Level::Advanced,
+    Level::Paranoid,
 ];
 
 /// A row of the table: the word of an option, its range, and its number where it isn't given.
@@ -102,6 +114,7 @@ impl Setting {
             Setting::Chunks => Row::of("--chunks", 1, 8, 4),
             Setting::Handles => Row::of("--handles", 1, 4096, 1024),
             Setting::Workers => Row::of("--workers", 1, 16, 4),
+            Setting::Interval => Row::of("--interval", 1, 65_536, 128),
         }
     }
 
@@ -119,7 +132,7 @@ impl Setting {
     }
 }
 
-/// The option that a word names.
+/// The option with a number that a word names.
 #[tactic(auto, unfolding(crate::specs::Settings::named))]
 pub fn named(word: &str) -> Option<Setting>
     ensures { result ≡ named word.now }
@@ -128,6 +141,28 @@ pub fn named(word: &str) -> Option<Setting>
         .iter()
         .copied()
         .find(|setting| setting.row().name() == word)
+}
+
+/// The level that a word names.
+#[tactic(auto, unfolding(crate::specs::Settings::level_named))]
+pub fn level_named(word: &str) -> Option<Level>
+    ensures { result ≡ level_named word.now }
+{
+    LEVELS
+        .iter()
+        .copied()
+        .find(|level| level_word(*level) == word)
+}
+
+fn level_word(level: Level) -> &'static str
+    ensures { result.now ≡ level_word level }
+{
+    match level {
+        Level::Disabled => "disabled",
+        Level::Simple => "simple",
+        Level::Advanced => "advanced",
+        Level::Paranoid => "paranoid",
+    }
 }
 
 // Whether a text is 1 to 20 decimal digits.

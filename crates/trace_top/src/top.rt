@@ -1,20 +1,22 @@
 //! The top call, part by part: words, source, trace, run, sink.
-ghost use Rattle.std.specs.Prelude.{◌≡◌, ◌≤◌, ℕ, None, false, map, string_bytes, length};
-ghost use Rattle.trace_top.specs.Playable.{reading_of};
-ghost use Rattle.pool_law.specs.FirstPath.{IsFirstRun};
+ghost use Rattle.std.specs.Prelude.{◌≡◌, ◌≤◌, ℕ, All, None, Some, false, map, string_bytes, length, IfSome};
+ghost use Rattle.lane_core.specs.Opened.{IsPlain};
+ghost use Rattle.lane_core.specs.Played.{IsPlayed};
+ghost use Rattle.run_laws.specs.Headline.{Headline};
+ghost use Rattle.trace_text.specs.Lanes.{AreLanes};
 ghost use Rattle.trace_top.specs.Outcomes.{Completes, Explains, ExplainsOptions, ExplainsRun, ExplainsText, Refuses, sink_span, source_span};
 ghost use Rattle.trace_top.specs.Words.{AreSound, options_of, shape_of};
 
 use crate::answer::{Outcome, Status, bare};
-use crate::gates::Gate;
 use crate::input::{Input, read_all};
 use crate::output::{Output, write_all};
 use crate::play::play;
 use crate::playable::read_playable;
-use crate::text::text_of;
 use crate::words::{Options, read_words, shape};
 use crate::{Sink, Source};
-use pool_law::{Run, Trace};
+use lane_core::{Gate, Played};
+use pool_law::Trace;
+use run_report::text_of;
 use std::alloc::Global;
 use std::sync::Wait;
 use std::thread::Threads;
@@ -42,6 +44,11 @@ pub fn run<R: Threads + Wait + Sync, S: Source, K: Sink, G: Gate>(
         (source_span S.left S.faults src.old src.new)
         (sink_span K.got K.faults K.empty_takes out.old out.new) }
 
+    // What a run gives, for whatever trace, workers and interleaving: regions of live roots never
+    // overlap; each read gives the bytes last written; a region returns once, by the release that
+    // ends its root's count; the report lists exactly the sampled roots never freed.
+    ensures headline { IfSome result.run Headline }
+
     // Words without a form are refused, and nothing is read.
     ensures words { options_of (map string_bytes words.now) ≡ None → result.status ≡ Status.Words }
 
@@ -54,14 +61,19 @@ pub fn run<R: Threads + Wait + Sync, S: Source, K: Sink, G: Gate>(
         (source_span S.left S.faults src.old src.new)
         (sink_span K.got K.faults K.empty_takes out.old out.new) }
 {
-    // One lane needs no worker, and asks no gate yet.
-    let _ = rt;
-    let _ = gate;
-    answer(alloc, words, src, out)
+    answer(rt, alloc, words, src, out, gate)
 }
 
 #[tactic(auto, unfolding(crate::specs::Outcomes::Explains))]
-fn answer<S: Source, K: Sink>(alloc: Global, words: &[String], src: &mut S, out: &mut K) -> Outcome
+fn answer<R: Wait, S: Source, K: Sink, G: Gate>(
+    rt: &R,
+    alloc: Global,
+    words: &[String],
+    src: &mut S,
+    out: &mut K,
+    gate: &G,
+) -> Outcome
+    requires open { (lane line : ℕ) → G.stops gate.now lane line ≡ false }
     ensures outcome { Explains result.status result (map string_bytes words.now)
         (source_span S.left S.faults src.old src.new)
         (sink_span K.got K.faults K.empty_takes out.old out.new) }
@@ -69,18 +81,21 @@ fn answer<S: Source, K: Sink>(alloc: Global, words: &[String], src: &mut S, out:
 {
     match read_words(words) {
         None => bare(Status::Words),
-        Some(options) => with_options(alloc, &options, src, out),
+        Some(options) => with_options(rt, alloc, &options, src, out, gate),
     }
 }
 
 #[tactic(auto, unfolding(crate::specs::Outcomes::ExplainsOptions))]
-fn with_options<S: Source, K: Sink>(
+fn with_options<R: Wait, S: Source, K: Sink, G: Gate>(
+    rt: &R,
     alloc: Global,
     options: &Options,
     src: &mut S,
     out: &mut K,
+    gate: &G,
 ) -> Outcome
-    requires { AreSound options.now }
+    requires sound { AreSound options.now }
+    requires open { (lane line : ℕ) → G.stops gate.now lane line ≡ false }
     ensures { ExplainsOptions result.status result options.now
         (source_span S.left S.faults src.old src.new)
         (sink_span K.got K.faults K.empty_takes out.old out.new) }
@@ -88,18 +103,26 @@ fn with_options<S: Source, K: Sink>(
     match read_all(alloc, src) {
         Input::Fault => bare(Status::ReadFault),
         Input::Memory => bare(Status::Memory),
-        Input::Text(text) => with_text(alloc, options, &text, out),
+        Input::Text(text) => with_text(rt, alloc, options, &text, out, gate),
     }
 }
 
 #[tactic(auto, unfolding(crate::specs::Outcomes::ExplainsText))]
-fn with_text<K: Sink>(alloc: Global, options: &Options, text: &[u8], out: &mut K) -> Outcome
-    requires { AreSound options.now }
+fn with_text<R: Wait, K: Sink, G: Gate>(
+    rt: &R,
+    alloc: Global,
+    options: &Options,
+    text: &[u8],
+    out: &mut K,
+    gate: &G,
+) -> Outcome
+    requires sound { AreSound options.now }
+    requires open { (lane line : ℕ) → G.stops gate.now lane line ≡ false }
     ensures { ExplainsText result.status result options.now text.now
         (sink_span K.got K.faults K.empty_takes out.old out.new) }
 {
     match read_playable(alloc, text) {
-        Ok(trace) => with_trace(alloc, options, trace, out),
+        Ok(trace) => with_trace(rt, alloc, options, trace, out, gate),
         Err(TraceNo::Memory) => bare(Status::Memory),
         Err(why) => Outcome {
             status: Status::Trace,
@@ -110,36 +133,55 @@ fn with_text<K: Sink>(alloc: Global, options: &Options, text: &[u8], out: &mut K
 }
 
 #[tactic(auto, unfolding(crate::specs::Outcomes::ExplainsRun))]
-fn with_trace<K: Sink>(alloc: Global, options: &Options, trace: Trace, out: &mut K) -> Outcome
-    requires lane { length trace.lanes ≡ 1 }
+fn with_trace<R: Wait, K: Sink, G: Gate>(
+    rt: &R,
+    alloc: Global,
+    options: &Options,
+    trace: Trace,
+    out: &mut K,
+    gate: &G,
+) -> Outcome
     requires sound { AreSound options.now }
+    requires open { (lane line : ℕ) → G.stops gate.now lane line ≡ false }
+    requires lanes { AreLanes trace.lanes }
+    requires plain { All (All IsPlain) trace.lanes }
+    requires some_lane { 1 ≤ length trace.lanes }
+    requires few_lanes { length trace.lanes ≤ 16 }
     ensures { ExplainsRun result.status result options.now trace.lanes
         (sink_span K.got K.faults K.empty_takes out.old out.new) }
 {
-    match play(alloc, trace, &shape(options, 1)) {
-        Ok(run) => with_run(alloc, run, out),
+    let shape = shape(options, trace.lanes.items().len() as u32);
+    match play(rt, alloc, trace, &shape, gate) {
+        Ok(played) => with_run(alloc, options, played, out),
         Err(_) => bare(Status::Memory),
     }
 }
 
 #[tactic(auto, unfolding(crate::specs::Outcomes::ExplainsRun))]
-fn with_run<K: Sink>(alloc: Global, run: Run, out: &mut K) -> Outcome
-    requires legal { IsFirstRun run }
-    ensures { (options : Options) → run.shape ≡ shape_of options (length run.trace.lanes)
-        → ExplainsRun result.status result options run.trace.lanes
+fn with_run<K: Sink>(alloc: Global, options: &Options, played: Played, out: &mut K) -> Outcome
+    requires shape { played.shape ≡ shape_of options.now (length played.trace.lanes) }
+    ensures { ExplainsRun result.status result options.now played.trace.lanes
         (sink_span K.got K.faults K.empty_takes out.old out.new) }
 {
-    let Ok(text) = text_of(alloc, &run) else {
+    let Ok(text) = text_of(alloc, played.run(), options.history) else {
         return bare(Status::Memory);
     };
-    let status = match write_all(out, text.as_bytes()) {
-        Output::Fault => Status::WriteFault,
-        Output::Whole if run.leaks.items().is_empty() => Status::Whole,
-        Output::Whole => Status::Leaks,
-    };
+    match write_all(out, text.items()) {
+        Output::Fault => ended(Status::WriteFault, played),
+        Output::Whole if played.run().leaks.items().is_empty() => ended(Status::Whole, played),
+        Output::Whole => ended(Status::Leaks, played),
+    }
+}
+
+// The outcome with this run.
+fn ended(status: Status, played: Played) -> Outcome
+    ensures is { result ≡ record { status = status; run = Some played; refusal = None } }
+    ensures played { IsPlayed played }
+{
+    let _ = played.run();
     Outcome {
         status,
-        run: Some(run),
+        run: Some(played),
         refusal: None,
     }
 }

@@ -1,10 +1,9 @@
 //! The words of the command line.
-ghost use Rattle.std.specs.Prelude.{◌≡◌, ◌≤◌, ◌<◌, length, map, string_bytes, IfSome, option_map, option_and_then};
+ghost use Rattle.std.specs.Prelude.{◌≡◌, ◌≤◌, ◌<◌, true, length, map, string_bytes, IfSome, option_map};
 ghost use Rattle.pool_law.specs.Limits.{IsShape};
-ghost use Rattle.trace_top.specs.Settings.{row_of};
-ghost use Rattle.trace_top.specs.Words.{AreSound, IsWithin, all_chunk_bytes, given_by, first_given, givens_in, number_once, options_of, shape_of};
+ghost use Rattle.trace_top.specs.Words.{AreSound, AreWithin, IsInRange, IsWithin, all_chunk_bytes, asked_by, first_given, given_alone, given_by, is_whole, level_given, number_given, options_of, or_default, shape_of};
 
-use crate::settings::{Setting, named};
+use crate::settings::{Setting, level_named, named};
 use pool_law::{Level, Shape};
 
 // The most bytes that all chunks of all arenas may have together.
@@ -29,24 +28,167 @@ pub struct Options {
     pub level: Level,
     /// One root in so many is sampled.
     pub interval: u32,
+    /// Whether the text has the notes of all lanes.
+    pub history: bool,
 }
 
-/// An option with its number.
+/// An option as it is given.
 #[derive(Clone, Copy)]
-pub struct Given {
-    pub setting: Setting,
-    pub number: u64,
+pub enum Given {
+    /// An option with its number.
+    Number { setting: Setting, number: u64 },
+    /// How leaks are sampled.
+    Level(Level),
+    /// The text has the notes of all lanes.
+    History,
 }
 
-// The option of a name with the number of a text.
+/// What was asked for so far.
+#[derive(Clone, Copy)]
+pub struct Asked {
+    pub order: Option<u64>,
+    pub arenas: Option<u64>,
+    pub chunks: Option<u64>,
+    pub handles: Option<u64>,
+    pub workers: Option<u64>,
+    pub interval: Option<u64>,
+    pub level: Option<Level>,
+    pub history: bool,
+}
+
+impl Asked {
+    ghost use Rattle.std.specs.Prelude.{◌≡◌, IfSome};
+    ghost use Rattle.trace_top.specs.Words.{AreWithin, IsInRange, IsWithin, asked_with, nothing, options_for, with_number};
+
+    // Nothing is asked for.
+    fn nothing() -> Asked
+        ensures { result ≡ nothing }
+    {
+        Asked {
+            order: None,
+            arenas: None,
+            chunks: None,
+            handles: None,
+            workers: None,
+            interval: None,
+            level: None,
+            history: false,
+        }
+    }
+
+    // With one more option; None where it was asked for before.
+    #[tactic(auto, unfolding(crate::specs::Words::asked_with))]
+    fn with(self, given: Given) -> Option<Asked>
+        requires given { IsWithin given }
+        requires before { AreWithin self }
+        ensures value { result ≡ asked_with self given }
+        ensures within { IfSome result AreWithin }
+    {
+        match given {
+            Given::Number { setting, number } => self.with_number(setting, number),
+            Given::Level(level) if self.level.is_none() => Some(Asked {
+                level: Some(level),
+                ..self
+            }),
+            Given::History if !self.history => Some(Asked {
+                history: true,
+                ..self
+            }),
+            Given::Level(_) | Given::History => None,
+        }
+    }
+
+    #[tactic(auto, unfolding(crate::specs::Words::with_number))]
+    fn with_number(self, setting: Setting, number: u64) -> Option<Asked>
+        requires range { IsInRange setting number }
+        requires before { AreWithin self }
+        ensures value { result ≡ with_number self setting number }
+        ensures within { IfSome result AreWithin }
+    {
+        match setting {
+            Setting::Order if self.order.is_none() => Some(Asked {
+                order: Some(number),
+                ..self
+            }),
+            Setting::Arenas if self.arenas.is_none() => Some(Asked {
+                arenas: Some(number),
+                ..self
+            }),
+            Setting::Chunks if self.chunks.is_none() => Some(Asked {
+                chunks: Some(number),
+                ..self
+            }),
+            Setting::Handles if self.handles.is_none() => Some(Asked {
+                handles: Some(number),
+                ..self
+            }),
+            Setting::Workers if self.workers.is_none() => Some(Asked {
+                workers: Some(number),
+                ..self
+            }),
+            Setting::Interval if self.interval.is_none() => Some(Asked {
+                interval: Some(number),
+                ..self
+            }),
+            _ => None,
+        }
+    }
+
+    // The options that are asked for, the others at their defaults.
+    fn options(self) -> Options
+        requires { AreWithin self }
+        ensures { result ≡ options_for self }
+    {
+        Options {
+            order: or_default(Setting::Order, self.order),
+            arenas: or_default(Setting::Arenas, self.arenas),
+            chunks: or_default(Setting::Chunks, self.chunks),
+            handles: or_default(Setting::Handles, self.handles),
+            workers: or_default(Setting::Workers, self.workers),
+            level: self.level.unwrap_or(Level::Simple),
+            interval: or_default(Setting::Interval, self.interval),
+            history: self.history,
+        }
+    }
+}
+
+// The number that is asked for, or the option's default.
+fn or_default(setting: Setting, asked: Option<u64>) -> u32
+    requires { IfSome asked (IsInRange setting) }
+    ensures { result ≡ or_default setting asked }
+{
+    asked.unwrap_or(setting.row().default()) as u32
+}
+
+// The option of a name with the value of a text.
 #[tactic(auto, unfolding(crate::specs::Words::given_by))]
 fn given_by(name: &str, text: &str) -> Option<Given>
     ensures value { result ≡ given_by name.now text.now }
     ensures within { IfSome result IsWithin }
 {
+    if name == "--level" {
+        level_given(text)
+    } else {
+        number_given(name, text)
+    }
+}
+
+fn level_given(text: &str) -> Option<Given>
+    ensures value { result ≡ level_given text.now }
+    ensures within { IfSome result IsWithin }
+{
+    let level = level_named(text)?;
+    Some(Given::Level(level))
+}
+
+#[tactic(auto, unfolding(crate::specs::Words::number_given))]
+fn number_given(name: &str, text: &str) -> Option<Given>
+    ensures value { result ≡ number_given name.now text.now }
+    ensures within { IfSome result IsWithin }
+{
     let setting = named(name)?;
     let number = setting.number_for(text)?;
-    Some(Given { setting, number })
+    Some(Given::Number { setting, number })
 }
 
 // What the first words give, and the words behind them.
@@ -57,39 +199,50 @@ fn first_given(words: &[String]) -> Option<(Given, &[String])>
     ensures shorter { IfSome result (λ p. length p.1.now < length words.now) }
 {
     let (word, rest) = words.split_first()?;
-    match word.as_str().split_once('=') {
-        Some((name, text)) => {
-            let given = given_by(name, text)?;
-            Some((given, rest))
-        }
-        None => {
-            let (text, rest) = rest.split_first()?;
-            let given = given_by(word.as_str(), text.as_str())?;
-            Some((given, rest))
-        }
+    if is_whole(word.as_str()) {
+        let given = given_alone(word.as_str())?;
+        return Some((given, rest));
     }
+    let (text, rest) = rest.split_first()?;
+    let given = given_by(word.as_str(), text.as_str())?;
+    Some((given, rest))
 }
 
-// The number of an option; None where the words have no form, or give it twice.
-fn number_of(words: &[String], setting: Setting) -> Option<u64>
-    ensures value { result
-        ≡ option_and_then (number_once setting) (givens_in (map string_bytes words.now)) }
-    ensures least { IfSome result (λ n. (row_of setting).least ≤ n) }
-    ensures greatest { IfSome result (λ n. n ≤ (row_of setting).greatest) }
+// Whether a word is a whole option.
+#[tactic(auto, unfolding(crate::specs::Words::is_whole))]
+fn is_whole(word: &str) -> bool
+    ensures { result ≡ is_whole word.now }
 {
-    let mut found = None;
+    word == "--history" || word.split_once('=').is_some()
+}
+
+// What a word gives that is a whole option.
+#[tactic(auto, unfolding(crate::specs::Words::is_whole, crate::specs::Words::given_alone))]
+fn given_alone(word: &str) -> Option<Given>
+    requires { is_whole word.now ≡ true }
+    ensures value { result ≡ given_alone word.now }
+    ensures within { IfSome result IsWithin }
+{
+    if word == "--history" {
+        return Some(Given::History);
+    }
+    let (name, text) = word.split_once('=')?;
+    given_by(name, text)
+}
+
+// What the words ask for; None where they have no form, or give an option twice.
+fn asked_by(words: &[String]) -> Option<Asked>
+    ensures value { result ≡ asked_by (map string_bytes words.now) }
+    ensures within { IfSome result AreWithin }
+{
+    let mut asked = Asked::nothing();
     let mut left = words;
     while !left.is_empty() {
         let (given, rest) = first_given(left)?;
-        if given.setting == setting {
-            if found.is_some() {
-                return None;
-            }
-            found = Some(given.number);
-        }
+        asked = asked.with(given)?;
         left = rest;
     }
-    Some(found.unwrap_or(setting.row().default()))
+    Some(asked)
 }
 
 /// The options that the words are; None exactly where the words have no form.
@@ -98,16 +251,7 @@ pub fn read_words(words: &[String]) -> Option<Options>
     ensures value { result ≡ options_of (map string_bytes words.now) }
     ensures sound { IfSome result AreSound }
 {
-    let options = Options {
-        order: number_of(words, Setting::Order)? as u32,
-        arenas: number_of(words, Setting::Arenas)? as u32,
-        chunks: number_of(words, Setting::Chunks)? as u32,
-        handles: number_of(words, Setting::Handles)? as u32,
-        workers: number_of(words, Setting::Workers)? as u32,
-        // Leaks are not looked for yet.
-        level: Level::Disabled,
-        interval: 128,
-    };
+    let options = asked_by(words)?.options();
     if all_chunk_bytes(&options) <= ALL_CHUNKS_MOST {
         Some(options)
     } else {

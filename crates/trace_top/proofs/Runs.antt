@@ -1,0 +1,132 @@
+-- Lanes that are stepped, and lanes that are made.
+use Rattle.std.proofs.Common.{◌≡◌, ◌<◌, ◌≤◌, ⊎_elim, ℕ, zero, suc, ◌+◌, ◌*◌, List, [], ◌∷◌, get_or, set, length, map, Some, refl, sym, ap, ◌∙◌, subst, arith}
+use Rattle.std.specs.Prelude.{All, slice_get, unwrap_or}
+use Rattle.std.proofs.lemmas.Option.{IfSome_then, get_or_from_slice_get, slice_get-get_or, slice_get_within}
+use Rattle.step_law.specs.declared.Told.{Ghosts}
+use Rattle.pool_law.specs.declared.command.Command.{Command}
+use Rattle.pool_law.specs.declared.note.Noted.{Noted}
+use Rattle.pool_law.specs.declared.run.Shape.{Shape}
+use Rattle.pool_law.specs.Legal.{AreCommands}
+use Rattle.pool_law.specs.Limits.{IsShape}
+use Rattle.pool_law.specs.Logs.{log_of}
+use Rattle.pool_table.specs.declared.table.PoolSeat.{PoolSeat}
+use Rattle.pool_table.specs.declared.views.Layout.{Layout}
+use Rattle.pool_table.specs.Seats.{view_of}
+use Rattle.shared_pool.specs.declared.home.Home.{Home}
+use Rattle.shared_pool.specs.declared.pool.SharedPool.{SharedPool}
+use Rattle.shared_pool.specs.Opening.{AreOpened, IsOpened}
+use Rattle.shared_pool.specs.SeatLanes.{lane_of}
+use Rattle.lane_core.specs.declared.lane.Lane.{Lane}
+use Rattle.lane_core.specs.Lanes.{IsLane, SameLane, left_for_all, note_bound}
+use Rattle.lane_core.specs.Opened.{IsFirstSeat, IsPlain}
+use Rattle.lane_core.specs.Played.{AreFinished}
+use Rattle.trace_top.specs.Needs.{AreSent, HasRoomFor}
+use Rattle.trace_top.specs.Standing.{AllFinished, AllOf, AllRun, AreLanes, AreReady, RunsLane}
+use Rattle.trace_top.proofs.Places.{at_all, log_found, same_some, set_cases}
+
+-- one of the lanes is another one of the pool
+pub lanes_set : (pool : SharedPool) (lanes : List Lane) (i : ℕ) (l : Lane) → AreLanes pool lanes → IsLane pool l
+    → AreLanes pool (set lanes i l)
+lanes_set pool lanes i l all is j x e =
+    ⊎_elim
+    (λ (h : (j ≡ i) × (l ≡ x)). subst (IsLane pool) h.1 is)
+    (λ before. all j x before)
+    (set_cases lanes i l j x e)
+
+runs_later : (trace : List (List Command)) (pool : SharedPool) (i : ℕ) (old new : Lane) → RunsLane trace pool i old
+    → IsLane pool new → SameLane old new → RunsLane trace pool i new
+runs_later trace pool i old new runs is same = record {
+  number = same.number ∙ runs.number;
+  lane = is;
+  commands = runs.commands ∙ ap Some (sym same.commands);
+}
+
+-- one of the lanes was stepped
+pub runs_set : (trace : List (List Command)) (pool : SharedPool) (lanes : List Lane) (i : ℕ) (old new : Lane)
+    → slice_get lanes i ≡ Some old → IsLane pool new → SameLane old new → AllRun trace pool lanes
+    → AllRun trace pool (set lanes i new)
+runs_set trace pool lanes i old new stood is same all j x e =
+    ⊎_elim
+    (λ (h : (j ≡ i) × (new ≡ x)).
+    subst (λ (p : ℕ × Lane). RunsLane trace pool p.0 p.1) (λ k. (sym h.0 k, h.1 k)) (runs_later trace pool i old new (all i old stood) is same))
+    (λ before. all j x before)
+    (set_cases lanes i new j x e)
+
+-- lanes that run a trace are lanes of the pool
+pub are_lanes : (trace : List (List Command)) (pool : SharedPool) (lanes : List Lane) → AllRun trace pool lanes
+    → AreLanes pool lanes
+are_lanes trace pool lanes all i l e = (all i l e).lane
+
+-- as many lanes as the trace has, each with the commands of its place, have the commands of the trace
+pub same_commands : (trace : List (List Command)) (lanes : List Lane) → length lanes ≡ length trace
+    → ((i : ℕ) (l : Lane) → slice_get lanes i ≡ Some l → slice_get trace i ≡ Some l.commands)
+    → map (λ (l : Lane). l.commands) lanes ≡ trace
+same_commands [] [] len at = refl
+same_commands [] (l ∷ ls) len at = absurd (omega (arith, len))
+same_commands (cs ∷ trace) [] len at = absurd (omega (arith, len))
+same_commands (cs ∷ trace) (l ∷ ls) len at =
+    λ k. same_some _ _ (sym (at zero l refl)) k ∷ same_commands trace ls (omega (arith, len)) (λ i x e. at (suc i) x e) k
+
+-- lanes that have finished may be closed with their pool
+pub are_finished : (trace : List (List Command)) (pool : SharedPool) (lanes : List Lane)
+    → length lanes ≡ pool.table.layout.shape.lanes → AllRun trace pool lanes → AllFinished lanes → AreFinished pool lanes
+are_finished trace pool lanes many runs done = record {
+  many = many;
+  each = λ k below d.
+      let stands = slice_get-get_or lanes k d (omega (arith, below, many)) in
+      let runs_k = runs k (get_or lanes k d) stands in
+      record { lane = runs_k.lane; number_is = runs_k.number; finished = done k (get_or lanes k d) stands };
+}
+
+module _ {G : Ghosts Home Noted} where
+  -- the seat of a lane of the trace, before the lane is made
+  first_seat : (trace : List (List Command)) (shape : Shape) (layout : Layout) (mail : List ℕ) (pool : SharedPool)
+      (i : ℕ) (cs : List Command) (s : PoolSeat Home G)
+      → IsShape shape → shape ≡ pool.table.layout.shape → shape.lanes ≡ length trace
+      → HasRoomFor layout cs → AreSent trace mail → slice_get trace i ≡ Some cs
+      → IsOpened layout mail pool i s → IsFirstSeat pool shape cs s
+  first_seat trace shape layout mail pool i cs s limits same lanes room sent found o = record {
+    shape_is = same;
+    limits = limits;
+    seat_is = o.seat;
+    notes = o.notes;
+    turns = subst (λ (n : ℕ). note_bound cs ≤ n) (sym o.turns) room.turns;
+    moves = subst (λ (n : ℕ). (left_for_all cs).moves ≤ n) (sym o.moves) room.moves;
+    mails = λ to below. IfSome_then (view_of s).setting o.mail_is (λ x is.
+        let number : lane_of s ≡ i = ap (λ n. unwrap_or n 0) o.number in
+        let here = slice_get_within trace i cs found in (
+          (left_for_all cs).sends to,
+          (λ j. slice_get (is j) (number j * lanes j + to))
+              ∙ sent i to here (omega (arith, below, lanes))
+              ∙ ap (λ (c : List Command). Some ((left_for_all c).sends to)) (log_found trace i cs found),
+          omega arith,
+        ));
+  }
+
+  -- all commands with their seats
+  pub ready : (trace : List (List Command)) (shape : Shape) (layout : Layout) (mail : List ℕ) (pool : SharedPool)
+      (seats : List (PoolSeat Home G))
+      → IsShape shape → shape ≡ pool.table.layout.shape → shape.lanes ≡ length trace → layout.shape ≡ shape
+      → ((lane : ℕ) → AreCommands shape (log_of trace lane)) → All (All IsPlain) trace
+      → ((lane : ℕ) → lane < length trace → HasRoomFor layout (log_of trace lane)) → AreSent trace mail
+      → AreOpened layout mail pool seats → AreReady pool shape trace seats
+  ready trace shape layout mail pool seats limits same lanes layout_is commands plain room sent opened i cs s found stands =
+      let here = slice_get_within trace i cs found in
+      let are = log_found trace i cs found in
+      let below : i < layout.shape.lanes = subst (λ (n : ℕ). i < n) (sym lanes ∙ sym (ap (λ (x : Shape). x.lanes) layout_is)) here in
+      let o = subst (IsOpened layout mail pool i) (get_or_from_slice_get seats i s s stands) (opened.each i below s) in
+      record {
+        commands_are = record {
+          commands_are = subst (AreCommands shape) are (commands i);
+          plain = at_all (All IsPlain) trace plain i cs found;
+        };
+        seat_is = first_seat trace shape layout mail pool i cs s limits same lanes (subst (HasRoomFor layout) are (room i here)) sent found o;
+        number = ap (λ n. unwrap_or n 0) o.number;
+      }
+
+  -- seats that may be made lanes are of the pool
+  pub seats_are : (trace : List (List Command)) (shape : Shape) (pool : SharedPool) (seats : List (PoolSeat Home G))
+      → length seats ≡ length trace → AreReady pool shape trace seats → AllOf pool seats
+  seats_are trace shape pool seats many are i s stands =
+      let here = slice_get_within seats i s stands in
+      (are i (get_or trace i []) s (slice_get-get_or trace i [] (omega (arith, here, many))) stands).seat_is.seat_is

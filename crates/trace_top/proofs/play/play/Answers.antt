@@ -1,0 +1,63 @@
+use Rattle.std.proofs.Common.{◌≡◌, ℕ, ◌<◌, List, length, sym, ap, ◌∙◌, subst}
+use Rattle.std.proofs.lemmas.Result.{IfOk-weaker}
+use Rattle.pool_law.specs.declared.command.Command.{Command}
+use Rattle.pool_law.specs.declared.run.Run.{Run}
+use Rattle.pool_law.specs.Logs.{log_of}
+use Rattle.pool_table.specs.declared.views.Layout.{Layout}
+use Rattle.shared_pool.specs.Opening.{AreOpened}
+use Rattle.shared_pool.specs.Seats.{IsPoolSeat}
+use Rattle.lane_core.specs.Played.{IsRunOf}
+use Rattle.trace_top.specs.Needs.{AreSent, HasRoomFor}
+use Rattle.trace_top.specs.Standing.{AllRun, AreReady}
+use Rattle.trace_top.proofs.Places.{all_at}
+use Rattle.trace_top.proofs.Runs.{are_finished, are_lanes, ready, same_commands}
+use Rattle.trace_top.proofs.play.play.Goals as goal
+
+pub all_lanes-requires-clause-ready : goal.all_lanes-requires-clause-ready
+all_lanes-requires-clause-ready g c =
+    let trace = c.args.trace.lanes in
+    let layout = c.layout_for-layout.result in
+    let pool = c.in_ok-pool.pool in
+    let seats = c.in_ok-pool.seats.items in
+    let shape = sym (ap (λ (l : Layout). l.shape) (pool.same_layout ∙ c.in_ok-pool.ensures.layout) ∙ c.layout_for-layout.ensures.shape) in
+    let room = subst (λ (t : List (List Command)). (lane : ℕ) → lane < length t → HasRoomFor layout (log_of t lane)) c.items.ensures c.layout_for-layout.ensures.room in
+    let sent = subst (λ (t : List (List Command)). AreSent t c.in_ok-mail.mail.items) c.items-2.ensures c.in_ok-mail.ensures.sent in
+    let opened = subst (λ (m : List ℕ). AreOpened layout m pool seats) c.deref.ensures.value c.in_ok-pool.ensures.seats in
+    subst (λ (t : List (List Command)). AreReady pool c.args.shape.now t seats) (sym c.into_items.ensures)
+    (ready trace c.args.shape.now layout c.in_ok-mail.mail.items pool seats c.requires.shape shape c.requires.lanes c.layout_for-layout.ensures.shape c.requires.commands c.requires.plain room sent opened)
+
+pub abandon-requires : goal.abandon-requires
+abandon-requires g c = record { seats = all_at (IsPoolSeat c.in_ok-pool.pool) _ c.in-Err.ensures.err }
+
+pub returns-in-Ok-step_alone-clause-trace : goal.returns-in-Ok-step_alone-clause-trace
+returns-in-Ok-step_alone-clause-trace g c =
+    let trace = c.args.trace.lanes in
+    let pool = c.in_ok-pool.pool in
+    let after = c.step_alone.new.lanes in
+    let runs = c.step_alone.ensures.runs trace
+    (subst (λ (t : List (List Command)). AllRun t pool c.in-Ok.made.0.items) c.into_items.ensures c.in-Ok.ensures.lanes) in
+    let many : length after.items ≡ length trace =
+    sym after.ok.0 ∙ c.step_alone.ensures.count ∙ c.in-Ok.ensures.count ∙ c.into_items.result.ok.0
+    ∙ ap (λ (t : List (List Command)). length t) c.into_items.ensures in
+    IfOk-weaker c.finish.result (IsRunOf c.args.shape.now after.items) (λ (r : Run). r.trace.lanes ≡ trace)
+    (λ r e. e.trace ∙ same_commands trace after.items many (λ i l h. (runs i l h).commands)) c.finish.ensures
+
+pub abandon-requires-in-Err-step_alone : goal.abandon-requires-in-Err-step_alone
+abandon-requires-in-Err-step_alone g c = record { seats = all_at (IsPoolSeat c.in_ok-pool.pool) _ c.given_back-seats.ensures.seats }
+
+pub step_alone-requires-clause-lanes : goal.step_alone-requires-clause-lanes
+step_alone-requires-clause-lanes g c κs within =
+    are_lanes c.into_items.result.items c.in_ok-pool.pool c.in-Ok.made.0.items c.in-Ok.ensures.lanes
+
+pub finish-requires-clause-lanes : goal.finish-requires-clause-lanes
+finish-requires-clause-lanes g c =
+    let trace = c.args.trace.lanes in
+    let pool = c.in_ok-pool.pool in
+    let after = c.step_alone.new.lanes in
+    let runs = c.step_alone.ensures.runs trace
+    (subst (λ (t : List (List Command)). AllRun t pool c.in-Ok.made.0.items) c.into_items.ensures c.in-Ok.ensures.lanes) in
+    let shape = sym (ap (λ (l : Layout). l.shape) (pool.same_layout ∙ c.in_ok-pool.ensures.layout) ∙ c.layout_for-layout.ensures.shape) in
+    let many : length after.items ≡ length trace =
+    sym after.ok.0 ∙ c.step_alone.ensures.count ∙ c.in-Ok.ensures.count ∙ c.into_items.result.ok.0
+    ∙ ap (λ (t : List (List Command)). length t) c.into_items.ensures in
+    are_finished trace pool after.items (many ∙ sym c.requires.lanes ∙ ap (λ s. s.lanes) shape) runs c.in-Ok-step_alone.ensures.finished

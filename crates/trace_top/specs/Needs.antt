@@ -1,0 +1,52 @@
+-- What the lanes of a trace need of their pool.
+use Rattle.std.specs.Prelude.{◌≡◌, ℕ, ◌+◌, ◌*◌, ◌<◌, ◌≤◌, Bool, true, false, ◌==◌, List, length, Some, slice_get}
+use Rattle.pool_law.specs.declared.command.Command.{Command}
+use Rattle.pool_law.specs.Logs.{log_of}
+use Rattle.pool_table.specs.declared.views.Layout.{Layout}
+use Rattle.lane_core.specs.Lanes.{left_for_all, note_bound}
+
+-- the command allocates
+abbrev pub is_alloc : Command → Bool
+is_alloc (Command.Alloc name size) = true
+is_alloc _ = false
+
+-- the command releases
+abbrev pub is_release : Command → Bool
+is_release (Command.Release name) = true
+is_release _ = false
+
+-- the command makes one note at most
+abbrev pub is_single : Command → Bool
+is_single (Command.Alloc name size) = false
+is_single (Command.Release name) = false
+is_single (Command.Slice fresh name at len retained) = retained
+is_single (Command.Dup fresh name) = false
+is_single (Command.Forget name) = false
+is_single _ = true
+
+-- the command makes a root, or retains one
+abbrev pub is_move : Command → Bool
+is_move (Command.Alloc name size) = true
+is_move (Command.Slice fresh name at len retained) = retained
+is_move (Command.Retain name) = true
+is_move _ = false
+
+-- the command sends to this lane
+abbrev pub is_send : ℕ → Command → Bool
+is_send to (Command.Send name lane) = lane == to
+is_send to _ = false
+
+-- the layout has room for a lane with these commands
+pub record HasRoomFor (layout : Layout) (commands : List Command) : Type 0 where
+  pub moves : (left_for_all commands).moves ≤ layout.moves
+  pub turns : note_bound commands ≤ layout.turns
+
+-- how many parcels a lane sends to another
+abbrev pub sent : List (List Command) → ℕ → ℕ → ℕ
+sent lanes sender to = (left_for_all (log_of lanes sender)).sends to
+
+-- for each two lanes, how many parcels the first sends to the second
+abbrev pub AreSent : List (List Command) → List ℕ → Type 0
+AreSent lanes mail =
+    (sender to : ℕ) → sender < length lanes → to < length lanes →
+    slice_get mail (sender * length lanes + to) ≡ Some (sent lanes sender to)
