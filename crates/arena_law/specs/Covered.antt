@@ -13,7 +13,7 @@ use Rattle.pool_law.specs.Histories.{arena_after}
 use Rattle.arena_law.specs.Slots.{IsOne}
 use Rattle.arena_law.specs.Orderly.{ChunkAtRest}
 
--- a fact of the chunk and the first byte of each run in use as a whole, and each element that is out
+-- a fact of the chunk and the first byte of each run in use as a whole, and each element out
 pub record EachUsed (g : Geometry) (a : Arena) (P : ℕ → ℕ → Type 0) : Type 0 where
   pub runs :
       (c page pages : ℕ) → Begins page (Used pages Whole) (chunk_at a c) → P c (page_of g * page)

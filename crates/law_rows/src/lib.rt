@@ -9,7 +9,6 @@ pub mod chunks;
 pub mod closings;
 pub mod counts;
 pub mod elements;
-pub mod first_path;
 pub mod homes;
 pub mod lane_runs;
 pub mod leaks;

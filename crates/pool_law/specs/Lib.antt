@@ -17,7 +17,6 @@ pub mod LaneLaw
 pub mod Busy
 pub mod Leaks
 pub mod Legal
-pub mod FirstPath
 pub mod Lives
 pub mod NotedHistories
 pub mod Naming
