@@ -1,0 +1,51 @@
+use Rattle.std.proofs.Common.{◌≡◌, ◌≤◌, ◌+◌, ◌*◌, ℕ, [], ◌∷◌, sym, ap, ◌∙◌, subst, arith}
+use Rattle.std.specs.Prelude.{List, slice_get, unwrap_or}
+use Rattle.std.proofs.lemmas.Option.{IfSome_then}
+use Rattle.step_law.specs.declared.Told.{Ghosts}
+use Rattle.pool_law.specs.declared.command.Command.{Command}
+use Rattle.pool_law.specs.declared.note.Noted.{Noted}
+use Rattle.pool_law.specs.Limits.{IsShape}
+use Rattle.pool_table.specs.declared.table.PoolSeat.{PoolSeat}
+use Rattle.pool_table.specs.declared.views.Layout.{Layout}
+use Rattle.pool_table.specs.Seats.{view_of}
+use Rattle.shared_pool.specs.declared.home.Home.{Home}
+use Rattle.shared_pool.specs.declared.pool.SharedPool.{SharedPool}
+use Rattle.shared_pool.specs.Opening.{IsOpened}
+use Rattle.shared_pool.specs.SeatLanes.{lane_of}
+use Rattle.lane_core.specs.declared.tests.TheConstants.{LAYOUT}
+use Rattle.lane_core.specs.Lanes.{left_for_all, note_bound}
+use Rattle.lane_core.specs.Opened.{IsFirstSeat}
+use Rattle.lane_core.proofs.tests.begin.Goals as goal
+
+same_shape : (pool : SharedPool) → pool.layout ≡ LAYOUT → LAYOUT.shape ≡ pool.table.layout.shape
+same_shape pool is = sym (ap (λ (l : Layout). l.shape) (pool.same_layout ∙ is))
+
+-- the seat with which the lane begins
+first_seat : {G : Ghosts Home Noted} (pool : SharedPool) (cs : List Command) (s : PoolSeat Home G)
+    → pool.layout ≡ LAYOUT → IsShape LAYOUT.shape → note_bound cs ≤ 100 → (left_for_all cs).moves ≤ 1
+    → (left_for_all cs).sends 0 ≡ 0 → IsOpened LAYOUT (0 ∷ []) pool 0 s → IsFirstSeat pool LAYOUT.shape cs s
+first_seat pool cs s is limits turns moves none o = record {
+  shape_is = same_shape pool is;
+  limits = limits;
+  seat_is = o.seat;
+  notes = o.notes;
+  turns = subst (λ (n : ℕ). note_bound cs ≤ n) (sym o.turns) turns;
+  moves = subst (λ (n : ℕ). (left_for_all cs).moves ≤ n) (sym o.moves) moves;
+  mails = λ to below. IfSome_then (view_of s).setting o.mail_is (λ x mail.
+      let number : lane_of s ≡ 0 = ap (λ n. unwrap_or n 0) o.number in
+      let first : to ≡ 0 = omega (arith, below) in (
+        0,
+        (λ j. slice_get (mail j) (number j * 1 + first j)),
+        subst (λ (t : ℕ). (left_for_all cs).sends t ≤ 0) (sym first) (omega (arith, none)),
+      ));
+}
+
+pub new-requires-clause-seat : goal.new-requires-clause-seat
+new-requires-clause-seat c =
+    let q = c.requires in let o = c.in_ok-pool.ensures in
+    (c.in_ok-pool.field-0.pool, first_seat c.in_ok-pool.field-0.pool c.args.commands c.in_ok-pool.field-0.seat o.layout o.limits q.turns q.moves q.mails o.seat)
+
+pub returns-in-Ok-clause-lane : goal.returns-in-Ok-clause-lane
+returns-in-Ok-clause-lane c =
+    let q = c.requires in let o = c.in_ok-pool.ensures in
+    c.in-Ok.ensures.lane c.in_ok-pool.field-0.pool (first_seat c.in_ok-pool.field-0.pool c.args.commands c.in_ok-pool.field-0.seat o.layout o.limits q.turns q.moves q.mails o.seat)
