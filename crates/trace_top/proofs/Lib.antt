@@ -2,6 +2,8 @@ pub mod Bytes
 pub mod Sums
 pub mod Places
 pub mod Runs
+pub mod Tables
+pub mod Shares
 pub mod Plain
 pub mod Exact
 pub mod Explain

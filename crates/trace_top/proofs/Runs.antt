@@ -33,7 +33,7 @@ lanes_set pool lanes i l all is j x e =
     (λ before. all j x before)
     (set_cases lanes i l j x e)
 
-runs_later : (trace : List (List Command)) (pool : SharedPool) (i : ℕ) (old new : Lane) → RunsLane trace pool i old
+pub runs_later : (trace : List (List Command)) (pool : SharedPool) (i : ℕ) (old new : Lane) → RunsLane trace pool i old
     → IsLane pool new → SameLane old new → RunsLane trace pool i new
 runs_later trace pool i old new runs is same = record {
   number = same.number ∙ runs.number;

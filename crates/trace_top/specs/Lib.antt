@@ -8,5 +8,6 @@ pub mod WordForm
 pub mod Playable
 pub mod Needs
 pub mod Standing
+pub mod Places
 pub mod Outcomes
 pub mod Line

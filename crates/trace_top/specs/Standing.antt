@@ -29,6 +29,11 @@ AllRun trace pool lanes =
 abbrev pub AreLanes : SharedPool → List Lane → Type 0
 AreLanes pool lanes = (i : ℕ) (l : Lane) → slice_get lanes i ≡ Some l → IsLane pool l
 
+-- lanes of the pool, each with its place as its number
+abbrev pub AreNumbered : SharedPool → List Lane → Type 0
+AreNumbered pool lanes =
+    (i : ℕ) (l : Lane) → slice_get lanes i ≡ Some l → (number_of l ≡ i) × IsLane pool l
+
 -- all have finished
 abbrev pub AllFinished : List Lane → Type 0
 AllFinished lanes = (i : ℕ) (l : Lane) → slice_get lanes i ≡ Some l → IsFinished l

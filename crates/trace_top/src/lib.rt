@@ -2,6 +2,8 @@
 #![tactic(auto)]
 
 mod answer;
+mod bell;
+mod crew;
 mod ends;
 mod gates;
 mod input;
@@ -17,8 +19,10 @@ mod sinks;
 mod sources;
 mod standard;
 mod steps;
+mod table;
 mod top;
 mod words;
+mod workers;
 
 pub use answer::{Outcome, Status};
 pub use ends::{Failed, Sink, Source};

@@ -1,4 +1,4 @@
-//! The run of a trace: a pool is made, its lanes are stepped until all have finished, and it is
+//! The run of a trace: a pool is made, workers step its lanes until all have finished, and it is
 //! closed.
 ghost use Rattle.std.specs.Prelude.{◌≡◌, ℕ, All, IfOk, length, false};
 ghost use Rattle.pool_law.specs.Legal.{AreCommands};
@@ -6,21 +6,23 @@ ghost use Rattle.pool_law.specs.Limits.{IsShape};
 ghost use Rattle.pool_law.specs.Logs.{log_of};
 ghost use Rattle.lane_core.specs.Opened.{IsPlain};
 
+use crate::crew::step_together;
 use crate::lanes::{all_lanes, given_back};
 use crate::needs::{layout_for, mail_for};
-use crate::steps::step_alone;
 use lane_core::{Gate, Played, finish};
 use pool_law::{Shape, Trace};
 use shared_pool::SharedPool;
 use std::alloc::{AllocError, Global};
 use std::sync::Wait;
+use std::thread::Threads;
 
-/// The run of a trace over a new pool of this shape.
-pub fn play<R: Wait, G: Gate>(
+/// The run of a trace over a new pool of this shape, by so many workers.
+pub fn play<R: Threads + Wait + Sync, G: Gate>(
     rt: &R,
     alloc: Global,
     trace: Trace,
     shape: &Shape,
+    workers: u32,
     gate: &G,
 ) -> Result<Played, AllocError>
     requires open { (lane line : ℕ) → G.stops gate.now lane line ≡ false }
@@ -35,14 +37,15 @@ pub fn play<R: Wait, G: Gate>(
     let layout = layout_for(commands.items(), shape);
     let mail = mail_for(alloc, commands.items())?;
     let (pool, seats) = SharedPool::new(alloc, layout, &mail)?;
-    let (mut lanes, room) = match all_lanes(alloc, &pool, shape, commands.into_items(), seats) {
+    let (lanes, room) = match all_lanes(alloc, &pool, shape, commands.into_items(), seats) {
         Ok(made) => made,
         Err(seats) => {
             pool.abandon(seats);
             return Err(AllocError);
         }
     };
-    match step_alone(rt, alloc, &pool, gate, &mut lanes) {
+    let (lanes, ended) = step_together(rt, alloc, &pool, gate, lanes, workers);
+    match ended {
         Ok(()) => {
             room.destroy_empty();
             finish(alloc, pool, shape, lanes)

@@ -65,7 +65,7 @@ pub fn run<R: Threads + Wait + Sync, S: Source, K: Sink, G: Gate>(
 }
 
 #[tactic(auto, unfolding(crate::specs::Outcomes::Explains))]
-fn answer<R: Wait, S: Source, K: Sink, G: Gate>(
+fn answer<R: Threads + Wait + Sync, S: Source, K: Sink, G: Gate>(
     rt: &R,
     alloc: Global,
     words: &[String],
@@ -86,7 +86,7 @@ fn answer<R: Wait, S: Source, K: Sink, G: Gate>(
 }
 
 #[tactic(auto, unfolding(crate::specs::Outcomes::ExplainsOptions))]
-fn with_options<R: Wait, S: Source, K: Sink, G: Gate>(
+fn with_options<R: Threads + Wait + Sync, S: Source, K: Sink, G: Gate>(
     rt: &R,
     alloc: Global,
     options: &Options,
@@ -108,7 +108,7 @@ fn with_options<R: Wait, S: Source, K: Sink, G: Gate>(
 }
 
 #[tactic(auto, unfolding(crate::specs::Outcomes::ExplainsText))]
-fn with_text<R: Wait, K: Sink, G: Gate>(
+fn with_text<R: Threads + Wait + Sync, K: Sink, G: Gate>(
     rt: &R,
     alloc: Global,
     options: &Options,
@@ -133,7 +133,7 @@ fn with_text<R: Wait, K: Sink, G: Gate>(
 }
 
 #[tactic(auto, unfolding(crate::specs::Outcomes::ExplainsRun))]
-fn with_trace<R: Wait, K: Sink, G: Gate>(
+fn with_trace<R: Threads + Wait + Sync, K: Sink, G: Gate>(
     rt: &R,
     alloc: Global,
     options: &Options,
@@ -151,7 +151,7 @@ fn with_trace<R: Wait, K: Sink, G: Gate>(
         (sink_span K.got K.faults K.empty_takes out.old out.new) }
 {
     let shape = shape(options, trace.lanes.items().len() as u32);
-    match play(rt, alloc, trace, &shape, gate) {
+    match play(rt, alloc, trace, &shape, options.workers, gate) {
         Ok(played) => with_run(alloc, options, played, out),
         Err(_) => bare(Status::Memory),
     }

@@ -1,0 +1,8 @@
+use Rattle.std.proofs.Common.{sym, ◌∙◌, ap}
+use Rattle.trace_top.specs.Places.{empties}
+use Rattle.trace_top.proofs.Tables.{all_stand, empties_full}
+use Rattle.trace_top.proofs.table.Table.of.Goals as goal
+
+pub invariant_of-table : goal.invariant_of-table
+invariant_of-table g c =
+    (rw c.seated-places.ensures.places (all_stand _ _ _ c.requires.lanes), c.requires.out ∙ sym (ap empties c.seated-places.ensures.places ∙ empties_full c.args.lanes.items), c.seated-places.ensures.count ∙ c.requires.count, c.requires.rests)

@@ -1,0 +1,10 @@
+use Rattle.std.proofs.Common.{◌<◌}
+use Rattle.lane_core.specs.Lanes.{IsLane, SameLane}
+use Rattle.trace_top.proofs.workers.go_on.Given as goal
+
+abbrev pub invariant-loop : goal.invariant-loop
+invariant-loop g l =
+    (goal.iterator-loop g).can_next l.iterator' × (goal.iterator-loop g).is_finite l.iterator'
+    × IsLane l.pool l.lane
+    × SameLane l.initial.lane l.lane
+    × (l.moves < 64)

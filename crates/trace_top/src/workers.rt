@@ -1,0 +1,185 @@
+//! The workers, each of which takes lanes out of the table, steps them and brings them back.
+ghost use Rattle.std.specs.Prelude.{◌≡◌, ℕ, ◌<◌, Some, Option, false};
+ghost use Rattle.lane_core.specs.Lanes.{IsLane, SameLane};
+ghost use Rattle.trace_top.specs.Places.{BelongsAt};
+
+use crate::bell::Bell;
+use crate::table::{Play, Rest, Table};
+use lane_core::{Gate, Lane, Stepped};
+use shared_pool::SharedPool;
+use std::alloc::{AllocError, Global};
+use std::mem::ManuallyDrop;
+use std::sync::ledger::Share;
+use std::sync::{Mutex, Wait};
+use std::thread;
+
+/// A lane that goes on for long rings after so many steps, for the lanes that wait for it.
+const MOVES: u32 = 64;
+
+/// A worker that finds no lane looks again so often before it sleeps.
+const LOOKS: u32 = 16;
+
+/// A worker, whose share stands for the lane that it holds. Between its turns it holds none.
+#[derive(Drop)]
+pub struct Worker<T: Play> {
+    pub share: Share<T>,
+    ghost one_part: { share.parts ≡ 1 },
+    ghost none_out: { share.amount ≡ 0 },
+}
+
+/// What a turn of a worker did.
+#[derive(Clone, Copy, PartialEq, Eq, Debug)]
+enum Turn {
+    /// It stepped the lane at the place before this one.
+    Stepped(usize),
+    /// No lane could go on, when the bell had been rung so often.
+    Idle(u64),
+    /// All lanes have finished, or one found no memory.
+    Over,
+}
+
+/// Steps the lanes until all have finished or one finds no memory.
+pub fn work<T: Play, R: Wait, G: Gate>(
+    rt: &R,
+    alloc: Global,
+    pool: &SharedPool,
+    gate: &G,
+    table: &Mutex<ManuallyDrop<Table<T>>>,
+    bell: &Bell,
+    worker: &mut Worker<T>,
+)
+    requires pool { T.pool ≡ Some pool.now }
+    requires open { (lane line : ℕ) → G.stops gate.now lane line ≡ false }
+{
+    let mut from = 0;
+    let mut idle = 0u32;
+    for _ in rt.forever() {
+        match take_turn(rt, alloc, pool, gate, table, bell, from, &mut worker.share) {
+            Turn::Stepped(next) => {
+                from = next;
+                idle = 0;
+            }
+            Turn::Idle(rings) => {
+                if idle < LOOKS {
+                    idle += 1;
+                    thread::yield_now();
+                } else {
+                    bell.wait(rt, rings);
+                }
+            }
+            Turn::Over => return,
+        }
+    }
+}
+
+// Takes a lane out, steps it and brings it back.
+fn take_turn<T: Play, R: Wait, G: Gate>(
+    rt: &R,
+    alloc: Global,
+    pool: &SharedPool,
+    gate: &G,
+    table: &Mutex<ManuallyDrop<Table<T>>>,
+    bell: &Bell,
+    from: usize,
+    share: &mut Share<T>,
+) -> Turn
+    requires pool { T.pool ≡ Some pool.now }
+    requires open { (lane line : ℕ) → G.stops gate.now lane line ≡ false }
+    requires share { (share.old.parts ≡ 1) × (share.old.amount ≡ 0) }
+    ensures { (share.new.parts ≡ 1) × (share.new.amount ≡ 0) }
+{
+    let rings = bell.rings();
+    let mut guard = table.lock(rt);
+    let open = &mut **guard;
+    if open.is_over() {
+        return Turn::Over;
+    }
+    let Some((at, mut lane)) = open.take(from, rings, share) else {
+        return Turn::Idle(rings);
+    };
+    drop(guard);
+    let rest = go_on(rt, alloc, pool, gate, bell, &mut lane);
+    bring_back(rt, table, at, lane, rest, share);
+    match rest {
+        Rest::Finished | Rest::Failed => {
+            bell.ring();
+        }
+        // Another lane is in the section, and soon out of it. That need not move a lane, so it is
+        // tried again without a ring.
+        Rest::Ready => thread::yield_now(),
+        Rest::Since(_) => {}
+    }
+    Turn::Stepped(at + 1)
+}
+
+// Steps a lane until it cannot go on.
+fn go_on<R: Wait, G: Gate>(
+    rt: &R,
+    alloc: Global,
+    pool: &SharedPool,
+    gate: &G,
+    bell: &Bell,
+    lane: &mut Lane,
+) -> Rest
+    requires open { (number line : ℕ) → G.stops gate.now number line ≡ false }
+    requires lane { IsLane pool.now lane.old }
+    ensures lane { IsLane pool.now lane.new }
+    ensures same { SameLane lane.old lane.new }
+{
+    let mut moves = 0;
+    for _ in rt.forever() {
+        let rings = bell.rings();
+        match lane.step(alloc, pool, gate) {
+            Ok(Stepped::Went) => {
+                moves += 1;
+                if moves == MOVES {
+                    bell.ring();
+                    moves = 0;
+                }
+            }
+            Ok(Stepped::Pending(_)) => {
+                told(bell, rings, moves > 0);
+                return Rest::Ready;
+            }
+            Ok(Stepped::Waiting { from: _ }) => {
+                return Rest::Since(told(bell, rings, moves > 0));
+            }
+            Ok(Stepped::Finished) => return Rest::Finished,
+            Err(AllocError) => return Rest::Failed,
+        }
+    }
+    unreachable!()
+}
+
+// Rings for the moves of a lane. Answers the count up to which it knows of no move of another.
+fn told(bell: &Bell, rings: u64, moved: bool) -> u64 {
+    if moved && bell.ring() == rings {
+        rings.wrapping_add(1)
+    } else {
+        rings
+    }
+}
+
+// Brings a lane back to its place. No other lane stands there, so this tries once; the table does
+// not know that, so it tries until the place is empty.
+fn bring_back<T: Play, R: Wait>(
+    rt: &R,
+    table: &Mutex<ManuallyDrop<Table<T>>>,
+    at: usize,
+    lane: Lane,
+    rest: Rest,
+    share: &mut Share<T>,
+)
+    requires lane { BelongsAt T.trace T.pool at lane }
+    requires share { (share.old.parts ≡ 1) × (share.old.amount ≡ 1) }
+    ensures { (share.new.parts ≡ 1) × (share.new.amount ≡ 0) }
+{
+    let mut lane = lane;
+    for _ in rt.forever() {
+        match table.lock(rt).put(at, lane, rest, share) {
+            None => return,
+            Some(back) => lane = back,
+        }
+    }
+    unreachable!()
+}
