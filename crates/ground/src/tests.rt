@@ -60,3 +60,13 @@ fn pieces_and_racks_cross_threads(rt: HostRuntime) {
     left.leave();
     crosses(Rack::of(right, 1024)).leave();
 }
+
+#[test]
+fn racks_and_sites_are_shared_by_threads(rt: HostRuntime) {
+    let ground = Ground::new(rt.alloc(), 4096).expect(&rt, "ample memory");
+    let site = Site::of(&ground);
+    let rack = Rack::of(ground, 1024);
+    crosses((&rack, &site));
+    drop(site);
+    rack.leave();
+}
