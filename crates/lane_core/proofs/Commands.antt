@@ -87,7 +87,7 @@ kept_turn pool name old start mid new may start_is same seat v bound lt has less
     (kept old.counts start.counts v.root lt less.counts) less.places (sym sampler_is) s (Command.Release name) state.names_are (omega arith) (omega arith) (omega arith) (λ to. omega arith)
     (λ rest. used s old.names old.counts state name v bound lt (λ reply es. answer reply s.names es) (release_view old.shape s) (entry_of (Ref v.root Kept) ∷ rest) ∙ read_kept old.shape s v rest)
 
-ended_carries : (lane : ℕ) (r : RootId) → Carries lane empty_hand (record empty_hand { token = Some r }) (Ref r Ended ∷ [])
+pub ended_carries : (lane : ℕ) (r : RootId) → Carries lane empty_hand (record empty_hand { token = Some r }) (Ref r Ended ∷ [])
 ended_carries lane r = record {
   places = λ q. (let a = weightless (r.place == q) 0 refl in omega (arith, a));
   births = λ q. (let a = weightless (r.place == q) 0 refl in omega (arith, a));

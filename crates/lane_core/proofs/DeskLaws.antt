@@ -25,6 +25,7 @@ use Rattle.pool_table.specs.Seats.{view_of, SameSeat, HasView}
 use Rattle.shared_pool.specs.declared.home.Home.{Home}
 use Rattle.shared_pool.specs.declared.pool.SharedPool.{SharedPool}
 use Rattle.shared_pool.specs.Closing.{note_of, entry_of}
+use Rattle.shared_pool.specs.MailAnswers.{IsDrained}
 use Rattle.shared_pool.specs.SeatLanes.{lane_of}
 use Rattle.shared_pool.specs.Seats.{IsPoolSeat, FoundBusy}
 use Rattle.lane_core.specs.declared.counts.Counted.{Counted}
@@ -300,15 +301,15 @@ module _ (pool : SharedPool) (old start : Desk) (d : IsDesk pool empty_hand old)
     held = found;
   }
 
-  pub waiting : (sender : ℕ) (s : LaneState) (command : Command) → ReceivesFrom command sender → HasTurned pool old start s command Ready (Waiting sender)
-  waiting sender s command receives = record {
+  pub waiting : (sender : ℕ) (s : LaneState) (command : Command) → ReceivesFrom command sender → IsDrained pool sender old.seat → HasTurned pool old start s command Ready (Waiting sender)
+  waiting sender s command receives drained = record {
     added = [];
     grew = unmoved;
     fits = tt;
     name = tt;
     spends = unspent (left_at command Ready);
     comes = (refl, (refl, ap (λ (x : Desk). x.replies.items) start_is, ap (λ (x : Desk). x.names) start_is, ap (λ (x : Desk). x.begun) start_is));
-    waits = receives;
+    waits = (receives, drained);
     held = tt;
   }
 

@@ -347,7 +347,7 @@ module _ (pool : SharedPool) (l : Lane) (lane : IsLane pool l) (d : Desk) (n : �
   turned_so (Pending held (Ending next)) t = (same_log pool l lane d n few_asked (hand_of (Ending next)) t.added t.grew t.comes.1.0 t.comes.1.1 (Ending next), t.held)
   turned_so (Pending held (Closing next)) t = absurd t.comes
   turned_so (Waiting sender) t =
-      (same_log pool l lane d n few_asked (hand_of l.stage) t.added t.grew t.comes.1.0 t.comes.1.1 l.stage, subst (λ (cs : List Command). ReceivesNext sender cs) (sym left) t.waits)
+      (same_log pool l lane d n few_asked (hand_of l.stage) t.added t.grew t.comes.1.0 t.comes.1.1 l.stage, subst (λ (cs : List Command). ReceivesNext sender cs) (sym left) t.waits.0, t.waits.1)
 
   pub turned_same : (turn : Turn) → HasTurned pool l.desk d lane.state command l.stage turn → SameLane l (lane_at l d (next_of l.stage turn) n)
   turned_same turn t = same_lane pool l lane d n few_asked (hand_of (next_of l.stage turn)) t.added t.grew (next_of l.stage turn)

@@ -258,9 +258,6 @@ module _ (pool : SharedPool) (fresh from : ℕ) (old start mid new : Desk) (may 
       let a = few_counted old.counts (entries_of old) may.desk.counts root in let b = length-map (notes_of old) entry_of in let e = may.room.few in
       let g = ap (λ (cs : List Counted). counted cs root) mid_counts_are in omega (arith, a, b, e, g)
 
-  pub fetched_name : fresh < length old.names → fresh < length mid.names
-  fetched_name lt = subst (λ (names : List (Option ViewData)). fresh < length names) (sym mid_names_are) lt
-
   pub can_answer_fetched : CanAnswer mid
   can_answer_fetched =
       can_answer_noted pool (left_for (Command.Recv fresh from)) old may (omega arith) start mid (Note.At (Mail from (lane_of old.seat)) number (Did.Fetch parcel)) noted

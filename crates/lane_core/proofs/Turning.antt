@@ -77,7 +77,7 @@ pub weightless : (b : Bool) (n : ℕ) → n ≡ 0 → cond {A = ℕ} b n 0 ≡ 0
 weightless true n e = e
 weightless false n e = refl
 
-ref_carries : (lane : ℕ) (h : Hand) (r : RootId) (did : RefDid) → ref_born did ≡ 0 → ref_ended did ≡ 0 → ref_vacated did ≡ 0 → Carries lane h h (Ref r did ∷ [])
+pub ref_carries : (lane : ℕ) (h : Hand) (r : RootId) (did : RefDid) → ref_born did ≡ 0 → ref_ended did ≡ 0 → ref_vacated did ≡ 0 → Carries lane h h (Ref r did ∷ [])
 ref_carries lane h r did born ended vacated = record {
   places = λ q. (let a = weightless (r.place == q) (ref_born did) born in let b = weightless (r.place == q) (ref_vacated did) vacated in omega (arith, a, b));
   births = λ q. (let a = weightless (r.place == q) (ref_born did) born in omega (arith, a));

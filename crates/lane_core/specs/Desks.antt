@@ -15,6 +15,7 @@ use Rattle.pool_table.specs.declared.views.Entry.{Entry}
 use Rattle.pool_table.specs.Seats.{view_of, SameSeat}
 use Rattle.shared_pool.specs.declared.pool.SharedPool.{SharedPool}
 use Rattle.shared_pool.specs.Closing.{note_of, entry_of}
+use Rattle.shared_pool.specs.MailAnswers.{IsDrained}
 use Rattle.shared_pool.specs.Quotas.{posts}
 use Rattle.shared_pool.specs.SeatLanes.{lane_of}
 use Rattle.shared_pool.specs.Seats.{IsPoolSeat, FoundBusy}
@@ -211,7 +212,8 @@ pub record HasTurned (pool : SharedPool) (old new : Desk) (s : LaneState) (comma
       (left_at command stage) (left_after command stage turn)
   pub comes :
       ComesTo (reads_from old.shape (lane_of old.seat) s command) old new added stage turn
-  pub waits : IfWaiting turn (ReceivesFrom command)
+  pub waits : IfWaiting turn (λ sender.
+      ReceivesFrom command sender × IsDrained pool sender old.seat)
   pub held : IfPending turn (λ held. FoundBusy pool held.object false old.seat new.seat held)
 
 -- the desk's log, its seat and its mails have room for what is left

@@ -2,6 +2,7 @@
 use Rattle.std.specs.Prelude.{◌≡◌, ℕ, false, List, [], ◌∷◌}
 use Rattle.pool_law.specs.declared.command.Command.{Command}
 use Rattle.shared_pool.specs.declared.pool.SharedPool.{SharedPool}
+use Rattle.shared_pool.specs.MailAnswers.{IsDrained}
 use Rattle.shared_pool.specs.Seats.{FoundBusy}
 use Rattle.lane_core.specs.declared.lane.Lane.{Lane}
 use Rattle.lane_core.specs.declared.desk.Stage.{Stage}
@@ -19,13 +20,15 @@ ReceivesNext sender (command ∷ later) = ReceivesFrom command sender
 
 -- what a step did, by its answer: a note or a reply was added where it went, and else nothing;
 -- where it is pending its claim found another seat; where it waits its command receives from that
--- lane; it is finished where all was done before
+-- lane, and nothing that was posted from there was unfetched; it is finished where all was done
+-- before
 abbrev pub HasStepped : SharedPool → Lane → Lane → Stepped → Type 0
 HasStepped pool old new Went = LogGrew old new
 HasStepped pool old new (Pending held) =
     SameLog old new × FoundBusy pool held.object false old.desk.seat new.desk.seat held
 HasStepped pool old new (Waiting sender) =
     SameLog old new × ReceivesNext sender (commands_left old)
+    × IsDrained pool sender old.desk.seat
 HasStepped pool old new Finished = IsFinished old × (new ≡ old)
 
 -- the lane at another stage

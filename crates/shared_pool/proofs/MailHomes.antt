@@ -111,6 +111,14 @@ home_view setting h sender receiver lanes p (Cache q) at front = absurd (cc at.m
 home_view setting h sender receiver lanes p (Bin b) at front = absurd (cc at.measured)
 home_view setting h sender receiver lanes p (Root s) at front = absurd (cc at.measured)
 
+-- where the mail is empty, the history left nothing in it
+pub home_drained : (setting : Setting) (h : List Noted) (sender receiver lanes : ℕ) (home : Home) → HomeStands (3 ∷ sender ∷ receiver ∷ lanes ∷ []) setting h home → IsMail home → IfMail home (λ m. m.parcels ≡ []) → mail_after (noted_dids h) ≡ Some []
+home_drained setting h sender receiver lanes (Mail m) at is none = at.stands.told ∙ ap (λ (q : List Parcel). Some q) none
+home_drained setting h sender receiver lanes (Arena a) at is none = absurd is
+home_drained setting h sender receiver lanes (Cache q) at is none = absurd is
+home_drained setting h sender receiver lanes (Bin b) at is none = absurd is
+home_drained setting h sender receiver lanes (Root s) at is none = absurd is
+
 pub mail_follows : (s : Shape) (setting : Setting) (sender receiver : ℕ) (h : List Noted) (n : Noted) (home : Home) → IsHistory s (MailOf sender receiver) h → IsMail home →
     HomeStands (measures_of s (MailOf sender receiver)) setting (h ++ n ∷ []) home → IsRightAt (MailOf sender receiver) h n → IsHistory s (MailOf sender receiver) (h ++ n ∷ [])
 mail_follows s setting sender receiver h n (Mail m) t is at right =

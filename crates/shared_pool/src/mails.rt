@@ -7,7 +7,7 @@ ghost use Rattle.pool_law.specs.Views.{IsView};
 ghost use Rattle.pool_table.specs.Counts.{HasCount};
 ghost use Rattle.pool_table.specs.Seats.{view_of, HasView, SameSeat};
 ghost use Rattle.shared_pool.specs.Answers.{IfDid, IfHeld};
-ghost use Rattle.shared_pool.specs.MailAnswers.{IfGot, IfEmpty, IfFetchHeld, HasRoom};
+ghost use Rattle.shared_pool.specs.MailAnswers.{IfGot, IfEmpty, IfFetchHeld, IsDrained, HasRoom};
 ghost use Rattle.shared_pool.specs.Mails.{IsFront, with_parcels};
 ghost use Rattle.shared_pool.specs.Notes.{plain};
 ghost use Rattle.shared_pool.specs.SeatLanes.{lane_of};
@@ -69,6 +69,7 @@ impl SharedPool {
             IfGot result (λ number parcel.
             IfSome parcel.view (λ w. w.root.place < s.lanes * s.handles)) }
         ensures empty { IfEmpty result (HasView seat.new (view_of seat.old)) }
+        ensures drained { IfEmpty result (IsDrained self.now «from» seat.old) }
         ensures held { IfFetchHeld result (λ held.
             FoundBusy self.now (Mail «from» (lane_of seat.old)) false seat.old seat.new held) }
     {

@@ -76,7 +76,7 @@ returns-in-None c = λ s state.
 pub returns-in-Empty : goal.returns-in-Empty
 returns-in-Empty c = λ s state.
     let pool = c.args.pool.now in let old = c.args.self.now in let start : Desk = record old { seat = c.fetch.new.seat } in let d = c.requires.may.desk in let empty = c.in-Empty.ensures in
-    waiting pool old start d refl (advances_none pool old.seat start.seat empty_hand d.seat d.held empty.same empty.seat empty.empty) c.args.lane s (Command.Recv c.args.fresh c.args.lane) refl
+    waiting pool old start d refl (advances_none pool old.seat start.seat empty_hand d.seat d.held empty.same empty.seat empty.empty) c.args.lane s (Command.Recv c.args.fresh c.args.lane) refl empty.drained
 
 pub returns-in-Held : goal.returns-in-Held
 returns-in-Held c = λ s state.

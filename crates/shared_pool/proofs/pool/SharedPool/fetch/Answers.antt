@@ -1,11 +1,13 @@
 use Rattle.std.proofs.Common.{subst, refl, ap}
 use Rattle.std.specs.Prelude.{ℕ}
+use Rattle.pool_table.specs.Learned.{Enters}
+use Rattle.shared_pool.specs.Standing.{HomeStands}
 use Rattle.pool_law.specs.declared.note.Noted.{Noted}
 use Rattle.pool_law.specs.declared.note.Object.TheVariants.{Mail}
 use Rattle.pool_law.specs.Naming.{noted_by}
 use Rattle.pool_table.specs.Seats.{view_of}
 use Rattle.shared_pool.specs.Seats.{IsNoted}
-use Rattle.shared_pool.proofs.MailHomes.{next_fetch, home_view}
+use Rattle.shared_pool.proofs.MailHomes.{next_fetch, home_view, is_mail, home_drained}
 use Rattle.shared_pool.proofs.Endings.{stood, ends, made}
 use Rattle.shared_pool.proofs.pool.SharedPool.fetch.Goals as goal
 
@@ -38,3 +40,14 @@ returns-in-Some-clause-place c =
     (next_fetch c.args.self.now.table.layout c.args.from c.lane_of.result c.args.seat.now c.claim.new.seat c.in-Ok.section got seat.setting seat.settled fetch.new.section c.in-Some.parcel c.in-Some.ensures.same.0 c.in-Some.ensures.same.1
     c.in-Some.ensures.mail c.in-Some.ensures.stands c.noted-noted.result c.noted-noted.ensures).follows
     (ap (λ (n : Noted). n.did) c.noted-noted.ensures)
+
+pub returns-in-None-clause-drained : goal.returns-in-None-clause-drained
+returns-in-None-clause-drained c =
+    let got = c.in-Ok.ensures.got in let seat = c.requires.seat in let l = c.args.self.now.table.layout in let home = c.in-Ok.section.home in
+    let stands = stood l (Mail c.args.from c.lane_of.result) c.args.seat.now c.claim.new.seat c.in-Ok.section got seat.setting seat.settled in
+    record {
+      history = got.history;
+      home = home;
+      learned = subst (λ (k : ℕ). Enters HomeStands l (Mail c.args.from k) (view_of c.args.seat.now) got.history home) c.lane_of.ensures.lane got.learned;
+      drained = home_drained seat.setting got.history c.args.from c.lane_of.result l.shape.lanes home stands (is_mail seat.setting got.history c.args.from c.lane_of.result l.shape.lanes home stands) c.in-None.ensures.empty;
+    }
