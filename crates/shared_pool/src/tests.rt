@@ -5,6 +5,7 @@ ghost use Rattle.shared_pool.specs.Opening.{IsOpened};
 ghost use Rattle.shared_pool.specs.Live.{AreLiveRoots};
 ghost use Rattle.shared_pool.specs.Seated.{AreDone, parts_in};
 
+mod meeting;
 mod rounds;
 
 use crate::{PoolEnd, PoolSeat, SharedPool, Went};

@@ -18,7 +18,7 @@ use std::process::Abort;
 use std::test::Fail;
 
 // Takes a handle and a new region of the last cached class out of a new pool.
-fn stock(rt: &impl Abort, pool: &SharedPool, seat: &mut PoolSeat) -> (Handle, Region)
+pub(super) fn stock(rt: &impl Abort, pool: &SharedPool, seat: &mut PoolSeat) -> (Handle, Region)
     requires order { pool.now.table.layout.shape.order ≡ 3 }
     requires seat { IsPoolSeat pool.now seat.old }
     requires turns { 3 ≤ (view_of seat.old).turns }
@@ -63,7 +63,7 @@ fn stock(rt: &impl Abort, pool: &SharedPool, seat: &mut PoolSeat) -> (Handle, Re
 }
 
 // The call did its work as the note of this number.
-fn done(rt: &impl Abort, went: Went<(), ()>, at: u64)
+pub(super) fn done(rt: &impl Abort, went: Went<(), ()>, at: u64)
     ensures { went ≡ Did at tt }
 {
     match went {

@@ -1,4 +1,4 @@
-use Rattle.std.proofs.Common.{◌≡◌, ◌-◌, ℕ, List, refl, sym, subst, arith}
+use Rattle.std.proofs.Common.{◌≡◌, ◌-◌, List, refl, sym, subst, arith}
 use Rattle.std.specs.Prelude.{None}
 use Rattle.pool_law.specs.declared.note.RefDid.TheVariants.{Born, Vacated}
 use Rattle.pool_table.specs.declared.views.Entry.{Entry}
