@@ -10,6 +10,8 @@ use std::process::ExitCode;
 use trace_top::{OpenGate, Outcome, Status, StdSink, StdSource, line_of, run};
 
 #[cfg(test)]
+mod crews;
+#[cfg(test)]
 mod rows;
 #[cfg(test)]
 mod tests;

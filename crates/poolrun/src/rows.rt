@@ -9,7 +9,7 @@ use trace_top::{SafeSink, SafeSource, Status, line_of};
 /// Words, a trace, its status, and its text.
 type Row = (&'static str, &'static str, Status, &'static str);
 
-/// Runs each row, and compares its status and its text.
+// Runs each row, and compares its status and its text.
 fn expect<R: Threads + Wait + Sync + AllocGlobal + Abort>(
     rt: &R,
     rows: &[Row],
@@ -21,7 +21,7 @@ fn expect<R: Threads + Wait + Sync + AllocGlobal + Abort>(
 }
 
 /// Runs a trace, and compares its status and its text.
-fn expect_text<R: Threads + Wait + Sync + AllocGlobal + Abort>(
+pub(crate) fn expect_text<R: Threads + Wait + Sync + AllocGlobal + Abort>(
     rt: &R,
     words: &str,
     trace: &str,
@@ -275,36 +275,6 @@ fn counts_views_and_handles(rt: HostRuntime) -> Result<(), Fail> {
     expect(&rt, &[SLICE_OF_SLICE, COUNTS, ONE_HANDLE])
 }
 
-const HAND_OVER: &str = concat!(
-    r#"[[["alloc","a",4],["set","a",0,"0a0b"],["send","a",1]],"#,
-    r#"[["recv","x",0],["get","x",0,2],["release","x"]]]"#,
-);
-
-const HAND_OVER_TEXT: &str = "\
-0.0 alloc ok 16 0.0+0
-0.1 set ok
-0.2 send ok
-1.0 recv ok
-1.1 get ok 0a0b
-1.2 release freed
-chunk 0.0 qInit used 8192 free 4186112
-end roots 1 live 0 leaks 0
-";
-
-#[test]
-fn hands_a_root_over_on_any_number_of_workers(rt: HostRuntime) -> Result<(), Fail> {
-    let row = |words| (words, HAND_OVER, Status::Whole, HAND_OVER_TEXT);
-    expect(
-        &rt,
-        &[
-            row("--workers 1"),
-            row("--workers 2"),
-            row(""),
-            row("--workers 16"),
-        ],
-    )
-}
-
 const SENT_BACK: Row = (
     "",
     concat!(
@@ -325,21 +295,6 @@ end roots 1 live 0 leaks 0
 ",
 );
 
-const SENT_AFTER_RELEASE: Row = (
-    "",
-    r#"[[["alloc","a",4],["release","a"],["send","a",1]],[["recv","x",0],["get","x",0,1]]]"#,
-    Status::Whole,
-    "\
-0.0 alloc ok 16 0.0+0
-0.1 release freed
-0.2 send illegal
-1.0 recv nothing
-1.1 get unbound
-chunk 0.0 qInit used 8192 free 4186112
-end roots 1 live 0 leaks 0
-",
-);
-
 const NOT_FETCHED: Row = (
     "",
     r#"[[["alloc","a",4],["send","a",1]],[]]"#,
@@ -355,7 +310,7 @@ end roots 1 live 1 leaks 1
 
 #[test]
 fn sends_and_fetches(rt: HostRuntime) -> Result<(), Fail> {
-    expect(&rt, &[SENT_BACK, SENT_AFTER_RELEASE, NOT_FETCHED])
+    expect(&rt, &[SENT_BACK, NOT_FETCHED])
 }
 
 const LEAKING: &str = r#"[[["alloc","a",100],["forget","a"],["alloc","b",10],["set","b",0,"01"]]]"#;
