@@ -1,0 +1,165 @@
+-- The report of live roots, by what the program keeps, is the law's.
+use Rattle.std.proofs.Common.{◌≡◌, ℕ, zero, suc, ◌+◌, ◌-◌, ◌<◌, Bool, true, false, List, [], ◌∷◌, ◌++◌, length, get_or, take, drop, append_assoc, refl, sym, ap, arith, ◌∙◌}
+use Rattle.std.proofs.lemmas.List.{append_cancel_left, take_more_same}
+use Rattle.pool_law.specs.declared.note.Did.TheVariants.{Birth}
+use Rattle.pool_law.specs.declared.report.Access.{Access}
+use Rattle.run_check.specs.declared.merging.Done.{Done}
+use Rattle.std.specs.Prelude.{◌==◌, ◌&&◌, not, if◌then◌else◌}
+use Rattle.std.specs.List.{AllZip}
+use Rattle.pool_law.specs.declared.id.RootId.{RootId}
+use Rattle.pool_law.specs.declared.note.Object.{Object}
+use Rattle.pool_law.specs.declared.note.Object.TheVariants.{Arena, Cache, Bin, Mail, Root}
+use Rattle.pool_law.specs.declared.note.Note.{Note}
+use Rattle.pool_law.specs.declared.note.Note.TheVariants.{At, Ref, Busy}
+use Rattle.pool_law.specs.declared.report.Leak.{Leak}
+use Rattle.pool_law.specs.declared.run.LaneLog.{LaneLog}
+use Rattle.pool_law.specs.declared.run.Shape.{Shape}
+use Rattle.pool_law.specs.Logs.{Logs, history_of, entry_of, entries_of}
+use Rattle.pool_law.specs.Counts.{total_of}
+use Rattle.pool_law.specs.Leaks.{births, is_live, is_sampled, keeps_records, accesses, kept_of, dropped_of, leak_of, lane_leaks, leaks_from}
+use Rattle.pool_law.proofs.HistoryLemmas.{history_of-is}
+use Rattle.run_check.specs.declared.histories.Histories.{Histories}
+use Rattle.run_check.specs.declared.tally.Sums.{Sums}
+use Rattle.run_check.specs.declared.tally.Tally.{Tally}
+use Rattle.run_check.specs.Spotting.{notes_in}
+use Rattle.run_check.specs.Storing.{history_in, AreHistories}
+use Rattle.run_check.specs.Tallying.{total_sums, IsTally}
+use Rattle.run_check.specs.Reporting.{access_by, accesses_in, kept_by, dropped_by, one_leak, leaks_by, leaks_in, all_leaks}
+use Rattle.run_check.proofs.TallyLemmas.{totals-counted}
+
+-- an entry is of its note
+pub entry-bare : (logs : Logs) (n : Note) → (entry_of logs n).note ≡ n
+entry-bare logs (At (Arena number) k did) = refl
+entry-bare logs (At (Cache lane class) k did) = refl
+entry-bare logs (At (Bin lane) k did) = refl
+entry-bare logs (At (Mail from to) k did) = refl
+entry-bare logs (At (Root place) k did) = refl
+entry-bare logs (Ref root did) = refl
+entry-bare logs (Busy held) = refl
+
+module _ (shape : Shape) (logs : List LaneLog) (m : Histories) (tallies : List Tally)
+    (are : AreHistories shape (notes_in logs) m) (sums : AllZip IsTally tallies logs) where
+  total-is : (root : RootId) →
+      (1 + (total_sums tallies root).retains) - (total_sums tallies root).releases
+      ≡ total_of root (entries_of (notes_in logs))
+  total-is root =
+      ap (λ (s : Sums). (1 + s.retains) - s.releases)
+      (totals-counted (entry_of (notes_in logs)) (entry-bare (notes_in logs)) root tallies logs sums)
+
+  history-is : (object : Object) → history_in m object ≡ history_of object (notes_in logs)
+  history-is object = sym (history_of-is object (notes_in logs) (history_in m object) (are.whole object))
+
+  one-is : (lane serial : ℕ) (root : RootId) →
+      one_leak shape m tallies lane serial root
+      ≡ (if is_live (notes_in logs) root && is_sampled shape.level shape.interval serial
+      then leak_of shape.level (notes_in logs) lane serial root ∷ []
+      else [])
+  one-is lane serial root =
+      λ i.
+      if not (total-is root i == 0) && is_sampled shape.level shape.interval serial
+      then record {
+        lane = lane;
+        serial = serial;
+        capacity = root.capacity;
+        count = total-is root i;
+        records = (if keeps_records shape.level then kept_of (accesses root false (history-is (Root root.place) i)) else []);
+        dropped = (if keeps_records shape.level then dropped_of (accesses root false (history-is (Root root.place) i)) else 0);
+      } ∷ []
+      else []
+
+  lane-is : (lane serial : ℕ) (roots : List RootId) →
+      leaks_by shape m tallies lane serial roots ≡ lane_leaks shape (notes_in logs) lane serial roots
+  lane-is lane serial [] = refl
+  lane-is lane serial (root ∷ roots) = λ i. one-is lane serial root i ++ lane-is lane (serial + 1) roots i
+
+  pub leaks-are : (lane : ℕ) (rest : List LaneLog) →
+      all_leaks shape m tallies lane rest ≡ leaks_from shape (notes_in logs) lane (notes_in rest)
+  leaks-are lane [] = refl
+  leaks-are lane (log ∷ rest) = λ i. lane-is lane 1 (births log.notes) i ++ leaks-are (lane + 1) rest i
+
+-- ---- What is reported, one note further.
+
+births-front : (n : Note) (ns : List Note) → births (n ∷ ns) ≡ births (n ∷ []) ++ births ns
+births-front (At object number (Birth root region)) ns = refl
+births-front (At object number _) ns = refl
+births-front (Ref root did) ns = refl
+births-front (Busy held) ns = refl
+
+module _ (shape : Shape) (m : Histories) (tallies : List Tally) (lane : ℕ) where
+  leaks-append : (serial : ℕ) (xs ys : List RootId) →
+      leaks_by shape m tallies lane serial (xs ++ ys)
+      ≡ leaks_by shape m tallies lane serial xs ++ leaks_by shape m tallies lane (serial + length xs) ys
+  leaks-append serial [] ys =
+      let same : serial ≡ serial + 0 = omega arith in ap (λ (k : ℕ). leaks_by shape m tallies lane k ys) same
+  leaks-append serial (x ∷ xs) ys =
+      let one : List Leak = one_leak shape m tallies lane serial x in
+      let front : List Leak = leaks_by shape m tallies lane (serial + 1) xs in
+      let same : serial + 1 + length xs ≡ serial + suc (length xs) = omega arith in
+      ap (λ (r : List Leak). one ++ r) (leaks-append (serial + 1) xs ys)
+      ∙ sym (append_assoc one front (leaks_by shape m tallies lane (serial + 1 + length xs) ys))
+      ∙ ap (λ (k : ℕ). (one ++ front) ++ leaks_by shape m tallies lane k ys) same
+
+  pub leaks-front : (serial : ℕ) (n : Note) (ns : List Note) →
+      leaks_in shape m tallies lane serial (n ∷ ns)
+      ≡ leaks_in shape m tallies lane serial (n ∷ [])
+      ++ leaks_in shape m tallies lane (serial + length (births (n ∷ []))) ns
+  leaks-front serial n ns =
+      ap (λ (roots : List RootId). leaks_by shape m tallies lane serial roots) (births-front n ns)
+      ∙ leaks-append serial (births (n ∷ [])) (births ns)
+
+-- a report goes on behind what it begins with
+pub tells-on : (these more report left rest : List Leak) → report ≡ these ++ left → report ≡ (these ++ more) ++ rest →
+    left ≡ more ++ rest
+tells-on these more report left rest told all =
+    append_cancel_left these left (more ++ rest) (sym told ∙ all ∙ append_assoc these more rest)
+
+pub tells-back : (these more report left rest : List Leak) → report ≡ these ++ left → left ≡ more ++ rest →
+    report ≡ (these ++ more) ++ rest
+tells-back these more report left rest told e =
+    told ∙ ap (λ (r : List Leak). these ++ r) e ∙ sym (append_assoc these more rest)
+
+-- ---- The records of accesses.
+
+pub length-accesses : (dones : List Done) → length (accesses_in dones) ≡ length dones
+length-accesses [] = refl
+length-accesses (d ∷ dones) = ap suc (length-accesses dones)
+
+pub access-at : (dones : List Done) (k : ℕ) (d : Access) (done : Done) → k < length dones → done ≡ get_or dones k done →
+    get_or (accesses_in dones) k d ≡ access_by (done.lane, done.did.now)
+access-at [] k d done there is = absurd (omega (arith, there))
+access-at (x ∷ dones) zero d done there is = ap (λ (y : Done). access_by (y.lane, y.did.now)) (sym is)
+access-at (x ∷ dones) (suc k) d done there is = access-at dones k d done (omega (arith, there)) is
+
+module _ (records : List Access) (dones : List Done) (k : ℕ) (d : Access) (done : Done)
+    (as_many : length records ≡ length dones) (within : k < length records) (is : done ≡ get_or dones k done) where
+  there : k < length dones
+  there = omega (arith, as_many, within)
+
+  pub record-more : take k records ≡ take k (accesses_in dones) → get_or records k d ≡ access_by (done.lane, done.did.now) →
+      take (k + 1) records ≡ take (k + 1) (accesses_in dones)
+  record-more before here =
+      take_more_same records (accesses_in dones) k d within (omega (arith, there, length-accesses dones)) before
+      (here ∙ sym (access-at dones k d done there is))
+
+  pub record-at : records ≡ accesses_in dones → get_or records k d ≡ access_by (done.lane, done.did.now)
+  record-at all = ap (λ (xs : List Access). get_or xs k d) all ∙ access-at dones k d done there is
+
+drop-accesses : (n : ℕ) (dones : List Done) → accesses_in (drop n dones) ≡ drop n (accesses_in dones)
+drop-accesses zero dones = refl
+drop-accesses (suc n) [] = refl
+drop-accesses (suc n) (d ∷ dones) = drop-accesses n dones
+
+-- the last accesses are kept, and the others are not
+pub last-kept : (keeps : Bool) (dones : List Done) (n : ℕ) → keeps ≡ true → n ≡ length dones - 4 →
+    accesses_in (drop n dones) ≡ kept_by keeps (accesses_in dones)
+last-kept keeps dones n kept is =
+    let same : n ≡ length (accesses_in dones) - 4 = omega (arith, is, length-accesses dones) in
+    drop-accesses n dones
+    ∙ ap (λ (k : ℕ). drop k (accesses_in dones)) same
+    ∙ ap (λ (b : Bool). kept_by b (accesses_in dones)) (sym kept)
+
+pub last-dropped : (keeps : Bool) (dones : List Done) (n : ℕ) → keeps ≡ true → n ≡ length dones - 4 →
+    n ≡ dropped_by keeps (accesses_in dones)
+last-dropped keeps dones n kept is =
+    let same : n ≡ length (accesses_in dones) - 4 = omega (arith, is, length-accesses dones) in
+    same ∙ ap (λ (b : Bool). dropped_by b (accesses_in dones)) (sym kept)

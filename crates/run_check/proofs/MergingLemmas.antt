@@ -1,0 +1,154 @@
+-- How far a history is merged.
+use Rattle.std.proofs.Common.{◌≡◌, ℕ, zero, suc, ◌+◌, ◌-◌, ◌<◌, Bool, true, false, List, [], ◌∷◌, ◌++◌, length, get_or, set, take, drop, length-drop, eqb-true, refl, sym, ap, subst, arith, ◌∙◌}
+use Rattle.std.specs.Prelude.{◌==◌, if◌then◌else◌}
+use denote.Ref.{Bor}
+use Rattle.pool_law.specs.declared.note.Did.{Did}
+use Rattle.pool_law.specs.Logs.{History, numbered}
+use Rattle.run_check.specs.declared.gathering.Spot.{Spot}
+use Rattle.run_check.specs.declared.merging.Done.{Done}
+use Rattle.run_check.specs.Merging.{dones_in}
+use Rattle.run_check.specs.Gathering.{spot_data, spots_behind, left_of, AreNumbered, HasNext, IsStuck}
+use Rattle.std.proofs.lemmas.List.{length-append, length-map, map-append, take_all}
+use Rattle.std.proofs.lemmas.Bool.Decides.{nat_tests}
+use Rattle.run_check.proofs.GatheringLemmas.{left-at}
+use Rattle.run_check.proofs.MergeLemmas.{without_first, GoesOnWith, merge-found, merge-stuck, merge-push}
+
+zero-next : (l : ℕ) → (0 == suc l) ≡ false
+zero-next l = grind (arith, nat_tests)
+
+next-zero : (l : ℕ) → (suc l == 0) ≡ false
+next-zero l = grind (arith, nat_tests)
+
+next-next : (a b : ℕ) → (suc a == suc b) ≡ (a == b)
+next-next a b = grind (arith, nat_tests)
+
+-- a lane has one note less
+left-set : (left : List (Bor (List Spot))) (lane : ℕ) (new : Bor (List Spot)) → lane < length left → (l : ℕ) →
+    left_of (set left lane new) l ≡ without_first lane (spots_behind new.now) (left_of left) l
+left-set [] lane new there l = absurd (omega (arith, there))
+left-set (x ∷ left) zero new there zero = refl
+left-set (x ∷ left) zero new there (suc l) =
+    sym (ap (λ (b : Bool). if b then spots_behind new.now else left_of left l) (zero-next l))
+left-set (x ∷ left) (suc lane) new there zero =
+    sym (ap (λ (b : Bool). if b then spots_behind new.now else spots_behind x.now) (next-zero lane))
+left-set (x ∷ left) (suc lane) new there (suc l) =
+    left-set left lane new (omega (arith, there)) l
+    ∙ sym (ap (λ (b : Bool). if b then spots_behind new.now else left_of left l) (next-next lane l))
+
+-- whether a lane has a note
+pub no-spots : (xs : List Spot) → (length xs == 0) ≡ true → spots_behind xs ≡ []
+no-spots [] e = refl
+no-spots (x ∷ xs) e = absurd (omega (arith, eqb-true (length (x ∷ xs)) 0 e))
+
+pub some-spots : (xs : List Spot) → (length xs == 0) ≡ false → spots_behind xs ≡ [] → ⊥
+some-spots [] e none = cc e
+some-spots (x ∷ xs) e none = cc none
+
+-- how many notes are left
+abbrev pub left_total : List (Bor (List Spot)) → ℕ
+left_total [] = 0
+left_total (x ∷ left) = length x.now + left_total left
+
+pub left_total-set : (left : List (Bor (List Spot))) (lane : ℕ) (spots new : Bor (List Spot)) → lane < length left →
+    spots ≡ get_or left lane spots → length new.now < length spots.now →
+    left_total (set left lane new) < left_total left
+left_total-set [] lane spots new there is less = absurd (omega (arith, there))
+left_total-set (x ∷ left) zero spots new there is less =
+    let same : length spots.now ≡ length x.now = ap (λ (s : Bor (List Spot)). length s.now) is in omega (arith, same, less)
+left_total-set (x ∷ left) (suc lane) spots new there is less =
+    omega (arith, left_total-set left lane spots new (omega (arith, there)) is less)
+
+-- a history is merged so far, and what is left goes on with this number
+pub record SoFar (all left : ℕ → List (ℕ × Did)) (h : History) (number : ℕ) : Type 0 where
+  pub numbers : number ≡ length h + 1
+  pub so_far : (l : ℕ) → all l ≡ numbered l 1 h ++ left l
+  pub going : (g : History) → AreNumbered 1 all g → (later : History) × AreNumbered number left later
+
+pub so-far-none : (all : ℕ → List (ℕ × Did)) → SoFar all all [] 1
+so-far-none all = record { numbers = refl; so_far = λ l. refl; going = λ g whole. (g, whole) }
+
+so-far-more : (all left next : ℕ → List (ℕ × Did)) (h : History) (number lane : ℕ) (did : Did)
+    (rest : List (ℕ × Did)) → SoFar all left h number → left lane ≡ (number, did) ∷ rest →
+    ((l : ℕ) → next l ≡ without_first lane rest left l) → SoFar all next (h ++ (lane, did) ∷ []) (number + 1)
+so-far-more all left next h number lane did rest s first is =
+    let numbered_first : left lane ≡ (length h + 1, did) ∷ rest =
+    first ∙ ap (λ (n : ℕ). (n, did) ∷ rest) s.numbers in
+    record {
+      numbers = omega (arith, s.numbers, length-append h ((lane, did) ∷ []));
+      so_far = λ l.
+          merge-push all left h lane did rest numbered_first s.so_far l
+          ∙ ap (λ (xs : List (ℕ × Did)). numbered l 1 (h ++ (lane, did) ∷ []) ++ xs) (sym (is l));
+      going = λ g whole.
+          let on : (later : History) × AreNumbered number left later = s.going g whole in
+          let found : GoesOnWith number lane did rest left on.0 = merge-found number lane did rest left on.0 first on.1 in
+          (found.later, λ l. is l ∙ found.numbers l);
+    }
+
+pub so-far-stuck : (all left : ℕ → List (ℕ × Did)) (h : History) (number : ℕ) → SoFar all left h number →
+    IsStuck number left → (((l : ℕ) → left l ≡ []) → ⊥) → (g : History) → AreNumbered 1 all g → ⊥
+so-far-stuck all left h number s stuck some g whole =
+    let on : (later : History) × AreNumbered number left later = s.going g whole in
+    some (merge-stuck number left on.0 on.1 (λ lane did rest first.
+    stuck lane (subst (λ (xs : List (ℕ × Did)). HasNext number xs) (sym first) refl)))
+
+-- ---- One note further.
+
+dones-pushed : (old new : List Done) (done : Done) → new ≡ old ++ done ∷ [] →
+    dones_in new ≡ dones_in old ++ (done.lane, done.did.now) ∷ []
+dones-pushed old new done is = ap dones_in is ∙ map-append (λ (d : Done). (d.lane, d.did.now)) old (done ∷ [])
+
+shorter : (spots others : List Spot) (first : Spot) → spots_behind spots ≡ spot_data first ∷ spots_behind others →
+    length others < length spots
+shorter spots others first is =
+    let all : length (spots_behind spots) ≡ suc (length (spots_behind others)) = ap length is in
+    omega (arith, all, length-map spots spot_data, length-map others spot_data)
+
+-- the first note of the lane that has the number
+first-numbered : (left : ℕ → List (ℕ × Did)) (lane number : ℕ) (spots others : List Spot) (first : Spot) →
+    HasNext number (left lane) → left lane ≡ spots_behind spots →
+    spots_behind spots ≡ spot_data first ∷ spots_behind others →
+    left lane ≡ (number, first.did.now) ∷ spots_behind others
+first-numbered left lane number spots others first has mine is =
+    let same : first.number ≡ number = subst (λ (xs : List (ℕ × Did)). HasNext number xs) (mine ∙ is) has in
+    mine ∙ is ∙ ap (λ (n : ℕ). (n, first.did.now) ∷ spots_behind others) same
+
+pub none-first : (left : List (Bor (List Spot))) (lane number : ℕ) (spots : Bor (List Spot)) →
+    HasNext number (left_of left lane) → lane < length left → spots ≡ get_or left lane spots →
+    spots_behind spots.now ≡ [] → ⊥
+none-first left lane number spots has there mine none =
+    subst (λ (xs : List (ℕ × Did)). HasNext number xs) (left-at left lane spots there mine ∙ none) has
+
+-- the part of a list behind its first
+pub part-is : (xs : List Spot) → take (length xs - 1) (drop 1 xs) ≡ drop 1 xs
+part-is xs = take_all (length xs - 1) (drop 1 xs) (omega (arith, length-drop 1 xs))
+
+pub part-shorter : (spots : List Spot) (first : Spot) →
+    spots_behind spots ≡ spot_data first ∷ spots_behind (drop 1 spots) →
+    length (take (length spots - 1) (drop 1 spots)) < length spots
+part-shorter spots first is =
+    let same : length (take (length spots - 1) (drop 1 spots)) ≡ length (drop 1 spots) = ap length (part-is spots) in
+    omega (arith, same, shorter spots (drop 1 spots) first is)
+
+-- the history with the first note of the lane that has the next number
+pub so-far-next : (all : ℕ → List (ℕ × Did)) (left : List (Bor (List Spot))) (lane number next : ℕ)
+    (spots new : Bor (List Spot)) (first : Spot) (old pushed : List Done) (done : Done) →
+    SoFar all (left_of left) (dones_in old) number → HasNext number (left_of left lane) → lane < length left →
+    spots ≡ get_or left lane spots → spots_behind spots.now ≡ spot_data first ∷ spots_behind (drop 1 spots.now) →
+    new.now ≡ drop 1 spots.now → pushed ≡ old ++ done ∷ [] → done.lane ≡ lane → done.did.now ≡ first.did.now →
+    next ≡ number + 1 → SoFar all (left_of (set left lane new)) (dones_in pushed) next
+so-far-next all left lane number next spots new first old pushed done s has there is mine part push of did later =
+    let here : left_of left lane ≡ spots_behind spots.now = left-at left lane spots there is in
+    let first_is : left_of left lane ≡ (number, first.did.now) ∷ spots_behind (drop 1 spots.now) =
+    first-numbered (left_of left) lane number spots.now (drop 1 spots.now) first has here mine in
+    let more : SoFar all (left_of (set left lane new)) (dones_in old ++ (lane, first.did.now) ∷ []) (number + 1) =
+    so-far-more all (left_of left) (left_of (set left lane new)) (dones_in old) number lane first.did.now
+    (spots_behind (drop 1 spots.now)) s first_is
+    (λ l.
+    left-set left lane new there l
+    ∙ ap (λ (xs : List Spot). without_first lane (spots_behind xs) (left_of left) l) part) in
+    let history : dones_in pushed ≡ dones_in old ++ (lane, first.did.now) ∷ [] =
+    dones-pushed old pushed done push ∙ (λ i. dones_in old ++ (of i, did i) ∷ []) in
+    subst (λ (h : History). SoFar all (left_of (set left lane new)) h next) (sym history)
+    (subst
+    (λ (n : ℕ). SoFar all (left_of (set left lane new)) (dones_in old ++ (lane, first.did.now) ∷ []) n)
+    (sym later) more)

@@ -1,0 +1,197 @@
+-- The histories of objects as the program keeps them.
+use Rattle.std.proofs.Common.{◌≡◌, ℕ, Bool, true, false, List, [], ◌∷◌, ◌++◌, Option, Some, None, Vec, append_assoc, refl, sym, ap, subst, ◌∙◌}
+use Rattle.std.specs.Prelude.{if◌then◌else◌, is_some, option_map, MatchBool}
+use Rattle.std.specs.BTreeMap.{get, is_at}
+use Rattle.std.specs.declared.alloc.Global.{Global}
+use Rattle.pool_law.specs.declared.note.Did.{Did}
+use Rattle.pool_law.specs.declared.note.Note.{Note}
+use Rattle.pool_law.specs.declared.note.Note.TheVariants.{At}
+use Rattle.pool_law.specs.declared.note.Object.{Object}
+use Rattle.pool_law.specs.declared.note.Object.TheVariants.{Root}
+use Rattle.pool_law.specs.declared.run.Shape.{Shape}
+use Rattle.pool_law.specs.Same.{same_object}
+use Rattle.pool_law.specs.Roots.{RootPlace, new_place}
+use Rattle.pool_law.specs.Histories.{accepts, arena_after, place_after}
+use Rattle.pool_law.specs.Logs.{Logs, History, dids, log_of, own, IsHistory, history_of}
+use Rattle.pool_law.specs.Arenas.{Arena}
+use Rattle.pool_law.specs.declared.report.ChunkEnd.{ChunkEnd}
+use Rattle.pool_law.specs.Legal.{HistoriesHold, ends_of, arena_ends, ends_from}
+use Rattle.pool_law.proofs.HistoryLemmas.{append-nil, own-append, history_of-is}
+use Rattle.pool_law.proofs.SameLemmas.{same_object-is}
+use Rattle.run_check.specs.declared.log.Told.{Told}
+use Rattle.run_check.specs.declared.histories.Story.{Story}
+use Rattle.run_check.specs.declared.histories.Histories.{Histories}
+use Rattle.run_check.specs.Counting.{key_cmp}
+use Rattle.run_check.specs.Keying.{object_key}
+use Rattle.run_check.specs.Gathering.{AreNumbered}
+use Rattle.run_check.specs.Telling.{told_of_each}
+use Rattle.run_check.specs.Storing.{TellsOf, IsStory, IsBroken, story_in, has_story, dones_of, told_by_story, history_in, AreStories, Keeps, Covers, AreHistories}
+use Rattle.run_check.proofs.KeyLemmas.{is_at-object, same-object-self}
+
+-- ---- One object.
+
+module _ (shape : Shape) (logs : Logs) (object : Object) where
+  pub broken-unmerged : (left : ℕ → List (ℕ × Did)) → ((lane : ℕ) → left lane ≡ own object (log_of logs lane)) →
+      ((g : History) → AreNumbered 1 left g → ⊥) → IsBroken shape logs object
+  broken-unmerged left is never whole accepted =
+      never (history_of object logs) (λ lane. is lane ∙ whole lane)
+
+  merged-whole : (left : ℕ → List (ℕ × Did)) (h : History) →
+      ((lane : ℕ) → left lane ≡ own object (log_of logs lane)) → AreNumbered 1 left h → IsHistory object logs h
+  merged-whole left h is numbers lane = sym (is lane) ∙ numbers lane
+
+  broken-refused : (h : History) → IsHistory object logs h → accepts shape object (dids h) ≡ false →
+      IsBroken shape logs object
+  broken-refused h whole refused _ accepted =
+      let same : history_of object logs ≡ h = history_of-is object logs h whole in
+      let both : false ≡ true = sym refused ∙ ap (λ (g : History). accepts shape object (dids g)) (sym same) ∙ accepted in
+      cc both
+
+  broken-none : IsBroken shape logs object → HistoriesHold shape logs → ⊥
+  broken-none broken holds = broken (holds.whole object) (holds.accepted object)
+
+-- what is told of a root place's history, where it is accepted
+pub tells-root : (shape : Shape) (place : ℕ) (ds : List Did) (told : Option (Vec Told Global)) →
+    option_map (λ t. t.items) told ≡ option_map (λ _. told_of_each place new_place ds) (place_after place ds) →
+    TellsOf shape (Root place) ds told
+tells-root shape place ds None e = go (place_after place ds) e
+  where
+    go : (o : Option RootPlace) → None ≡ option_map (λ _. told_of_each place new_place ds) o → is_some o ≡ false
+    go None e = refl
+    go (Some p) e = absurd (cc e)
+tells-root shape place ds (Some t) e = go (place_after place ds) e
+  where
+    go : (o : Option RootPlace) → Some t.items ≡ option_map (λ _. told_of_each place new_place ds) o →
+        (is_some o ≡ true) × (t.items ≡ told_of_each place new_place ds)
+    go None e = absurd (cc e)
+    go (Some p) e = (refl, cc e)
+
+-- ---- All objects.
+
+module _ (shape : Shape) (logs : Logs) (object : Object) (old new : Histories) (story : Story)
+    (key : ℕ × ℕ × ℕ) (at_key : key ≡ object_key object)
+    (updates : (q : ℕ × ℕ × ℕ) → get key_cmp new.map q ≡ (if is_at (key_cmp key) q then Some story else get key_cmp old.map q))
+  where
+    at : (other : Object) (b : Bool) → same_object object other ≡ b →
+        story_in new other ≡ (if b then Some story else story_in old other)
+    at other b same =
+        updates (object_key other)
+        ∙ ap (λ (b : Bool). if b then Some story else story_in old other)
+        (ap (λ (k : ℕ × ℕ × ℕ). is_at (key_cmp k) (object_key other)) at_key ∙ is_at-object object other ∙ same)
+
+    stories-more : AreStories shape logs old → IsStory shape logs object story → AreStories shape logs new
+    stories-more are is other s found = go (same_object object other) refl
+      where
+        go : (b : Bool) → same_object object other ≡ b → IsStory shape logs other s
+        go true e =
+            let this : story ≡ s = cc (at other true e, found) in
+            subst (λ (o : Object). IsStory shape logs o s) (same_object-is object other e)
+            (subst (λ (t : Story). IsStory shape logs object t) this is)
+        go false e = are other s (sym (at other false e) ∙ found)
+
+    keeps-more : Keeps old new
+    keeps-more other has = go (same_object object other) refl
+      where
+        go : (b : Bool) → same_object object other ≡ b → has_story new other ≡ true
+        go true e = ap is_some (at other true e)
+        go false e = ap is_some (at other false e) ∙ has
+
+    pub story-added : AreStories shape logs old → IsStory shape logs object story →
+        AreStories shape logs new × Keeps old new × (has_story new object ≡ true)
+    story-added are is =
+        (stories-more are is, keeps-more, ap is_some (at object true (same-object-self object)))
+
+-- objects that are covered stay so
+pub covers-kept : (old new : Histories) (notes : List Note) → Keeps old new → Covers old notes → Covers new notes
+covers-kept old new notes keeps covers object absent = go (has_story old object) refl
+  where
+    go : (b : Bool) → has_story old object ≡ b → own object notes ≡ []
+    go true has = let both : true ≡ false = sym (keeps object has) ∙ absent in absurd (cc both)
+    go false none = covers object none
+
+accepts-nothing : (shape : Shape) (object : Object) → accepts shape object [] ≡ true
+accepts-nothing shape (Object.Arena number) = refl
+accepts-nothing shape (Object.Cache lane class) = refl
+accepts-nothing shape (Object.Bin lane) = refl
+accepts-nothing shape (Object.Mail from to) = refl
+accepts-nothing shape (Object.Root place) = refl
+
+module _ (shape : Shape) (logs : Logs) (m : Histories) (are : AreStories shape logs m)
+    (covers : (lane : ℕ) → Covers m (log_of logs lane)) where
+  pub histories-are : AreHistories shape logs m
+  histories-are = record {
+    whole = λ object. whole object (story_in m object) refl;
+    accepted = λ object. accepted object (story_in m object) refl;
+    told = λ place. told place (story_in m (Root place)) refl;
+  }
+    where
+      whole : (object : Object) (o : Option Story) → story_in m object ≡ o → IsHistory object logs (dones_of o)
+      whole object None none = λ lane. covers lane object (ap is_some none)
+      whole object (Some s) found = (are object s found).whole
+
+      accepted : (object : Object) (o : Option Story) → story_in m object ≡ o → accepts shape object (dids (dones_of o)) ≡ true
+      accepted object None none = accepts-nothing shape object
+      accepted object (Some s) found = (are object s found).accepted
+
+      told : (place : ℕ) (o : Option Story) → story_in m (Root place) ≡ o →
+          told_by_story o ≡ told_of_each place new_place (dids (dones_of o))
+      told place None none = refl
+      told place (Some s) found = (are (Root place) s found).told
+
+-- the chunks of an arena at the end, by its history
+pub ends-are : (shape : Shape) (logs : Logs) (m : Histories) → AreHistories shape logs m → (number : ℕ)
+    (ds : List Did) (o : Option Arena) → ds ≡ dids (history_in m (Object.Arena number)) →
+    o ≡ arena_after shape number ds → ends_of shape number o ≡ arena_ends shape logs number
+ends-are shape logs m are number ds o same is =
+    let object : Object = Object.Arena number in
+    let history : history_of object logs ≡ history_in m object =
+    history_of-is object logs (history_in m object) (are.whole object) in
+    ap (ends_of shape number)
+    (is ∙ ap (arena_after shape number) (same ∙ ap dids (sym history)))
+
+-- a note's object is covered where its story is there
+covers-at : (m : Histories) (object : Object) (number : ℕ) (did : Did) → has_story m object ≡ true →
+    Covers m (At object number did ∷ [])
+covers-at m object number did has other absent = go (same_object other object) refl
+  where
+    go : (b : Bool) → same_object other object ≡ b → own other (At object number did ∷ []) ≡ []
+    go true e =
+        let same : other ≡ object = same_object-is other object e in
+        let both : true ≡ false = sym has ∙ ap (has_story m) (sym same) ∙ absent in
+        absurd (cc both)
+    go false e = ap (λ (b : Bool). (if b then (number, did) ∷ [] else []) ++ []) e
+
+-- a note at an object is covered where the object's story is added
+pub note-added : (shape : Shape) (logs : Logs) (object : Object) (number : ℕ) (did : Did) (note : Note)
+    (old new : Histories) (good : Bool) → note ≡ At object number did →
+    MatchBool good (AreStories shape logs new × Keeps old new × (has_story new object ≡ true)) (IsBroken shape logs object) →
+    MatchBool good (AreStories shape logs new × Keeps old new × Covers new (note ∷ [])) (HistoriesHold shape logs → ⊥)
+note-added shape logs object number did note old new true is added = (
+  added.0,
+  added.1,
+  subst (λ (n : Note). Covers new (n ∷ [])) (sym is) (covers-at new object number did added.2),
+)
+note-added shape logs object number did note old new false is broken = broken-none shape logs object broken
+
+pub covers-push : (m : Histories) (ns : List Note) (n : Note) → Covers m ns → Covers m (n ∷ []) →
+    Covers m (ns ++ n ∷ [])
+covers-push m ns n before here object absent =
+    own-append object ns (n ∷ []) ∙ (λ i. before object absent i ++ here object absent i)
+
+pub keeps-both : (a b c : Histories) → Keeps a b → Keeps b c → Keeps a c
+keeps-both a b c first second object has = second object (first object has)
+
+-- the chunks of one more arena
+pub ends-push : (shape : Shape) (logs : Logs) (numbers : List ℕ) (n : ℕ) →
+    ends_from shape logs (numbers ++ n ∷ []) ≡ ends_from shape logs numbers ++ arena_ends shape logs n
+ends-push shape logs [] n = append-nil (arena_ends shape logs n)
+ends-push shape logs (x ∷ numbers) n =
+    ap (λ (xs : List ChunkEnd). arena_ends shape logs x ++ xs) (ends-push shape logs numbers n)
+    ∙ sym (append_assoc (arena_ends shape logs x) (ends_from shape logs numbers) (arena_ends shape logs n))
+
+pub story-broken : (shape : Shape) (logs : Logs) (object : Object) (left : ℕ → List (ℕ × Did)) (h : History) (ds : List Did) →
+    ((lane : ℕ) → left lane ≡ own object (log_of logs lane)) → AreNumbered 1 left h → ds ≡ dids h →
+    accepts shape object ds ≡ false → IsBroken shape logs object
+story-broken shape logs object left h ds is numbers same refused =
+    broken-refused shape logs object h (merged-whole shape logs object left h is numbers)
+    (ap (accepts shape object) (sym same) ∙ refused)

@@ -1,0 +1,58 @@
+use Rattle.std.proofs.Common.{rules, ◌≡◌, ℕ, List, refl, sym, subst, below_more, ◌∙◌}
+use Rattle.std.proofs.lemmas.Bool.{false≢true}
+use Rattle.pool_law.specs.declared.note.Note.{Note}
+use Rattle.pool_law.specs.Logs.{log_of}
+use Rattle.pool_law.specs.Busy.{Rises, MarksHold, BusyHolds}
+use Rattle.run_check.specs.Spotting.{notes_in}
+use Rattle.run_check.specs.Storing.{history_in}
+use Rattle.run_check.proofs.LaneLemmas.{notes-get, each-notes}
+use Rattle.run_check.proofs.lanes.all_busy.Goals as goal
+
+pub returns-then-not-branch : goal.returns-then-not-branch
+returns-then-not-branch c =
+    let logs = c.args.logs.now in
+    let lane = c.loop-lane.lane in
+    let here : log_of (notes_in logs) lane ≡ c.items-notes.result.now =
+    notes-get logs lane c.index-logs-lane.result (search rules) ∙ sym c.items-notes.ensures in (
+      λ e. absurd (cc e),
+      λ all.
+          absurd (false≢true (sym c.if-not-branch.true ∙ c.in_ok-all_rise.ensures.1 (λ object.
+          subst (λ (ns : List Note). Rises object 0 ns) here ((all lane).rises object)))),
+    )
+
+pub returns-then-not-marks_hold : goal.returns-then-not-marks_hold
+returns-then-not-marks_hold c =
+    let logs = c.args.logs.now in
+    let lane = c.loop-lane.lane in
+    let here : log_of (notes_in logs) lane ≡ c.items-notes.result.now =
+    notes-get logs lane c.index-logs-lane.result (search rules) ∙ sym c.items-notes.ensures in (
+      λ e. absurd (cc e),
+      λ all.
+          absurd (false≢true (sym c.if-not-marks_hold.true ∙ c.marks_hold.ensures.1
+          (subst (λ (ns : List Note). MarksHold lane (history_in c.args.histories.now) ns) here ((all lane).marks)))),
+    )
+
+pub loop-lane-preserved : goal.loop-lane-preserved
+loop-lane-preserved c =
+    let logs = c.args.logs.now in
+    let lane = c.loop-lane.lane in
+    let here : log_of (notes_in logs) lane ≡ c.items-notes.result.now =
+    notes-get logs lane c.index-logs-lane.result (search rules) ∙ sym c.items-notes.ensures in
+    below_more (λ (k : ℕ). BusyHolds k (history_in c.args.histories.now) (log_of (notes_in logs) k))
+    lane c.loop-lane.invariant
+    (record {
+      rises = λ object.
+          subst (λ (ns : List Note). Rises object 0 ns) (sym here)
+          (c.in_ok-all_rise.ensures.0 c.if-not-branch.false object);
+      marks =
+          subst (λ (ns : List Note). MarksHold lane (history_in c.args.histories.now) ns) (sym here)
+          (c.marks_hold.ensures.0 c.if-not-marks_hold.false);
+    })
+
+pub returns : goal.returns
+returns c = (
+  λ _.
+      each-notes (λ k (ns : List Note). BusyHolds k (history_in c.args.histories.now) ns) c.args.logs.now
+      c.loop-lane.lane c.loop-lane.invariant (search rules) (λ k. record { rises = λ object. tt; marks = tt }),
+  λ _. refl,
+)

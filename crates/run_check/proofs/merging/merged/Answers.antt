@@ -1,0 +1,36 @@
+use Rattle.std.proofs.Common.{refl, sym, ◌∙◌}
+use Rattle.std.proofs.lemmas.Bool.{false≢true}
+use Rattle.run_check.specs.Gathering.{left_of}
+use Rattle.run_check.specs.Merging.{dones_in}
+use Rattle.run_check.proofs.MergingLemmas.{so-far-none, so-far-stuck, so-far-next, left_total-set, part-is, part-shorter, none-first}
+use Rattle.run_check.proofs.merging.merged.Goals as goal
+
+pub loop-lane-init : goal.loop-lane-init
+loop-lane-init c = rw c.new-dones.ensures.items (so-far-none (left_of c.args.left.items))
+
+pub returns-in_default-first_of : goal.returns-in_default-first_of
+returns-in_default-first_of c g whole =
+    none-first c.loop-lane.left.items c.in-Some.lane c.loop-lane.number c.index-spots.result.now
+    (rw c.deref.ensures.value at c.in-Some.ensures.0) (rw c.deref.ensures.value at c.in-Some.ensures.1)
+    c.index-spots.ensures c.in_default-first_of.ensures
+
+pub loop-lane-smaller : goal.loop-lane-smaller
+loop-lane-smaller c =
+    let spots = c.index-spots.result.now in
+    left_total-set c.loop-lane.left.items c.in-Some.lane spots _ (rw c.deref.ensures.value at c.in-Some.ensures.1)
+    c.index-spots.ensures (part-shorter spots.now c.in-Some-first_of.first c.in-Some-first_of.ensures.0)
+
+pub loop-lane-preserved : goal.loop-lane-preserved
+loop-lane-preserved c =
+    let spots = c.index-spots.result.now in
+    so-far-next (left_of c.args.left.items) c.loop-lane.left.items c.in-Some.lane c.loop-lane.number
+    c.in-Some-checked_add.next spots _ c.in-Some-first_of.first c.loop-lane.dones.items c.push.new.self.items _
+    c.loop-lane.invariant (rw c.deref.ensures.value at c.in-Some.ensures.0)
+    (rw c.deref.ensures.value at c.in-Some.ensures.1) c.index-spots.ensures c.in-Some-first_of.ensures.0
+    (part-is spots.now) c.in_ok-push.ensures.items refl refl c.in-Some-checked_add.ensures.1
+
+pub returns : goal.returns
+returns c =
+    so-far-stuck (left_of c.args.left.items) (left_of c.loop-lane.left.items) (dones_in c.loop-lane.dones.items)
+    c.loop-lane.number c.loop-lane.invariant (rw c.deref.ensures.value at c.in_default.ensures)
+    (λ none. false≢true (sym c.if-none_left.false ∙ c.none_left.ensures.1 (rw c.deref-2.ensures.value none)))

@@ -1,0 +1,33 @@
+-- The notes at an object, as the program gathers them.
+use Rattle.std.specs.Prelude.{◌≡◌, ℕ, zero, suc, List, [], ◌∷◌, map}
+use Rattle.pool_law.specs.declared.note.Did.{Did}
+use Rattle.pool_law.specs.Logs.{History, numbered}
+use denote.Ref.{Bor}
+use Rattle.run_check.specs.declared.gathering.Spot.{Spot}
+
+-- a note's number, and what was done
+abbrev pub spot_data : Spot → ℕ × Did
+spot_data spot = (spot.number, spot.did.now)
+
+-- the notes, one after another
+abbrev pub spots_behind : List Spot → List (ℕ × Did)
+spots_behind spots = map spot_data spots
+
+-- what is left of each lane is what a history from this number on has of it
+abbrev pub AreNumbered : ℕ → (ℕ → List (ℕ × Did)) → History → Type 0
+AreNumbered k left h = (lane : ℕ) → left lane ≡ numbered lane k h
+
+-- the notes of a lane, of which there may be none
+abbrev pub left_of : List (Bor (List Spot)) → ℕ → List (ℕ × Did)
+left_of [] lane = []
+left_of (spots ∷ rest) zero = spots_behind spots.now
+left_of (spots ∷ rest) (suc lane) = left_of rest lane
+
+-- the first of these notes has this number
+abbrev pub HasNext : ℕ → List (ℕ × Did) → Type 0
+HasNext number [] = ⊥
+HasNext number (x ∷ xs) = x.0 ≡ number
+
+-- no lane's first note has this number
+abbrev pub IsStuck : ℕ → (ℕ → List (ℕ × Did)) → Type 0
+IsStuck number left = (lane : ℕ) → HasNext number (left lane) → ⊥

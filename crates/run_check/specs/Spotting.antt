@@ -1,0 +1,37 @@
+-- The notes of each lane, by object.
+use Rattle.std.specs.Prelude.{◌≡◌, ℕ, zero, suc, List, [], ◌∷◌, map, Option, Some, None, Vec}
+use Rattle.std.specs.BTreeMap.{get}
+use Rattle.std.specs.declared.alloc.Global.{Global}
+use Rattle.pool_law.specs.declared.note.Did.{Did}
+use Rattle.pool_law.specs.declared.note.Object.{Object}
+use Rattle.pool_law.specs.declared.run.LaneLog.{LaneLog}
+use Rattle.pool_law.specs.Logs.{Logs, log_of, own}
+use Rattle.run_check.specs.Counting.{key_cmp}
+use Rattle.run_check.specs.Keying.{object_key}
+use Rattle.run_check.specs.Gathering.{spots_behind}
+use Rattle.run_check.specs.declared.gathering.Spot.{Spot}
+use Rattle.run_check.specs.declared.spots.Spots.{Spots}
+
+-- the notes of each lane
+abbrev pub notes_in : List LaneLog → Logs
+notes_in logs = map (λ l. l.notes) logs
+
+-- the notes of a list that may be there
+abbrev pub spots_in : Option (Vec Spot Global) → List (ℕ × Did)
+spots_in None = []
+spots_in (Some spots) = spots_behind spots.items
+
+-- the notes of a lane at an object
+abbrev pub spots_at : Spots → Object → List (ℕ × Did)
+spots_at spots object = spots_in (get key_cmp spots.map (object_key object))
+
+-- what each lane has at an object
+abbrev pub laned : List Spots → Object → ℕ → List (ℕ × Did)
+laned [] object lane = []
+laned (s ∷ rest) object zero = spots_at s object
+laned (s ∷ rest) object (suc lane) = laned rest object lane
+
+-- these are the notes of each lane, by object
+abbrev pub AreSpots : List Spots → Logs → Type 0
+AreSpots lanes logs =
+    (object : Object) (lane : ℕ) → laned lanes object lane ≡ own object (log_of logs lane)

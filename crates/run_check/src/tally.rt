@@ -1,0 +1,243 @@
+//! How often logs note each root's birth, retains, releases and end.
+
+ghost use Rattle.std.specs.Prelude.{◌≡◌, ◌+◌, ◌-◌, ◌≤◌, ◌↔◌, ◌==◌, ℕ, IsTrue, IfOk, OnOk, if◌then◌else◌};
+ghost use Rattle.std.specs.List.{AllZip};
+ghost use Rattle.pool_law.specs.declared.id.RootId.{RootId};
+ghost use Rattle.pool_law.specs.Same.{same_root};
+ghost use Rattle.run_check.specs.Tallying.{no_sums, more_births, sums_step, plus, sums_in, sums_after, sums_from, total_sums, others_sum, IsTally, AreTotals};
+
+use pool_law::{Did, LaneLog, Note, RefDid, RootId};
+use std::alloc::{AllocError, Global};
+use std::collections::BTreeMap;
+
+/// How often a root is noted to be born, to have its word set, retained, released, and ended.
+#[derive(Clone, Copy, Drop)]
+pub struct Sums {
+    pub births: u64,
+    pub borns: u64,
+    pub retains: u64,
+    pub releases: u64,
+    pub ends: u64,
+}
+
+// A sum. One that 64 bits cannot hold is want of memory: no memory holds so many notes.
+pub(crate) fn sum(a: u64, b: u64) -> Result<u64, AllocError>
+    ensures { IfOk result (λ all. all ≡ a + b) }
+{
+    match a.checked_add(b) {
+        Some(all) => Ok(all),
+        None => Err(AllocError),
+    }
+}
+
+impl Sums {
+    /// Nothing is noted.
+    pub fn none() -> Sums
+        ensures { result ≡ no_sums }
+    {
+        Sums {
+            births: 0,
+            borns: 0,
+            retains: 0,
+            releases: 0,
+            ends: 0,
+        }
+    }
+
+    // One more birth.
+    fn more_births(&self) -> Result<Sums, AllocError>
+        ensures { IfOk result (λ sums. sums ≡ more_births self.now) }
+    {
+        let births = sum(self.births, 1)?;
+        Ok(Sums {
+            births,
+            borns: self.borns,
+            retains: self.retains,
+            releases: self.releases,
+            ends: self.ends,
+        })
+    }
+
+    // After one more note on the count.
+    fn step(&self, did: RefDid) -> Result<Sums, AllocError>
+        ensures { IfOk result (λ sums. sums ≡ sums_step self.now did) }
+    {
+        let mut sums = *self;
+        match did {
+            RefDid::Born => sums.borns = sum(sums.borns, 1)?,
+            RefDid::Retain => sums.retains = sum(sums.retains, 1)?,
+            RefDid::Kept => sums.releases = sum(sums.releases, 1)?,
+            RefDid::Ended => {
+                sums.releases = sum(sums.releases, 1)?;
+                sums.ends = sum(sums.ends, 1)?;
+            }
+            RefDid::Vacated | RefDid::Look(_) => {}
+        }
+        Ok(sums)
+    }
+
+    // Both together.
+    fn plus(&self, other: &Sums) -> Result<Sums, AllocError>
+        ensures { IfOk result (λ sums. sums ≡ plus self.now other.now) }
+    {
+        let births = sum(self.births, other.births)?;
+        let borns = sum(self.borns, other.borns)?;
+        let retains = sum(self.retains, other.retains)?;
+        let releases = sum(self.releases, other.releases)?;
+        let ends = sum(self.ends, other.ends)?;
+        Ok(Sums {
+            births,
+            borns,
+            retains,
+            releases,
+            ends,
+        })
+    }
+
+    /// Whether the total of a root is 0, which is one for its birth, and all retains less all
+    /// releases.
+    pub fn is_over(&self) -> bool
+        ensures { IsTrue result ↔ ((1 + self.now.retains) - self.now.releases ≡ 0) }
+    {
+        self.releases >= 1 && self.releases - 1 >= self.retains
+    }
+
+    /// Whether these are the sums of a root that was born.
+    pub fn are_totals(&self) -> bool
+        ensures { IsTrue result ↔ AreTotals self.now }
+    {
+        if self.releases >= 1 && self.releases - 1 > self.retains {
+            return false;
+        }
+        if self.borns != 1 || self.ends > 1 {
+            return false;
+        }
+        if self.is_over() {
+            self.ends == 1
+        } else {
+            self.ends == 0
+        }
+    }
+}
+
+/// The sums of each root, by place, generation and capacity.
+#[derive(Drop)]
+pub struct Tally {
+    map: BTreeMap<(u32, u32, u32), Sums>,
+}
+
+impl Tally {
+    /// Nothing is noted.
+    pub fn new(alloc: Global) -> Tally
+        ensures { (root : RootId) → sums_in result root ≡ no_sums }
+    {
+        Tally {
+            map: BTreeMap::new(alloc),
+        }
+    }
+
+    /// The sums of a root.
+    pub fn of(&self, root: &RootId) -> Sums
+        ensures { result ≡ sums_in self.now root.now }
+    {
+        let key = (root.place, root.generation, root.capacity);
+        match self.map.get(&key) {
+            Some(sums) => *sums,
+            None => Sums::none(),
+        }
+    }
+
+    // A root has these sums.
+    fn put(&mut self, root: &RootId, sums: Sums) -> Result<(), AllocError>
+        ensures { (other : RootId) → OnOk result (sums_in self.new other
+            ≡ (if same_root root.now other then sums else sums_in self.old other)) }
+    {
+        let key = (root.place, root.generation, root.capacity);
+        self.map.insert(key, sums)?;
+        Ok(())
+    }
+
+    /// The sums after a note.
+    pub fn pass(&mut self, note: &Note) -> Result<(), AllocError>
+        ensures { (other : RootId) → OnOk result (sums_in self.new other
+            ≡ sums_after other (sums_in self.old other) note.now) }
+    {
+        match note {
+            Note::Ref { root, did } => {
+                let sums = self.of(root).step(*did)?;
+                self.put(root, sums)
+            }
+            Note::At {
+                object: _,
+                number: _,
+                did,
+            } => match did {
+                Did::Birth { root, region: _ } => {
+                    let sums = self.of(root).more_births()?;
+                    self.put(root, sums)
+                }
+                _ => Ok(()),
+            },
+            Note::Busy(_) => Ok(()),
+        }
+    }
+
+    /// The sums of a log.
+    pub fn of_notes(alloc: Global, notes: &[Note]) -> Result<Tally, AllocError>
+        ensures { (root : RootId) → IfOk result (λ tally.
+            sums_in tally root ≡ sums_from root no_sums notes.now) }
+    {
+        let mut tally = Tally::new(alloc);
+        for note in notes {
+            tally.pass(note)?;
+        }
+        Ok(tally)
+    }
+}
+
+/// The sums of each log.
+pub fn tallies_of(alloc: Global, logs: &[LaneLog]) -> Result<Vec<Tally>, AllocError>
+    ensures { IfOk result (λ tallies. AllZip IsTally tallies.items logs.now) }
+{
+    let mut tallies = Vec::new(alloc);
+    for log in logs {
+        let tally = Tally::of_notes(alloc, log.notes.items())?;
+        tallies.push(tally)?;
+    }
+    Ok(tallies)
+}
+
+/// The sums of a root over all logs.
+pub fn total_of(tallies: &[Tally], root: &RootId) -> Result<Sums, AllocError>
+    ensures { IfOk result (λ sums. sums ≡ total_sums tallies.now root.now) }
+{
+    let mut sums = Sums::none();
+    for tally in tallies {
+        sums = sums.plus(&tally.of(root))?;
+    }
+    Ok(sums)
+}
+
+// The retains of a root in the log at a place, and 0 for this lane's.
+fn other_retains(tally: &Tally, root: &RootId, at: usize, lane: usize) -> u64
+    ensures { result ≡ (if at == lane then 0 else (sums_in tally.now root.now).retains) }
+{
+    if at == lane {
+        0
+    } else {
+        tally.of(root).retains
+    }
+}
+
+/// The retains of a root in the logs other than this lane's.
+pub fn others_of(tallies: &[Tally], root: &RootId, lane: usize) -> Result<u64, AllocError>
+    ensures { IfOk result (λ all. all ≡ others_sum root.now lane 0 tallies.now) }
+{
+    let mut all = 0;
+    for at in 0..tallies.len() {
+        let more = other_retains(&tallies[at], root, at, lane);
+        let next = sum(all, more)?;
+        all = next;
+    }
+    Ok(all)
+}
