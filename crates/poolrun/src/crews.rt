@@ -1,6 +1,6 @@
 //! Traces of many lanes, on one and on several workers.
 use crate::rows::expect_text;
-use crate::tests::play;
+use crate::tests::{judge, play};
 use std::alloc::{AllocError, Global};
 use std::process::Abort;
 use std::sync::Wait;
@@ -128,6 +128,7 @@ fn steps_two_lanes_at_once(rt: HostRuntime) -> Result<(), Fail> {
     let mut source = SafeSource::new(rt.alloc(), trace.as_bytes())?;
     let mut sink = SafeSink::new(rt.alloc(), 1000, 1000)?;
     let outcome = run(&rt, rt.alloc(), &words, &mut source, &mut sink, &gate);
+    judge(&rt, &outcome)?;
     assert_eq!(rt; outcome.status, Status::Whole);
     assert_eq!(rt; gate.missed.load(Ordering::SeqCst), 0);
     let text = "0.0 touch unbound\n1.0 touch unbound\nend roots 0 live 0 leaks 0\n";

@@ -1,5 +1,7 @@
 //! Runs in memory: what they write, and what they answer where words, a text or an end fails.
+use run_check::check_run;
 use std::io::{self, ErrorKind, Read, Write};
+use std::process::Abort;
 use std::sync::Wait;
 use std::test::Fail;
 use std::thread::Threads;
@@ -22,8 +24,8 @@ chunk 0.0 qInit used 8192 free 4186112
 end roots 1 live 0 leaks 0
 ";
 
-/// Runs with the words of a text, which stand between its spaces.
-pub(crate) fn play<R: Threads + Wait + Sync + AllocGlobal, S: Source, K: Sink>(
+/// Runs with the words of a text, which stand between its spaces, and has the run judged.
+pub(crate) fn play<R: Threads + Wait + Sync + AllocGlobal + Abort, S: Source, K: Sink>(
     rt: &R,
     text: &str,
     source: &mut S,
@@ -35,7 +37,18 @@ pub(crate) fn play<R: Threads + Wait + Sync + AllocGlobal, S: Source, K: Sink>(
             words.push(String::from_str(rt.alloc(), word)?)?;
         }
     }
-    Ok(run(rt, rt.alloc(), &words, source, sink, &OpenGate))
+    let outcome = run(rt, rt.alloc(), &words, source, sink, &OpenGate);
+    judge(rt, &outcome)?;
+    Ok(outcome)
+}
+
+/// Sees that the run, if there is one, is judged to be legal.
+pub(crate) fn judge<R: AllocGlobal + Abort>(rt: &R, outcome: &Outcome) -> Result<(), Fail> {
+    if let Some(played) = &outcome.run {
+        let is_legal = check_run(rt.alloc(), played.run())?;
+        assert!(rt; is_legal);
+    }
+    Ok(())
 }
 
 #[test]
