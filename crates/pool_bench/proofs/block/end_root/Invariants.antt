@@ -1,0 +1,9 @@
+use Rattle.std.proofs.Common.{◌-◌}
+use Rattle.lane_core.specs.Endings.{Fits, hand_of, left_of}
+use Rattle.pool_bench.specs.Works.{Goes}
+use Rattle.pool_bench.proofs.block.end_root.Given as goal
+
+abbrev pub invariant-loop : goal.invariant-loop
+invariant-loop g l =
+    Goes l.pool (hand_of l.stage) (5 - (left_of l.stage).notes) 0 l.initial.seat l.seat
+    × Fits l.pool l.seat l.stage

@@ -1,0 +1,26 @@
+use Rattle.std.proofs.Common.{sym, subst, refl, arith}
+use Rattle.pool_law.specs.declared.id.RootId.{RootId}
+use Rattle.pool_law.specs.declared.note.RefDid.TheVariants.{Kept, Ended}
+use Rattle.pool_table.specs.Seats.{view_of}
+use Rattle.lane_core.specs.Budgets.{lane_in}
+use Rattle.lane_core.specs.Hands.{empty_hand}
+use Rattle.pool_bench.specs.Works.{Works, with_token}
+use Rattle.lane_core.proofs.Commands.{ended_carries}
+use Rattle.lane_core.proofs.Turning.{ref_carries}
+use Rattle.pool_bench.proofs.Steps.{goes_release, goes_more, works_after}
+use Rattle.pool_bench.proofs.block.release.Goals as goal
+
+pub end_root-requires-clause-works : goal.end_root-requires-clause-works
+end_root-requires-clause-works g c =
+    let pool = c.args.pool.now in let old = c.args.seat.now in let new = c.release.new.seat in let root = c.args.root in let did = c.in-Ended.ensures.did in
+    subst (λ (r : RootId). Works pool (with_token r) 5 0 new) (sym did.0)
+    (works_after pool empty_hand (with_token root) 6 0 1 0 5 0 old new c.requires.works
+    (goes_release pool old new c.release.ensures.seat 6 0 c.requires.works root Ended (with_token root) refl refl (ended_carries (lane_in (view_of old)) root) c.requires.counts did.2)
+    (omega arith) (omega arith))
+
+pub returns-in-Kept : goal.returns-in-Kept
+returns-in-Kept g c =
+    let pool = c.args.pool.now in let old = c.args.seat.now in let new = c.release.new.seat in let root = c.args.root in
+    goes_more pool empty_hand 1 0 6 0 old new
+    (goes_release pool old new c.release.ensures.seat 6 0 c.requires.works root Kept empty_hand refl refl (ref_carries (lane_in (view_of old)) empty_hand root Kept refl refl refl) c.requires.counts c.in-Kept.ensures.did)
+    (omega arith) (omega arith)

@@ -1,0 +1,24 @@
+-- What the words may ask for, and the pool for it.
+use Rattle.std.specs.Prelude.{◌≡◌, ◌*◌, ◌<◌, ◌≤◌}
+use Rattle.pool_table.specs.declared.views.Layout.{Layout}
+use Rattle.pool_bench.specs.declared.words.Plan.{Plan}
+use Rattle.pool_bench.specs.Works.{block_turns, block_moves}
+
+-- one to sixteen threads and one to eight arenas, with so few blocks that the moves suffice
+pub record IsPlan (p : Plan) : Type 0 where
+  pub some_thread : 0 < p.threads
+  pub threads : p.threads ≤ 16
+  pub some_arena : 0 < p.arenas
+  pub arenas : p.arenas ≤ 8
+  pub blocks : p.blocks ≤ 8000000
+
+-- a lane for each thread, with the turns and moves of its blocks
+pub record IsLayoutOf (p : Plan) (l : Layout) : Type 0 where
+  pub order : l.shape.order ≡ 9
+  pub arenas : l.shape.arenas ≡ p.arenas
+  pub chunks : l.shape.chunks ≡ 1
+  pub handles : l.shape.handles ≡ 64
+  pub lanes : l.shape.lanes ≡ p.threads
+  pub interval : l.shape.interval ≡ 128
+  pub moves : l.moves ≡ block_moves * p.blocks
+  pub turns : l.turns ≡ block_turns * p.blocks

@@ -1,0 +1,139 @@
+//! What a lane does with one buffer: it is allocated, written, read and released. Where another
+//! seat is in the way a step is made again.
+
+ghost use Rattle.std.specs.Prelude.{◌≡◌, ◌+◌, ◌≤◌, length, Some, IfSome};
+ghost use Rattle.size_classes.specs.Sizes.{class_of};
+ghost use Rattle.pool_law.specs.Limits.{geometry_of};
+ghost use Rattle.pool_table.specs.Counts.{HasCount};
+ghost use Rattle.pool_table.specs.Seats.{view_of};
+ghost use Rattle.shared_pool.specs.RootNotes.{HoldsToken};
+ghost use Rattle.lane_core.specs.Hands.{empty_hand};
+ghost use Rattle.pool_bench.specs.Works.{Works, Goes, with_token};
+
+use lane_core::{Allots, Allotting, Ending, Ends, Notes, allot, end};
+use leak_records::Sampler;
+use pool_law::{Level, RootId, Shape};
+use pool_table::EndToken;
+use shared_pool::{PoolSeat, Release, SharedPool, Went};
+use std::sync::Wait;
+
+/// A new buffer of `size` bytes, whose class is `class`. None where the lane has no handle or its
+/// arena no region.
+pub fn allocate<W: Wait>(
+    rt: &W,
+    pool: &SharedPool,
+    shape: &Shape,
+    seat: &mut PoolSeat,
+    size: u32,
+    class: u32,
+) -> Option<RootId>
+    requires works { Works pool.now empty_hand 5 1 seat.old }
+    requires shape { shape.now ≡ pool.now.table.layout.shape }
+    requires class { class_of (geometry_of shape.now) size ≡ Some class }
+    ensures goes { Goes pool.now empty_hand 5 1 seat.old seat.new }
+    ensures counts { IfSome result (λ r. HasCount r (view_of seat.new)) }
+{
+    let mut stage = Allotting::Handle;
+    for _ in rt.forever() {
+        let mut sampler = Sampler::new(0, Level::Disabled, 1);
+        let (allots, notes) = allot(pool, shape, seat, &mut sampler, size, class, stage);
+        forget(notes);
+        match allots {
+            Allots::More(next) => stage = next,
+            Allots::Held(_held, again) => stage = again,
+            Allots::New(root, _region) => return Some(root),
+            Allots::NoHandle => return None,
+            Allots::Full => return None,
+        }
+    }
+    unreachable!()
+}
+
+// Notes that nobody reads.
+fn forget(notes: Notes) {
+    match notes {
+        Notes::None => (),
+        Notes::One(_note) => (),
+        Notes::Two(_first, _second) => (),
+    }
+}
+
+/// The seat counts the buffer once less. Where that was the last count, its region goes into its
+/// cache, or else back to its arena, and its handle comes home.
+pub fn release<W: Wait>(rt: &W, pool: &SharedPool, seat: &mut PoolSeat, root: RootId)
+    requires works { Works pool.now empty_hand 6 0 seat.old }
+    requires counts { HasCount root (view_of seat.old) }
+    ensures { Goes pool.now empty_hand 6 0 seat.old seat.new }
+{
+    match pool.release(seat, root) {
+        Release::Kept => (),
+        Release::Ended(token) => end_root(rt, pool, seat, token),
+    }
+}
+
+// A root whose count has ended ends.
+fn end_root<W: Wait>(rt: &W, pool: &SharedPool, seat: &mut PoolSeat, token: EndToken)
+    requires works { Works pool.now (with_token token.root) 5 0 seat.old }
+    requires token { HoldsToken seat.old token }
+    ensures { Goes pool.now empty_hand 5 0 seat.old seat.new }
+{
+    let mut stage = Ending::Root(token);
+    for _ in rt.forever() {
+        let (ends, notes) = end(pool, seat, stage);
+        forget(notes);
+        match ends {
+            Ends::More(next) => stage = next,
+            Ends::Held(_held, again) => stage = again,
+            Ends::Done => return,
+        }
+    }
+    unreachable!()
+}
+
+/// Bytes are laid over those of a buffer, from an offset on.
+pub fn write<W: Wait>(
+    rt: &W,
+    pool: &SharedPool,
+    seat: &mut PoolSeat,
+    root: RootId,
+    offset: u32,
+    bytes: &[u8],
+)
+    requires works { Works pool.now empty_hand 1 0 seat.old }
+    requires counts { HasCount root (view_of seat.old) }
+    requires range { offset + length bytes.now ≤ root.capacity }
+    ensures goes { Goes pool.now empty_hand 1 0 seat.old seat.new }
+    ensures counts { HasCount root (view_of seat.new) }
+{
+    for _ in rt.forever() {
+        match pool.write(seat, root, offset, bytes, false) {
+            Went::Did(_number, ()) => return,
+            Went::Held(_held, ()) => (),
+        }
+    }
+    unreachable!()
+}
+
+/// Bytes of a buffer are read, from an offset on.
+pub fn read<W: Wait>(
+    rt: &W,
+    pool: &SharedPool,
+    seat: &mut PoolSeat,
+    root: RootId,
+    offset: u32,
+    out: &mut [u8],
+)
+    requires works { Works pool.now empty_hand 1 0 seat.old }
+    requires counts { HasCount root (view_of seat.old) }
+    requires range { offset + length out.old ≤ root.capacity }
+    ensures goes { Goes pool.now empty_hand 1 0 seat.old seat.new }
+    ensures counts { HasCount root (view_of seat.new) }
+{
+    for _ in rt.forever() {
+        match pool.read(seat, root, offset, out, false) {
+            Went::Did(_number, ()) => return,
+            Went::Held(_held, ()) => (),
+        }
+    }
+    unreachable!()
+}
