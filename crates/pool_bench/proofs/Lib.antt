@@ -1,3 +1,4 @@
 pub mod Steps
 pub mod Stages
 pub mod Runs
+pub mod Recounts

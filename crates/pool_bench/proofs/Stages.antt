@@ -1,12 +1,10 @@
 -- The steps of an allocation, and of the end of a root.
-use Rattle.std.proofs.Common.{◌≡◌, ℕ, ◌-◌, ◌≤◌, ap, arith}
-use Rattle.std.specs.Prelude.{if◌then◌else◌, Bool}
+use Rattle.std.proofs.Common.{◌≡◌, ℕ, ◌-◌, ◌≤◌, List, [], arith}
 use Rattle.step_law.specs.declared.Told.{Ghosts}
 use Rattle.pool_law.specs.declared.id.RootId.{RootId}
 use Rattle.pool_law.specs.declared.id.RegionId.{RegionId}
 use Rattle.pool_law.specs.declared.note.Noted.{Noted}
 use Rattle.pool_law.specs.declared.run.Level.{Level}
-use Rattle.pool_law.proofs.PatternLemmas.{same_root-refl}
 use Rattle.leak_records.specs.Records.{Sampling}
 use Rattle.pool_table.specs.declared.table.PoolSeat.{PoolSeat}
 use Rattle.pool_table.specs.Counts.{HasCount}
@@ -24,7 +22,8 @@ use Rattle.lane_core.specs.declared.retirement.Ends.{Ends}
 use Rattle.lane_core.specs.Allotments as allotment
 use Rattle.lane_core.specs.Endings as ending
 use Rattle.lane_core.specs.Counting.{one_for}
-use Rattle.pool_bench.specs.Works.{Goes}
+use Rattle.pool_bench.specs.Works.{Goes, Recounted, times}
+use Rattle.pool_bench.proofs.Recounts.{one_self, recounted_adds, recounted_after}
 use Rattle.pool_bench.proofs.Steps.{goes_step, goes_more, step_counts}
 
 allot_notes : (stage : Allotting) → (allotment.left_of stage).notes ≤ 5
@@ -65,9 +64,6 @@ ends_moves (Ends.More stage) = end_moves stage
 ends_moves (Ends.Held held stage) = end_moves stage
 ends_moves Ends.Done = omega arith
 
-one_self : (root : RootId) → one_for root root ≡ 1
-one_self root = ap (λ (b : Bool). if b then 1 else 0) (same_root-refl root)
-
 module _ {G : Ghosts HomeValue Noted} (pool : SharedPool) (init old new : PoolSeat HomeValue G) (notes : Notes) where
   module _ (first last : Sampling) (size class : ℕ) (stage : Allotting) (goes : Goes pool (allotment.hand_of stage) (5 - (allotment.left_of stage).notes) (1 - (allotment.left_of stage).moves) init old) where
     pub allotted : (next : Allots) → allotment.HasAllotted pool old new first last size class stage (next, notes) → Goes pool (allotment.hand_after next) (5 - (allotment.left_after next).notes) (1 - (allotment.left_after next).moves) init new
@@ -77,6 +73,17 @@ module _ {G : Ghosts HomeValue Noted} (pool : SharedPool) (init old new : PoolSe
     pub born_counts : (root : RootId) (region : RegionId) → allotment.HasAllotted pool old new first last size class stage (Born root region, notes) → HasCount root (view_of new)
     born_counts root region did =
         step_counts pool old new goes.seat did.wrote.seat goes.paid did.wrote.added (one_for root) (allotment.left_of stage) (allotment.left_after (Born root region)) did.wrote.more did.spends did.counts root (let a = one_self root in omega (arith, a))
+
+    pub allot_recounted : (next : Allots) → allotment.HasAllotted pool old new first last size class stage (next, notes) → (got : List RootId) → ((root : RootId) → times root got ≤ allotment.born_in next root) → Recounted [] [] (view_of init) (view_of old) → Recounted got [] (view_of init) (view_of new)
+    allot_recounted next did got le before =
+        recounted_after (view_of init) (view_of old) (view_of new) got [] before
+        (recounted_adds (view_of old) (view_of new) did.wrote.added (allotment.left_of stage) (allotment.left_after next) did.wrote.more goes.seat.alone did.wrote.seat.alone did.spends (allotment.born_in next) did.counts got le)
+
+  pub end_recounted : (stage : Ending) → Goes pool (ending.hand_of stage) (5 - (ending.left_of stage).notes) 0 init old → (next : Ends) → ending.HasEnded pool old new stage (next, notes) → Recounted [] [] (view_of init) (view_of old) → Recounted [] [] (view_of init) (view_of new)
+  end_recounted stage goes next did before =
+      let sampler : Sampling = record { lane = 0; level = Level.Disabled; interval = 1; births = 0 } in let wrote = did.wrote sampler in
+      recounted_after (view_of init) (view_of old) (view_of new) [] [] before
+      (recounted_adds (view_of old) (view_of new) wrote.added (ending.left_of stage) (ending.left_after next) wrote.more goes.seat.alone wrote.seat.alone did.spends (λ root. 0) (did.counts sampler) [] (λ root. omega arith))
 
   pub ended : (stage : Ending) → Goes pool (ending.hand_of stage) (5 - (ending.left_of stage).notes) 0 init old → (next : Ends) → ending.HasEnded pool old new stage (next, notes) → Goes pool (ending.hand_after next) (5 - (ending.left_after next).notes) 0 init new
   ended stage goes next did =

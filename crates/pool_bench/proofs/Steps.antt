@@ -29,7 +29,7 @@ use Rattle.lane_core.proofs.DeskLaws.{grows_ref}
 use Rattle.lane_core.proofs.EntryCounts.{own_gain}
 use Rattle.lane_core.proofs.Grown.{Grows, grows_noted, weigh_more}
 use Rattle.lane_core.proofs.HandLaws.{Carries, held_on}
-use Rattle.pool_bench.specs.Works.{Works, Goes, IsPaid}
+use Rattle.pool_bench.specs.Works.{Works, Goes, IsPaid, Recounted}
 
 -- what these entries gain and lose of a root
 abbrev pub gain_in : RootId → List Entry → ℕ
@@ -154,11 +154,16 @@ module _ {G : Ghosts Home Noted} (pool : SharedPool) (old new : PoolSeat Home G)
         let v = view_of old in let w = view_of new in let e = access_entry root number v.own.number did in
         let a = gained_more v w (e ∷ []) 0 grown r in let b = lost_more v w (e ∷ []) 0 grown r in let c = none r in omega (arith, a, b, c, has)
 
+    pub access_recounted : ((r : RootId) → gain_in r (access_entry root number (view_of old).own.number did ∷ []) ≡ loss_in r (access_entry root number (view_of old).own.number did ∷ [])) → Recounted [] [] (view_of old) (view_of new)
+    access_recounted none r =
+        let v = view_of old in let w = view_of new in let e = access_entry root number v.own.number did in
+        let a = gained_more v w (e ∷ []) 0 grown r in let b = lost_more v w (e ∷ []) 0 grown r in let c = none r in omega (arith, a, b, c)
+
 -- ---- A release.
 
 -- one count less of a root that is counted is paid
 loss_paid : (v w : SeatView) (r : RootId) (did : RefDid) → ref_gain did ≡ 0 → ref_loss did ≡ 1 → Grows v w (Ref r did ∷ []) 0 → HasCount r v → IsPaid v → IsPaid w
-loss_paid v w r did gain loss grows has paid root = go (same_root r root) refl
+loss_paid v w r did gain loss grows has paid root = let a = go (same_root r root) refl in omega (arith, a)
   where
     go : (b : Bool) → same_root r root ≡ b → lost_of root w ≤ gained_of root w
     go true same =

@@ -1,5 +1,5 @@
 -- What a seat needs for its work, and what the work costs it.
-use Rattle.std.specs.Prelude.{◌≡◌, ℕ, ◌+◌, ◌*◌, ◌<◌, ◌≤◌, List, length, slice_index_or, Some}
+use Rattle.std.specs.Prelude.{◌≡◌, ℕ, ◌+◌, ◌*◌, ◌<◌, ◌≤◌, List, [], length, slice_index_or, sum_by, Some}
 use Rattle.step_law.specs.declared.Told.{Ghosts}
 use Rattle.pool_law.specs.declared.id.RootId.{RootId}
 use Rattle.pool_law.specs.declared.note.Noted.{Noted}
@@ -10,6 +10,7 @@ use Rattle.pool_table.specs.Seats.{view_of}
 use Rattle.shared_pool.specs.declared.home.Home.{Home}
 use Rattle.shared_pool.specs.declared.pool.SharedPool.{SharedPool}
 use Rattle.shared_pool.specs.Seats.{IsPoolSeat}
+use Rattle.lane_core.specs.Counting.{one_for}
 use Rattle.lane_core.specs.Hands.{Hand, empty_hand, IsHeld}
 
 -- what a block costs at most
@@ -23,9 +24,24 @@ block_moves = 1
 abbrev pub with_token : RootId → Hand
 with_token root = record empty_hand { token = Some root }
 
+-- how often a root is in a list
+abbrev pub times : RootId → List RootId → ℕ
+times root roots = sum_by (λ r. one_for r root) roots
+
+-- the view counts each root at least as often as it is in the list
+abbrev pub Holds : List RootId → SeatView → Type 0
+Holds roots v = (root : RootId) → times root roots + lost_of root v ≤ gained_of root v
+
 -- the view lost no more counts of a root than it gained
 abbrev pub IsPaid : SeatView → Type 0
-IsPaid v = (root : RootId) → lost_of root v ≤ gained_of root v
+IsPaid v = Holds [] v
+
+-- the view counts these roots once more than it did, and those once less
+abbrev pub Recounted : List RootId → List RootId → SeatView → SeatView → Type 0
+Recounted got gone v w =
+    (root : RootId) →
+    times root got + gained_of root v + lost_of root w
+    ≤ times root gone + gained_of root w + lost_of root v
 
 module _ {G : Ghosts Home Noted} where
   -- a seat of the pool with just this in hand, and so many turns and moves left

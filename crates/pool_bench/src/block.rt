@@ -1,14 +1,14 @@
 //! What a lane does with one buffer: it is allocated, written, read and released. Where another
 //! seat is in the way a step is made again.
 
-ghost use Rattle.std.specs.Prelude.{◌≡◌, ◌+◌, ◌≤◌, length, Some, IfSome};
+ghost use Rattle.std.specs.Prelude.{◌≡◌, ◌+◌, ◌≤◌, [], ◌∷◌, length, Some, IfSome, option_to_list};
 ghost use Rattle.size_classes.specs.Sizes.{class_of};
 ghost use Rattle.pool_law.specs.Limits.{geometry_of};
 ghost use Rattle.pool_table.specs.Counts.{HasCount};
 ghost use Rattle.pool_table.specs.Seats.{view_of};
 ghost use Rattle.shared_pool.specs.RootNotes.{HoldsToken};
 ghost use Rattle.lane_core.specs.Hands.{empty_hand};
-ghost use Rattle.pool_bench.specs.Works.{Works, Goes, with_token};
+ghost use Rattle.pool_bench.specs.Works.{Works, Goes, Recounted, with_token};
 
 use lane_core::{Allots, Allotting, Ending, Ends, Notes, allot, end};
 use leak_records::Sampler;
@@ -32,6 +32,7 @@ pub fn allocate<W: Wait>(
     requires class { class_of (geometry_of shape.now) size ≡ Some class }
     ensures goes { Goes pool.now empty_hand 5 1 seat.old seat.new }
     ensures counts { IfSome result (λ r. HasCount r (view_of seat.new)) }
+    ensures recounted { Recounted (option_to_list result) [] (view_of seat.old) (view_of seat.new) }
 {
     let mut stage = Allotting::Handle;
     for _ in rt.forever() {
@@ -63,7 +64,8 @@ fn forget(notes: Notes) {
 pub fn release<W: Wait>(rt: &W, pool: &SharedPool, seat: &mut PoolSeat, root: RootId)
     requires works { Works pool.now empty_hand 6 0 seat.old }
     requires counts { HasCount root (view_of seat.old) }
-    ensures { Goes pool.now empty_hand 6 0 seat.old seat.new }
+    ensures goes { Goes pool.now empty_hand 6 0 seat.old seat.new }
+    ensures recounted { Recounted [] (root ∷ []) (view_of seat.old) (view_of seat.new) }
 {
     match pool.release(seat, root) {
         Release::Kept => (),
@@ -71,11 +73,22 @@ pub fn release<W: Wait>(rt: &W, pool: &SharedPool, seat: &mut PoolSeat, root: Ro
     }
 }
 
+/// The seat counts the buffer once more.
+pub fn retain(pool: &SharedPool, seat: &mut PoolSeat, root: RootId)
+    requires works { Works pool.now empty_hand 1 1 seat.old }
+    requires counts { HasCount root (view_of seat.old) }
+    ensures goes { Goes pool.now empty_hand 1 1 seat.old seat.new }
+    ensures recounted { Recounted (root ∷ []) [] (view_of seat.old) (view_of seat.new) }
+{
+    pool.retain(seat, root);
+}
+
 // A root whose count has ended ends.
 fn end_root<W: Wait>(rt: &W, pool: &SharedPool, seat: &mut PoolSeat, token: EndToken)
     requires works { Works pool.now (with_token token.root) 5 0 seat.old }
     requires token { HoldsToken seat.old token }
-    ensures { Goes pool.now empty_hand 5 0 seat.old seat.new }
+    ensures goes { Goes pool.now empty_hand 5 0 seat.old seat.new }
+    ensures recounted { Recounted [] [] (view_of seat.old) (view_of seat.new) }
 {
     let mut stage = Ending::Root(token);
     for _ in rt.forever() {
@@ -104,6 +117,7 @@ pub fn write<W: Wait>(
     requires range { offset + length bytes.now ≤ root.capacity }
     ensures goes { Goes pool.now empty_hand 1 0 seat.old seat.new }
     ensures counts { HasCount root (view_of seat.new) }
+    ensures recounted { Recounted [] [] (view_of seat.old) (view_of seat.new) }
 {
     for _ in rt.forever() {
         match pool.write(seat, root, offset, bytes, false) {
@@ -128,6 +142,7 @@ pub fn read<W: Wait>(
     requires range { offset + length out.old ≤ root.capacity }
     ensures goes { Goes pool.now empty_hand 1 0 seat.old seat.new }
     ensures counts { HasCount root (view_of seat.new) }
+    ensures recounted { Recounted [] [] (view_of seat.old) (view_of seat.new) }
 {
     for _ in rt.forever() {
         match pool.read(seat, root, offset, out, false) {

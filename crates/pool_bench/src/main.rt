@@ -23,8 +23,10 @@ use std::thread::Threads;
 use std::time::Instant;
 use std::{env, thread};
 
+mod batches;
 mod block;
 mod draws;
+mod retained;
 #[cfg(test)]
 mod tests;
 mod words;
@@ -32,7 +34,7 @@ mod work;
 
 use draws::Draws;
 use words::{Plan, layout_of, plan_of};
-use work::run_blocks;
+use work::run;
 
 fn main(rt: HostRuntime) -> anyhow::Result<()> {
     let words: Vec<String> = env::args(&rt)?.skip(1).collect(rt.alloc())?;
@@ -40,14 +42,16 @@ fn main(rt: HostRuntime) -> anyhow::Result<()> {
         return Ok(());
     }
     let Some(plan) = plan_of(&words) else {
-        println!(rt; "words: w1 or w5hit, or one @ a size; threads; blocks; 1; repeats; start")?;
+        println!(rt;
+            "words: w1, w4, w5hit or w5batch, @ a size; threads; blocks; 1; repeats; start"
+        )?;
         return Ok(());
     };
     for _ in 0..plan.repeats {
         let Measured { took, sum, refused } = measure(&rt, &plan)?;
         println!(rt;
             "{} {} {} 1 {} 0 {} {}",
-            words[0], plan.threads, plan.blocks, took, sum, refused
+            words[0], plan.threads, plan.asked, took, sum, refused
         )?;
     }
     Ok(())
@@ -96,7 +100,7 @@ fn close(alloc: Global, pool: SharedPool, seats: Vec<PoolSeat>) -> Result<(), Al
 
 // All lanes at work at once. The answer is the sum of what they read, and how many blocks were
 // refused.
-fn work_all<R: Threads + Wait + Sync>(
+fn work_all<R: Threads + Wait + Sync + AllocGlobal>(
     rt: &R,
     pool: &SharedPool,
     shape: &Shape,
@@ -124,7 +128,7 @@ fn work_all<R: Threads + Wait + Sync>(
         {
             let mut draws = Draws::new(plan.start);
             draws.skip((lane as u64).wrapping_mul(2 * plan.blocks as u64));
-            let tally = run_blocks(
+            let tally = run(
                 rt,
                 pool,
                 shape,

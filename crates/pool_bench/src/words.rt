@@ -13,6 +13,9 @@ pub struct Plan {
     pub work: Workload,
     pub threads: u32,
     pub arenas: u32,
+    pub handles: u32,
+    pub asked: u32,
+    /// For how many buffers a lane has turns and moves.
     pub blocks: u32,
     pub repeats: u32,
     pub start: u32,
@@ -27,20 +30,24 @@ pub fn plan_of(words: &Vec<String>) -> Option<Plan>
     }
     let work = workload_of(&words[0])?;
     let threads: u32 = words[1].parse().ok()?;
-    let blocks: u32 = words[2].parse().ok()?;
+    let asked: u32 = words[2].parse().ok()?;
+    let blocks = buffers_of(work, asked)?;
+    let zero: u32 = words[3].parse().ok()?;
     let repeats: u32 = words[4].parse().ok()?;
     let start: u32 = if words.len() == 6 {
         words[5].parse().ok()?
     } else {
         0
     };
-    if threads == 0 || threads > 16 || blocks > 8_000_000 {
+    if threads == 0 || threads > 16 || blocks > 8_000_000 || zero != 1 {
         return None;
     }
     Some(Plan {
         work,
         threads,
         arenas: 8,
+        handles: handles_for(work),
+        asked,
         blocks,
         repeats,
         start,
@@ -55,10 +62,32 @@ fn workload_of(word: &str) -> Option<Workload> {
     };
     match name {
         "w1" => Some(Workload::Mixed(size)),
+        "w4" => Some(Workload::Retained(size)),
         "w5hit" => Some(Workload::Plain(size)),
+        "w5batch" => Some(Workload::Batches(size)),
         "checked" => Some(Workload::Checked),
         "left" => Some(Workload::Left),
         _ => None,
+    }
+}
+
+// How many buffers so many blocks allocate, or how many retain them.
+fn buffers_of(work: Workload, blocks: u32) -> Option<u32> {
+    match work {
+        Workload::Retained(_) => blocks.checked_add(1),
+        Workload::Batches(_) => blocks.checked_mul(512),
+        _ => Some(blocks),
+    }
+}
+
+// For how many buffers a lane has handles.
+fn handles_for(work: Workload) -> u32
+    ensures some { 0 < result }
+    ensures most { result ≤ 512 }
+{
+    match work {
+        Workload::Batches(_) => 512,
+        _ => 64,
     }
 }
 
@@ -72,7 +101,7 @@ pub fn layout_of(plan: &Plan) -> Layout
             order: 9,
             arenas: plan.arenas,
             chunks: 1,
-            handles: 64,
+            handles: plan.handles,
             lanes: plan.threads,
             level: Level::Disabled,
             interval: 128,

@@ -7,11 +7,14 @@ ghost use Rattle.pool_table.specs.Seats.{view_of};
 ghost use Rattle.lane_core.specs.Hands.{empty_hand};
 ghost use Rattle.pool_bench.specs.Works.{Works, Goes, MayRun, HasRun, block_turns, block_moves};
 
+use crate::batches::run_batches;
 use crate::block::{allocate, read, release, write};
 use crate::draws::Draws;
+use crate::retained::run_retained;
 use pool_law::{RootId, Shape};
 use shared_pool::{PoolSeat, SharedPool};
 use size_classes::SizeClasses;
+use std::alloc::AllocGlobal;
 use std::sync::Wait;
 
 /// What a block is.
@@ -28,6 +31,11 @@ pub enum Workload {
     Checked,
     /// Mixed blocks, of which one in 32 doesn't release its buffer.
     Left,
+    /// A retain and a release of one buffer, of 256 bytes, or of so many.
+    Retained(Option<u32>),
+    /// 512 new buffers, then their releases, of each class up to 2,048 bytes, one after the other,
+    /// or of so many bytes.
+    Batches(Option<u32>),
 }
 
 /// What a lane's blocks came to: the sum of the bytes that it read, and how many were refused.
@@ -37,8 +45,43 @@ pub struct Tally {
     pub refused: u64,
 }
 
-/// So many blocks, one after another.
-pub fn run_blocks<W: Wait>(
+impl Tally {
+    /// What blocks come to of which none could be made.
+    pub fn none_of(blocks: u32) -> Tally {
+        Tally {
+            sum: 0,
+            refused: blocks as u64,
+        }
+    }
+}
+
+/// All blocks of a workload.
+pub fn run<W: Wait + AllocGlobal>(
+    rt: &W,
+    pool: &SharedPool,
+    shape: &Shape,
+    sizes: &SizeClasses,
+    work: Workload,
+    blocks: u32,
+    draws: &mut Draws,
+    seat: &mut PoolSeat,
+) -> Tally
+    requires shape { shape.now ≡ pool.now.table.layout.shape }
+    requires sizes { sizes.now ≡ geometry_of shape.now }
+    requires may { MayRun pool.now blocks seat.old }
+    ensures { HasRun pool.now seat.old seat.new }
+{
+    match work {
+        Workload::Retained(size) => {
+            run_retained(rt, pool, shape, sizes, size.unwrap_or(256), blocks, seat)
+        }
+        Workload::Batches(size) => run_batches(rt, pool, shape, sizes, size, blocks, seat),
+        _ => run_blocks(rt, pool, shape, sizes, work, blocks, draws, seat),
+    }
+}
+
+// So many blocks, one after another.
+fn run_blocks<W: Wait>(
     rt: &W,
     pool: &SharedPool,
     shape: &Shape,
@@ -78,13 +121,13 @@ fn asked(work: Workload, sizes: &SizeClasses, done: u32, draws: &mut Draws) -> (
         }
         Workload::Left => (16 + draws.next() % 1009, (draws.next() % 256) as u8),
         Workload::Plain(Some(size)) => (size, 0),
-        Workload::Plain(None) => (size_in_turn(sizes, done), 0),
+        Workload::Plain(None) => (class_size(sizes, done % 39), 0),
+        Workload::Retained(_) | Workload::Batches(_) => (16, 0),
     }
 }
 
-// The size of a class below the last that has a cache, in turn.
-fn size_in_turn(sizes: &SizeClasses, done: u32) -> u32 {
-    let class = done % 39;
+/// The size of a class, where there is one.
+pub fn class_size(sizes: &SizeClasses, class: u32) -> u32 {
     if class < sizes.count() {
         sizes.size_of(class)
     } else {
@@ -136,11 +179,12 @@ fn access<W: Wait>(
         Workload::Mixed(_) => write_and_read(rt, pool, seat, root, byte),
         Workload::Left => write_and_read(rt, pool, seat, root, byte),
         Workload::Checked => count_wrong(rt, pool, seat, root, byte),
-        Workload::Plain(_) => 0,
+        Workload::Plain(_) | Workload::Retained(_) | Workload::Batches(_) => 0,
     }
 }
 
-// Four bytes are written, and four are read from the third on. The answer is their sum.
+// Four bytes are written, and four are read through the slice of eight from the third on. The
+// answer is their sum.
 fn write_and_read<W: Wait>(
     rt: &W,
     pool: &SharedPool,
@@ -153,7 +197,7 @@ fn write_and_read<W: Wait>(
     ensures goes { Goes pool.now empty_hand 2 0 seat.old seat.new }
     ensures counts { HasCount root (view_of seat.new) }
 {
-    if root.capacity < 6 {
+    if root.capacity < 10 {
         return 0;
     }
     write(rt, pool, seat, root, 0, &[byte, byte, byte, byte]);

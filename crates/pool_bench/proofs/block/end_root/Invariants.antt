@@ -1,9 +1,11 @@
-use Rattle.std.proofs.Common.{◌-◌}
+use Rattle.std.proofs.Common.{◌-◌, []}
+use Rattle.pool_table.specs.Seats.{view_of}
 use Rattle.lane_core.specs.Endings.{Fits, hand_of, left_of}
-use Rattle.pool_bench.specs.Works.{Goes}
+use Rattle.pool_bench.specs.Works.{Goes, Recounted}
 use Rattle.pool_bench.proofs.block.end_root.Given as goal
 
 abbrev pub invariant-loop : goal.invariant-loop
 invariant-loop g l =
     Goes l.pool (hand_of l.stage) (5 - (left_of l.stage).notes) 0 l.initial.seat l.seat
     × Fits l.pool l.seat l.stage
+    × Recounted [] [] (view_of l.initial.seat) (view_of l.seat)

@@ -1,0 +1,10 @@
+use Rattle.std.proofs.Common.{◌*◌, ◌≤◌}
+use Rattle.pool_table.specs.Counts.{HasCount}
+use Rattle.pool_table.specs.Seats.{view_of}
+use Rattle.lane_core.specs.Hands.{empty_hand}
+use Rattle.pool_bench.specs.Works.{Goes}
+use Rattle.pool_bench.proofs.retained.retain_often.Given as goal
+
+abbrev pub invariant-loop-done : goal.invariant-loop-done
+invariant-loop-done g l =
+    (l.done ≤ l.blocks) × Goes l.pool empty_hand (7 * l.done) l.done l.initial.seat l.seat × HasCount l.root (view_of l.seat)
