@@ -3,6 +3,7 @@ mod BytesLemmas
 mod SplitLemmas
 mod ChunkLemmas
 mod SizeLemmas
+mod TakingLemmas
 mod ArenaLemmas
 mod ElementLemmas
 mod ReadingLemmas

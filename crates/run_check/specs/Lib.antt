@@ -24,3 +24,4 @@ pub mod Needing
 pub mod Tallying
 pub mod Entering
 pub mod Checking
+pub mod Numbering

@@ -14,7 +14,8 @@ use crate::chunk::Chunk;
 use crate::front::Front;
 use crate::lists::Lists;
 use crate::sizes::Sizes;
-use pool_law::{ChunkEnd, Did, RegionId};
+use crate::takings::Takings;
+use pool_law::{ChunkEnd, Did};
 use std::alloc::{AllocError, Global};
 use std::marker::Model;
 
@@ -24,8 +25,7 @@ pub struct Arena {
     chunks: Vec<Option<Chunk>>,
     lists: Lists,
     fronts: Vec<Front>,
-    takings: u64,
-    out: Vec<RegionId>,
+    takings: Takings,
 }
 
 impl Model for Arena {
@@ -38,8 +38,8 @@ impl Model for Arena {
       chunks = a.chunks.items;
       lists = a.lists;
       fronts = a.fronts.items;
-      takings = a.takings;
-      out = a.out.items;
+      takings = a.takings.0;
+      out = a.takings.1;
     } };
 
     ghost invariant = { λ a. length a.chunks.items ≤ 2 ^ 16 };
@@ -55,8 +55,7 @@ impl Arena {
             chunks: no_chunks(alloc, chunks)?,
             lists: Lists::new(alloc),
             fronts: no_fronts(alloc, sizes.count())?,
-            takings: 0,
-            out: Vec::new(alloc),
+            takings: Takings::new(alloc),
         })
     }
 

@@ -43,6 +43,7 @@ mod sizes;
 mod split;
 mod spots;
 mod stands;
+mod takings;
 mod tally;
 mod telling;
 #[cfg(test)]

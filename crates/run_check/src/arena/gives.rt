@@ -13,7 +13,6 @@ use crate::arena::Arena;
 use crate::arena::takes::is_full_at;
 use crate::chunk::Chunk;
 use crate::lists::down_to;
-use crate::same::same_taking;
 use crate::sizes::{Sizes, is_small, size_of};
 use pool_law::{ListName, RegionId};
 use std::alloc::{AllocError, Global};
@@ -47,7 +46,7 @@ impl Arena {
     fn is_out(&self, region: &RegionId) -> bool
         ensures { result ≡ is_out_of self.now region.now }
     {
-        self.out.iter().any(|other| same_taking(region, other))
+        self.takings.has(region)
     }
 
     // The taking is out no more.
@@ -56,7 +55,7 @@ impl Arena {
           out = filter (λ other. not (same_taking region.now other)) self.old.out;
         } }
     {
-        drop_taking(&mut self.out, region);
+        self.takings.remove(region);
     }
 
     // A place of a class is given back.
@@ -224,11 +223,4 @@ fn is_idle_at(chunk: &Chunk, page: u32, class: u32) -> bool
         Some(elements) => elements.is_idle(),
         None => false,
     }
-}
-
-// The takings without one.
-fn drop_taking(out: &mut Vec<RegionId>, region: &RegionId)
-    ensures { out.new.items ≡ filter (λ other. not (same_taking region.now other)) out.old.items }
-{
-    out.retain(|other| !same_taking(region, other));
 }

@@ -39,11 +39,10 @@ impl Arena {
         let Some((place, offset)) = self.take_class(alloc, sizes, class)? else {
             return Ok(None);
         };
-        if !is_region(region, number, class, self.takings, place, offset) {
+        if !is_region(region, number, class, self.takings.count(), place, offset) {
             return Ok(None);
         }
-        self.takings = region.taking;
-        self.out.push(*region)?;
+        self.takings.push(region)?;
         Ok(Some(self))
     }
 
