@@ -12,7 +12,9 @@ use Rattle.step_law.proofs.Changes.{each_at, sum_at, sum_two, sum_only, at_mappe
 use Rattle.pool_law.specs.declared.note.Noted.{Noted}
 use Rattle.pool_law.specs.Homes.{home_of, objects_of}
 use Rattle.table_law.specs.Measures.{measures_of}
+use Rattle.table_law.proofs.Apart.{home_within}
 use Rattle.pool_table.specs.Words.{listed_of, word_at, word_of, count_word_of}
+use Rattle.pool_table.specs.Slots.{slot_at, slot_of, IsEmptyBetween}
 use Rattle.pool_table.proofs.Words.{object_listed, count_listed}
 use Rattle.pool_table.specs.declared.views.Entry.{Entry}
 use Rattle.pool_table.specs.declared.views.Inside.{Inside}
@@ -109,9 +111,13 @@ module _ {H : Type 0} (stands : List ℕ → Setting → List Noted → H → Ty
       lays : (w : RegionId → ℕ) → sum_by (laid w) (v ∷ []) ≡ sum_by (laid w) s.views
       lays w = three (to_arena w) (to_cache w) (to_place w)
 
-  -- the words are handed out in the order of the list
-  pub closes : (id : ℕ) (v : SeatView) (words out : List ℕ) (homes : List (Option H)) → length out ≡ listed_of l.shape → ((k : ℕ) → k < listed_of l.shape → slice_index out k ≡ slice_index words (word_at l.shape k)) → v.inside ≡ None → HasAllLanes l v → length homes ≡ objects_of l.shape → Final (Seen (IsSound stands l) id v) words homes → IsClosed stands l v homes out
-  closes id v words out homes many laid outside all wide (s, seen, same, long, there) =
+  -- nothing lies between the slots
+  pub nothing_between : (id : ℕ) (v : SeatView) (words : List ℕ) (slots : List (Option H)) → Final (Seen (IsSound stands l) id v) words slots → IsEmptyBetween l.shape slots
+  nothing_between id v words slots (s, seen, same, long, there) i k lt low high = there k None (seen.0.between i k lt low high)
+
+  -- the words and the home values are handed out in the order of the list
+  pub closes : (id : ℕ) (v : SeatView) (words out : List ℕ) (slots homes : List (Option H)) → length out ≡ listed_of l.shape → ((k : ℕ) → k < listed_of l.shape → slice_index out k ≡ slice_index words (word_at l.shape k)) → v.inside ≡ None → HasAllLanes l v → length homes ≡ objects_of l.shape → ((k : ℕ) → k < objects_of l.shape → get_elem? homes k ≡ get_elem? slots (slot_at l.shape k)) → Final (Seen (IsSound stands l) id v) words slots → IsClosed stands l v homes out
+  closes id v words out slots homes many laid outside all wide housed (s, seen, same, long, there) =
       let r = seen.0 in let at = seen.1 in
       let fine = each_at (IsView l.shape r.setting) s.views id v r.views at in record {
         word_count = many;
@@ -148,6 +154,6 @@ module _ {H : Type 0} (stands : List ℕ → Setting → List Noted → H → Ty
               told = subst (λ (z : ℕ). All (IsTold o h z) (face l.shape i v).parts) lim told;
               once = λ j lt. tot (is_numbered (j + 1)) ∙ k.once j lt;
               as_many = tot is_at ∙ k.as_many;
-              home_is = (hv.0, there i (Some hv.0) hv.1, under v.setting r.setting (λ g. stands (measures_of l.shape o) g h hv.0) fine.setting_is hv.2);
+              home_is = (hv.0, housed i (home_within l.shape o fits) ∙ there (slot_of l.shape o) (Some hv.0) hv.1, under v.setting r.setting (λ g. stands (measures_of l.shape o) g h hv.0) fine.setting_is hv.2);
             };
       }

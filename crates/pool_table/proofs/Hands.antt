@@ -18,7 +18,8 @@ use Rattle.pool_law.specs.declared.note.Object.TheVariants.{Bin}
 use Rattle.pool_law.specs.declared.id.RootId.{RootId}
 use Rattle.pool_law.specs.declared.note.RefDid.{RefDid}
 use Rattle.pool_law.specs.declared.note.RefDid.TheVariants.{Born, Retain, Kept, Ended, Vacated, Look}
-use Rattle.pool_law.specs.Homes.{home_of, objects_of, IsObjectOf}
+use Rattle.pool_law.specs.Homes.{home_of, IsObjectOf}
+use Rattle.pool_table.specs.Slots.{slots_of}
 use Rattle.pool_table.specs.Words.{count_word_of}
 use Rattle.table_law.specs.NoteCounts.{place_lane, did_handle, did_home}
 use Rattle.table_law.proofs.Bins.{stock}
@@ -174,7 +175,7 @@ module _ {H : Type 0} (stands : List ℕ → Setting → List Noted → H → Ty
       let k = counted_of stands l s r id v at q in omega (arith, a, b, c, d, z, y, k)
 
   pub births_allowed : (id : ℕ) (me : Me (Option H) SeatView) (root : RootId) → root.place < l.shape.lanes * l.shape.handles → InHand root.place me.0 → (q : RootId) × (q.place ≡ root.place) × (q.capacity ≡ root.capacity) × Waits q me.0 → ((s : St) (r : IsSound stands l s) (lt : root.place < l.shape.lanes * l.shape.handles) (g : ℕ) → get_elem? s.views id ≡ some me.0 → weigh (on_root ref_born root.place g) me.0 < weigh (at_birth_of root.place g) me.0 → g ≡ (r.counts root.place lt).generation + 1) → 0 < me.0.moves → me.0.inside ≡ None
-      → Allows (IsSound stands l) (objects_of l.shape) id me (count_word_of l.shape root.place) (λ n. (n + 4294967297) % 2 ^ 64) (births root (step (objects_of l.shape) (count_word_of l.shape root.place) 4294967297 0 none) me)
+      → Allows (IsSound stands l) (slots_of l.shape) id me (count_word_of l.shape root.place) (λ n. (n + 4294967297) % 2 ^ 64) (births root (step (slots_of l.shape) (count_word_of l.shape root.place) 4294967297 0 none) me)
   births_allowed id me root lt has waits next moves out s r _ at under =
       let p : ℕ = root.place in let v : SeatView = me.0 in
       let bearing = waits_place waits in let less = waits_generation waits in let noted = waits_capacity waits in

@@ -6,6 +6,7 @@ pub mod Makers
 pub mod Newest
 pub mod Numbers
 pub mod Words
+pub mod Slots
 pub mod Counts
 pub mod AtPlace
 pub mod Ledgers

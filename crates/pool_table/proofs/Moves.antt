@@ -21,12 +21,14 @@ use Rattle.pool_law.specs.declared.note.Held.{Held}
 use Rattle.pool_law.specs.declared.note.Noted.{Noted}
 use Rattle.pool_law.specs.declared.note.Object.{Object}
 use Rattle.pool_law.specs.declared.note.Object.TheVariants.{Root}
-use Rattle.pool_law.specs.Homes.{home_of, objects_of, IsObjectOf}
+use Rattle.pool_law.specs.Homes.{home_of, IsObjectOf}
+use Rattle.pool_table.specs.Slots.{slots_of, slot_of}
+use Rattle.pool_table.proofs.Slots.{slot_within}
 use Rattle.table_law.specs.Measures.{measures_of}
 use Rattle.pool_table.specs.Words.{word_of}
 use Rattle.table_law.specs.Histories.{IsHistory}
 use Rattle.pool_law.specs.Naming.{noted_by}
-use Rattle.table_law.proofs.Apart.{home_within, one_home}
+use Rattle.table_law.proofs.Apart.{one_home}
 use Rattle.pool_table.specs.declared.views.Entry.{Entry}
 use Rattle.pool_table.specs.declared.views.Entry.TheVariants.{At, Ref, Busy}
 use Rattle.pool_table.specs.declared.views.Layout.{Layout}
@@ -199,10 +201,10 @@ module _ {H : Type 0} (stands : List ℕ → Setting → List Noted → H → Ty
 
   -- nobody was in the section, and the seat gets in
   gets_in : 0 < l.shape.handles → (id : ℕ) (me : Me (Option H) SeatView) (o : Object) (fits : IsObjectOf l.shape o) → IsFree me → 0 < me.0.turns → ((p : ℕ) → o ≡ Root p → MayEnter p me.0) → (s : State (Option H) SeatView) (r : IsSound stands l s) → get_elem? s.views id ≡ some me.0
-      → inside_total (map (face l.shape (home_of l.shape o)) s.views) ≡ 0 → Owes s id me (word_of l.shape o) (λ n. bit_or n 1) (λ found after. (found % 2 ≡ 0) × GotIn stands l o (home_of l.shape o) me found after)
+      → inside_total (map (face l.shape (home_of l.shape o)) s.views) ≡ 0 → Owes s id me (word_of l.shape o) (λ n. bit_or n 1) (λ found after. (found % 2 ≡ 0) × GotIn stands l o (slot_of l.shape o) me found after)
   unfolding object_or
   gets_in some_handle id me o fits out turn may s r at nobody =
-      let i : ℕ = home_of l.shape o in let k = r.objects o fits in let h : List Noted = k.history in let n : ℕ = length h in let v : SeatView = me.0 in
+      let i : ℕ = home_of l.shape o in let d : ℕ = slot_of l.shape o in let k = r.objects o fits in let h : List Noted = k.history in let n : ℕ = length h in let v : SeatView = me.0 in
       let word : ℕ = slice_index s.words (word_of l.shape o) in let t : ℕ = inside_total (map (face l.shape i) s.views) in
       let wi : word ≡ 2 * n + t = k.word_is in let z : t ≡ 0 = nobody in let w0 : word ≡ 2 * n + 0 = omega (arith, wi, z) in
       let x : Inside = record { object = o; number = n; history = h } in
@@ -213,14 +215,14 @@ module _ {H : Type 0} (stands : List ℕ → Setting → List Noted → H → Ty
       let wf : face l.shape i w ≡ record { parts = map (strand l.shape i) (parts_of v); inside = Some x } = inside_face i w x refl refl in
       let there = at_map (face l.shape i) s.views id v at in
       let told = told_own s r id v o fits at in let last : n + (t - is_in (face l.shape i v)) ≤ n = omega (arith, z) in
-      let kept = claimed_kept stands l.shape r.setting o (map (face l.shape i) s.views) word (get_elem? s.homes i) (get_elem? (set s.homes i none) i) id (face l.shape i v) x k there nobody refl refl in
-      let kept' : IsKept stands l.shape r.setting o (set (map (face l.shape i) s.views) id (face l.shape i w)) (bit_or word 1) (get_elem? (set s.homes i none) i) =
-      subst (λ (y : Face × ℕ). IsKept stands l.shape r.setting o (set (map (face l.shape i) s.views) id y.0) y.1 (get_elem? (set s.homes i none) i)) (λ q. (sym wf q, sym (or_even word n w0) q)) kept in (
+      let kept = claimed_kept stands l.shape r.setting o (map (face l.shape i) s.views) word (get_elem? s.homes d) (get_elem? (set s.homes d none) d) id (face l.shape i v) x k there nobody refl refl in
+      let kept' : IsKept stands l.shape r.setting o (set (map (face l.shape i) s.views) id (face l.shape i w)) (bit_or word 1) (get_elem? (set s.homes d none) d) =
+      subst (λ (y : Face × ℕ). IsKept stands l.shape r.setting o (set (map (face l.shape i) s.views) id y.0) y.1 (get_elem? (set s.homes d none) d)) (λ q. (sym wf q, sym (or_even word n w0) q)) kept in (
         w,
-        takes i (Some hv.0),
+        takes d (Some hv.0),
         hv.1,
-        changes stands l s r id v w o (bit_or word 1) (set s.homes i none) fits at (λ j ne. away_face j w x refl (λ e. ne (sym e)) ∙ sym (outside_face j v out.0)) (λ m. refl) (same_parts v w refl refl)
-            (record { counted = counted_parts v w refl fine.counted; settled = settled_same v w (same_parts v w refl refl) fine.settled; handy = handy_parts v w refl fine.handy; roots = orderly_parts v w refl fine.roots; enters = (λ y p e q. may p (ap (λ (z : Option Inside). object_or o z) e ∙ q)); setting_is = fine.setting_is; unnumbered = λ all. absurd (not_idle r.setting v fine turn all); inside = fits; notes = fine.notes; beside = fine.beside }) (le_refl (spent v)) (looks_same s.views id v w at refl r.looks) (order_same s.views id v w at refl r.order) (born_same s.views id v w at refl r.born) (length-set s.homes i none) (λ j ne. set_else s.homes i j none ne) kept',
+        changes stands l s r id v w o (bit_or word 1) (set s.homes d none) fits at (λ j ne. away_face j w x refl (λ e. ne (sym e)) ∙ sym (outside_face j v out.0)) (λ m. refl) (same_parts v w refl refl)
+            (record { counted = counted_parts v w refl fine.counted; settled = settled_same v w (same_parts v w refl refl) fine.settled; handy = handy_parts v w refl fine.handy; roots = orderly_parts v w refl fine.roots; enters = (λ y p e q. may p (ap (λ (z : Option Inside). object_or o z) e ∙ q)); setting_is = fine.setting_is; unnumbered = λ all. absurd (not_idle r.setting v fine turn all); inside = fits; notes = fine.notes; beside = fine.beside }) (le_refl (spent v)) (looks_same s.views id v w at refl r.looks) (order_same s.views id v w at refl r.order) (born_same s.views id v w at refl r.born) (length-set s.homes d none) (λ j ne. set_else s.homes d j none ne) kept',
         (
           (let e : word % 2 ≡ 0 = omega (arith, w0) in e),
           (
@@ -243,7 +245,7 @@ module _ {H : Type 0} (stands : List ℕ → Setting → List Noted → H → Ty
   parity word n t e le = ((λ z. omega (arith, e, z)), (λ z. omega (arith, e, z)))
 
   pub claims_allowed : 0 < l.shape.handles → (id : ℕ) (me : Me (Option H) SeatView) (o : Object) → IsObjectOf l.shape o → IsFree me → 0 < me.0.turns → ((p : ℕ) → o ≡ Root p → MayEnter p me.0)
-      → Allows (IsSound stands l) (objects_of l.shape) id me (word_of l.shape o) (λ n. bit_or n 1) (claims stands l o (step (objects_of l.shape) (word_of l.shape o) 1 0 none) me)
+      → Allows (IsSound stands l) (slots_of l.shape) id me (word_of l.shape o) (λ n. bit_or n 1) (claims stands l o (step (slots_of l.shape) (word_of l.shape o) 1 0 none) me)
   claims_allowed some_handle id me o fits out turn may s r _ at _ =
       let i : ℕ = home_of l.shape o in let k = r.objects o fits in let n : ℕ = length k.history in
       let word : ℕ = slice_index s.words (word_of l.shape o) in let t : ℕ = inside_total (map (face l.shape i) s.views) in
@@ -263,7 +265,7 @@ module _ {H : Type 0} (stands : List ℕ → Setting → List Noted → H → Ty
       → inside_total (map (face l.shape (home_of l.shape o)) s.views) ≡ 1 → (word' : ℕ) → word' ≡ slice_index s.words (word_of l.shape o)
       → IsSound stands l (record { words = set s.words (word_of l.shape o) word'; homes = s.homes; views = set s.views id (with_entry me.0 (Busy (record { object = o; number = slice_index s.words (word_of l.shape o) / 2 })) me.0.turns) })
   marks id me o fits out turn marked s r at one word' same =
-      let i : ℕ = home_of l.shape o in let k = r.objects o fits in let h : List Noted = k.history in let n : ℕ = length h in let v : SeatView = me.0 in
+      let i : ℕ = home_of l.shape o in let d : ℕ = slot_of l.shape o in let k = r.objects o fits in let h : List Noted = k.history in let n : ℕ = length h in let v : SeatView = me.0 in
       let word : ℕ = slice_index s.words (word_of l.shape o) in let t : ℕ = inside_total (map (face l.shape i) s.views) in
       let wi : word ≡ 2 * n + t = k.word_is in
       let b : Held = record { object = o; number = word / 2 } in let e : Entry = Busy b in let w : SeatView = with_entry v e v.turns in
@@ -273,16 +275,16 @@ module _ {H : Type 0} (stands : List ℕ → Setting → List Noted → H → Ty
       let vf : face l.shape i v ≡ record { parts = map (strand l.shape i) (parts_of v); inside = None } = outside_face i v out.0 in
       let wf = entry_here v e v.turns i (eq-eqb i i refl) in
       let there : get_elem? (map (face l.shape i) s.views) id ≡ some (record { parts = map (strand l.shape i) (parts_of v); inside = None }) = at_map (face l.shape i) s.views id v at ∙ ap some vf in
-      let kept = marked_kept stands l.shape r.setting o (map (face l.shape i) s.views) word (get_elem? s.homes i) id (strand l.shape i v.own) (map (strand l.shape i) v.others) b k there one bn marked in
+      let kept = marked_kept stands l.shape r.setting o (map (face l.shape i) s.views) word (get_elem? s.homes d) id (strand l.shape i v.own) (map (strand l.shape i) v.others) b k there one bn marked in
       changes stands l s r id v w o word' s.homes fits at
       (λ j ne. entry_elsewhere v e v.turns j (ne_eqb i j (λ q. ne (sym q))) ∙ sym (outside_face j v out.0)) (λ m. same_numbered v e v.turns m) light
       (entry_view r.setting v e v.turns light (counted_entry v e v.turns (λ f p g. refl) (λ p g. omega arith) (λ p g lt. absurd (omega (arith, lt))) fine.counted) (handy_entry v e v.turns (λ f p. refl) (λ p. omega arith) (λ p lt. absurd (omega (arith, lt))) fine.handy) (orderly_entry v e v.turns (λ f p g c. refl) (λ f p g. refl) (λ f p. refl) (λ p. inl refl) (λ p g. inl refl) (λ q. inl (record { none = refl; unused = refl; light = λ _. refl })) fine.roots) fine turn (fits, marked)) (let a = spent_entry v e v.turns in let x : ℕ = spent w in let y : ℕ = spent v in let tv : ℕ = v.turns in let a' : x + tv ≡ y + 0 + tv = a in let g : x ≤ y = omega (arith, a') in g)
       (looks_entry s.views id v w e at refl (λ r k is. absurd (cc is)) r.looks) (order_entry s.views id v w e at refl (newest e (unmarked_below b) s.views) r.order) (born_entry s.views id v w e at refl (λ q is. absurd (cc is)) r.born)
       refl (λ j ne. refl)
-      (subst (λ (y : Face × ℕ). IsKept stands l.shape r.setting o (set (map (face l.shape i) s.views) id y.0) y.1 (get_elem? s.homes i)) (λ q. (sym wf q, sym same q)) kept)
+      (subst (λ (y : Face × ℕ). IsKept stands l.shape r.setting o (set (map (face l.shape i) s.views) id y.0) y.1 (get_elem? s.homes d)) (λ q. (sym wf q, sym same q)) kept)
 
   pub marks_allowed : 0 < l.shape.handles → (id : ℕ) (me : Me (Option H) SeatView) (o : Object) → IsObjectOf l.shape o → IsFree me → 0 < me.0.turns → ((p : ℕ) → o ≡ Root p → MayEnter p me.0) → IsMarked o
-      → Allows (IsSound stands l) (objects_of l.shape) id me (word_of l.shape o) (λ n. bit_or n 1) (marks_claims stands l o (step (objects_of l.shape) (word_of l.shape o) 1 0 none) me)
+      → Allows (IsSound stands l) (slots_of l.shape) id me (word_of l.shape o) (λ n. bit_or n 1) (marks_claims stands l o (step (slots_of l.shape) (word_of l.shape o) 1 0 none) me)
   marks_allowed some_handle id me o fits out turn may marked s r _ at _ =
       let i : ℕ = home_of l.shape o in let k = r.objects o fits in let n : ℕ = length k.history in
       let word : ℕ = slice_index s.words (word_of l.shape o) in let t : ℕ = inside_total (map (face l.shape i) s.views) in
@@ -390,10 +392,10 @@ module _ {H : Type 0} (stands : List ℕ → Setting → List Noted → H → Ty
   -- the note of a section
   notes_it : (id : ℕ) (v : SeatView) (o : Object) (fits : IsObjectOf l.shape o) (h : List Noted) (home : H) (nd : Noted) → v.inside ≡ Some (record { object = o; number = length h; history = h }) → 0 < v.turns
       → nd.lane ≡ v.own.number → Stands l.shape v.own.number (At o (length h + 1) nd) → PutsDown v nd.did → IsHistory l.shape o (h ++ nd ∷ []) → StandsFor stands (measures_of l.shape o) v (h ++ nd ∷ []) home
-      → (s : State (Option H) SeatView) (r : IsSound stands l s) → length s.homes ≡ objects_of l.shape → get_elem? s.views id ≡ some v
-      → ((slice_index s.words (word_of l.shape o) ≡ 2 * length h + 1) × IsSound stands l (record { words = set s.words (word_of l.shape o) ((slice_index s.words (word_of l.shape o) + 1) % 2 ^ 64); homes = set s.homes (home_of l.shape o) (some (Some home)); views = set s.views id (with_entry v (At o (length h + 1) nd) (v.turns - 1)) }))
+      → (s : State (Option H) SeatView) (r : IsSound stands l s) → length s.homes ≡ slots_of l.shape → get_elem? s.views id ≡ some v
+      → ((slice_index s.words (word_of l.shape o) ≡ 2 * length h + 1) × IsSound stands l (record { words = set s.words (word_of l.shape o) ((slice_index s.words (word_of l.shape o) + 1) % 2 ^ 64); homes = set s.homes (slot_of l.shape o) (some (Some home)); views = set s.views id (with_entry v (At o (length h + 1) nd) (v.turns - 1)) }))
   notes_it id v o fits h home nd e turn lane may hands accepted stands_for s r wide at =
-      let i : ℕ = home_of l.shape o in let k = r.objects o fits in let x : Inside = record { object = o; number = length h; history = h } in
+      let i : ℕ = home_of l.shape o in let d : ℕ = slot_of l.shape o in let k = r.objects o fits in let x : Inside = record { object = o; number = length h; history = h } in
       let known = in_section s r id v o fits x at e refl in let hk : h ≡ k.history = known.0 in let nk : length h ≡ length k.history = known.1 in
       let word : ℕ = slice_index s.words (word_of l.shape o) in let faces : List Face = map (face l.shape i) s.views in let t : ℕ = inside_total faces in
       let vf = inside_face i v x e refl in
@@ -411,15 +413,15 @@ module _ {H : Type 0} (stands : List ℕ → Setting → List Noted → H → Ty
       let fine : IsView l.shape r.setting v = each_at (IsView l.shape r.setting) s.views id v r.views at in
       let wf = entry_here v ent (v.turns - 1) i (eq-eqb i i refl) in
       let gs : stands (measures_of l.shape o) r.setting (h ++ nd ∷ []) home = subst (λ (g : Setting). stands (measures_of l.shape o) g (h ++ nd ∷ []) home) (same_setting v.setting stands_for.setting stands_for.known fine.setting_is) stands_for.stands_for in
-      let kept = done_kept stands l.shape r.setting o faces word (get_elem? s.homes i) id (strand l.shape i v.own) (map (strand l.shape i) v.others) x o nd home k there lane
+      let kept = done_kept stands l.shape r.setting o faces word (get_elem? s.homes d) id (strand l.shape i v.own) (map (strand l.shape i) v.others) x o nd home k there lane
       (λ q own. alone_in stands l s r id i q v at (sym lane ∙ own))
       (subst (λ (g : List Noted). IsHistory l.shape o (g ++ nd ∷ [])) hk accepted) (subst (λ (g : List Noted). stands (measures_of l.shape o) r.setting (g ++ nd ∷ []) home) hk gs) in
-      let inside : i < length s.homes = (let a = home_within l.shape o fits in let q : ℕ = objects_of l.shape in let a' : i < q = a in let z : ℕ = length s.homes in let w' : z ≡ q = wide in let g : i < z = omega (arith, a', w') in g) in
-      let kept' : IsKept stands l.shape r.setting o (set faces id (face l.shape i w)) ((word + 1) % 2 ^ 64) (get_elem? (set s.homes i (some (Some home))) i) =
+      let inside : d < length s.homes = subst (λ (z : ℕ). d < z) (sym wide) (slot_within l.shape o fits) in
+      let kept' : IsKept stands l.shape r.setting o (set faces id (face l.shape i w)) ((word + 1) % 2 ^ 64) (get_elem? (set s.homes d (some (Some home))) d) =
       subst (λ (y : Face × ℕ × maybe.Option (maybe.Option (Option H))). IsKept stands l.shape r.setting o (set faces id y.0) y.1 y.2)
-      (λ q. ((ap (λ (z : ℕ). record { parts = record { number = v.own.number; notes = (strand l.shape i v.own).notes ++ At o (z + 1) nd ∷ [] } ∷ map (strand l.shape i) v.others; inside = None }) (sym nk) ∙ sym wf) q, sym up q, sym (set_here s.homes i (some (Some home)) inside) q)) kept in (
+      (λ q. ((ap (λ (z : ℕ). record { parts = record { number = v.own.number; notes = (strand l.shape i v.own).notes ++ At o (z + 1) nd ∷ [] } ∷ map (strand l.shape i) v.others; inside = None }) (sym nk) ∙ sym wf) q, sym up q, sym (set_here s.homes d (some (Some home)) inside) q)) kept in (
         w1,
-        changes stands l s r id v w o ((word + 1) % 2 ^ 64) (set s.homes i (some (Some home))) fits at
+        changes stands l s r id v w o ((word + 1) % 2 ^ 64) (set s.homes d (some (Some home))) fits at
             (λ j ne. entry_elsewhere v ent (v.turns - 1) j (ne_eqb i j (λ q. ne (sym q))) ∙ sym (away_face j v x e (λ q. ne (sym q)))) (λ q. same_numbered v ent (v.turns - 1) q) light
             (entry_view r.setting v ent (v.turns - 1) light (counted_entry v ent (v.turns - 1) (λ f p g. refl) (λ p g. one_parcel p g nd.did) puts.posted fine.counted) (handy_entry v ent (v.turns - 1) (λ f p. refl) (λ p. at_most_one p nd.did) (λ p lt. (puts.home p lt).0) fine.handy)
             (orderly_entry v ent (v.turns - 1) (λ f p g c. refl) (λ f p g. refl) (λ f p. refl) (λ p. births_noted s r id v o fits nd at may.in_place.rooted puts (subst (λ (g : List Noted). IsHistory l.shape o (g ++ nd ∷ [])) hk accepted) p) (λ p g. ends_noted s r id v o fits nd at may.in_place.rooted puts (subst (λ (g : List Noted). IsHistory l.shape o (g ++ nd ∷ [])) hk accepted) p g) (λ q. note_handles q v o (length h + 1) nd hands) fine.roots) fine turn may)
@@ -427,18 +429,18 @@ module _ {H : Type 0} (stands : List ℕ → Setting → List Noted → H → Ty
             (looks_entry s.views id v w ent at refl (λ r k is. absurd (cc is)) r.looks)
             (order_entry s.views id v w ent at refl (subst (λ (z : ℕ). IsNewest (At o (z + 1) nd) s.views) (sym nk) (newest_note stands l s r o fits nd)) r.order)
             (born_entry s.views id v w ent at refl (note_born stands l s r id v at o fits (length h + 1) nd may.in_place.mailed hands follows) r.born)
-            (length-set s.homes i (some (Some home))) (λ j ne. set_else s.homes i j (some (Some home)) ne) kept',
+            (length-set s.homes d (some (Some home))) (λ j ne. set_else s.homes d j (some (Some home)) ne) kept',
       )
     where
       same_setting : (y : Option Setting) (g : Setting) → y ≡ Some g → {gs : Setting} → IfSome y (λ (g : Setting). g ≡ gs) → g ≡ gs
       same_setting y g e {gs} f = subst (λ (y : Option Setting). IfSome y (λ (g : Setting). g ≡ gs)) e f
 
-  pub dones_allowed : (id : ℕ) (me : Me (Option H) SeatView) (o : Object) (slot : ℕ) (h : List Noted) (home : H) (note : Noted) → IsObjectOf l.shape o → slot ≡ home_of l.shape o
+  pub dones_allowed : (id : ℕ) (me : Me (Option H) SeatView) (o : Object) (slot : ℕ) (h : List Noted) (home : H) (note : Noted) → IsObjectOf l.shape o → slot ≡ slot_of l.shape o
       → me.0.inside ≡ Some (record { object = o; number = length h; history = h }) → me.1 ≡ (slot, Some home) ∷ [] → 0 < me.0.turns
       → MayNote l.shape me.0.own.number o note.did → PutsDown me.0 note.did → IsHistory l.shape o (h ++ noted_by me.0.own.number note ∷ []) → StandsFor stands (measures_of l.shape o) me.0 (h ++ noted_by me.0.own.number note ∷ []) home
-      → Allows (IsSound stands l) (objects_of l.shape) id me (word_of l.shape o) (λ n. (n + 1) % 2 ^ 64) (dones note (step (objects_of l.shape) (word_of l.shape o) 1 0 none) me)
+      → Allows (IsSound stands l) (slots_of l.shape) id me (word_of l.shape o) (λ n. (n + 1) % 2 ^ 64) (dones note (step (slots_of l.shape) (word_of l.shape o) 1 0 none) me)
   dones_allowed id me o slot h home note fits is e has turn may hands accepted stands_for =
-      subst (λ (y : List (ℕ × Option H)). Allows (IsSound stands l) (objects_of l.shape) id (me.0, y) (word_of l.shape o) (λ n. (n + 1) % 2 ^ 64) (dones note (step (objects_of l.shape) (word_of l.shape o) 1 0 none) (me.0, y)))
+      subst (λ (y : List (ℕ × Option H)). Allows (IsSound stands l) (slots_of l.shape) id (me.0, y) (word_of l.shape o) (λ n. (n + 1) % 2 ^ 64) (dones note (step (slots_of l.shape) (word_of l.shape o) 1 0 none) (me.0, y)))
       (ap (λ (z : ℕ). (z, Some home) ∷ []) (sym is) ∙ sym has)
       (λ s r wide at _. let got = notes_it id me.0 o fits h home (noted_by me.0.own.number note) e turn refl (record { object = fits; lane_may = may; in_place = in_place l.shape o h (noted_by me.0.own.number note) accepted }) hands accepted stands_for s r wide at in (
         with_entry me.0 (At o (length h + 1) (noted_by me.0.own.number note)) (me.0.turns - 1),
@@ -451,10 +453,10 @@ module _ {H : Type 0} (stands : List ℕ → Setting → List Noted → H → Ty
 
   -- a mail's section ends with no note
   idles_it : (id : ℕ) (v : SeatView) (o : Object) (fits : IsObjectOf l.shape o) (h : List Noted) (home : H) → v.inside ≡ Some (record { object = o; number = length h; history = h }) → (IsMarked o → ⊥) → StandsFor stands (measures_of l.shape o) v h home
-      → (s : State (Option H) SeatView) (r : IsSound stands l s) → length s.homes ≡ objects_of l.shape → get_elem? s.views id ≡ some v
-      → ((slice_index s.words (word_of l.shape o) ≡ 2 * length h + 1) × IsSound stands l (record { words = set s.words (word_of l.shape o) ((slice_index s.words (word_of l.shape o) + (2 ^ 64 - 1)) % 2 ^ 64); homes = set s.homes (home_of l.shape o) (some (Some home)); views = set s.views id (left v) }))
+      → (s : State (Option H) SeatView) (r : IsSound stands l s) → length s.homes ≡ slots_of l.shape → get_elem? s.views id ≡ some v
+      → ((slice_index s.words (word_of l.shape o) ≡ 2 * length h + 1) × IsSound stands l (record { words = set s.words (word_of l.shape o) ((slice_index s.words (word_of l.shape o) + (2 ^ 64 - 1)) % 2 ^ 64); homes = set s.homes (slot_of l.shape o) (some (Some home)); views = set s.views id (left v) }))
   idles_it id v o fits h home e unmarked stands_for s r wide at =
-      let i : ℕ = home_of l.shape o in let k = r.objects o fits in let x : Inside = record { object = o; number = length h; history = h } in
+      let i : ℕ = home_of l.shape o in let d : ℕ = slot_of l.shape o in let k = r.objects o fits in let x : Inside = record { object = o; number = length h; history = h } in
       let known = in_section s r id v o fits x at e refl in let hk : h ≡ k.history = known.0 in let nk : length h ≡ length k.history = known.1 in
       let word : ℕ = slice_index s.words (word_of l.shape o) in let faces : List Face = map (face l.shape i) s.views in let t : ℕ = inside_total faces in
       let vf = inside_face i v x e refl in
@@ -469,14 +471,14 @@ module _ {H : Type 0} (stands : List ℕ → Setting → List Noted → H → Ty
       let fine : IsView l.shape r.setting v = each_at (IsView l.shape r.setting) s.views id v r.views at in
       let wf : face l.shape i w ≡ record { parts = map (strand l.shape i) (parts_of v); inside = None } = refl in
       let gs : stands (measures_of l.shape o) r.setting h home = subst (λ (g : Setting). stands (measures_of l.shape o) g h home) (same_setting v.setting stands_for.setting stands_for.known fine.setting_is) stands_for.stands_for in
-      let kept = idled_kept stands l.shape r.setting o faces word (2 * n) (get_elem? s.homes i) id (map (strand l.shape i) (parts_of v)) x home k w1 there unmarked (subst (λ (g : List Noted). stands (measures_of l.shape o) r.setting g home) hk gs) in
-      let inside : i < length s.homes = (let a = home_within l.shape o fits in let q : ℕ = objects_of l.shape in let a' : i < q = a in let z : ℕ = length s.homes in let w' : z ≡ q = wide in let g : i < z = omega (arith, a', w') in g) in (
+      let kept = idled_kept stands l.shape r.setting o faces word (2 * n) (get_elem? s.homes d) id (map (strand l.shape i) (parts_of v)) x home k w1 there unmarked (subst (λ (g : List Noted). stands (measures_of l.shape o) r.setting g home) hk gs) in
+      let inside : d < length s.homes = subst (λ (z : ℕ). d < z) (sym wide) (slot_within l.shape o fits) in (
         w1,
-        changes stands l s r id v w o ((word + (2 ^ 64 - 1)) % 2 ^ 64) (set s.homes i (some (Some home))) fits at
+        changes stands l s r id v w o ((word + (2 ^ 64 - 1)) % 2 ^ 64) (set s.homes d (some (Some home))) fits at
             (λ j ne. sym (away_face j v x e (λ q. ne (sym q)))) (λ q. refl) (same_parts v w refl refl)
             (record { counted = counted_parts v w refl fine.counted; settled = settled_same v w (same_parts v w refl refl) fine.settled; handy = handy_parts v w refl fine.handy; roots = orderly_parts v w refl fine.roots; enters = enters_none w refl; setting_is = fine.setting_is; unnumbered = λ all. absurd (cc_none v.inside x e (fine.unnumbered all).inside); inside = tt; notes = fine.notes; beside = fine.beside })
-            (le_refl (spent v)) (looks_same s.views id v w at refl r.looks) (order_same s.views id v w at refl r.order) (born_same s.views id v w at refl r.born) (length-set s.homes i (some (Some home))) (λ j ne. set_else s.homes i j (some (Some home)) ne)
-            (subst (λ (y : ℕ × maybe.Option (maybe.Option (Option H))). IsKept stands l.shape r.setting o (set faces id (face l.shape i w)) y.0 y.1) (λ q. (sym down q, sym (set_here s.homes i (some (Some home)) inside) q)) kept),
+            (le_refl (spent v)) (looks_same s.views id v w at refl r.looks) (order_same s.views id v w at refl r.order) (born_same s.views id v w at refl r.born) (length-set s.homes d (some (Some home))) (λ j ne. set_else s.homes d j (some (Some home)) ne)
+            (subst (λ (y : ℕ × maybe.Option (maybe.Option (Option H))). IsKept stands l.shape r.setting o (set faces id (face l.shape i w)) y.0 y.1) (λ q. (sym down q, sym (set_here s.homes d (some (Some home)) inside) q)) kept),
       )
     where
       same_setting : (y : Option Setting) (g : Setting) → y ≡ Some g → {gs : Setting} → IfSome y (λ (g : Setting). g ≡ gs) → g ≡ gs
@@ -485,11 +487,11 @@ module _ {H : Type 0} (stands : List ℕ → Setting → List Noted → H → Ty
       cc_none : (y : Option Inside) (x : Inside) → y ≡ Some x → y ≡ None → ⊥
       cc_none y x e f = let g : Some x ≡ None = sym e ∙ f in absurd (cc)
 
-  pub idles_allowed : (id : ℕ) (me : Me (Option H) SeatView) (o : Object) (slot : ℕ) (h : List Noted) (home : H) → IsObjectOf l.shape o → slot ≡ home_of l.shape o
+  pub idles_allowed : (id : ℕ) (me : Me (Option H) SeatView) (o : Object) (slot : ℕ) (h : List Noted) (home : H) → IsObjectOf l.shape o → slot ≡ slot_of l.shape o
       → me.0.inside ≡ Some (record { object = o; number = length h; history = h }) → me.1 ≡ (slot, Some home) ∷ [] → (IsMarked o → ⊥) → StandsFor stands (measures_of l.shape o) me.0 h home
-      → Allows (IsSound stands l) (objects_of l.shape) id me (word_of l.shape o) (λ n. (n + (2 ^ 64 - 1)) % 2 ^ 64) (idles (step (objects_of l.shape) (word_of l.shape o) 1 0 none) me)
+      → Allows (IsSound stands l) (slots_of l.shape) id me (word_of l.shape o) (λ n. (n + (2 ^ 64 - 1)) % 2 ^ 64) (idles (step (slots_of l.shape) (word_of l.shape o) 1 0 none) me)
   idles_allowed id me o slot h home fits is e has unmarked stands_for =
-      subst (λ (y : List (ℕ × Option H)). Allows (IsSound stands l) (objects_of l.shape) id (me.0, y) (word_of l.shape o) (λ n. (n + (2 ^ 64 - 1)) % 2 ^ 64) (idles (step (objects_of l.shape) (word_of l.shape o) 1 0 none) (me.0, y)))
+      subst (λ (y : List (ℕ × Option H)). Allows (IsSound stands l) (slots_of l.shape) id (me.0, y) (word_of l.shape o) (λ n. (n + (2 ^ 64 - 1)) % 2 ^ 64) (idles (step (slots_of l.shape) (word_of l.shape o) 1 0 none) (me.0, y)))
       (ap (λ (z : ℕ). (z, Some home) ∷ []) (sym is) ∙ sym has)
       (λ s r wide at _. let got = idles_it id me.0 o fits h home e unmarked stands_for s r wide at in (
         left me.0,

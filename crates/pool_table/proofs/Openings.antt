@@ -18,6 +18,7 @@ use Rattle.pool_law.specs.declared.note.Object.{Object}
 use Rattle.pool_law.specs.Homes.{home_of, objects_of, IsObjectOf}
 use Rattle.table_law.specs.Measures.{measures_of}
 use Rattle.pool_table.specs.Words.{word_of, IsOpening}
+use Rattle.pool_table.specs.Slots.{slots_of, slot_of, IsEmptyBetween}
 use Rattle.table_law.proofs.Bins.{no_history}
 use Rattle.table_law.proofs.Apart.{home_within}
 use Rattle.pool_table.specs.declared.views.Entry.{Entry}
@@ -83,8 +84,8 @@ module _ {H : Type 0} (stands : List ℕ → Setting → List Noted → H → Ty
   one : (f : SeatView → ℕ) (v : SeatView) → sum_by f (v ∷ []) ≡ f v
   one f v = let c = sum_by-cons f v [] in let z : sum_by f [] ≡ 0 = refl in omega (arith, c, z)
 
-  opens_at : (gs : Setting) (homes : List (Option H)) (o : Object) (x : H) → get_elem? homes (home_of l.shape o) ≡ some (Some x) → stands (measures_of l.shape o) gs [] x
-      → IsKept stands l.shape gs o (map (face l.shape (home_of l.shape o)) (first_view l gs ∷ [])) 0 (get_elem? (map some homes) (home_of l.shape o))
+  opens_at : (gs : Setting) (homes : List (Option H)) (o : Object) (x : H) → get_elem? homes (slot_of l.shape o) ≡ some (Some x) → stands (measures_of l.shape o) gs [] x
+      → IsKept stands l.shape gs o (map (face l.shape (home_of l.shape o)) (first_view l gs ∷ [])) 0 (get_elem? (map some homes) (slot_of l.shape o))
   opens_at gs homes o x at told_by =
       let i : ℕ = home_of l.shape o in let f : Face = face l.shape i (first_view l gs) in
       let strands = empty_strands i (parts_of (first_view l gs)) (all_parts gs) in
@@ -99,7 +100,7 @@ module _ {H : Type 0} (stands : List ℕ → Setting → List Noted → H → Ty
         once = λ k lt. absurd (omega (arith, lt));
         as_many = none_of is_at;
         weights = λ w. (let c = sum_by-cons (noted_in w) f [] in let z = sums_none (noted_weight w) (map (strand l.shape i) (parts_of (first_view l gs))) strands in let y : sum_by (noted_in w) [] ≡ 0 = refl in omega (arith, c, z, y));
-        home_is = λ _. (x, at_map some homes i (Some x) at, told_by);
+        home_is = λ _. (x, at_map some homes (slot_of l.shape o) (Some x) at, told_by);
       }
 
   numbered_parts : (i n : ℕ) → 0 < n → All (λ (p : Part). p.number ≡ None) (lane_parts i n) → ⊥
@@ -111,19 +112,21 @@ module _ {H : Type 0} (stands : List ℕ → Setting → List Noted → H → Ty
 
   -- the table as it is made
   pub opens : (gs : Setting) (words : List ℕ) (homes : List (Option H)) → IsShape l.shape → l.shape.lanes * l.turns < 4611686018427387904 → l.shape.lanes * l.moves < 1073741824 → IsOpening l.shape words
-      → length homes ≡ objects_of l.shape → ((o : Object) → IsObjectOf l.shape o → (x : H) × (get_elem? homes (home_of l.shape o) ≡ some (Some x)) × stands (measures_of l.shape o) gs [] x) → IsSound stands l (opening words homes (first_view l gs))
-  opens gs words homes shape room few is wide all =
+      → length homes ≡ slots_of l.shape → IsEmptyBetween l.shape homes
+      → ((o : Object) → IsObjectOf l.shape o → (x : H) × (get_elem? homes (slot_of l.shape o) ≡ some (Some x)) × stands (measures_of l.shape o) gs [] x) → IsSound stands l (opening words homes (first_view l gs))
+  opens gs words homes shape room few is wide between all =
       let q : ℕ = objects_of l.shape in record {
         setting = gs;
         words = is.many;
         homes = length-map homes some ∙ wide;
+        between = λ i k lt low high. at_map some homes k None (between i k lt low high);
         views = All-cons (IsView l.shape gs) (first_view l gs) [] (record { beside = beside_none (first_view l gs) (all_parts gs); counted = counted_none (first_view l gs) (all_parts gs); settled = settled_none (first_view l gs) (all_parts gs); enters = enters_none (first_view l gs) refl; handy = handy_none (first_view l gs) (all_parts gs); roots = orderly_none (first_view l gs) (all_parts gs); setting_is = refl; unnumbered = λ none_of. absurd (numbered_parts 0 l.shape.lanes shape.some_lane (All-tail (λ (p : Part). p.number ≡ None) (empty_part None) (lane_parts 0 l.shape.lanes) none_of)); inside = tt; notes = empty_notes (parts_of (first_view l gs)) (all_parts gs) }) (All-nil (IsView l.shape gs));
         lanes = λ m. subst (OnceBelow l.shape.lanes m) (sym (one (numbered m) (first_view l gs) ∙ (let c = sum_by-cons (λ (p : Part). cond {A = ℕ} (is_lane m p.number) 1 0) (empty_part None) (lane_parts 0 l.shape.lanes) in let y : cond {A = ℕ} (is_lane m None) 1 0 ≡ 0 = refl in omega (arith, c, y)))) (let zl : 0 + l.shape.lanes ≡ l.shape.lanes = omega arith in subst (λ (n : ℕ). OnceBelow n m (count_by (λ (p : Part). is_lane m p.number) (lane_parts 0 l.shape.lanes))) zl (lane_once m 0 l.shape.lanes (omega arith)));
         objects = λ o fits.
             let i : ℕ = home_of l.shape o in let near : i < q = home_within l.shape o fits in
             let here = all o fits in
             let word : slice_index words (word_of l.shape o) ≡ 0 = is.objects i near in
-            subst (λ (n : ℕ). IsKept stands l.shape gs o (map (face l.shape i) (first_view l gs ∷ [])) n (get_elem? (map some homes) i)) (sym word) (opens_at gs homes o here.0 here.1 here.2);
+            subst (λ (n : ℕ). IsKept stands l.shape gs o (map (face l.shape i) (first_view l gs ∷ [])) n (get_elem? (map some homes) (slot_of l.shape o))) (sym word) (opens_at gs homes o here.0 here.1 here.2);
         born = born_opens (first_view l gs) (all_parts gs);
         looks = looks_open (first_view l gs) (all_parts gs);
         order = order_opens (first_view l gs) (all_parts gs);

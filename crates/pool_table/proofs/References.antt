@@ -14,7 +14,8 @@ use Rattle.pool_law.specs.declared.note.Noted.{Noted}
 use Rattle.pool_law.specs.declared.id.RootId.{RootId}
 use Rattle.pool_law.specs.declared.note.RefDid.{RefDid}
 use Rattle.pool_law.specs.declared.note.RefDid.TheVariants.{Born, Retain, Kept, Ended, Vacated, Look}
-use Rattle.pool_law.specs.Homes.{home_of, objects_of}
+use Rattle.pool_law.specs.Homes.{home_of}
+use Rattle.pool_table.specs.Slots.{slots_of, slot_of}
 use Rattle.pool_table.specs.Words.{word_of, count_word_of}
 use Rattle.pool_table.proofs.Words.{count_word, count_once, object_no_count}
 use Rattle.pool_table.specs.declared.views.Entry.{Entry}
@@ -102,6 +103,7 @@ module _ {H : Type 0} (stands : List ℕ → Setting → List Noted → H → Ty
         setting = r.setting;
         words = length-set s.words d' n ∙ r.words;
         homes = r.homes;
+        between = r.between;
         views = All-set (IsView l.shape r.setting) s.views id w (record {
           setting_is = fine.setting_is;
           unnumbered = λ all. absurd (awake (All-cons (λ (x : Part). x.number ≡ None) v.own v.others (All-head (λ (x : Part). x.number ≡ None) w.own v.others all) (All-tail (λ (x : Part). x.number ≡ None) w.own v.others all)));
@@ -116,7 +118,7 @@ module _ {H : Type 0} (stands : List ℕ → Setting → List Noted → H → Ty
         }) r.views;
         lanes = λ k. subst (OnceBelow l.shape.lanes k) (sym (sum_same (numbered k) s.views id v w at (let a = sum_by-cons (λ (x : Part). cond {A = ℕ} (is_lane k x.number) 1 0) w.own v.others in let b = sum_by-cons (λ (x : Part). cond {A = ℕ} (is_lane k x.number) 1 0) v.own v.others in omega (arith, a, b)))) (r.lanes k);
         objects = λ o fits. let i : ℕ = home_of l.shape o in
-            subst (λ (y : List Face × ℕ). IsKept stands l.shape r.setting o y.0 y.1 (get_elem? s.homes i)) (λ x. (sym (map_same (face l.shape i) s.views id v w at (face_ref i v root d m)) x, sym (get_or-set_other s.words d' (word_of l.shape o) n 0 (object_no_count l.shape o p fits lt)) x)) (r.objects o fits);
+            subst (λ (y : List Face × ℕ). IsKept stands l.shape r.setting o y.0 y.1 (get_elem? s.homes (slot_of l.shape o))) (λ x. (sym (map_same (face l.shape i) s.views id v w at (face_ref i v root d m)) x, sym (get_or-set_other s.words d' (word_of l.shape o) n 0 (object_no_count l.shape o p fits lt)) x)) (r.objects o fits);
         born = born_entry s.views id v w (Ref root d) at refl (λ q is. subst (IsBorn s.views) (let f : root ≡ q = cc is in f) born) r.born;
         looks = looks_entry s.views id v w (Ref root d) at refl (λ q k is. subst (λ (y : RootId). IsLookRight y.place y.generation k (retains_in (set s.views id w) y.place y.generation) (v.own.notes ++ Ref root d ∷ []) v.own.notes) (let f : root ≡ q = cc is in f) (look k (let f : d ≡ Look k = cc is in f))) r.looks;
         order = order_entry s.views id v w (Ref root d) at refl (newest (Ref root d) (counts_below root d) s.views) r.order;
@@ -352,7 +354,7 @@ module _ {H : Type 0} (stands : List ℕ → Setting → List Noted → H → Ty
       (omega (arith, a, b, n0, n1), omega (arith, c, n2, z))
 
   module _ (id : ℕ) (me : Me (Option H) SeatView) (root : RootId) (lt : root.place < l.shape.lanes * l.shape.handles) (counts : HasCount root me.0) (out : me.0.inside ≡ None) where
-    pub retains_allowed : 0 < me.0.moves → Allows (IsSound stands l) (objects_of l.shape) id me (count_word_of l.shape root.place) (λ n. (n + 2) % 2 ^ 64) (retains root (step (objects_of l.shape) (count_word_of l.shape root.place) 2 0 none) me)
+    pub retains_allowed : 0 < me.0.moves → Allows (IsSound stands l) (slots_of l.shape) id me (count_word_of l.shape root.place) (λ n. (n + 2) % 2 ^ 64) (retains root (step (slots_of l.shape) (count_word_of l.shape root.place) 2 0 none) me)
     retains_allowed moves s r _ at under =
         let p : ℕ = root.place in let v : SeatView = me.0 in let has = count_at stands l s r id v at root counts in let born = count_born stands l s r id v at root counts in let k = r.counts p lt in let live = live_word s r id p root.generation v lt at has in
         let word : ℕ = slice_index s.words (count_word_of l.shape p) in let small = small_count s r p lt in
@@ -366,7 +368,7 @@ module _ {H : Type 0} (stands : List ℕ → Setting → List Noted → H → Ty
           refl,
         )
 
-    pub looks_allowed : Allows (IsSound stands l) (objects_of l.shape) id me (count_word_of l.shape root.place) (λ n. n) (looks root (step (objects_of l.shape) (count_word_of l.shape root.place) 0 0 none) me)
+    pub looks_allowed : Allows (IsSound stands l) (slots_of l.shape) id me (count_word_of l.shape root.place) (λ n. n) (looks root (step (slots_of l.shape) (count_word_of l.shape root.place) 0 0 none) me)
     looks_allowed s r _ at under =
         let p : ℕ = root.place in let v : SeatView = me.0 in let has = count_at stands l s r id v at root counts in let born = count_born stands l s r id v at root counts in let k = r.counts p lt in let live = live_word s r id p root.generation v lt at has in
         let word : ℕ = slice_index s.words (count_word_of l.shape p) in let d : RefDid = Look (word % 4294967296 / 2) in
@@ -382,7 +384,7 @@ module _ {H : Type 0} (stands : List ℕ → Setting → List Noted → H → Ty
           refl,
         )
 
-    pub releases_allowed : Allows (IsSound stands l) (objects_of l.shape) id me (count_word_of l.shape root.place) (λ n. (n + (2 ^ 64 - 2)) % 2 ^ 64) (releases root (step (objects_of l.shape) (count_word_of l.shape root.place) 2 0 none) me)
+    pub releases_allowed : Allows (IsSound stands l) (slots_of l.shape) id me (count_word_of l.shape root.place) (λ n. (n + (2 ^ 64 - 2)) % 2 ^ 64) (releases root (step (slots_of l.shape) (count_word_of l.shape root.place) 2 0 none) me)
     releases_allowed s r _ at under =
         let p : ℕ = root.place in let v : SeatView = me.0 in let has = count_at stands l s r id v at root counts in let born = count_born stands l s r id v at root counts in let k = r.counts p lt in let live = live_word s r id p root.generation v lt at has in
         let word : ℕ = slice_index s.words (count_word_of l.shape p) in let small = small_count s r p lt in let rest : ℕ = (word + (2 ^ 64 - 2)) % 2 ^ 64 in
@@ -428,7 +430,7 @@ module _ {H : Type 0} (stands : List ℕ → Setting → List Noted → H → Ty
       off false = refl
 
   pub vacates_allowed : (id : ℕ) (me : Me (Option H) SeatView) (root : RootId) → root.place < l.shape.lanes * l.shape.handles → HasToken root me.0 → HasEnded root me.0 → me.0.inside ≡ None
-      → Allows (IsSound stands l) (objects_of l.shape) id me (count_word_of l.shape root.place) (λ n. (n + 1) % 2 ^ 64) (vacates root (step (objects_of l.shape) (count_word_of l.shape root.place) 1 0 none) me)
+      → Allows (IsSound stands l) (slots_of l.shape) id me (count_word_of l.shape root.place) (λ n. (n + 1) % 2 ^ 64) (vacates root (step (slots_of l.shape) (count_word_of l.shape root.place) 1 0 none) me)
   vacates_allowed id me root lt token over out s r _ at under =
       let p : ℕ = root.place in let v : SeatView = me.0 in let has = token_at stands l s r id v at root token in let ended = ended_at stands l s r id v at root token over in let k = r.counts p lt in let tok = token_word s r id p root.generation v lt at has in
       let word : ℕ = slice_index s.words (count_word_of l.shape p) in

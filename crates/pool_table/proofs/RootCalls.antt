@@ -8,7 +8,8 @@ use Rattle.atomic_table.specs.Table.{Me, State, step, Allows}
 use Rattle.pool_law.specs.declared.note.Noted.{Noted}
 use Rattle.pool_law.specs.declared.note.Object.{Object}
 use Rattle.pool_law.specs.declared.note.Object.TheVariants.{Root}
-use Rattle.pool_law.specs.Homes.{objects_of, IsObjectOf}
+use Rattle.pool_law.specs.Homes.{IsObjectOf}
+use Rattle.pool_table.specs.Slots.{slots_of}
 use Rattle.pool_table.specs.declared.views.Layout.{Layout}
 use Rattle.pool_table.specs.declared.views.SeatView.{SeatView}
 use Rattle.pool_table.specs.declared.views.Inside.{Inside}
@@ -38,21 +39,21 @@ module _ {H : Type 0} (stands : List ℕ → Setting → List Noted → H → Ty
 
   -- what a step on the word of a root place asks
   at_place : (id : ℕ) (me : Me (Option H) SeatView) (p word : ℕ) (f : ℕ → ℕ) (then : ℕ → Me (Option H) SeatView → Type 0) → 0 < l.shape.handles → MayEnter p me.0 → (p < l.shape.lanes * l.shape.handles → word ≡ word_of l.shape (Root p))
-      → (p < l.shape.lanes * l.shape.handles → Allows (IsSound stands l) (objects_of l.shape) id me (word_of l.shape (Root p)) f then) → Allows (IsSound stands l) (objects_of l.shape) id me word f then
+      → (p < l.shape.lanes * l.shape.handles → Allows (IsSound stands l) (slots_of l.shape) id me (word_of l.shape (Root p)) f then) → Allows (IsSound stands l) (slots_of l.shape) id me word f then
   at_place id me p word f then some_handle may is allowed s r wide at under =
-      let lt = enters_fits some_handle s r id p me.0 at may in subst (λ (w : ℕ). Allows (IsSound stands l) (objects_of l.shape) id me w f then) (sym (is lt)) (allowed lt) s r wide at under
+      let lt = enters_fits some_handle s r id p me.0 at may in subst (λ (w : ℕ). Allows (IsSound stands l) (slots_of l.shape) id me w f then) (sym (is lt)) (allowed lt) s r wide at under
 
-  module _ (key l' : Layout) (p : ℕ) (o : Object) (slots word id : ℕ) (me : Me (Option H) SeatView) (ke : key ≡ l) (se : slots ≡ objects_of l.shape) (oe : o ≡ Root p) (le : l' ≡ l) (some_handle : 0 < l.shape.handles) (is : p < l.shape.lanes * l.shape.handles → word ≡ word_of l.shape (Root p)) (out : IsFree me) (turn : 0 < me.0.turns) (may : MayEnter p me.0) where
+  module _ (key l' : Layout) (p : ℕ) (o : Object) (slots word id : ℕ) (me : Me (Option H) SeatView) (ke : key ≡ l) (se : slots ≡ slots_of l.shape) (oe : o ≡ Root p) (le : l' ≡ l) (some_handle : 0 < l.shape.handles) (is : p < l.shape.lanes * l.shape.handles → word ≡ word_of l.shape (Root p)) (out : IsFree me) (turn : 0 < me.0.turns) (may : MayEnter p me.0) where
     enters_by : (q : ℕ) → Root p ≡ Root q → MayEnter q me.0
     enters_by q e = subst (λ (n : ℕ). MayEnter n me.0) (one_place p q e) may
 
     pub claims_place : Allows (IsSound stands key) slots id me word (λ n. bit_or n 1) (claims stands l' o (step slots word 1 0 none) me)
     claims_place = subst (λ (y : Layout × ℕ × Object × Layout). Allows (IsSound stands y.0) y.1 id me word (λ n. bit_or n 1) (claims stands y.3 y.2 (step y.1 word 1 0 none) me)) (λ q. (sym ke q, sym se q, sym oe q, sym le q))
-        (at_place id me p word (λ n. bit_or n 1) (claims stands l (Root p) (step (objects_of l.shape) word 1 0 none) me) some_handle may is (λ lt. claims_allowed stands l some_handle id me (Root p) lt out turn enters_by))
+        (at_place id me p word (λ n. bit_or n 1) (claims stands l (Root p) (step (slots_of l.shape) word 1 0 none) me) some_handle may is (λ lt. claims_allowed stands l some_handle id me (Root p) lt out turn enters_by))
 
     pub marks_place : Allows (IsSound stands key) slots id me word (λ n. bit_or n 1) (marks_claims stands l' o (step slots word 1 0 none) me)
     marks_place = subst (λ (y : Layout × ℕ × Object × Layout). Allows (IsSound stands y.0) y.1 id me word (λ n. bit_or n 1) (marks_claims stands y.3 y.2 (step y.1 word 1 0 none) me)) (λ q. (sym ke q, sym se q, sym oe q, sym le q))
-        (at_place id me p word (λ n. bit_or n 1) (marks_claims stands l (Root p) (step (objects_of l.shape) word 1 0 none) me) some_handle may is (λ lt. marks_allowed stands l some_handle id me (Root p) lt out turn enters_by tt))
+        (at_place id me p word (λ n. bit_or n 1) (marks_claims stands l (Root p) (step (slots_of l.shape) word 1 0 none) me) some_handle may is (λ lt. marks_allowed stands l some_handle id me (Root p) lt out turn enters_by tt))
 
   -- where a seat was in the section of a root place, there is such a place
   pub held_place : (p n : ℕ) (v : SeatView) → WasHeld stands l (Root p) n v → p < l.shape.lanes * l.shape.handles

@@ -13,6 +13,7 @@ use Rattle.step_law.proofs.Changes.{each_at, sum_set, sum_mapped, each_unmapped,
 use Rattle.pool_law.specs.declared.note.Noted.{Noted}
 use Rattle.pool_law.specs.Homes.{home_of}
 use Rattle.pool_table.specs.Words.{word_of, count_word_of}
+use Rattle.pool_table.specs.Slots.{slot_of}
 use Rattle.pool_table.specs.declared.views.Entry.{Entry}
 use Rattle.pool_table.specs.declared.views.Layout.{Layout}
 use Rattle.pool_table.specs.declared.views.Part.{Part}
@@ -52,12 +53,13 @@ module _ {H : Type 0} (stands : List ℕ → Setting → List Noted → H → Ty
         setting = r.setting;
         words = r.words;
         homes = r.homes;
+        between = r.between;
         views = All-push (IsView l.shape r.setting) (set s.views id left) right (All-set (IsView l.shape r.setting) s.views id left both.0 r.views) both.1;
         lanes = λ m. subst (OnceBelow l.shape.lanes m) (sym (same (numbered m) (adds (λ (p : Part). cond {A = ℕ} (is_lane m p.number) 1 0) refl))) (r.lanes m);
         objects = λ o fits. let j : ℕ = home_of l.shape o in
-            subst (λ (x : List Face). IsKept stands l.shape r.setting o x (slice_index s.words (word_of l.shape o)) (get_elem? s.homes j))
+            subst (λ (x : List Face). IsKept stands l.shape r.setting o x (slice_index s.words (word_of l.shape o)) (get_elem? s.homes (slot_of l.shape o)))
             (sym (map_push (face l.shape j) (set s.views id left) right ∙ ap (λ (x : List Face). x ++ face l.shape j right ∷ []) (map-set (face l.shape j) s.views id left)))
-            (split_kept stands l.shape r.setting o (map (face l.shape j) s.views) (slice_index s.words (word_of l.shape o)) (get_elem? s.homes j) id (face l.shape j v) (face l.shape j left) (face l.shape j right) (r.objects o fits) (at_map (face l.shape j) s.views id v at)
+            (split_kept stands l.shape r.setting o (map (face l.shape j) s.views) (slice_index s.words (word_of l.shape o)) (get_elem? s.homes (slot_of l.shape o)) id (face l.shape j v) (face l.shape j left) (face l.shape j right) (r.objects o fits) (at_map (face l.shape j) s.views id v at)
             (out j v vo) (out j left lo) (out j right ro)
             (λ test. let g : Part → ℕ = λ (p : Part). count_by test (strand l.shape j p).notes in
             let q : Part → ℕ = λ (p : Part). count_by test p.notes in
@@ -122,13 +124,14 @@ module _ {H : Type 0} (stands : List ℕ → Setting → List Noted → H → Ty
         setting = r.setting;
         words = r.words;
         homes = r.homes;
+        between = r.between;
         views = All-set (IsView l.shape r.setting) (set s.views id b) other z (blank_view r.setting) (All-set (IsView l.shape r.setting) s.views id b (joined_view r.setting fv fw) r.views);
         lanes = λ m. subst (OnceBelow l.shape.lanes m) (sym (same (numbered m) (parts (λ (p : Part). cond {A = ℕ} (is_lane m p.number) 1 0) refl))) (r.lanes m);
         objects = λ o fits. let j : ℕ = home_of l.shape o in
             let there : get_elem? (set (map (face l.shape j) s.views) id (face l.shape j b)) other ≡ some (face l.shape j w) = ap (λ (x : List Face). get_elem? x other) (sym (map-set (face l.shape j) s.views id b)) ∙ at_map (face l.shape j) (set s.views id b) other w at' in
-            subst (λ (x : List Face). IsKept stands l.shape r.setting o x (slice_index s.words (word_of l.shape o)) (get_elem? s.homes j))
+            subst (λ (x : List Face). IsKept stands l.shape r.setting o x (slice_index s.words (word_of l.shape o)) (get_elem? s.homes (slot_of l.shape o)))
             (sym (map-set (face l.shape j) (set s.views id b) other z ∙ ap (λ (x : List Face). set x other (face l.shape j z)) (map-set (face l.shape j) s.views id b)))
-            (joined_kept stands l.shape r.setting o (map (face l.shape j) s.views) (slice_index s.words (word_of l.shape o)) (get_elem? s.homes j) id other (face l.shape j v) (face l.shape j w) (face l.shape j b) (face l.shape j z) (r.objects o fits)
+            (joined_kept stands l.shape r.setting o (map (face l.shape j) s.views) (slice_index s.words (word_of l.shape o)) (get_elem? s.homes (slot_of l.shape o)) id other (face l.shape j v) (face l.shape j w) (face l.shape j b) (face l.shape j z) (r.objects o fits)
             (at_map (face l.shape j) s.views id v at) ne there (out j v vo) (out j w wo) (out j b vo) (out j z refl)
             (λ test. let g : Part → ℕ = λ (p : Part). count_by test (strand l.shape j p).notes in let q : Part → ℕ = λ (p : Part). count_by test p.notes in
             let a : in_face test (face l.shape j b) ≡ sum_by g (parts_of b) = sum_mapped q (strand l.shape j) (parts_of b) in

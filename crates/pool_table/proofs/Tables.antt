@@ -18,6 +18,8 @@ use Rattle.pool_law.specs.Homes.{home_of, IsObjectOf}
 use Rattle.table_law.proofs.Apart.{one_home}
 use Rattle.pool_table.specs.Words.{word_of, count_word_of}
 use Rattle.pool_table.proofs.Words.{object_word, object_once, object_no_count}
+use Rattle.pool_table.specs.Slots.{slot_of}
+use Rattle.pool_table.proofs.Slots.{slot_apart, slot_between}
 use Rattle.pool_table.specs.declared.views.Entry.{Entry}
 use Rattle.pool_table.specs.declared.views.Layout.{Layout}
 use Rattle.pool_table.specs.declared.views.Part.{Part}
@@ -38,8 +40,8 @@ module _ {H : Type 0} (stands : List ℕ → Setting → List Noted → H → Ty
   -- the word and the view of one object's step change
   pub changes : (s : St) (r : IsSound stands l s) (id : ℕ) (v w : SeatView) (o : Object) (n : ℕ) (homes' : List (maybe.Option (Option H))) → IsObjectOf l.shape o → get_elem? s.views id ≡ some v
       → ((j : ℕ) → j ≢ home_of l.shape o → face l.shape j w ≡ face l.shape j v) → ((m : ℕ) → numbered m w ≡ numbered m v) → IsWeighedSame v w → IsView l.shape r.setting w → spent w ≤ spent v → AreLooksRight (set s.views id w) → AreInOrder (set s.views id w) → AreBorn (set s.views id w)
-      → length homes' ≡ length s.homes → ((j : ℕ) → j ≢ home_of l.shape o → get_elem? homes' j ≡ get_elem? s.homes j)
-      → IsKept stands l.shape r.setting o (set (map (face l.shape (home_of l.shape o)) s.views) id (face l.shape (home_of l.shape o) w)) n (get_elem? homes' (home_of l.shape o))
+      → length homes' ≡ length s.homes → ((j : ℕ) → j ≢ slot_of l.shape o → get_elem? homes' j ≡ get_elem? s.homes j)
+      → IsKept stands l.shape r.setting o (set (map (face l.shape (home_of l.shape o)) s.views) id (face l.shape (home_of l.shape o) w)) n (get_elem? homes' (slot_of l.shape o))
       → IsSound stands l (record { words = set s.words (word_of l.shape o) n; homes = homes'; views = set s.views id w })
   changes s r id v w o n homes' fits at elsewhere numbers refs fine spends looks order born wide homes kept =
       let i : ℕ = home_of l.shape o in
@@ -48,15 +50,16 @@ module _ {H : Type 0} (stands : List ℕ → Setting → List Noted → H → Ty
         setting = r.setting;
         words = length-set s.words d n ∙ r.words;
         homes = wide ∙ r.homes;
+        between = λ j k lt low high. homes k (slot_between l.shape j i k low high) ∙ r.between j k lt low high;
         views = All-set (IsView l.shape r.setting) s.views id w fine r.views;
         lanes = λ m. subst (OnceBelow l.shape.lanes m) (sym (sum_same (numbered m) s.views id v w at (numbers m))) (r.lanes m);
         objects = λ p fits'. dite (ℕ_discrete (home_of l.shape p) i)
             (λ same. let po : o ≡ p = one_home l.shape o p fits fits' (sym same) in
-            subst (λ (p : Object). IsKept stands l.shape r.setting p (map (face l.shape (home_of l.shape p)) (set s.views id w)) (slice_index (set s.words d n) (word_of l.shape p)) (get_elem? homes' (home_of l.shape p))) po
-            (subst (λ (x : List Face × ℕ). IsKept stands l.shape r.setting o x.0 x.1 (get_elem? homes' i)) (λ k. (sym (map-set (face l.shape i) s.views id w) k, sym (get_or-set_same s.words d n 0 inside) k)) kept))
+            subst (λ (p : Object). IsKept stands l.shape r.setting p (map (face l.shape (home_of l.shape p)) (set s.views id w)) (slice_index (set s.words d n) (word_of l.shape p)) (get_elem? homes' (slot_of l.shape p))) po
+            (subst (λ (x : List Face × ℕ). IsKept stands l.shape r.setting o x.0 x.1 (get_elem? homes' (slot_of l.shape o))) (λ k. (sym (map-set (face l.shape i) s.views id w) k, sym (get_or-set_same s.words d n 0 inside) k)) kept))
             (λ (ne : home_of l.shape p ≢ i). let j : ℕ = home_of l.shape p in
             subst (λ (x : List Face × (ℕ × maybe.Option (maybe.Option (Option H)))). IsKept stands l.shape r.setting p x.0 x.1.0 x.1.1)
-            (λ k. (sym (map_same (face l.shape j) s.views id v w at (elsewhere j ne)) k, (sym (get_or-set_other s.words d (word_of l.shape p) n 0 (object_once l.shape p o fits' fits ne)) k, sym (homes j ne) k)))
+            (λ k. (sym (map_same (face l.shape j) s.views id v w at (elsewhere j ne)) k, (sym (get_or-set_other s.words d (word_of l.shape p) n 0 (object_once l.shape p o fits' fits ne)) k, sym (homes (slot_of l.shape p) (slot_apart l.shape p o ne)) k)))
             (r.objects p fits'));
         born = born;
         looks = looks;
@@ -77,9 +80,10 @@ module _ {H : Type 0} (stands : List ℕ → Setting → List Noted → H → Ty
     setting = r.setting;
     words = r.words;
     homes = r.homes;
+    between = r.between;
     views = All-set (IsView l.shape r.setting) s.views id w fine r.views;
     lanes = λ m. subst (OnceBelow l.shape.lanes m) (sym (sum_same (numbered m) s.views id v w at (numbers m))) (r.lanes m);
-    objects = λ p fits. subst (λ (x : List Face). IsKept stands l.shape r.setting p x (slice_index s.words (word_of l.shape p)) (get_elem? s.homes (home_of l.shape p))) (sym (map_same (face l.shape (home_of l.shape p)) s.views id v w at (everywhere (home_of l.shape p)))) (r.objects p fits);
+    objects = λ p fits. subst (λ (x : List Face). IsKept stands l.shape r.setting p x (slice_index s.words (word_of l.shape p)) (get_elem? s.homes (slot_of l.shape p))) (sym (map_same (face l.shape (home_of l.shape p)) s.views id v w at (everywhere (home_of l.shape p)))) (r.objects p fits);
     born = born;
     looks = looks;
     order = order;

@@ -1,4 +1,5 @@
 pub mod Words
+pub mod Slots
 pub mod Views
 pub mod Counts
 pub mod Looks

@@ -7,7 +7,7 @@ use Rattle.pool_law.specs.declared.run.Shape.{Shape}
 use Rattle.pool_law.specs.declared.note.Noted.{Noted}
 use Rattle.pool_law.specs.declared.note.Held.{Held}
 use Rattle.pool_law.specs.declared.note.Object.{Object}
-use Rattle.pool_law.specs.Homes.{home_of, IsObjectOf}
+use Rattle.pool_law.specs.Homes.{IsObjectOf}
 use Rattle.pool_law.specs.Naming.{noted_by}
 use Rattle.table_law.specs.Histories.{IsHistory}
 use Rattle.table_law.specs.Measures.{measures_of}
@@ -16,6 +16,9 @@ use Rattle.pool_table.specs.declared.views.Layout.{Layout}
 use Rattle.pool_table.specs.declared.views.SeatView.{SeatView}
 use Rattle.pool_table.specs.declared.table.PoolSeat.{PoolSeat}
 use Rattle.pool_table.specs.declared.table.Section.{Section}
+use Rattle.pool_table.specs.declared.table.Slot.{Slot}
+use Rattle.pool_table.specs.Words.{word_of}
+use Rattle.pool_table.specs.Slots.{slot_of}
 use Rattle.pool_table.specs.Views.{entered, with_entry}
 use Rattle.pool_table.specs.Sound.{WasHeld}
 use Rattle.pool_table.specs.Seats.{view_of, HasView}
@@ -23,11 +26,12 @@ use Rattle.pool_table.specs.Learned.{Enters}
 
 -- a seat is in the section of an object with this history, whose home value is out of its slot
 pub record IsInside {H : Type 0}
-    (s : Shape) (me : Me (Option H) SeatView) (o : Object) (slot : ℕ) (h : List Noted) :
+    (s : Shape) (me : Me (Option H) SeatView) (o : Object) (slot : Slot) (h : List Noted) :
     Type 0 where
   pub inside : me.0.inside ≡ Some (record { object = o; number = length h; history = h })
-  pub holds : me.1 ≡ (slot, None) ∷ []
-  pub slot_is : slot ≡ home_of s o
+  pub holds : me.1 ≡ (slot.home, None) ∷ []
+  pub slot_is : slot.home ≡ slot_of s o
+  pub word_is : slot.word ≡ word_of s o
   pub object : IsObjectOf s o
 
 -- the value stands for the history under the setting that the view knows

@@ -14,6 +14,7 @@ use Rattle.pool_law.specs.declared.note.Object.TheVariants.{Cache, Root}
 use Rattle.pool_law.specs.Homes.{home_of, objects_of, IsObjectOf}
 use Rattle.table_law.specs.Measures.{measures_of}
 use Rattle.pool_table.specs.Words.{words_of, word_of, count_word_of}
+use Rattle.pool_table.specs.Slots.{slot_at, slots_of, slot_of}
 use Rattle.table_law.specs.Histories.{IsHistory}
 use Rattle.table_law.specs.Standing.{IsInPlace}
 use Rattle.pool_table.specs.declared.views.Entry.{Entry}
@@ -159,7 +160,10 @@ pub record IsSound {H : Type 0}
   -- one setting, which never changes
   pub setting : Setting
   pub words : length s.words ≡ words_of l.shape
-  pub homes : length s.homes ≡ objects_of l.shape
+  pub homes : length s.homes ≡ slots_of l.shape
+  -- what lies between the slot of one object and the next is empty
+  pub between : (i k : ℕ) → i < objects_of l.shape →
+      slot_at l.shape i < k → k < slot_at l.shape (i + 1) → get_elem? s.homes k ≡ some (some None)
   -- each view by itself
   pub views : All (IsView l.shape setting) s.views
   -- each lane's number is that of one part
@@ -169,7 +173,7 @@ pub record IsSound {H : Type 0}
       IsKept stands l.shape setting o
       (map (face l.shape (home_of l.shape o)) s.views)
       (slice_index s.words (word_of l.shape o))
-      (get_elem? s.homes (home_of l.shape o))
+      (get_elem? s.homes (slot_of l.shape o))
   -- each root place, with the word of its count
   pub counts : (p : ℕ) → p < l.shape.lanes * l.shape.handles →
       IsCounted p s.views (slice_index s.words (count_word_of l.shape p))

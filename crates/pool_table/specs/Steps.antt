@@ -6,7 +6,7 @@ use Rattle.pool_law.specs.declared.run.Level.TheVariants.{Disabled}
 use Rattle.pool_law.specs.declared.note.Noted.{Noted}
 use Rattle.pool_law.specs.declared.note.Object.{Object}
 use Rattle.pool_law.specs.declared.note.Object.TheVariants.{Arena}
-use Rattle.pool_law.specs.Homes.{home_of}
+use Rattle.pool_table.specs.Slots.{slot_of}
 use Rattle.pool_law.specs.Naming.{noted_by}
 use Rattle.pool_table.specs.declared.views.Entry.TheVariants.{At, Busy}
 use Rattle.pool_table.specs.declared.views.Layout.{Layout}
@@ -140,13 +140,13 @@ module _ {H : Type 0} (stands : List ℕ → Setting → List Noted → H → Ty
   -- it got in where the word was even, and else another view was in the section
   abbrev pub claims : Told H
   claims s me found after =
-      (found % 2 ≡ 0 → GotIn (home_of l.shape o) me found after)
+      (found % 2 ≡ 0 → GotIn (slot_of l.shape o) me found after)
       × (found % 2 ≡ 1 → (after.0 ≡ me.0) × (after.1 ≡ me.1) × WasHeld stands l o (found / 2) me.0)
 
   -- the same, with a busy mark
   abbrev pub marks_claims : Told H
   marks_claims s me found after =
-      (found % 2 ≡ 0 → GotIn (home_of l.shape o) me found after)
+      (found % 2 ≡ 0 → GotIn (slot_of l.shape o) me found after)
       × (found % 2 ≡ 1 →
       (after.0 ≡ with_entry me.0 (Busy (record { object = o; number = found / 2 })) me.0.turns)
       × (after.1 ≡ me.1) × WasHeld stands l o (found / 2) me.0)

@@ -1,13 +1,17 @@
 //! The close: home values and words come out of the table.
 
-ghost use Rattle.std.specs.Prelude.{◌≡◌, ℕ, ◌<◌, ◌≤◌, [], length, false, vec_capacity, slice_index, slice_index_or};
+ghost use Rattle.std.specs.Prelude.{◌≡◌, ℕ, ◌+◌, ◌<◌, ◌≤◌, [], length, true, false, None, vec_capacity, slice_index, slice_index_or};
+ghost use mathlib.Core.Option.{some};
+ghost use lib.ListN.{get_elem?};
 ghost use Rattle.std.specs.Mem.Slots.{slots_items, slots_filled, slots_len, IsFull};
+ghost use Rattle.pool_law.specs.Homes.{objects_of};
 ghost use Rattle.pool_table.specs.Words.{listed_of, word_at, words_of};
+ghost use Rattle.pool_table.specs.Slots.{slot_at, slots_of, IsEmptyBetween};
 ghost use Rattle.pool_table.specs.Sound.{IsShape};
 ghost use Rattle.pool_table.specs.Seats.{view_of, IsSeatOf, IsOutside};
 ghost use Rattle.pool_table.specs.Closed.{HasAllLanes, IsClosed};
 
-use crate::index::{listed_count, object_count, word_index};
+use crate::index::{listed_count, object_count, slot_index, word_index};
 use crate::table::{PoolSeat, PoolTable};
 use atomic_table::Closed;
 use pool_law::{Noted, Shape};
@@ -33,7 +37,7 @@ impl<H: Told<Note = Noted>> PoolTable<H> {
         let PoolSeat { seat, number: _ } = seat;
         let mut closed = table.close_with(seat);
         let words = take_words(&closed, &layout.shape, spare_words);
-        let homes = take_homes(&mut closed, object_count(&layout.shape), spare_homes);
+        let homes = take_homes(&mut closed, &layout.shape, spare_homes);
         closed.free();
         (homes, words)
     }
@@ -59,17 +63,53 @@ fn take_words<S>(closed: &Closed<S, Global>, shape: &Shape, mut words: Vec<u64>)
     words
 }
 
-// The values of a closed table, into a Vec that has room.
-fn take_homes<S>(closed: &mut Closed<S, Global>, count: usize, mut homes: Vec<S>) -> Vec<S>
-    requires full { IsFull closed.old.slots × (slots_len closed.old.slots ≡ count) }
-    requires room { (homes.items ≡ []) × (count ≤ vec_capacity homes) }
-    ensures items { result.items ≡ slots_items closed.old.slots }
+// The home values of a closed table in the order of the objects, into a Vec that has room.
+fn take_homes<H>(
+    closed: &mut Closed<Option<H>, Global>,
+    shape: &Shape,
+    mut homes: Vec<Option<H>>,
+) -> Vec<Option<H>>
+    requires shape { IsShape shape.now }
+    requires full { IsFull closed.old.slots × (slots_len closed.old.slots ≡ slots_of shape.now) }
+    requires between { IsEmptyBetween shape.now (slots_items closed.old.slots) }
+    requires room { (homes.items ≡ []) × (objects_of shape.now ≤ vec_capacity homes) }
+    ensures many { length result.items ≡ objects_of shape.now }
+    ensures laid { (k : ℕ) → k < objects_of shape.now →
+        get_elem? result.items k
+        ≡ get_elem? (slots_items closed.old.slots) (slot_at shape.now k) }
     ensures empty { (k : ℕ) → k < slots_len closed.new.slots →
         slice_index_or (slots_filled closed.new.slots) k false ≡ false }
 {
+    let count = object_count(shape);
     for i in 0..count {
-        let pushed = homes.push(closed.take(i));
+        let slot = slot_index(shape, i);
+        let pushed = homes.push(closed.take(slot));
         let Ok(()) = pushed else { unreachable!() };
+        pass_empty(closed, slot, slot_index(shape, i + 1));
     }
     homes
+}
+
+// Goes over the empty slots behind one.
+fn pass_empty<H>(closed: &mut Closed<Option<H>, Global>, slot: usize, end: usize)
+    requires within { (slot < end) × (end ≤ slots_len closed.old.slots) }
+    requires full { (k : ℕ) → slot < k → k < end →
+        slice_index_or (slots_filled closed.old.slots) k false ≡ true }
+    requires nothing { (k : ℕ) → slot < k → k < end →
+        get_elem? (slots_items closed.old.slots) k ≡ some None }
+    ensures same { (slots_items closed.new.slots ≡ slots_items closed.old.slots)
+        × (slots_len closed.new.slots ≡ slots_len closed.old.slots) }
+    ensures empty { (k : ℕ) → slot < k → k < end →
+        slice_index_or (slots_filled closed.new.slots) k false ≡ false }
+    ensures before { (k : ℕ) → k ≤ slot →
+        slice_index_or (slots_filled closed.new.slots) k false
+        ≡ slice_index_or (slots_filled closed.old.slots) k false }
+    ensures behind { (k : ℕ) → end ≤ k →
+        slice_index_or (slots_filled closed.new.slots) k false
+        ≡ slice_index_or (slots_filled closed.old.slots) k false }
+{
+    for k in slot + 1..end {
+        let nothing = closed.take(k);
+        let None = nothing else { unreachable!() };
+    }
 }

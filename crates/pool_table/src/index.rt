@@ -3,8 +3,10 @@ ghost use Rattle.std.specs.Prelude.{◌≡◌, ◌≤◌, ◌<◌, ◌*◌};
 ghost use Rattle.pool_law.specs.Homes.{home_of, objects_of, IsObjectOf};
 ghost use Rattle.pool_law.specs.declared.note.Object.TheVariants.{Root};
 ghost use Rattle.pool_table.specs.Sound.{IsShape};
-ghost use Rattle.pool_table.specs.Words.{listed_of, word_at, words_of, count_word_of};
+ghost use Rattle.pool_table.specs.Words.{listed_of, single_of, word_at, word_of, words_of, count_word_of};
+ghost use Rattle.pool_table.specs.Slots.{gap_of, slot_at, slot_of, slots_of};
 
+use crate::table::Slot;
 use pool_law::{Object, Shape};
 
 #[inline(always)]
@@ -87,19 +89,82 @@ pub(crate) fn root_index(shape: &Shape, place: u32) -> usize
     }
 }
 
-/// Where the slot of a root place is. No place is claimed that the shape doesn't have; for such a
-/// place the answer is the first slot.
 #[inline(always)]
-pub(crate) fn place_index(shape: &Shape, place: u32) -> usize
+fn single_count(shape: &Shape) -> usize
+    requires { IsShape shape.now }
+    ensures { result ≡ single_of shape.now }
+{
+    let lanes = shape.lanes as usize;
+    shape.arenas as usize + lanes * 41 + lanes * lanes
+}
+
+/// Where the slot of a number lies, and where the last one ends.
+#[inline(always)]
+pub(crate) fn slot_index(shape: &Shape, number: usize) -> usize
     requires shape { IsShape shape.now }
-    ensures within { result < objects_of shape.now }
-    ensures there { place < shape.now.lanes * shape.now.handles →
-        result ≡ home_of shape.now (Root place) }
+    requires number { number ≤ objects_of shape.now }
+    ensures { result ≡ slot_at shape.now number }
+{
+    let single = single_count(shape);
+    if number < single {
+        number * 4
+    } else {
+        single * 3 + number
+    }
+}
+
+pub(crate) fn slot_count(shape: &Shape) -> usize
+    requires { IsShape shape.now }
+    ensures { result ≡ slots_of shape.now }
+{
+    slot_index(shape, object_count(shape))
+}
+
+/// How many slots are empty behind the slot of a number.
+pub(crate) fn gap_count(shape: &Shape, number: usize) -> usize
+    requires { IsShape shape.now }
+    ensures { result ≡ gap_of shape.now number }
+{
+    if number < single_count(shape) { 3 } else { 0 }
+}
+
+/// Where an object's home value and its word lie.
+#[inline(always)]
+pub(crate) fn object_slot(shape: &Shape, object: Object) -> Slot
+    requires shape { IsShape shape.now }
+    requires object { IsObjectOf shape.now object }
+    ensures home { result.home ≡ slot_of shape.now object }
+    ensures word { result.word ≡ word_of shape.now object }
+{
+    let number = home_index(shape, object);
+    if let Object::Root(_) = object {
+        Slot {
+            home: slot_index(shape, number),
+            word: word_index(shape, number),
+        }
+    } else {
+        Slot {
+            home: number * 4,
+            word: number * 16,
+        }
+    }
+}
+
+/// Where the home value of a root place and its word lie. No place is claimed that the shape
+/// doesn't have; for such a place the answer is the first slot and the first word.
+#[inline(always)]
+pub(crate) fn place_slot(shape: &Shape, place: u32) -> Slot
+    requires shape { IsShape shape.now }
+    ensures within { result.word < words_of shape.now }
+    ensures home { place < shape.now.lanes * shape.now.handles →
+        result.home ≡ slot_of shape.now (Root place) }
+    ensures word { place < shape.now.lanes * shape.now.handles →
+        result.word ≡ word_of shape.now (Root place) }
 {
     if place < shape.lanes * shape.handles {
-        home_index(shape, Object::Root(place))
+        object_slot(shape, Object::Root(place))
     } else {
-        0
+        Slot { home: 0, word: 0 }
     }
 }
 

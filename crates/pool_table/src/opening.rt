@@ -3,11 +3,12 @@
 ghost use Rattle.std.specs.Prelude.{◌≡◌, ◌*◌, ◌<◌, ◌≤◌, ◌^◌, [], length, IfOk, IfErr, vec_capacity};
 ghost use Rattle.pool_law.specs.Homes.{objects_of};
 ghost use Rattle.pool_table.specs.Words.{listed_of, IsOpening};
+ghost use Rattle.pool_table.specs.Slots.{slots_of};
 ghost use Rattle.pool_table.specs.Sound.{IsShape};
 ghost use Rattle.pool_table.specs.Steps.{first_view};
 ghost use Rattle.pool_table.specs.Opened.{AreFirstSeats, StandAtFirst};
 
-use crate::index::{listed_count, object_count};
+use crate::index::{listed_count, object_count, slot_count};
 use crate::making::{opening_words, unwrapped, wrapped};
 use crate::rule::{Cuts, Opening};
 use crate::table::{PoolSeat, PoolTable};
@@ -31,7 +32,7 @@ fn take_room<H: Told<Note = Noted>>(alloc: Global, shape: &Shape) -> Result<Room
     requires { IsShape shape.now }
     ensures words { IfOk result (λ r. IsOpening shape.now r.words.items) }
     ensures slots { IfOk result (λ r.
-        (r.slots.items ≡ []) × (objects_of shape.now ≤ vec_capacity r.slots)) }
+        (r.slots.items ≡ []) × (slots_of shape.now ≤ vec_capacity r.slots)) }
     ensures spare_words { IfOk result (λ r.
         (r.spare_words.items ≡ []) × (listed_of shape.now ≤ vec_capacity r.spare_words)) }
     ensures spare_homes { IfOk result (λ r.
@@ -43,7 +44,7 @@ fn take_room<H: Told<Note = Noted>>(alloc: Global, shape: &Shape) -> Result<Room
     let count = listed_count(shape);
     let words = opening_words(alloc, shape)?;
     let spare_words = Vec::with_capacity(alloc, count)?;
-    let slots: Vec<Option<H>> = Vec::with_capacity(alloc, objects)?;
+    let slots: Vec<Option<H>> = Vec::with_capacity(alloc, slot_count(shape))?;
     let Ok(spare_homes) = Vec::with_capacity(alloc, objects) else {
         slots.destroy_empty();
         return Err(AllocError);
@@ -118,7 +119,7 @@ impl<H: Told<Note = Noted>> PoolTable<H> {
             layout,
             homes: Snapshot::of(&homes),
         };
-        let slots = wrapped(&mut homes, slots);
+        let slots = wrapped(&layout.shape, &mut homes, slots);
         match Table::new(alloc, words.as_slice(), slots, &opening) {
             Ok((table, rest)) => {
                 homes.destroy_empty();

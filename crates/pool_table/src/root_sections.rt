@@ -1,20 +1,20 @@
 //! The claim of a root place by a seat that may be in its section.
 
-ghost use Rattle.std.specs.Prelude.{◌≡◌, ℕ, None, [], ◌<◌, IfOk, IfErr, MatchBool};
+ghost use Rattle.std.specs.Prelude.{◌≡◌, ℕ, None, [], ◌<◌, ◌*◌, IfOk, IfErr, MatchBool};
 ghost use mathlib.Core.Option.{none};
 ghost use Rattle.atomic_table.specs.Table.{step};
-ghost use Rattle.pool_law.specs.Homes.{objects_of};
 ghost use Rattle.pool_law.specs.declared.note.Object.TheVariants.{Root};
-ghost use Rattle.pool_table.specs.Words.{word_of};
+ghost use Rattle.pool_table.specs.Words.{word_of, words_of};
+ghost use Rattle.pool_table.specs.Slots.{slots_of};
 ghost use Rattle.pool_table.specs.Hands.{MayEnter};
 ghost use Rattle.pool_table.specs.Seats.{view_of, IsSeatOf, IsOutside, SameSeat};
 ghost use Rattle.pool_table.specs.Holders.{HoldsPlace};
 ghost use Rattle.pool_table.specs.Steps.{claims, marks_claims};
 ghost use Rattle.pool_table.specs.Sections.{GotSection, FoundHeld};
 
-use crate::index::{place_index, word_index};
+use crate::index::place_slot;
 use crate::rule::{Claiming, Claims, MarksClaims};
-use crate::table::{PoolSeat, PoolTable, Section};
+use crate::table::{PoolSeat, PoolTable, Section, Slot};
 use crate::views::SeatView;
 use atomic_table::Seat;
 use pool_law::{Held, Noted, Object};
@@ -28,9 +28,13 @@ impl<H: Told<Note = Noted>> PoolTable<H> {
         &self,
         seat: &mut Seat<Option<H>, SeatView>,
         place: u32,
+        slot: Slot,
         mark: bool,
     ) -> u64
         requires named { (C.object ≡ Root place) × (C.layout ≡ self.now.layout) }
+        requires within { slot.word < words_of self.now.layout.shape }
+        requires word { let shape = self.now.layout.shape in
+            place < shape.lanes * shape.handles → slot.word ≡ word_of shape (Root place) }
         requires own { seat.old.table_id ≡ self.now.table.shared.table_id }
         requires outside { (seat.old.me.0.inside ≡ None) × (seat.old.me.1 ≡ []) }
         requires turn { 0 < seat.old.me.0.turns }
@@ -38,17 +42,17 @@ impl<H: Told<Note = Noted>> PoolTable<H> {
         ensures same { (seat.new.table_id ≡ seat.old.table_id) × (seat.new.id ≡ seat.old.id) }
         ensures number { seat.new.me.0.own.number ≡ seat.old.me.0.own.number }
         ensures told { let shape = self.now.layout.shape in
-            let s = step (objects_of shape) (word_of shape (Root place)) 1 0 none in
+            let s = step (slots_of shape) (word_of shape (Root place)) 1 0 none in
             MatchBool mark
             (marks_claims H.stands self.now.layout (Root place) s seat.old.me result seat.new.me)
             (claims H.stands self.now.layout (Root place) s seat.old.me result seat.new.me) }
     {
-        let slot = place_index(&self.layout.shape, place);
-        let word = word_index(&self.layout.shape, slot);
         if mark {
-            self.table.shared.fetch_or::<MarksClaims<C>>(seat, word, 1)
+            self.table
+                .shared
+                .fetch_or::<MarksClaims<C>>(seat, slot.word, 1)
         } else {
-            self.table.shared.fetch_or::<Claims<C>>(seat, word, 1)
+            self.table.shared.fetch_or::<Claims<C>>(seat, slot.word, 1)
         }
     }
 
@@ -75,17 +79,16 @@ impl<H: Told<Note = Noted>> PoolTable<H> {
         ensures free { IfErr result (λ _. HoldsPlace place (view_of seat.old) → ⊥) }
     {
         let object = Object::Root(place);
-        let found = self.claim_place_word::<Brand>(&mut seat.seat, place, mark);
+        let slot = place_slot(&self.layout.shape, place);
+        let found = self.claim_place_word::<Brand>(&mut seat.seat, place, slot, mark);
         if found % 2 == 1 {
             return Err(Held {
                 object,
                 number: found / 2,
             });
         }
-        let slot = place_index(&self.layout.shape, place);
-        let Some(home) = self.table.shared.exchange(&mut seat.seat, slot, None) else {
-            unreachable!()
-        };
+        let taken = self.table.shared.exchange(&mut seat.seat, slot.home, None);
+        let Some(home) = taken else { unreachable!() };
         Ok(Section { home, object, slot })
     }
 }

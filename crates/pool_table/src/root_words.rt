@@ -4,9 +4,9 @@
 ghost use Rattle.std.specs.Prelude.{◌≡◌, ◌-◌, ◌%◌, ◌/◌, ◌<◌, None};
 ghost use mathlib.Core.Option.{none};
 ghost use Rattle.atomic_table.specs.Table.{step};
-ghost use Rattle.pool_law.specs.Homes.{objects_of};
 ghost use Rattle.pool_law.specs.declared.note.RefDid.TheVariants.{Retain, Look, Vacated};
 ghost use Rattle.pool_table.specs.Words.{count_word_of};
+ghost use Rattle.pool_table.specs.Slots.{slots_of};
 ghost use Rattle.pool_table.specs.Counts.{CountsOne, HasCount, HasToken, with_ref};
 ghost use Rattle.pool_table.specs.Hands.{HasEnded, InHand, IsAwaited};
 ghost use Rattle.pool_table.specs.Steps.{births, releases};
@@ -35,7 +35,7 @@ impl<H: Told<Note = Noted>> PoolTable<H> {
         ensures same { (seat.new.table_id ≡ seat.old.table_id) × (seat.new.id ≡ seat.old.id) }
         ensures counts { CountsOne seat.new.me.0 }
         ensures told { let shape = self.now.layout.shape in
-            let s = step (objects_of shape) (count_word_of shape root.place) 4294967297 0 none in
+            let s = step (slots_of shape) (count_word_of shape root.place) 4294967297 0 none in
             births root s seat.old.me result seat.new.me }
     {
         let word = root_index(&self.layout.shape, root.place);
@@ -78,7 +78,7 @@ impl<H: Told<Note = Noted>> PoolTable<H> {
         ensures counts { CountsOne seat.new.me.0 }
         ensures number { seat.new.me.0.own.number ≡ seat.old.me.0.own.number }
         ensures told { let shape = self.now.layout.shape in
-            let s = step (objects_of shape) (count_word_of shape root.place) 2 0 none in
+            let s = step (slots_of shape) (count_word_of shape root.place) 2 0 none in
             releases root s seat.old.me result seat.new.me }
     {
         let word = root_index(&self.layout.shape, root.place);

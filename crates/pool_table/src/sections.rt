@@ -4,12 +4,13 @@
 ghost use Rattle.std.specs.Prelude.{◌≡◌, ℕ, [], None, ◌+◌, ◌-◌, ◌<◌, true, IfOk, IfErr, IfSome, MatchBool};
 ghost use mathlib.Core.Option.{none};
 ghost use Rattle.atomic_table.specs.Table.{step};
-ghost use Rattle.pool_law.specs.Homes.{objects_of, IsObjectOf};
+ghost use Rattle.pool_law.specs.Homes.{IsObjectOf};
 ghost use Rattle.pool_law.specs.Naming.{noted_by};
 ghost use Rattle.pool_law.specs.declared.note.Object.TheVariants.{Root};
 ghost use Rattle.pool_table.specs.declared.views.Entry.TheVariants.{At};
 ghost use Rattle.pool_table.specs.Counts.{CountsOne};
 ghost use Rattle.pool_table.specs.Words.{word_of};
+ghost use Rattle.pool_table.specs.Slots.{slots_of};
 ghost use Rattle.pool_table.specs.Hands.{MayEnter};
 ghost use Rattle.pool_table.specs.Views.{left, with_entry};
 ghost use Rattle.pool_law.specs.NotedHistories.{MayNote};
@@ -20,9 +21,9 @@ ghost use Rattle.pool_table.specs.Holders.{HoldsPlace};
 ghost use Rattle.pool_table.specs.Steps.{claims, marks_claims};
 ghost use Rattle.pool_table.specs.Sections.{GotSection, FoundHeld, MayEnd, MayIdle};
 
-use crate::index::{home_index, word_index};
+use crate::index::object_slot;
 use crate::rule::{Claiming, Claims, Dones, Idles, MarksClaims};
-use crate::table::{PoolSeat, PoolTable, Section};
+use crate::table::{PoolSeat, PoolTable, Section, Slot};
 use crate::views::SeatView;
 use atomic_table::Seat;
 use pool_law::{Held, Named, Noted, Object};
@@ -36,9 +37,11 @@ impl<H: Told<Note = Noted>> PoolTable<H> {
         &self,
         seat: &mut Seat<Option<H>, SeatView>,
         object: Object,
+        slot: Slot,
         mark: bool,
     ) -> u64
         requires named { (C.object ≡ object) × (C.layout ≡ self.now.layout) }
+        requires word { slot.word ≡ word_of self.now.layout.shape object }
         requires own { seat.old.table_id ≡ self.now.table.shared.table_id }
         requires outside { (seat.old.me.0.inside ≡ None) × (seat.old.me.1 ≡ []) }
         requires object { IsObjectOf self.now.layout.shape object }
@@ -48,17 +51,17 @@ impl<H: Told<Note = Noted>> PoolTable<H> {
         ensures same { (seat.new.table_id ≡ seat.old.table_id) × (seat.new.id ≡ seat.old.id) }
         ensures number { seat.new.me.0.own.number ≡ seat.old.me.0.own.number }
         ensures told { let shape = self.now.layout.shape in
-            let s = step (objects_of shape) (word_of shape object) 1 0 none in
+            let s = step (slots_of shape) (word_of shape object) 1 0 none in
             MatchBool mark
             (marks_claims H.stands self.now.layout object s seat.old.me result seat.new.me)
             (claims H.stands self.now.layout object s seat.old.me result seat.new.me) }
     {
-        let slot = home_index(&self.layout.shape, object);
-        let word = word_index(&self.layout.shape, slot);
         if mark {
-            self.table.shared.fetch_or::<MarksClaims<C>>(seat, word, 1)
+            self.table
+                .shared
+                .fetch_or::<MarksClaims<C>>(seat, slot.word, 1)
         } else {
-            self.table.shared.fetch_or::<Claims<C>>(seat, word, 1)
+            self.table.shared.fetch_or::<Claims<C>>(seat, slot.word, 1)
         }
     }
 
@@ -87,17 +90,16 @@ impl<H: Told<Note = Noted>> PoolTable<H> {
         ensures free { IfErr result (λ _.
             (p : ℕ) → object ≡ Root p → HoldsPlace p (view_of seat.old) → ⊥) }
     {
-        let found = self.claim_word::<Brand>(&mut seat.seat, object, mark);
+        let slot = object_slot(&self.layout.shape, object);
+        let found = self.claim_word::<Brand>(&mut seat.seat, object, slot, mark);
         if found % 2 == 1 {
             return Err(Held {
                 object,
                 number: found / 2,
             });
         }
-        let slot = home_index(&self.layout.shape, object);
-        let Some(home) = self.table.shared.exchange(&mut seat.seat, slot, None) else {
-            unreachable!()
-        };
+        let taken = self.table.shared.exchange(&mut seat.seat, slot.home, None);
+        let Some(home) = taken else { unreachable!() };
         Ok(Section { home, object, slot })
     }
 
@@ -122,13 +124,15 @@ impl<H: Told<Note = Noted>> PoolTable<H> {
             object: _,
             slot,
         } = section;
-        let empty = self.table.shared.exchange(&mut seat.seat, slot, Some(home));
+        let empty = self
+            .table
+            .shared
+            .exchange(&mut seat.seat, slot.home, Some(home));
         let None = empty else { unreachable!() };
-        let word = word_index(&self.layout.shape, slot);
         let found = self
             .table
             .shared
-            .fetch_add::<Dones<N>>(&mut seat.seat, word, 1);
+            .fetch_add::<Dones<N>>(&mut seat.seat, slot.word, 1);
         found / 2 + 1
     }
 
@@ -146,11 +150,13 @@ impl<H: Told<Note = Noted>> PoolTable<H> {
             object: _,
             slot,
         } = section;
-        let empty = self.table.shared.exchange(&mut seat.seat, slot, Some(home));
+        let empty = self
+            .table
+            .shared
+            .exchange(&mut seat.seat, slot.home, Some(home));
         let None = empty else { unreachable!() };
-        let word = word_index(&self.layout.shape, slot);
         self.table
             .shared
-            .fetch_sub::<Idles>(&mut seat.seat, word, 1);
+            .fetch_sub::<Idles>(&mut seat.seat, slot.word, 1);
     }
 }

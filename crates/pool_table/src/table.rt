@@ -3,6 +3,7 @@
 ghost use Rattle.std.specs.Prelude.{◌≡◌, ◌≤◌, [], vec_capacity};
 ghost use Rattle.pool_law.specs.Homes.{objects_of};
 ghost use Rattle.pool_table.specs.Words.{listed_of, words_of};
+ghost use Rattle.pool_table.specs.Slots.{slots_of};
 ghost use Rattle.pool_table.specs.Sound.{IsShape};
 
 use crate::rule::{Opening, Rule};
@@ -24,7 +25,7 @@ pub struct PoolTable<H: Told<Note = Noted>> {
         × (listed_of layout.shape ≤ vec_capacity spare_words) },
     ghost key: { table.shared.key.layout ≡ layout },
     ghost words: { table.shared.table_id.words ≡ words_of layout.shape },
-    ghost slots: { table.shared.table_id.slots ≡ objects_of layout.shape },
+    ghost slots: { table.shared.table_id.slots ≡ slots_of layout.shape },
     ghost shape: { IsShape layout.shape },
 }
 
@@ -35,10 +36,17 @@ pub struct PoolSeat<H: Told<Note = Noted>> {
     ghost numbered: { seat.me.0.own.number ≡ number },
 }
 
+/// Where an object's home value and its word lie.
+#[derive(Clone, Copy)]
+pub(crate) struct Slot {
+    pub(crate) home: usize,
+    pub(crate) word: usize,
+}
+
 /// A section that a seat is in, with the home value of its object. It must be spent, by `done` or
 /// `idle`.
 pub struct Section<H: Told<Note = Noted>> {
     pub(crate) home: H,
     pub(crate) object: Object,
-    pub(crate) slot: usize,
+    pub(crate) slot: Slot,
 }

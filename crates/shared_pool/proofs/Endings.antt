@@ -17,6 +17,7 @@ use Rattle.pool_table.specs.declared.views.Layout.{Layout}
 use Rattle.pool_table.specs.declared.views.SeatView.{SeatView}
 use Rattle.pool_table.specs.declared.table.PoolSeat.{PoolSeat}
 use Rattle.pool_table.specs.declared.table.Section.{Section}
+use Rattle.pool_table.specs.declared.table.Slot.{Slot}
 use Rattle.pool_table.specs.Counts.{CountsOne}
 use Rattle.pool_table.specs.Numbers.{IsAbove}
 use Rattle.pool_table.specs.Views.{with_entry}
@@ -49,7 +50,7 @@ module _ {G : Ghosts Home Noted} (l : Layout) (o : Object) (old new : PoolSeat H
   ends after n next =
       record {
         history = got.history;
-        inside = subst (λ (x : Object × ℕ). IsInside l.shape new.seat.me x.0 x.1 got.history) (λ i. (sym object_is i, sym next.same_slot i)) got.inside;
+        inside = subst (λ (x : Object × Slot). IsInside l.shape new.seat.me x.0 x.1 got.history) (λ i. (sym object_is i, sym next.same_slot i)) got.inside;
         follows = subst (λ (x : Object × Option ℕ). IsHistory l.shape x.0 (got.history ++ noted_by x.1 n ∷ [])) (λ i. (sym object_is i, sym number_is i)) next.follows;
         stands_for = record {
           setting = setting;

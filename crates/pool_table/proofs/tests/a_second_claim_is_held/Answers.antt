@@ -1,4 +1,4 @@
-use Rattle.std.proofs.Common.{rules, ◌≡◌, ℕ, ◌∷◌, ◌++◌, [], List, length, sym, ap, ◌∙◌, subst, arith}
+use Rattle.std.proofs.Common.{rules, ◌≡◌, ◌∷◌, ◌++◌, [], List, length, sym, ap, ◌∙◌, subst, arith}
 use Rattle.step_law.specs.Settings.{Setting}
 use Rattle.std.specs.Prelude.{Option, Some, None, IfSome}
 use Rattle.pool_law.specs.declared.note.Noted.{Noted}
@@ -6,6 +6,7 @@ use Rattle.pool_law.specs.declared.note.Did.TheVariants.{Handle}
 use Rattle.pool_law.specs.declared.note.Object.{Object}
 use Rattle.pool_law.specs.Naming.{noted_by}
 use Rattle.pool_table.specs.Seats.{view_of}
+use Rattle.pool_table.specs.declared.table.Slot.{Slot}
 use Rattle.pool_table.specs.Sections.{IsInside}
 use Rattle.pool_table.proofs.Trials.{none_of, first_handle}
 use Rattle.pool_table.proofs.tests.a_second_claim_is_held.Goals as goal
@@ -22,7 +23,7 @@ done-noted_at-requires-clause-section g c =
     let same = c.write.ensures.same in let object = same.0 ∙ got.object in
     let n : Noted = record { did = Handle 0; lane = None; watch = None; root = None; region = None } in record {
       history = h;
-      inside = subst (λ (y : Object × ℕ). IsInside shape c.claim.new.seat.seat.me y.0 y.1 h) (λ q. (sym object q, sym same.1 q)) got.inside;
+      inside = subst (λ (y : Object × Slot). IsInside shape c.claim.new.seat.seat.me y.0 y.1 h) (λ q. (sym object q, sym same.1 q)) got.inside;
       follows = first_handle shape c.write.new.section.object h (view_of c.claim.new.seat).own.number (ap (λ l. l.shape.handles) c.in_ok-table.ensures.layout) object (sym stood ∙ none_of items len);
       stands_for = record {
         setting = first.0;

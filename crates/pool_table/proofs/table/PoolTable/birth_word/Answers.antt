@@ -1,6 +1,6 @@
 use mathlib.Core.Option.{none}
 use Rattle.atomic_table.specs.Table.{step}
-use Rattle.pool_law.specs.Homes.{objects_of}
+use Rattle.pool_table.specs.Slots.{slots_of}
 use Rattle.pool_table.specs.Words.{count_word_of}
 use Rattle.pool_table.proofs.Calls.{within, births_as, births_told}
 use Rattle.pool_table.proofs.table.PoolTable.birth_word.Goals as goal
@@ -14,4 +14,4 @@ fetch_add-requires g c = (
 
 pub returns-clause-told : goal.returns-clause-told
 returns-clause-told g c = let shape = c.args.self.now.layout.shape in
-    births_told g.R.Rooted.root c.args.root (step (objects_of shape) (count_word_of shape c.args.root.place) 4294967297 0 none) c.args.seat.now.me c.fetch_add.result c.fetch_add.new.seat.me c.requires.named c.fetch_add.ensures.2.0
+    births_told g.R.Rooted.root c.args.root (step (slots_of shape) (count_word_of shape c.args.root.place) 4294967297 0 none) c.args.seat.now.me c.fetch_add.result c.fetch_add.new.seat.me c.requires.named c.fetch_add.ensures.2.0

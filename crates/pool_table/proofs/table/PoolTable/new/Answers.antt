@@ -1,13 +1,12 @@
-use Rattle.std.proofs.Common.{◌≡◌, length, sym, ap, ◌∙◌, subst, arith}
-use Rattle.std.specs.Prelude.{Some}
-use Rattle.std.proofs.lemmas.List.{length-map}
-use Rattle.std.proofs.lemmas.Grind.{common_steps}
+use Rattle.std.proofs.Common.{rules, ◌≡◌, ◌≤◌, ℕ, length, sym, ap, ◌∙◌, subst, arith}
+use Rattle.std.specs.Prelude.{filter_map, vec_len, vec_capacity}
 use Rattle.atomic_table.specs.Table.{opening}
 use Rattle.step_law.specs.Settings.{Setting}
 use Rattle.pool_table.specs.Words.{IsOpening}
 use Rattle.pool_table.specs.Sound.{IsSound}
 use Rattle.pool_table.specs.Steps.{first_view}
-use Rattle.pool_table.proofs.Starts.{opens_as, map_some, all_some}
+use Rattle.pool_table.proofs.Slots.{gathered_all, laid_many}
+use Rattle.pool_table.proofs.Starts.{opens_as}
 use Rattle.pool_table.proofs.table.PoolTable.new.Goals as goal
 
 pub new-requires : goal.new-requires
@@ -16,12 +15,22 @@ new-requires g c =
     subst (λ (y : Setting). IsSound g.H.Told.stands c.args.layout (opening c.as_slice.result.now c.wrapped-slots.result.items (first_view c.args.layout y))) (ap (λ v. g.H.Told.settles v.items) (sym c.of.ensures))
     (opens_as g.H.Told.stands c.args.layout gs _ _ c.args.homes.items c.requires.shape c.requires.turns c.requires.moves (subst (IsOpening c.args.layout.shape) (sym c.as_slice.ensures.value) c.in-Ok.ensures.words) c.wrapped-slots.ensures.slots c.requires.homes c.requires.stand)
 
-pub unwrapped-requires : goal.unwrapped-requires
-unwrapped-requires g c = let same = c.in-Err.ensures.err ∙ c.wrapped-slots.ensures.slots in (
-  c.wrapped-slots.ensures.homes.0,
-  (let a : length c.in-Err.field-0.slots.items ≡ length c.args.homes.items = ap length same ∙ length-map c.args.homes.items Some in let b = c.wrapped-slots.ensures.homes.1 in grind (arith, common_steps, a, b)),
-  all_some c.args.homes.items c.in-Err.field-0.slots.items same,
-)
+pub invariant_of-table : goal.invariant_of-table
+invariant_of-table g c =
+    let s = c.args.layout.shape in record {
+      room_for_homes = c.in-Ok.ensures.spare_homes;
+      room_for_words = c.in-Ok.ensures.spare_words;
+      key = search (rules);
+      words = search (rules);
+      slots = c.in-Ok-new.ensures.ok.1 ∙ (ap length c.wrapped-slots.ensures.slots ∙ laid_many s c.args.homes.items c.requires.homes);
+      shape = c.requires.shape;
+    }
+
+pub unwrapped-requires-clause-room : goal.unwrapped-requires-clause-room
+unwrapped-requires-clause-room g c =
+    let same = ap (λ l. filter_map (λ x. x) l) (c.in-Err.ensures.err ∙ c.wrapped-slots.ensures.slots) ∙ gathered_all c.args.layout.shape 0 c.args.homes.items in
+    let a = c.wrapped-slots.ensures.homes.1 in let long : length c.args.homes.items ≡ vec_len c.args.homes = search (rules) in
+    subst (λ (n : ℕ). n ≤ vec_capacity c.wrapped-slots.new.homes) (sym (ap length same)) (let g : length c.args.homes.items ≤ vec_capacity c.wrapped-slots.new.homes = omega (arith, long, a) in g)
 
 pub returns-clause-err : goal.returns-clause-err
-returns-clause-err g c = map_some c.unwrapped.result.items c.args.homes.items (c.unwrapped.ensures ∙ (c.in-Err.ensures.err ∙ c.wrapped-slots.ensures.slots))
+returns-clause-err g c = c.unwrapped.ensures ∙ (ap (λ l. filter_map (λ x. x) l) (c.in-Err.ensures.err ∙ c.wrapped-slots.ensures.slots) ∙ gathered_all c.args.layout.shape 0 c.args.homes.items)
