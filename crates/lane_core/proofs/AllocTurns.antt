@@ -1,6 +1,6 @@
 -- The turns of a command that begins an allocation, and what an allocation asks of the desk's counts.
 use Rattle.std.proofs.Common.{◌≡◌, ℕ, ◌*◌, ◌<◌, List, ◌++◌, Bool, length, map, refl, sym, ap, ◌∙◌, subst, arith, Option, Some, None}
-use Rattle.std.specs.Prelude.{if◌then◌else◌, is_some}
+use Rattle.std.specs.Prelude.{if◌then◌else◌, is_some, vec_capacity}
 use Rattle.std.proofs.lemmas.List.{length-map}
 use Rattle.size_classes.specs.Sizes.{class_of}
 use Rattle.pool_law.specs.declared.command.Command.{Command}
@@ -22,53 +22,63 @@ use Rattle.lane_core.specs.declared.desk.Stage.TheVariants.{Ready, Allotting, En
 use Rattle.lane_core.specs.declared.desk.Turn.{Turn}
 use Rattle.lane_core.specs.declared.desk.Turn.TheVariants.{Went, Pending, Waiting}
 use Rattle.lane_core.specs.declared.access.Refusal.TheVariants.{Taken}
-use Rattle.lane_core.specs.declared.notes.Notes.{Notes}
 use Rattle.lane_core.specs.declared.allotment.Allotting.{Allotting as AllotStage}
 use Rattle.lane_core.specs.declared.allotment.Allotting.TheVariants.{Handle as AskHandle}
+use Rattle.lane_core.specs.declared.allotment.Allots.{Allots}
 use Rattle.lane_core.specs.declared.allotment.Allots.TheVariants.{New}
-use Rattle.lane_core.specs.NoteLists.{notes_in}
 use Rattle.lane_core.specs.Allotments as allotment
 use Rattle.lane_core.specs.Accesses.{IsState}
 use Rattle.lane_core.specs.Counting.{counted, one_for}
 use Rattle.lane_core.specs.Hands.{empty_hand}
 use Rattle.lane_core.specs.Named.{bound_at}
 use Rattle.lane_core.specs.Desks.{IsDesk, notes_of, entries_of, reads_from, reads_allot, left_for, HasRoomFor, HasTurned}
-use Rattle.lane_core.specs.DeskSteps.{HasNoted, HasReplied, MayTurn}
+use Rattle.lane_core.specs.DeskSteps.{HasReplied, CanAnswer, MayTurn}
 use Rattle.lane_core.proofs.EntryCounts.{few_counted, alone_added}
 use Rattle.lane_core.proofs.StateReads.{looked_up}
 use Rattle.lane_core.proofs.Turning.{noteless, refused_turn}
-use Rattle.lane_core.proofs.StageTurns.{Staged, allotted, staged_counts, staged_names}
+use Rattle.lane_core.proofs.DeskLaws.{noted_so}
+use Rattle.lane_core.proofs.StageTurns.{Staged, allotted, answers_behind, staged_counts, staged_names}
 
--- a root was born, and what its count asks of the desk that noted that
-module _ (pool : SharedPool) (old start mid : Desk) (name size class : ℕ) (stage : AllotStage) (d : IsDesk pool (allotment.hand_of stage) old) (class_is : class_of (geometry_of old.shape) size ≡ Some class) (start_is : start ≡ record old { seat = start.seat; sampler = start.sampler }) (notes : Notes) (noted : HasNoted start mid (notes_in notes))
-    (root : RootId) (region : RegionId) (did : allotment.HasAllotted pool old.seat start.seat old.sampler start.sampler size class stage (New root region, notes)) where
-  new_staged : Staged pool (allotment.hand_of stage) empty_hand old start mid did.wrote.added (one_for root)
-  new_staged = allotted pool old start mid name size class stage d class_is start_is notes noted (New root region) did
+-- a step of an allocation, and the desk behind it
+module _ (pool : SharedPool) (old mid : Desk) (name size class : ℕ) (stage : AllotStage) (d : IsDesk pool (allotment.hand_of stage) old) (class_is : class_of (geometry_of old.shape) size ≡ Some class) (mid_so : mid ≡ record old { seat = mid.seat; sampler = mid.sampler; notes = mid.notes }) where
+  -- it can be answered
+  pub allot_can : (allots : Allots) → allotment.HasAllotted pool old.seat mid.seat old.sampler mid.sampler old.notes mid.notes size class stage allots → HasRoomFor old (allotment.left_of stage) → length old.replies.items < vec_capacity old.replies → CanAnswer mid
+  allot_can allots did room replies =
+      let start : Desk = record old { seat = mid.seat; sampler = mid.sampler } in
+      answers_behind pool (allotment.hand_of stage) old d (allotment.left_of stage) (allotment.left_after allots) room (view_of mid.seat) did.wrote.added did.written did.wrote.more did.wrote.noted did.spends start mid refl (noted_so start mid did.written did.log mid_so) replies
 
-  counts_kept : mid.counts ≡ old.counts
-  counts_kept = staged_counts pool (allotment.hand_of stage) empty_hand old start mid did.wrote.added (one_for root) new_staged
+  -- a root was born, and what its count asks of the desk that noted that
+  module _ (root : RootId) (region : RegionId) (did : allotment.HasAllotted pool old.seat mid.seat old.sampler mid.sampler old.notes mid.notes size class stage (New root region)) where
+    abbrev born_start : Desk
+    born_start = record old { seat = mid.seat; sampler = mid.sampler }
 
-  -- the root's place is one of the desk's
-  pub new_place : root.place < length mid.counts
-  new_place =
-      let places : length mid.counts ≡ pool.table.layout.shape.lanes * pool.table.layout.shape.handles = ap (λ (cs : List Counted). length cs) counts_kept ∙ d.places ∙ (λ i. (d.shape i).lanes * (d.shape i).handles) in
-      subst (λ (n : ℕ). root.place < n) (sym places) did.place
+    new_staged : Staged pool (allotment.hand_of stage) empty_hand old born_start mid did.wrote.added (one_for root)
+    new_staged = allotted pool old mid name size class stage d class_is mid_so (New root region) did
 
-  -- of the place no other root is counted
-  pub new_alone : (other : RootId) → other.place ≡ root.place → 0 < counted mid.counts other → other ≡ root
-  new_alone other at some =
-      alone_added old.counts (view_of old.seat) (view_of start.seat) did.wrote.added (one_for root) d.counts did.wrote.seat.alone did.wrote.more.notes did.counts did.wrote.seat.counts root
-      (let a : one_for root root ≡ 1 = ap (λ (b : Bool). if b then 1 else 0) (same_root-refl root) in omega (arith, a))
-      other at (subst (λ (cs : List Counted). 0 < counted cs other) counts_kept some)
+    counts_kept : mid.counts ≡ old.counts
+    counts_kept = staged_counts pool (allotment.hand_of stage) empty_hand old born_start mid did.wrote.added (one_for root) new_staged
 
-  -- it isn't counted too often for one count more
-  pub new_few : HasRoomFor old (allotment.left_of stage) → counted mid.counts root < 4294967295
-  new_few room =
-      let a = few_counted old.counts (entries_of old) d.counts root in let b = length-map (notes_of old) entry_of in let e = room.few in
-      subst (λ (cs : List Counted). counted cs root < 4294967295) (sym counts_kept) (omega (arith, a, b, e))
+    -- the root's place is one of the desk's
+    pub new_place : root.place < length mid.counts
+    new_place =
+        let places : length mid.counts ≡ pool.table.layout.shape.lanes * pool.table.layout.shape.handles = ap (λ (cs : List Counted). length cs) counts_kept ∙ d.places ∙ (λ i. (d.shape i).lanes * (d.shape i).handles) in
+        subst (λ (n : ℕ). root.place < n) (sym places) did.place
 
-  pub new_name : name < length old.names → name < length mid.names
-  new_name lt = subst (λ (names : List (Option ViewData)). name < length names) (sym (staged_names pool (allotment.hand_of stage) empty_hand old start mid did.wrote.added (one_for root) new_staged)) lt
+    -- of the place no other root is counted
+    pub new_alone : (other : RootId) → other.place ≡ root.place → 0 < counted mid.counts other → other ≡ root
+    new_alone other at some =
+        alone_added old.counts (view_of old.seat) (view_of mid.seat) did.wrote.added (one_for root) d.counts did.wrote.seat.alone did.wrote.more.notes did.counts did.wrote.seat.counts root
+        (let a : one_for root root ≡ 1 = ap (λ (b : Bool). if b then 1 else 0) (same_root-refl root) in omega (arith, a))
+        other at (subst (λ (cs : List Counted). 0 < counted cs other) counts_kept some)
+
+    -- it isn't counted too often for one count more
+    pub new_few : HasRoomFor old (allotment.left_of stage) → counted mid.counts root < 4294967295
+    new_few room =
+        let a = few_counted old.counts (entries_of old) d.counts root in let b = length-map (notes_of old) entry_of in let e = room.few in
+        subst (λ (cs : List Counted). counted cs root < 4294967295) (sym counts_kept) (omega (arith, a, b, e))
+
+    pub new_name : name < length old.names → name < length mid.names
+    new_name lt = subst (λ (names : List (Option ViewData)). name < length names) (sym (staged_names pool (allotment.hand_of stage) empty_hand old born_start mid did.wrote.added (one_for root) new_staged)) lt
 
 module _ (pool : SharedPool) (old new : Desk) (name size : ℕ) (s : LaneState) (state : IsState s old.names old.counts) where
   abbrev command : Command

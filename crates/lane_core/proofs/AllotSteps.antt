@@ -1,6 +1,7 @@
 -- The steps of an allocation, by what the pool answered.
 use Rattle.std.proofs.Common.{◌≡◌, ℕ, ◌+◌, ◌-◌, ◌*◌, ◌%◌, ◌<◌, ◌≤◌, List, [], ◌∷◌, true, false, refl, sym, ap, ◌∙◌, subst, arith}
 use Rattle.std.specs.Prelude.{Option, unwrap_or}
+use Rattle.std.specs.Global.{Vec}
 use Rattle.step_law.specs.declared.Told.{Ghosts}
 use Rattle.pool_law.specs.declared.id.Region.{Region}
 use Rattle.pool_law.specs.declared.id.RootId.{RootId}
@@ -28,7 +29,7 @@ use Rattle.shared_pool.specs.Notes.{plain}
 use Rattle.shared_pool.specs.RootNotes.{birth, IsNotedWith}
 use Rattle.shared_pool.specs.SeatLanes.{lane_of}
 use Rattle.shared_pool.specs.Seats.{IsPoolSeat, IsNoted, FoundBusy}
-use Rattle.lane_core.specs.declared.notes.Notes.TheVariants.{None as NoNotes, One, Two}
+use Rattle.lane_core.specs.Logs.{HasWritten}
 use Rattle.lane_core.specs.declared.allotment.Allotting.{Allotting}
 use Rattle.lane_core.specs.declared.allotment.Allotting.TheVariants.{Handle, Cache as AskCache, Arena as AskArena, Birth, Home}
 use Rattle.lane_core.specs.declared.allotment.Allots.TheVariants.{More, Held as HeldBack, New as NewRoot, NoHandle, Full}
@@ -38,9 +39,18 @@ use Rattle.lane_core.proofs.EntryCounts.{born_added, none_added, still_added}
 use Rattle.lane_core.proofs.Grown.{Grows, note_at, grows_noted, grows_busy, grows_held, grows_with, spends}
 use Rattle.lane_core.proofs.HandLaws.{held_on, handle_comes, handle_goes, no_handle, region_taken, arena_full, region_hit, cache_missed, marked_busy, both_born}
 use Rattle.lane_core.proofs.Holds.{is_handle, is_region}
+use Rattle.lane_core.proofs.LogLaws.{wrote_none}
 use Rattle.lane_core.proofs.OneNote.{wrote_note, wrote_mark, wrote_nothing, found_there}
 use Rattle.lane_core.proofs.Readings.{read_handle, read_handle_uncached, read_hit, read_missed, read_busy, read_taken, read_full, read_born, read_home}
 use Rattle.pool_law.proofs.PatternLemmas.{allot-no_handle}
+
+-- each stage has a note left
+pub allot_left : (stage : Allotting) → 1 ≤ (left_of stage).notes
+allot_left Handle = omega arith
+allot_left (AskCache handle) = omega arith
+allot_left (AskArena handle) = omega arith
+allot_left (Birth handle region) = omega arith
+allot_left (Home handle) = omega arith
 
 module _ {G : Ghosts HomeValue Noted} (pool : SharedPool) (old new : PoolSeat HomeValue G) (class : ℕ) (is : IsPoolSeat pool new) (same : SameSeat old new) where
   abbrev shape : Shape
@@ -59,13 +69,15 @@ module _ {G : Ghosts HomeValue Noted} (pool : SharedPool) (old new : PoolSeat Ho
   pub own_still : (h : HandleValue) (es : List Entry) (spent : ℕ) → Grows v w es spent → IsOwnHandle pool old h → IsOwnHandle pool new h
   own_still h es spent grows own = (own.0, own.1 ∙ sym (ap (λ (x : Option ℕ). unwrap_or x 0) grows.more.number))
 
-  module _ (number : ℕ) (note : Note) (sampler : Sampling) (size : ℕ) where
+  module _ (number : ℕ) (note : Note) (log later : Vec Note) (adds : HasWritten log later (note ∷ [])) (sampler : Sampling) (size : ℕ) where
     pub asked_none : MayAllot pool old class Handle → IsNoted pool old new (Bin lane) number (plain Did.NoHandle) → note ≡ Note.At (Bin lane) number Did.NoHandle →
-        HasAllotted pool old new sampler sampler size class Handle (NoHandle, One note)
+        HasAllotted pool old new sampler sampler log later size class Handle NoHandle
     asked_none may noted it =
         let n : Noted = plain Did.NoHandle in let e : Entry = note_at pool old new may.seat_is is (Bin lane) number n in
         let grows : Grows v w (e ∷ []) 0 = grows_noted pool old new may.seat_is is (Bin lane) number n noted in
         record {
+          written = note ∷ [];
+          log = adds;
           wrote = wrote_note pool old new may.seat_is is same sampler (rest_of shape lane size class Handle) (rest_after shape lane size class NoHandle) (Bin lane) number n note noted it (tt, refl)
               (λ rest. allot-no_handle shape lane size class number (entry_of e) rest refl);
           hand = held_on v w (e ∷ []) 0 empty_hand empty_hand grows (no_handle lane number v.own.number empty_hand lane) may.hand;
@@ -78,11 +90,13 @@ module _ {G : Ghosts HomeValue Noted} (pool : SharedPool) (old new : PoolSeat Ho
 
     module _ (h : HandleValue) where
       pub asked_handle : class < cached_classes → MayAllot pool old class Handle → IsNoted pool old new (Bin lane) number (plain (Did.Handle h.place)) → HoldsHandle pool new h → h.lane ≡ lane → note ≡ Note.At (Bin lane) number (Did.Handle h.place) →
-          HasAllotted pool old new sampler sampler size class Handle (More (AskCache h), One note)
+          HasAllotted pool old new sampler sampler log later size class Handle (More (AskCache h))
       asked_handle less may noted holds own it =
           let n : Noted = plain (Did.Handle h.place) in let e : Entry = note_at pool old new may.seat_is is (Bin lane) number n in
           let grows : Grows v w (e ∷ []) 0 = grows_noted pool old new may.seat_is is (Bin lane) number n noted in
           record {
+            written = note ∷ [];
+            log = adds;
             wrote = wrote_note pool old new may.seat_is is same sampler (rest_of shape lane size class Handle) (rest_after shape lane size class (More (AskCache h))) (Bin lane) number n note noted it (tt, refl)
                 (λ rest. read_handle shape lane size class h.place number (entry_of e) rest less refl);
             hand = held_on v w (e ∷ []) 0 empty_hand (hand_of (AskCache h)) grows (handle_comes lane number v.own.number empty_hand lane h.place) may.hand;
@@ -94,11 +108,13 @@ module _ {G : Ghosts HomeValue Noted} (pool : SharedPool) (old new : PoolSeat Ho
           }
 
       pub asked_handle_uncached : cached_classes ≤ class → MayAllot pool old class Handle → IsNoted pool old new (Bin lane) number (plain (Did.Handle h.place)) → HoldsHandle pool new h → h.lane ≡ lane → note ≡ Note.At (Bin lane) number (Did.Handle h.place) →
-          HasAllotted pool old new sampler sampler size class Handle (More (AskArena h), One note)
+          HasAllotted pool old new sampler sampler log later size class Handle (More (AskArena h))
       asked_handle_uncached more may noted holds own it =
           let n : Noted = plain (Did.Handle h.place) in let e : Entry = note_at pool old new may.seat_is is (Bin lane) number n in
           let grows : Grows v w (e ∷ []) 0 = grows_noted pool old new may.seat_is is (Bin lane) number n noted in
           record {
+            written = note ∷ [];
+            log = adds;
             wrote = wrote_note pool old new may.seat_is is same sampler (rest_of shape lane size class Handle) (rest_after shape lane size class (More (AskArena h))) (Bin lane) number n note noted it (tt, refl)
                 (λ rest. read_handle_uncached shape lane size class h.place number (entry_of e) rest more refl);
             hand = held_on v w (e ∷ []) 0 empty_hand (hand_of (AskArena h)) grows (handle_comes lane number v.own.number empty_hand lane h.place) may.hand;
@@ -110,11 +126,13 @@ module _ {G : Ghosts HomeValue Noted} (pool : SharedPool) (old new : PoolSeat Ho
           }
 
       pub cache_hit : (r : Region) → MayAllot pool old class (AskCache h) → IsNoted pool old new (Cache lane class) number (plain (Did.Hit r.id)) → HoldsRegion pool new r → r.id.class ≡ class → note ≡ Note.At (Cache lane class) number (Did.Hit r.id) →
-          HasAllotted pool old new sampler sampler size class (AskCache h) (More (Birth h r), One note)
+          HasAllotted pool old new sampler sampler log later size class (AskCache h) (More (Birth h r))
       cache_hit r may noted holds classed it =
           let o : Object = Cache lane class in let n : Noted = plain (Did.Hit r.id) in let e : Entry = note_at pool old new may.seat_is is o number n in
           let grows : Grows v w (e ∷ []) 0 = grows_noted pool old new may.seat_is is o number n noted in
           record {
+            written = note ∷ [];
+            log = adds;
             wrote = wrote_note pool old new may.seat_is is same sampler (rest_of shape lane size class (AskCache h)) (rest_after shape lane size class (More (Birth h r))) o number n note noted it (tt, refl)
                 (λ rest. read_hit shape lane size class h.place number (entry_of e) rest r.id refl);
             hand = held_on v w (e ∷ []) 0 (hand_of (AskCache h)) (hand_of (Birth h r)) grows (region_hit lane number v.own.number (hand_of (AskCache h)) lane class r.id) may.hand;
@@ -126,11 +144,13 @@ module _ {G : Ghosts HomeValue Noted} (pool : SharedPool) (old new : PoolSeat Ho
           }
 
       pub cache_empty : MayAllot pool old class (AskCache h) → IsNoted pool old new (Cache lane class) number (plain Did.Miss) → note ≡ Note.At (Cache lane class) number Did.Miss →
-          HasAllotted pool old new sampler sampler size class (AskCache h) (More (AskArena h), One note)
+          HasAllotted pool old new sampler sampler log later size class (AskCache h) (More (AskArena h))
       cache_empty may noted it =
           let o : Object = Cache lane class in let n : Noted = plain Did.Miss in let e : Entry = note_at pool old new may.seat_is is o number n in
           let grows : Grows v w (e ∷ []) 0 = grows_noted pool old new may.seat_is is o number n noted in
           record {
+            written = note ∷ [];
+            log = adds;
             wrote = wrote_note pool old new may.seat_is is same sampler (rest_of shape lane size class (AskCache h)) (rest_after shape lane size class (More (AskArena h))) o number n note noted it (tt, refl)
                 (λ rest. read_missed shape lane size class h.place number (entry_of e) rest refl);
             hand = held_on v w (e ∷ []) 0 (hand_of (AskCache h)) (hand_of (AskArena h)) grows (cache_missed lane number v.own.number (hand_of (AskCache h)) lane class) may.hand;
@@ -142,11 +162,13 @@ module _ {G : Ghosts HomeValue Noted} (pool : SharedPool) (old new : PoolSeat Ho
           }
 
       pub arena_gave : (r : Region) → MayAllot pool old class (AskArena h) → IsNoted pool old new (Arena (lane % shape.arenas)) number (plain (Did.Take class r.id)) → HoldsRegion pool new r → r.id.class ≡ class →
-          note ≡ Note.At (Arena (lane % shape.arenas)) number (Did.Take class r.id) → HasAllotted pool old new sampler sampler size class (AskArena h) (More (Birth h r), One note)
+          note ≡ Note.At (Arena (lane % shape.arenas)) number (Did.Take class r.id) → HasAllotted pool old new sampler sampler log later size class (AskArena h) (More (Birth h r))
       arena_gave r may noted holds classed it =
           let o : Object = Arena (lane % shape.arenas) in let n : Noted = plain (Did.Take class r.id) in let e : Entry = note_at pool old new may.seat_is is o number n in
           let grows : Grows v w (e ∷ []) 0 = grows_noted pool old new may.seat_is is o number n noted in
           record {
+            written = note ∷ [];
+            log = adds;
             wrote = wrote_note pool old new may.seat_is is same sampler (rest_of shape lane size class (AskArena h)) (rest_after shape lane size class (More (Birth h r))) o number n note noted it (tt, refl)
                 (λ rest. read_taken shape lane size class h.place number (entry_of e) rest r.id refl);
             hand = held_on v w (e ∷ []) 0 (hand_of (AskArena h)) (hand_of (Birth h r)) grows (region_taken lane number v.own.number (hand_of (AskArena h)) (lane % shape.arenas) class r.id) may.hand;
@@ -158,11 +180,13 @@ module _ {G : Ghosts HomeValue Noted} (pool : SharedPool) (old new : PoolSeat Ho
           }
 
       pub arena_was_full : MayAllot pool old class (AskArena h) → IsNoted pool old new (Arena (lane % shape.arenas)) number (plain (Did.Full class)) → note ≡ Note.At (Arena (lane % shape.arenas)) number (Did.Full class) →
-          HasAllotted pool old new sampler sampler size class (AskArena h) (More (Home h), One note)
+          HasAllotted pool old new sampler sampler log later size class (AskArena h) (More (Home h))
       arena_was_full may noted it =
           let o : Object = Arena (lane % shape.arenas) in let n : Noted = plain (Did.Full class) in let e : Entry = note_at pool old new may.seat_is is o number n in
           let grows : Grows v w (e ∷ []) 0 = grows_noted pool old new may.seat_is is o number n noted in
           record {
+            written = note ∷ [];
+            log = adds;
             wrote = wrote_note pool old new may.seat_is is same sampler (rest_of shape lane size class (AskArena h)) (rest_after shape lane size class (More (Home h))) o number n note noted it (tt, refl)
                 (λ rest. read_full shape lane size class h.place number (entry_of e) rest refl);
             hand = held_on v w (e ∷ []) 0 (hand_of (AskArena h)) (hand_of (Home h)) grows (arena_full lane number v.own.number (hand_of (AskArena h)) (lane % shape.arenas) class) may.hand;
@@ -174,11 +198,13 @@ module _ {G : Ghosts HomeValue Noted} (pool : SharedPool) (old new : PoolSeat Ho
           }
 
       pub went_home : MayAllot pool old class (Home h) → IsNoted pool old new (Bin h.lane) number (plain (Did.Home h.place)) → note ≡ Note.At (Bin h.lane) number (Did.Home h.place) →
-          HasAllotted pool old new sampler sampler size class (Home h) (Full, One note)
+          HasAllotted pool old new sampler sampler log later size class (Home h) Full
       went_home may noted it =
           let o : Object = Bin h.lane in let n : Noted = plain (Did.Home h.place) in let e : Entry = note_at pool old new may.seat_is is o number n in
           let grows : Grows v w (e ∷ []) 0 = grows_noted pool old new may.seat_is is o number n noted in
           record {
+            written = note ∷ [];
+            log = adds;
             wrote = wrote_note pool old new may.seat_is is same sampler (rest_of shape lane size class (Home h)) (rest_after shape lane size class Full) o number n note noted it (tt, refl)
                 (λ rest. read_home shape lane size class h.place number (entry_of e) rest h.lane may.fits.1 refl);
             hand = held_on v w (e ∷ []) 0 (hand_of (Home h)) empty_hand grows (handle_goes lane number v.own.number (hand_of (Home h)) h.lane h.place) may.hand;
@@ -190,11 +216,13 @@ module _ {G : Ghosts HomeValue Noted} (pool : SharedPool) (old new : PoolSeat Ho
           }
 
   -- another lane was in the cache
-  pub cache_busy : (h : HandleValue) (held : Held) (sampler : Sampling) (size : ℕ) → MayAllot pool old class (AskCache h) → FoundBusy pool (Cache lane class) true old new held →
-      HasAllotted pool old new sampler sampler size class (AskCache h) (More (AskArena h), One (Note.Busy held))
-  cache_busy h held sampler size may found =
+  pub cache_busy : (h : HandleValue) (held : Held) (log later : Vec Note) → HasWritten log later (Note.Busy held ∷ []) → (sampler : Sampling) (size : ℕ) → MayAllot pool old class (AskCache h) → FoundBusy pool (Cache lane class) true old new held →
+      HasAllotted pool old new sampler sampler log later size class (AskCache h) (More (AskArena h))
+  cache_busy h held log later adds sampler size may found =
       let grows : Grows v w (Busy held ∷ []) 0 = grows_busy pool old new may.seat_is is (Cache lane class) held found in
       record {
+        written = Note.Busy held ∷ [];
+        log = adds;
         wrote = wrote_mark pool old new may.seat_is is same sampler (rest_of shape lane size class (AskCache h)) (rest_after shape lane size class (More (AskArena h))) (Cache lane class) held found
             (λ rest. read_busy shape lane size class h.place 0 (entry_of (Busy held)) rest held found.object refl);
         hand = held_on v w (Busy held ∷ []) 0 (hand_of (AskCache h)) (hand_of (AskArena h)) grows (marked_busy lane 0 v.own.number (hand_of (AskCache h)) held) may.hand;
@@ -206,14 +234,16 @@ module _ {G : Ghosts HomeValue Noted} (pool : SharedPool) (old new : PoolSeat Ho
       }
 
   -- a root is born
-  pub root_born : (h : HandleValue) (r : Region) (root : RootId) (number size : ℕ) (first last : Sampling) (born step : Note) → MayAllot pool old class (Birth h r) → 0 < v.moves →
+  pub root_born : (h : HandleValue) (r : Region) (root : RootId) (number size : ℕ) (first last : Sampling) (born step : Note) (log later : Vec Note) → HasWritten log later (born ∷ step ∷ []) → MayAllot pool old class (Birth h r) → 0 < v.moves →
       IsNotedWith pool old new root number (birth root r.id (watch_of last)) Born (v.moves - 1) → root.place ≡ h.place → root.capacity ≡ size → last ≡ with_birth first →
       born ≡ Note.At (Root root.place) number (Did.Birth root (record r.id { uses = r.id.uses + 1 })) → step ≡ Note.Ref root Born →
-      HasAllotted pool old new first last size class (Birth h r) (NewRoot root (record r.id { uses = r.id.uses + 1 }), Two born step)
-  root_born h r root number size first last born step may moves noted at long sampled it next_it =
+      HasAllotted pool old new first last log later size class (Birth h r) (NewRoot root (record r.id { uses = r.id.uses + 1 }))
+  root_born h r root number size first last born step log later adds may moves noted at long sampled it next_it =
       let n : Noted = birth root r.id (watch_of last) in let e : Entry = note_at pool old new may.seat_is is (Root root.place) number n in let es : List Entry = e ∷ Ref root Born ∷ [] in
       let grows : Grows v w es 1 = grows_with pool old new may.seat_is is root number n Born (v.moves - 1) 1 noted (omega (arith, moves)) in
       record {
+        written = born ∷ step ∷ [];
+        log = adds;
         wrote = record {
           added = es;
           same = same;
@@ -232,12 +262,14 @@ module _ {G : Ghosts HomeValue Noted} (pool : SharedPool) (old new : PoolSeat Ho
       }
 
   -- another seat was there, and the same is to be tried again
-  pub found_held : (o : Object) (held : Held) (stage again : Allotting) (sampler : Sampling) (size : ℕ) → MayAllot pool old class stage → FoundBusy pool o false old new held → again ≡ stage → Fits pool new class stage →
-      HasAllotted pool old new sampler sampler size class stage (HeldBack held again, NoNotes)
-  found_held o held stage again sampler size may found alike fits =
+  pub found_held : (o : Object) (held : Held) (stage again : Allotting) (log : Vec Note) (sampler : Sampling) (size : ℕ) → MayAllot pool old class stage → FoundBusy pool o false old new held → again ≡ stage → Fits pool new class stage →
+      HasAllotted pool old new sampler sampler log log size class stage (HeldBack held again)
+  found_held o held stage again log sampler size may found alike fits =
       let grows : Grows v w [] 0 = grows_held pool old new may.seat_is is o held found in
-      subst (λ (x : Allotting). HasAllotted pool old new sampler sampler size class stage (HeldBack held x, NoNotes)) (sym alike)
+      subst (λ (x : Allotting). HasAllotted pool old new sampler sampler log log size class stage (HeldBack held x)) (sym alike)
       (record {
+        written = [];
+        log = wrote_none log;
         wrote = wrote_nothing pool old new may.seat_is is same sampler (rest_of shape lane size class stage) (rest_of shape lane size class stage) o held found (λ rest. refl);
         hand = subst (λ (x : SeatView). IsHeld (hand_of stage) x) (sym (ap (λ m. m.0) found.marked)) may.hand;
         fits = fits;

@@ -1,5 +1,6 @@
 -- The steps of a closing, by what the pool answered.
 use Rattle.std.proofs.Common.{◌≡◌, ℕ, ◌+◌, ◌-◌, ◌*◌, ◌<◌, ◌≤◌, List, [], ◌∷◌, false, refl, sym, ap, ◌∙◌, subst, arith}
+use Rattle.std.specs.Global.{Vec}
 use Rattle.step_law.specs.declared.Told.{Ghosts}
 use Rattle.pool_law.specs.declared.id.Region.{Region}
 use Rattle.pool_law.specs.declared.note.Did.{Did}
@@ -23,7 +24,7 @@ use Rattle.shared_pool.specs.Holding.{HoldsRegion}
 use Rattle.shared_pool.specs.Notes.{plain}
 use Rattle.shared_pool.specs.SeatLanes.{lane_of}
 use Rattle.shared_pool.specs.Seats.{IsPoolSeat, IsNoted, FoundBusy}
-use Rattle.lane_core.specs.declared.notes.Notes.TheVariants.{None as NoNotes, One}
+use Rattle.lane_core.specs.Logs.{HasWritten}
 use Rattle.lane_core.specs.declared.closing.Closing.{Closing}
 use Rattle.lane_core.specs.declared.closing.Closing.TheVariants.{Close, Shed, Give, Done}
 use Rattle.lane_core.specs.declared.closing.Closes.TheVariants.{More, Held as HeldBack}
@@ -34,6 +35,7 @@ use Rattle.lane_core.proofs.EntryCounts.{none_added, still_added}
 use Rattle.lane_core.proofs.Grown.{Grows, note_at, grows_noted, grows_held, own_more, spends}
 use Rattle.lane_core.proofs.HandLaws.{held_on, region_given, cache_closed, region_shed}
 use Rattle.lane_core.proofs.Holds.{is_region, region_stays}
+use Rattle.lane_core.proofs.LogLaws.{wrote_none}
 use Rattle.lane_core.proofs.OneNote.{wrote_note, wrote_nothing, found_there}
 use Rattle.lane_core.proofs.Readings.{classes_next, read_closed, read_shed, read_shed_given}
 
@@ -53,6 +55,13 @@ next_left class left (Shed other more) v is = (let a : 2 * more + closes_from (o
 next_left class left (Give other more region) v is = absurd is
 next_left class left Done v is = (omega arith, refl, refl, λ to. refl)
 
+-- each stage but the last has a note left
+pub close_left : {G : Ghosts HomeValue Noted} (pool : SharedPool) (seat : PoolSeat HomeValue G) (stage : Closing) → Fits pool seat stage → (stage ≡ Done → ⊥) → 1 ≤ (left_of stage (view_of seat)).notes
+close_left pool seat (Close class) fits more = omega (arith, fits)
+close_left pool seat (Shed class left) fits more = let a = fits.1 in omega (arith, a)
+close_left pool seat (Give class left region) fits more = omega arith
+close_left pool seat Done fits more = absurd (more refl)
+
 module _ {G : Ghosts HomeValue Noted} (pool : SharedPool) (old new : PoolSeat HomeValue G) (is : IsPoolSeat pool new) (same : SameSeat old new) where
   abbrev lane : ℕ
   lane = lane_of old
@@ -70,10 +79,10 @@ module _ {G : Ghosts HomeValue Noted} (pool : SharedPool) (old new : PoolSeat Ho
   next_fits class left (Give other more region) is less few = absurd is
   next_fits class left Done is less few = tt
 
-  module _ (class number : ℕ) (note : Note) where
+  module _ (class number : ℕ) (note : Note) (log later : Vec Note) (adds : HasWritten log later (note ∷ [])) where
     pub closed_with_quota : (quota : ℕ) (next : Closing) → MayClose pool old (Close class) → IsNoted pool old new (Cache lane class) number (plain (Did.Close quota)) → quota + in_own (gives_of lane class) v ≤ in_own (takes_of class) v → IsNext class quota next →
         hand_of next ≡ hand_of (Shed class quota) → ((l : ℕ) (es : Entries) → then_close l (classes_from (class + 1)) (sheds l class quota es) ≡ rest_of l next es) → note ≡ Note.At (Cache lane class) number (Did.Close quota) →
-        HasClosed pool old new (Close class) (More next, One note)
+        HasClosed pool old new log later (Close class) (More next)
     closed_with_quota quota next may noted few comes hand behind it =
         let o : Object = Cache lane class in let n : Noted = plain (Did.Close quota) in let e : Entry = note_at pool old new may.seat_is is o number n in
         let grows : Grows v w (e ∷ []) 0 = grows_noted pool old new may.seat_is is o number n noted in
@@ -82,6 +91,8 @@ module _ {G : Ghosts HomeValue Noted} (pool : SharedPool) (old new : PoolSeat Ho
         let all : takes_in (classes_from (class + 1)) w ≡ takes_in (classes_from (class + 1)) v = same_takes v w (classes_from (class + 1)) taken in
         let costs = closes_more class v may.fits in let after = next_left class quota next w comes in let a0 = after.0 in let a1 = after.1 in let a2 = after.2 in
         record {
+          written = note ∷ [];
+          log = adds;
           wrote = λ sampler. wrote_note pool old new may.seat_is is same sampler (rest_of lane (Close class)) (rest_of lane next) o number n note noted it (tt, refl)
               (λ rest. read_closed lane class number (entry_of e) rest quota may.fits refl ∙ behind lane rest);
           hand = subst (λ (h : Hand). IsHeld h w) (sym hand) (held_on v w (e ∷ []) 0 (hand_of (Close class)) (hand_of (Shed class quota)) grows (cache_closed lane number v.own.number empty_hand class quota) may.hand);
@@ -92,7 +103,7 @@ module _ {G : Ghosts HomeValue Noted} (pool : SharedPool) (old new : PoolSeat Ho
         }
 
     pub shed_one : (left : ℕ) (r : Region) → MayClose pool old (Shed class left) → IsNoted pool old new (Cache lane class) number (plain (Did.Shed r.id)) → HoldsRegion pool new r → note ≡ Note.At (Cache lane class) number (Did.Shed r.id) →
-        HasClosed pool old new (Shed class left) (More (Give class (left - 1) r), One note)
+        HasClosed pool old new log later (Shed class left) (More (Give class (left - 1) r))
     shed_one left r may noted holds it =
         let o : Object = Cache lane class in let n : Noted = plain (Did.Shed r.id) in let e : Entry = note_at pool old new may.seat_is is o number n in
         let grows : Grows v w (e ∷ []) 0 = grows_noted pool old new may.seat_is is o number n noted in
@@ -100,6 +111,8 @@ module _ {G : Ghosts HomeValue Noted} (pool : SharedPool) (old new : PoolSeat Ho
         let mine = taken class in let some = may.fits.1 in let few = may.fits.2 in
         let all : takes_in (classes_from (class + 1)) w ≡ takes_in (classes_from (class + 1)) v = same_takes v w (classes_from (class + 1)) taken in
         record {
+          written = note ∷ [];
+          log = adds;
           wrote = λ sampler. wrote_note pool old new may.seat_is is same sampler (rest_of lane (Shed class left)) (rest_of lane (Give class (left - 1) r)) o number n note noted it (tt, refl)
               (λ rest. read_shed lane class number (entry_of e) rest left r.id some refl);
           hand = held_on v w (e ∷ []) 0 (hand_of (Shed class left)) (hand_of (Give class (left - 1) r)) grows (region_shed lane number v.own.number empty_hand class left r.id) may.hand;
@@ -111,7 +124,7 @@ module _ {G : Ghosts HomeValue Noted} (pool : SharedPool) (old new : PoolSeat Ho
 
     pub gave_one : (left : ℕ) (r : Region) (next : Closing) → MayClose pool old (Give class left r) → IsNoted pool old new (Arena r.id.place.arena) number (plain (Did.Give r.id)) → IsNext class left next →
         hand_of next ≡ hand_of (Shed class left) → ((l : ℕ) (es : Entries) → then_close l (classes_from (class + 1)) (sheds l class left es) ≡ rest_of l next es) → note ≡ Note.At (Arena r.id.place.arena) number (Did.Give r.id) →
-        HasClosed pool old new (Give class left r) (More next, One note)
+        HasClosed pool old new log later (Give class left r) (More next)
     gave_one left r next may noted comes hand behind it =
         let o : Object = Arena r.id.place.arena in let n : Noted = plain (Did.Give r.id) in let e : Entry = note_at pool old new may.seat_is is o number n in
         let grows : Grows v w (e ∷ []) 0 = grows_noted pool old new may.seat_is is o number n noted in
@@ -120,6 +133,8 @@ module _ {G : Ghosts HomeValue Noted} (pool : SharedPool) (old new : PoolSeat Ho
         let all : takes_in (classes_from (class + 1)) w ≡ takes_in (classes_from (class + 1)) v = same_takes v w (classes_from (class + 1)) taken in
         let after = next_left class left next w comes in let a0 = after.0 in let a1 = after.1 in let a2 = after.2 in
         record {
+          written = note ∷ [];
+          log = adds;
           wrote = λ sampler. wrote_note pool old new may.seat_is is same sampler (rest_of lane (Give class left r)) (rest_of lane next) o number n note noted it (tt, refl)
               (λ rest. read_shed_given lane class number (entry_of e) rest left r.id refl ∙ behind lane rest);
           hand = subst (λ (h : Hand). IsHeld h w) (sym hand) (held_on v w (e ∷ []) 0 (hand_of (Give class left r)) (hand_of (Shed class left)) grows (region_given lane number v.own.number (hand_of (Shed class left)) r.id.place.arena r.id) may.hand);
@@ -130,12 +145,14 @@ module _ {G : Ghosts HomeValue Noted} (pool : SharedPool) (old new : PoolSeat Ho
         }
 
   -- another seat was there, and the same is to be tried again
-  pub found_held : (o : Object) (held : Held) (stage again : Closing) → MayClose pool old stage → FoundBusy pool o false old new held → again ≡ stage → HasClosed pool old new stage (HeldBack held again, NoNotes)
-  found_held o held stage again may found alike =
+  pub found_held : (o : Object) (held : Held) (stage again : Closing) (log : Vec Note) → MayClose pool old stage → FoundBusy pool o false old new held → again ≡ stage → HasClosed pool old new log log stage (HeldBack held again)
+  found_held o held stage again log may found alike =
       let grows : Grows v w [] 0 = grows_held pool old new may.seat_is is o held found in
       let view : w ≡ v = ap (λ m. m.0) found.marked in
-      subst (λ (x : Closing). HasClosed pool old new stage (HeldBack held x, NoNotes)) (sym alike)
+      subst (λ (x : Closing). HasClosed pool old new log log stage (HeldBack held x)) (sym alike)
       (record {
+        written = [];
+        log = wrote_none log;
         wrote = λ sampler. wrote_nothing pool old new may.seat_is is same sampler (rest_of lane stage) (rest_of lane stage) o held found (λ rest. refl);
         hand = subst (λ (x : SeatView). IsHeld (hand_of stage) x) (sym view) may.hand;
         fits = still stage view may.fits;

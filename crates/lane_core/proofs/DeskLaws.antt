@@ -1,6 +1,6 @@
 -- A desk behind a step of its seat, the notes of that step and an answer: it is a desk again, and what
 -- it turned.
-use Rattle.std.proofs.Common.{◌≡◌, ℕ, ◌+◌, ◌-◌, ◌<◌, ◌≤◌, List, [], ◌∷◌, ◌++◌, false, length, map, refl, sym, ap, ◌∙◌, subst, arith, Option, append-nil, append_assoc, length-append}
+use Rattle.std.proofs.Common.{◌≡◌, ℕ, ◌+◌, ◌-◌, ◌<◌, ◌≤◌, List, [], ◌∷◌, ◌++◌, false, length, map, refl, sym, ap, ◌∙◌, subst, arith, Option, append-nil, length-append}
 use Rattle.std.specs.Prelude.{vec_capacity, unwrap_or}
 use Rattle.std.proofs.lemmas.List.{map-append, length-map}
 use Rattle.step_law.specs.declared.Told.{Ghosts}
@@ -36,6 +36,7 @@ use Rattle.lane_core.specs.declared.desk.Turn.TheVariants.{Went, Pending, Waitin
 use Rattle.lane_core.specs.Budgets.{Left, Spends, notes_alone}
 use Rattle.lane_core.specs.Counting.{CountsAre}
 use Rattle.lane_core.specs.Hands.{Hand, empty_hand, IsHeld}
+use Rattle.lane_core.specs.Logs.{HasWritten}
 use Rattle.lane_core.specs.Named.{NamesAre}
 use Rattle.lane_core.specs.Sampled.{AreSampled, sampler_after}
 use Rattle.lane_core.specs.Desks.{IsDesk, notes_of, entries_of, reads_from, left_at, DeskGrew, GoesOn, HasRoomFor, ReceivesFrom, HasTurned}
@@ -250,13 +251,9 @@ module _ (pool : SharedPool) (hand after : Hand) (old start mid : Desk) (d : IsD
           held = tt;
         })
 
--- no note, and two lists of notes
-pub noted_both : (old mid new : Desk) (xs ys : List Note) → HasNoted old mid xs → HasNoted mid new ys → HasNoted old new (xs ++ ys)
-noted_both old mid new xs ys a b = record {
-  log = b.log ∙ ap (λ (ns : List Note). ns ++ ys) a.log ∙ append_assoc old.notes.items xs ys;
-  room = (let p = a.room in let q = b.room in omega (arith, p, q));
-  rest = b.rest ∙ ap (λ (x : Desk). record x { notes = new.notes }) a.rest;
-}
+-- what was written into the log was noted
+pub noted_so : (start mid : Desk) (notes : List Note) → HasWritten start.notes mid.notes notes → mid ≡ record start { notes = mid.notes } → HasNoted start mid notes
+noted_so start mid notes log rest = record { log = log.items; room = (let a = log.room in omega (arith, a)); rest = rest }
 
 -- ---- A command that waits.
 

@@ -1,5 +1,6 @@
 -- The steps of the end of a root, by what the pool answered.
 use Rattle.std.proofs.Common.{◌≡◌, ℕ, ◌<◌, ◌≤◌, List, [], ◌∷◌, true, false, refl, sym, ap, ◌∙◌, subst, arith}
+use Rattle.std.specs.Global.{Vec}
 use Rattle.step_law.specs.declared.Told.{Ghosts}
 use Rattle.pool_law.specs.declared.id.Region.{Region}
 use Rattle.pool_law.specs.declared.note.CacheNo.{CacheNo}
@@ -27,7 +28,7 @@ use Rattle.shared_pool.specs.Notes.{plain}
 use Rattle.shared_pool.specs.RootNotes.{end_of, IsNotedWith}
 use Rattle.shared_pool.specs.SeatLanes.{lane_of}
 use Rattle.shared_pool.specs.Seats.{IsPoolSeat, IsNoted, FoundBusy}
-use Rattle.lane_core.specs.declared.notes.Notes.TheVariants.{None as NoNotes, One, Two}
+use Rattle.lane_core.specs.Logs.{HasWritten}
 use Rattle.lane_core.specs.declared.retirement.Ending.{Ending}
 use Rattle.lane_core.specs.declared.retirement.Ending.TheVariants.{Root as EndRoot, Cache as AskCache, Arena as AskArena, Home}
 use Rattle.lane_core.specs.declared.retirement.Ends.TheVariants.{More, Held as HeldBack, Done}
@@ -37,8 +38,16 @@ use Rattle.lane_core.proofs.EntryCounts.{none_added, still_added, vacated_added}
 use Rattle.lane_core.proofs.Grown.{Grows, note_at, grows_noted, grows_busy, grows_held, grows_with, spends}
 use Rattle.lane_core.proofs.HandLaws.{held_on, handle_goes, region_given, region_kept, region_back, marked_busy, both_come}
 use Rattle.lane_core.proofs.Holds.{is_handle, is_region, region_stays}
+use Rattle.lane_core.proofs.LogLaws.{wrote_none}
 use Rattle.lane_core.proofs.OneNote.{wrote_note, wrote_mark, wrote_nothing, found_there}
 use Rattle.lane_core.proofs.Readings.{read_end, put_cached, put_uncached, read_kept, read_back, read_away_busy, read_given, read_gone}
+
+-- each stage has a note left
+pub end_left : (stage : Ending) → 1 ≤ (left_of stage).notes
+end_left (EndRoot token) = omega arith
+end_left (AskCache region handle) = omega arith
+end_left (AskArena region handle) = omega arith
+end_left (Home handle) = omega arith
 
 module _ {G : Ghosts HomeValue Noted} (pool : SharedPool) (old new : PoolSeat HomeValue G) (is : IsPoolSeat pool new) (same : SameSeat old new) where
   abbrev shape : Shape
@@ -53,14 +62,16 @@ module _ {G : Ghosts HomeValue Noted} (pool : SharedPool) (old new : PoolSeat Ho
   abbrev w : SeatView
   w = view_of new
 
-  module _ (number : ℕ) (note : Note) (h : HandleValue) where
+  module _ (number : ℕ) (note : Note) (log later : Vec Note) (adds : HasWritten log later (note ∷ [])) (h : HandleValue) where
     module _ (r : Region) where
       pub kept_there : MayEnd pool old (AskCache r h) → IsNoted pool old new (Cache r.id.owner r.id.class) number (plain (Did.Kept r.id)) → note ≡ Note.At (Cache r.id.owner r.id.class) number (Did.Kept r.id) →
-          HasEnded pool old new (AskCache r h) (More (Home h), One note)
+          HasEnded pool old new log later (AskCache r h) (More (Home h))
       kept_there may noted it =
           let o : Object = Cache r.id.owner r.id.class in let n : Noted = plain (Did.Kept r.id) in let e : Entry = note_at pool old new may.seat_is is o number n in
           let grows : Grows v w (e ∷ []) 0 = grows_noted pool old new may.seat_is is o number n noted in
           record {
+            written = note ∷ [];
+            log = adds;
             wrote = λ sampler. wrote_note pool old new may.seat_is is same sampler (rest_of shape (AskCache r h)) (rest_after shape (More (Home h))) o number n note noted it (tt, refl)
                 (λ rest. read_kept shape h.place number (entry_of e) rest r.id refl);
             hand = held_on v w (e ∷ []) 0 (hand_of (AskCache r h)) (hand_of (Home h)) grows (region_kept lane number v.own.number (hand_of (Home h)) r.id.owner r.id.class r.id) may.hand;
@@ -71,11 +82,13 @@ module _ {G : Ghosts HomeValue Noted} (pool : SharedPool) (old new : PoolSeat Ho
           }
 
       pub came_back : (why : CacheNo) → MayEnd pool old (AskCache r h) → IsNoted pool old new (Cache r.id.owner r.id.class) number (plain (Did.Back r.id why)) → note ≡ Note.At (Cache r.id.owner r.id.class) number (Did.Back r.id why) →
-          HasEnded pool old new (AskCache r h) (More (AskArena r h), One note)
+          HasEnded pool old new log later (AskCache r h) (More (AskArena r h))
       came_back why may noted it =
           let o : Object = Cache r.id.owner r.id.class in let n : Noted = plain (Did.Back r.id why) in let e : Entry = note_at pool old new may.seat_is is o number n in
           let grows : Grows v w (e ∷ []) 0 = grows_noted pool old new may.seat_is is o number n noted in
           record {
+            written = note ∷ [];
+            log = adds;
             wrote = λ sampler. wrote_note pool old new may.seat_is is same sampler (rest_of shape (AskCache r h)) (rest_after shape (More (AskArena r h))) o number n note noted it (tt, refl)
                 (λ rest. read_back shape h.place number (entry_of e) rest r.id why refl);
             hand = held_on v w (e ∷ []) 0 (hand_of (AskCache r h)) (hand_of (AskArena r h)) grows (region_back lane number v.own.number (hand_of (AskCache r h)) r.id.owner r.id.class r.id why) may.hand;
@@ -86,11 +99,13 @@ module _ {G : Ghosts HomeValue Noted} (pool : SharedPool) (old new : PoolSeat Ho
           }
 
       pub given_back : MayEnd pool old (AskArena r h) → IsNoted pool old new (Arena r.id.place.arena) number (plain (Did.Give r.id)) → note ≡ Note.At (Arena r.id.place.arena) number (Did.Give r.id) →
-          HasEnded pool old new (AskArena r h) (More (Home h), One note)
+          HasEnded pool old new log later (AskArena r h) (More (Home h))
       given_back may noted it =
           let o : Object = Arena r.id.place.arena in let n : Noted = plain (Did.Give r.id) in let e : Entry = note_at pool old new may.seat_is is o number n in
           let grows : Grows v w (e ∷ []) 0 = grows_noted pool old new may.seat_is is o number n noted in
           record {
+            written = note ∷ [];
+            log = adds;
             wrote = λ sampler. wrote_note pool old new may.seat_is is same sampler (rest_of shape (AskArena r h)) (rest_after shape (More (Home h))) o number n note noted it (tt, refl)
                 (λ rest. read_given shape h.place number (entry_of e) rest r.id refl);
             hand = held_on v w (e ∷ []) 0 (hand_of (AskArena r h)) (hand_of (Home h)) grows (region_given lane number v.own.number (hand_of (Home h)) r.id.place.arena r.id) may.hand;
@@ -100,11 +115,13 @@ module _ {G : Ghosts HomeValue Noted} (pool : SharedPool) (old new : PoolSeat Ho
             spends = spends v w (e ∷ []) 0 grows (left_of (AskArena r h)) (left_of (Home h)) (omega arith) (omega arith) (omega arith) (λ to. omega arith);
           }
 
-    pub gone_home : MayEnd pool old (Home h) → IsNoted pool old new (Bin h.lane) number (plain (Did.Home h.place)) → note ≡ Note.At (Bin h.lane) number (Did.Home h.place) → HasEnded pool old new (Home h) (Done, One note)
+    pub gone_home : MayEnd pool old (Home h) → IsNoted pool old new (Bin h.lane) number (plain (Did.Home h.place)) → note ≡ Note.At (Bin h.lane) number (Did.Home h.place) → HasEnded pool old new log later (Home h) Done
     gone_home may noted it =
         let o : Object = Bin h.lane in let n : Noted = plain (Did.Home h.place) in let e : Entry = note_at pool old new may.seat_is is o number n in
         let grows : Grows v w (e ∷ []) 0 = grows_noted pool old new may.seat_is is o number n noted in
         record {
+          written = note ∷ [];
+          log = adds;
           wrote = λ sampler. wrote_note pool old new may.seat_is is same sampler (rest_of shape (Home h)) (rest_after shape Done) o number n note noted it (tt, refl)
               (λ rest. read_gone shape h.place number (entry_of e) rest h.lane may.fits.lane refl);
           hand = held_on v w (e ∷ []) 0 (hand_of (Home h)) empty_hand grows (handle_goes lane number v.own.number (hand_of (Home h)) h.lane h.place) may.hand;
@@ -115,11 +132,13 @@ module _ {G : Ghosts HomeValue Noted} (pool : SharedPool) (old new : PoolSeat Ho
         }
 
   -- another lane was in the cache
-  pub away_busy : (r : Region) (h : HandleValue) (held : Held) → MayEnd pool old (AskCache r h) → FoundBusy pool (Cache r.id.owner r.id.class) true old new held → HasEnded pool old new (AskCache r h) (More (AskArena r h), One (Note.Busy held))
-  away_busy r h held may found =
+  pub away_busy : (r : Region) (h : HandleValue) (held : Held) (log later : Vec Note) → HasWritten log later (Note.Busy held ∷ []) → MayEnd pool old (AskCache r h) → FoundBusy pool (Cache r.id.owner r.id.class) true old new held → HasEnded pool old new log later (AskCache r h) (More (AskArena r h))
+  away_busy r h held log later adds may found =
       let o : Object = Cache r.id.owner r.id.class in
       let grows : Grows v w (Busy held ∷ []) 0 = grows_busy pool old new may.seat_is is o held found in
       record {
+        written = Note.Busy held ∷ [];
+        log = adds;
         wrote = λ sampler. wrote_mark pool old new may.seat_is is same sampler (rest_of shape (AskCache r h)) (rest_after shape (More (AskArena r h))) o held found
             (λ rest. read_away_busy shape h.place 0 (entry_of (Busy held)) rest r.id held found.object refl);
         hand = held_on v w (Busy held ∷ []) 0 (hand_of (AskCache r h)) (hand_of (AskArena r h)) grows (marked_busy lane 0 v.own.number (hand_of (AskCache r h)) held) may.hand;
@@ -130,7 +149,7 @@ module _ {G : Ghosts HomeValue Noted} (pool : SharedPool) (old new : PoolSeat Ho
       }
 
   -- a root ends, and its region is put away
-  module _ (token : EndToken) (r : Region) (h : HandleValue) (number : ℕ) (ended vacated : Note) (may : MayEnd pool old (EndRoot token)) (noted : IsNotedWith pool old new token.root number (end_of token.root r.id) Vacated v.moves)
+  module _ (token : EndToken) (r : Region) (h : HandleValue) (number : ℕ) (ended vacated : Note) (log later : Vec Note) (adds : HasWritten log later (ended ∷ vacated ∷ [])) (may : MayEnd pool old (EndRoot token)) (noted : IsNotedWith pool old new token.root number (end_of token.root r.id) Vacated v.moves)
       (holds : HoldsRegion pool new r) (handle : HoldsHandle pool new h) (at : h.place ≡ token.root.place) (it : ended ≡ Note.At (Root token.root.place) number (Did.End token.root)) (next_it : vacated ≡ Note.Ref token.root Vacated) where
     abbrev n : Noted
     n = end_of token.root r.id
@@ -144,8 +163,10 @@ module _ {G : Ghosts HomeValue Noted} (pool : SharedPool) (old new : PoolSeat Ho
     grows : Grows v w es 0
     grows = grows_with pool old new may.seat_is is token.root number n Vacated v.moves 0 noted (omega arith)
 
-    pub root_ended : r.id.class < cached_classes → HasEnded pool old new (EndRoot token) (More (AskCache r h), Two ended vacated)
+    pub root_ended : r.id.class < cached_classes → HasEnded pool old new log later (EndRoot token) (More (AskCache r h))
     root_ended less = record {
+      written = ended ∷ vacated ∷ [];
+      log = adds;
       wrote = λ sampler. record {
         added = es;
         same = same;
@@ -162,8 +183,10 @@ module _ {G : Ghosts HomeValue Noted} (pool : SharedPool) (old new : PoolSeat Ho
       spends = spends v w es 0 grows (left_of (EndRoot token)) (left_of (AskCache r h)) (omega arith) (omega arith) (omega arith) (λ to. omega arith);
     }
 
-    pub root_ended_uncached : cached_classes ≤ r.id.class → HasEnded pool old new (EndRoot token) (More (AskArena r h), Two ended vacated)
+    pub root_ended_uncached : cached_classes ≤ r.id.class → HasEnded pool old new log later (EndRoot token) (More (AskArena r h))
     root_ended_uncached more = record {
+      written = ended ∷ vacated ∷ [];
+      log = adds;
       wrote = λ sampler. record {
         added = es;
         same = same;
@@ -181,11 +204,13 @@ module _ {G : Ghosts HomeValue Noted} (pool : SharedPool) (old new : PoolSeat Ho
     }
 
   -- another seat was there, and the same is to be tried again
-  pub found_held : (o : Object) (held : Held) (stage again : Ending) → MayEnd pool old stage → FoundBusy pool o false old new held → again ≡ stage → Fits pool new stage → HasEnded pool old new stage (HeldBack held again, NoNotes)
-  found_held o held stage again may found alike fits =
+  pub found_held : (o : Object) (held : Held) (stage again : Ending) (log : Vec Note) → MayEnd pool old stage → FoundBusy pool o false old new held → again ≡ stage → Fits pool new stage → HasEnded pool old new log log stage (HeldBack held again)
+  found_held o held stage again log may found alike fits =
       let grows : Grows v w [] 0 = grows_held pool old new may.seat_is is o held found in
-      subst (λ (x : Ending). HasEnded pool old new stage (HeldBack held x, NoNotes)) (sym alike)
+      subst (λ (x : Ending). HasEnded pool old new log log stage (HeldBack held x)) (sym alike)
       (record {
+        written = [];
+        log = wrote_none log;
         wrote = λ sampler. wrote_nothing pool old new may.seat_is is same sampler (rest_of shape stage) (rest_of shape stage) o held found (λ rest. refl);
         hand = subst (λ (x : SeatView). IsHeld (hand_of stage) x) (sym (ap (λ m. m.0) found.marked)) may.hand;
         fits = fits;

@@ -3,6 +3,7 @@ pub mod CountLaws
 pub mod AccessLaws
 pub mod RoomLaws
 pub mod OpenedLaws
+pub mod LogLaws
 pub mod Grown
 pub mod HandLaws
 pub mod Holds

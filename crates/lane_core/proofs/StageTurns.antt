@@ -32,20 +32,16 @@ use Rattle.lane_core.specs.declared.desk.Desk.{Desk}
 use Rattle.lane_core.specs.declared.desk.Stage.{Stage}
 use Rattle.lane_core.specs.declared.desk.Stage.TheVariants.{Ready, Allotting, Ending, Closing}
 use Rattle.lane_core.specs.declared.desk.Turn.TheVariants.{Went, Pending}
-use Rattle.lane_core.specs.declared.notes.Notes.{Notes}
 use Rattle.lane_core.specs.declared.allotment.Allotting.{Allotting as AllotStage}
-use Rattle.lane_core.specs.declared.allotment.Allotting.TheVariants.{Handle as AskHandle, Cache as AskCache, Arena as AskArena, Birth, Home as GoHome}
 use Rattle.lane_core.specs.declared.allotment.Allots.{Allots}
 use Rattle.lane_core.specs.declared.allotment.Allots.TheVariants.{More, Held as AllotHeld, New}
 use Rattle.lane_core.specs.declared.retirement.Ending.{Ending as EndStage}
-use Rattle.lane_core.specs.declared.retirement.Ending.TheVariants.{Root as EndRoot, Cache as EndCache, Arena as EndArena, Home as EndHome}
 use Rattle.lane_core.specs.declared.retirement.Ends.{Ends}
 use Rattle.lane_core.specs.declared.retirement.Ends.TheVariants.{More as EndMore, Held as EndHeld, Done}
 use Rattle.lane_core.specs.declared.closing.Closing.{Closing as CloseStage}
-use Rattle.lane_core.specs.declared.closing.Closing.TheVariants.{Close as CloseOne, Shed, Give, Done as CloseDone}
+use Rattle.lane_core.specs.declared.closing.Closing.TheVariants.{Done as CloseDone}
 use Rattle.lane_core.specs.declared.closing.Closes.{Closes}
 use Rattle.lane_core.specs.declared.closing.Closes.TheVariants.{More as CloseMore, Held as CloseHeld}
-use Rattle.lane_core.specs.NoteLists.{notes_in}
 use Rattle.lane_core.specs.Closings as closing
 use Rattle.lane_core.specs.Allotments as allotment
 use Rattle.lane_core.specs.Endings as ending
@@ -59,7 +55,10 @@ use Rattle.lane_core.specs.Desks.{IsDesk, notes_of, reads_from, reads_allot, rea
 use Rattle.lane_core.specs.DeskSteps.{HasNoted, HasReplied, CanAnswer, CountsMore}
 use Rattle.lane_core.proofs.NameLaws.{NamesAre-bind}
 use Rattle.lane_core.proofs.EntryCounts.{Recounts, adds_recounted, alone_added}
-use Rattle.lane_core.proofs.DeskLaws.{Advances, mid_is, mid_grew, goes_on, answered}
+use Rattle.lane_core.proofs.AllotSteps.{allot_left}
+use Rattle.lane_core.proofs.EndSteps.{end_left}
+use Rattle.lane_core.proofs.CloseSteps.{close_left}
+use Rattle.lane_core.proofs.DeskLaws.{Advances, mid_is, mid_grew, goes_on, answered, noted_so}
 
 none_of : (es : List Entry) → map note_of es ≡ [] → es ≡ []
 none_of [] is = refl
@@ -130,20 +129,23 @@ module _ (pool : SharedPool) (before after : Hand) (old start mid : Desk) (added
 
 -- ---- An allocation.
 
-module _ (pool : SharedPool) (old start mid : Desk) (name size class : ℕ) (stage : AllotStage) (d : IsDesk pool (allotment.hand_of stage) old) (class_is : class_of (geometry_of old.shape) size ≡ Some class) (start_is : start ≡ record old { seat = start.seat; sampler = start.sampler }) (notes : Notes) (noted : HasNoted start mid (notes_in notes)) where
-  module _ (allots : Allots) (did : allotment.HasAllotted pool old.seat start.seat old.sampler start.sampler size class stage (allots, notes)) where
-    pub allotted : Staged pool (allotment.hand_of stage) (allotment.hand_after allots) old start mid did.wrote.added (allotment.born_in allots)
+module _ (pool : SharedPool) (old mid : Desk) (name size class : ℕ) (stage : AllotStage) (d : IsDesk pool (allotment.hand_of stage) old) (class_is : class_of (geometry_of old.shape) size ≡ Some class) (mid_so : mid ≡ record old { seat = mid.seat; sampler = mid.sampler; notes = mid.notes }) where
+  abbrev allot_start : Desk
+  allot_start = record old { seat = mid.seat; sampler = mid.sampler }
+
+  module _ (allots : Allots) (did : allotment.HasAllotted pool old.seat mid.seat old.sampler mid.sampler old.notes mid.notes size class stage allots) where
+    pub allotted : Staged pool (allotment.hand_of stage) (allotment.hand_after allots) old allot_start mid did.wrote.added (allotment.born_in allots)
     allotted = record {
       desk = d;
-      start_is = start_is ∙ (λ i. record old { seat = start.seat; counts = sym (ap (λ (x : Desk). x.counts) start_is) i; sampler = start.sampler });
-      counts_are = ap (λ (x : Desk). x.counts) start_is;
+      start_is = refl;
+      counts_are = refl;
       same = did.wrote.same;
       seat = did.wrote.seat;
       more = did.wrote.more;
       held = did.hand;
       sampled = did.wrote.sampled;
       adds = did.counts;
-      noted = subst (HasNoted start mid) (sym did.wrote.noted) noted;
+      noted = subst (HasNoted allot_start mid) (sym did.wrote.noted) (noted_so allot_start mid did.written did.log mid_so);
     }
 
     pub read_on : (rest : Entries) → allotment.rest_of old.shape (lane_of old.seat) size class stage (map entry_of did.wrote.added ++ rest) ≡ allotment.rest_after old.shape (lane_of old.seat) size class allots rest
@@ -154,36 +156,36 @@ module _ (pool : SharedPool) (old start mid : Desk) (name size class : ℕ) (sta
     abbrev reads_at : AllotStage → Entries → Answers
     reads_at at es = reads_from old.shape (lane_of old.seat) s command (Allotting name size class at) es
 
-    name_fits : (allots : Allots) → allotment.HasAllotted pool old.seat start.seat old.sampler start.sampler size class stage (allots, notes) → name < length old.names → name < length mid.names
+    name_fits : (allots : Allots) → allotment.HasAllotted pool old.seat mid.seat old.sampler mid.sampler old.notes mid.notes size class stage allots → name < length old.names → name < length mid.names
     name_fits allots did lt =
-        let is : mid.names ≡ old.names = staged_names pool (allotment.hand_of stage) (allotment.hand_after allots) old start mid did.wrote.added (allotment.born_in allots) (allotted allots did) in
+        let is : mid.names ≡ old.names = staged_names pool (allotment.hand_of stage) (allotment.hand_after allots) old allot_start mid did.wrote.added (allotment.born_in allots) (allotted allots did) in
         let same = ap (λ (names : List (Option ViewData)). length names) is in omega (arith, same, lt)
 
-    pub allot_goes : name < length old.names → (next : AllotStage) → allotment.HasAllotted pool old.seat start.seat old.sampler start.sampler size class stage (More next, notes) → HasTurned pool old mid s command (Allotting name size class stage) (Went (Allotting name size class next))
+    pub allot_goes : name < length old.names → (next : AllotStage) → allotment.HasAllotted pool old.seat mid.seat old.sampler mid.sampler old.notes mid.notes size class stage (More next) → HasTurned pool old mid s command (Allotting name size class stage) (Went (Allotting name size class next))
     allot_goes lt next did =
         let after : Hand = allotment.hand_of next in let st = allotted (More next) did in
-        let shape_is = staged_shape pool (allotment.hand_of stage) after old start mid did.wrote.added (λ root. 0) st in
-        let seat_is = staged_seat pool (allotment.hand_of stage) after old start mid did.wrote.added (λ root. 0) st in
+        let shape_is = staged_shape pool (allotment.hand_of stage) after old allot_start mid did.wrote.added (λ root. 0) st in
+        let seat_is = staged_seat pool (allotment.hand_of stage) after old allot_start mid did.wrote.added (λ root. 0) st in
         record {
           added = did.wrote.added;
-          grew = staged_grew pool (allotment.hand_of stage) after old start mid did.wrote.added (λ root. 0) st (λ root. refl);
+          grew = staged_grew pool (allotment.hand_of stage) after old allot_start mid did.wrote.added (λ root. 0) st (λ root. refl);
           fits = (subst (λ (shape : Shape). class_of (geometry_of shape) size ≡ Some class) (sym shape_is) class_is, subst (λ x. allotment.Fits pool x class next) (sym seat_is) did.fits);
           spends = subst (λ x. Spends (view_of old.seat) (view_of x) (allotment.left_of stage) (allotment.left_of next)) (sym seat_is) did.spends;
           name = name_fits (More next) did lt;
-          comes = staged_on pool (allotment.hand_of stage) after old start mid did.wrote.added (λ root. 0) st (some_of did.wrote.added (notes_in notes) did.wrote.noted did.again) (reads_at stage) (reads_at next) (λ rest. ap (reads_allot old.shape (lane_of old.seat) s name) (read_on (More next) did rest));
+          comes = staged_on pool (allotment.hand_of stage) after old allot_start mid did.wrote.added (λ root. 0) st (some_of did.wrote.added did.written did.wrote.noted did.again) (reads_at stage) (reads_at next) (λ rest. ap (reads_allot old.shape (lane_of old.seat) s name) (read_on (More next) did rest));
           waits = tt;
           held = tt;
         }
 
-    pub allot_waits : name < length old.names → (held : Held) (next : AllotStage) → allotment.HasAllotted pool old.seat start.seat old.sampler start.sampler size class stage (AllotHeld held next, notes) → HasTurned pool old mid s command (Allotting name size class stage) (Pending held (Allotting name size class next))
+    pub allot_waits : name < length old.names → (held : Held) (next : AllotStage) → allotment.HasAllotted pool old.seat mid.seat old.sampler mid.sampler old.notes mid.notes size class stage (AllotHeld held next) → HasTurned pool old mid s command (Allotting name size class stage) (Pending held (Allotting name size class next))
     allot_waits lt held next did =
         let after : Hand = allotment.hand_of next in let st = allotted (AllotHeld held next) did in
-        let shape_is = staged_shape pool (allotment.hand_of stage) after old start mid did.wrote.added (λ root. 0) st in
-        let seat_is = staged_seat pool (allotment.hand_of stage) after old start mid did.wrote.added (λ root. 0) st in
-        let still = staged_still pool (allotment.hand_of stage) after old start mid did.wrote.added (λ root. 0) st in
+        let shape_is = staged_shape pool (allotment.hand_of stage) after old allot_start mid did.wrote.added (λ root. 0) st in
+        let seat_is = staged_seat pool (allotment.hand_of stage) after old allot_start mid did.wrote.added (λ root. 0) st in
+        let still = staged_still pool (allotment.hand_of stage) after old allot_start mid did.wrote.added (λ root. 0) st in
         record {
           added = did.wrote.added;
-          grew = staged_grew pool (allotment.hand_of stage) after old start mid did.wrote.added (λ root. 0) st (λ root. refl);
+          grew = staged_grew pool (allotment.hand_of stage) after old allot_start mid did.wrote.added (λ root. 0) st (λ root. refl);
           fits = (subst (λ (shape : Shape). class_of (geometry_of shape) size ≡ Some class) (sym shape_is) class_is, subst (λ x. allotment.Fits pool x class next) (sym seat_is) did.fits);
           spends = subst (λ x. Spends (view_of old.seat) (view_of x) (allotment.left_of stage) (allotment.left_of next)) (sym seat_is) did.spends;
           name = name_fits (AllotHeld held next) did lt;
@@ -193,57 +195,60 @@ module _ (pool : SharedPool) (old start mid : Desk) (name size class : ℕ) (sta
         }
 
     -- a root was born, and its name is bound
-    pub allot_new : (new : Desk) (root : RootId) (region : RegionId) → allotment.HasAllotted pool old.seat start.seat old.sampler start.sampler size class stage (New root region, notes) → name < length old.names → (cs : List Counted) → CountsMore mid.counts cs root →
+    pub allot_new : (new : Desk) (root : RootId) (region : RegionId) → allotment.HasAllotted pool old.seat mid.seat old.sampler mid.sampler old.notes mid.notes size class stage (New root region) → name < length old.names → (cs : List Counted) → CountsMore mid.counts cs root →
         HasReplied (record mid { names = slice_set mid.names name (Some (root_view root)); counts = cs }) new (Reply.OkPlace region.place.len region.place) → HasTurned pool old new s command (Allotting name size class stage) (Went Ready)
     allot_new new root region did lt cs more replied =
         let st = allotted (New root region) did in let w : ViewData = root_view root in
-        let names_are = staged_names pool (allotment.hand_of stage) empty_hand old start mid did.wrote.added (one_for root) st in
-        let counts_are = staged_counts pool (allotment.hand_of stage) empty_hand old start mid did.wrote.added (one_for root) st in
+        let names_are = staged_names pool (allotment.hand_of stage) empty_hand old allot_start mid did.wrote.added (one_for root) st in
+        let counts_are = staged_counts pool (allotment.hand_of stage) empty_hand old allot_start mid did.wrote.added (one_for root) st in
         let before : CountsMore old.counts cs root = subst (λ (ds : List Counted). CountsMore ds cs root) counts_are more in
-        staged_answer pool (allotment.hand_of stage) empty_hand old start mid did.wrote.added (one_for root) st refl new (slice_set mid.names name (Some w)) cs (Reply.OkPlace region.place.len region.place) replied before.counts before.places
+        staged_answer pool (allotment.hand_of stage) empty_hand old allot_start mid did.wrote.added (one_for root) st refl new (slice_set mid.names name (Some w)) cs (Reply.OkPlace region.place.len region.place) replied before.counts before.places
         (slice_set-length mid.names name (Some w) ∙ ap (λ (names : List (Option ViewData)). length names) names_are) s command (Allotting name size class stage) (bind name w s.names)
         (subst (λ (names : List (Option ViewData)). NamesAre (bind name w s.names) (slice_set names name (Some w))) (sym names_are) (NamesAre-bind s.names old.names are name w lt)) did.spends
         (λ rest. ap (reads_allot old.shape (lane_of old.seat) s name) (read_on (New root region) did rest))
 
     -- of the place of the new root no other is counted
-    pub allot_alone : (root : RootId) (region : RegionId) → allotment.HasAllotted pool old.seat start.seat old.sampler start.sampler size class stage (New root region, notes) → (other : RootId) → other.place ≡ root.place → 0 < counted old.counts other → other ≡ root
+    pub allot_alone : (root : RootId) (region : RegionId) → allotment.HasAllotted pool old.seat mid.seat old.sampler mid.sampler old.notes mid.notes size class stage (New root region) → (other : RootId) → other.place ≡ root.place → 0 < counted old.counts other → other ≡ root
     allot_alone root region did =
-        alone_added old.counts (view_of old.seat) (view_of start.seat) did.wrote.added (one_for root) d.counts did.wrote.seat.alone did.wrote.more.notes did.counts did.wrote.seat.counts root
+        alone_added old.counts (view_of old.seat) (view_of allot_start.seat) did.wrote.added (one_for root) d.counts did.wrote.seat.alone did.wrote.more.notes did.counts did.wrote.seat.counts root
         (let a : one_for root root ≡ 1 = ap (λ (b : Bool). if b then 1 else 0) (same_root-refl root) in omega (arith, a))
 
     module _ (new : Desk) (allots : Allots) (reply : Reply) (empty : allotment.hand_after allots ≡ empty_hand) (none : (root : RootId) → allotment.born_in allots root ≡ 0) (left : allotment.left_after allots ≡ notes_alone 0)
-        (rest_is : (rest : Entries) → reads_allot old.shape (lane_of old.seat) s name (allotment.rest_after old.shape (lane_of old.seat) size class allots rest) ≡ answer reply s.names rest) (did : allotment.HasAllotted pool old.seat start.seat old.sampler start.sampler size class stage (allots, notes)) (replied : HasReplied mid new reply) where
+        (rest_is : (rest : Entries) → reads_allot old.shape (lane_of old.seat) s name (allotment.rest_after old.shape (lane_of old.seat) size class allots rest) ≡ answer reply s.names rest) (did : allotment.HasAllotted pool old.seat mid.seat old.sampler mid.sampler old.notes mid.notes size class stage allots) (replied : HasReplied mid new reply) where
       -- it was refused
       pub allot_refused : HasTurned pool old new s command (Allotting name size class stage) (Went Ready)
       allot_refused =
           let after : Hand = allotment.hand_after allots in let gain = allotment.born_in allots in let st = allotted allots did in
-          let names_are = staged_names pool (allotment.hand_of stage) after old start mid did.wrote.added gain st in
-          let counts_are = staged_counts pool (allotment.hand_of stage) after old start mid did.wrote.added gain st in
-          staged_answer pool (allotment.hand_of stage) after old start mid did.wrote.added gain st empty new mid.names mid.counts reply replied
+          let names_are = staged_names pool (allotment.hand_of stage) after old allot_start mid did.wrote.added gain st in
+          let counts_are = staged_counts pool (allotment.hand_of stage) after old allot_start mid did.wrote.added gain st in
+          staged_answer pool (allotment.hand_of stage) after old allot_start mid did.wrote.added gain st empty new mid.names mid.counts reply replied
           (λ root. (let a = none root in let b = ap (λ (cs : List Counted). counted cs root) counts_are in omega (arith, a, b)))
           (ap (λ (cs : List Counted). length cs) counts_are) (ap (λ (names : List (Option ViewData)). length names) names_are) s command (Allotting name size class stage) s.names (subst (NamesAre s.names) (sym names_are) are)
-          (subst (λ (l : Left). Spends (view_of old.seat) (view_of start.seat) (allotment.left_of stage) l) left did.spends)
+          (subst (λ (l : Left). Spends (view_of old.seat) (view_of allot_start.seat) (allotment.left_of stage) l) left did.spends)
           (λ rest. ap (reads_allot old.shape (lane_of old.seat) s name) (read_on allots did rest) ∙ rest_is rest)
 
 -- ---- The end of a root.
 
-module _ (pool : SharedPool) (old start mid : Desk) (stage : EndStage) (d : IsDesk pool (ending.hand_of stage) old) (start_is : start ≡ record old { seat = start.seat }) (notes : Notes) (noted : HasNoted start mid (notes_in notes)) where
-  module _ (ends : Ends) (did : ending.HasEnded pool old.seat start.seat stage (ends, notes)) where
+module _ (pool : SharedPool) (old mid : Desk) (stage : EndStage) (d : IsDesk pool (ending.hand_of stage) old) (mid_so : mid ≡ record old { seat = mid.seat; notes = mid.notes }) where
+  abbrev end_start : Desk
+  end_start = record old { seat = mid.seat }
+
+  module _ (ends : Ends) (did : ending.HasEnded pool old.seat mid.seat old.notes mid.notes stage ends) where
     abbrev added : List Entry
     added = (did.wrote old.sampler).added
 
-    pub ended_so : Staged pool (ending.hand_of stage) (ending.hand_after ends) old start mid added (λ root. 0)
+    pub ended_so : Staged pool (ending.hand_of stage) (ending.hand_after ends) old end_start mid added (λ root. 0)
     ended_so = record {
       desk = d;
-      start_is = start_is ∙ (λ i. record old { seat = start.seat; counts = sym (ap (λ (x : Desk). x.counts) start_is) i; sampler = sym (ap (λ (x : Desk). x.sampler) start_is) i });
-      counts_are = ap (λ (x : Desk). x.counts) start_is;
+      start_is = refl;
+      counts_are = refl;
       same = (did.wrote old.sampler).same;
       seat = (did.wrote old.sampler).seat;
       more = (did.wrote old.sampler).more;
       held = did.hand;
-      sampled = subst (AreSampled old.sampler added) (sym (ap (λ (x : Desk). x.sampler) start_is)) (did.wrote old.sampler).sampled;
+      sampled = (did.wrote old.sampler).sampled;
       adds = did.counts old.sampler;
-      noted = subst (HasNoted start mid) (sym (did.wrote old.sampler).noted) noted;
+      noted = subst (HasNoted end_start mid) (sym (did.wrote old.sampler).noted) (noted_so end_start mid did.written did.log mid_so);
     }
 
     pub ended_read : (rest : Entries) → ending.rest_of old.shape stage (map entry_of added ++ rest) ≡ ending.rest_after old.shape ends rest
@@ -253,29 +258,29 @@ module _ (pool : SharedPool) (old start mid : Desk) (stage : EndStage) (d : IsDe
     abbrev reads_end_at : EndStage → Entries → Answers
     reads_end_at at es = reads_from old.shape (lane_of old.seat) s command (Ending at) es
 
-    pub end_goes : (next : EndStage) → ending.HasEnded pool old.seat start.seat stage (EndMore next, notes) → HasTurned pool old mid s command (Ending stage) (Went (Ending next))
+    pub end_goes : (next : EndStage) → ending.HasEnded pool old.seat mid.seat old.notes mid.notes stage (EndMore next) → HasTurned pool old mid s command (Ending stage) (Went (Ending next))
     end_goes next did =
         let after : Hand = ending.hand_of next in let st = ended_so (EndMore next) did in let es = added (EndMore next) did in
-        let seat_is = staged_seat pool (ending.hand_of stage) after old start mid es (λ root. 0) st in
+        let seat_is = staged_seat pool (ending.hand_of stage) after old end_start mid es (λ root. 0) st in
         record {
           added = es;
-          grew = staged_grew pool (ending.hand_of stage) after old start mid es (λ root. 0) st (λ root. refl);
+          grew = staged_grew pool (ending.hand_of stage) after old end_start mid es (λ root. 0) st (λ root. refl);
           fits = subst (λ x. ending.Fits pool x next) (sym seat_is) did.fits;
           spends = subst (λ x. Spends (view_of old.seat) (view_of x) (ending.left_of stage) (ending.left_of next)) (sym seat_is) did.spends;
           name = tt;
-          comes = staged_on pool (ending.hand_of stage) after old start mid es (λ root. 0) st (some_of es (notes_in notes) (did.wrote old.sampler).noted did.again) (reads_end_at stage) (reads_end_at next) (λ rest. ap (reads_end s) (ended_read (EndMore next) did rest));
+          comes = staged_on pool (ending.hand_of stage) after old end_start mid es (λ root. 0) st (some_of es did.written (did.wrote old.sampler).noted did.again) (reads_end_at stage) (reads_end_at next) (λ rest. ap (reads_end s) (ended_read (EndMore next) did rest));
           waits = tt;
           held = tt;
         }
 
-    pub end_waits : (held : Held) (next : EndStage) → ending.HasEnded pool old.seat start.seat stage (EndHeld held next, notes) → HasTurned pool old mid s command (Ending stage) (Pending held (Ending next))
+    pub end_waits : (held : Held) (next : EndStage) → ending.HasEnded pool old.seat mid.seat old.notes mid.notes stage (EndHeld held next) → HasTurned pool old mid s command (Ending stage) (Pending held (Ending next))
     end_waits held next did =
         let after : Hand = ending.hand_of next in let st = ended_so (EndHeld held next) did in let es = added (EndHeld held next) did in
-        let seat_is = staged_seat pool (ending.hand_of stage) after old start mid es (λ root. 0) st in
-        let still = staged_still pool (ending.hand_of stage) after old start mid es (λ root. 0) st in
+        let seat_is = staged_seat pool (ending.hand_of stage) after old end_start mid es (λ root. 0) st in
+        let still = staged_still pool (ending.hand_of stage) after old end_start mid es (λ root. 0) st in
         record {
           added = es;
-          grew = staged_grew pool (ending.hand_of stage) after old start mid es (λ root. 0) st (λ root. refl);
+          grew = staged_grew pool (ending.hand_of stage) after old end_start mid es (λ root. 0) st (λ root. refl);
           fits = subst (λ x. ending.Fits pool x next) (sym seat_is) did.fits;
           spends = subst (λ x. Spends (view_of old.seat) (view_of x) (ending.left_of stage) (ending.left_of next)) (sym seat_is) did.spends;
           name = tt;
@@ -284,47 +289,50 @@ module _ (pool : SharedPool) (old start mid : Desk) (stage : EndStage) (d : IsDe
           held = subst (λ x. FoundBusy pool held.object false old.seat x held) (sym seat_is) did.again.2;
         }
 
-    pub end_done : (new : Desk) → ending.HasEnded pool old.seat start.seat stage (Done, notes) → HasReplied mid new Reply.Freed → HasTurned pool old new s command (Ending stage) (Went Ready)
+    pub end_done : (new : Desk) → ending.HasEnded pool old.seat mid.seat old.notes mid.notes stage Done → HasReplied mid new Reply.Freed → HasTurned pool old new s command (Ending stage) (Went Ready)
     end_done new did replied =
         let st = ended_so Done did in let es = added Done did in
-        let names_are = staged_names pool (ending.hand_of stage) empty_hand old start mid es (λ root. 0) st in
-        let counts_are = staged_counts pool (ending.hand_of stage) empty_hand old start mid es (λ root. 0) st in
-        staged_answer pool (ending.hand_of stage) empty_hand old start mid es (λ root. 0) st refl new mid.names mid.counts Reply.Freed replied
+        let names_are = staged_names pool (ending.hand_of stage) empty_hand old end_start mid es (λ root. 0) st in
+        let counts_are = staged_counts pool (ending.hand_of stage) empty_hand old end_start mid es (λ root. 0) st in
+        staged_answer pool (ending.hand_of stage) empty_hand old end_start mid es (λ root. 0) st refl new mid.names mid.counts Reply.Freed replied
         (λ root. (let b = ap (λ (cs : List Counted). counted cs root) counts_are in omega (arith, b)))
         (ap (λ (cs : List Counted). length cs) counts_are) (ap (λ (names : List (Option ViewData)). length names) names_are) s command (Ending stage) s.names (subst (NamesAre s.names) (sym names_are) are) did.spends
         (λ rest. ap (reads_end s) (ended_read Done did rest))
 
 -- ---- The closing.
 
-module _ (pool : SharedPool) (old start mid : Desk) (stage : CloseStage) (d : IsDesk pool (closing.hand_of stage) old) (start_is : start ≡ record old { seat = start.seat }) (notes : Notes) (noted : HasNoted start mid (notes_in notes)) where
-  module _ (closes : Closes) (did : closing.HasClosed pool old.seat start.seat stage (closes, notes)) where
+module _ (pool : SharedPool) (old mid : Desk) (stage : CloseStage) (d : IsDesk pool (closing.hand_of stage) old) (mid_so : mid ≡ record old { seat = mid.seat; notes = mid.notes }) where
+  abbrev close_start : Desk
+  close_start = record old { seat = mid.seat }
+
+  module _ (closes : Closes) (did : closing.HasClosed pool old.seat mid.seat old.notes mid.notes stage closes) where
     abbrev wrote_so : List Entry
     wrote_so = (did.wrote old.sampler).added
 
-    pub closed_so : Staged pool (closing.hand_of stage) (closing.hand_after closes) old start mid wrote_so (λ root. 0)
+    pub closed_so : Staged pool (closing.hand_of stage) (closing.hand_after closes) old close_start mid wrote_so (λ root. 0)
     closed_so = record {
       desk = d;
-      start_is = start_is ∙ (λ i. record old { seat = start.seat; counts = sym (ap (λ (x : Desk). x.counts) start_is) i; sampler = sym (ap (λ (x : Desk). x.sampler) start_is) i });
-      counts_are = ap (λ (x : Desk). x.counts) start_is;
+      start_is = refl;
+      counts_are = refl;
       same = (did.wrote old.sampler).same;
       seat = (did.wrote old.sampler).seat;
       more = (did.wrote old.sampler).more;
       held = did.hand;
-      sampled = subst (AreSampled old.sampler wrote_so) (sym (ap (λ (x : Desk). x.sampler) start_is)) (did.wrote old.sampler).sampled;
+      sampled = (did.wrote old.sampler).sampled;
       adds = did.counts old.sampler;
-      noted = subst (HasNoted start mid) (sym (did.wrote old.sampler).noted) noted;
+      noted = subst (HasNoted close_start mid) (sym (did.wrote old.sampler).noted) (noted_so close_start mid did.written did.log mid_so);
     }
 
-  pub close_goes : (next : CloseStage) → closing.HasClosed pool old.seat start.seat stage (CloseMore next, notes) → HasTurnedClosing pool old mid stage (Went (Closing next))
+  pub close_goes : (next : CloseStage) → closing.HasClosed pool old.seat mid.seat old.notes mid.notes stage (CloseMore next) → HasTurnedClosing pool old mid stage (Went (Closing next))
   close_goes next did =
       let after : Hand = closing.hand_of next in let st = closed_so (CloseMore next) did in let es = wrote_so (CloseMore next) did in
-      let seat_is = staged_seat pool (closing.hand_of stage) after old start mid es (λ root. 0) st in
-      let kept = mid_is pool (closing.hand_of stage) after old start mid st.desk st.start_is es (view_of old.seat).moves (staged pool (closing.hand_of stage) after old start mid es (λ root. 0) st) st.noted in
+      let seat_is = staged_seat pool (closing.hand_of stage) after old close_start mid es (λ root. 0) st in
+      let kept = mid_is pool (closing.hand_of stage) after old close_start mid st.desk st.start_is es (view_of old.seat).moves (staged pool (closing.hand_of stage) after old close_start mid es (λ root. 0) st) st.noted in
       record {
         after = next;
         added = es;
-        comes = (refl, some_of es (notes_in notes) (did.wrote old.sampler).noted did.again);
-        grew = staged_grew pool (closing.hand_of stage) after old start mid es (λ root. 0) st (λ root. refl);
+        comes = (refl, some_of es did.written (did.wrote old.sampler).noted did.again);
+        grew = staged_grew pool (closing.hand_of stage) after old close_start mid es (λ root. 0) st (λ root. refl);
         fits = subst (λ x. closing.Fits pool x next) (sym seat_is) did.fits;
         spends = subst (λ x. Spends (view_of old.seat) (view_of x) (closing.left_of stage (view_of old.seat)) (closing.left_of next (view_of x))) (sym seat_is) did.spends;
         replies = ap (λ (x : Desk). x.replies.items) kept;
@@ -334,16 +342,16 @@ module _ (pool : SharedPool) (old start mid : Desk) (stage : CloseStage) (d : Is
         reads = (did.wrote old.sampler).read;
       }
 
-  pub close_waits : (held : Held) (next : CloseStage) → closing.HasClosed pool old.seat start.seat stage (CloseHeld held next, notes) → HasTurnedClosing pool old mid stage (Pending held (Closing next))
+  pub close_waits : (held : Held) (next : CloseStage) → closing.HasClosed pool old.seat mid.seat old.notes mid.notes stage (CloseHeld held next) → HasTurnedClosing pool old mid stage (Pending held (Closing next))
   close_waits held next did =
       let after : Hand = closing.hand_of next in let st = closed_so (CloseHeld held next) did in let es = wrote_so (CloseHeld held next) did in
-      let seat_is = staged_seat pool (closing.hand_of stage) after old start mid es (λ root. 0) st in
-      let kept = mid_is pool (closing.hand_of stage) after old start mid st.desk st.start_is es (view_of old.seat).moves (staged pool (closing.hand_of stage) after old start mid es (λ root. 0) st) st.noted in
+      let seat_is = staged_seat pool (closing.hand_of stage) after old close_start mid es (λ root. 0) st in
+      let kept = mid_is pool (closing.hand_of stage) after old close_start mid st.desk st.start_is es (view_of old.seat).moves (staged pool (closing.hand_of stage) after old close_start mid es (λ root. 0) st) st.noted in
       record {
         after = next;
         added = es;
         comes = (did.again.0, did.again.0, none_of es ((did.wrote old.sampler).noted ∙ did.again.1));
-        grew = staged_grew pool (closing.hand_of stage) after old start mid es (λ root. 0) st (λ root. refl);
+        grew = staged_grew pool (closing.hand_of stage) after old close_start mid es (λ root. 0) st (λ root. refl);
         fits = subst (λ x. closing.Fits pool x next) (sym seat_is) did.fits;
         spends = subst (λ x. Spends (view_of old.seat) (view_of x) (closing.left_of stage (view_of old.seat)) (closing.left_of next (view_of x))) (sym seat_is) did.spends;
         replies = ap (λ (x : Desk). x.replies.items) kept;
@@ -355,26 +363,17 @@ module _ (pool : SharedPool) (old start mid : Desk) (stage : CloseStage) (d : Is
 
 -- ---- What a stage asks of the desk.
 
-end_left : (stage : EndStage) → 1 ≤ (ending.left_of stage).notes
-end_left (EndRoot token) = omega arith
-end_left (EndCache region handle) = omega arith
-end_left (EndArena region handle) = omega arith
-end_left (EndHome handle) = omega arith
-
-allot_left : (stage : AllotStage) → 1 ≤ (allotment.left_of stage).notes
-allot_left AskHandle = omega arith
-allot_left (AskCache handle) = omega arith
-allot_left (AskArena handle) = omega arith
-allot_left (Birth handle region) = omega arith
-allot_left (GoHome handle) = omega arith
-
 pub may_end : (pool : SharedPool) (old : Desk) (stage : EndStage) → IsDesk pool (ending.hand_of stage) old → HasRoomFor old (ending.left_of stage) → ending.Fits pool old.seat stage → ending.MayEnd pool old.seat stage
 may_end pool old stage d room fits = record { seat_is = d.seat; turn = (let a = room.turns in let b = end_left stage in omega (arith, a, b)); hand = d.held; fits = fits }
 
 pub may_allot : (pool : SharedPool) (old : Desk) (class : ℕ) (stage : AllotStage) → IsDesk pool (allotment.hand_of stage) old → HasRoomFor old (allotment.left_of stage) → allotment.Fits pool old.seat class stage → allotment.MayAllot pool old.seat class stage
 may_allot pool old class stage d room fits = record { seat_is = d.seat; turn = (let a = room.turns in let b = allot_left stage in omega (arith, a, b)); hand = d.held; fits = fits }
 
--- the notes of a stage fit, and it can be answered behind them
+-- the log has the room that is left for its notes
+pub log_room : (pool : SharedPool) (hand : Hand) (old : Desk) (left : Left) → IsDesk pool hand old → HasRoomFor old left → length old.notes.items + left.notes ≤ vec_capacity old.notes
+log_room pool hand old left d room = let a = ap (λ (ns : List Note). length ns) d.log in let b = length-map (notes_of old) note_of in let e = room.notes in omega (arith, a, b, e)
+
+-- the notes of a stage are few, and it can be answered behind them
 module _ (pool : SharedPool) (hand : Hand) (old : Desk) (d : IsDesk pool hand old) (left after : Left) (room : HasRoomFor old left) (w : SeatView) (added : List Entry) (notes : List Note) (more : HasMore (view_of old.seat) w added) (are : map note_of added ≡ notes) (spent : Spends (view_of old.seat) w left after) where
   added_few : length notes + after.notes ≤ left.notes
   added_few =
@@ -384,9 +383,6 @@ module _ (pool : SharedPool) (hand : Hand) (old : Desk) (d : IsDesk pool hand ol
 
   own_length : length old.notes.items ≡ length (notes_of old)
   own_length = ap (λ (ns : List Note). length ns) d.log ∙ length-map (notes_of old) note_of
-
-  pub notes_fit : length old.notes.items + length notes ≤ vec_capacity old.notes
-  notes_fit = let a = own_length in let b = added_few in let e = room.notes in omega (arith, a, b, e)
 
   pub answers_behind : (start mid : Desk) → start ≡ record old { seat = start.seat; counts = start.counts; sampler = start.sampler } → HasNoted start mid notes → length old.replies.items < vec_capacity old.replies → CanAnswer mid
   answers_behind start mid start_is noted replies =
@@ -400,14 +396,15 @@ module _ (pool : SharedPool) (hand : Hand) (old : Desk) (d : IsDesk pool hand ol
         room = subst (λ (x : Desk). length x.replies.items < vec_capacity x.replies) (sym path) replies;
       }
 
-close_left : (pool : SharedPool) (old : Desk) (stage : CloseStage) → closing.Fits pool old.seat stage → (stage ≡ CloseDone → ⊥) → 1 ≤ (closing.left_of stage (view_of old.seat)).notes
-close_left pool old (CloseOne class) fits more = omega (arith, fits)
-close_left pool old (Shed class left) fits more = let a = fits.1 in omega (arith, a)
-close_left pool old (Give class left region) fits more = omega arith
-close_left pool old CloseDone fits more = absurd (more refl)
+-- a desk behind a step of the end of a root can be answered
+pub end_can : (pool : SharedPool) (old mid : Desk) (stage : EndStage) (d : IsDesk pool (ending.hand_of stage) old) → mid ≡ record old { seat = mid.seat; notes = mid.notes } → (ends : Ends) → ending.HasEnded pool old.seat mid.seat old.notes mid.notes stage ends →
+    HasRoomFor old (ending.left_of stage) → length old.replies.items < vec_capacity old.replies → CanAnswer mid
+end_can pool old mid stage d mid_so ends did room replies =
+    let start : Desk = record old { seat = mid.seat } in let wrote = did.wrote old.sampler in
+    answers_behind pool (ending.hand_of stage) old d (ending.left_of stage) (ending.left_after ends) room (view_of mid.seat) wrote.added did.written wrote.more wrote.noted did.spends start mid refl (noted_so start mid did.written did.log mid_so) replies
 
 pub may_close : (pool : SharedPool) (old : Desk) (stage : CloseStage) → IsDesk pool (closing.hand_of stage) old → HasRoomFor old (closing.left_of stage (view_of old.seat)) → closing.Fits pool old.seat stage → (stage ≡ CloseDone → ⊥) → closing.MayClose pool old.seat stage
-may_close pool old stage d room fits more = record { seat_is = d.seat; turn = (let a = room.turns in let b = close_left pool old stage fits more in omega (arith, a, b)); hand = d.held; fits = fits }
+may_close pool old stage d room fits more = record { seat_is = d.seat; turn = (let a = room.turns in let b = close_left pool old.seat stage fits more in omega (arith, a, b)); hand = d.held; fits = fits }
 
 -- a sampler has had no more births than there are entries
 one_birth : (first : Sampling) (did : Did) → (sampler_after first did).births ≤ first.births + 1

@@ -1,8 +1,10 @@
 -- An allocation, step by step: what is in hand at each stage, and how the law reads the rest of it.
-use Rattle.std.specs.Prelude.{◌≡◌, ℕ, ◌*◌, ◌<◌, ⊤, false, [], length, map, Option, Some, None}
+use Rattle.std.specs.Prelude.{◌≡◌, ℕ, ◌*◌, ◌<◌, ⊤, false, List, [], length, map, Option, Some, None}
+use Rattle.std.specs.Global.{Vec}
 use Rattle.step_law.specs.declared.Told.{Ghosts}
 use Rattle.pool_law.specs.declared.id.RootId.{RootId}
 use Rattle.pool_law.specs.declared.id.RegionId.{RegionId}
+use Rattle.pool_law.specs.declared.note.Note.{Note}
 use Rattle.pool_law.specs.declared.note.Noted.{Noted}
 use Rattle.pool_law.specs.declared.run.Shape.{Shape}
 use Rattle.pool_law.specs.declared.run.Reply.{Reply}
@@ -17,12 +19,11 @@ use Rattle.shared_pool.specs.declared.home.Home.{Home as HomeValue}
 use Rattle.shared_pool.specs.declared.pool.SharedPool.{SharedPool}
 use Rattle.shared_pool.specs.SeatLanes.{lane_of}
 use Rattle.shared_pool.specs.Seats.{IsPoolSeat, FoundBusy}
-use Rattle.lane_core.specs.declared.notes.Notes.{Notes}
 use Rattle.lane_core.specs.declared.allotment.Allotting.{Allotting}
 use Rattle.lane_core.specs.declared.allotment.Allotting.TheVariants.{Handle, Cache, Arena, Birth, Home}
 use Rattle.lane_core.specs.declared.allotment.Allots.{Allots}
 use Rattle.lane_core.specs.declared.allotment.Allots.TheVariants.{More, Held, New as Born, NoHandle, Full}
-use Rattle.lane_core.specs.NoteLists.{notes_in}
+use Rattle.lane_core.specs.Logs.{HasWritten}
 use Rattle.lane_core.specs.Hands.{Hand, empty_hand, IsHeld, IsHandle, IsRegion}
 use Rattle.lane_core.specs.Budgets.{Left, notes_alone, Spends}
 use Rattle.lane_core.specs.Wrote.{Wrote}
@@ -102,10 +103,11 @@ module _ {G : Ghosts HomeValue Noted} where
   -- where another seat was there the same is to be tried again, and nothing was noted; else
   -- something was
   abbrev pub IsTriedAgain :
-      SharedPool → PoolSeat HomeValue G → PoolSeat HomeValue G → Allotting → Allots → Notes → Type 0
+      SharedPool → PoolSeat HomeValue G → PoolSeat HomeValue G → Allotting → Allots → List Note →
+      Type 0
   IsTriedAgain pool old new stage (Held held again) notes =
-      (again ≡ stage) × (notes_in notes ≡ []) × FoundBusy pool held.object false old new held
-  IsTriedAgain pool old new stage _ notes = 0 < length (notes_in notes)
+      (again ≡ stage) × (notes ≡ []) × FoundBusy pool held.object false old new held
+  IsTriedAgain pool old new stage _ notes = 0 < length notes
 
   -- a handle of the pool, of the bin of the seat's lane
   abbrev pub IsOwnHandle : SharedPool → PoolSeat HomeValue G → HandleValue → Type 0
@@ -134,19 +136,21 @@ module _ {G : Ghosts HomeValue Noted} where
       pub hand : IsHeld (hand_of stage) (view_of seat)
       pub fits : Fits pool seat class stage
 
-  -- what a step of an allocation came to
+  -- what a step of an allocation came to, and the notes that it wrote into the log
   pub record HasAllotted (pool : SharedPool) (old new : PoolSeat HomeValue G)
-      (first last : Sampling) (size class : ℕ) (stage : Allotting) (result : Allots × Notes) :
-      Type 0
+      (first last : Sampling) (before after : Vec Note) (size class : ℕ) (stage : Allotting)
+      (result : Allots) : Type 0
     where
+      pub written : List Note
+      pub log : HasWritten before after written
       pub wrote :
           let shape = pool.table.layout.shape in
-          Wrote pool old new (notes_in result.1) first last
+          Wrote pool old new written first last
           (rest_of shape (lane_of old) size class stage)
-          (rest_after shape (lane_of old) size class result.0)
-      pub counts : AddCounts (born_in result.0) (map entry_of wrote.added)
-      pub place : BornWithin pool result.0
-      pub hand : IsHeld (hand_after result.0) (view_of new)
-      pub fits : FitsAfter pool new class result.0
-      pub again : IsTriedAgain pool old new stage result.0 result.1
-      pub spends : Spends (view_of old) (view_of new) (left_of stage) (left_after result.0)
+          (rest_after shape (lane_of old) size class result)
+      pub counts : AddCounts (born_in result) (map entry_of wrote.added)
+      pub place : BornWithin pool result
+      pub hand : IsHeld (hand_after result) (view_of new)
+      pub fits : FitsAfter pool new class result
+      pub again : IsTriedAgain pool old new stage result written
+      pub spends : Spends (view_of old) (view_of new) (left_of stage) (left_after result)

@@ -1,8 +1,10 @@
 -- How a lane closes its caches, step by step: what is in hand at each stage, and how the law reads
 -- the rest.
 use Rattle.std.specs.Prelude.{◌≡◌, ℕ, zero, suc, ◌+◌, ◌-◌, ◌*◌, ◌<◌, ◌≤◌, ⊤, false, List, [], ◌∷◌, length, map, Option, Some}
+use Rattle.std.specs.Global.{Vec}
 use Rattle.step_law.specs.declared.Told.{Ghosts}
 use Rattle.pool_law.specs.declared.id.RegionId.{RegionId}
+use Rattle.pool_law.specs.declared.note.Note.{Note}
 use Rattle.pool_law.specs.declared.note.Noted.{Noted}
 use Rattle.pool_law.specs.Limits.{cached_classes}
 use Rattle.pool_law.specs.Reading.{◌>>=◌}
@@ -17,12 +19,11 @@ use Rattle.shared_pool.specs.declared.home.Home.{Home as HomeValue}
 use Rattle.shared_pool.specs.declared.pool.SharedPool.{SharedPool}
 use Rattle.shared_pool.specs.SeatLanes.{lane_of}
 use Rattle.shared_pool.specs.Seats.{IsPoolSeat, FoundBusy}
-use Rattle.lane_core.specs.declared.notes.Notes.{Notes}
 use Rattle.lane_core.specs.declared.closing.Closing.{Closing}
 use Rattle.lane_core.specs.declared.closing.Closing.TheVariants.{Close, Shed, Give, Done}
 use Rattle.lane_core.specs.declared.closing.Closes.{Closes}
 use Rattle.lane_core.specs.declared.closing.Closes.TheVariants.{More, Held}
-use Rattle.lane_core.specs.NoteLists.{notes_in}
+use Rattle.lane_core.specs.Logs.{HasWritten}
 use Rattle.lane_core.specs.Hands.{Hand, empty_hand, IsHeld, IsRegion}
 use Rattle.lane_core.specs.Budgets.{Left, notes_alone, Spends}
 use Rattle.lane_core.specs.Wrote.{Wrote}
@@ -105,10 +106,11 @@ module _ {G : Ghosts HomeValue Noted} where
   -- where another seat was there the same is to be tried again, and nothing was noted; else
   -- something was
   abbrev pub IsTriedAgain :
-      SharedPool → PoolSeat HomeValue G → PoolSeat HomeValue G → Closing → Closes → Notes → Type 0
+      SharedPool → PoolSeat HomeValue G → PoolSeat HomeValue G → Closing → Closes → List Note →
+      Type 0
   IsTriedAgain pool old new stage (Held held again) notes =
-      (again ≡ stage) × (notes_in notes ≡ []) × FoundBusy pool held.object false old new held
-  IsTriedAgain pool old new stage _ notes = 0 < length (notes_in notes)
+      (again ≡ stage) × (notes ≡ []) × FoundBusy pool held.object false old new held
+  IsTriedAgain pool old new stage _ notes = 0 < length notes
 
   -- no more regions are to be shed than the seat took of the class
   abbrev pub Fits : SharedPool → PoolSeat HomeValue G → Closing → Type 0
@@ -132,18 +134,20 @@ module _ {G : Ghosts HomeValue Noted} where
       pub hand : IsHeld (hand_of stage) (view_of seat)
       pub fits : Fits pool seat stage
 
-  -- what a step of the closing came to
+  -- what a step of the closing came to, and the notes that it wrote into the log
   pub record HasClosed (pool : SharedPool) (old new : PoolSeat HomeValue G)
-      (stage : Closing) (result : Closes × Notes) : Type 0
+      (before after : Vec Note) (stage : Closing) (result : Closes) : Type 0
     where
+      pub written : List Note
+      pub log : HasWritten before after written
       pub wrote : (sampler : Sampling) →
-          Wrote pool old new (notes_in result.1) sampler sampler
-          (rest_of (lane_of old) stage) (rest_after (lane_of old) result.0)
+          Wrote pool old new written sampler sampler
+          (rest_of (lane_of old) stage) (rest_after (lane_of old) result)
       pub counts : (sampler : Sampling) →
           AddCounts (λ root. 0) (map entry_of (wrote sampler).added)
-      pub hand : IsHeld (hand_after result.0) (view_of new)
-      pub fits : FitsAfter pool new result.0
-      pub again : IsTriedAgain pool old new stage result.0 result.1
+      pub hand : IsHeld (hand_after result) (view_of new)
+      pub fits : FitsAfter pool new result
+      pub again : IsTriedAgain pool old new stage result written
       pub spends :
           Spends (view_of old) (view_of new)
-          (left_of stage (view_of old)) (left_after result.0 (view_of new))
+          (left_of stage (view_of old)) (left_after result (view_of new))

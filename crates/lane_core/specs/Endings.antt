@@ -1,6 +1,8 @@
 -- The end of a root, step by step: what is in hand at each stage, and how the law reads the rest.
-use Rattle.std.specs.Prelude.{◌≡◌, ℕ, ◌/◌, ◌<◌, ⊤, false, [], length, map, Option, Some}
+use Rattle.std.specs.Prelude.{◌≡◌, ℕ, ◌/◌, ◌<◌, ⊤, false, List, [], length, map, Option, Some}
+use Rattle.std.specs.Global.{Vec}
 use Rattle.step_law.specs.declared.Told.{Ghosts}
+use Rattle.pool_law.specs.declared.note.Note.{Note}
 use Rattle.pool_law.specs.declared.note.Noted.{Noted}
 use Rattle.pool_law.specs.declared.note.Object.TheVariants.{Bin}
 use Rattle.pool_law.specs.declared.run.Shape.{Shape}
@@ -14,12 +16,11 @@ use Rattle.shared_pool.specs.declared.home.Home.{Home as HomeValue}
 use Rattle.shared_pool.specs.declared.pool.SharedPool.{SharedPool}
 use Rattle.shared_pool.specs.RootNotes.{HoldsToken}
 use Rattle.shared_pool.specs.Seats.{IsPoolSeat, FoundBusy}
-use Rattle.lane_core.specs.declared.notes.Notes.{Notes}
 use Rattle.lane_core.specs.declared.retirement.Ending.{Ending}
 use Rattle.lane_core.specs.declared.retirement.Ending.TheVariants.{Root, Cache, Arena, Home}
 use Rattle.lane_core.specs.declared.retirement.Ends.{Ends}
 use Rattle.lane_core.specs.declared.retirement.Ends.TheVariants.{More, Held, Done}
-use Rattle.lane_core.specs.NoteLists.{notes_in}
+use Rattle.lane_core.specs.Logs.{HasWritten}
 use Rattle.lane_core.specs.Hands.{Hand, empty_hand, IsHeld, IsHandle, IsRegion}
 use Rattle.lane_core.specs.Budgets.{Left, notes_alone, Spends}
 use Rattle.lane_core.specs.Wrote.{Wrote}
@@ -81,10 +82,10 @@ module _ {G : Ghosts HomeValue Noted} where
   -- where another seat was there the same is to be tried again, and nothing was noted; else
   -- something was
   abbrev pub IsTriedAgain :
-      SharedPool → PoolSeat HomeValue G → PoolSeat HomeValue G → Ending → Ends → Notes → Type 0
+      SharedPool → PoolSeat HomeValue G → PoolSeat HomeValue G → Ending → Ends → List Note → Type 0
   IsTriedAgain pool old new stage (Held held again) notes =
-      (again ≡ stage) × (notes_in notes ≡ []) × FoundBusy pool held.object false old new held
-  IsTriedAgain pool old new stage _ notes = 0 < length (notes_in notes)
+      (again ≡ stage) × (notes ≡ []) × FoundBusy pool held.object false old new held
+  IsTriedAgain pool old new stage _ notes = 0 < length notes
 
   -- what is in hand is the pool's
   abbrev pub Fits : SharedPool → PoolSeat HomeValue G → Ending → Type 0
@@ -107,17 +108,19 @@ module _ {G : Ghosts HomeValue Noted} where
       pub hand : IsHeld (hand_of stage) (view_of seat)
       pub fits : Fits pool seat stage
 
-  -- what a step at the end of a root came to
+  -- what a step at the end of a root came to, and the notes that it wrote into the log
   pub record HasEnded (pool : SharedPool) (old new : PoolSeat HomeValue G)
-      (stage : Ending) (result : Ends × Notes) : Type 0
+      (before after : Vec Note) (stage : Ending) (result : Ends) : Type 0
     where
+      pub written : List Note
+      pub log : HasWritten before after written
       pub wrote : (sampler : Sampling) →
           let shape = pool.table.layout.shape in
-          Wrote pool old new (notes_in result.1) sampler sampler
-          (rest_of shape stage) (rest_after shape result.0)
+          Wrote pool old new written sampler sampler
+          (rest_of shape stage) (rest_after shape result)
       pub counts : (sampler : Sampling) →
           AddCounts (λ root. 0) (map entry_of (wrote sampler).added)
-      pub hand : IsHeld (hand_after result.0) (view_of new)
-      pub fits : FitsAfter pool new result.0
-      pub again : IsTriedAgain pool old new stage result.0 result.1
-      pub spends : Spends (view_of old) (view_of new) (left_of stage) (left_after result.0)
+      pub hand : IsHeld (hand_after result) (view_of new)
+      pub fits : FitsAfter pool new result
+      pub again : IsTriedAgain pool old new stage result written
+      pub spends : Spends (view_of old) (view_of new) (left_of stage) (left_after result)

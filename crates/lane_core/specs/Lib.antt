@@ -1,4 +1,4 @@
-pub mod NoteLists
+pub mod Logs
 pub mod Named
 pub mod Counting
 pub mod Budgets

@@ -1,7 +1,7 @@
 //! How a buffer is allocated: a handle, a region from the lane's cache or from its arena, and the
 //! birth of a root. (Netty: `PooledByteBufAllocator`, `PoolThreadCache`)
 
-ghost use Rattle.std.specs.Prelude.{◌≡◌, ◌-◌, ◌<◌, ◌≤◌, ◌^◌, ℕ, Some};
+ghost use Rattle.std.specs.Prelude.{◌≡◌, ◌+◌, ◌-◌, ◌<◌, ◌≤◌, ◌^◌, ℕ, length, Some, vec_capacity};
 ghost use Rattle.size_classes.specs.Sizes.{class_count, class_of, size_at};
 ghost use Rattle.pool_law.specs.Limits.{geometry_of};
 ghost use Rattle.leak_records.specs.Records.{Sampling};
@@ -9,7 +9,7 @@ ghost use Rattle.pool_table.specs.Seats.{view_of};
 ghost use Rattle.lane_core.specs.declared.allotment.Allotting.{Allotting};
 ghost use Rattle.lane_core.specs.Allotments.{MayAllot, HasAllotted, left_of};
 
-use crate::notes::{Notes, at, lane_of, to};
+use crate::notes::{at, lane_of, to, write};
 use handle_bin::Handle;
 use leak_records::Sampler;
 use pool_law::{Did, Held, Note, Object, RefDid, Region, RegionId, RootId, Shape};
@@ -45,58 +45,72 @@ pub enum Allots {
 /// The classes below this one have a cache.
 pub const CACHED_CLASSES: u32 = 40;
 
-/// Does the next thing of an allocation of `size` bytes, whose class is `class`.
+/// Does the next thing of an allocation of `size` bytes, whose class is `class`, and writes its
+/// notes into the log.
 pub fn allot(
     pool: &SharedPool,
     shape: &Shape,
     seat: &mut PoolSeat,
     sampler: &mut Sampler,
+    log: &mut Vec<Note>,
     size: u32,
     class: u32,
     stage: Allotting,
-) -> (Allots, Notes)
+) -> Allots
     requires may { MayAllot pool.now seat.old class stage }
     requires moves { (left_of stage).moves ≤ (view_of seat.old).moves }
     requires shape { shape.now ≡ pool.now.table.layout.shape }
     requires class { class_of (geometry_of shape.now) size ≡ Some class }
     requires births { sampler.old.births < 2 ^ 32 - 1 }
-    ensures { HasAllotted pool.now seat.old seat.new sampler.old sampler.new
+    requires room { length log.old.items + (left_of stage).notes ≤ vec_capacity log.old }
+    ensures { HasAllotted pool.now seat.old seat.new sampler.old sampler.new log.old log.new
         size class stage result }
 {
     match stage {
-        Allotting::Handle => ask_bin(pool, seat, class),
-        Allotting::Cache(handle) => ask_cache(pool, seat, class, handle),
-        Allotting::Arena(handle) => ask_arena(pool, shape, seat, class, handle),
-        Allotting::Birth(handle, region) => bear(pool, seat, sampler, size, handle, region),
-        Allotting::Home(handle) => go_home(pool, seat, handle),
+        Allotting::Handle => ask_bin(pool, seat, log, class),
+        Allotting::Cache(handle) => ask_cache(pool, seat, log, class, handle),
+        Allotting::Arena(handle) => ask_arena(pool, shape, seat, log, class, handle),
+        Allotting::Birth(handle, region) => bear(pool, seat, sampler, log, size, handle, region),
+        Allotting::Home(handle) => go_home(pool, seat, log, handle),
     }
 }
 
-fn ask_bin(pool: &SharedPool, seat: &mut PoolSeat, class: u32) -> (Allots, Notes)
+fn ask_bin(pool: &SharedPool, seat: &mut PoolSeat, log: &mut Vec<Note>, class: u32) -> Allots
     requires may { MayAllot pool.now seat.old class Allotting.Handle }
+    requires room { length log.old.items < vec_capacity log.old }
     ensures { (sampler : Sampling) (size : ℕ) →
-        HasAllotted pool.now seat.old seat.new sampler sampler size class Allotting.Handle result }
+        HasAllotted pool.now seat.old seat.new sampler sampler log.old log.new
+        size class Allotting.Handle result }
 {
     let bin = Object::Bin(lane_of(seat));
     match pool.pop_handle(seat) {
-        Went::Did(number, None) => (Allots::NoHandle, Notes::One(at(bin, number, Did::NoHandle))),
-        Went::Did(number, Some(handle)) => {
-            let note = at(bin, number, Did::Handle(handle.place()));
-            let next = if class < CACHED_CLASSES {
-                Allotting::Cache(handle)
-            } else {
-                Allotting::Arena(handle)
-            };
-            (Allots::More(next), Notes::One(note))
+        Went::Did(number, None) => {
+            write(log, at(bin, number, Did::NoHandle));
+            Allots::NoHandle
         }
-        Went::Held(held, ()) => (Allots::Held(held, Allotting::Handle), Notes::None),
+        Went::Did(number, Some(handle)) => {
+            write(log, at(bin, number, Did::Handle(handle.place())));
+            if class < CACHED_CLASSES {
+                Allots::More(Allotting::Cache(handle))
+            } else {
+                Allots::More(Allotting::Arena(handle))
+            }
+        }
+        Went::Held(held, ()) => Allots::Held(held, Allotting::Handle),
     }
 }
 
-fn ask_cache(pool: &SharedPool, seat: &mut PoolSeat, class: u32, handle: Handle) -> (Allots, Notes)
+fn ask_cache(
+    pool: &SharedPool,
+    seat: &mut PoolSeat,
+    log: &mut Vec<Note>,
+    class: u32,
+    handle: Handle,
+) -> Allots
     requires may { MayAllot pool.now seat.old class (Allotting.Cache handle) }
+    requires room { length log.old.items < vec_capacity log.old }
     ensures { (sampler : Sampling) (size : ℕ) →
-        HasAllotted pool.now seat.old seat.new sampler sampler
+        HasAllotted pool.now seat.old seat.new sampler sampler log.old log.new
         size class (Allotting.Cache handle) result }
 {
     let cache = Object::Cache {
@@ -105,17 +119,16 @@ fn ask_cache(pool: &SharedPool, seat: &mut PoolSeat, class: u32, handle: Handle)
     };
     match pool.pop_cached(seat, class) {
         Went::Did(number, Some(region)) => {
-            let note = at(cache, number, Did::Hit(region.id));
-            let next = Allotting::Birth(handle, region);
-            (Allots::More(next), Notes::One(note))
+            write(log, at(cache, number, Did::Hit(region.id)));
+            Allots::More(Allotting::Birth(handle, region))
         }
         Went::Did(number, None) => {
-            let note = at(cache, number, Did::Miss);
-            (Allots::More(Allotting::Arena(handle)), Notes::One(note))
+            write(log, at(cache, number, Did::Miss));
+            Allots::More(Allotting::Arena(handle))
         }
         Went::Held(held, ()) => {
-            let next = Allotting::Arena(handle);
-            (Allots::More(next), Notes::One(Note::Busy(held)))
+            write(log, Note::Busy(held));
+            Allots::More(Allotting::Arena(handle))
         }
     }
 }
@@ -124,14 +137,16 @@ fn ask_arena(
     pool: &SharedPool,
     shape: &Shape,
     seat: &mut PoolSeat,
+    log: &mut Vec<Note>,
     class: u32,
     handle: Handle,
-) -> (Allots, Notes)
+) -> Allots
     requires may { MayAllot pool.now seat.old class (Allotting.Arena handle) }
     requires shape { shape.now ≡ pool.now.table.layout.shape }
     requires class { class < class_count (geometry_of shape.now) }
+    requires room { length log.old.items < vec_capacity log.old }
     ensures { (sampler : Sampling) (size : ℕ) →
-        HasAllotted pool.now seat.old seat.new sampler sampler
+        HasAllotted pool.now seat.old seat.new sampler sampler log.old log.new
         size class (Allotting.Arena handle) result }
 {
     let arena = Object::Arena(lane_of(seat) % shape.arenas);
@@ -141,14 +156,14 @@ fn ask_arena(
                 class,
                 region: region.id,
             };
-            let next = Allotting::Birth(handle, region);
-            (Allots::More(next), Notes::One(at(arena, number, did)))
+            write(log, at(arena, number, did));
+            Allots::More(Allotting::Birth(handle, region))
         }
         Went::Did(number, None) => {
-            let note = at(arena, number, Did::Full { class });
-            (Allots::More(Allotting::Home(handle)), Notes::One(note))
+            write(log, at(arena, number, Did::Full { class }));
+            Allots::More(Allotting::Home(handle))
         }
-        Went::Held(held, ()) => (Allots::Held(held, Allotting::Arena(handle)), Notes::None),
+        Went::Held(held, ()) => Allots::Held(held, Allotting::Arena(handle)),
     }
 }
 
@@ -156,15 +171,17 @@ fn bear(
     pool: &SharedPool,
     seat: &mut PoolSeat,
     sampler: &mut Sampler,
+    log: &mut Vec<Note>,
     size: u32,
     handle: Handle,
     region: Region,
-) -> (Allots, Notes)
+) -> Allots
     requires may { MayAllot pool.now seat.old region.id.class (Allotting.Birth handle region) }
     requires moves { 0 < (view_of seat.old).moves }
     requires size { size ≤ size_at region.id.class }
     requires births { sampler.old.births < 2 ^ 32 - 1 }
-    ensures { HasAllotted pool.now seat.old seat.new sampler.old sampler.new
+    requires room { length log.old.items + 2 ≤ vec_capacity log.old }
+    ensures { HasAllotted pool.now seat.old seat.new sampler.old sampler.new log.old log.new
         size region.id.class (Allotting.Birth handle region) result }
 {
     let id = region.id;
@@ -175,21 +192,25 @@ fn bear(
         ..id
     };
     let did = Did::Birth { root, region: used };
-    let born = at(Object::Root(root.place), number, did);
-    let notes = Notes::Two(born, to(root, RefDid::Born));
-    (Allots::New(root, used), notes)
+    write(log, at(Object::Root(root.place), number, did));
+    write(log, to(root, RefDid::Born));
+    Allots::New(root, used)
 }
 
-fn go_home(pool: &SharedPool, seat: &mut PoolSeat, handle: Handle) -> (Allots, Notes)
+fn go_home(pool: &SharedPool, seat: &mut PoolSeat, log: &mut Vec<Note>, handle: Handle) -> Allots
     requires may { (class : ℕ) → MayAllot pool.now seat.old class (Allotting.Home handle) }
+    requires room { length log.old.items < vec_capacity log.old }
     ensures { (sampler : Sampling) (size class : ℕ) →
-        HasAllotted pool.now seat.old seat.new sampler sampler
+        HasAllotted pool.now seat.old seat.new sampler sampler log.old log.new
         size class (Allotting.Home handle) result }
 {
     let bin = Object::Bin(handle.lane());
     let place = handle.place();
     match pool.put_handle(seat, handle) {
-        Went::Did(number, ()) => (Allots::Full, Notes::One(at(bin, number, Did::Home(place)))),
-        Went::Held(held, handle) => (Allots::Held(held, Allotting::Home(handle)), Notes::None),
+        Went::Did(number, ()) => {
+            write(log, at(bin, number, Did::Home(place)));
+            Allots::Full
+        }
+        Went::Held(held, handle) => Allots::Held(held, Allotting::Home(handle)),
     }
 }

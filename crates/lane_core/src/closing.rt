@@ -1,16 +1,17 @@
 //! How a lane closes its caches, in ascending class, and gives what was in them to its arena.
 //! (Netty: `PoolThreadCache.free`)
 
-ghost use Rattle.std.specs.Prelude.{◌≡◌, ◌≢◌, ◌+◌, ◌<◌, ◌≤◌, ℕ};
+ghost use Rattle.std.specs.Prelude.{◌≡◌, ◌≢◌, ◌+◌, ◌<◌, ◌≤◌, ℕ, length, vec_capacity};
 ghost use Rattle.pool_law.specs.Limits.{cached_classes};
 ghost use Rattle.pool_law.specs.LaneLaw.{sheds};
 ghost use Rattle.pool_law.specs.Patterns.{Entries};
 ghost use Rattle.lane_core.specs.declared.closing.Closing.TheVariants.{Close, Shed, Give, Done};
-ghost use Rattle.lane_core.specs.Closings.{MayClose, HasClosed, IsNext, hand_of, rest_of, then_close, classes_from};
+ghost use Rattle.pool_table.specs.Seats.{view_of};
+ghost use Rattle.lane_core.specs.Closings.{MayClose, HasClosed, IsNext, hand_of, left_of, rest_of, then_close, classes_from};
 
 use crate::allotment::CACHED_CLASSES;
-use crate::notes::{Notes, at, lane_of};
-use pool_law::{Did, Held, Object, Region};
+use crate::notes::{at, lane_of, write};
+use pool_law::{Did, Held, Note, Object, Region};
 use shared_pool::{PoolSeat, SharedPool, Went};
 
 /// What is to be done next as a lane closes its caches.
@@ -41,20 +42,27 @@ pub(crate) enum Closes {
     Held(Held, Closing),
 }
 
-/// Does the next thing of the closing, which isn't done.
-pub(crate) fn close(pool: &SharedPool, seat: &mut PoolSeat, stage: Closing) -> (Closes, Notes)
+/// Does the next thing of the closing, which isn't done, and writes its note into the log.
+pub(crate) fn close(
+    pool: &SharedPool,
+    seat: &mut PoolSeat,
+    log: &mut Vec<Note>,
+    stage: Closing,
+) -> Closes
     requires may { MayClose pool.now seat.old stage }
     requires more { stage ≢ Done }
-    ensures { HasClosed pool.now seat.old seat.new stage result }
+    requires room { length log.old.items + (left_of stage (view_of seat.old)).notes
+        ≤ vec_capacity log.old }
+    ensures { HasClosed pool.now seat.old seat.new log.old log.new stage result }
 {
     match stage {
-        Closing::Close { class } => close_class(pool, seat, class),
-        Closing::Shed { class, left } => shed(pool, seat, class, left),
+        Closing::Close { class } => close_class(pool, seat, log, class),
+        Closing::Shed { class, left } => shed(pool, seat, log, class, left),
         Closing::Give {
             class,
             left,
             region,
-        } => give(pool, seat, class, left, region),
+        } => give(pool, seat, log, class, left, region),
         Closing::Done => unreachable!(),
     }
 }
@@ -77,9 +85,10 @@ fn after(class: u32, left: u32) -> Closing
     }
 }
 
-fn close_class(pool: &SharedPool, seat: &mut PoolSeat, class: u32) -> (Closes, Notes)
+fn close_class(pool: &SharedPool, seat: &mut PoolSeat, log: &mut Vec<Note>, class: u32) -> Closes
     requires may { MayClose pool.now seat.old (Close class) }
-    ensures { HasClosed pool.now seat.old seat.new (Close class) result }
+    requires room { length log.old.items < vec_capacity log.old }
+    ensures { HasClosed pool.now seat.old seat.new log.old log.new (Close class) result }
 {
     let cache = Object::Cache {
         lane: lane_of(seat),
@@ -87,16 +96,23 @@ fn close_class(pool: &SharedPool, seat: &mut PoolSeat, class: u32) -> (Closes, N
     };
     match pool.close_cached(seat, class) {
         Went::Did(number, quota) => {
-            let note = at(cache, number, Did::Close(quota));
-            (Closes::More(after(class, quota)), Notes::One(note))
+            write(log, at(cache, number, Did::Close(quota)));
+            Closes::More(after(class, quota))
         }
-        Went::Held(held, ()) => (Closes::Held(held, Closing::Close { class }), Notes::None),
+        Went::Held(held, ()) => Closes::Held(held, Closing::Close { class }),
     }
 }
 
-fn shed(pool: &SharedPool, seat: &mut PoolSeat, class: u32, left: u32) -> (Closes, Notes)
+fn shed(
+    pool: &SharedPool,
+    seat: &mut PoolSeat,
+    log: &mut Vec<Note>,
+    class: u32,
+    left: u32,
+) -> Closes
     requires may { MayClose pool.now seat.old (Shed class left) }
-    ensures { HasClosed pool.now seat.old seat.new (Shed class left) result }
+    requires room { length log.old.items < vec_capacity log.old }
+    ensures { HasClosed pool.now seat.old seat.new log.old log.new (Shed class left) result }
 {
     let cache = Object::Cache {
         lane: lane_of(seat),
@@ -104,37 +120,37 @@ fn shed(pool: &SharedPool, seat: &mut PoolSeat, class: u32, left: u32) -> (Close
     };
     match pool.shed(seat, class) {
         Went::Did(number, region) => {
-            let note = at(cache, number, Did::Shed(region.id));
+            write(log, at(cache, number, Did::Shed(region.id)));
             let next = Closing::Give {
                 class,
                 left: left - 1,
                 region,
             };
-            (Closes::More(next), Notes::One(note))
+            Closes::More(next)
         }
-        Went::Held(held, ()) => (
-            Closes::Held(held, Closing::Shed { class, left }),
-            Notes::None,
-        ),
+        Went::Held(held, ()) => Closes::Held(held, Closing::Shed { class, left }),
     }
 }
 
 fn give(
     pool: &SharedPool,
     seat: &mut PoolSeat,
+    log: &mut Vec<Note>,
     class: u32,
     left: u32,
     region: Region,
-) -> (Closes, Notes)
+) -> Closes
     requires may { MayClose pool.now seat.old (Give class left region) }
-    ensures { HasClosed pool.now seat.old seat.new (Give class left region) result }
+    requires room { length log.old.items < vec_capacity log.old }
+    ensures { HasClosed pool.now seat.old seat.new log.old log.new
+        (Give class left region) result }
 {
     let id = region.id;
     let arena = Object::Arena(id.place.arena);
     match pool.give(seat, region) {
         Went::Did(number, ()) => {
-            let note = at(arena, number, Did::Give(id));
-            (Closes::More(after(class, left)), Notes::One(note))
+            write(log, at(arena, number, Did::Give(id)));
+            Closes::More(after(class, left))
         }
         Went::Held(held, region) => {
             let again = Closing::Give {
@@ -142,7 +158,7 @@ fn give(
                 left,
                 region,
             };
-            (Closes::Held(held, again), Notes::None)
+            Closes::Held(held, again)
         }
     }
 }

@@ -9,7 +9,6 @@ ghost use Rattle.lane_core.specs.declared.access.Access.TheVariants.{Set, Get};
 ghost use Rattle.pool_law.specs.Views.{IsView};
 ghost use Rattle.lane_core.specs.Allotments.{left_with};
 ghost use Rattle.lane_core.specs.Counting.{counted};
-ghost use Rattle.lane_core.specs.NoteLists.{notes_in};
 ghost use Rattle.lane_core.specs.DeskSteps.{CanAnswer, HasNoted, HasReplied, HasRetained, FindsBusy, PostsTo, left_to_post, MayTurn, Turns, AccessTurns};
 ghost use Rattle.lane_core.specs.declared.desk.Turn.{Turn};
 ghost use Rattle.shared_pool.specs.declared.pool.SharedPool.{SharedPool};
@@ -28,7 +27,7 @@ use crate::allotment::{Allots, Allotting, allot};
 use crate::closing::{Closes, Closing, close};
 use crate::counts::OwnCounts;
 use crate::names::Names;
-use crate::notes::{Notes, at, lane_of, to};
+use crate::notes::{at, lane_of, to, write};
 use crate::retirement::{Ending, Ends, end};
 use byte_view::View;
 use leak_records::Sampler;
@@ -97,25 +96,7 @@ impl Desk {
         requires { length self.old.notes.items < vec_capacity self.old.notes }
         ensures { HasNoted self.old self.new (note ∷ []) }
     {
-        let Ok(()) = self.notes.push(note) else {
-            unreachable!()
-        };
-    }
-
-    // Writes the notes of a step.
-    fn note_all(&mut self, notes: Notes)
-        requires { length self.old.notes.items + length (notes_in notes)
-            ≤ vec_capacity self.old.notes }
-        ensures { HasNoted self.old self.new (notes_in notes) }
-    {
-        match notes {
-            Notes::None => {}
-            Notes::One(note) => self.note(note),
-            Notes::Two(first, second) => {
-                self.note(first);
-                self.note(second);
-            }
-        }
+        write(&mut self.notes, note);
     }
 
     // Answers the command that is under way.
@@ -226,16 +207,16 @@ impl Desk {
             let stage = Stage.Allotting name size class stage in
             HasTurned pool.now self.old self.new s command stage result }
     {
-        let (allots, notes) = allot(
+        let allots = allot(
             pool,
             &self.shape,
             &mut self.seat,
             &mut self.sampler,
+            &mut self.notes,
             size,
             class,
             stage,
         );
-        self.note_all(notes);
         match allots {
             Allots::More(stage) => Turn::Went(Stage::Allotting {
                 name,
@@ -440,9 +421,7 @@ impl Desk {
         ensures { (s : LaneState) (command : Command) → NamesAre s.names self.old.names →
             HasTurned pool.now self.old self.new s command (Stage.Ending stage) result }
     {
-        let (ends, notes) = end(pool, &mut self.seat, stage);
-        self.note_all(notes);
-        match ends {
+        match end(pool, &mut self.seat, &mut self.notes, stage) {
             Ends::More(stage) => Turn::Went(Stage::Ending(stage)),
             Ends::Held(held, stage) => Turn::Pending(held, Stage::Ending(stage)),
             Ends::Done => self.answer(Reply::Freed),
@@ -572,9 +551,7 @@ impl Desk {
         requires more { stage ≢ Closing.Done }
         ensures { HasTurnedClosing pool.now self.old self.new stage result }
     {
-        let (closes, notes) = close(pool, &mut self.seat, stage);
-        self.note_all(notes);
-        match closes {
+        match close(pool, &mut self.seat, &mut self.notes, stage) {
             Closes::More(stage) => Turn::Went(Stage::Closing(stage)),
             Closes::Held(held, stage) => Turn::Pending(held, Stage::Closing(stage)),
         }

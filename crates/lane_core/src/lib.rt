@@ -21,6 +21,5 @@ mod tests;
 pub use allotment::{Allots, Allotting, allot};
 pub use gate::{Gate, Pass};
 pub use lane::{Lane, Stepped};
-pub use notes::Notes;
 pub use played::{Played, finish};
 pub use retirement::{Ending, Ends, end};

@@ -1,18 +1,20 @@
-//! The notes of one step.
+//! Notes, and how they are written into a log.
 
-ghost use Rattle.std.specs.Prelude.{◌≡◌, Some, IsSome};
+ghost use Rattle.std.specs.Prelude.{◌≡◌, ◌<◌, [], ◌∷◌, length, Some, IsSome, vec_capacity};
 ghost use Rattle.pool_law.specs.declared.note.Note.TheVariants.{At, Ref};
 ghost use Rattle.pool_table.specs.Seats.{view_of};
 ghost use Rattle.shared_pool.specs.SeatLanes.{lane_of};
+ghost use Rattle.lane_core.specs.Logs.{HasWritten};
 
 use pool_law::{Did, Note, Object, RefDid, RootId};
 use shared_pool::PoolSeat;
 
-/// The notes that a step made, in order.
-pub enum Notes {
-    None,
-    One(Note),
-    Two(Note, Note),
+// Writes a note into a log that has room for it.
+pub(crate) fn write(log: &mut Vec<Note>, note: Note)
+    requires { length log.old.items < vec_capacity log.old }
+    ensures { HasWritten log.old log.new (note ∷ []) }
+{
+    log.push_reserved(note);
 }
 
 // The note of what was done to an object.

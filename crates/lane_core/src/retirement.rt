@@ -2,11 +2,12 @@
 //! owner's cache or back to its arena, and the handle of its place goes home. (Netty:
 //! `PooledByteBuf.deallocate`)
 
+ghost use Rattle.std.specs.Prelude.{◌+◌, ◌<◌, ◌≤◌, length, vec_capacity};
 ghost use Rattle.lane_core.specs.declared.retirement.Ending.{Ending};
-ghost use Rattle.lane_core.specs.Endings.{MayEnd, HasEnded};
+ghost use Rattle.lane_core.specs.Endings.{MayEnd, HasEnded, left_of};
 
 use crate::allotment::CACHED_CLASSES;
-use crate::notes::{Notes, at, to};
+use crate::notes::{at, to, write};
 use handle_bin::Handle;
 use pool_law::{Did, Held, Note, Object, RefDid, Region};
 use pool_table::EndToken;
@@ -33,22 +34,24 @@ pub enum Ends {
     Done,
 }
 
-/// Does the next thing at the end of a root.
-pub fn end(pool: &SharedPool, seat: &mut PoolSeat, stage: Ending) -> (Ends, Notes)
-    requires { MayEnd pool.now seat.old stage }
-    ensures { HasEnded pool.now seat.old seat.new stage result }
+/// Does the next thing at the end of a root, and writes its notes into the log.
+pub fn end(pool: &SharedPool, seat: &mut PoolSeat, log: &mut Vec<Note>, stage: Ending) -> Ends
+    requires may { MayEnd pool.now seat.old stage }
+    requires room { length log.old.items + (left_of stage).notes ≤ vec_capacity log.old }
+    ensures { HasEnded pool.now seat.old seat.new log.old log.new stage result }
 {
     match stage {
-        Ending::Root(token) => retire(pool, seat, token),
-        Ending::Cache(region, handle) => put_away(pool, seat, region, handle),
-        Ending::Arena(region, handle) => give_back(pool, seat, region, handle),
-        Ending::Home(handle) => go_home(pool, seat, handle),
+        Ending::Root(token) => retire(pool, seat, log, token),
+        Ending::Cache(region, handle) => put_away(pool, seat, log, region, handle),
+        Ending::Arena(region, handle) => give_back(pool, seat, log, region, handle),
+        Ending::Home(handle) => go_home(pool, seat, log, handle),
     }
 }
 
-fn retire(pool: &SharedPool, seat: &mut PoolSeat, token: EndToken) -> (Ends, Notes)
-    requires { MayEnd pool.now seat.old (Ending.Root token) }
-    ensures { HasEnded pool.now seat.old seat.new (Ending.Root token) result }
+fn retire(pool: &SharedPool, seat: &mut PoolSeat, log: &mut Vec<Note>, token: EndToken) -> Ends
+    requires may { MayEnd pool.now seat.old (Ending.Root token) }
+    requires room { length log.old.items + 2 ≤ vec_capacity log.old }
+    ensures { HasEnded pool.now seat.old seat.new log.old log.new (Ending.Root token) result }
 {
     let root = token.root();
     let Retired {
@@ -56,21 +59,26 @@ fn retire(pool: &SharedPool, seat: &mut PoolSeat, token: EndToken) -> (Ends, Not
         region,
         handle,
     } = pool.retire(seat, token);
-    let ended = at(Object::Root(root.place), number, Did::End(root));
-    let next = if region.id.class < CACHED_CLASSES {
-        Ending::Cache(region, handle)
+    write(log, at(Object::Root(root.place), number, Did::End(root)));
+    write(log, to(root, RefDid::Vacated));
+    if region.id.class < CACHED_CLASSES {
+        Ends::More(Ending::Cache(region, handle))
     } else {
-        Ending::Arena(region, handle)
-    };
-    (
-        Ends::More(next),
-        Notes::Two(ended, to(root, RefDid::Vacated)),
-    )
+        Ends::More(Ending::Arena(region, handle))
+    }
 }
 
-fn put_away(pool: &SharedPool, seat: &mut PoolSeat, region: Region, handle: Handle) -> (Ends, Notes)
-    requires { MayEnd pool.now seat.old (Ending.Cache region handle) }
-    ensures { HasEnded pool.now seat.old seat.new (Ending.Cache region handle) result }
+fn put_away(
+    pool: &SharedPool,
+    seat: &mut PoolSeat,
+    log: &mut Vec<Note>,
+    region: Region,
+    handle: Handle,
+) -> Ends
+    requires may { MayEnd pool.now seat.old (Ending.Cache region handle) }
+    requires room { length log.old.items < vec_capacity log.old }
+    ensures { HasEnded pool.now seat.old seat.new log.old log.new
+        (Ending.Cache region handle) result }
 {
     let id = region.id;
     let cache = Object::Cache {
@@ -79,16 +87,16 @@ fn put_away(pool: &SharedPool, seat: &mut PoolSeat, region: Region, handle: Hand
     };
     match pool.put_cached(seat, region) {
         Went::Did(number, Put::Kept) => {
-            let note = at(cache, number, Did::Kept(id));
-            (Ends::More(Ending::Home(handle)), Notes::One(note))
+            write(log, at(cache, number, Did::Kept(id)));
+            Ends::More(Ending::Home(handle))
         }
         Went::Did(number, Put::Back(region, no)) => {
-            let note = at(cache, number, Did::Back { region: id, no });
-            (Ends::More(Ending::Arena(region, handle)), Notes::One(note))
+            write(log, at(cache, number, Did::Back { region: id, no }));
+            Ends::More(Ending::Arena(region, handle))
         }
         Went::Held(held, region) => {
-            let next = Ending::Arena(region, handle);
-            (Ends::More(next), Notes::One(Note::Busy(held)))
+            write(log, Note::Busy(held));
+            Ends::More(Ending::Arena(region, handle))
         }
     }
 }
@@ -96,31 +104,38 @@ fn put_away(pool: &SharedPool, seat: &mut PoolSeat, region: Region, handle: Hand
 fn give_back(
     pool: &SharedPool,
     seat: &mut PoolSeat,
+    log: &mut Vec<Note>,
     region: Region,
     handle: Handle,
-) -> (Ends, Notes)
-    requires { MayEnd pool.now seat.old (Ending.Arena region handle) }
-    ensures { HasEnded pool.now seat.old seat.new (Ending.Arena region handle) result }
+) -> Ends
+    requires may { MayEnd pool.now seat.old (Ending.Arena region handle) }
+    requires room { length log.old.items < vec_capacity log.old }
+    ensures { HasEnded pool.now seat.old seat.new log.old log.new
+        (Ending.Arena region handle) result }
 {
     let id = region.id;
     let arena = Object::Arena(id.place.arena);
     match pool.give(seat, region) {
         Went::Did(number, ()) => {
-            let note = at(arena, number, Did::Give(id));
-            (Ends::More(Ending::Home(handle)), Notes::One(note))
+            write(log, at(arena, number, Did::Give(id)));
+            Ends::More(Ending::Home(handle))
         }
-        Went::Held(held, region) => (Ends::Held(held, Ending::Arena(region, handle)), Notes::None),
+        Went::Held(held, region) => Ends::Held(held, Ending::Arena(region, handle)),
     }
 }
 
-fn go_home(pool: &SharedPool, seat: &mut PoolSeat, handle: Handle) -> (Ends, Notes)
-    requires { MayEnd pool.now seat.old (Ending.Home handle) }
-    ensures { HasEnded pool.now seat.old seat.new (Ending.Home handle) result }
+fn go_home(pool: &SharedPool, seat: &mut PoolSeat, log: &mut Vec<Note>, handle: Handle) -> Ends
+    requires may { MayEnd pool.now seat.old (Ending.Home handle) }
+    requires room { length log.old.items < vec_capacity log.old }
+    ensures { HasEnded pool.now seat.old seat.new log.old log.new (Ending.Home handle) result }
 {
     let bin = Object::Bin(handle.lane());
     let place = handle.place();
     match pool.put_handle(seat, handle) {
-        Went::Did(number, ()) => (Ends::Done, Notes::One(at(bin, number, Did::Home(place)))),
-        Went::Held(held, handle) => (Ends::Held(held, Ending::Home(handle)), Notes::None),
+        Went::Did(number, ()) => {
+            write(log, at(bin, number, Did::Home(place)));
+            Ends::Done
+        }
+        Went::Held(held, handle) => Ends::Held(held, Ending::Home(handle)),
     }
 }

@@ -1,7 +1,8 @@
 -- How often the roots of a list are counted, behind steps that count some more and some less.
-use Rattle.std.proofs.Common.{◌≡◌, ℕ, ◌+◌, ◌-◌, ◌<◌, ◌≤◌, List, [], ◌∷◌, ◌++◌, Bool, map, cond, refl, ap, ◌∙◌, arith}
+use Rattle.std.proofs.Common.{◌≡◌, ℕ, ◌+◌, ◌-◌, ◌<◌, ◌≤◌, List, [], ◌∷◌, ◌++◌, Bool, length, get_or, map, cond, refl, ap, ◌∙◌, arith}
 use Rattle.std.specs.Prelude.{if◌then◌else◌}
-use Rattle.std.proofs.lemmas.List.Sums.{sum_by_push}
+use Rattle.std.specs.List.{swap_remove}
+use Rattle.std.proofs.lemmas.List.Sums.{sum_by_push, sum_by-swap_remove}
 use Rattle.step_law.specs.declared.Told.{Ghosts}
 use Rattle.pool_law.specs.declared.id.RootId.{RootId}
 use Rattle.pool_law.specs.declared.note.Noted.{Noted}
@@ -13,7 +14,7 @@ use Rattle.pool_table.specs.declared.table.PoolSeat.{PoolSeat}
 use Rattle.pool_table.specs.declared.views.Entry.{Entry}
 use Rattle.pool_table.specs.declared.views.Entry.TheVariants.{Ref}
 use Rattle.pool_table.specs.declared.views.SeatView.{SeatView}
-use Rattle.pool_table.specs.Counts.{ref_gain, ref_loss, gained_of, lost_of, with_ref, HasCount}
+use Rattle.pool_table.specs.Counts.{ref_gain, ref_loss, with_ref, HasCount}
 use Rattle.pool_table.specs.Seats.{view_of, HasView}
 use Rattle.shared_pool.specs.declared.home.Home.{Home}
 use Rattle.shared_pool.specs.declared.pool.SharedPool.{SharedPool}
@@ -27,7 +28,7 @@ use Rattle.lane_core.proofs.DeskLaws.{grows_ref}
 use Rattle.lane_core.proofs.Grown.{Grows}
 use Rattle.lane_core.proofs.HandLaws.{held_on}
 use Rattle.lane_core.proofs.Turning.{ref_carries, weightless}
-use Rattle.pool_bench.specs.Works.{Works, Goes, IsPaid, Holds, Recounted, times}
+use Rattle.pool_bench.specs.Works.{Works, Goes, Holds, Recounted, times}
 use Rattle.pool_bench.proofs.Steps.{gain_in, loss_in, gained_more, lost_more, added_gain, grows_more}
 
 module _ (u v w : SeatView) (got gone : List RootId) where
@@ -60,6 +61,17 @@ module _ (roots more : List RootId) (root : RootId) (is : more ≡ roots ++ root
   -- and it is counted before
   pub last_counts : (v : SeatView) → Holds more v → HasCount root v
   last_counts v holds = let a = holds root in let b = times_push root in let c = one_self root in omega (arith, a, b, c)
+
+-- a root is taken out of its place, which the last one gets
+module _ (roots less : List RootId) (place : ℕ) (root : RootId) (lt : place < length roots) (value : root ≡ get_or roots place root) (is : less ≡ swap_remove roots place root) where
+  times_less : (r : RootId) → times r less + one_for root r ≡ times r roots
+  times_less r = (λ i. times r (is i) + one_for (value i) r) ∙ sum_by-swap_remove (λ (q : RootId). one_for q r) roots place root lt
+
+  pub holds_less : (v w : SeatView) → Recounted [] (root ∷ []) v w → Holds roots v → Holds less w
+  holds_less v w did holds = holds_on v w roots less [] (root ∷ []) (λ r. (let a = times_less r in omega (arith, a))) did holds
+
+  pub place_counts : (v : SeatView) → Holds roots v → HasCount root v
+  place_counts v holds = let a = holds root in let b = times_less root in let c = one_self root in omega (arith, a, b, c)
 
 -- ---- Steps.
 

@@ -1,18 +1,26 @@
 -- The seats of all lanes, before and after they worked.
-use Rattle.std.proofs.Common.{◌≡◌, ℕ, ◌*◌, ◌<◌, List, [], get_or, sym, ap, ◌∙◌, subst, arith}
-use Rattle.std.specs.Prelude.{All}
+use Rattle.std.proofs.Common.{◌≡◌, ℕ, ◌+◌, ◌*◌, ◌<◌, List, [], ◌∷◌, Option, Some, None, length, map, get_or, sym, ap, ◌∙◌, subst, arith}
+use Rattle.std.specs.Prelude.{All, IfSome, slice_get, unwrap_or}
+use Rattle.std.proofs.lemmas.List.{get_or-map, length-map}
+use Rattle.step_law.specs.Settings.{Setting}
 use Rattle.step_law.specs.declared.Told.{Ghosts}
 use Rattle.pool_law.specs.declared.note.Noted.{Noted}
 use Rattle.pool_table.specs.declared.table.PoolSeat.{PoolSeat}
+use Rattle.pool_table.specs.declared.views.Entry.{Entry}
 use Rattle.pool_table.specs.declared.views.Layout.{Layout}
 use Rattle.pool_table.specs.declared.views.SeatView.{SeatView}
 use Rattle.pool_table.specs.Seats.{view_of}
 use Rattle.shared_pool.specs.declared.home.Home.{Home}
 use Rattle.shared_pool.specs.declared.pool.SharedPool.{SharedPool}
 use Rattle.shared_pool.specs.Opening.{IsOpened, AreOpened}
-use Rattle.shared_pool.specs.Seated.{HasNothing, AreDone}
+use Rattle.shared_pool.specs.Quotas.{posts}
+use Rattle.shared_pool.specs.SeatLanes.{lane_of}
+use Rattle.shared_pool.specs.Seated.{HasNothing, IsDone, AreDone}
 use Rattle.lane_core.specs.Hands.{empty_hand, IsHeld}
 use Rattle.lane_core.proofs.OpenedLaws.{IsHeld-empty}
+use Rattle.pool_bench.specs.declared.runner.Runner.{Runner}
+use Rattle.pool_bench.specs.declared.words.Plan.{Plan}
+use Rattle.pool_bench.specs.Mails.{HasMail, IsMailFor, next_lane}
 use Rattle.pool_bench.specs.Works.{IsPaid, MayRun, HaveRun, block_turns, block_moves}
 
 nothing_held : (v : SeatView) → IsHeld empty_hand v → HasNothing v
@@ -47,15 +55,64 @@ module _ {G : Ghosts Home Noted} (pool : SharedPool) (l : Layout) (mail : List �
     moves_left = (let a = opened.moves in omega (arith, a, moves));
   }
 
-  pub all_may_run : (blocks : ℕ) (seats : List (PoolSeat Home G)) → l.moves ≡ block_moves * blocks → l.turns ≡ block_turns * blocks → AreOpened l mail pool seats → All (MayRun pool blocks) seats
-  all_may_run blocks seats moves turns opened = λ k d lt. may_run blocks k (get_or seats k d) moves turns (opened.each k (subst (λ (n : ℕ). k < n) opened.many lt) d)
+  -- and post what the plan says
+  pub has_mail : (p : Plan) (lane : ℕ) (s : PoolSeat Home G) → lane < p.threads → IsMailFor p mail → pool.table.layout.shape.lanes ≡ p.threads → IsOpened l mail pool lane s → HasMail pool p.mail s
+  has_mail p lane s lt sized lanes_are opened = record { room = p.mail; known = from_setting (view_of s).setting opened.mail_is; enough = (let a = ap (λ (es : List Entry). posts (lane_of s) (next_lane lanes (lane_of s)) es) opened.notes in omega (arith, a)) }
+    where
+      lanes : ℕ
+      lanes = pool.table.layout.shape.lanes
 
-  -- the seats that worked have nothing in hand
-  pub done : (before after : List (PoolSeat Home G)) → AreOpened l mail pool before → pool.table.layout ≡ l → HaveRun pool before after → AreDone pool after
-  done before after opened is ran = record {
-    many = ran.many ∙ opened.many ∙ ap (λ (x : Layout). x.shape.lanes) (sym is);
+      lane_is : lane_of s ≡ lane
+      lane_is = ap (λ (n : Option ℕ). unwrap_or n 0) opened.number
+
+      there : slice_get mail (lane_of s * lanes + next_lane lanes (lane_of s)) ≡ Some p.mail
+      there = subst (λ (x : ℕ × ℕ). slice_get mail (x.0 * x.1 + next_lane x.1 x.0) ≡ Some p.mail) (λ i. (sym lane_is i, sym lanes_are i)) (sized.each lane lt)
+
+      from_setting : (o : Option Setting) → IfSome o (λ t. t.mail ≡ mail) → IfSome o (λ t. slice_get t.mail (lane_of s * lanes + next_lane lanes (lane_of s)) ≡ Some p.mail)
+      from_setting None is = tt
+      from_setting (Some t) is = subst (λ (xs : List ℕ). slice_get xs (lane_of s * lanes + next_lane lanes (lane_of s)) ≡ Some p.mail) (sym is) there
+
+  -- the seats that were opened have nothing in hand
+  pub opened_done : (seats : List (PoolSeat Home G)) → AreOpened l mail pool seats → pool.table.layout ≡ l → AreDone pool seats
+  opened_done seats opened is = record {
+    many = opened.many ∙ ap (λ (x : Layout). x.shape.lanes) (sym is);
     each = λ lane lt d.
-        let below : lane < l.shape.lanes = subst (λ (x : Layout). lane < x.shape.lanes) is lt in
-        let run = ran.each lane d (subst (λ (n : ℕ). lane < n) (sym opened.many) below) in
-        record { seat = run.seat; number = run.number ∙ (opened.each lane below d).number; nothing = nothing_held (view_of (get_or after lane d)) run.held };
+        let one = opened.each lane (subst (λ (x : Layout). lane < x.shape.lanes) is lt) d in
+        record { seat = one.seat; number = one.number; nothing = nothing_held (view_of (get_or seats lane d)) (IsHeld-empty (view_of (get_or seats lane d)) one.notes one.seat.alone) };
   }
+
+-- ---- The runners with these seats.
+
+some_runner : (runners : List Runner) (k : ℕ) → k < length runners → Runner
+some_runner [] k lt = absurd (omega (arith, lt))
+some_runner (runner ∷ runners) k lt = runner
+
+module _ (pool : SharedPool) (l : Layout) (mail : List ℕ) (runners : List Runner) where
+  seat_at : (k : ℕ) (d : Runner) → k < length runners → (get_or runners k d).seat ≡ get_or (map (λ (q : Runner). q.seat) runners) k d.seat
+  seat_at k d lt = sym (get_or-map (λ (q : Runner). q.seat) runners k d d.seat lt)
+
+  module _ (opened : AreOpened l mail pool (map (λ (q : Runner). q.seat) runners)) where
+    many : length runners ≡ l.shape.lanes
+    many = sym (length-map runners (λ (q : Runner). q.seat)) ∙ opened.many
+
+    opened_at : (k : ℕ) (d : Runner) → k < length runners → IsOpened l mail pool k (get_or runners k d).seat
+    opened_at k d lt = subst (λ s. IsOpened l mail pool k s) (sym (seat_at k d lt)) (opened.each k (subst (λ (n : ℕ). k < n) many lt) d.seat)
+
+    pub all_may_run : (blocks : ℕ) → l.moves ≡ block_moves * blocks → l.turns ≡ block_turns * blocks → All (λ (q : Runner). MayRun pool blocks q.seat) runners
+    all_may_run blocks moves turns = λ k d lt. may_run pool l mail blocks k (get_or runners k d).seat moves turns (opened_at k d lt)
+
+    pub all_have_mail : (p : Plan) → IsMailFor p mail → l.shape.lanes ≡ p.threads → pool.table.layout.shape.lanes ≡ p.threads → All (λ (q : Runner). HasMail pool p.mail q.seat) runners
+    all_have_mail p sized lanes_are of_pool = λ k d lt. has_mail pool l mail p k (get_or runners k d).seat (let a = many in omega (arith, a, lanes_are, lt)) sized of_pool (opened_at k d lt)
+
+    -- behind their work they have nothing in hand
+    pub done : (after : List Runner) → pool.table.layout ≡ l → HaveRun pool runners after → AreDone pool (map (λ (q : Runner). q.seat) after)
+    done after is ran = record {
+      many = length-map after (λ (q : Runner). q.seat) ∙ ran.many ∙ many ∙ ap (λ (x : Layout). x.shape.lanes) (sym is);
+      each = λ lane lt d.
+          let below : lane < length runners = subst (λ (n : ℕ). lane < n) (sym many) (subst (λ (x : Layout). lane < x.shape.lanes) is lt) in
+          let e = some_runner runners lane below in
+          let run = ran.each lane e below in
+          let at : get_or (map (λ (q : Runner). q.seat) after) lane d ≡ (get_or after lane e).seat = get_or-map (λ (q : Runner). q.seat) after lane e d (subst (λ (n : ℕ). lane < n) (sym ran.many) below) in
+          subst (λ s. IsDone pool lane s) (sym at)
+          (record { seat = run.seat; number = run.number ∙ (opened_at lane e below).number; nothing = nothing_held (view_of (get_or after lane e).seat) run.held });
+    }

@@ -30,6 +30,8 @@ use Rattle.lane_core.proofs.EntryCounts.{own_gain}
 use Rattle.lane_core.proofs.Grown.{Grows, grows_noted, weigh_more}
 use Rattle.lane_core.proofs.HandLaws.{Carries, held_on}
 use Rattle.pool_bench.specs.Works.{Works, Goes, IsPaid, Recounted}
+use Rattle.pool_bench.specs.Mails.{Sends}
+use Rattle.pool_bench.proofs.Sent.{sends_grown}
 
 -- what these entries gain and lose of a root
 abbrev pub gain_in : RootId → List Entry → ℕ
@@ -106,7 +108,7 @@ pub grows_more : (v w : SeatView) (es : List Entry) (before after : Left) → Ha
 grows_more v w es before after more was is spends = record { more = more; was_alone = was; alone = is; moves = (let a = spends.moves in omega (arith, a)) }
 
 -- the entries and the rest are no more than what was left
-added_few : (v w : SeatView) (es : List Entry) (before after : Left) → HasMore v w es → Spends v w before after → length es + after.notes ≤ before.notes
+pub added_few : (v w : SeatView) (es : List Entry) (before after : Left) → HasMore v w es → Spends v w before after → length es + after.notes ≤ before.notes
 added_few v w es before after more spends = let a = spends.notes in let b = ap (λ (xs : List Entry). length xs) more.notes in let c = length-append v.own.notes es in omega (arith, a, b, c)
 
 -- a step after others, of which so much in all was to be spent
@@ -149,15 +151,15 @@ module _ {G : Ghosts Home Noted} (pool : SharedPool) (old new : PoolSeat Home G)
           number = grown.more.number;
         }
 
-    pub access_counts : ((r : RootId) → gain_in r (access_entry root number (view_of old).own.number did ∷ []) ≡ loss_in r (access_entry root number (view_of old).own.number did ∷ [])) → (r : RootId) → HasCount r (view_of old) → HasCount r (view_of new)
-    access_counts none r has =
-        let v = view_of old in let w = view_of new in let e = access_entry root number v.own.number did in
-        let a = gained_more v w (e ∷ []) 0 grown r in let b = lost_more v w (e ∷ []) 0 grown r in let c = none r in omega (arith, a, b, c, has)
-
     pub access_recounted : ((r : RootId) → gain_in r (access_entry root number (view_of old).own.number did ∷ []) ≡ loss_in r (access_entry root number (view_of old).own.number did ∷ [])) → Recounted [] [] (view_of old) (view_of new)
     access_recounted none r =
         let v = view_of old in let w = view_of new in let e = access_entry root number v.own.number did in
         let a = gained_more v w (e ∷ []) 0 grown r in let b = lost_more v w (e ∷ []) 0 grown r in let c = none r in omega (arith, a, b, c)
+
+    pub access_sends : Sends 0 (view_of old) (view_of new)
+    access_sends =
+        let v = view_of old in
+        sends_grown v (view_of new) (access_entry root number v.own.number did ∷ []) 0 grown 0 (λ to. (let a = is_access.none_sent (lane_in v) to in omega (arith, a)))
 
 -- ---- A release.
 
@@ -190,3 +192,9 @@ goes_release pool old new is t m works r did after gain loss carries has made =
       moves_left = grows.moves;
       number = grows.more.number;
     }
+
+-- a step on a count sends nothing
+pub ref_sends : {G : Ghosts Home Noted} (pool : SharedPool) (old new : PoolSeat Home G) → IsPoolSeat pool old → IsPoolSeat pool new → (r : RootId) (did : RefDid) → HasView new (with_ref (view_of old) r did (view_of old).moves) → Sends 0 (view_of old) (view_of new)
+ref_sends pool old new was is r did made =
+    let v = view_of old in
+    sends_grown v (view_of new) (Ref r did ∷ []) 0 (grows_ref pool old new was is r did v.moves 0 made (omega arith)) 0 (λ to. omega arith)

@@ -4,13 +4,15 @@ use Rattle.pool_table.specs.declared.views.Layout.{Layout}
 use Rattle.pool_bench.specs.declared.words.Plan.{Plan}
 use Rattle.pool_bench.specs.Works.{block_turns, block_moves}
 
--- one to sixteen threads and one to eight arenas, with some handles, and with so few blocks that
--- the moves suffice
+-- one to sixteen threads and one to eight arenas of one to eight chunks, with some handles, and
+-- with so few blocks that the moves suffice
 pub record IsPlan (p : Plan) : Type 0 where
   pub some_thread : 0 < p.threads
   pub threads : p.threads ≤ 16
   pub some_arena : 0 < p.arenas
   pub arenas : p.arenas ≤ 8
+  pub some_chunk : 0 < p.chunks
+  pub chunks : p.chunks ≤ 8
   pub some_handle : 0 < p.handles
   pub handles : p.handles ≤ 512
   pub blocks : p.blocks ≤ 8000000
@@ -19,7 +21,7 @@ pub record IsPlan (p : Plan) : Type 0 where
 pub record IsLayoutOf (p : Plan) (l : Layout) : Type 0 where
   pub order : l.shape.order ≡ 9
   pub arenas : l.shape.arenas ≡ p.arenas
-  pub chunks : l.shape.chunks ≡ 1
+  pub chunks : l.shape.chunks ≡ p.chunks
   pub handles : l.shape.handles ≡ p.handles
   pub lanes : l.shape.lanes ≡ p.threads
   pub interval : l.shape.interval ≡ 128

@@ -12,6 +12,7 @@ use Rattle.shared_pool.specs.declared.pool.SharedPool.{SharedPool}
 use Rattle.shared_pool.specs.Seats.{IsPoolSeat}
 use Rattle.lane_core.specs.Counting.{one_for}
 use Rattle.lane_core.specs.Hands.{Hand, empty_hand, IsHeld}
+use Rattle.pool_bench.specs.declared.runner.Runner.{Runner}
 
 -- what a block costs at most
 abbrev pub block_turns : ℕ
@@ -73,8 +74,8 @@ module _ {G : Ghosts Home Noted} where
     pub held : IsHeld empty_hand (view_of new)
     pub number : (view_of new).own.number ≡ (view_of old).own.number
 
-  -- each of these seats has
-  pub record HaveRun (pool : SharedPool) (before after : List (PoolSeat Home G)) : Type 0 where
-    pub many : length after ≡ length before
-    pub each : (k : ℕ) (d : PoolSeat Home G) → k < length before →
-        HasRun pool (slice_index_or before k d) (slice_index_or after k d)
+-- each of these runners' seats has
+pub record HaveRun (pool : SharedPool) (before after : List Runner) : Type 0 where
+  pub many : length after ≡ length before
+  pub each : (k : ℕ) (d : Runner) → k < length before →
+      HasRun pool (slice_index_or before k d).seat (slice_index_or after k d).seat

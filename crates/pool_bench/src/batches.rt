@@ -8,35 +8,32 @@ ghost use Rattle.lane_core.specs.Hands.{empty_hand};
 ghost use Rattle.pool_bench.specs.Works.{Works, Goes, MayRun, HasRun, Holds};
 
 use crate::block::{allocate, release};
+use crate::runner::Runner;
 use crate::work::{Tally, class_size};
-use pool_law::{RootId, Shape};
-use shared_pool::{PoolSeat, SharedPool};
+use pool_law::Shape;
+use shared_pool::SharedPool;
 use size_classes::SizeClasses;
-use std::alloc::AllocGlobal;
 use std::sync::Wait;
 
 /// Batches of 512 buffers, of the classes up to 2,048 bytes in turn, or of `size` bytes.
-pub fn run_batches<W: Wait + AllocGlobal>(
+pub fn run_batches<W: Wait>(
     rt: &W,
     pool: &SharedPool,
     shape: &Shape,
     sizes: &SizeClasses,
     size: Option<u32>,
     blocks: u32,
-    seat: &mut PoolSeat,
+    runner: &mut Runner,
 ) -> Tally
     requires shape { shape.now ≡ pool.now.table.layout.shape }
     requires sizes { sizes.now ≡ geometry_of shape.now }
-    requires may { MayRun pool.now blocks seat.old }
-    ensures { HasRun pool.now seat.old seat.new }
+    requires may { MayRun pool.now blocks runner.old.seat }
+    ensures { HasRun pool.now runner.old.seat runner.new.seat }
 {
-    let Ok(mut roots) = Vec::with_capacity(rt.alloc(), 512) else {
-        return Tally::none_of(blocks);
-    };
     let mut tally = Tally::none_of(0);
     for done in 0..blocks / 512 {
         let bytes = size.unwrap_or(class_size(sizes, done % 24));
-        let refused = one_batch(rt, pool, shape, sizes, bytes, seat, &mut roots);
+        let refused = one_batch(rt, pool, shape, sizes, bytes, runner);
         tally.refused = tally.refused.wrapping_add(refused);
     }
     tally
@@ -49,21 +46,18 @@ fn one_batch<W: Wait>(
     shape: &Shape,
     sizes: &SizeClasses,
     size: u32,
-    seat: &mut PoolSeat,
-    roots: &mut Vec<RootId>,
+    runner: &mut Runner,
 ) -> u64
     requires shape { shape.now ≡ pool.now.table.layout.shape }
     requires sizes { sizes.now ≡ geometry_of shape.now }
-    requires works { Works pool.now empty_hand 5632 512 seat.old }
-    requires room { 512 ≤ vec_capacity roots.old }
-    ensures goes { Goes pool.now empty_hand 5632 512 seat.old seat.new }
-    ensures room { vec_capacity roots.new ≡ vec_capacity roots.old }
+    requires works { Works pool.now empty_hand 5632 512 runner.old.seat }
+    ensures goes { Goes pool.now empty_hand 5632 512 runner.old.seat runner.new.seat }
 {
     let Some(class) = sizes.class_of(size) else {
         return 512;
     };
-    let refused = fill(rt, pool, shape, size, class, 512, seat, roots);
-    release_all(rt, pool, seat, roots);
+    let refused = fill(rt, pool, shape, size, class, 512, runner);
+    release_all(rt, pool, runner);
     refused
 }
 
@@ -75,23 +69,21 @@ fn fill<W: Wait>(
     size: u32,
     class: u32,
     count: u32,
-    seat: &mut PoolSeat,
-    roots: &mut Vec<RootId>,
+    runner: &mut Runner,
 ) -> u64
-    requires works { Works pool.now empty_hand (5 * count) count seat.old }
+    requires works { Works pool.now empty_hand (5 * count) count runner.old.seat }
     requires shape { shape.now ≡ pool.now.table.layout.shape }
     requires class { class_of (geometry_of shape.now) size ≡ Some class }
-    requires room { count ≤ vec_capacity roots.old }
-    ensures goes { Goes pool.now empty_hand (5 * count) count seat.old seat.new }
-    ensures holds { Holds roots.new.items (view_of seat.new) }
-    ensures few { vec_len roots.new ≤ count }
-    ensures room { vec_capacity roots.new ≡ vec_capacity roots.old }
+    requires few { count ≤ 512 }
+    ensures goes { Goes pool.now empty_hand (5 * count) count runner.old.seat runner.new.seat }
+    ensures holds { Holds runner.new.roots.items (view_of runner.new.seat) }
+    ensures few { vec_len runner.new.roots ≤ count }
 {
-    roots.clear();
+    runner.roots.clear();
     let mut refused = 0u64;
     for done in 0..count {
-        match allocate(rt, pool, shape, seat, size, class) {
-            Some(root) => roots.push_reserved(root),
+        match allocate(rt, pool, shape, runner, size, class) {
+            Some(root) => runner.roots.push_reserved(root),
             None => refused = refused.wrapping_add(1),
         }
     }
@@ -99,13 +91,13 @@ fn fill<W: Wait>(
 }
 
 /// All these buffers are released.
-pub fn release_all<W: Wait>(rt: &W, pool: &SharedPool, seat: &mut PoolSeat, roots: &mut Vec<RootId>)
-    requires works { Works pool.now empty_hand (6 * vec_len roots.old) 0 seat.old }
-    requires holds { Holds roots.old.items (view_of seat.old) }
-    ensures goes { Goes pool.now empty_hand (6 * vec_len roots.old) 0 seat.old seat.new }
-    ensures room { vec_capacity roots.new ≡ vec_capacity roots.old }
+pub fn release_all<W: Wait>(rt: &W, pool: &SharedPool, runner: &mut Runner)
+    requires works { Works pool.now empty_hand (6 * vec_len runner.old.roots) 0 runner.old.seat }
+    requires holds { Holds runner.old.roots.items (view_of runner.old.seat) }
+    ensures goes { Goes pool.now empty_hand (6 * vec_len runner.old.roots) 0
+        runner.old.seat runner.new.seat }
 {
-    while let Some(root) = roots.pop() {
-        release(rt, pool, seat, root);
+    while let Some(root) = runner.roots.pop() {
+        release(rt, pool, runner, root);
     }
 }

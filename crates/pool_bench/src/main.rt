@@ -9,6 +9,7 @@
 ghost use Rattle.std.specs.Prelude.{◌≡◌, ◌<◌, All};
 ghost use Rattle.pool_law.specs.Limits.{geometry_of};
 ghost use Rattle.pool_bench.specs.Works.{MayRun, HasRun, HaveRun};
+ghost use Rattle.pool_bench.specs.Mails.{HasMail};
 ghost use Rattle.pool_bench.specs.Plans.{IsPlan};
 ghost use Rattle.shared_pool.specs.Seated.{AreDone};
 
@@ -26,15 +27,21 @@ use std::{env, thread};
 mod batches;
 mod block;
 mod draws;
+mod passed;
+mod places;
 mod retained;
+mod runner;
+mod runners;
 #[cfg(test)]
 mod tests;
 mod words;
 mod work;
 
 use draws::Draws;
-use words::{Plan, layout_of, plan_of};
-use work::run;
+use runner::Runner;
+use runners::{rooms_for, runners_of, seats_of};
+use words::{Plan, layout_of, mail_for, plan_of};
+use work::{draws_of, run};
 
 fn main(rt: HostRuntime) -> anyhow::Result<()> {
     let words: Vec<String> = env::args(&rt)?.skip(1).collect(rt.alloc())?;
@@ -43,7 +50,7 @@ fn main(rt: HostRuntime) -> anyhow::Result<()> {
     }
     let Some(plan) = plan_of(&words) else {
         println!(rt;
-            "words: w1, w4, w5hit or w5batch, @ a size; threads; blocks; 1; repeats; start"
+            "words: w1 to w4, w5hit or w5batch, @ a size; threads; blocks; 1; repeats; start"
         )?;
         return Ok(());
     };
@@ -72,15 +79,23 @@ fn measure<R: Threads + Wait + Sync + Clock + AllocGlobal>(
 ) -> anyhow::Result<Measured>
     requires { IsPlan plan.now }
 {
-    let mail = vec![in rt.alloc(); 0u32; (plan.threads * plan.threads) as usize]?;
+    let mail = mail_for(rt.alloc(), plan)?;
     let sizes = SizeClasses::new(rt.alloc(), 9)?;
     let layout = layout_of(plan);
     let shape = layout.shape;
-    let (pool, mut seats) = SharedPool::new(rt.alloc(), layout, mail.as_slice())?;
+    let rooms = rooms_for(rt.alloc(), plan.threads)?;
+    let (pool, seats) = SharedPool::new(rt.alloc(), layout, mail.as_slice())?;
+    let (mut runners, spare) = match runners_of(rt.alloc(), seats, rooms) {
+        Ok(made) => made,
+        Err(seats) => {
+            close(rt.alloc(), pool, seats)?;
+            return Err(AllocError.into());
+        }
+    };
     let start = Instant::now(rt);
-    let (sum, refused) = work_all(rt, &pool, &shape, &sizes, plan, seats.as_mut_slice());
+    let (sum, refused) = work_all(rt, &pool, &shape, &sizes, plan, runners.as_mut_slice());
     let end = Instant::now(rt);
-    close(rt.alloc(), pool, seats)?;
+    close(rt.alloc(), pool, seats_of(runners, spare))?;
     let took = end?.saturating_duration_since(start?).as_nanos();
     Ok(Measured { took, sum, refused })
 }
@@ -100,34 +115,36 @@ fn close(alloc: Global, pool: SharedPool, seats: Vec<PoolSeat>) -> Result<(), Al
 
 // All lanes at work at once. The answer is the sum of what they read, and how many blocks were
 // refused.
-fn work_all<R: Threads + Wait + Sync + AllocGlobal>(
+fn work_all<R: Threads + Wait + Sync>(
     rt: &R,
     pool: &SharedPool,
     shape: &Shape,
     sizes: &SizeClasses,
     plan: &Plan,
-    seats: &mut [PoolSeat],
+    runners: &mut [Runner],
 ) -> (u64, u64)
     requires threads { 0 < plan.now.threads }
     requires shape { shape.now ≡ pool.now.table.layout.shape }
     requires sizes { sizes.now ≡ geometry_of shape.now }
-    requires may { All (MayRun pool.now plan.now.blocks) seats.old }
-    ensures { HaveRun pool.now seats.old seats.new }
+    requires mail { All (λ r. HasMail pool.now plan.now.mail r.seat) runners.old }
+    requires may { All (λ r. MayRun pool.now plan.now.blocks r.seat) runners.old }
+    ensures { HaveRun pool.now runners.old runners.new }
 {
     let sum = AtomicU64::new(0);
     let refused = AtomicU64::new(0);
     thread::for_each_mut(
         rt,
-        seats,
+        runners,
         plan.threads as usize,
-        &|lane: usize, seat: &mut PoolSeat|
+        &|lane: usize, runner: &mut Runner|
             requires { (shape.now ≡ pool.now.table.layout.shape)
                 × (sizes.now ≡ geometry_of shape.now)
-                × MayRun pool.now plan.now.blocks seat.now }
-            ensures { HasRun pool.entry.now seat.entry.now seat.exit.now }
+                × HasMail pool.now plan.now.mail runner.now.seat
+                × MayRun pool.now plan.now.blocks runner.now.seat }
+            ensures { HasRun pool.entry.now runner.entry.now.seat runner.exit.now.seat }
         {
             let mut draws = Draws::new(plan.start);
-            draws.skip((lane as u64).wrapping_mul(2 * plan.blocks as u64));
+            draws.skip((lane as u64).wrapping_mul(draws_of(plan.work) * plan.blocks as u64));
             let tally = run(
                 rt,
                 pool,
@@ -135,8 +152,9 @@ fn work_all<R: Threads + Wait + Sync + AllocGlobal>(
                 sizes,
                 plan.work,
                 plan.blocks,
+                plan.mail,
                 &mut draws,
-                seat,
+                runner,
             );
             sum.fetch_add(tally.sum, Ordering::SeqCst);
             refused.fetch_add(tally.refused, Ordering::SeqCst);

@@ -1,20 +1,23 @@
 //! The workloads: what one lane does, block after block.
 
-ghost use Rattle.std.specs.Prelude.{◌≡◌, ◌+◌};
+ghost use Rattle.std.specs.Prelude.{◌≡◌, ◌+◌, ◌≤◌};
 ghost use Rattle.pool_law.specs.Limits.{geometry_of};
 ghost use Rattle.pool_table.specs.Counts.{HasCount};
 ghost use Rattle.pool_table.specs.Seats.{view_of};
 ghost use Rattle.lane_core.specs.Hands.{empty_hand};
 ghost use Rattle.pool_bench.specs.Works.{Works, Goes, MayRun, HasRun, block_turns, block_moves};
+ghost use Rattle.pool_bench.specs.Mails.{Sends, HasMail};
 
 use crate::batches::run_batches;
 use crate::block::{allocate, read, release, write};
 use crate::draws::Draws;
+use crate::passed::run_passed;
+use crate::places::run_places;
 use crate::retained::run_retained;
+use crate::runner::Runner;
 use pool_law::{RootId, Shape};
-use shared_pool::{PoolSeat, SharedPool};
+use shared_pool::SharedPool;
 use size_classes::SizeClasses;
-use std::alloc::AllocGlobal;
 use std::sync::Wait;
 
 /// What a block is.
@@ -31,11 +34,29 @@ pub enum Workload {
     Checked,
     /// Mixed blocks, of which one in 32 doesn't release its buffer.
     Left,
+    /// Mixed blocks whose buffers go to the next lane, in place of their release. It reads the
+    /// first four bytes and releases them.
+    Passed(Option<u32>),
+    /// Passed blocks whose bytes are their numbers. The sum is how many bytes were wrong.
+    Counted,
     /// A retain and a release of one buffer, of 256 bytes, or of so many.
     Retained(Option<u32>),
     /// 512 new buffers, then their releases, of each class up to 2,048 bytes, one after the other,
     /// or of so many bytes.
     Batches(Option<u32>),
+    /// At one of 64 places the buffer is released, and a new one of 16 bytes to 4 MiB is put there,
+    /// small ones more often, whose first and last four bytes are written, and the last four read.
+    Places,
+}
+
+/// How many numbers a block draws at most.
+pub fn draws_of(work: Workload) -> u64
+    ensures { result ≤ 5 }
+{
+    match work {
+        Workload::Places => 5,
+        _ => 2,
+    }
 }
 
 /// What a lane's blocks came to: the sum of the bytes that it read, and how many were refused.
@@ -53,30 +74,44 @@ impl Tally {
             refused: blocks as u64,
         }
     }
+
+    /// One more block: the sum of the bytes that it read, or None where it was refused.
+    pub fn add(&mut self, block: Option<u64>) {
+        match block {
+            Some(sum) => self.sum = self.sum.wrapping_add(sum),
+            None => self.refused = self.refused.wrapping_add(1),
+        }
+    }
 }
 
-/// All blocks of a workload.
-pub fn run<W: Wait + AllocGlobal>(
+/// All blocks of a workload. A lane may post so many parcels to the next as `mail` says.
+pub fn run<W: Wait>(
     rt: &W,
     pool: &SharedPool,
     shape: &Shape,
     sizes: &SizeClasses,
     work: Workload,
     blocks: u32,
+    mail: u32,
     draws: &mut Draws,
-    seat: &mut PoolSeat,
+    runner: &mut Runner,
 ) -> Tally
     requires shape { shape.now ≡ pool.now.table.layout.shape }
     requires sizes { sizes.now ≡ geometry_of shape.now }
-    requires may { MayRun pool.now blocks seat.old }
-    ensures { HasRun pool.now seat.old seat.new }
+    requires may { MayRun pool.now blocks runner.old.seat }
+    requires mail { HasMail pool.now mail runner.old.seat }
+    ensures { HasRun pool.now runner.old.seat runner.new.seat }
 {
     match work {
-        Workload::Retained(size) => {
-            run_retained(rt, pool, shape, sizes, size.unwrap_or(256), blocks, seat)
+        Workload::Passed(_) | Workload::Counted => {
+            run_passed(rt, pool, shape, sizes, work, blocks, mail, draws, runner)
         }
-        Workload::Batches(size) => run_batches(rt, pool, shape, sizes, size, blocks, seat),
-        _ => run_blocks(rt, pool, shape, sizes, work, blocks, draws, seat),
+        Workload::Retained(size) => {
+            run_retained(rt, pool, shape, sizes, size.unwrap_or(256), blocks, runner)
+        }
+        Workload::Batches(size) => run_batches(rt, pool, shape, sizes, size, blocks, runner),
+        Workload::Places => run_places(rt, pool, shape, sizes, blocks, draws, runner),
+        _ => run_blocks(rt, pool, shape, sizes, work, blocks, draws, runner),
     }
 }
 
@@ -89,28 +124,25 @@ fn run_blocks<W: Wait>(
     work: Workload,
     blocks: u32,
     draws: &mut Draws,
-    seat: &mut PoolSeat,
+    runner: &mut Runner,
 ) -> Tally
     requires shape { shape.now ≡ pool.now.table.layout.shape }
     requires sizes { sizes.now ≡ geometry_of shape.now }
-    requires may { MayRun pool.now blocks seat.old }
-    ensures { HasRun pool.now seat.old seat.new }
+    requires may { MayRun pool.now blocks runner.old.seat }
+    ensures { HasRun pool.now runner.old.seat runner.new.seat }
 {
-    let mut tally = Tally { sum: 0, refused: 0 };
+    let mut tally = Tally::none_of(0);
     for done in 0..blocks {
         let (size, byte) = asked(work, sizes, done, draws);
-        match one_block(rt, pool, shape, sizes, work, size, byte, seat) {
-            Some(sum) => tally.sum = tally.sum.wrapping_add(sum),
-            None => tally.refused = tally.refused.wrapping_add(1),
-        }
+        tally.add(one_block(rt, pool, shape, sizes, work, size, byte, runner));
     }
     tally
 }
 
-// The size of the next buffer, and the byte that is written.
-fn asked(work: Workload, sizes: &SizeClasses, done: u32, draws: &mut Draws) -> (u32, u8) {
+/// The size of the next buffer, and the byte that is written.
+pub fn asked(work: Workload, sizes: &SizeClasses, done: u32, draws: &mut Draws) -> (u32, u8) {
     match work {
-        Workload::Mixed(size) => {
+        Workload::Mixed(size) | Workload::Passed(size) => {
             let drawn = 16 + draws.next() % 1009;
             (size.unwrap_or(drawn), (draws.next() % 256) as u8)
         }
@@ -120,9 +152,10 @@ fn asked(work: Workload, sizes: &SizeClasses, done: u32, draws: &mut Draws) -> (
             (size, (draws.next() % 256) as u8)
         }
         Workload::Left => (16 + draws.next() % 1009, (draws.next() % 256) as u8),
+        Workload::Counted => (16 + draws.next() % 1009, (done % 256) as u8),
         Workload::Plain(Some(size)) => (size, 0),
         Workload::Plain(None) => (class_size(sizes, done % 39), 0),
-        Workload::Retained(_) | Workload::Batches(_) => (16, 0),
+        Workload::Retained(_) | Workload::Batches(_) | Workload::Places => (16, 0),
     }
 }
 
@@ -144,20 +177,20 @@ fn one_block<W: Wait>(
     work: Workload,
     size: u32,
     byte: u8,
-    seat: &mut PoolSeat,
+    runner: &mut Runner,
 ) -> Option<u64>
     requires shape { shape.now ≡ pool.now.table.layout.shape }
     requires sizes { sizes.now ≡ geometry_of shape.now }
-    requires works { Works pool.now empty_hand block_turns block_moves seat.old }
-    ensures { Goes pool.now empty_hand block_turns block_moves seat.old seat.new }
+    requires works { Works pool.now empty_hand block_turns block_moves runner.old.seat }
+    ensures { Goes pool.now empty_hand block_turns block_moves runner.old.seat runner.new.seat }
 {
     let class = sizes.class_of(size)?;
-    let root = allocate(rt, pool, shape, seat, size, class)?;
-    let sum = access(rt, pool, seat, root, work, byte);
+    let root = allocate(rt, pool, shape, runner, size, class)?;
+    let sum = access(rt, pool, runner, root, work, byte);
     if work == Workload::Left && byte % 32 == 0 {
         return Some(sum);
     }
-    release(rt, pool, seat, root);
+    release(rt, pool, runner, root);
     Some(sum)
 }
 
@@ -165,73 +198,80 @@ fn one_block<W: Wait>(
 fn access<W: Wait>(
     rt: &W,
     pool: &SharedPool,
-    seat: &mut PoolSeat,
+    runner: &mut Runner,
     root: RootId,
     work: Workload,
     byte: u8,
 ) -> u64
-    requires works { Works pool.now empty_hand 3 0 seat.old }
-    requires counts { HasCount root (view_of seat.old) }
-    ensures goes { Goes pool.now empty_hand 3 0 seat.old seat.new }
-    ensures counts { HasCount root (view_of seat.new) }
+    requires works { Works pool.now empty_hand 3 0 runner.old.seat }
+    requires counts { HasCount root (view_of runner.old.seat) }
+    ensures goes { Goes pool.now empty_hand 3 0 runner.old.seat runner.new.seat }
+    ensures counts { HasCount root (view_of runner.new.seat) }
 {
     match work {
-        Workload::Mixed(_) => write_and_read(rt, pool, seat, root, byte),
-        Workload::Left => write_and_read(rt, pool, seat, root, byte),
-        Workload::Checked => count_wrong(rt, pool, seat, root, byte),
-        Workload::Plain(_) | Workload::Retained(_) | Workload::Batches(_) => 0,
+        Workload::Mixed(_) => write_and_read(rt, pool, runner, root, byte),
+        Workload::Left => write_and_read(rt, pool, runner, root, byte),
+        Workload::Checked => count_wrong(rt, pool, runner, root, byte),
+        Workload::Passed(_) | Workload::Counted => 0,
+        Workload::Plain(_) | Workload::Retained(_) | Workload::Batches(_) | Workload::Places => 0,
     }
 }
 
-// Four bytes are written, and four are read through the slice of eight from the third on. The
-// answer is their sum.
-fn write_and_read<W: Wait>(
+/// Four bytes are written, and four are read through the slice of eight from the third on. The
+/// answer is their sum.
+pub fn write_and_read<W: Wait>(
     rt: &W,
     pool: &SharedPool,
-    seat: &mut PoolSeat,
+    runner: &mut Runner,
     root: RootId,
     byte: u8,
 ) -> u64
-    requires works { Works pool.now empty_hand 2 0 seat.old }
-    requires counts { HasCount root (view_of seat.old) }
-    ensures goes { Goes pool.now empty_hand 2 0 seat.old seat.new }
-    ensures counts { HasCount root (view_of seat.new) }
+    requires works { Works pool.now empty_hand 2 0 runner.old.seat }
+    requires counts { HasCount root (view_of runner.old.seat) }
+    ensures goes { Goes pool.now empty_hand 2 0 runner.old.seat runner.new.seat }
+    ensures counts { HasCount root (view_of runner.new.seat) }
+    ensures sends { Sends 0 (view_of runner.old.seat) (view_of runner.new.seat) }
 {
     if root.capacity < 10 {
         return 0;
     }
-    write(rt, pool, seat, root, 0, &[byte, byte, byte, byte]);
+    write(rt, pool, runner, root, 0, &[byte, byte, byte, byte]);
     let mut out = [0u8; 4];
-    read(rt, pool, seat, root, 2, &mut out);
-    out[0] as u64 + out[1] as u64 + out[2] as u64 + out[3] as u64
+    read(rt, pool, runner, root, 2, &mut out);
+    sum_of(&out)
+}
+
+/// The sum of four bytes.
+pub fn sum_of(bytes: &[u8; 4]) -> u64 {
+    bytes[0] as u64 + bytes[1] as u64 + bytes[2] as u64 + bytes[3] as u64
 }
 
 // The last 64 bytes are read, written and read again. The answer is how many were wrong.
 fn count_wrong<W: Wait>(
     rt: &W,
     pool: &SharedPool,
-    seat: &mut PoolSeat,
+    runner: &mut Runner,
     root: RootId,
     byte: u8,
 ) -> u64
-    requires works { Works pool.now empty_hand 3 0 seat.old }
-    requires counts { HasCount root (view_of seat.old) }
-    ensures goes { Goes pool.now empty_hand 3 0 seat.old seat.new }
-    ensures counts { HasCount root (view_of seat.new) }
+    requires works { Works pool.now empty_hand 3 0 runner.old.seat }
+    requires counts { HasCount root (view_of runner.old.seat) }
+    ensures goes { Goes pool.now empty_hand 3 0 runner.old.seat runner.new.seat }
+    ensures counts { HasCount root (view_of runner.new.seat) }
 {
     if root.capacity < 64 {
         return 0;
     }
     let offset = root.capacity - 64;
     let mut out = [7u8; 64];
-    read(rt, pool, seat, root, offset, &mut out);
+    read(rt, pool, runner, root, offset, &mut out);
     let before = count_others(&out, 0);
-    write(rt, pool, seat, root, offset, &[byte; 64]);
-    read(rt, pool, seat, root, offset, &mut out);
+    write(rt, pool, runner, root, offset, &[byte; 64]);
+    read(rt, pool, runner, root, offset, &mut out);
     before.wrapping_add(count_others(&out, byte))
 }
 
-// How many of these bytes are others.
-fn count_others(bytes: &[u8], byte: u8) -> u64 {
+/// How many of these bytes are others.
+pub fn count_others(bytes: &[u8], byte: u8) -> u64 {
     bytes.iter().filter(|other| **other != byte).count() as u64
 }

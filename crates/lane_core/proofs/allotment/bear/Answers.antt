@@ -7,6 +7,7 @@ use Rattle.shared_pool.specs.RootNotes.{birth, IsNotedWith}
 use Rattle.lane_core.specs.declared.allotment.Allotting.TheVariants.{Birth}
 use Rattle.lane_core.specs.Allotments.{hand_of}
 use Rattle.lane_core.proofs.AllotSteps.{root_born}
+use Rattle.lane_core.proofs.LogLaws.{wrote_two, room_behind}
 use Rattle.lane_core.proofs.Holds.{holds_handle, holds_region}
 use Rattle.lane_core.proofs.allotment.bear.Goals as goal
 
@@ -19,9 +20,13 @@ birth-number-requires-clause-region c = let may = c.requires.may in holds_region
 pub overflow_add-used : goal.overflow_add-used
 overflow_add-used c = let few = c.birth-number.ensures.uses in omega (arith, few)
 
+pub write-requires-2 : goal.write-requires-2
+write-requires-2 c = room_behind c.args.log.now c.write.new.log c.at.result c.write.ensures c.requires.room
+
 pub returns : goal.returns
 returns c =
     let pool = c.args.pool.now in let old = c.args.seat.now in let new = c.birth-number.new.seat in let call = c.birth-number in let root = call.result.1 in let last = c.next-watch.new.self in
     let noted = subst (λ (x : Option Watch). IsNotedWith pool old new root call.result.0 (birth root c.args.region.id x) Born ((view_of old).moves - 1)) c.next-watch.ensures.watch call.ensures.did in
-    root_born pool old new c.args.region.id.class call.ensures.seat call.ensures.same c.args.handle c.args.region root call.result.0 c.args.size c.args.sampler.now last c.at-born.result c.to.result c.requires.may c.requires.moves
-    noted call.ensures.root.0 call.ensures.root.1 c.next-watch.ensures.births c.at-born.ensures c.to.ensures
+    root_born pool old new c.args.region.id.class call.ensures.seat call.ensures.same c.args.handle c.args.region root call.result.0 c.args.size c.args.sampler.now last c.at.result c.to.result c.args.log.now c.write-2.new.log
+    (wrote_two c.args.log.now c.write.new.log c.write-2.new.log c.at.result c.to.result c.write.ensures c.write-2.ensures) c.requires.may c.requires.moves
+    noted call.ensures.root.0 call.ensures.root.1 c.next-watch.ensures.births c.at.ensures c.to.ensures

@@ -24,12 +24,12 @@ pub returns-in-Did : goal.returns-in-Did
 returns-in-Did c = λ sampler size class.
     let handle = c.args.handle in let did = c.in-Did in
     let it : c.at.result ≡ Note.At (Bin handle.lane) did.number (Did.Home handle.place) = c.at.ensures ∙ (λ i. Note.At (Bin (c.lane.ensures i)) did.number (Did.Home (c.place-place.ensures i))) in
-    went_home c.args.pool.now c.args.seat.now c.put_handle.new.seat class did.ensures.seat did.ensures.same did.number c.at.result sampler size handle (c.requires.may class) did.ensures.did it
+    went_home c.args.pool.now c.args.seat.now c.put_handle.new.seat class did.ensures.seat did.ensures.same did.number c.at.result c.args.log.now c.write.new.log c.write.ensures sampler size handle (c.requires.may class) did.ensures.did it
 
 pub returns-in-Held : goal.returns-in-Held
 returns-in-Held c = λ sampler size class.
     let pool = c.args.pool.now in let old = c.args.seat.now in let new = c.put_handle.new.seat in let held = c.in-Held in let may = c.requires.may class in let handle = c.args.handle in
     let o : Object = Bin handle.lane in
     let grows = grows_held pool old new may.seat_is held.ensures.seat o held.held held.ensures.held.1 in
-    found_held pool old new class held.ensures.seat held.ensures.same o held.held (Home handle) (Home held.handle) sampler size may held.ensures.held.1 (ap (λ (h : HandleValue). Home h) held.ensures.held.0)
+    found_held pool old new class held.ensures.seat held.ensures.same o held.held (Home handle) (Home held.handle) c.args.log.now sampler size may held.ensures.held.1 (ap (λ (h : HandleValue). Home h) held.ensures.held.0)
     (own_still pool old new class held.ensures.seat held.ensures.same handle [] 0 grows may.fits)

@@ -19,10 +19,10 @@ close_cached-requires-clause-not_closed c = not_closed_yet (view_of c.args.seat.
 pub returns-in-Did : goal.returns-in-Did
 returns-in-Did c =
     let old = c.args.seat.now in let did = c.in-Did in let class = c.args.class in
-    let it : c.at-note.result ≡ Note.At (Cache (lane_of old) class) did.number (Did.Close did.quota) = c.at-note.ensures ∙ (λ i. Note.At (Cache (c.lane_of.ensures.lane i) class) did.number (Did.Close did.quota)) in
-    closed_with_quota c.args.pool.now old c.close_cached.new.seat did.ensures.seat did.ensures.same class did.number c.at-note.result did.quota c.after.result c.requires.may did.ensures.did did.ensures.bound c.after.ensures.next c.after.ensures.hand c.after.ensures.rest it
+    let it : c.at.result ≡ Note.At (Cache (lane_of old) class) did.number (Did.Close did.quota) = c.at.ensures ∙ (λ i. Note.At (Cache (c.lane_of.ensures.lane i) class) did.number (Did.Close did.quota)) in
+    closed_with_quota c.args.pool.now old c.close_cached.new.seat did.ensures.seat did.ensures.same class did.number c.at.result c.args.log.now c.write.new.log c.write.ensures did.quota c.after.result c.requires.may did.ensures.did did.ensures.bound c.after.ensures.next c.after.ensures.hand c.after.ensures.rest it
 
 pub returns-in-Held : goal.returns-in-Held
 returns-in-Held c =
     let old = c.args.seat.now in let held = c.in-Held in let class = c.args.class in
-    found_held c.args.pool.now old c.close_cached.new.seat held.ensures.seat held.ensures.same (Cache (lane_of old) class) held.held (Close class) (Close class) c.requires.may held.ensures.held refl
+    found_held c.args.pool.now old c.close_cached.new.seat held.ensures.seat held.ensures.same (Cache (lane_of old) class) held.held (Close class) (Close class) c.args.log.now c.requires.may held.ensures.held refl

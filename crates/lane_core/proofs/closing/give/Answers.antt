@@ -14,10 +14,10 @@ give-requires-clause-region c =
 pub returns-in-Did : goal.returns-in-Did
 returns-in-Did c =
     let did = c.in-Did in
-    gave_one c.args.pool.now c.args.seat.now c.give.new.seat did.ensures.seat did.ensures.same c.args.class did.number c.at-note.result c.args.left c.args.region c.after.result c.requires.may did.ensures.did c.after.ensures.next c.after.ensures.hand c.after.ensures.rest c.at-note.ensures
+    gave_one c.args.pool.now c.args.seat.now c.give.new.seat did.ensures.seat did.ensures.same c.args.class did.number c.at.result c.args.log.now c.write.new.log c.write.ensures c.args.left c.args.region c.after.result c.requires.may did.ensures.did c.after.ensures.next c.after.ensures.hand c.after.ensures.rest c.at.ensures
 
 pub returns-in-Held : goal.returns-in-Held
 returns-in-Held c =
     let held = c.in-Held in let class = c.args.class in let left = c.args.left in
-    found_held c.args.pool.now c.args.seat.now c.give.new.seat held.ensures.seat held.ensures.same (Arena c.args.region.id.place.arena) held.held (Give class left c.args.region) (Give class left held.region) c.requires.may held.ensures.held.1
+    found_held c.args.pool.now c.args.seat.now c.give.new.seat held.ensures.seat held.ensures.same (Arena c.args.region.id.place.arena) held.held (Give class left c.args.region) (Give class left held.region) c.args.log.now c.requires.may held.ensures.held.1
     (ap (λ (r : Region). Give class left r) held.ensures.held.0)

@@ -1,4 +1,4 @@
-use Rattle.std.proofs.Common.{◌≡◌, ◌*◌, ◌≤◌, vec_len, vec_capacity}
+use Rattle.std.proofs.Common.{◌*◌, ◌≤◌, vec_len}
 use Rattle.pool_table.specs.Seats.{view_of}
 use Rattle.lane_core.specs.Hands.{empty_hand}
 use Rattle.pool_bench.specs.Works.{Goes, Holds}
@@ -6,5 +6,5 @@ use Rattle.pool_bench.proofs.batches.fill.Given as goal
 
 abbrev pub invariant-loop-done : goal.invariant-loop-done
 invariant-loop-done g l =
-    (l.done ≤ l.count) × Goes l.pool empty_hand (5 * l.done) l.done l.initial.seat l.seat × Holds l.roots.items (view_of l.seat)
-    × (vec_len l.roots ≤ l.done) × (vec_capacity l.roots ≡ vec_capacity l.initial.roots)
+    (l.done ≤ l.count) × Goes l.pool empty_hand (5 * l.done) l.done l.initial.runner.seat l.runner.seat × Holds l.runner.roots.items (view_of l.runner.seat)
+    × (vec_len l.runner.roots ≤ l.done)

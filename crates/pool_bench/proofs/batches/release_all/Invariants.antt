@@ -1,14 +1,13 @@
-use Rattle.std.proofs.Common.{◌≡◌, ◌-◌, ◌*◌, ◌≤◌, vec_len, vec_capacity}
+use Rattle.std.proofs.Common.{◌-◌, ◌*◌, ◌≤◌, vec_len}
 use Rattle.pool_table.specs.Seats.{view_of}
 use Rattle.lane_core.specs.Hands.{empty_hand}
 use Rattle.pool_bench.specs.Works.{Goes, Holds}
 use Rattle.pool_bench.proofs.batches.release_all.Given as goal
 
 abbrev pub decreases-loop-root : goal.decreases-loop-root
-decreases-loop-root g l = vec_len l.roots
+decreases-loop-root g l = vec_len l.runner.roots
 
 abbrev pub invariant-loop-root : goal.invariant-loop-root
 invariant-loop-root g l =
-    (vec_len l.roots ≤ vec_len l.initial.roots)
-    × Goes l.pool empty_hand (6 * (vec_len l.initial.roots - vec_len l.roots)) 0 l.initial.seat l.seat × Holds l.roots.items (view_of l.seat)
-    × (vec_capacity l.roots ≡ vec_capacity l.initial.roots)
+    (vec_len l.runner.roots ≤ vec_len l.initial.runner.roots)
+    × Goes l.pool empty_hand (6 * (vec_len l.initial.runner.roots - vec_len l.runner.roots)) 0 l.initial.runner.seat l.runner.seat × Holds l.runner.roots.items (view_of l.runner.seat)

@@ -1,4 +1,4 @@
-use Rattle.std.proofs.Common.{◌≡◌, ◌-◌, ◌*◌, ◌/◌, ◌≤◌, vec_capacity}
+use Rattle.std.proofs.Common.{◌≡◌, ◌-◌, ◌*◌, ◌/◌, ◌≤◌}
 use Rattle.pool_table.specs.Seats.{view_of}
 use Rattle.lane_core.specs.Hands.{empty_hand}
 use Rattle.pool_bench.specs.Works.{Works}
@@ -6,6 +6,5 @@ use Rattle.pool_bench.proofs.batches.run_batches.Given as goal
 
 abbrev pub invariant-loop-done : goal.invariant-loop-done
 invariant-loop-done g l =
-    (l.done ≤ l.blocks / 512) × Works l.pool empty_hand (16 * (l.blocks - 512 * l.done)) (l.blocks - 512 * l.done) l.seat
-    × ((view_of l.seat).own.number ≡ (view_of l.initial.seat).own.number)
-    × (512 ≤ vec_capacity l.roots)
+    (l.done ≤ l.blocks / 512) × Works l.pool empty_hand (16 * (l.blocks - 512 * l.done)) (l.blocks - 512 * l.done) l.runner.seat
+    × ((view_of l.runner.seat).own.number ≡ (view_of l.initial.runner.seat).own.number)

@@ -1,11 +1,12 @@
-use Rattle.std.proofs.Common.{◌-◌, []}
-use Rattle.pool_table.specs.Seats.{view_of}
+use Rattle.std.proofs.Common.{◌≡◌, ◌-◌, []}
+use Rattle.std.specs.Prelude.{vec_capacity}
 use Rattle.lane_core.specs.Endings.{Fits, hand_of, left_of}
-use Rattle.pool_bench.specs.Works.{Goes, Recounted}
+use Rattle.pool_bench.proofs.Stages.{Proceeds, HasRoom}
 use Rattle.pool_bench.proofs.block.end_root.Given as goal
 
 abbrev pub invariant-loop : goal.invariant-loop
 invariant-loop g l =
-    Goes l.pool (hand_of l.stage) (5 - (left_of l.stage).notes) 0 l.initial.seat l.seat
-    × Fits l.pool l.seat l.stage
-    × Recounted [] [] (view_of l.initial.seat) (view_of l.seat)
+    Proceeds l.pool (hand_of l.stage) (5 - (left_of l.stage).notes) 0 [] l.initial.runner.seat l.runner.seat
+    × Fits l.pool l.runner.seat l.stage
+    × (l.runner.roots ≡ l.initial.runner.roots)
+    × HasRoom (vec_capacity l.initial.runner.log) (left_of l.stage).notes l.runner.log

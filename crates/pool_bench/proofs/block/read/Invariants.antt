@@ -4,4 +4,6 @@ use Rattle.shared_pool.specs.Seats.{IsPoolSeat}
 use Rattle.pool_bench.proofs.block.read.Given as goal
 
 abbrev pub invariant-loop : goal.invariant-loop
-invariant-loop g l = IsPoolSeat l.pool l.seat × (view_of l.seat ≡ view_of l.initial.seat)
+invariant-loop g l =
+    IsPoolSeat l.pool l.runner.seat × (view_of l.runner.seat ≡ view_of l.initial.runner.seat)
+    × (l.runner.roots ≡ l.initial.runner.roots)
