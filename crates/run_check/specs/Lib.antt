@@ -25,3 +25,4 @@ pub mod Tallying
 pub mod Entering
 pub mod Checking
 pub mod Numbering
+pub mod Homing

@@ -1,6 +1,10 @@
 use Rattle.std.proofs.Common.{◌≡◌, ◌*◌}
+use Rattle.run_check.specs.Homing.{AreAtHome}
 use Rattle.run_check.proofs.BinLemmas.{places_from}
 use Rattle.run_check.proofs.bin.Bin.new.Given as goal
 
 abbrev pub invariant-loop-index : goal.invariant-loop-index
-invariant-loop-index l = l.places.items ≡ places_from (l.lane * l.handles) l.index
+invariant-loop-index l = record {
+  places : l.places.items ≡ places_from (l.lane * l.handles) l.index;
+  home : AreAtHome l.home l.places.items;
+}
