@@ -9,7 +9,7 @@ use Rattle.pool_law.specs.declared.note.RefDid.TheVariants.{Ended, Look}
 use Rattle.pool_law.specs.declared.note.Note.{Note}
 use Rattle.pool_law.specs.declared.note.Note.TheVariants.{At, Ref, Busy}
 use Rattle.pool_law.specs.Same.{same_root}
-use Rattle.pool_law.specs.Logs.{Entry, log_of}
+use Rattle.pool_law.specs.Logs.{Entry, of_lane}
 use Rattle.pool_law.specs.Counts.{view_is_of, root_is, note_gains, note_loses, note_needs, needs_count, ends_root, count_step, CountsHold, count_in, count_over, is_retain, is_release, is_birth, TotalHolds}
 use Rattle.pool_law.specs.Legal.{LookAt, LooksHold, one_if, others_retains, CountsAgree}
 use Rattle.pool_law.proofs.SameLemmas.{and-first, and-second, same_root-is}
@@ -114,7 +114,7 @@ module _ (roots : List RootId) (root : RootId) (absent : listed same_root roots 
 module _ (logs : List (List Entry)) (roots : List RootId)
     (named : all_from (roots_pass roots) 0 logs ≡ true)
     (pass : map (root_passes logs) roots ≡ map (λ _. true) roots) where
-  lane_named : (lane : ℕ) → list_all (entry_listed roots) (log_of logs lane) ≡ true
+  lane_named : (lane : ℕ) → list_all (entry_listed roots) (of_lane logs lane) ≡ true
   lane_named lane = all_lanes (roots_pass roots) (λ k. refl) logs named lane
 
   -- each lane uses the root while it counts it
@@ -133,14 +133,14 @@ module _ (logs : List (List Entry)) (roots : List RootId)
       (lane_counts root && (totals root && lane_looks root)) ≡ true
   root-passes root in_list = each_listed same_root same_root-is (root_passes logs) (λ _. true) roots root pass in_list
 
-  in_lanes : (root : RootId) (lane : ℕ) → CountsHold root 0 (log_of logs lane)
+  in_lanes : (root : RootId) (lane : ℕ) → CountsHold root 0 (of_lane logs lane)
   in_lanes root lane = go (listed same_root roots root) refl
     where
-      go : (b : Bool) → listed same_root roots root ≡ b → CountsHold root 0 (log_of logs lane)
+      go : (b : Bool) → listed same_root roots root ≡ b → CountsHold root 0 (of_lane logs lane)
       go true in_list =
-          CountsHold-passes root 0 (log_of logs lane)
+          CountsHold-passes root 0 (of_lane logs lane)
           (all_lanes (λ l es. counts_pass root 0 es) (λ k. refl) logs (and-first _ _ (root-passes root in_list)) lane)
-      go false absent = CountsHold-unnamed roots root absent (log_of logs lane) (lane_named lane)
+      go false absent = CountsHold-unnamed roots root absent (of_lane logs lane) (lane_named lane)
 
   in_total : (root : RootId) → 0 < count_over (is_birth root) logs → TotalHolds root logs
   in_total root born = go (listed same_root roots root) refl
@@ -153,17 +153,17 @@ module _ (logs : List (List Entry)) (roots : List RootId)
           (search (arith, born)))
       go false absent = absurd (omega (arith, all_births-unnamed roots root absent 0 logs named))
 
-  in_looks : (root : RootId) (lane : ℕ) → LooksHold root (others_retains root lane 0 logs) 0 0 0 (log_of logs lane)
+  in_looks : (root : RootId) (lane : ℕ) → LooksHold root (others_retains root lane 0 logs) 0 0 0 (of_lane logs lane)
   in_looks root lane = go (listed same_root roots root) refl
     where
       go : (b : Bool) → listed same_root roots root ≡ b →
-          LooksHold root (others_retains root lane 0 logs) 0 0 0 (log_of logs lane)
+          LooksHold root (others_retains root lane 0 logs) 0 0 0 (of_lane logs lane)
       go true in_list =
-          LooksHold-passes root (others_retains root lane 0 logs) 0 0 0 (log_of logs lane)
+          LooksHold-passes root (others_retains root lane 0 logs) 0 0 0 (of_lane logs lane)
           (all_lanes (λ l es. looks_pass root (others_retains root l 0 logs) 0 0 0 es) (λ k. refl) logs
           (and-second _ _ (and-second _ _ (root-passes root in_list))) lane)
       go false absent =
-          LooksHold-unnamed roots root absent (others_retains root lane 0 logs) 0 0 0 (log_of logs lane)
+          LooksHold-unnamed roots root absent (others_retains root lane 0 logs) 0 0 0 (of_lane logs lane)
           (lane_named lane)
 
   pub counts : CountsAgree logs

@@ -10,7 +10,7 @@ use Rattle.pool_law.specs.declared.note.Note.TheVariants.{At, Ref, Busy}
 use Rattle.pool_law.specs.declared.run.Shape.{Shape}
 use Rattle.pool_law.specs.Same.{same_object}
 use Rattle.pool_law.specs.Histories.{accepts, IsAccepted}
-use Rattle.pool_law.specs.Logs.{Logs, History, dids, log_of, own, numbered, IsHistory, notes_at, history_of, note_stands}
+use Rattle.pool_law.specs.Logs.{Logs, History, dids, of_lane, own, numbered, IsHistory, notes_at, history_of, note_stands}
 use Rattle.pool_law.specs.Legal.{HistoriesHold}
 use Rattle.pool_law.proofs.SameLemmas.{and-first, and-second}
 use Rattle.pool_law.proofs.ListLemmas.{slice_get-past}
@@ -50,7 +50,7 @@ object_passes shape logs object =
 
 -- what each lane noted at an object
 abbrev pub noted_at : Logs → Object → List (List (ℕ × Did))
-noted_at logs object = each_from (λ lane. own object (log_of logs lane)) 0 (length logs)
+noted_at logs object = each_from (λ lane. own object (of_lane logs lane)) 0 (length logs)
 
 -- what the object's history has of each lane
 abbrev pub numbered_at : Logs → Object → List (List (ℕ × Did))
@@ -68,7 +68,7 @@ own-unnamed objects object absent (Ref root did ∷ ns) e = own-unnamed objects 
 own-unnamed objects object absent (Busy held ∷ ns) e =
     own-unnamed objects object absent ns (and-second _ _ e)
 
-notes_at-none : (object : Object) (logs : Logs) → ((lane : ℕ) → own object (log_of logs lane) ≡ []) →
+notes_at-none : (object : Object) (logs : Logs) → ((lane : ℕ) → own object (of_lane logs lane) ≡ []) →
     notes_at object logs ≡ 0
 notes_at-none object [] none = refl
 notes_at-none object (log ∷ logs) none =
@@ -82,8 +82,8 @@ numbered-past lanes lane n (x ∷ h) past e =
     let other : (x.0 == lane) ≡ false = ne_eqb x.0 lane (λ same. omega (arith, same)) in
     rw other (numbered-past lanes lane (n + 1) h past (and-second _ _ e))
 
-log_of-past : (logs : Logs) (lane : ℕ) → length logs ≤ lane → log_of logs lane ≡ []
-log_of-past logs lane past = ap (λ o. unwrap_or o []) (slice_get-past logs lane past)
+of_lane-past : (logs : Logs) (lane : ℕ) → length logs ≤ lane → of_lane logs lane ≡ []
+of_lane-past logs lane past = ap (λ o. unwrap_or o []) (slice_get-past logs lane past)
 
 accepts-nothing : (shape : Shape) (object : Object) → accepts shape object [] ≡ true
 accepts-nothing shape (Object.Arena number) = refl
@@ -96,13 +96,13 @@ module _ (shape : Shape) (logs : Logs) (objects : List Object)
     (named : all_from (objects_pass objects) 0 logs ≡ true)
     (pass : map (object_passes shape logs) objects ≡ map (λ _. true) objects)
     (agree : map (noted_at logs) objects ≡ map (numbered_at logs) objects) where
-  lane_named : (lane : ℕ) → list_all (names_of objects) (log_of logs lane) ≡ true
+  lane_named : (lane : ℕ) → list_all (names_of objects) (of_lane logs lane) ≡ true
   lane_named lane = all_lanes (objects_pass objects) (λ k. refl) logs named lane
 
   history_of-unnamed : (object : Object) → listed same_object objects object ≡ false → history_of object logs ≡ []
   history_of-unnamed object absent =
       let none : notes_at object logs ≡ 0 =
-      notes_at-none object logs (λ lane. own-unnamed objects object absent (log_of logs lane) (lane_named lane)) in
+      notes_at-none object logs (λ lane. own-unnamed objects object absent (of_lane logs lane) (lane_named lane)) in
       rw none refl
 
   object-passes : (object : Object) → listed same_object objects object ≡ true →
@@ -113,22 +113,22 @@ module _ (shape : Shape) (logs : Logs) (objects : List Object)
   whole object lane = go (listed same_object objects object) refl
     where
       inside : (b : Bool) → nat_lt lane (length logs) ≡ b → listed same_object objects object ≡ true →
-          own object (log_of logs lane) ≡ numbered lane 1 (history_of object logs)
+          own object (of_lane logs lane) ≡ numbered lane 1 (history_of object logs)
       inside true below in_list =
-          each_lane (λ l. own object (log_of logs l)) (λ l. numbered l 1 (history_of object logs)) (length logs)
+          each_lane (λ l. own object (of_lane logs l)) (λ l. numbered l 1 (history_of object logs)) (length logs)
           (each_object (noted_at logs) (numbered_at logs) objects object agree in_list)
           lane (ltb-true lane (length logs) below)
       inside false past in_list =
           let beyond : length logs ≤ lane = search (arith, past) in
-          ap (own object) (log_of-past logs lane beyond)
+          ap (own object) (of_lane-past logs lane beyond)
           ∙ sym (numbered-past (length logs) lane 1 (history_of object logs) beyond
           (and-second _ _ (object-passes object in_list)))
 
       go : (b : Bool) → listed same_object objects object ≡ b →
-          own object (log_of logs lane) ≡ numbered lane 1 (history_of object logs)
+          own object (of_lane logs lane) ≡ numbered lane 1 (history_of object logs)
       go true in_list = inside (nat_lt lane (length logs)) refl in_list
       go false absent =
-          own-unnamed objects object absent (log_of logs lane) (lane_named lane)
+          own-unnamed objects object absent (of_lane logs lane) (lane_named lane)
           ∙ sym (ap (numbered lane 1) (history_of-unnamed object absent))
 
   pub accepted : (object : Object) → IsAccepted shape object (dids (history_of object logs))

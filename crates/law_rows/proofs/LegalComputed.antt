@@ -1,6 +1,6 @@
 -- A run is legal where what the check computes of it is what the run says.
 use Rattle.std.proofs.Common.{◌≡◌, ℕ, ◌*◌, ◌^◌, ◌<◌, List, [], ◌∷◌, length, Bool, true, refl, sym, ap}
-use Rattle.std.specs.Prelude.{◌&&◌, nat_le, sum, map, Option, Some, None, option_map, is_some}
+use Rattle.std.specs.Prelude.{◌&&◌, nat_le, sum, map, take, drop, Option, Some, None, option_map, is_some}
 use Rattle.std.specs.List.{list_all}
 use Rattle.std.proofs.lemmas.Bool.{leb-true}
 use Rattle.size_classes.specs.Sizes.{below, chunk_bytes}
@@ -14,10 +14,10 @@ use Rattle.pool_law.specs.declared.run.Shape.{Shape}
 use Rattle.pool_law.specs.declared.run.Reply.{Reply}
 use Rattle.pool_law.specs.declared.run.Run.{Run}
 use Rattle.pool_law.specs.Limits.{IsShape, geometry_of}
-use Rattle.pool_law.specs.Logs.{Logs, Entry, log_of, note_stands, entries_of}
-use Rattle.pool_law.specs.Patterns.{Entries}
-use Rattle.pool_law.specs.Lanes.{LaneState, new_lane}
-use Rattle.pool_law.specs.LaneLaw.{lane_run, pieces, behind, note_counts, replies_in, closing, IsLaneLog}
+use Rattle.pool_law.specs.Logs.{Logs, Entry, of_lane, note_stands, entries_of}
+use Rattle.pool_law.specs.Readers.{Entries}
+use Rattle.pool_law.specs.LaneStates.{LaneState, new_lane}
+use Rattle.pool_law.specs.LaneLaw.{sweep_period, lane_run, before_stop, stopped_run, pieces, behind, note_counts, replies_in, closes, IsLaneLog}
 use Rattle.pool_law.specs.Leaks.{leaks_of}
 use Rattle.pool_law.specs.Legal.{AreCommands, all_fit, logs_of, replies_of, ends_from, IsLegal}
 use Rattle.pool_law.proofs.SameLemmas.{and-first, and-second}
@@ -25,7 +25,7 @@ use Rattle.law_rows.proofs.Lanes.{all_from, all_lanes, each_from, each_lane}
 use Rattle.law_rows.proofs.HistoriesComputed.{objects_of, objects_pass, object_passes, noted_at, numbered_at, histories}
 use Rattle.law_rows.proofs.RootTests.{roots_of, roots_pass, root_passes}
 use Rattle.law_rows.proofs.CountsComputed.{counts}
-use Rattle.law_rows.proofs.MarksComputed.{object_rises, marks_pass, busy}
+use Rattle.law_rows.proofs.MarksComputed.{object_marks, marks_pass, busy}
 
 -- ---- What the check computes.
 
@@ -54,19 +54,37 @@ commands_pass shape lane commands = nat_le (length commands) 65536 && all_fit sh
 -- the notes that the replies of a lane own are there, and its last notes close its caches
 abbrev pub lane_passes : Run → ℕ → Bool
 lane_passes run lane =
-    nat_le (sum (note_counts (replies_of run lane))) (length (log_of (entries_of (logs_of run)) lane))
-    && is_some (closing lane (behind (note_counts (replies_of run lane)) (log_of (entries_of (logs_of run)) lane)))
+    nat_le (sum (note_counts (replies_of run lane))) (length (of_lane (entries_of (logs_of run)) lane))
+    && is_some (closes lane (behind (note_counts (replies_of run lane)) (of_lane (entries_of (logs_of run)) lane)))
 
--- the replies that the notes of a lane give
+-- how many commands of a lane were answered before it was stopped
+abbrev pub answered_in : Run → ℕ → ℕ
+answered_in run lane = before_stop (replies_in (replies_of run lane))
+
+-- the notes of each command of a lane
+abbrev pub groups_in : Run → ℕ → List Entries
+groups_in run lane = pieces (note_counts (replies_of run lane)) (of_lane (entries_of (logs_of run)) lane)
+
+-- the replies that the notes of a lane give, before it was stopped
 abbrev pub replies_given : Run → ℕ → Option (List Reply)
 replies_given run lane =
     option_map (λ p. p.0)
-    (lane_run run.shape lane new_lane (log_of run.trace.lanes lane)
-    (pieces (note_counts (replies_of run lane)) (log_of (entries_of (logs_of run)) lane)))
+    (lane_run sweep_period run.shape lane new_lane
+    (take (answered_in run lane) (of_lane run.trace.lanes lane)) (take (answered_in run lane) (groups_in run lane)))
 
--- the replies of a lane
+-- the replies of a lane before it was stopped
 abbrev pub replies_said : Run → ℕ → Option (List Reply)
-replies_said run lane = Some (replies_in (replies_of run lane))
+replies_said run lane = Some (take (answered_in run lane) (replies_in (replies_of run lane)))
+
+-- the replies that the notes of a lane give from then on
+abbrev pub stops_given : Run → ℕ → Option (List Reply)
+stops_given run lane =
+    stopped_run lane
+    (drop (answered_in run lane) (of_lane run.trace.lanes lane)) (drop (answered_in run lane) (groups_in run lane))
+
+-- the replies of a lane from then on
+abbrev pub stops_said : Run → ℕ → Option (List Reply)
+stops_said run lane = Some (drop (answered_in run lane) (replies_in (replies_of run lane)))
 
 -- what is found in a run, and what is to be found
 pub record Findings : Type 0 where
@@ -81,7 +99,8 @@ pub record Findings : Type 0 where
   pub roots : List Bool
   pub lane_logs : List Bool
   pub replies : List (Option (List Reply))
-  pub rises : List Bool
+  pub stops : List (Option (List Reply))
+  pub fit : List Bool
   pub marks : Bool
   pub chunks : List ChunkEnd
   pub leaks : List Leak
@@ -105,7 +124,8 @@ found_in run logs entries objects roots =
       roots = map (root_passes entries) roots;
       lane_logs = each_from (lane_passes run) 0 run.shape.lanes;
       replies = each_from (replies_given run) 0 run.shape.lanes;
-      rises = map (object_rises logs) objects;
+      stops = each_from (stops_given run) 0 run.shape.lanes;
+      fit = map (object_marks logs) objects;
       marks = all_from (marks_pass logs) 0 logs;
       chunks = ends_from run.shape logs (below run.shape.arenas);
       leaks = leaks_of run.shape logs;
@@ -126,7 +146,8 @@ wanted_in run logs objects roots =
       roots = yes_to roots;
       lane_logs = each_from (λ _. true) 0 run.shape.lanes;
       replies = each_from (replies_said run) 0 run.shape.lanes;
-      rises = yes_to objects;
+      stops = each_from (stops_said run) 0 run.shape.lanes;
+      fit = yes_to objects;
       marks = true;
       chunks = run.chunks;
       leaks = run.leaks;
@@ -188,9 +209,9 @@ module _ (run : Run) (same : found run ≡ wanted run) where
   abbrev roots : List RootId
   roots = roots_of (entries_of (logs_of run)) []
 
-  commands-fit : (lane : ℕ) → AreCommands run.shape (log_of run.trace.lanes lane)
+  commands-fit : (lane : ℕ) → AreCommands run.shape (of_lane run.trace.lanes lane)
   commands-fit lane =
-      let cs : List Command = log_of run.trace.lanes lane in
+      let cs : List Command = of_lane run.trace.lanes lane in
       let both : (nat_le (length cs) 65536 && all_fit run.shape [] cs) ≡ true =
       all_lanes (commands_pass run.shape) (λ k. refl) run.trace.lanes (ap (λ f. f.commands) same) lane in
       record {
@@ -199,25 +220,30 @@ module _ (run : Run) (same : found run ≡ wanted run) where
       }
 
   lane_log : (lane : ℕ) → lane < run.shape.lanes →
-      IsLaneLog run.shape lane (log_of run.trace.lanes lane) (replies_of run lane) (log_of entries lane)
+      IsLaneLog run.shape lane (of_lane run.trace.lanes lane) (replies_of run lane) (of_lane entries lane)
   lane_log lane below =
-      let es : Entries = log_of entries lane in
+      let es : Entries = of_lane entries lane in
       let ns : List ℕ = note_counts (replies_of run lane) in
       let counted : Bool = nat_le (sum ns) (length es) in
-      let last : Bool = is_some (closing lane (behind ns es)) in
+      let last : Bool = is_some (closes lane (behind ns es)) in
       let both : (counted && last) ≡ true =
       each_lane (lane_passes run) (λ _. true) run.shape.lanes (ap (λ f. f.lane_logs) same) lane below in
       let given : replies_given run lane ≡ replies_said run lane =
       each_lane (replies_given run) (replies_said run) run.shape.lanes (ap (λ f. f.replies) same) lane below in
-      let found : Option (List Reply × LaneState) =
-      lane_run run.shape lane new_lane (log_of run.trace.lanes lane) (pieces ns es) in
-      let whole : (s : LaneState) × (found ≡ Some (replies_in (replies_of run lane), s)) =
-      last-given found (replies_in (replies_of run lane)) given in
+      let stops : stops_given run lane ≡ stops_said run lane =
+      each_lane (stops_given run) (stops_said run) run.shape.lanes (ap (λ f. f.stops) same) lane below in
+      let n : ℕ = answered_in run lane in
+      let answered : Option (List Reply × LaneState) =
+      lane_run sweep_period run.shape lane new_lane
+      (take n (of_lane run.trace.lanes lane)) (take n (groups_in run lane)) in
+      let whole : (s : LaneState) × (answered ≡ Some (take n (replies_in (replies_of run lane)), s)) =
+      last-given answered (take n (replies_in (replies_of run lane))) given in
       record {
         counted = leb-true (sum ns) (length es) (and-first counted last both);
         last = whole.0;
         answered = whole.1;
-        closes = closes-passes (closing lane (behind ns es)) (and-second counted last both);
+        stopped = stops;
+        closed = closes-passes (closes lane (behind ns es)) (and-second counted last both);
       }
 
   pub legal : IsLegal run
@@ -231,7 +257,7 @@ module _ (run : Run) (same : found run ≡ wanted run) where
         (ap (λ f. f.histories) same) (ap (λ f. f.stand) same);
     counts = counts entries roots (ap (λ f. f.roots_named) same) (ap (λ f. f.roots) same);
     answers = lane_log;
-    busy = busy logs objects (ap (λ f. f.objects_named) same) (ap (λ f. f.rises) same) (ap (λ f. f.marks) same);
+    busy = busy logs objects (ap (λ f. f.objects_named) same) (ap (λ f. f.fit) same) (ap (λ f. f.marks) same);
     chunks = sym (ap (λ f. f.chunks) same);
     leaks = sym (ap (λ f. f.leaks) same);
   }

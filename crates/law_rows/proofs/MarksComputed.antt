@@ -1,32 +1,32 @@
 -- The sentences on busy marks hold of all objects, where they hold of those that the logs name.
-use Rattle.std.proofs.Common.{◌≡◌, ℕ, ◌<◌, ◌≤◌, List, [], ◌∷◌, Bool, true, false, refl, sym, ap, eq-eqb, ◌∙◌}
-use Rattle.std.specs.Prelude.{◌==◌, ◌&&◌, not, nat_lt, nat_le, if◌then◌else◌, map, Option, Some, None, slice_get, MatchBool}
+use Rattle.std.proofs.Common.{◌≡◌, ℕ, ◌+◌, ◌≤◌, List, [], ◌∷◌, Bool, true, false, refl, sym, ap, eq-eqb, ◌∙◌}
+use Rattle.std.specs.Prelude.{◌==◌, ◌&&◌, not, nat_le, max, if◌then◌else◌, map, Option, Some, None, slice_get, MatchBool}
 use Rattle.std.specs.List.{list_all}
-use Rattle.std.proofs.lemmas.Bool.{ltb-true, leb-true}
+use Rattle.std.proofs.lemmas.Bool.{leb-true}
 use Rattle.pool_law.specs.declared.note.Object.{Object}
 use Rattle.pool_law.specs.declared.note.Did.{Did}
 use Rattle.pool_law.specs.declared.note.Note.{Note}
 use Rattle.pool_law.specs.declared.note.Note.TheVariants.{At, Ref, Busy}
 use Rattle.pool_law.specs.Same.{same_object}
-use Rattle.pool_law.specs.Logs.{Logs, log_of, history_of}
-use Rattle.pool_law.specs.Busy.{Rises, IsOfAnother, MarksHold, BusyHolds}
+use Rattle.pool_law.specs.Logs.{Logs, of_lane, history_of}
+use Rattle.pool_law.specs.Busy.{MarksFit, IsOfAnother, MarksHold, BusyHolds}
 use Rattle.pool_law.proofs.SameLemmas.{and-first, and-second}
 use Rattle.law_rows.proofs.Lanes.{all_from, all_lanes}
 use Rattle.law_rows.proofs.Listed.{listed, each_object, another_object}
 use Rattle.law_rows.proofs.HistoriesComputed.{names_of, objects_pass}
 
--- the numbers at an object rise
-abbrev pub rises_pass : Object → ℕ → List Note → Bool
-rises_pass object seen [] = true
-rises_pass object seen (At other number did ∷ ns) =
+-- the marks of a log fit its numbers at an object
+abbrev pub marks_fit : Object → ℕ → ℕ → List Note → Bool
+marks_fit object had least [] = true
+marks_fit object had least (At other number did ∷ ns) =
     if same_object object other
-    then nat_lt seen number && rises_pass object number ns
-    else rises_pass object seen ns
-rises_pass object seen (Busy held ∷ ns) =
+    then nat_le least number && marks_fit object (max had number) least ns
+    else marks_fit object had least ns
+marks_fit object had least (Busy held ∷ ns) =
     if same_object object held.object
-    then nat_le seen held.number && rises_pass object held.number ns
-    else rises_pass object seen ns
-rises_pass object seen (Ref root did ∷ ns) = rises_pass object seen ns
+    then nat_le had held.number && marks_fit object held.number (held.number + 1) ns
+    else marks_fit object had least ns
+marks_fit object had least (Ref root did ∷ ns) = marks_fit object had least ns
 
 -- a note is of another lane
 abbrev pub of_another : ℕ → Option (ℕ × Did) → Bool
@@ -41,51 +41,51 @@ marks_pass logs lane (Busy held ∷ ns) =
 marks_pass logs lane (At object number did ∷ ns) = marks_pass logs lane ns
 marks_pass logs lane (Ref root did ∷ ns) = marks_pass logs lane ns
 
--- they rise in every log
-abbrev pub object_rises : Logs → Object → Bool
-object_rises logs object = all_from (λ lane log. rises_pass object 0 log) 0 logs
+-- they fit in every log
+abbrev pub object_marks : Logs → Object → Bool
+object_marks logs object = all_from (λ lane log. marks_fit object 0 0 log) 0 logs
 
-Rises-passes : (object : Object) (seen : ℕ) (ns : List Note) → rises_pass object seen ns ≡ true → Rises object seen ns
-Rises-passes object seen [] e = tt
-Rises-passes object seen (At other number did ∷ ns) e =
-    go (same_object object other) e (λ h. Rises-passes object number ns h) (λ h. Rises-passes object seen ns h)
+MarksFit-passes : (object : Object) (had least : ℕ) (ns : List Note) → marks_fit object had least ns ≡ true →
+    MarksFit object had least ns
+MarksFit-passes object had least [] e = tt
+MarksFit-passes object had least (At other number did ∷ ns) e =
+    go (same_object object other) e
+    (λ h. MarksFit-passes object (max had number) least ns h) (λ h. MarksFit-passes object had least ns h)
   where
     go : (b : Bool) →
-        (if b then nat_lt seen number && rises_pass object number ns else rises_pass object seen ns) ≡ true →
-        (rises_pass object number ns ≡ true → Rises object number ns) →
-        (rises_pass object seen ns ≡ true → Rises object seen ns) →
-        MatchBool b ((seen < number) × Rises object number ns) (Rises object seen ns)
-    go true h here past =
-        (ltb-true seen number (and-first _ _ h), here (and-second _ _ h))
+        (if b then nat_le least number && marks_fit object (max had number) least ns else marks_fit object had least ns) ≡ true →
+        (marks_fit object (max had number) least ns ≡ true → MarksFit object (max had number) least ns) →
+        (marks_fit object had least ns ≡ true → MarksFit object had least ns) →
+        MatchBool b ((least ≤ number) × MarksFit object (max had number) least ns) (MarksFit object had least ns)
+    go true h here past = (leb-true least number (and-first _ _ h), here (and-second _ _ h))
     go false h here past = past h
-Rises-passes object seen (Busy held ∷ ns) e =
+MarksFit-passes object had least (Busy held ∷ ns) e =
     go (same_object object held.object) e
-    (λ h. Rises-passes object held.number ns h) (λ h. Rises-passes object seen ns h)
+    (λ h. MarksFit-passes object held.number (held.number + 1) ns h) (λ h. MarksFit-passes object had least ns h)
   where
     go : (b : Bool) →
-        (if b then nat_le seen held.number && rises_pass object held.number ns else rises_pass object seen ns) ≡ true →
-        (rises_pass object held.number ns ≡ true → Rises object held.number ns) →
-        (rises_pass object seen ns ≡ true → Rises object seen ns) →
-        MatchBool b ((seen ≤ held.number) × Rises object held.number ns) (Rises object seen ns)
-    go true h here past =
-        (leb-true seen held.number (and-first _ _ h), here (and-second _ _ h))
+        (if b then nat_le had held.number && marks_fit object held.number (held.number + 1) ns else marks_fit object had least ns) ≡ true →
+        (marks_fit object held.number (held.number + 1) ns ≡ true → MarksFit object held.number (held.number + 1) ns) →
+        (marks_fit object had least ns ≡ true → MarksFit object had least ns) →
+        MatchBool b ((had ≤ held.number) × MarksFit object held.number (held.number + 1) ns) (MarksFit object had least ns)
+    go true h here past = (leb-true had held.number (and-first _ _ h), here (and-second _ _ h))
     go false h here past = past h
-Rises-passes object seen (Ref root did ∷ ns) e = Rises-passes object seen ns e
+MarksFit-passes object had least (Ref root did ∷ ns) e = MarksFit-passes object had least ns e
 
 -- notes that do not name an object are not restrained by it
-Rises-unnamed : (objects : List Object) (object : Object) → listed same_object objects object ≡ false →
-    (seen : ℕ) (ns : List Note) →
-    list_all (names_of objects) ns ≡ true → Rises object seen ns
-Rises-unnamed objects object absent seen [] e = tt
-Rises-unnamed objects object absent seen (At other number did ∷ ns) e =
+MarksFit-unnamed : (objects : List Object) (object : Object) → listed same_object objects object ≡ false →
+    (had least : ℕ) (ns : List Note) → list_all (names_of objects) ns ≡ true → MarksFit object had least ns
+MarksFit-unnamed objects object absent had least [] e = tt
+MarksFit-unnamed objects object absent had least (At other number did ∷ ns) e =
     let here : listed same_object objects other ≡ true = and-first _ _ e in
     let another : same_object object other ≡ false = another_object objects object other absent here in
-    rw another (Rises-unnamed objects object absent seen ns (and-second _ _ e))
-Rises-unnamed objects object absent seen (Busy held ∷ ns) e =
+    rw another (MarksFit-unnamed objects object absent had least ns (and-second _ _ e))
+MarksFit-unnamed objects object absent had least (Busy held ∷ ns) e =
     let here : listed same_object objects held.object ≡ true = and-first _ _ e in
     let another : same_object object held.object ≡ false = another_object objects object held.object absent here in
-    rw another (Rises-unnamed objects object absent seen ns (and-second _ _ e))
-Rises-unnamed objects object absent seen (Ref root did ∷ ns) e = Rises-unnamed objects object absent seen ns e
+    rw another (MarksFit-unnamed objects object absent had least ns (and-second _ _ e))
+MarksFit-unnamed objects object absent had least (Ref root did ∷ ns) e =
+    MarksFit-unnamed objects object absent had least ns e
 
 IsOfAnother-passes : (lane : ℕ) (o : Option (ℕ × Did)) → of_another lane o ≡ true → IsOfAnother lane o
 IsOfAnother-passes lane None e = absurd (cc e)
@@ -105,22 +105,22 @@ MarksHold-passes logs lane (Ref root did ∷ ns) e = MarksHold-passes logs lane 
 
 module _ (logs : Logs) (objects : List Object)
     (named : all_from (objects_pass objects) 0 logs ≡ true)
-    (pass : map (object_rises logs) objects ≡ map (λ _. true) objects) where
-  rises : (lane : ℕ) (object : Object) → Rises object 0 (log_of logs lane)
-  rises lane object = go (listed same_object objects object) refl
+    (pass : map (object_marks logs) objects ≡ map (λ _. true) objects) where
+  fit : (lane : ℕ) (object : Object) → MarksFit object 0 0 (of_lane logs lane)
+  fit lane object = go (listed same_object objects object) refl
     where
-      go : (b : Bool) → listed same_object objects object ≡ b → Rises object 0 (log_of logs lane)
+      go : (b : Bool) → listed same_object objects object ≡ b → MarksFit object 0 0 (of_lane logs lane)
       go true in_list =
-          Rises-passes object 0 (log_of logs lane)
-          (all_lanes (λ l log. rises_pass object 0 log) (λ k. refl) logs
-          (each_object (object_rises logs) (λ _. true) objects object pass in_list) lane)
+          MarksFit-passes object 0 0 (of_lane logs lane)
+          (all_lanes (λ l log. marks_fit object 0 0 log) (λ k. refl) logs
+          (each_object (object_marks logs) (λ _. true) objects object pass in_list) lane)
       go false absent =
-          Rises-unnamed objects object absent 0 (log_of logs lane)
+          MarksFit-unnamed objects object absent 0 0 (of_lane logs lane)
           (all_lanes (objects_pass objects) (λ k. refl) logs named lane)
 
   pub busy : all_from (marks_pass logs) 0 logs ≡ true → (lane : ℕ) →
-      BusyHolds lane (λ object. history_of object logs) (log_of logs lane)
+      BusyHolds lane (λ object. history_of object logs) (of_lane logs lane)
   busy marks lane = record {
-    rises = rises lane;
-    marks = MarksHold-passes logs lane (log_of logs lane) (all_lanes (marks_pass logs) (λ k. refl) logs marks lane);
+    fit = fit lane;
+    marks = MarksHold-passes logs lane (of_lane logs lane) (all_lanes (marks_pass logs) (λ k. refl) logs marks lane);
   }

@@ -1,6 +1,6 @@
 -- A lane that has bound two names: 0 to a view of a root that it counts, and 1 to one of a root
 -- that it counts no more. What it answers to one more command.
-use Rattle.std.specs.Prelude.{ℕ, List, [], ◌∷◌, map, Option, option_map}
+use Rattle.std.specs.Prelude.{ℕ, List, [], ◌∷◌, map, Option, Some, option_map}
 use Rattle.pool_law.specs.declared.id.RootId.{RootId}
 use Rattle.pool_law.specs.declared.id.RegionId.{RegionId}
 use Rattle.pool_law.specs.declared.id.ViewData.{ViewData}
@@ -12,9 +12,11 @@ use Rattle.pool_law.specs.declared.note.Object.{Object}
 use Rattle.pool_law.specs.declared.note.RefDid.{RefDid}
 use Rattle.pool_law.specs.declared.run.Reply.{Reply}
 use Rattle.pool_law.specs.Logs.{Entry}
-use Rattle.pool_law.specs.Patterns.{Entries}
-use Rattle.pool_law.specs.LaneLaw.{lane_step, lane_run, closing}
-use Rattle.pool_law.specs.Lanes.{Bound, Plain, LaneState, Answers, answer, answer_of}
+use Rattle.pool_law.specs.Readers.{Entries, Log}
+use Rattle.pool_law.specs.Names.{Names, Plain}
+use Rattle.pool_law.specs.LaneStates.{LaneState, log_at}
+use Rattle.pool_law.specs.Lanes.{Answer, answer, answer_of}
+use Rattle.pool_law.specs.LaneLaw.{sweep_period, lane_step, lane_run, closes}
 use Rattle.law_rows.specs.Notes.{default_shape, place, region, root, view, arena, cache, bin, root_place}
 use Rattle.law_rows.specs.Entries.{alone, on, end, mark}
 
@@ -35,7 +37,7 @@ abbrev pub gone_view : ViewData
 gone_view = view gone 0 8 0 0
 
 -- the two names
-abbrev pub bound : List (ℕ × Bound)
+abbrev pub bound : Names
 bound = (0, Plain held_view) ∷ (1, Plain gone_view) ∷ []
 
 -- the lane
@@ -44,15 +46,28 @@ lane =
     record {
       names = bound;
       seen = on held RefDid.Born ∷ on gone RefDid.Born ∷ on gone RefDid.Ended ∷ [];
+      asked = 0;
     }
+
+-- an answer, and the notes behind those of the command; none where the command makes other notes
+abbrev pub Answers : Type 0
+Answers = Option (Answer × Entries)
+
+-- the notes that are left
+abbrev pub with_left : Option (Answer × Log) → Answers
+with_left got = option_map (λ g. (g.0, g.1.left)) got
 
 -- its answer to a command whose notes begin these
 abbrev pub answers : Command → Entries → Answers
-answers command es = answer_of (default_shape 2) 0 lane command es
+answers command es = with_left (answer_of (default_shape 2) 0 lane command (log_at lane es))
+
+-- a reply with these names, and the notes behind
+abbrev pub gives : Reply → Names → Entries → Answers
+gives reply names rest = Some (answer reply names, rest)
 
 -- a reply that changes no name, and the notes behind
 abbrev pub replies : Reply → Entries → Answers
-replies reply rest = answer reply bound rest
+replies reply rest = gives reply bound rest
 
 -- another lane is in the section of the held root
 abbrev pub held_mark : Entry
@@ -111,7 +126,7 @@ born = on third_root RefDid.Born
 -- the new name is bound to the whole root
 abbrev pub third_bound : Answers
 third_bound =
-    answer (Reply.OkPlace 16 (place 32 16)) ((2, Plain (view third_root 0 8 0 0)) ∷ bound) []
+    gives (Reply.OkPlace 16 (place 32 16)) ((2, Plain (view third_root 0 8 0 0)) ∷ bound) []
 
 -- ---- The end of the held root.
 
@@ -152,13 +167,14 @@ held_home = alone (bin 0 3 (Did.Home 0))
 
 -- the reply to one command that has exactly these notes
 abbrev pub step_reply : Command → Entries → Option Reply
-step_reply command es = option_map (λ p. p.0) (lane_step (default_shape 2) 0 lane command es)
+step_reply command es =
+    option_map (λ p. p.0) (lane_step sweep_period (default_shape 2) 0 lane command es)
 
 -- the replies to commands that have these notes
 abbrev pub replies_of_run : List Command → List Entries → Option (List Reply)
 replies_of_run commands groups =
-    option_map (λ p. p.0) (lane_run (default_shape 2) 0 lane commands groups)
+    option_map (λ p. p.0) (lane_run sweep_period (default_shape 2) 0 lane commands groups)
 
 -- whether these notes close the caches of the first lane
 abbrev pub closes_with : List Note → Option (Unit {0})
-closes_with notes = closing 0 (map alone notes)
+closes_with notes = closes 0 (map alone notes)

@@ -21,3 +21,8 @@ pub mod ViewRuns
 pub mod LaneRuns
 pub mod LeakRuns
 pub mod BusyRuns
+pub mod CompositeRuns
+pub mod CompositePlays
+pub mod SweepPlays
+pub mod StopRuns
+pub mod LifeRows

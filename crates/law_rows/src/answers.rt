@@ -6,10 +6,10 @@ ghost use Rattle.pool_law.specs.declared.command.Command.TheVariants.{Alloc, Set
 ghost use Rattle.pool_law.specs.declared.note.Did.{Did};
 ghost use Rattle.pool_law.specs.declared.note.RefDid.{RefDid};
 ghost use Rattle.pool_law.specs.declared.run.Reply.{Reply};
-ghost use Rattle.pool_law.specs.Lanes.{Plain, answer};
+ghost use Rattle.pool_law.specs.Names.{Plain};
 ghost use Rattle.law_rows.specs.Notes.{place, root, view, mail, post, fetch};
 ghost use Rattle.law_rows.specs.Entries.{alone, on, access};
-ghost use Rattle.law_rows.specs.LanePlays.{held, gone, held_view, gone_view, bound, answers, replies, handle, home, hit, miss, cache_mark, taken_from, birth, born, third_bound, held_region, far_region, large_region, ends_with, kept_at, sent_back, gave, held_home};
+ghost use Rattle.law_rows.specs.LanePlays.{held, gone, held_view, gone_view, bound, answers, gives, replies, handle, home, hit, miss, cache_mark, taken_from, birth, born, third_bound, held_region, far_region, large_region, ends_with, kept_at, sent_back, gave, held_home};
 
 /// `alloc` takes a handle. It asks the lane's cache, and its arena after a miss or a busy mark.
 /// Then a root is born, with the region's uses one higher.
@@ -85,9 +85,9 @@ pub fn accesses()
 /// `write` sets at the writer and `read` gets at the reader, and each moves it.
 pub fn readers_and_writers()
     ensures write { answers (Write 0 (9 ∷ 9 ∷ [])) (access held 2 (Did.Set 6 (9 ∷ 9 ∷ [])) ∷ [])
-        ≡ answer Reply.Ok ((0, Plain (view held 0 8 2 8)) ∷ (1, Plain gone_view) ∷ []) [] }
+        ≡ gives Reply.Ok ((0, Plain (view held 0 8 2 8)) ∷ (1, Plain gone_view) ∷ []) [] }
     ensures read { answers (Read 0 4) (access held 2 (Did.Get 2 (1 ∷ 2 ∷ 3 ∷ 4 ∷ [])) ∷ [])
-        ≡ answer (Reply.OkBytes (1 ∷ 2 ∷ 3 ∷ 4 ∷ []))
+        ≡ gives (Reply.OkBytes (1 ∷ 2 ∷ 3 ∷ 4 ∷ []))
         ((0, Plain (view held 0 8 6 6)) ∷ (1, Plain gone_view) ∷ []) [] }
     ensures write_at_the_writer { answers (Write 0 (9 ∷ []))
         (access held 2 (Did.Set 0 (9 ∷ [])) ∷ []) ≡ None }
@@ -98,14 +98,14 @@ pub fn readers_and_writers()
 /// New names are bound: to a slice, which may add a count, and to the same view.
 pub fn new_names()
     ensures slice { answers (Slice 2 0 1 3 false) []
-        ≡ answer Reply.Ok ((2, Plain (view held 1 3 0 3)) ∷ bound) [] }
+        ≡ gives Reply.Ok ((2, Plain (view held 1 3 0 3)) ∷ bound) [] }
     ensures rslice { answers (Slice 2 0 1 3 true) (on held RefDid.Retain ∷ [])
-        ≡ answer Reply.Ok ((2, Plain (view held 1 3 0 3)) ∷ bound) [] }
+        ≡ gives Reply.Ok ((2, Plain (view held 1 3 0 3)) ∷ bound) [] }
     ensures rslice_adds { answers (Slice 2 0 1 3 true) [] ≡ None }
-    ensures dup { answers (Dup 2 0) [] ≡ answer Reply.Ok ((2, Plain held_view) ∷ bound) [] }
-    ensures forget { answers (Forget 0) [] ≡ answer Reply.Ok ((1, Plain gone_view) ∷ []) [] }
+    ensures dup { answers (Dup 2 0) [] ≡ gives Reply.Ok ((2, Plain held_view) ∷ bound) [] }
+    ensures forget { answers (Forget 0) [] ≡ gives Reply.Ok ((1, Plain gone_view) ∷ []) [] }
     // counts are not asked
-    ensures forget_gone { answers (Forget 1) [] ≡ answer Reply.Ok ((0, Plain held_view) ∷ []) [] }
+    ensures forget_gone { answers (Forget 1) [] ≡ gives Reply.Ok ((0, Plain held_view) ∷ []) [] }
 {}
 
 /// `retain` and `refcnt` are one step on the word; `send` and `recv` one note at the mail.
@@ -121,7 +121,7 @@ pub fn counts_and_parcels()
     ensures send_to_this_lane { answers (Send 0 1) (alone (mail 0 0 1 (post held_view)) ∷ [])
         ≡ None }
     ensures recv { answers (Recv 2 1) (alone (mail 1 0 2 (fetch (view (root 9 1 4) 1 2 0 2))) ∷ [])
-        ≡ answer Reply.Ok ((2, Plain (view (root 9 1 4) 1 2 0 2)) ∷ bound) [] }
+        ≡ gives Reply.Ok ((2, Plain (view (root 9 1 4) 1 2 0 2)) ∷ bound) [] }
     ensures recv_from_this_lane { answers (Recv 2 1) (alone (mail 0 0 2 (fetch held_view)) ∷ [])
         ≡ None }
 {}

@@ -4,9 +4,12 @@
 
 pub mod answers;
 pub mod arenas;
+pub mod bounds;
 pub mod caches;
 pub mod chunks;
 pub mod closings;
+pub mod composite_runs;
+pub mod composites;
 pub mod counts;
 pub mod elements;
 pub mod homes;
@@ -23,6 +26,8 @@ pub mod roots;
 pub mod runs;
 pub mod shapes;
 pub mod sizes;
+pub mod stops;
 pub mod stuck;
+pub mod sweeps;
 pub mod texts;
 pub mod views;

@@ -1,29 +1,31 @@
-//! The life of a region: from one use to the next, and how it comes back after the last.
+//! The life of a region: its taking, and all that is done with it after that.
 
 ghost use Rattle.pool_law.specs.Legal.{logs_of};
-ghost use Rattle.pool_law.specs.Lives.{Use, Passage, Return, Before};
+ghost use Rattle.pool_law.specs.Lives.{Got, LivesOn, InOrder, dids_of};
+ghost use Rattle.pool_law.specs.Apart.{Before, EndsBefore};
 ghost use Rattle.law_rows.specs.Notes.{least_region};
 ghost use Rattle.law_rows.specs.RootRuns.{one_handle, first_root, second_root};
 ghost use Rattle.law_rows.specs.ArenaRuns.{merging, five, five_region, ten, ten_region};
-ghost use Rattle.law_rows.specs.LaneRuns.{hand_over, four};
+ghost use Rattle.law_rows.specs.LaneRuns.{hand_over};
+ghost use Rattle.law_rows.specs.LifeRows.{twice_taken, twice_used, once_taken, once_used, handed_taken, handed_used};
 
 /// Two roots use one region: the first ends, the cache keeps it, and the second hits it there.
 pub fn region_used_twice()
-    ensures first { Use (logs_of one_handle) first_root (least_region 1) }
-    ensures passage { (later : Use (logs_of one_handle) second_root (least_region 2))
-        × Passage (logs_of one_handle) first_root second_root (least_region 1) later }
-    ensures returns { Return (logs_of one_handle) second_root (least_region 2) }
+    ensures lives { LivesOn Got (least_region 0) (dids_of twice_used) }
+    ensures order { InOrder (logs_of one_handle) twice_taken twice_used }
+    ensures apart { EndsBefore (logs_of one_handle) first_root second_root }
 {}
 
 /// A region without a cache is given back at once, and its bytes are taken again after that.
 pub fn region_given_at_once()
-    ensures used { Use (logs_of merging) (five 1) (five_region 1 1) }
-    ensures returns { Return (logs_of merging) (five 1) (five_region 1 1) }
+    ensures lives { LivesOn Got (five_region 1 0) (dids_of once_used) }
+    ensures order { InOrder (logs_of merging) once_taken once_used }
     ensures before { Before (logs_of merging) (five_region 1 1) (ten_region 1) }
+    ensures apart { EndsBefore (logs_of merging) (five 1) ten }
 {}
 
 /// A region that another lane releases comes back by its owner's cache.
 pub fn region_handed_over()
-    ensures used { Use (logs_of hand_over) four (least_region 1) }
-    ensures returns { Return (logs_of hand_over) four (least_region 1) }
+    ensures lives { LivesOn Got (least_region 0) (dids_of handed_used) }
+    ensures order { InOrder (logs_of hand_over) handed_taken handed_used }
 {}

@@ -3,29 +3,31 @@
 ghost use Rattle.std.specs.Prelude.{[], ◌∷◌};
 ghost use Rattle.pool_law.specs.declared.note.Did.TheVariants.{Touch};
 ghost use Rattle.pool_law.specs.declared.note.Object.{Object};
-ghost use Rattle.pool_law.specs.Busy.{Rises, MarksHold, BusyHolds};
+ghost use Rattle.pool_law.specs.Busy.{MarksFit, MarksHold, BusyHolds};
 ghost use Rattle.law_rows.specs.Notes.{cache, root_place};
 ghost use Rattle.law_rows.specs.Entries.{mark};
 ghost use Rattle.law_rows.specs.MarkPlays.{touches};
 
-/// The numbers at an object rise in each log. A mark is not below what the log has noted or marked
-/// there, and below what it notes later.
-pub fn numbers_that_rise()
-    ensures between { Rises (Object.Root 0) 0
+/// A mark is not below what its log has noted or marked at the object, and below what it notes
+/// there later. Of notes alone nothing is said here.
+pub fn marks_in_order()
+    ensures between { MarksFit (Object.Root 0) 0 0
         (root_place 0 1 Touch ∷ mark (Object.Root 0) 1 ∷ root_place 0 3 Touch ∷ []) }
-    ensures before_the_first { Rises (Object.Root 0) 0 (mark (Object.Root 0) 0 ∷ []) }
-    ensures marked_twice { Rises (Object.Root 0) 0
+    ensures before_the_first { MarksFit (Object.Root 0) 0 0 (mark (Object.Root 0) 0 ∷ []) }
+    ensures marked_twice { MarksFit (Object.Root 0) 0 0
         (mark (Object.Root 0) 1 ∷ mark (Object.Root 0) 1 ∷ mark (Object.Root 0) 4 ∷ []) }
-    ensures at_another_object { Rises (Object.Root 0) 0
+    ensures at_another_object { MarksFit (Object.Root 0) 0 0
         (root_place 0 3 Touch ∷ root_place 1 1 Touch ∷ mark (Object.Root 2) 1 ∷ root_place 0 4 Touch
         ∷ []) }
-    ensures falling { ¬ Rises (Object.Root 0) 0 (root_place 0 3 Touch ∷ root_place 0 2 Touch ∷ []) }
-    ensures twice { ¬ Rises (Object.Root 0) 0 (root_place 0 3 Touch ∷ root_place 0 3 Touch ∷ []) }
-    ensures below_a_note { ¬ Rises (Object.Root 0) 0
+    ensures notes_alone { MarksFit (Object.Root 0) 0 0
+        (root_place 0 3 Touch ∷ root_place 0 2 Touch ∷ []) }
+    ensures below_a_greater_note { ¬ MarksFit (Object.Root 0) 0 0
+        (root_place 0 3 Touch ∷ root_place 0 1 Touch ∷ mark (Object.Root 0) 2 ∷ []) }
+    ensures below_a_note { ¬ MarksFit (Object.Root 0) 0 0
         (root_place 0 3 Touch ∷ mark (Object.Root 0) 2 ∷ []) }
-    ensures below_a_mark { ¬ Rises (Object.Root 0) 0
+    ensures below_a_mark { ¬ MarksFit (Object.Root 0) 0 0
         (mark (Object.Root 0) 3 ∷ mark (Object.Root 0) 2 ∷ []) }
-    ensures of_the_next_note { ¬ Rises (Object.Root 0) 0
+    ensures of_the_next_note { ¬ MarksFit (Object.Root 0) 0 0
         (mark (Object.Root 0) 3 ∷ root_place 0 3 Touch ∷ []) }
 {}
 

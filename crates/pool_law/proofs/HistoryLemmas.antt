@@ -8,7 +8,7 @@ use Rattle.pool_law.specs.Arenas.{or_else}
 use Rattle.pool_law.specs.declared.note.Noted.{Noted}
 use Rattle.pool_law.specs.Histories.{after}
 use Rattle.pool_law.specs.NotedHistories.{noted_dids}
-use Rattle.pool_law.specs.Logs.{Logs, History, own_note, own, numbered, IsHistory, log_of, with_number, entry_at, notes_at, extended, history_from, history_of}
+use Rattle.pool_law.specs.Logs.{Logs, History, own_note, own, numbered, IsHistory, of_lane, with_number, entry_at, notes_at, extended, history_from, history_of}
 use Rattle.std.proofs.lemmas.Bool.{cond_both}
 use Rattle.std.proofs.lemmas.List.{map-append}
 
@@ -68,17 +68,17 @@ numbered-append lane n (x ∷ h) e =
 -- one more note of a lane, with the next number, makes the history one longer
 pub IsHistory-push : (object : Object) (logs more : Logs) (h : History) (lane : ℕ) (did : Did) →
     IsHistory object logs h →
-    own object (log_of more lane) ≡ own object (log_of logs lane) ++ (length h + 1, did) ∷ [] →
-    ((other : ℕ) → other ≢ lane → own object (log_of more other) ≡ own object (log_of logs other)) →
+    own object (of_lane more lane) ≡ own object (of_lane logs lane) ++ (length h + 1, did) ∷ [] →
+    ((other : ℕ) → other ≢ lane → own object (of_lane more other) ≡ own object (of_lane logs other)) →
     IsHistory object more (h ++ (lane, did) ∷ [])
 IsHistory-push object logs more h lane did whole here elsewhere other =
     numbered_is ∙ sym (numbered-append other 1 h (lane, did))
   where
-    numbered_is : own object (log_of more other) ≡ numbered other 1 h ++ one_if other (1 + length h) (lane, did)
+    numbered_is : own object (of_lane more other) ≡ numbered other 1 h ++ one_if other (1 + length h) (lane, did)
     numbered_is =
-        cond_both (lane == other) ((1 + length h, did) ∷ []) [] (λ z. own object (log_of more other) ≡ numbered other 1 h ++ z)
+        cond_both (lane == other) ((1 + length h, did) ∷ []) [] (λ z. own object (of_lane more other) ≡ numbered other 1 h ++ z)
         (λ same. let e : lane ≡ other = eqb-true lane other same in
-        subst (λ k. own object (log_of more k) ≡ numbered k 1 h ++ (1 + length h, did) ∷ []) e
+        subst (λ k. own object (of_lane more k) ≡ numbered k 1 h ++ (1 + length h, did) ∷ []) e
         (here ∙ ap (λ t. t ++ (length h + 1, did) ∷ []) (whole lane) ∙ ap (λ k. numbered lane 1 h ++ (k, did) ∷ []) (omega arith)))
         (λ no_lane. elsewhere other (λ e. let both : true ≡ false = sym (eq-eqb lane other (sym e)) ∙ no_lane in cc both) ∙ whole other ∙ sym (append-nil (numbered other 1 h)))
 
@@ -115,7 +115,7 @@ abbrev pub AreOf : Object → History → ℕ → Logs → Type 0
 AreOf object h k [] = Unit {0}
 AreOf object h k (log ∷ logs) = (own object log ≡ numbered k 1 h) × AreOf object h (k + 1) logs
 
-pub AreOf-from : (object : Object) (h : History) (k : ℕ) (logs : Logs) → ((i : ℕ) → own object (log_of logs i) ≡ numbered (k + i) 1 h) → AreOf object h k logs
+pub AreOf-from : (object : Object) (h : History) (k : ℕ) (logs : Logs) → ((i : ℕ) → own object (of_lane logs i) ≡ numbered (k + i) 1 h) → AreOf object h k logs
 AreOf-from object h k [] f = tt
 AreOf-from object h k (log ∷ logs) f =
     (f 0 ∙ ap (λ n. numbered n 1 h) (omega arith), AreOf-from object h (k + 1) logs (λ i. f (suc i) ∙ ap (λ n. numbered n 1 h) (omega arith)))
@@ -188,7 +188,7 @@ notes_at-over object h k [] are = refl
 notes_at-over object h k (log ∷ logs) are =
     omega (arith, ap length are.0, notes_at-over object h (k + 1) logs are.1)
 
-pub slice_get-beyond : (logs : Logs) (i : ℕ) → length logs ≤ i → log_of logs i ≡ []
+pub slice_get-beyond : (logs : Logs) (i : ℕ) → length logs ≤ i → of_lane logs i ≡ []
 slice_get-beyond [] i h = refl
 slice_get-beyond (x ∷ xs) zero h = absurd (omega arith)
 slice_get-beyond (x ∷ xs) (suc i) h = slice_get-beyond xs i (omega arith)

@@ -3,3 +3,4 @@ pub mod NumberLemmas
 pub mod SameLemmas
 pub mod HistoryLemmas
 pub mod PatternLemmas
+pub mod CompositeLemmas

@@ -1,5 +1,5 @@
 -- Busy marks: where one stands, another lane was at the object.
-use Rattle.std.specs.Prelude.{◌≢◌, ℕ, ◌<◌, ◌≤◌, List, [], ◌∷◌, Option, Some, None, slice_get, MatchBool}
+use Rattle.std.specs.Prelude.{◌≢◌, ℕ, ◌+◌, ◌≤◌, max, List, [], ◌∷◌, Option, Some, None, slice_get, MatchBool}
 use Rattle.pool_law.specs.declared.note.Object.{Object}
 use Rattle.pool_law.specs.declared.note.Did.{Did}
 use Rattle.pool_law.specs.declared.note.Note.{Note}
@@ -7,18 +7,18 @@ use Rattle.pool_law.specs.declared.note.Note.TheVariants.{At, Ref, Busy}
 use Rattle.pool_law.specs.Same.{same_object}
 use Rattle.pool_law.specs.Logs.{History}
 
--- from what the lane has seen of an object: a note's number is above it, a mark's is not below it
-abbrev pub Rises : Object → ℕ → List Note → Type 0
-Rises object seen [] = Unit {0}
-Rises object seen (At other number did ∷ ns) =
+-- marks are not below what the lane had of the object, nor later notes below what marks allow
+abbrev pub MarksFit : Object → ℕ → ℕ → List Note → Type 0
+MarksFit object had least [] = Unit {0}
+MarksFit object had least (At other number did ∷ ns) =
     MatchBool (same_object object other)
-    ((seen < number) × Rises object number ns)
-    (Rises object seen ns)
-Rises object seen (Busy held ∷ ns) =
+    ((least ≤ number) × MarksFit object (max had number) least ns)
+    (MarksFit object had least ns)
+MarksFit object had least (Busy held ∷ ns) =
     MatchBool (same_object object held.object)
-    ((seen ≤ held.number) × Rises object held.number ns)
-    (Rises object seen ns)
-Rises object seen (Ref root did ∷ ns) = Rises object seen ns
+    ((had ≤ held.number) × MarksFit object held.number (held.number + 1) ns)
+    (MarksFit object had least ns)
+MarksFit object had least (Ref root did ∷ ns) = MarksFit object had least ns
 
 -- the note after the mark is of another lane
 abbrev pub IsOfAnother : ℕ → Option (ℕ × Did) → Type 0
@@ -35,5 +35,5 @@ MarksHold lane history (Ref root did ∷ ns) = MarksHold lane history ns
 
 -- the busy marks of a log are right
 pub record BusyHolds (lane : ℕ) (history : Object → History) (log : List Note) : Type 0 where
-  pub rises : (object : Object) → Rises object 0 log
+  pub fit : (object : Object) → MarksFit object 0 0 log
   pub marks : MarksHold lane history log

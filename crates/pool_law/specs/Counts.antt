@@ -2,12 +2,13 @@
 use Rattle.std.specs.Prelude.{◌≡◌, ℕ, ◌+◌, ◌-◌, ◌<◌, ◌≤◌, Bool, true, false, ◌&&◌, ◌||◌, if◌then◌else◌, List, [], ◌∷◌, Option, Some, None, ◌↔◌}
 use Rattle.pool_law.specs.declared.id.RootId.{RootId}
 use Rattle.pool_law.specs.declared.id.ViewData.{ViewData}
-use Rattle.pool_law.specs.declared.note.Did.TheVariants.{Post, Fetch, Birth}
+use Rattle.pool_law.specs.declared.note.Did.TheVariants.{Birth}
 use Rattle.pool_law.specs.declared.note.RefDid.{RefDid}
-use Rattle.pool_law.specs.declared.note.RefDid.TheVariants.{Born, Retain, Ended, Vacated}
+use Rattle.pool_law.specs.declared.note.RefDid.TheVariants.{Born, Retain, Ended, Vacated, Look}
 use Rattle.pool_law.specs.declared.note.Note.{Note}
 use Rattle.pool_law.specs.declared.note.Note.TheVariants.{At, Ref, Busy}
 use Rattle.pool_law.specs.Same.{same_root}
+use Rattle.pool_law.specs.Kinds.{Passing, Stays, Goes, Comes, passing}
 use Rattle.pool_law.specs.Logs.{Entry}
 
 -- a view, if there is one, is of the root
@@ -24,26 +25,42 @@ root_is root (Some r) = same_root r root
 abbrev pub ref_gains : RefDid → Bool
 ref_gains Born = true
 ref_gains Retain = true
-ref_gains _ = false
+ref_gains RefDid.Kept = false
+ref_gains Ended = false
+ref_gains Vacated = false
+ref_gains (Look found) = false
 
 -- a step on the word takes one away
 abbrev pub ref_loses : RefDid → Bool
+ref_loses Born = false
+ref_loses Retain = false
 ref_loses RefDid.Kept = true
 ref_loses Ended = true
-ref_loses _ = false
+ref_loses Vacated = false
+ref_loses (Look found) = false
+
+-- a parcel with the root comes, and one goes
+abbrev pub brings : RootId → Passing → Bool
+brings root Stays = false
+brings root (Goes parcel) = false
+brings root (Comes parcel) = view_is_of root parcel.view
+
+-- a parcel with the root goes
+abbrev pub takes_away : RootId → Passing → Bool
+takes_away root Stays = false
+takes_away root (Goes parcel) = view_is_of root parcel.view
+takes_away root (Comes parcel) = false
 
 -- a note adds one
 abbrev pub note_gains : RootId → Note → Bool
 note_gains root (Ref r did) = same_root r root && ref_gains did
-note_gains root (At object number (Fetch parcel)) = view_is_of root parcel.view
-note_gains root (At object number _) = false
+note_gains root (At object number did) = brings root (passing did)
 note_gains root (Busy held) = false
 
 -- a note takes one away
 abbrev pub note_loses : RootId → Note → Bool
 note_loses root (Ref r did) = same_root r root && ref_loses did
-note_loses root (At object number (Post parcel)) = view_is_of root parcel.view
-note_loses root (At object number _) = false
+note_loses root (At object number did) = takes_away root (passing did)
 note_loses root (Busy held) = false
 
 -- the count after an entry
@@ -63,14 +80,16 @@ count_of root es = count_from root 0 es
 -- whether an entry may stand only where the lane counts the root
 abbrev pub ref_needs : RefDid → Bool
 ref_needs Born = false
+ref_needs Retain = true
+ref_needs RefDid.Kept = true
+ref_needs Ended = true
 ref_needs Vacated = false
-ref_needs _ = true
+ref_needs (Look found) = true
 
 -- a note that may stand only where the lane counts the root
 abbrev pub note_needs : RootId → Note → Bool
 note_needs root (Ref r did) = same_root r root && ref_needs did
-note_needs root (At object number (Post parcel)) = view_is_of root parcel.view
-note_needs root (At object number _) = false
+note_needs root (At object number did) = takes_away root (passing did)
 note_needs root (Busy held) = false
 
 -- an entry that may stand only where the lane counts the root

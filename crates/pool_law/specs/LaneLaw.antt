@@ -1,40 +1,56 @@
 -- The law of a whole log of a lane: its commands in order, and then the closing of its caches.
-use Rattle.std.specs.Prelude.{◌≡◌, ℕ, zero, suc, ◌≤◌, List, [], ◌∷◌, ◌++◌, length, map, take, drop, sum, Option, Some, None}
-use Rattle.size_classes.specs.Sizes.{below}
-use Rattle.pool_law.specs.declared.id.RegionId.{RegionId}
+use Rattle.std.specs.Prelude.{◌≡◌, ℕ, suc, ◌≤◌, List, [], ◌∷◌, length, map, take, drop, sum, Option, Some, None, option_map}
 use Rattle.pool_law.specs.declared.command.Command.{Command}
-use Rattle.pool_law.specs.declared.note.Object.TheVariants.{Cache}
-use Rattle.pool_law.specs.declared.note.Did.{Did}
 use Rattle.pool_law.specs.declared.run.Shape.{Shape}
 use Rattle.pool_law.specs.declared.run.Reply.{Reply}
 use Rattle.pool_law.specs.declared.run.Answered.{Answered}
-use Rattle.pool_law.specs.Limits.{cached_classes}
-use Rattle.pool_law.specs.Lanes.{LaneState, new_lane, Answer, answer_of}
-use Rattle.pool_law.specs.Patterns.{Entries, next_at, give_back}
-use Rattle.pool_law.specs.Reading.{◌>>=◌, at_end}
+use Rattle.pool_law.specs.Options.{◌>>=◌}
+use Rattle.pool_law.specs.Readers.{Entries, read_all}
+use Rattle.pool_law.specs.LaneStates.{LaneState, new_lane, log_at, state_at}
+use Rattle.pool_law.specs.Lanes.{turn, not_carried_out}
+use Rattle.pool_law.specs.Patterns.{closing}
 
--- the state after a command's answer
-abbrev pub state_after : LaneState → Entries → Answer → LaneState
-state_after s es a = record { names = a.names; seen = s.seen ++ es }
+-- a lane sweeps its caches once so many allocations asked one
+abbrev pub sweep_period : ℕ
+sweep_period = 8192
 
 -- a command's reply and the lane's next state, where exactly these are its notes
-abbrev pub lane_step : Shape → ℕ → LaneState → Command → Entries → Option (Reply × LaneState)
-lane_step shape lane s c es = do
-  (a, rest) ← answer_of shape lane s c es
-  _ ← at_end rest
-  Some (a.reply, state_after s es a)
+abbrev pub lane_step :
+    ℕ → Shape → ℕ → LaneState → Command → Entries → Option (Reply × LaneState)
+lane_step period shape lane s c es = do
+  (a, log) ← read_all (turn period shape lane s c) (log_at s es)
+  Some (a.reply, state_at a.names log)
 
--- the replies to commands whose notes are these, and the state after them; none where a command
--- does not make its notes
+-- the replies to commands whose notes are these, and the state after them
 abbrev pub lane_run :
-    Shape → ℕ → LaneState → List Command → List Entries → Option (List Reply × LaneState)
-lane_run shape lane s [] [] = Some ([], s)
-lane_run shape lane s [] (es ∷ groups) = None
-lane_run shape lane s (c ∷ cs) [] = None
-lane_run shape lane s (c ∷ cs) (es ∷ groups) = do
-  (reply, mid) ← lane_step shape lane s c es
-  (replies, last) ← lane_run shape lane mid cs groups
+    ℕ → Shape → ℕ → LaneState → List Command → List Entries → Option (List Reply × LaneState)
+lane_run period shape lane s [] [] = Some ([], s)
+lane_run period shape lane s [] (es ∷ groups) = None
+lane_run period shape lane s (c ∷ cs) [] = None
+lane_run period shape lane s (c ∷ cs) (es ∷ groups) = do
+  (reply, mid) ← lane_step period shape lane s c es
+  (replies, last) ← lane_run period shape lane mid cs groups
   Some (reply ∷ replies, last)
+
+-- ---- A lane that its gate stopped.
+
+-- how many commands were answered before the lane was stopped
+abbrev pub before_stop : List Reply → ℕ
+before_stop [] = 0
+before_stop (Reply.Stopped ∷ replies) = 0
+before_stop (reply ∷ replies) = suc (before_stop replies)
+
+-- the replies to commands of a stopped lane whose notes are these
+abbrev pub stopped_run : ℕ → List Command → List Entries → Option (List Reply)
+stopped_run lane [] [] = Some []
+stopped_run lane [] (es ∷ groups) = None
+stopped_run lane (c ∷ cs) [] = None
+stopped_run lane (c ∷ cs) (es ∷ groups) = do
+  _ ← read_all (not_carried_out lane c) (log_at new_lane es)
+  replies ← stopped_run lane cs groups
+  Some (Reply.Stopped ∷ replies)
+
+-- ---- A whole log.
 
 -- a list cut into pieces of these lengths, and what is left
 abbrev pub pieces : {X : Type 0} → List ℕ → List X → List (List X)
@@ -46,45 +62,6 @@ abbrev pub behind : {X : Type 0} → List ℕ → List X → List X
 behind [] xs = xs
 behind (n ∷ ns) xs = behind ns (drop n xs)
 
--- the region of a shed
-abbrev pub shed_of : Did → Option RegionId
-shed_of (Did.Shed region) = Some region
-shed_of _ = None
-
--- the quota of a close
-abbrev pub closed_with : Did → Option ℕ
-closed_with (Did.Close quota) = Some quota
-closed_with _ = None
-
--- so many regions leave a cache, each for its arena
-abbrev pub sheds : ℕ → ℕ → ℕ → Entries → Option Entries
-sheds lane class zero es = Some es
-sheds lane class (suc n) es = do
-  (did, rest) ← next_at (Cache lane class) es
-  region ← shed_of did
-  left ← give_back region rest
-  sheds lane class n left
-
--- a cache is closed, and gives what was in it to the arena
-abbrev pub close_cache : ℕ → ℕ → Entries → Option Entries
-close_cache lane class es = do
-  (did, rest) ← next_at (Cache lane class) es
-  quota ← closed_with did
-  sheds lane class quota rest
-
--- these caches are closed, one after another
-abbrev pub close_caches : ℕ → List ℕ → Entries → Option Entries
-close_caches lane [] es = Some es
-close_caches lane (class ∷ classes) es = do
-  rest ← close_cache lane class es
-  close_caches lane classes rest
-
--- the last notes of a lane
-abbrev pub closing : ℕ → Entries → Option (Unit {0})
-closing lane es = do
-  rest ← close_caches lane (below cached_classes) es
-  at_end rest
-
 -- how many notes each command made
 abbrev pub note_counts : List Answered → List ℕ
 note_counts replies = map (λ a. a.notes) replies
@@ -93,13 +70,24 @@ note_counts replies = map (λ a. a.notes) replies
 abbrev pub replies_in : List Answered → List Reply
 replies_in replies = map (λ a. a.reply) replies
 
--- the replies and the notes of a lane are those of its commands and of the closing of its caches
+-- whether these entries close the caches of a lane
+abbrev pub closes : ℕ → Entries → Option (Unit {0})
+closes lane es = option_map (λ got. tt) (read_all (closing lane) (log_at new_lane es))
+
+-- a lane's replies and notes are those of its commands, up to a stop and behind it, and its closing
 pub record IsLaneLog
     (shape : Shape) (lane : ℕ) (commands : List Command) (replies : List Answered) (es : Entries) :
     Type 0
   where
     pub counted : sum (note_counts replies) ≤ length es
     pub last : LaneState
-    pub answered : lane_run shape lane new_lane commands (pieces (note_counts replies) es)
-        ≡ Some (replies_in replies, last)
-    pub closes : closing lane (behind (note_counts replies) es) ≡ Some tt
+    pub answered :
+        let n = before_stop (replies_in replies) in
+        lane_run sweep_period shape lane new_lane
+        (take n commands) (take n (pieces (note_counts replies) es))
+        ≡ Some (take n (replies_in replies), last)
+    pub stopped :
+        let n = before_stop (replies_in replies) in
+        stopped_run lane (drop n commands) (drop n (pieces (note_counts replies) es))
+        ≡ Some (drop n (replies_in replies))
+    pub closed : closes lane (behind (note_counts replies) es) ≡ Some tt

@@ -16,7 +16,7 @@ use Rattle.pool_law.specs.Same.{same_root}
 use Rattle.pool_law.specs.Limits.{IsShape, geometry_of}
 use Rattle.pool_law.specs.Arenas.{Arena, chunk_ends}
 use Rattle.pool_law.specs.Histories.{IsAccepted, arena_after}
-use Rattle.pool_law.specs.Logs.{Logs, Entry, dids, log_of, IsHistory, history_of, note_stands, entries_of}
+use Rattle.pool_law.specs.Logs.{Logs, Entry, dids, of_lane, IsHistory, history_of, note_stands, entries_of}
 use Rattle.pool_law.specs.Counts.{CountsHold, TotalHolds, LookHolds, count_over, count_in, count_step, is_retain, is_release, is_birth}
 use Rattle.pool_law.specs.LaneLaw.{IsLaneLog}
 use Rattle.pool_law.specs.Busy.{BusyHolds}
@@ -88,16 +88,16 @@ others_retains root lane at (es ∷ logs) =
 -- roots that were born, and what was looked up. (That a birth and its Born stand in one log, and an
 -- end, its Ended and its Vacated in one, each once and in order, the patterns of a lane's log say.)
 pub record CountsAgree (logs : List (List Entry)) : Type 0 where
-  pub lanes : (root : RootId) (lane : ℕ) → CountsHold root 0 (log_of logs lane)
+  pub lanes : (root : RootId) (lane : ℕ) → CountsHold root 0 (of_lane logs lane)
   pub totals : (root : RootId) → 0 < count_over (is_birth root) logs → TotalHolds root logs
   pub looks : (root : RootId) (lane : ℕ) →
-      LooksHold root (others_retains root lane 0 logs) 0 0 0 (log_of logs lane)
+      LooksHold root (others_retains root lane 0 logs) 0 0 0 (of_lane logs lane)
 
 -- the logs give each object a whole history, which it accepts
 pub record HistoriesHold (shape : Shape) (logs : Logs) : Type 0 where
   pub whole : (object : Object) → IsHistory object logs (history_of object logs)
   pub accepted : (object : Object) → IsAccepted shape object (dids (history_of object logs))
-  pub stand : (lane : ℕ) → IsTrue (list_all (note_stands shape lane) (log_of logs lane))
+  pub stand : (lane : ℕ) → IsTrue (list_all (note_stands shape lane) (of_lane logs lane))
 
 -- the chunks of an arena at the end
 abbrev pub ends_of : Shape → ℕ → Option Arena → List ChunkEnd
@@ -121,20 +121,20 @@ logs_of run = map (λ l. l.notes) run.logs
 
 -- the replies of a lane
 abbrev pub replies_of : Run → ℕ → List Answered
-replies_of run lane = log_of (map (λ l. l.replies) run.logs) lane
+replies_of run lane = of_lane (map (λ l. l.replies) run.logs) lane
 
 -- a run that the pool can make
 pub record IsLegal (run : Run) : Type 0 where
   pub shape : IsShape run.shape
   pub lanes : length run.trace.lanes ≡ run.shape.lanes
   pub logs : length run.logs ≡ run.shape.lanes
-  pub commands : (lane : ℕ) → AreCommands run.shape (log_of run.trace.lanes lane)
+  pub commands : (lane : ℕ) → AreCommands run.shape (of_lane run.trace.lanes lane)
   pub histories : HistoriesHold run.shape (logs_of run)
   pub counts : CountsAgree (entries_of (logs_of run))
   pub answers : (lane : ℕ) → lane < run.shape.lanes →
-      IsLaneLog run.shape lane (log_of run.trace.lanes lane) (replies_of run lane)
-      (log_of (entries_of (logs_of run)) lane)
+      IsLaneLog run.shape lane (of_lane run.trace.lanes lane) (replies_of run lane)
+      (of_lane (entries_of (logs_of run)) lane)
   pub busy : (lane : ℕ) →
-      BusyHolds lane (λ object. history_of object (logs_of run)) (log_of (logs_of run) lane)
+      BusyHolds lane (λ object. history_of object (logs_of run)) (of_lane (logs_of run) lane)
   pub chunks : run.chunks ≡ ends_from run.shape (logs_of run) (below run.shape.arenas)
   pub leaks : run.leaks ≡ leaks_of run.shape (logs_of run)

@@ -1,20 +1,21 @@
--- What follows of a legal run: the life of each region, and that regions live apart.
-use Rattle.std.specs.Prelude.{◌≡◌, ◌≢◌, ◌⊎◌, ℕ, ◌+◌, ◌<◌, ◌≤◌, IsTrue, Some, slice_get}
+-- What follows of a legal run: the life of each region.
+use Rattle.std.specs.Prelude.{◌≡◌, ◌⊎◌, ℕ, ◌<◌, List, [], ◌∷◌, map, IsTrue, Some, slice_get}
 use Rattle.pool_law.specs.declared.id.RootId.{RootId}
 use Rattle.pool_law.specs.declared.id.RegionId.{RegionId}
 use Rattle.pool_law.specs.declared.note.Object.{Object}
 use Rattle.pool_law.specs.declared.note.Did.{Did}
+use Rattle.pool_law.specs.declared.note.Did.TheVariants.{Take, Give, Hit, Kept, Shed, Birth, End}
 use Rattle.pool_law.specs.declared.note.Note.{Note}
-use Rattle.pool_law.specs.Places.{Overlap}
 use Rattle.pool_law.specs.Same.{same_taking}
-use Rattle.pool_law.specs.Logs.{Logs, log_of}
+use Rattle.pool_law.specs.Logs.{Logs, of_lane}
+use Rattle.pool_law.specs.Patterns.{one_more}
 
 -- a note stands in a lane's log at this place
 abbrev pub StandsAt : Logs → ℕ → ℕ → Note → Type 0
-StandsAt logs lane at note = slice_get (log_of logs lane) at ≡ Some note
+StandsAt logs lane at note = slice_get (of_lane logs lane) at ≡ Some note
 
 -- a root is born with this region, which names the root's taking and counts its uses
-pub record Use (logs : Logs) (root : RootId) (region : RegionId) : Type 0 where
+pub record IsUse (logs : Logs) (root : RootId) (region : RegionId) : Type 0 where
   pub lane : ℕ
   pub at : ℕ
   pub number : ℕ
@@ -40,68 +41,89 @@ arena_of region = Object.Arena region.place.arena
 abbrev pub with_uses : RegionId → ℕ → RegionId
 with_uses region uses = record region { uses = uses }
 
--- from one use of a taking to the next: after the end of the first its owner's cache keeps the
--- region once, and the next use follows the one later hit of it
-pub record Passage
-    (logs : Logs) (first next : RootId) (region : RegionId)
-    (later : Use logs next (with_uses region (region.uses + 1))) :
-    Type 0
-  where
-    pub ended : Done logs (Object.Root first.place) (Did.End first)
-    pub kept : Done logs (cache_of region) (Did.Kept region)
-    pub hit : Done logs (cache_of region) (Did.Hit region)
-    pub same_log : kept.lane ≡ ended.lane
-    pub after_end : ended.at < kept.at
-    pub after_kept : kept.number < hit.number
-    pub next_log : hit.lane ≡ later.lane
-    pub before_birth : hit.at < later.at
+-- something was done to an object: by this lane, at this place of its log, with this number
+pub record Event : Type 0 where
+  pub object : Object
+  pub did : Did
+  pub lane : ℕ
+  pub at : ℕ
+  pub number : ℕ
 
--- the one region that comes back after the last use, straight or through its owner's cache
-pub record Return (logs : Logs) (last : RootId) (region : RegionId) : Type 0 where
-  pub ended : Done logs (Object.Root last.place) (Did.End last)
-  pub given : Done logs (arena_of region) (Did.Give region)
-  pub way : ((given.lane ≡ ended.lane) × (ended.at < given.at))
-      ⊎ ((kept : Done logs (cache_of region) (Did.Kept region))
-      × (shed : Done logs (cache_of region) (Did.Shed region))
-      × (kept.lane ≡ ended.lane) × (ended.at < kept.at) × (kept.number < shed.number)
-      × (given.lane ≡ shed.lane) × (shed.at < given.at))
+-- an event stands in the logs
+abbrev pub Stands : Logs → Event → Type 0
+Stands logs e = StandsAt logs e.lane e.at (Note.At e.object e.number e.did)
 
--- the life of each region
-pub record RegionsLive (logs : Logs) : Type 0 where
-  -- the uses of a taking are numbered from 1, each once
-  pub once : (first second : RootId) (a b : RegionId) → Use logs first a → Use logs second b →
-      IsTrue (same_taking a b) → a.uses ≡ b.uses → first ≡ second
-  pub from_one : (root : RootId) (region : RegionId) → Use logs root region → 1 ≤ region.uses
-  pub each_before : (root : RootId) (region : RegionId) (n : ℕ) → Use logs root region →
-      region.uses ≡ n + 2 → (earlier : RootId) × Use logs earlier (with_uses region (n + 1))
-  -- from each use to the next
-  pub passes : (first next : RootId) (region : RegionId) → Use logs first region →
-      (later : Use logs next (with_uses region (region.uses + 1))) →
-      Passage logs first next region later
-  pub kept_once : (region : RegionId) (a b : Done logs (cache_of region) (Did.Kept region)) →
-      a.number ≡ b.number
-  pub hit_once : (region : RegionId) (a b : Done logs (cache_of region) (Did.Hit region)) →
-      a.number ≡ b.number
-  -- a region comes back after its last use, and once
-  pub returns : (root : RootId) (region : RegionId) → Use logs root region →
-      Done logs (arena_of region) (Did.Give region) → Return logs root region
-  pub last : (root : RootId) (region : RegionId) (next : RootId) → Use logs root region →
-      Done logs (arena_of region) (Did.Give region) →
-      Use logs next (with_uses region (region.uses + 1)) → ⊥
-  pub given_once : (a b : RegionId) →
-      (g : Done logs (arena_of a) (Did.Give a)) → (h : Done logs (arena_of b) (Did.Give b)) →
-      IsTrue (same_taking a b) → g.number ≡ h.number
+-- an event is later than another in a log, and at an object
+abbrev pub InOneLog : Event → Event → Type 0
+InOneLog e f = (e.lane ≡ f.lane) × (e.at < f.at)
 
--- one taking came back before the other was taken
-pub record Before (logs : Logs) (a b : RegionId) : Type 0 where
-  pub uses : ℕ
-  pub given : Done logs (arena_of a) (Did.Give (with_uses a uses))
-  pub taken : Done logs (arena_of b) (Did.Take b.class (with_uses b 0))
-  pub order : given.number < taken.number
+abbrev pub AtOneObject : Event → Event → Type 0
+AtOneObject e f = (e.object ≡ f.object) × (e.number < f.number)
 
--- two roots whose places overlap have one taking, or the taking of one came back before the other's
-abbrev pub LieApart : Logs → Type 0
-LieApart logs =
-    (first second : RootId) (a b : RegionId) → Use logs first a → Use logs second b →
-    first ≢ second → Overlap a.place b.place →
-    IsTrue (same_taking a b) ⊎ (Before logs a b ⊎ Before logs b a)
+-- where a region is
+pub data Where : Type 0 where
+  Got : Where  -- with a lane that got it from its arena or from a cache
+  Used : (root : RootId) → Where  -- with a root
+  Freed : Where  -- with the lane that ended its root
+  Cached : Where  -- in a cache
+  Dropped : Where  -- with the lane that closed its cache
+
+-- all that is done from then on with a region that is there, in order: a root is born with it and
+-- one use more; the root never ends, or it ends; then the arena gets the region, or a cache keeps
+-- it, until it is hit for the next root, or is shed for the arena
+abbrev pub LivesOn : Where → RegionId → List Did → Type 0
+LivesOn Got r (Birth root x ∷ ds) = (x ≡ one_more r) × LivesOn (Used root) x ds
+LivesOn (Used root) r [] = Unit {0}
+LivesOn (Used root) r (End x ∷ ds) = (x ≡ root) × LivesOn Freed r ds
+LivesOn Freed r (Give x ∷ []) = x ≡ r
+LivesOn Freed r (Kept x ∷ ds) = (x ≡ r) × LivesOn Cached r ds
+LivesOn Cached r (Hit x ∷ ds) = (x ≡ r) × LivesOn Got r ds
+LivesOn Cached r (Shed x ∷ ds) = (x ≡ r) × LivesOn Dropped r ds
+LivesOn Dropped r (Give x ∷ []) = x ≡ r
+LivesOn _ r _ = ⊥
+
+-- one event of a region follows another: at the same place or cache where the region lies there,
+-- else in the same log
+abbrev pub Follows : Did → Event → Event → Type 0
+Follows (Birth root region) e f = AtOneObject e f
+Follows (Kept region) e f = AtOneObject e f
+Follows _ e f = InOneLog e f
+
+-- these events stand in the logs, each after the one before it
+abbrev pub InOrder : Logs → Event → List Event → Type 0
+InOrder logs e [] = Stands logs e
+InOrder logs e (f ∷ fs) = Stands logs e × (Follows e.did e f × InOrder logs f fs)
+
+-- what is done moves the taking: it names it, or ends a root that was born with it
+abbrev pub Moves : Logs → RegionId → Did → Type 0
+Moves logs taking (Take class x) = IsTrue (same_taking taking x)
+Moves logs taking (Birth root x) = IsTrue (same_taking taking x)
+Moves logs taking (End root) = (x : RegionId) × IsUse logs root x × IsTrue (same_taking taking x)
+Moves logs taking (Give x) = IsTrue (same_taking taking x)
+Moves logs taking (Kept x) = IsTrue (same_taking taking x)
+Moves logs taking (Hit x) = IsTrue (same_taking taking x)
+Moves logs taking (Shed x) = IsTrue (same_taking taking x)
+Moves logs taking _ = ⊥
+
+-- an event is one of these
+abbrev pub IsAmong : Event → List Event → Type 0
+IsAmong e [] = ⊥
+IsAmong e (f ∷ fs) = (e ≡ f) ⊎ IsAmong e fs
+
+abbrev pub dids_of : List Event → List Did
+dids_of es = map (λ e. e.did) es
+
+-- the life of a taking: its Take, and all that moves it after that, in order
+pub record Life (logs : Logs) (taking : RegionId) : Type 0 where
+  pub take : Event
+  pub later : List Event
+  pub taken : take.did ≡ Did.Take taking.class taking
+  pub lives : LivesOn Got taking (dids_of later)
+  pub order : InOrder logs take later
+  pub all : (e : Event) → Stands logs e → Moves logs taking e.did → IsAmong e (take ∷ later)
+
+-- whatever moves a region belongs to the life of its taking, which begins with no uses
+abbrev pub RegionsLive : Logs → Type 0
+RegionsLive logs =
+    (e : Event) (region : RegionId) → Stands logs e → Moves logs region e.did →
+    Life logs (with_uses region 0)

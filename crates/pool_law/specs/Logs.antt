@@ -1,15 +1,15 @@
 -- Logs of lanes, and the histories that they give.
-use Rattle.std.specs.Prelude.{◌≡◌, ℕ, zero, suc, ◌+◌, ◌-◌, ◌%◌, Bool, true, ◌==◌, ◌&&◌, if◌then◌else◌, List, [], ◌∷◌, ◌++◌, length, map, take, Option, Some, None, option_map, unwrap_or, slice_get}
+use Rattle.std.specs.Prelude.{◌≡◌, ℕ, zero, suc, ◌+◌, ◌-◌, ◌%◌, Bool, true, false, ◌==◌, ◌&&◌, if◌then◌else◌, List, [], ◌∷◌, ◌++◌, length, map, take, Option, Some, None, option_map, unwrap_or, slice_get}
 use Rattle.pool_law.specs.declared.id.RootId.{RootId}
 use Rattle.pool_law.specs.declared.id.RegionId.{RegionId}
 use Rattle.pool_law.specs.declared.note.Object.{Object}
 use Rattle.pool_law.specs.declared.note.Object.TheVariants.{Arena, Cache, Bin, Mail, Root}
 use Rattle.pool_law.specs.declared.note.Did.{Did}
-use Rattle.pool_law.specs.declared.note.Did.TheVariants.{Take, Full, Hit, Miss, Trim, Close, Shed, Handle, NoHandle, Post, Fetch, Set, Get, Touch, End}
 use Rattle.pool_law.specs.declared.note.Note.{Note}
 use Rattle.pool_law.specs.declared.note.Note.TheVariants.{At, Ref, Busy}
 use Rattle.pool_law.specs.declared.run.Shape.{Shape}
 use Rattle.pool_law.specs.Same.{same_object}
+use Rattle.pool_law.specs.Kinds.{Noter, Anyone, Owner, Taker, Sender, Receiver, noter_of, Beside, ItsRoot, ItsRegion, ItsWatch, Nothing, beside}
 use Rattle.pool_law.specs.Roots.{RootPlace, Present}
 use Rattle.pool_law.specs.Arenas.{or_else}
 use Rattle.pool_law.specs.Histories.{place_after}
@@ -26,9 +26,9 @@ History = List (ℕ × Did)
 abbrev pub dids : History → List Did
 dids h = map (λ e. e.1) h
 
--- the log of a lane
-abbrev pub log_of : {X : Type 0} → List (List X) → ℕ → List X
-log_of logs lane = unwrap_or (slice_get logs lane) []
+-- what a lane has, of a list by lanes
+abbrev pub of_lane : {X : Type 0} → List (List X) → ℕ → List X
+of_lane lists lane = unwrap_or (slice_get lists lane) []
 
 -- a note at the object, with its number
 abbrev pub own_note : Object → Note → List (ℕ × Did)
@@ -51,7 +51,7 @@ numbered lane n (e ∷ h) =
 -- the history of an object: what each lane noted at it is, in order, what the history has of the
 -- lane, and the numbers are the places in the history, from 1
 abbrev pub IsHistory : Object → Logs → History → Type 0
-IsHistory object logs h = (lane : ℕ) → own object (log_of logs lane) ≡ numbered lane 1 h
+IsHistory object logs h = (lane : ℕ) → own object (of_lane logs lane) ≡ numbered lane 1 h
 
 -- what has this number in one list of notes, and in the logs, the first of which is of this lane
 abbrev pub with_number : ℕ → List (ℕ × Did) → Option Did
@@ -85,21 +85,35 @@ history_from object logs n (suc rest) =
 abbrev pub history_of : Object → Logs → History
 history_of object logs = history_from object logs 1 (notes_at object logs)
 
+-- a lane is the object's own: of a cache or bin, or one that takes from an arena
+abbrev pub owns : Shape → ℕ → Object → Bool
+owns shape lane (Arena number) = lane % shape.arenas == number
+owns shape lane (Cache owner class) = lane == owner
+owns shape lane (Bin owner) = lane == owner
+owns shape lane (Mail from to) = false
+owns shape lane (Root place) = false
+
+-- a lane is at this end of a mail
+abbrev pub is_sender : ℕ → Object → Bool
+is_sender lane (Mail from to) = lane == from
+is_sender lane _ = false
+
+-- and at the other
+abbrev pub is_receiver : ℕ → Object → Bool
+is_receiver lane (Mail from to) = lane == to
+is_receiver lane _ = false
+
+-- a lane is among those that may make a note at the object
+abbrev pub is_noter : Shape → ℕ → Object → Noter → Bool
+is_noter shape lane object Anyone = true
+is_noter shape lane object Owner = owns shape lane object
+is_noter shape lane object (Taker owner) = owns shape lane object && (owner == lane)
+is_noter shape lane object Sender = is_sender lane object
+is_noter shape lane object Receiver = is_receiver lane object
+
 -- whether a lane may note this at the object
 abbrev pub may_stand : Shape → ℕ → Object → Did → Bool
-may_stand shape lane (Arena number) (Take class region) =
-    (lane % shape.arenas == number) && (region.owner == lane)
-may_stand shape lane (Arena number) (Full class) = lane % shape.arenas == number
-may_stand shape lane (Cache owner class) (Hit region) = lane == owner
-may_stand shape lane (Cache owner class) Miss = lane == owner
-may_stand shape lane (Cache owner class) (Trim quota) = lane == owner
-may_stand shape lane (Cache owner class) (Close quota) = lane == owner
-may_stand shape lane (Cache owner class) (Shed region) = lane == owner
-may_stand shape lane (Bin owner) (Handle place) = lane == owner
-may_stand shape lane (Bin owner) NoHandle = lane == owner
-may_stand shape lane (Mail from to) (Post parcel) = lane == from
-may_stand shape lane (Mail from to) (Fetch parcel) = lane == to
-may_stand shape lane _ _ = true
+may_stand shape lane object did = is_noter shape lane object (noter_of did)
 
 -- a lane may note this
 abbrev pub note_stands : Shape → ℕ → Note → Bool
@@ -123,17 +137,27 @@ abbrev pub present_before : Logs → ℕ → ℕ → Option Present
 present_before logs place number =
     present_in (place_after place (take (number - 1) (dids (history_of (Root place) logs))))
 
--- the root of an access
-abbrev pub root_for : Did → Option Present → Option RootId
-root_for (Set offset bytes) p = option_map (λ q. q.root) p
-root_for (Get offset bytes) p = option_map (λ q. q.root) p
-root_for Touch p = option_map (λ q. q.root) p
-root_for _ p = None
+-- the root of what is present, where that is what a note carries
+abbrev pub root_beside : Beside → Option Present → Option RootId
+root_beside ItsRoot p = option_map (λ q. q.root) p
+root_beside ItsRegion p = None
+root_beside ItsWatch p = None
+root_beside Nothing p = None
 
--- the region that an end takes out
+-- the region of what is present, where that is what a note carries
+abbrev pub region_beside : Beside → Option Present → Option RegionId
+region_beside ItsRoot p = None
+region_beside ItsRegion p = option_map (λ q. q.region) p
+region_beside ItsWatch p = None
+region_beside Nothing p = None
+
+-- the root that a note carries
+abbrev pub root_for : Did → Option Present → Option RootId
+root_for did p = root_beside (beside did) p
+
+-- the region that a note carries
 abbrev pub region_for : Did → Option Present → Option RegionId
-region_for (End root) p = option_map (λ q. q.region) p
-region_for _ p = None
+region_for did p = region_beside (beside did) p
 
 -- a note as an entry
 abbrev pub entry_of : Logs → Note → Entry

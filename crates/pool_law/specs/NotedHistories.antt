@@ -3,10 +3,10 @@ use Rattle.std.specs.Prelude.{◌≡◌, ℕ, Bool, true, false, List, [], ◌�
 use Rattle.pool_law.specs.declared.note.Noted.{Noted}
 use Rattle.pool_law.specs.declared.note.Object.{Object}
 use Rattle.pool_law.specs.declared.note.Did.{Did}
-use Rattle.pool_law.specs.declared.note.Did.TheVariants.{Take, Full, Hit, Miss, Trim, Close, Shed, Handle, NoHandle, Post, Fetch, Birth}
 use Rattle.pool_law.specs.declared.note.Note.{Note}
 use Rattle.pool_law.specs.declared.report.Watch.{Watch}
 use Rattle.pool_law.specs.declared.run.Shape.{Shape}
+use Rattle.pool_law.specs.Kinds.{Noter, Anyone, Owner, Taker, Sender, Receiver, noter_of, Beside, ItsRoot, ItsRegion, ItsWatch, Nothing, beside}
 use Rattle.pool_law.specs.Histories.{IsAccepted, place_after}
 use Rattle.pool_law.specs.Logs.{Entry, may_stand, present_in, root_for, region_for}
 
@@ -14,10 +14,16 @@ use Rattle.pool_law.specs.Logs.{Entry, may_stand, present_in, root_for, region_f
 abbrev pub noted_dids : List Noted → List Did
 noted_dids h = map (λ n. n.did) h
 
+-- a watch may be there, or it may not
+abbrev pub IsWatchBeside : Beside → Option Watch → Type 0
+IsWatchBeside ItsWatch watch = Unit {0}
+IsWatchBeside ItsRoot watch = watch ≡ None
+IsWatchBeside ItsRegion watch = watch ≡ None
+IsWatchBeside Nothing watch = watch ≡ None
+
 -- only a birth carries a watch
 abbrev pub IsRightWatch : Did → Option Watch → Type 0
-IsRightWatch (Birth root region) watch = Unit {0}
-IsRightWatch _ watch = watch ≡ None
+IsRightWatch did watch = IsWatchBeside (beside did) watch
 
 -- the root of an access and the region of an end are those that the notes before give, and only a
 -- birth carries a watch
@@ -27,20 +33,17 @@ IsRightAt (Object.Root place) h n =
     (n.root ≡ root_for n.did p) × (n.region ≡ region_for n.did p) × IsRightWatch n.did n.watch
 IsRightAt _ h n = (n.root ≡ None) × (n.region ≡ None) × IsRightWatch n.did n.watch
 
+-- some lanes alone may make the note
+abbrev pub is_restrained : Noter → Bool
+is_restrained Anyone = false
+is_restrained Owner = true
+is_restrained (Taker owner) = true
+is_restrained Sender = true
+is_restrained Receiver = true
+
 -- whether a note may stand in the logs of some lanes alone
 abbrev pub needs_lane : Did → Bool
-needs_lane (Take class region) = true
-needs_lane (Full class) = true
-needs_lane (Hit region) = true
-needs_lane Miss = true
-needs_lane (Trim quota) = true
-needs_lane (Close quota) = true
-needs_lane (Shed region) = true
-needs_lane (Handle place) = true
-needs_lane NoHandle = true
-needs_lane (Post parcel) = true
-needs_lane (Fetch parcel) = true
-needs_lane _ = false
+needs_lane did = is_restrained (noter_of did)
 
 -- a seat with this number, or with none, may note this at the object
 abbrev pub MayNote : Shape → Option ℕ → Object → Did → Type 0

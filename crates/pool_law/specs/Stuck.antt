@@ -1,6 +1,7 @@
 -- Which traces get stuck.
-use Rattle.std.specs.Prelude.{ℕ, zero, suc, ◌+◌, Bool, true, false, ◌==◌, nat_lt, if◌then◌else◌, List, [], ◌∷◌, length, take, Option, Some, None, slice_get, slice_index, unwrap_or, replicate}
+use Rattle.std.specs.Prelude.{ℕ, zero, suc, ◌+◌, Bool, true, false, ◌==◌, nat_lt, if◌then◌else◌, List, [], ◌∷◌, length, take, Option, Some, None, slice_get, slice_index, replicate}
 use Rattle.pool_law.specs.declared.command.Command.{Command}
+use Rattle.pool_law.specs.Logs.{of_lane}
 
 -- whether a command sends to this lane, and whether it receives from it
 abbrev pub sends_to : ℕ → Command → Bool
@@ -17,13 +18,9 @@ abbrev pub how_many : (Command → Bool) → List Command → ℕ
 how_many test [] = 0
 how_many test (c ∷ cs) = (if test c then 1 else 0) + how_many test cs
 
--- the commands of a lane, and those of them that it has passed
-abbrev pub commands_of : List (List Command) → ℕ → List Command
-commands_of lanes lane = unwrap_or (slice_get lanes lane) []
-
 -- the commands that a lane has passed
 abbrev pub passed : List (List Command) → List ℕ → ℕ → List Command
-passed lanes at lane = take (slice_index at lane) (commands_of lanes lane)
+passed lanes at lane = take (slice_index at lane) (of_lane lanes lane)
 
 -- a lane passes its k-th receive from a lane once that one passed its k-th send to it, and any
 -- other command at once
@@ -36,7 +33,7 @@ may_pass lanes at lane (Some _) = true
 
 -- the next command of a lane
 abbrev pub next_of : List (List Command) → List ℕ → ℕ → Option Command
-next_of lanes at lane = slice_get (commands_of lanes lane) (slice_index at lane)
+next_of lanes at lane = slice_get (of_lane lanes lane) (slice_index at lane)
 
 -- each lane passes its next command, if it may
 abbrev pub moved : List (List Command) → List ℕ → ℕ → List ℕ → List ℕ

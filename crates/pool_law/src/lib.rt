@@ -10,7 +10,7 @@ pub mod report;
 pub mod run;
 
 pub use command::{Command, Trace};
-pub use id::{Parcel, Place, Region, RegionId, RootId, ViewData};
+pub use id::{Parcel, Part, Place, Region, RegionId, RootId, ViewData};
 pub use list::{
     Bytes, ChunkEnds, CommandList, CommandLists, LaneLogs, LeakList, NameList, NoteList, Records,
     ReplyList,

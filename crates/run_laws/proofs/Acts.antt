@@ -5,13 +5,14 @@ use Rattle.pool_law.specs.declared.id.RootId.{RootId}
 use Rattle.pool_law.specs.declared.id.RegionId.{RegionId}
 use Rattle.pool_law.specs.declared.note.Object.{Object}
 use Rattle.pool_law.specs.declared.note.Did.{Did}
-use Rattle.pool_law.specs.declared.note.Did.TheVariants.{Take, Full, Give, Hit, Miss, Kept, Back, Handle, NoHandle, Home, Post, Fetch, Close, Shed, Birth, Set, Get, Touch, End}
+use Rattle.pool_law.specs.declared.note.Did.TheVariants.{Take, Full, Give, Hit, Miss, Kept, Back, Handle, NoHandle, Home, Post, Fetch, Trim, Close, Shed, Birth, Set, Get, Touch, End}
 use Rattle.pool_law.specs.declared.note.RefDid.{RefDid}
 use Rattle.pool_law.specs.declared.note.Note.{Note}
 use Rattle.pool_law.specs.declared.note.Note.TheVariants.{At, Ref, Busy}
 use Rattle.pool_law.specs.Limits.{has_cache}
 use Rattle.pool_law.specs.Logs.{Entry}
-use Rattle.pool_law.specs.Patterns.{Entries, one_more}
+use Rattle.pool_law.specs.Readers.{Entries}
+use Rattle.pool_law.specs.Patterns.{one_more}
 use Rattle.pool_law.proofs.HistoryLemmas.{append-assoc, append-nil}
 use Rattle.run_laws.proofs.Sums.{sum_by}
 
@@ -23,7 +24,7 @@ pub notes-append : (f : Note → ℕ) (xs ys : Entries) → sum_notes f (xs ++ y
 notes-append f [] ys = omega arith
 notes-append f (x ∷ xs) ys = omega (arith, notes-append f xs ys)
 
--- what moves no region; P says which posts and closings there may be
+-- what moves no region; P says which posts, trims and closings there may be
 abbrev pub IsStill : (Object → Did → Type 0) → Object → Did → Type 0
 IsStill P o (Full class) = Unit {0}
 IsStill P o Miss = Unit {0}
@@ -32,6 +33,7 @@ IsStill P o (Handle place) = Unit {0}
 IsStill P o NoHandle = Unit {0}
 IsStill P o (Home place) = Unit {0}
 IsStill P o (Post parcel) = P o (Post parcel)
+IsStill P o (Trim quota) = P o (Trim quota)
 IsStill P o (Close quota) = P o (Close quota)
 IsStill P o (Fetch parcel) = Unit {0}
 IsStill P o (Set offset bytes) = Unit {0}

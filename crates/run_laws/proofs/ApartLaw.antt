@@ -13,9 +13,10 @@ use Rattle.pool_law.specs.Limits.{geometry_of}
 use Rattle.pool_law.specs.Same.{same_taking}
 use Rattle.pool_law.specs.Arenas.{Arena, new_arena, arena_step}
 use Rattle.pool_law.specs.Histories.{after, arena_after}
-use Rattle.pool_law.specs.Logs.{Logs, dids, log_of, history_of}
+use Rattle.pool_law.specs.Logs.{Logs, dids, of_lane, history_of}
 use Rattle.pool_law.specs.Legal.{HistoriesHold}
-use Rattle.pool_law.specs.Lives.{Done, arena_of, with_uses, Before, LieApart}
+use Rattle.pool_law.specs.Lives.{Done, arena_of, with_uses}
+use Rattle.pool_law.specs.Apart.{Before, LieApart}
 use Rattle.arena_law.specs.Returns.{gives}
 use Rattle.pool_law.proofs.SameLemmas.{same_region-is}
 use Rattle.pool_law.proofs.PatternLemmas.{same_taking-refl, both_true}
@@ -96,7 +97,7 @@ module _ (shape : Shape) (logs : Logs) (holds : HistoriesHold shape logs) (acts 
   pub done-at : (o : Object) (j : ℕ) (d : Did) → slice_get (dids (history_of o logs)) j ≡ Some d → (x : Done logs o d) × (x.number ≡ 1 + j)
   done-at o j d e =
       let l : (lane : ℕ) × (slice_get (history_of o logs) j ≡ Some (lane, d)) = dids-there (history_of o logs) j d e in
-      let n : (i : ℕ) × (slice_get (log_of logs l.0) i ≡ Some (At o (1 + j) d)) = in-log o logs (history_of o logs) (holds.whole o) l.0 j d l.1 in
+      let n : (i : ℕ) × (slice_get (of_lane logs l.0) i ≡ Some (At o (1 + j) d)) = in-log o logs (history_of o logs) (holds.whole o) l.0 j d l.1 in
       (record { lane = l.0; at = n.0; number = 1 + j; stands = n.1 }, refl)
 
   pub one-way : (number : ℕ) (a b : RegionId) (i j : ℕ) → number ≡ a.place.arena → number ≡ b.place.arena →

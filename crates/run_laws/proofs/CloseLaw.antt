@@ -10,21 +10,27 @@ use Rattle.pool_law.specs.declared.note.Note.{Note}
 use Rattle.pool_law.specs.declared.note.Note.TheVariants.{At, Ref, Busy}
 use Rattle.pool_law.specs.Same.{same_object, same_region}
 use Rattle.pool_law.specs.Limits.{cached_classes, cache_capacity}
-use Rattle.pool_law.specs.Logs.{Entry}
-use Rattle.pool_law.specs.Reading.{◌>>=◌, at_end}
 use Rattle.pool_law.specs.Caches.{Cache, new_cache, front_taken, after_hit, after_shed, is_empty, refusal_is, trim_quota, cache_step, is_own, lane_cache_step}
 use Rattle.pool_law.specs.Histories.{after, cache_after}
 use Rattle.run_laws.specs.CacheCounts.{total_by}
-use Rattle.pool_law.specs.Patterns.{Entries, next_at, give_back}
-use Rattle.pool_law.specs.LaneLaw.{shed_of, closed_with, sheds, close_cache, close_caches, closing}
+use Rattle.pool_law.specs.Dids as says
+use Rattle.pool_law.specs.Readers.{Entries, Log, note}
+use Rattle.pool_law.specs.Patterns.{give_back, sheds, drain}
+use Rattle.pool_law.specs.LaneStates.{new_lane, log_at}
+use Rattle.pool_law.specs.LaneLaw.{sweep_period, behind, note_counts, closes, IsLaneLog}
+use Rattle.pool_law.specs.declared.command.Command.{Command}
+use Rattle.pool_law.specs.declared.run.Shape.{Shape}
+use Rattle.pool_law.specs.declared.run.Answered.{Answered}
+use Rattle.arena_law.specs.Slots.{EachOf}
+use Rattle.pool_law.proofs.HistoryLemmas.{append-nil}
 use Rattle.run_laws.proofs.CacheLaw.{if_so-is, if-some, unless-some}
 use Rattle.run_laws.proofs.PlaceLaw.{if_so-test}
 use Rattle.pool_law.proofs.SameLemmas.{and-first, and-second}
 use Rattle.arena_law.proofs.GiveSteps.{IsOne}
 use Rattle.arena_law.proofs.ReturnLaw.{IsOne-front, IsOne-last}
 use Rattle.run_laws.proofs.Numbered.{at_object, plain}
-use Rattle.run_laws.proofs.Acts.{sum_notes, notes-append, IsOther, Less, less-acts, all_notes}
-use Rattle.run_laws.proofs.LaneActs.{bind-some, next_at-note, give_back-note, at_end-is, Parts, OfCommands}
+use Rattle.run_laws.proofs.Acts.{sum_notes, notes-append, IsOther, Less, less-acts, all_notes, Acts}
+use Rattle.run_laws.proofs.LaneActs.{bind-some, note-read, give_back-read, Chains, Keeps, TurnKeeps, keeps-turn, log-keeps, closes-is, answer_of-acts, not_carried_out-acts, commands-act, Sends, AnyNote, OfCommands, all-send, any-drain}
 use Rattle.pool_law.proofs.PatternLemmas.{same_object-refl}
 use Rattle.std.proofs.lemmas.Bool.{cond_both}
 
@@ -41,41 +47,43 @@ many-one zero = refl
 many-one (suc n) = omega (arith, many-one n)
 
 module _ (f : Note → ℕ) (gives : (o : Object) (k : ℕ) (r : RegionId) → f (At o k (Give r)) ≡ 0) where
-  pub give_back-sum : (r : RegionId) (es rest : Entries) → give_back r es ≡ Some rest → sum_notes f es ≡ sum_notes f rest
-  give_back-sum r es rest is =
-      let g = give_back-note r es rest is in
+  pub give_back-sum : (r : RegionId) (log : Log) (p : Unit {0} × Log) → give_back r log ≡ Some p → sum_notes f log.left ≡ sum_notes f p.1.left
+  give_back-sum r log p is =
+      let g = give_back-read r log p is in
       omega (arith, ap (sum_notes f) g.2, ap f g.3, gives (Object.Arena r.place.arena) g.1 r)
 
   module _ (lane class : ℕ) (w : ℕ) (shed : (k : ℕ) (r : RegionId) → f (At (Object.Cache lane class) k (Shed r)) ≡ w) where
-    pub sheds-sum : (n : ℕ) (es rest : Entries) → sheds lane class n es ≡ Some rest → sum_notes f es ≡ many n w + sum_notes f rest
-    sheds-sum zero es rest is = let same : es ≡ rest = cc is in omega (arith, ap (sum_notes f) same)
-    sheds-sum (suc n) es rest is =
-        let x : (x : Did × Entries) × (next_at (Object.Cache lane class) es ≡ Some x) × ((shed_of x.0 >>= (λ r. give_back r x.1 >>= (λ left. sheds lane class n left))) ≡ Some rest) = bind-some (next_at (Object.Cache lane class) es) (λ x. shed_of x.0 >>= (λ r. give_back r x.1 >>= (λ left. sheds lane class n left))) rest is in
-        let r : (r : RegionId) × (shed_of x.0.0 ≡ Some r) × ((give_back r x.0.1 >>= (λ left. sheds lane class n left)) ≡ Some rest) = bind-some (shed_of x.0.0) (λ r. give_back r x.0.1 >>= (λ left. sheds lane class n left)) rest x.2 in
-        let g : (left : Entries) × (give_back r.0 x.0.1 ≡ Some left) × (sheds lane class n left ≡ Some rest) = bind-some (give_back r.0 x.0.1) (λ left. sheds lane class n left) rest r.2 in
-        let e : (e : Entry) × (k : ℕ) × (es ≡ e ∷ x.0.1) × (e.note ≡ At (Object.Cache lane class) k x.0.0) = next_at-note (Object.Cache lane class) es x.0 x.1 in
-        omega (arith, ap (sum_notes f) e.2, ap f e.3, did x.0.0 e.1 r.0 r.1, give_back-sum r.0 x.0.1 g.0 g.1, sheds-sum n g.0 rest g.2)
+    pub sheds-sum : (n : ℕ) (log : Log) (p : Unit {0} × Log) → sheds lane class n log ≡ Some p → sum_notes f log.left ≡ many n w + sum_notes f p.1.left
+    sheds-sum zero log p is = let same : ◌≡◌ {A = Unit {0} × Log} (tt, log) p = cc is in omega (arith, ap (λ q. sum_notes f q.1.left) same)
+    sheds-sum (suc n) log p is =
+        let x = bind-some (note (Object.Cache lane class) says.shed log) _ p is in
+        let g = bind-some (give_back x.0.0 x.0.1) _ p x.2 in
+        let e = note-read (Object.Cache lane class) says.shed log x.0 x.1 in
+        omega (arith, ap (sum_notes f) e.are, ap f e.is, did e.did e.number x.0.0 e.said, give_back-sum x.0.0 x.0.1 g.0 g.1, sheds-sum n g.0.1 p g.2)
       where
-        did : (d : Did) (k : ℕ) (r : RegionId) → shed_of d ≡ Some r → f (At (Object.Cache lane class) k d) ≡ w
+        did : (d : Did) (k : ℕ) (r : RegionId) → says.shed d ≡ Some r → f (At (Object.Cache lane class) k d) ≡ w
         did (Shed x) k r e = shed k x
         did _ k r e = absurd (cc e)
 
-    pub closed-sum : (c : ℕ → ℕ) → ((k q : ℕ) → f (At (Object.Cache lane class) k (Close q)) ≡ c q) → (q : ℕ) (d : Did) (es mid rest : Entries) → next_at (Object.Cache lane class) es ≡ Some (d, mid) → closed_with d ≡ Some q → sheds lane class q mid ≡ Some rest →
-        sum_notes f es ≡ c q + (many q w + sum_notes f rest)
-    closed-sum c close q d es mid rest first with_q then_sheds =
-        let e : (e : Entry) × (k : ℕ) × (es ≡ e ∷ mid) × (e.note ≡ At (Object.Cache lane class) k d) = next_at-note (Object.Cache lane class) es (d, mid) first in
-        omega (arith, ap (sum_notes f) e.2, ap f e.3, did d e.1 q with_q, sheds-sum q mid rest then_sheds)
-      where
-        did : (d : Did) (k q : ℕ) → closed_with d ≡ Some q → f (At (Object.Cache lane class) k d) ≡ c q
-        did (Close x) k q e = let same : x ≡ q = cc e in close k x ∙ ap c same
-        did _ k q e = absurd (cc e)
+    pub drained-sum : (kind : Did → Option ℕ) (c : ℕ → ℕ) → ((d : Did) (k q : ℕ) → kind d ≡ Some q → f (At (Object.Cache lane class) k d) ≡ c q) → (log : Log) (x : ℕ × Log) (y : Unit {0} × Log) →
+        note (Object.Cache lane class) kind log ≡ Some x → sheds lane class x.0 x.1 ≡ Some y → sum_notes f log.left ≡ c x.0 + (many x.0 w + sum_notes f y.1.left)
+    drained-sum kind c did log x y first then_sheds =
+        let e = note-read (Object.Cache lane class) kind log x first in
+        omega (arith, ap (sum_notes f) e.are, ap f e.is, did e.did e.number x.0 e.said, sheds-sum x.0 x.1 y then_sheds)
 
--- how a cache is closed
-pub close_cache-is : (lane class : ℕ) (es rest : Entries) → close_cache lane class es ≡ Some rest → (q : ℕ) × (d : Did) × (mid : Entries) × (next_at (Object.Cache lane class) es ≡ Some (d, mid)) × (closed_with d ≡ Some q) × (sheds lane class q mid ≡ Some rest)
-close_cache-is lane class es rest is =
-    let x : (x : Did × Entries) × (next_at (Object.Cache lane class) es ≡ Some x) × ((closed_with x.0 >>= (λ q. sheds lane class q x.1)) ≡ Some rest) = bind-some (next_at (Object.Cache lane class) es) (λ x. closed_with x.0 >>= (λ q. sheds lane class q x.1)) rest is in
-    let q : (q : ℕ) × (closed_with x.0.0 ≡ Some q) × (sheds lane class q x.0.1 ≡ Some rest) = bind-some (closed_with x.0.0) (λ q. sheds lane class q x.0.1) rest x.2 in
-    (q.0, x.0.0, x.0.1, x.1, q.1, q.2)
+-- how the first cache is drained, and then the others
+pub record Drains (lane class : ℕ) (kind : Did → Option ℕ) (classes : List ℕ) (log : Log) (p : Unit {0} × Log) : Type 0 where
+  pub quota : ℕ × Log
+  pub shed : Unit {0} × Log
+  pub noted : note (Object.Cache lane class) kind log ≡ Some quota
+  pub sheds_it : sheds lane class quota.0 quota.1 ≡ Some shed
+  pub others : drain lane kind classes shed.1 ≡ Some p
+
+pub drain-is : (lane class : ℕ) (kind : Did → Option ℕ) (classes : List ℕ) (log : Log) (p : Unit {0} × Log) → drain lane kind (class ∷ classes) log ≡ Some p → Drains lane class kind classes log p
+drain-is lane class kind classes log p is =
+    let x = bind-some (note (Object.Cache lane class) kind log) _ p is in
+    let y = bind-some (sheds lane class x.0.0 x.0.1) _ p x.2 in
+    record { quota = x.0; shed = y.0; noted = x.1; sheds_it = y.1; others = y.2 }
 
 -- at one cache: what may be shed, and what is shed
 abbrev pub one : Bool → ℕ
@@ -102,41 +110,65 @@ pub many-if : (b : Bool) (q : ℕ) → (if b then q else 0) ≡ many q (if b the
 many-if true q = sym (many-one q)
 many-if false q = sym (many-none q)
 
-pub closing-even : (o : Object) (lane : ℕ) (classes : List ℕ) (es rest : Entries) → close_caches lane classes es ≡ Some rest →
-    sum_notes (at_object o (plain grant)) es + sum_notes (at_object o (plain shed_one)) rest ≡ sum_notes (at_object o (plain shed_one)) es + sum_notes (at_object o (plain grant)) rest
-closing-even o lane [] es rest is = let same : es ≡ rest = cc is in omega (arith, ap (sum_notes (at_object o (plain grant))) same, ap (sum_notes (at_object o (plain shed_one))) same)
-closing-even o lane (class ∷ classes) es rest is =
-    let x : (x : Entries) × (close_cache lane class es ≡ Some x) × (close_caches lane classes x ≡ Some rest) = bind-some (close_cache lane class es) (λ x. close_caches lane classes x) rest is in
-    let c : (q : ℕ) × (d : Did) × (mid : Entries) × (next_at (Object.Cache lane class) es ≡ Some (d, mid)) × (closed_with d ≡ Some q) × (sheds lane class q mid ≡ Some x.0) = close_cache-is lane class es x.0 x.1 in
-    let b : Bool = same_object o (Object.Cache lane class) in
-    let g : sum_notes (at_object o (plain grant)) es ≡ (if same_object o (Object.Cache lane class) then c.0 else 0) + (many c.0 0 + sum_notes (at_object o (plain grant)) x.0) =
-    closed-sum (at_object o (plain grant)) (λ other k r. zero-if (same_object o other)) lane class 0 (λ k r. zero-if (same_object o (Object.Cache lane class))) (λ q. if same_object o (Object.Cache lane class) then q else 0) (λ k q. refl) c.0 c.1 es c.2 x.0 c.3 c.4 c.5 in
-    let s : sum_notes (at_object o (plain shed_one)) es ≡ 0 + (many c.0 (if same_object o (Object.Cache lane class) then 1 else 0) + sum_notes (at_object o (plain shed_one)) x.0) =
-    closed-sum (at_object o (plain shed_one)) (λ other k r. zero-if (same_object o other)) lane class (if same_object o (Object.Cache lane class) then 1 else 0) (λ k r. refl) (λ q. 0) (λ k q. zero-if (same_object o (Object.Cache lane class))) c.0 c.1 es c.2 x.0 c.3 c.4 c.5 in
-    omega (arith, g, s, many-none c.0, many-if (same_object o (Object.Cache lane class)) c.0, closing-even o lane classes x.0 rest x.2)
+-- at an object: what may be shed is shed, between what was left before and what is left after
+abbrev pub Even : Object → Entries → Entries → Type 0
+Even o es rest =
+    sum_notes (at_object o (plain grant)) es + sum_notes (at_object o (plain shed_one)) rest
+    ≡ sum_notes (at_object o (plain shed_one)) es + sum_notes (at_object o (plain grant)) rest
 
-pub closing-closes : (lane class : ℕ) → same_object (Object.Cache lane class) (Object.Cache lane class) ≡ true → (classes : List ℕ) (es rest : Entries) → close_caches lane classes es ≡ Some rest → IsOne class classes →
-    1 ≤ sum_notes (at_object (Object.Cache lane class) (plain close_one)) es
-closing-closes lane class self [] es rest is one_of = absurd one_of
-closing-closes lane class self (other ∷ classes) es rest is one_of =
-    let x : (x : Entries) × (close_cache lane other es ≡ Some x) × (close_caches lane classes x ≡ Some rest) = bind-some (close_cache lane other es) (λ x. close_caches lane classes x) rest is in
-    let c : (q : ℕ) × (d : Did) × (mid : Entries) × (next_at (Object.Cache lane other) es ≡ Some (d, mid)) × (closed_with d ≡ Some q) × (sheds lane other q mid ≡ Some x.0) = close_cache-is lane other es x.0 x.1 in
-    let s : sum_notes (at_object (Object.Cache lane class) (plain close_one)) es ≡ (if same_object (Object.Cache lane class) (Object.Cache lane other) then 1 else 0) + (many c.0 0 + sum_notes (at_object (Object.Cache lane class) (plain close_one)) x.0) =
-    closed-sum (at_object (Object.Cache lane class) (plain close_one)) (λ o k r. zero-if (same_object (Object.Cache lane class) o)) lane other 0 (λ k r. zero-if (same_object (Object.Cache lane class) (Object.Cache lane other)))
-    (λ q. if same_object (Object.Cache lane class) (Object.Cache lane other) then 1 else 0) (λ k q. refl) c.0 c.1 es c.2 x.0 c.3 c.4 c.5 in
-    go one_of (many c.0 0) (sum_notes (at_object (Object.Cache lane class) (plain close_one)) es) (sum_notes (at_object (Object.Cache lane class) (plain close_one)) x.0) s (λ later. closing-closes lane class self classes x.0 rest x.2 later)
+pub even-chain : (o : Object) → Chains (Even o)
+even-chain o = record { none = λ es. omega arith; more = λ es mid rest a b. omega (arith, a, b); front = front }
   where
+    front : (es rest : Entries) → Even o es [] → Even o (es ++ rest) rest
+    front es rest a =
+        let same : sum_notes (at_object o (plain grant)) es + 0 ≡ sum_notes (at_object o (plain shed_one)) es + 0 = a in
+        omega (arith, same, notes-append (at_object o (plain grant)) es rest, notes-append (at_object o (plain shed_one)) es rest)
+
+-- what notes a quota grants it, and sheds nothing
+abbrev pub Grants : (Did → Option ℕ) → Type 0
+Grants kind = (d : Did) (q : ℕ) → kind d ≡ Some q → (grant d ≡ q) × (shed_one d ≡ 0)
+
+pub trim-grants : Grants says.trim
+trim-grants (Trim x) q e = (cc e, refl)
+trim-grants _ q e = absurd (cc e)
+
+pub close-grants : Grants says.close
+close-grants (Close x) q e = (cc e, refl)
+close-grants _ q e = absurd (cc e)
+
+pub drain-even : (o : Object) (lane : ℕ) (kind : Did → Option ℕ) → Grants kind → (classes : List ℕ) → Keeps (Even o) (drain lane kind classes)
+drain-even o lane kind grants [] log p is =
+    let same : ◌≡◌ {A = Unit {0} × Log} (tt, log) p = cc is in
+    subst (λ q. Even o log.left q.1.left) same ((even-chain o).none log.left)
+drain-even o lane kind grants (class ∷ classes) log p is =
+    let d = drain-is lane class kind classes log p is in
+    let g : sum_notes (at_object o (plain grant)) log.left ≡ (if same_object o (Object.Cache lane class) then d.quota.0 else 0) + (many d.quota.0 0 + sum_notes (at_object o (plain grant)) d.shed.1.left) =
+    drained-sum (at_object o (plain grant)) (λ other k r. zero-if (same_object o other)) lane class 0 (λ k r. zero-if (same_object o (Object.Cache lane class))) kind (λ q. if same_object o (Object.Cache lane class) then q else 0)
+    (λ x k q e. ap (λ n. if same_object o (Object.Cache lane class) then n else 0) (grants x q e).0) log d.quota d.shed d.noted d.sheds_it in
+    let s : sum_notes (at_object o (plain shed_one)) log.left ≡ 0 + (many d.quota.0 (if same_object o (Object.Cache lane class) then 1 else 0) + sum_notes (at_object o (plain shed_one)) d.shed.1.left) =
+    drained-sum (at_object o (plain shed_one)) (λ other k r. zero-if (same_object o other)) lane class (if same_object o (Object.Cache lane class) then 1 else 0) (λ k r. refl) kind (λ q. 0)
+    (λ x k q e. ap (λ n. if same_object o (Object.Cache lane class) then n else 0) (grants x q e).1 ∙ zero-if (same_object o (Object.Cache lane class))) log d.quota d.shed d.noted d.sheds_it in
+    omega (arith, g, s, many-none d.quota.0, many-if (same_object o (Object.Cache lane class)) d.quota.0, drain-even o lane kind grants classes d.shed.1 p d.others)
+
+pub closing-closes : (lane class : ℕ) → same_object (Object.Cache lane class) (Object.Cache lane class) ≡ true → (classes : List ℕ) (log : Log) (p : Unit {0} × Log) → drain lane says.close classes log ≡ Some p → IsOne class classes →
+    1 ≤ sum_notes (at_object (Object.Cache lane class) (plain close_one)) log.left
+closing-closes lane class self [] log p is one_of = absurd one_of
+closing-closes lane class self (other ∷ classes) log p is one_of =
+    let d = drain-is lane other says.close classes log p is in
+    let s : sum_notes (at_object (Object.Cache lane class) (plain close_one)) log.left ≡ (if same_object (Object.Cache lane class) (Object.Cache lane other) then 1 else 0) + (many d.quota.0 0 + sum_notes (at_object (Object.Cache lane class) (plain close_one)) d.shed.1.left) =
+    drained-sum (at_object (Object.Cache lane class) (plain close_one)) (λ o k r. zero-if (same_object (Object.Cache lane class) o)) lane other 0 (λ k r. zero-if (same_object (Object.Cache lane class) (Object.Cache lane other)))
+    says.close (λ q. if same_object (Object.Cache lane class) (Object.Cache lane other) then 1 else 0) closed log d.quota d.shed d.noted d.sheds_it in
+    go one_of (many d.quota.0 0) (sum_notes (at_object (Object.Cache lane class) (plain close_one)) log.left) (sum_notes (at_object (Object.Cache lane class) (plain close_one)) d.shed.1.left) s (λ later. closing-closes lane class self classes d.shed.1 p d.others later)
+  where
+    closed : (d : Did) (k q : ℕ) → says.close d ≡ Some q → at_object (Object.Cache lane class) (plain close_one) (At (Object.Cache lane other) k d) ≡ (if same_object (Object.Cache lane class) (Object.Cache lane other) then 1 else 0)
+    closed (Close x) k q e = refl
+    closed _ k q e = absurd (cc e)
+
     go : IsOne class (other ∷ classes) → (m n k : ℕ) → n ≡ (if same_object (Object.Cache lane class) (Object.Cache lane other) then 1 else 0) + (m + k) → (IsOne class classes → 1 ≤ k) → 1 ≤ n
     go (inl here) m n k s later =
         let test : same_object (Object.Cache lane class) (Object.Cache lane other) ≡ true = subst (λ c. same_object (Object.Cache lane class) (Object.Cache lane c) ≡ true) here self in
         omega (arith, s, ap one test)
     go (inr there) m n k s later = omega (arith, s, later there)
-
--- in a whole log: what may be shed at a cache is shed
-pub closing-rest : (lane : ℕ) (es : Entries) → closing lane es ≡ Some tt → close_caches lane (below cached_classes) es ≡ Some []
-closing-rest lane es is =
-    let x : (x : Entries) × (close_caches lane (below cached_classes) es ≡ Some x) × (at_end x ≡ Some tt) = bind-some (close_caches lane (below cached_classes) es) at_end tt is in
-    x.1 ∙ ap (λ y. Some y) (at_end-is x.0 tt x.2)
 
 pub grants-shed : (o : Object) → Less OfCommands (at_object o (plain grant)) (at_object o (plain shed_one)) × Less OfCommands (at_object o (plain shed_one)) (at_object o (plain grant))
 grants-shed o = (
@@ -152,12 +184,51 @@ grants-shed o = (
     other (Ref root d) is = refl
     other (Busy held) is = refl
 
-pub log-even : (o : Object) (lane : ℕ) (es : Entries) → Parts OfCommands lane es → sum_notes (at_object o (plain grant)) es ≡ sum_notes (at_object o (plain shed_one)) es
+-- what commands note before a sweep grants nothing and sheds nothing
+pub acts-even : (o : Object) (es rest : Entries) → Acts OfCommands es rest → Even o es rest
+acts-even o es rest a =
+    let front : Acts OfCommands (all_notes a.acts) [] = record { acts = a.acts; are = sym (append-nil (all_notes a.acts)) } in
+    let less : sum_notes (at_object o (plain grant)) (all_notes a.acts) ≤ sum_notes (at_object o (plain shed_one)) (all_notes a.acts) = less-acts OfCommands (at_object o (plain grant)) (at_object o (plain shed_one)) (grants-shed o).0 (all_notes a.acts) [] front (omega arith) in
+    let more : sum_notes (at_object o (plain shed_one)) (all_notes a.acts) ≤ sum_notes (at_object o (plain grant)) (all_notes a.acts) = less-acts OfCommands (at_object o (plain shed_one)) (at_object o (plain grant)) (grants-shed o).1 (all_notes a.acts) [] front (omega arith) in
+    omega (
+      arith,
+      less,
+      more,
+      ap (sum_notes (at_object o (plain grant))) a.are,
+      ap (sum_notes (at_object o (plain shed_one))) a.are,
+      notes-append (at_object o (plain grant)) (all_notes a.acts) rest,
+      notes-append (at_object o (plain shed_one)) (all_notes a.acts) rest,
+    )
+
+pub turns-even : (o : Object) (shape : Shape) (lane : ℕ) (cs : List Command) → EachOf (Sends OfCommands) cs → EachOf (TurnKeeps (even-chain o) shape lane) cs
+turns-even o shape lane [] near = tt
+turns-even o shape lane (c ∷ cs) near =
+    ((λ s. keeps-turn (even-chain o) sweep_period shape lane s c (λ log p is. acts-even o log.left p.1.left (answer_of-acts OfCommands shape lane s c near.0 log p is)) (drain-even o lane says.trim trim-grants (below cached_classes)), λ log p is. acts-even o log.left p.1.left (not_carried_out-acts OfCommands lane c near.0 log p is)), turns-even o shape lane cs near.1)
+
+-- a log is what the commands note, with their sweeps, and then the closing of the caches
+pub record Parts (lane : ℕ) (es : Entries) : Type 0 where
+  pub last : Entries
+  pub first : Acts AnyNote es last
+  pub even : (o : Object) → Even o es last
+  pub closed : closes lane last ≡ Some tt
+
+pub log-parts : (shape : Shape) (lane : ℕ) (commands : List Command) (replies : List Answered) (es : Entries) → IsLaneLog shape lane commands replies es → Parts lane es
+log-parts shape lane commands replies es log =
+    record {
+      last = behind (note_counts replies) es;
+      first = commands-act AnyNote any-drain shape lane commands replies es (all-send commands).0 log;
+      even = λ o. log-keeps (even-chain o) shape lane commands replies es (turns-even o shape lane commands (all-send commands).1) log;
+      closed = log.closed;
+    }
+
+-- in a whole log: what may be shed at a cache is shed
+pub log-even : (o : Object) (lane : ℕ) (es : Entries) → Parts lane es → sum_notes (at_object o (plain grant)) es ≡ sum_notes (at_object o (plain shed_one)) es
 log-even o lane es p =
-    let e : sum_notes (at_object o (plain grant)) p.last + 0 ≡ sum_notes (at_object o (plain shed_one)) p.last + 0 = closing-even o lane (below cached_classes) p.last [] (closing-rest lane p.last p.closes) in
-    let less : sum_notes (at_object o (plain grant)) es ≤ sum_notes (at_object o (plain shed_one)) es = less-acts OfCommands (at_object o (plain grant)) (at_object o (plain shed_one)) (grants-shed o).0 es p.last p.first (omega (arith, e)) in
-    let more : sum_notes (at_object o (plain shed_one)) es ≤ sum_notes (at_object o (plain grant)) es = less-acts OfCommands (at_object o (plain shed_one)) (at_object o (plain grant)) (grants-shed o).1 es p.last p.first (omega (arith, e)) in
-    omega (arith, less, more)
+    let x = closes-is lane p.last p.closed in
+    let e = drain-even o lane says.close close-grants (below cached_classes) (log_at new_lane p.last) x.0 x.1 in
+    let g : sum_notes (at_object o (plain grant)) x.0.1.left ≡ 0 = ap (sum_notes (at_object o (plain grant))) x.2 in
+    let s : sum_notes (at_object o (plain shed_one)) x.0.1.left ≡ 0 = ap (sum_notes (at_object o (plain shed_one))) x.2 in
+    omega (arith, e, g, s, p.even o)
 
 pub below-has : (n class : ℕ) → class < n → IsOne class (below n)
 below-has zero class h = absurd (omega arith)
@@ -170,13 +241,14 @@ below-has (suc n) class h = go (class == n) refl (λ less. below-has n class les
         less : (a b : ℕ) → a < suc b → a ≢ b → a < b
         less a b h ne = grind arith
 
-pub log-closes : (lane class : ℕ) (es : Entries) → Parts OfCommands lane es → class < cached_classes → 1 ≤ sum_notes (at_object (Object.Cache lane class) (plain close_one)) es
+pub log-closes : (lane class : ℕ) (es : Entries) → Parts lane es → class < cached_classes → 1 ≤ sum_notes (at_object (Object.Cache lane class) (plain close_one)) es
 log-closes lane class es p low =
+    let x = closes-is lane p.last p.closed in
     omega (
       arith,
       ap (sum_notes (at_object (Object.Cache lane class) (plain close_one))) p.first.are,
       notes-append (at_object (Object.Cache lane class) (plain close_one)) (all_notes p.first.acts) p.last,
-      closing-closes lane class (same_object-refl (Object.Cache lane class)) (below cached_classes) p.last [] (closing-rest lane p.last p.closes) (below-has cached_classes class low),
+      closing-closes lane class (same_object-refl (Object.Cache lane class)) (below cached_classes) (log_at new_lane p.last) x.0 x.1 (below-has cached_classes class low),
     )
 
 -- what a note does to a cache

@@ -8,7 +8,7 @@ use Rattle.pool_law.specs.declared.note.RefDid.TheVariants.{Born, Retain, Ended,
 use Rattle.pool_law.specs.declared.note.Note.{Note}
 use Rattle.pool_law.specs.declared.note.Note.TheVariants.{At, Ref, Busy}
 use Rattle.pool_law.specs.Same.{same_root}
-use Rattle.pool_law.specs.Logs.{Entry, log_of}
+use Rattle.pool_law.specs.Logs.{Entry, of_lane}
 use Rattle.pool_law.specs.Counts.{view_is_of, root_is, ref_gains, ref_loses, ref_needs, note_gains, note_loses, note_needs, count_step, count_from, CountsHold, count_in, count_over, is_retain, is_release, is_born, TotalHolds}
 use Rattle.run_laws.specs.CountLaw.{is_posted, is_fetched, counts_of, TotalIsCounted}
 
@@ -109,7 +109,7 @@ abbrev pub EachLane : RootId → List (List Entry) → Type 0
 EachLane root [] = Unit {0}
 EachLane root (es ∷ logs) = CountsHold root 0 es × EachLane root logs
 
-pub each-lane : (root : RootId) (logs : List (List Entry)) → ((lane : ℕ) → CountsHold root 0 (log_of logs lane)) → EachLane root logs
+pub each-lane : (root : RootId) (logs : List (List Entry)) → ((lane : ℕ) → CountsHold root 0 (of_lane logs lane)) → EachLane root logs
 each-lane root [] h = tt
 each-lane root (es ∷ logs) h = (h 0, each-lane root logs (λ lane. h (suc lane)))
 
@@ -119,5 +119,5 @@ sums root [] h = refl
 sums root (es ∷ logs) h = omega (arith, count-balances root 0 es h.0, gained-in root es, lost-in root es, sums root logs h.1)
 
 -- the total is what the lanes count, with what is posted and not fetched
-pub total-is_counted : (root : RootId) (logs : List (List Entry)) → ((lane : ℕ) → CountsHold root 0 (log_of logs lane)) → TotalHolds root logs → TotalIsCounted root logs
+pub total-is_counted : (root : RootId) (logs : List (List Entry)) → ((lane : ℕ) → CountsHold root 0 (of_lane logs lane)) → TotalHolds root logs → TotalIsCounted root logs
 total-is_counted root logs h t = omega (arith, sums root logs (each-lane root logs h), t.born_once, t.never_below)

@@ -1,6 +1,6 @@
 -- At the end of a run: caches are empty, and a root has ended exactly where its total is 0.
-use Rattle.std.proofs.Common.{⊎_elim, inl, inr, ◌≡◌, ℕ, ◌+◌, ◌≤◌, List, [], ◌∷◌, length, refl, sym, ap, subst, arith, Bool, true, false, Some, ◌∙◌}
-use Rattle.std.specs.Prelude.{◌⊎◌, ◌<◌, not, if◌then◌else◌, map, slice_get}
+use Rattle.std.proofs.Common.{⊎_elim, ◌≡◌, ℕ, ◌+◌, ◌≤◌, List, [], ◌∷◌, length, refl, sym, ap, arith, Bool, true, false, Some, ◌∙◌}
+use Rattle.std.specs.Prelude.{◌<◌, not, if◌then◌else◌, map, slice_get}
 use Rattle.pool_law.specs.declared.id.RootId.{RootId}
 use Rattle.pool_law.specs.declared.id.RegionId.{RegionId}
 use Rattle.pool_law.specs.declared.note.Object.{Object}
@@ -11,30 +11,27 @@ use Rattle.pool_law.specs.declared.note.Note.{Note}
 use Rattle.pool_law.specs.declared.note.Note.TheVariants.{At, Ref, Busy}
 use Rattle.pool_law.specs.declared.run.Shape.{Shape}
 use Rattle.pool_law.specs.Limits.{cached_classes, has_cache}
-use Rattle.pool_law.specs.Same.{same_root, same_region}
+use Rattle.pool_law.specs.Same.{same_root}
 use Rattle.pool_law.specs.Caches.{Cache}
 use Rattle.pool_law.specs.Histories.{cache_after}
-use Rattle.pool_law.specs.Logs.{Logs, dids, log_of, history_of, entry_of, entries_of}
+use Rattle.pool_law.specs.Logs.{Logs, dids, of_lane, history_of, entry_of, entries_of}
 use Rattle.pool_law.specs.Legal.{HistoriesHold, CountsAgree}
-use Rattle.pool_law.specs.Lives.{Use, Done, cache_of, arena_of}
-use Rattle.run_laws.specs.Conserved.{total_in, PutAway, ReturnsOnce}
+use Rattle.pool_law.specs.Lives.{IsUse, Done}
+use Rattle.run_laws.specs.Conserved.{total_in}
 use Rattle.run_laws.specs.CacheCounts.{one_of, total_by}
 use Rattle.pool_law.specs.Counts.{count_in, count_over, ends_root, is_birth, is_born, TotalHolds}
-use Rattle.run_laws.specs.HandCounts.{one_same, ended_by, kept_by}
+use Rattle.run_laws.specs.HandCounts.{one_same, ended_by}
 use Rattle.run_laws.proofs.LogEntries.{entry-note, LanesAct, log-most, sum-entries, log-past, logs-less, sums-less}
-use Rattle.run_laws.proofs.Acts.{PutsAway, IsOther, Less}
-use Rattle.run_laws.proofs.LaneActs.{Parts, AnyNote, OfCommands}
+use Rattle.run_laws.proofs.Acts.{IsOther, Less}
+use Rattle.run_laws.proofs.LaneActs.{AnyNote}
 use Rattle.run_laws.proofs.Together.{EndHere, note-together}
-use Rattle.pool_law.proofs.SameLemmas.{same_region-is, same_root-is}
+use Rattle.pool_law.proofs.SameLemmas.{same_root-is}
 use Rattle.pool_law.proofs.PatternLemmas.{same_root-refl, same_region-refl}
 use Rattle.run_laws.proofs.Sums.{below-or, over-none, sum_by, sum_over, over-at, over-one, over-found}
 use Rattle.run_laws.proofs.Numbered.{plain, total-plain, at_object, regroup}
-use Rattle.run_laws.proofs.Placed.{total-found, one-of-true}
-use Rattle.run_laws.proofs.Totals.{note_tally, ends_in, note-placed, keeps_in, gives_in, sheds_of, kept-total, put-down, ends-born}
-use Rattle.run_laws.proofs.LifeLaw.{end-use, born-most}
-use Rattle.run_laws.proofs.CloseLaw.{grant, shed_one, close_one, log-even, log-closes, ends-empty}
-use Rattle.run_laws.proofs.LifeOrder.{given-counts}
-use Rattle.run_laws.proofs.ApartLaw.{done-at}
+use Rattle.run_laws.proofs.Totals.{note_tally, ends_in, note-placed}
+use Rattle.run_laws.proofs.LifeLaw.{end-use}
+use Rattle.run_laws.proofs.CloseLaw.{Parts, grant, shed_one, close_one, log-even, log-closes, ends-empty}
 
 abbrev pub one : Bool → ℕ
 one b = if b then 1 else 0
@@ -106,22 +103,22 @@ uncached-less = record { other = other; birth = λ o k r x. omega arith; end = �
     other _ is = omega arith
 
 module _ (shape : Shape) (logs : Logs) (holds : HistoriesHold shape logs) (acts : LanesAct logs)
-    (parts : (lane : ℕ) → lane < length logs → Parts OfCommands lane (map (entry_of logs) (log_of logs lane))) where
+    (parts : (lane : ℕ) → lane < length logs → Parts lane (map (entry_of logs) (of_lane logs lane))) where
   pub even-over : (o : Object) → sum_over (at_object o (plain grant)) logs ≡ sum_over (at_object o (plain shed_one)) logs
   even-over o =
       let less : sum_over (at_object o (plain grant)) logs ≤ sum_over (at_object o (plain shed_one)) logs = logs-less (at_object o (plain grant)) (at_object o (plain shed_one)) logs (λ lane. omega (arith, lanes lane)) in
       let more : sum_over (at_object o (plain shed_one)) logs ≤ sum_over (at_object o (plain grant)) logs = logs-less (at_object o (plain shed_one)) (at_object o (plain grant)) logs (λ lane. omega (arith, lanes lane)) in
       omega (arith, less, more)
     where
-      lanes : (lane : ℕ) → sum_by (at_object o (plain grant)) (log_of logs lane) ≡ sum_by (at_object o (plain shed_one)) (log_of logs lane)
+      lanes : (lane : ℕ) → sum_by (at_object o (plain grant)) (of_lane logs lane) ≡ sum_by (at_object o (plain shed_one)) (of_lane logs lane)
       lanes lane =
           ⊎_elim
           (λ low.
           omega (
             arith,
-            sum-entries logs (at_object o (plain grant)) (log_of logs lane),
-            sum-entries logs (at_object o (plain shed_one)) (log_of logs lane),
-            log-even o lane (map (entry_of logs) (log_of logs lane)) (parts lane low),
+            sum-entries logs (at_object o (plain grant)) (of_lane logs lane),
+            sum-entries logs (at_object o (plain shed_one)) (of_lane logs lane),
+            log-even o lane (map (entry_of logs) (of_lane logs lane)) (parts lane low),
           ))
           (λ high. ap (sum_by (at_object o (plain grant))) (log-past logs lane high) ∙ sym (ap (sum_by (at_object o (plain shed_one))) (log-past logs lane high)))
           (below-or lane (length logs))
@@ -135,8 +132,8 @@ module _ (shape : Shape) (logs : Logs) (holds : HistoriesHold shape logs) (acts 
         arith,
         sym (at (Object.Cache lane class) close_one),
         log-most (at_object (Object.Cache lane class) (plain close_one)) logs lane,
-        sum-entries logs (at_object (Object.Cache lane class) (plain close_one)) (log_of logs lane),
-        log-closes lane class (map (entry_of logs) (log_of logs lane)) (parts lane low) cached,
+        sum-entries logs (at_object (Object.Cache lane class) (plain close_one)) (of_lane logs lane),
+        log-closes lane class (map (entry_of logs) (of_lane logs lane)) (parts lane low) cached,
       ))
     where
       at : (o : Object) (f : Did → ℕ) → sum_over (at_object o (plain f)) logs ≡ total_by f (dids (history_of o logs))
@@ -154,14 +151,14 @@ module _ (shape : Shape) (logs : Logs) (holds : HistoriesHold shape logs) (acts 
   pub ends-over : (root : RootId) → count_over (ends_root root) (entries_of logs) ≡ sum_over (end_weight root) logs
   ends-over root = count-notes (ends_root root) logs ∙ sums-alike logs acts (ended_weight root) (end_weight root) (ended-alike root)
 
-  pub kept-cached : (lane i k : ℕ) (o : Object) (r : RegionId) → slice_get (log_of logs lane) i ≡ Some (At o k (Kept r)) → has_cache r.class ≡ true
+  pub kept-cached : (lane i k : ℕ) (o : Object) (r : RegionId) → slice_get (of_lane logs lane) i ≡ Some (At o k (Kept r)) → has_cache r.class ≡ true
   kept-cached lane i k o r is = go (has_cache r.class) refl
     where
       go : (b : Bool) → has_cache r.class ≡ b → has_cache r.class ≡ true
       go true e = e
       go false e = absurd (omega (arith, ap (λ b. one (not b)) e, over-at uncached logs lane i (At o k (Kept r)) is, sums-less logs acts uncached (λ n. 0) uncached-less, over-none logs))
 
-  pub birth-counts : (root : RootId) (r : RegionId) → Use logs root r → 0 < count_over (is_birth root) (entries_of logs)
+  pub birth-counts : (root : RootId) (r : RegionId) → IsUse logs root r → 0 < count_over (is_birth root) (entries_of logs)
   birth-counts root r u =
       let weight : one (is_birth root (At (Object.Root root.place) u.number (Birth root r))) ≡ 1 = ap one (same_root-refl root) in
       omega (arith, count-notes (is_birth root) logs, over-at (λ n. one (is_birth root n)) logs u.lane u.at (At (Object.Root root.place) u.number (Birth root r)) u.birth, weight)
@@ -178,94 +175,64 @@ module _ (shape : Shape) (logs : Logs) (holds : HistoriesHold shape logs) (acts 
 
   pub end-found : (root : RootId) → 1 ≤ sum_over (end_weight root) logs → Done logs (Object.Root root.place) (End root)
   end-found root h =
-      let f : (lane : ℕ) × (i : ℕ) × (n : Note) × (slice_get (log_of logs lane) i ≡ Some n) × (1 ≤ end_weight root n) = over-found (end_weight root) logs h in
+      let f : (lane : ℕ) × (i : ℕ) × (n : Note) × (slice_get (of_lane logs lane) i ≡ Some n) × (1 ≤ end_weight root n) = over-found (end_weight root) logs h in
       let e : (o : Object) × (k : ℕ) × (f.2 ≡ At o k (End root)) = end-note root f.2 f.4 in
-      let is : slice_get (log_of logs f.0) f.1 ≡ Some (At e.0 e.1 (End root)) = f.3 ∙ ap (λ x. Some x) e.2 in
+      let is : slice_get (of_lane logs f.0) f.1 ≡ Some (At e.0 e.1 (End root)) = f.3 ∙ ap (λ x. Some x) e.2 in
       let here : e.0 ≡ Object.Root root.place = note-placed shape logs holds acts f.0 f.1 e.1 e.0 (End root) is in
       record { lane = f.0; at = f.1; number = e.1; stands = is ∙ ap (λ x. Some (At x e.1 (End root))) here }
 
   pub end-counts : (root : RootId) → Done logs (Object.Root root.place) (End root) → 1 ≤ sum_over (end_weight root) logs
   end-counts root d = omega (arith, over-at (end_weight root) logs d.lane d.at (At (Object.Root root.place) d.number (End root)) d.stands, ap one (same_root-refl root))
 
-  -- what was kept and came back was shed
-  pub shed-between : (r : RegionId) → Done logs (cache_of r) (Kept r) → Done logs (arena_of r) (Give r) → Done logs (cache_of r) (Shed r)
-  shed-between r k g =
-      let kept : 1 ≤ keeps_in logs r = omega (arith, over-at (note_tally logs (kept_by r)) logs k.lane k.at (At (cache_of r) k.number (Kept r)) k.stands, kept-total shape logs holds acts r, ap one_of (same_region-refl r)) in
-      let given : 1 ≤ gives_in logs r = given-counts shape logs holds acts r g in
-      let f : (i : ℕ) × (d : Did) × (slice_get (dids (history_of (cache_of r) logs)) i ≡ Some d) × (1 ≤ sheds_of r d) = total-found (sheds_of r) (dids (history_of (cache_of r) logs))
-      (omega (arith, kept, given, put-down shape logs holds acts r, ends-born shape logs holds acts r, born-most shape logs holds acts r.uses r)) in
-      (done-at shape logs holds acts (cache_of r) f.0 (Shed r) (f.2 ∙ ap (λ x. Some x) (shed_is f.1 f.3))).0
-    where
-      shed_is : (d : Did) → 1 ≤ sheds_of r d → d ≡ Shed r
-      shed_is (Shed x) h = ap (λ y. Shed y) (sym (same_region-is r x (one-of-true (same_region r x) h)))
-      shed_is _ h = absurd (omega (arith, h))
-
   module _ (counts : CountsAgree (entries_of logs)) where
-    pub dead-ended : (root : RootId) (r : RegionId) → Use logs root r → total_in logs root ≡ 0 → Done logs (Object.Root root.place) (End root)
+    pub dead-ended : (root : RootId) (r : RegionId) → IsUse logs root r → total_in logs root ≡ 0 → Done logs (Object.Root root.place) (End root)
     dead-ended root r u dead =
         let t : TotalHolds root (entries_of logs) = counts.totals root (birth-counts root r u) in
         let once : count_over (ends_root root) (entries_of logs) ≡ 1 = t.ends_at_zero.1 dead in
         end-found root (omega (arith, once, ends-over root))
 
-    pub ends-most : (root : RootId) (r : RegionId) → Use logs root r → sum_over (end_weight root) logs ≤ 1
+    pub ends-most : (root : RootId) (r : RegionId) → IsUse logs root r → sum_over (end_weight root) logs ≤ 1
     ends-most root r u = omega (arith, (counts.totals root (birth-counts root r u)).ends_once, ends-over root)
 
-    pub ended-dead : (root : RootId) (r : RegionId) → Use logs root r → Done logs (Object.Root root.place) (End root) → total_in logs root ≡ 0
+    pub ended-dead : (root : RootId) (r : RegionId) → IsUse logs root r → Done logs (Object.Root root.place) (End root) → total_in logs root ≡ 0
     ended-dead root r u d =
         let t : TotalHolds root (entries_of logs) = counts.totals root (birth-counts root r u) in
         t.ends_at_zero.0 (omega (arith, end-counts root d, ends-most root r u, ends-over root))
 
-    pub end-one : (root : RootId) (r : RegionId) → Use logs root r → (a b : Done logs (Object.Root root.place) (End root)) → a.number ≡ b.number
+    pub end-one : (root : RootId) (r : RegionId) → IsUse logs root r → (a b : Done logs (Object.Root root.place) (End root)) → a.number ≡ b.number
     end-one root r u a b =
         let notes : At (Object.Root root.place) a.number (End root) ≡ At (Object.Root root.place) b.number (End root) =
         over-one (end_weight root) logs a.lane b.lane a.at b.at (At (Object.Root root.place) a.number (End root)) (At (Object.Root root.place) b.number (End root)) a.stands b.stands (ends-most root r u) (omega (arith, ap one (same_root-refl root))) (omega (arith, ap one (same_root-refl root))) in
         cc notes
 
     -- a root is born once, so with one region
-    pub births-most : (root : RootId) (r : RegionId) → Use logs root r → sum_over (birth_weight root) logs ≤ 1
+    pub births-most : (root : RootId) (r : RegionId) → IsUse logs root r → sum_over (birth_weight root) logs ≤ 1
     births-most root r u = omega (arith, sums-alike logs acts (birth_weight root) (born_weight root) (birth-alike root), count-notes (λ n. is_born root n) logs, (counts.totals root (birth-counts root r u)).born_once)
 
-    pub use-region : (root : RootId) (a b : RegionId) → Use logs root a → Use logs root b → a ≡ b
+    pub use-region : (root : RootId) (a b : RegionId) → IsUse logs root a → IsUse logs root b → a ≡ b
     use-region root a b u v =
         let notes : At (Object.Root root.place) u.number (Birth root a) ≡ At (Object.Root root.place) v.number (Birth root b) =
         over-one (birth_weight root) logs u.lane v.lane u.at v.at (At (Object.Root root.place) u.number (Birth root a)) (At (Object.Root root.place) v.number (Birth root b)) u.birth v.birth (births-most root a u) (omega (arith, ap one (same_root-refl root))) (omega (arith, ap one (same_root-refl root))) in
         cc notes
 
-    -- after an end of a root its region is put away
-    pub record EndAway (root : RootId) (r : RegionId) : Type 0 where
+    -- an end of a root takes out its region
+    pub record EndOut (root : RootId) (r : RegionId) : Type 0 where
       pub end : Done logs (Object.Root root.place) (End root)
       pub out : (entry_of logs (At (Object.Root root.place) end.number (End root))).region ≡ Some r
-      pub away : PutAway logs root r
 
-    pub end-away : (root : RootId) (r : RegionId) → Use logs root r → Done logs (Object.Root root.place) (End root) → EndAway root r
-    end-away root r u d =
-        let lane : ℕ = d.lane in
+    pub end-out : (root : RootId) (r : RegionId) → IsUse logs root r → Done logs (Object.Root root.place) (End root) → EndOut root r
+    end-out root r u d =
         let h : EndHere logs d.lane root = note-together logs d.lane (acts d.lane) d.at (At (Object.Root root.place) d.number (End root)) d.stands in
         let placed : h.object ≡ Object.Root root.place = note-placed shape logs holds acts d.lane h.end h.number h.object (End root) h.end_is in
-        let end : Done logs (Object.Root root.place) (End root) = record { lane = d.lane; at = h.end; number = h.number; stands = h.end_is ∙ ap (λ o. Some (At o h.number (End root))) placed } in
         let region : h.region ≡ r = use-region root h.region r (end-use shape logs holds acts d.lane h.end h.number h.object root h.region h.end_is h.out).0 u in
         record {
-          end = end;
+          end = record { lane = d.lane; at = h.end; number = h.number; stands = h.end_is ∙ ap (λ o. Some (At o h.number (End root))) placed };
           out = ap (λ o. (entry_of logs (At o h.number (End root))).region) (sym placed) ∙ h.out ∙ ap (λ x. Some x) region;
-          away = record { ended = end; away = go h.did (subst (λ x. PutsAway x h.did) region h.puts_away) h.away_object h.away_number d.lane h.away h.end h.away_is (omega (arith, h.after_end, h.after_vacated)) };
         }
-      where
-        go : (did : Did) → PutsAway r did → (o : Object) (k lane away end : ℕ) → slice_get (log_of logs lane) away ≡ Some (At o k did) → end < away →
-            ((kept : Done logs (cache_of r) (Kept r)) × (kept.lane ≡ lane) × (end < kept.at)) ⊎ ((given : Done logs (arena_of r) (Give r)) × (given.lane ≡ lane) × (end < given.at))
-        go (Kept x) puts o k lane away end is order =
-            let here : o ≡ cache_of x = note-placed shape logs holds acts lane away k o (Kept x) is in
-            inl (record { lane = lane; at = away; number = k; stands = is ∙ ap (λ y. Some (At y k (Kept x))) here ∙ ap (λ y. Some (At (cache_of y) k (Kept y))) puts.0 }, refl, order)
-        go (Give x) puts o k lane away end is order =
-            let here : o ≡ arena_of x = note-placed shape logs holds acts lane away k o (Give x) is in
-            inr (record { lane = lane; at = away; number = k; stands = is ∙ ap (λ y. Some (At y k (Give x))) here ∙ ap (λ y. Some (At (arena_of y) k (Give y))) puts }, refl, order)
-        go _ puts o k lane away end is order = absurd puts
 
     -- an end of a root with the region counts among its ends
-    pub end-in : (root : RootId) (r : RegionId) → Use logs root r → Done logs (Object.Root root.place) (End root) → 1 ≤ ends_in logs r
+    pub end-in : (root : RootId) (r : RegionId) → IsUse logs root r → Done logs (Object.Root root.place) (End root) → 1 ≤ ends_in logs r
     end-in root r u d =
-        let e : EndAway root r = end-away root r u d in
+        let e : EndOut root r = end-out root r u d in
         let weight : note_tally logs (ended_by r) (At (Object.Root root.place) e.end.number (End root)) ≡ 1 = ap (one_same r) e.out ∙ ap one_of (same_region-refl r) in
         omega (arith, over-at (note_tally logs (ended_by r)) logs e.end.lane e.end.at (At (Object.Root root.place) e.end.number (End root)) e.end.stands, weight)
-
-    pub returns-once : (root : RootId) (r : RegionId) → Use logs root r → ReturnsOnce logs root r
-    returns-once root r u = record { exactly = (λ away. ended-dead root r u away.ended, λ dead. (end-away root r u (dead-ended root r u dead)).away); once = end-one root r u; shed_between = shed-between r }

@@ -11,8 +11,9 @@ use Rattle.pool_law.specs.declared.note.Note.TheVariants.{At, Ref, Busy}
 use Rattle.pool_law.specs.declared.run.Shape.{Shape}
 use Rattle.pool_law.specs.declared.run.Answered.{Answered}
 use Rattle.pool_law.specs.Logs.{Entry}
-use Rattle.pool_law.specs.Reading.{◌>>=◌}
-use Rattle.pool_law.specs.Patterns.{Entries, one_more}
+use Rattle.pool_law.specs.Options.{◌>>=◌}
+use Rattle.pool_law.specs.Readers.{Entries}
+use Rattle.pool_law.specs.Patterns.{one_more}
 use Rattle.pool_law.specs.LaneLaw.{IsLaneLog}
 use Rattle.run_laws.specs.Hands.{did_of, Source, Got, Ended, Dropped, Hand, hand_if, hand_step, hand_after}
 use Rattle.pool_law.proofs.PatternLemmas.{same_region-refl}

@@ -6,7 +6,8 @@ use Rattle.pool_law.specs.declared.note.Did.{Did}
 use Rattle.pool_law.specs.declared.note.Did.TheVariants.{Take, Give, Hit, Kept, Shed, Birth, End}
 use Rattle.pool_law.specs.Same.{same_taking, same_region}
 use Rattle.run_laws.specs.CacheCounts.{one_of}
-use Rattle.pool_law.specs.Patterns.{Entries, one_more}
+use Rattle.pool_law.specs.Readers.{Entries}
+use Rattle.pool_law.specs.Patterns.{one_more}
 use Rattle.run_laws.specs.Hands.{did_of, Got, Ended, Dropped, Hand, hand_by, hand_if, hand_step, hand_after}
 use Rattle.run_laws.specs.HandCounts.{tally_if, tally, got_by, used_by, ended_by, shed_by, kept_by, given_by, HandsBalance}
 use Rattle.run_laws.proofs.LaneActs.{bind-some}

@@ -11,9 +11,9 @@ use Rattle.pool_law.specs.declared.run.Shape.{Shape}
 use Rattle.pool_law.specs.Same.{same_taking, same_region}
 use Rattle.pool_law.specs.Roots.{RootPlace, Present}
 use Rattle.pool_law.specs.Histories.{place_after}
-use Rattle.pool_law.specs.Logs.{Logs, History, dids, log_of, history_of, entry_of, present_in, present_before}
+use Rattle.pool_law.specs.Logs.{Logs, History, dids, of_lane, history_of, entry_of, present_in, present_before}
 use Rattle.pool_law.specs.Legal.{HistoriesHold}
-use Rattle.pool_law.specs.Lives.{Use, Done, with_uses}
+use Rattle.pool_law.specs.Lives.{IsUse, Done, with_uses}
 use Rattle.run_laws.specs.CacheCounts.{one_of}
 use Rattle.pool_law.specs.Patterns.{one_more}
 use Rattle.run_laws.specs.Hands.{Got}
@@ -45,7 +45,7 @@ same_taking-uses a b e =
 
 module _ (shape : Shape) (logs : Logs) (holds : HistoriesHold shape logs) (acts : LanesAct logs) where
   -- a birth in a log is a use, and counts
-  pub birth-use : (lane i k : ℕ) (o : Object) (root : RootId) (r : RegionId) → slice_get (log_of logs lane) i ≡ Some (At o k (Birth root r)) → Use logs root r
+  pub birth-use : (lane i k : ℕ) (o : Object) (root : RootId) (r : RegionId) → slice_get (of_lane logs lane) i ≡ Some (At o k (Birth root r)) → IsUse logs root r
   birth-use lane i k o root r is =
       let here : o ≡ Object.Root root.place = note-placed shape logs holds acts lane i k o (Birth root r) is in
       record { lane = lane; at = i; number = k; birth = is ∙ ap (λ x. Some (At x k (Birth root r))) here }
@@ -53,7 +53,7 @@ module _ (shape : Shape) (logs : Logs) (holds : HistoriesHold shape logs) (acts 
   birth-weight : (root : RootId) (k : ℕ) (r x : RegionId) → same_region r x ≡ true → 1 ≤ note_tally logs (born_by r) (At (Object.Root root.place) k (Birth root x))
   birth-weight root k r x e = omega (arith, ap one_of e)
 
-  pub use-counts : (root : RootId) (r : RegionId) → Use logs root r → 1 ≤ births_in logs r
+  pub use-counts : (root : RootId) (r : RegionId) → IsUse logs root r → 1 ≤ births_in logs r
   use-counts root r u = omega (arith, over-at (note_tally logs (born_by r)) logs u.lane u.at (At (Object.Root root.place) u.number (Birth root r)) u.birth, birth-weight root u.number r r (same_region-refl r))
 
   born-note : (n : Note) (r : RegionId) → 1 ≤ note_tally logs (born_by r) n → (o : Object) × (k : ℕ) × (root : RootId) × (n ≡ At o k (Birth root r))
@@ -62,14 +62,14 @@ module _ (shape : Shape) (logs : Logs) (holds : HistoriesHold shape logs) (acts 
   born-note (Ref root did) r h = absurd (omega arith)
   born-note (Busy held) r h = absurd (omega arith)
 
-  pub use-found : (r : RegionId) → 1 ≤ births_in logs r → (root : RootId) × Use logs root r
+  pub use-found : (r : RegionId) → 1 ≤ births_in logs r → (root : RootId) × IsUse logs root r
   use-found r h =
-      let f : (lane : ℕ) × (i : ℕ) × (n : Note) × (slice_get (log_of logs lane) i ≡ Some n) × (1 ≤ note_tally logs (born_by r) n) = over-found (note_tally logs (born_by r)) logs h in
+      let f : (lane : ℕ) × (i : ℕ) × (n : Note) × (slice_get (of_lane logs lane) i ≡ Some n) × (1 ≤ note_tally logs (born_by r) n) = over-found (note_tally logs (born_by r)) logs h in
       let b : (o : Object) × (k : ℕ) × (root : RootId) × (f.2 ≡ At o k (Birth root r)) = born-note f.2 r f.4 in
       (b.2, birth-use f.0 f.1 b.1 b.0 b.2 r (f.3 ∙ ap (λ x. Some x) b.3))
 
   -- each birth is a use with number one or more
-  pub use-used : (root : RootId) (r : RegionId) → Use logs root r → 1 ≤ r.uses
+  pub use-used : (root : RootId) (r : RegionId) → IsUse logs root r → 1 ≤ r.uses
   use-used root r u =
       let b : (y : RegionId) × (r ≡ one_more y) × FilledAt logs u.lane u.at Got y = (note-together logs u.lane (acts u.lane) u.at (At (Object.Root root.place) u.number (Birth root r)) u.birth).1 in
       omega (arith, ap (λ x. x.uses) b.1)
@@ -79,7 +79,7 @@ module _ (shape : Shape) (logs : Logs) (holds : HistoriesHold shape logs) (acts 
     where
       go : (n : ℕ) → births_in logs r ≡ n → births_in logs r ≡ 0
       go zero e = e
-      go (suc n) e = let u : (root : RootId) × Use logs root r = use-found r (omega (arith, e)) in absurd (omega (arith, use-used u.0 r u.1, unused))
+      go (suc n) e = let u : (root : RootId) × IsUse logs root r = use-found r (omega (arith, e)) in absurd (omega (arith, use-used u.0 r u.1, unused))
 
   -- what is hit was born
   pub hits-less : (r : RegionId) → hits_in logs r + gives_in logs r ≤ births_in logs r
@@ -101,7 +101,7 @@ module _ (shape : Shape) (logs : Logs) (holds : HistoriesHold shape logs) (acts 
       cases zero r ih = omega (arith, takes-most shape logs holds acts (with_uses r 0), hits-less (with_uses r 0), unused-none (with_uses r 0) refl)
       cases (suc m) r ih = omega (arith, takes-unused shape logs holds acts (with_uses r (suc m)) (omega arith), hits-less (with_uses r (suc m)), ih)
 
-  pub one-use : (first second : RootId) (r : RegionId) → Use logs first r → Use logs second r → first ≡ second
+  pub one-use : (first second : RootId) (r : RegionId) → IsUse logs first r → IsUse logs second r → first ≡ second
   one-use first second r a b =
       let notes : At (Object.Root first.place) a.number (Birth first r) ≡ At (Object.Root second.place) b.number (Birth second r) =
       over-one (note_tally logs (born_by r)) logs a.lane b.lane a.at b.at (At (Object.Root first.place) a.number (Birth first r)) (At (Object.Root second.place) b.number (Birth second r)) a.birth b.birth (born-most r.uses r)
@@ -109,10 +109,10 @@ module _ (shape : Shape) (logs : Logs) (holds : HistoriesHold shape logs) (acts 
       cc notes
 
   -- an end takes out the region of a use
-  pub end-use : (lane i k : ℕ) (o : Object) (root : RootId) (r : RegionId) → slice_get (log_of logs lane) i ≡ Some (At o k (End root)) → (entry_of logs (At o k (End root))).region ≡ Some r → Use logs root r × Done logs (Object.Root root.place) (End root)
+  pub end-use : (lane i k : ℕ) (o : Object) (root : RootId) (r : RegionId) → slice_get (of_lane logs lane) i ≡ Some (At o k (End root)) → (entry_of logs (At o k (End root))).region ≡ Some r → IsUse logs root r × Done logs (Object.Root root.place) (End root)
   end-use lane i k o root r is region =
       let here : o ≡ Object.Root root.place = note-placed shape logs holds acts lane i k o (End root) is in
-      let is' : slice_get (log_of logs lane) i ≡ Some (At (Object.Root root.place) k (End root)) = is ∙ ap (λ x. Some (At x k (End root))) here in
+      let is' : slice_get (of_lane logs lane) i ≡ Some (At (Object.Root root.place) k (End root)) = is ∙ ap (λ x. Some (At x k (End root))) here in
       let h : History = history_of (Object.Root root.place) logs in
       let at : (j : ℕ) × (k ≡ 1 + j) × (slice_get (history_of (Object.Root root.place) logs) j ≡ Some (lane, End root)) = in-history (Object.Root root.place) logs (history_of (Object.Root root.place) logs) (holds.whole (Object.Root root.place)) lane i k (End root) is' in
       let ok : (t : RootPlace) × (place_after root.place (dids (history_of (Object.Root root.place) logs)) ≡ Some t) = is-some (place_after root.place (dids (history_of (Object.Root root.place) logs))) (holds.accepted (Object.Root root.place)) in
@@ -123,7 +123,7 @@ module _ (shape : Shape) (logs : Logs) (holds : HistoriesHold shape logs) (acts 
       let found : Some b.1.region ≡ Some r = sym (ap (option_map (λ q. q.region)) present) ∙ ap (λ x. (entry_of logs (At x k (End root))).region) (sym here) ∙ region in
       let found_is : b.1.region ≡ r = cc found in
       let l : (lane : ℕ) × (slice_get (history_of (Object.Root root.place) logs) b.2 ≡ Some (lane, Birth root b.1.region)) = dids-there (history_of (Object.Root root.place) logs) b.2 (Birth root b.1.region) b.6 in
-      let n : (i : ℕ) × (slice_get (log_of logs l.0) i ≡ Some (At (Object.Root root.place) (1 + b.2) (Birth root b.1.region))) = in-log (Object.Root root.place) logs (history_of (Object.Root root.place) logs) (holds.whole (Object.Root root.place)) l.0 b.2 (Birth root b.1.region) l.1 in (
+      let n : (i : ℕ) × (slice_get (of_lane logs l.0) i ≡ Some (At (Object.Root root.place) (1 + b.2) (Birth root b.1.region))) = in-log (Object.Root root.place) logs (history_of (Object.Root root.place) logs) (holds.whole (Object.Root root.place)) l.0 b.2 (Birth root b.1.region) l.1 in (
         record { lane = l.0; at = n.0; number = 1 + b.2; birth = n.1 ∙ ap (λ x. Some (At (Object.Root root.place) (1 + b.2) (Birth root x))) found_is },
         record { lane = lane; at = i; number = k; stands = is' },
       )

@@ -6,7 +6,7 @@ use Rattle.pool_law.specs.declared.note.Did.{Did}
 use Rattle.pool_law.specs.declared.note.Note.{Note}
 use Rattle.pool_law.specs.declared.note.Note.TheVariants.{At, Ref, Busy}
 use Rattle.pool_law.specs.Same.{same_object}
-use Rattle.pool_law.specs.Logs.{Logs, History, dids, own, own_note, numbered, log_of, IsHistory}
+use Rattle.pool_law.specs.Logs.{Logs, History, dids, own, own_note, numbered, of_lane, IsHistory}
 use Rattle.run_laws.specs.CacheCounts.{total_by}
 use Rattle.run_laws.proofs.Sums.{sum_by, sum_over}
 use Rattle.run_laws.proofs.RegroupLaw.{weight_at, weights-one}
@@ -110,9 +110,9 @@ numbered-at lane n (x ∷ h) j k d e =
         (0, omega (arith, ap (λ p. p.0) same), λ i. Some (of_lane i, (same i).1))
     first (suc m) of_lane rest is = later (rest m is)
 
-pub in-history : (o : Object) (logs : Logs) (h : History) → IsHistory o logs h → (lane i k : ℕ) (d : Did) → slice_get (log_of logs lane) i ≡ Some (At o k d) → (j : ℕ) × (k ≡ 1 + j) × (slice_get h j ≡ Some (lane, d))
+pub in-history : (o : Object) (logs : Logs) (h : History) → IsHistory o logs h → (lane i k : ℕ) (d : Did) → slice_get (of_lane logs lane) i ≡ Some (At o k d) → (j : ℕ) × (k ≡ 1 + j) × (slice_get h j ≡ Some (lane, d))
 in-history o logs h whole lane i k d e =
-    let r : (j : ℕ) × (slice_get (own o (log_of logs lane)) j ≡ Some (k, d)) = own-at o (log_of logs lane) i k d e in
+    let r : (j : ℕ) × (slice_get (own o (of_lane logs lane)) j ≡ Some (k, d)) = own-at o (of_lane logs lane) i k d e in
     numbered-at lane 1 h r.0 k d (ap (λ xs. slice_get xs r.0) (sym (whole lane)) ∙ r.1)
 
 -- what stands in the history is a note in its lane's log
@@ -151,7 +151,7 @@ own-there o (At other n d' ∷ ns) j k d e =
 own-there o (Ref root did ∷ ns) j k d e = let r : (i : ℕ) × (slice_get ns i ≡ Some (At o k d)) = own-there o ns j k d e in (suc r.0, r.1)
 own-there o (Busy held ∷ ns) j k d e = let r : (i : ℕ) × (slice_get ns i ≡ Some (At o k d)) = own-there o ns j k d e in (suc r.0, r.1)
 
-pub in-log : (o : Object) (logs : Logs) (h : History) → IsHistory o logs h → (lane j : ℕ) (d : Did) → slice_get h j ≡ Some (lane, d) → (i : ℕ) × (slice_get (log_of logs lane) i ≡ Some (At o (1 + j) d))
+pub in-log : (o : Object) (logs : Logs) (h : History) → IsHistory o logs h → (lane j : ℕ) (d : Did) → slice_get h j ≡ Some (lane, d) → (i : ℕ) × (slice_get (of_lane logs lane) i ≡ Some (At o (1 + j) d))
 in-log o logs h whole lane j d e =
     let r : (m : ℕ) × (slice_get (numbered lane 1 h) m ≡ Some (1 + j, d)) = numbered-there lane 1 h j d e in
-    own-there o (log_of logs lane) r.0 (1 + j) d (ap (λ xs. slice_get xs r.0) (whole lane) ∙ r.1)
+    own-there o (of_lane logs lane) r.0 (1 + j) d (ap (λ xs. slice_get xs r.0) (whole lane) ∙ r.1)

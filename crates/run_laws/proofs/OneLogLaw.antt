@@ -8,28 +8,28 @@ use Rattle.pool_law.specs.declared.note.RefDid.{RefDid}
 use Rattle.pool_law.specs.declared.note.Note.{Note}
 use Rattle.pool_law.specs.declared.note.Note.TheVariants.{At, Ref}
 use Rattle.pool_law.specs.declared.run.Shape.{Shape}
-use Rattle.pool_law.specs.Logs.{Logs, log_of, entry_of, entries_of}
+use Rattle.pool_law.specs.Logs.{Logs, of_lane, entry_of, entries_of}
 use Rattle.pool_law.specs.Legal.{HistoriesHold, CountsAgree}
-use Rattle.pool_law.specs.Lives.{StandsAt, Use}
+use Rattle.pool_law.specs.Lives.{StandsAt, IsUse}
 use Rattle.run_laws.specs.OneLog.{IsBorn, HasEnded, StandInOneLog}
 use Rattle.pool_law.specs.Same.{same_root}
 use Rattle.pool_law.proofs.PatternLemmas.{same_root-refl}
 use Rattle.run_laws.proofs.LogEntries.{LanesAct}
 use Rattle.run_laws.proofs.Sums.{sum_over, over-place}
-use Rattle.run_laws.proofs.LaneActs.{Parts, OfCommands}
+use Rattle.run_laws.proofs.CloseLaw.{Parts}
 use Rattle.run_laws.proofs.Together.{BirthHere, EndHere, Together, note-together}
 use Rattle.run_laws.proofs.Totals.{note-placed}
 use Rattle.run_laws.proofs.LifeLaw.{end-use}
 use Rattle.run_laws.proofs.EndLaw.{one, birth_weight, born_weight, ended_weight, end_weight, vacated_weight, birth-alike, ended-alike, vacated-alike, sums-alike, ends-most, births-most}
 
 module _ (shape : Shape) (logs : Logs) (holds : HistoriesHold shape logs) (acts : LanesAct logs)
-    (parts : (lane : ℕ) → lane < length logs → Parts OfCommands lane (map (entry_of logs) (log_of logs lane))) (counts : CountsAgree (entries_of logs)) where
+    (parts : (lane : ℕ) → lane < length logs → Parts lane (map (entry_of logs) (of_lane logs lane))) (counts : CountsAgree (entries_of logs)) where
   pub together : (lane i : ℕ) (n : Note) → StandsAt logs lane i n → Together logs lane i n
   together lane i n is = note-together logs lane (acts lane) i n is
 
   pub is-born : (root : RootId) (lane : ℕ) → BirthHere logs lane root → IsBorn logs root
   is-born root lane h =
-      let birth : Use logs root h.region =
+      let birth : IsUse logs root h.region =
       record { lane = lane; at = h.birth; number = h.number; birth = h.birth_is ∙ ap (λ o. Some (At o h.number (Birth root h.region))) (note-placed shape logs holds acts lane h.birth h.number h.object (Birth root h.region) h.birth_is) } in
       let one_birth : sum_over (birth_weight root) logs ≤ 1 = births-most shape logs holds acts parts counts root h.region birth in
       let one_set : sum_over (birth_weight root) logs ≡ sum_over (born_weight root) logs = sums-alike logs acts (birth_weight root) (born_weight root) (birth-alike root) in
@@ -49,7 +49,7 @@ module _ (shape : Shape) (logs : Logs) (holds : HistoriesHold shape logs) (acts 
   pub has-ended : (root : RootId) (lane : ℕ) → EndHere logs lane root → HasEnded logs root
   has-ended root lane h =
       let placed : h.object ≡ Object.Root root.place = note-placed shape logs holds acts lane h.end h.number h.object (End root) h.end_is in
-      let used : Use logs root h.region = (end-use shape logs holds acts lane h.end h.number h.object root h.region h.end_is h.out).0 in
+      let used : IsUse logs root h.region = (end-use shape logs holds acts lane h.end h.number h.object root h.region h.end_is h.out).0 in
       let most : sum_over (end_weight root) logs ≤ 1 = ends-most shape logs holds acts parts counts root h.region used in
       let ended : sum_over (ended_weight root) logs ≡ sum_over (end_weight root) logs = sums-alike logs acts (ended_weight root) (end_weight root) (ended-alike root) in
       let vacated : sum_over (vacated_weight root) logs ≡ sum_over (end_weight root) logs = sums-alike logs acts (vacated_weight root) (end_weight root) (vacated-alike root) in

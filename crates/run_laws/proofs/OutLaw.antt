@@ -16,9 +16,9 @@ use Rattle.pool_law.specs.Same.{same_taking, same_region}
 use Rattle.pool_law.specs.Arenas.{Arena, new_arena, arena_step, take, give, is_out_of, if_none}
 use Rattle.pool_law.specs.Caches.{Cache}
 use Rattle.pool_law.specs.Histories.{after, arena_after, cache_after}
-use Rattle.pool_law.specs.Logs.{Logs, dids, log_of, history_of, entry_of, entries_of, note_stands}
+use Rattle.pool_law.specs.Logs.{Logs, dids, of_lane, history_of, entry_of, entries_of, note_stands}
 use Rattle.pool_law.specs.Legal.{HistoriesHold, CountsAgree}
-use Rattle.pool_law.specs.Lives.{Use, Done, cache_of, arena_of, with_uses}
+use Rattle.pool_law.specs.Lives.{IsUse, Done, cache_of, arena_of, with_uses}
 use Rattle.run_laws.specs.Conserved.{total_in, IsHeld, OutAtEnd}
 use Rattle.arena_law.specs.Slots.{EachOf, ArenaHolds}
 use Rattle.arena_law.specs.Takings.{TakenInOrder}
@@ -39,7 +39,7 @@ use Rattle.run_laws.proofs.Totals.{dids-there, note_tally, takes, gives_of, take
 use Rattle.run_laws.proofs.LifeLaw.{same_taking-uses, use-counts, use-found, use-used, hits-less, one-use, end-use}
 use Rattle.run_laws.proofs.LifeOrder.{compare-uses, given-last}
 use Rattle.run_laws.proofs.ApartLaw.{split-at, any-at, same_taking-back, gives-it, taken-of, taken-at}
-use Rattle.run_laws.proofs.LaneActs.{Parts, OfCommands}
+use Rattle.run_laws.proofs.CloseLaw.{Parts}
 use Rattle.run_laws.proofs.EndLaw.{cache-empty, kept-cached, end-in, dead-ended, ended-dead}
 use Rattle.std.proofs.lemmas.Bool.{cond_both}
 
@@ -183,14 +183,14 @@ uses_number (At o k (Birth root x)) = x.uses
 uses_number _ = 0
 
 module _ (shape : Shape) (logs : Logs) (holds : HistoriesHold shape logs) (acts : LanesAct logs)
-    (parts : (lane : ℕ) → lane < length logs → Parts OfCommands lane (map (entry_of logs) (log_of logs lane))) (counts : CountsAgree (entries_of logs)) where
+    (parts : (lane : ℕ) → lane < length logs → Parts lane (map (entry_of logs) (of_lane logs lane))) (counts : CountsAgree (entries_of logs)) where
   -- a taking that was taken is its owner's, a lane of the run
   pub owner-there : (r : RegionId) → 1 ≤ takes_in logs (with_uses r 0) → r.owner < length logs
   owner-there r h =
       let j : (j : ℕ) × (slice_get (dids (history_of (arena_of r) logs)) j ≡ Some (Take r.class (with_uses r 0))) = taken-at shape logs holds acts r h in
       let l : (lane : ℕ) × (slice_get (history_of (arena_of r) logs) j.0 ≡ Some (lane, Take r.class (with_uses r 0))) = dids-there (history_of (arena_of r) logs) j.0 (Take r.class (with_uses r 0)) j.1 in
-      let n : (i : ℕ) × (slice_get (log_of logs l.0) i ≡ Some (At (arena_of r) (1 + j.0) (Take r.class (with_uses r 0)))) = in-log (arena_of r) logs (history_of (arena_of r) logs) (holds.whole (arena_of r)) l.0 j.0 (Take r.class (with_uses r 0)) l.1 in
-      let stands : ((l.0 % shape.arenas == r.place.arena) && (r.owner == l.0)) ≡ true = all-at (note_stands shape l.0) (log_of logs l.0) n.0 (At (arena_of r) (1 + j.0) (Take r.class (with_uses r 0))) (holds.stand l.0) n.1 in
+      let n : (i : ℕ) × (slice_get (of_lane logs l.0) i ≡ Some (At (arena_of r) (1 + j.0) (Take r.class (with_uses r 0)))) = in-log (arena_of r) logs (history_of (arena_of r) logs) (holds.whole (arena_of r)) l.0 j.0 (Take r.class (with_uses r 0)) l.1 in
+      let stands : ((l.0 % shape.arenas == r.place.arena) && (r.owner == l.0)) ≡ true = all-at (note_stands shape l.0) (of_lane logs l.0) n.0 (At (arena_of r) (1 + j.0) (Take r.class (with_uses r 0))) (holds.stand l.0) n.1 in
       let owner : r.owner ≡ l.0 = eqb-true r.owner l.0 (and-second (l.0 % shape.arenas == r.place.arena) (r.owner == l.0) stands) in
       omega (arith, owner, lane-there logs l.0 n.0 (At (arena_of r) (1 + j.0) (Take r.class (with_uses r 0))) n.1)
 
@@ -200,7 +200,7 @@ module _ (shape : Shape) (logs : Logs) (holds : HistoriesHold shape logs) (acts 
       let f : (i : ℕ) × (d : Did) × (slice_get (dids (history_of (cache_of r) logs)) i ≡ Some d) × (1 ≤ puts r d) = total-found (puts r) (dids (history_of (cache_of r) logs)) kept in
       let is : slice_get (dids (history_of (cache_of r) logs)) f.0 ≡ Some (Kept r) = f.2 ∙ ap (λ x. Some x) (puts-kept r f.1 f.3) in
       let l : (lane : ℕ) × (slice_get (history_of (cache_of r) logs) f.0 ≡ Some (lane, Kept r)) = dids-there (history_of (cache_of r) logs) f.0 (Kept r) is in
-      let n : (i : ℕ) × (slice_get (log_of logs l.0) i ≡ Some (At (cache_of r) (1 + f.0) (Kept r))) = in-log (cache_of r) logs (history_of (cache_of r) logs) (holds.whole (cache_of r)) l.0 f.0 (Kept r) l.1 in
+      let n : (i : ℕ) × (slice_get (of_lane logs l.0) i ≡ Some (At (cache_of r) (1 + f.0) (Kept r))) = in-log (cache_of r) logs (history_of (cache_of r) logs) (holds.whole (cache_of r)) l.0 f.0 (Kept r) l.1 in
       let has : has_cache r.class ≡ true = kept-cached shape logs holds acts parts l.0 n.0 (1 + f.0) (cache_of r) r n.1 in
       let c : (c : Cache) × (cache_after r.owner r.class (dids (history_of (cache_of r) logs)) ≡ Some c) = is-some (cache_after r.owner r.class (dids (history_of (cache_of r) logs))) (holds.accepted (cache_of r)) in
       let empty : c.0.regions ≡ [] = cache-empty shape logs holds acts parts r.owner r.class c.0 low (ltb-true r.class cached_classes has) c.1 in
@@ -216,13 +216,13 @@ module _ (shape : Shape) (logs : Logs) (holds : HistoriesHold shape logs) (acts 
       go zero e again = (n, h, e)
       go (suc b) e again = again (omega (arith, e))
 
-  few-uses : (r : RegionId) (n : ℕ) → sum_over uses_number logs < n → births_in logs (with_uses r n) ≡ 0
+  pub few-uses : (r : RegionId) (n : ℕ) → sum_over uses_number logs < n → births_in logs (with_uses r n) ≡ 0
   few-uses r n high = go (births_in logs (with_uses r n)) refl
     where
       go : (b : ℕ) → births_in logs (with_uses r n) ≡ b → births_in logs (with_uses r n) ≡ 0
       go zero e = e
       go (suc b) e =
-          let u : (root : RootId) × Use logs root (with_uses r n) = use-found shape logs holds acts (with_uses r n) (omega (arith, e)) in
+          let u : (root : RootId) × IsUse logs root (with_uses r n) = use-found shape logs holds acts (with_uses r n) (omega (arith, e)) in
           absurd (omega (arith, over-at uses_number logs u.1.lane u.1.at (At (Object.Root u.0.place) u.1.number (Birth u.0 (with_uses r n))) u.1.birth, high))
 
   -- a taking that was taken and did not come back is used by a live root
@@ -230,7 +230,7 @@ module _ (shape : Shape) (logs : Logs) (holds : HistoriesHold shape logs) (acts 
   held-by r taken none =
       let first : births_in logs (with_uses r 1) ≡ takes_in logs (with_uses r 0) + hits_in logs (with_uses r 0) = births-next shape logs holds acts (with_uses r 0) in
       let k : (k : ℕ) × (1 ≤ births_in logs (with_uses r k)) × (births_in logs (with_uses r (k + 1)) ≡ 0) = last-use (above uses_number logs) 1 r (omega (arith, first, taken)) (few-uses r (1 + above uses_number logs) (omega arith)) in
-      let u : (root : RootId) × Use logs root (with_uses r k.0) = use-found shape logs holds acts (with_uses r k.0) k.1 in
+      let u : (root : RootId) × IsUse logs root (with_uses r k.0) = use-found shape logs holds acts (with_uses r k.0) k.1 in
       record {
         root = u.0;
         region = with_uses r k.0;
@@ -254,20 +254,20 @@ module _ (shape : Shape) (logs : Logs) (holds : HistoriesHold shape logs) (acts 
   ends-note r (Busy held) h = absurd (omega (arith, h))
 
   -- the region of a live root has not ended
-  pub live-none : (root : RootId) (r : RegionId) → Use logs root r → total_in logs root ≢ 0 → ends_in logs r ≡ 0
+  pub live-none : (root : RootId) (r : RegionId) → IsUse logs root r → total_in logs root ≢ 0 → ends_in logs r ≡ 0
   live-none root r u live = go (ends_in logs r) refl
     where
       go : (n : ℕ) → ends_in logs r ≡ n → ends_in logs r ≡ 0
       go zero e = e
       go (suc n) e =
-          let f : (lane : ℕ) × (i : ℕ) × (n : Note) × (slice_get (log_of logs lane) i ≡ Some n) × (1 ≤ note_tally logs (ended_by r) n) = over-found (note_tally logs (ended_by r)) logs (omega (arith, e)) in
+          let f : (lane : ℕ) × (i : ℕ) × (n : Note) × (slice_get (of_lane logs lane) i ≡ Some n) × (1 ≤ note_tally logs (ended_by r) n) = over-found (note_tally logs (ended_by r)) logs (omega (arith, e)) in
           let a : (o : Object) × (k : ℕ) × (root : RootId) × (f.2 ≡ At o k (End root)) × ((entry_of logs (At o k (End root))).region ≡ Some r) = ends-note r f.2 f.4 in
-          let w : Use logs a.2 r × Done logs (Object.Root a.2.place) (End a.2) = end-use shape logs holds acts f.0 f.1 a.1 a.0 a.2 r (f.3 ∙ ap (λ x. Some x) a.3) a.4 in
+          let w : IsUse logs a.2 r × Done logs (Object.Root a.2.place) (End a.2) = end-use shape logs holds acts f.0 f.1 a.1 a.0 a.2 r (f.3 ∙ ap (λ x. Some x) a.3) a.4 in
           let same : a.2 ≡ root = one-use shape logs holds acts a.2 root r w.0 u in
           absurd (live (ended-dead shape logs holds acts parts counts root r u (subst (λ x. Done logs (Object.Root x.place) (End x)) same w.1)))
 
   -- so its taking has no later use
-  pub no-later : (root : RootId) (r : RegionId) → Use logs root r → total_in logs root ≢ 0 → (n : ℕ) → r.uses < n → births_in logs (with_uses r n) ≡ 0
+  pub no-later : (root : RootId) (r : RegionId) → IsUse logs root r → total_in logs root ≢ 0 → (n : ℕ) → r.uses < n → births_in logs (with_uses r n) ≡ 0
   no-later root r u live n more =
       let d = difference r.uses n more in
       ap (λ k. births_in logs (with_uses r k)) d.1 ∙ none d.0
@@ -297,7 +297,7 @@ module _ (shape : Shape) (logs : Logs) (holds : HistoriesHold shape logs) (acts 
           omega (arith, none m, ap (λ k. births_in logs (with_uses r k)) number, next, takes-unused shape logs holds acts (with_uses r (r.uses + 1 + m)) (omega arith), hits-less shape logs holds acts (with_uses r (r.uses + 1 + m)))
 
   -- and no use of it has come back
-  pub live-kept : (root : RootId) (r : RegionId) → Use logs root r → total_in logs root ≢ 0 → (n : ℕ) → gives_in logs (with_uses r n) ≡ 0
+  pub live-kept : (root : RootId) (r : RegionId) → IsUse logs root r → total_in logs root ≢ 0 → (n : ℕ) → gives_in logs (with_uses r n) ≡ 0
   live-kept root r u live n = go (gives_in logs (with_uses r n)) refl
     where
       born : 1 ≤ births_in logs r
@@ -368,7 +368,7 @@ module _ (shape : Shape) (logs : Logs) (holds : HistoriesHold shape logs) (acts 
           none : (n : ℕ) → Object.Arena number ≡ arena_of r → total_by (gives_taking r) ds ≡ 0 → gives_in logs (with_uses r n) ≡ 0
           none n here zero_gives = omega (arith, total-less (gives_of (with_uses r n)) (gives_taking r) ds (less n), zero_gives, ap (λ o. total_by (gives_of (with_uses r n)) (dids (history_of o logs))) here)
 
-      still : (root : RootId) (r : RegionId) → Use logs root r → total_in logs root ≢ 0 → r.place.arena ≡ number → (b : Bool) → is_out_of a r ≡ b → IsTrue (is_out_of a r)
+      still : (root : RootId) (r : RegionId) → IsUse logs root r → total_in logs root ≢ 0 → r.place.arena ≡ number → (b : Bool) → is_out_of a r ≡ b → IsTrue (is_out_of a r)
       still root r u live here true out = out
       still root r u live here false _ =
           let j : (j : ℕ) × (slice_get (dids (history_of (arena_of r) logs)) j ≡ Some (Take r.class (with_uses r 0))) = taken-at shape logs holds acts r (taken-of shape logs holds acts r.uses r (use-counts shape logs holds acts root r u)) in

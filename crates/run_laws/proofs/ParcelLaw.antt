@@ -17,7 +17,7 @@ use Rattle.pool_law.specs.Arenas.{Arena, new_arena, arena_step}
 use Rattle.pool_law.specs.Caches.{Cache, new_cache, lane_cache_step, new_bin, bin_step, mail_step}
 use Rattle.pool_law.specs.Roots.{RootPlace, Present, new_place, place_step, place_step_by}
 use Rattle.pool_law.specs.Histories.{after, IsAccepted, arena_after, cache_after, place_after, mail_after}
-use Rattle.pool_law.specs.Logs.{Logs, dids, log_of, history_of, entry_of, entries_of, note_stands}
+use Rattle.pool_law.specs.Logs.{Logs, dids, of_lane, history_of, entry_of, entries_of, note_stands}
 use Rattle.pool_law.specs.Legal.{HistoriesHold, CountsAgree}
 use Rattle.run_laws.specs.CacheCounts.{total_by}
 use Rattle.pool_law.specs.Counts.{view_is_of, count_in, count_over, is_birth}
@@ -169,9 +169,9 @@ note_weight f (Busy held) = 0
 
 module _ (shape : Shape) (logs : Logs) (holds : HistoriesHold shape logs) (root : RootId) (n : ℕ) (few : length logs ≤ n) (within : PostsWithin logs n) where
   -- a mail that is used lies between the lanes
-  posted-inside : (lane i k from to : ℕ) (p : Parcel) → slice_get (log_of logs lane) i ≡ Some (At (Object.Mail from to) k (Post p)) → (from < n) × (to < n)
+  posted-inside : (lane i k from to : ℕ) (p : Parcel) → slice_get (of_lane logs lane) i ≡ Some (At (Object.Mail from to) k (Post p)) → (from < n) × (to < n)
   posted-inside lane i k from to p is =
-      let stands : (lane == from) ≡ true = all-at (note_stands shape lane) (log_of logs lane) i (At (Object.Mail from to) k (Post p)) (holds.stand lane) is in
+      let stands : (lane == from) ≡ true = all-at (note_stands shape lane) (of_lane logs lane) i (At (Object.Mail from to) k (Post p)) (holds.stand lane) is in
       (omega (arith, few, lane-there logs lane i (At (Object.Mail from to) k (Post p)) is, eqb-true lane from stands), within from to p (record { lane = lane; at = i; number = k; stands = is }))
 
   at-total : (o : Object) (f : Did → ℕ) → sum_over (at_object o (plain f)) logs ≡ total_by f (dids (history_of o logs))
@@ -187,7 +187,7 @@ module _ (shape : Shape) (logs : Logs) (holds : HistoriesHold shape logs) (root 
   post-of (Post p) h = (p, refl)
   post-of _ h = absurd (omega (arith, h))
 
-  mail-inside : (lane i k from to : ℕ) (d : Did) → slice_get (log_of logs lane) i ≡ Some (At (Object.Mail from to) k d) → 1 ≤ posts root d + fetches root d → (from < n) × (to < n)
+  mail-inside : (lane i k from to : ℕ) (d : Did) → slice_get (of_lane logs lane) i ≡ Some (At (Object.Mail from to) k d) → 1 ≤ posts root d + fetches root d → (from < n) × (to < n)
   mail-inside lane i k from to (Post p) is some = posted-inside lane i k from to p is
   mail-inside lane i k from to (Fetch p) is some =
       let weight : at_object (Object.Mail from to) (plain (fetches root)) (At (Object.Mail from to) k (Fetch p)) ≡ fetches root (Fetch p) = ap (λ b. if b then fetches root (Fetch p) else 0) (same_object-refl (Object.Mail from to)) in
@@ -195,7 +195,7 @@ module _ (shape : Shape) (logs : Logs) (holds : HistoriesHold shape logs) (root 
       let f : (j : ℕ) × (d : Did) × (slice_get (dids (history_of (Object.Mail from to) logs)) j ≡ Some d) × (1 ≤ posts root d) = total-found (posts root) (dids (history_of (Object.Mail from to) logs)) (omega (arith, fetched, mail-even from to)) in
       let q : (q : Parcel) × (f.1 ≡ Post q) = post-of f.1 f.3 in
       let l : (lane : ℕ) × (slice_get (history_of (Object.Mail from to) logs) f.0 ≡ Some (lane, Post q.0)) = dids-there (history_of (Object.Mail from to) logs) f.0 (Post q.0) (f.2 ∙ ap (λ x. Some x) q.1) in
-      let m : (i : ℕ) × (slice_get (log_of logs l.0) i ≡ Some (At (Object.Mail from to) (1 + f.0) (Post q.0))) = in-log (Object.Mail from to) logs (history_of (Object.Mail from to) logs) (holds.whole (Object.Mail from to)) l.0 f.0 (Post q.0) l.1 in
+      let m : (i : ℕ) × (slice_get (of_lane logs l.0) i ≡ Some (At (Object.Mail from to) (1 + f.0) (Post q.0))) = in-log (Object.Mail from to) logs (history_of (Object.Mail from to) logs) (holds.whole (Object.Mail from to)) l.0 f.0 (Post q.0) l.1 in
       posted-inside l.0 m.0 (1 + f.0) from to q.0 m.1
   mail-inside lane i k from to _ is some = absurd (omega (arith, some))
 
@@ -227,7 +227,7 @@ module _ (shape : Shape) (logs : Logs) (holds : HistoriesHold shape logs) (root 
   some-or zero = inr refl
   some-or (suc w) = inl (λ e. omega (arith, e))
 
-  note-mail : (lane i k : ℕ) (o : Object) (d : Did) → slice_get (log_of logs lane) i ≡ Some (At o k d) → AtMail o d
+  note-mail : (lane i k : ℕ) (o : Object) (d : Did) → slice_get (of_lane logs lane) i ≡ Some (At o k d) → AtMail o d
   note-mail lane i k o d is =
       let at : (j : ℕ) × (k ≡ 1 + j) × (slice_get (history_of o logs) j ≡ Some (lane, d)) = in-history o logs (history_of o logs) (holds.whole o) lane i k d is in
       at-mail shape o (dids (history_of o logs)) at.0 d (holds.accepted o) (dids-at (history_of o logs) at.0 lane d at.2)
@@ -256,7 +256,7 @@ module _ (shape : Shape) (logs : Logs) (holds : HistoriesHold shape logs) (root 
   fetched-note (Ref r did) = refl
   fetched-note (Busy held) = refl
 
-  post-weight : (lane i : ℕ) (x : Note) → slice_get (log_of logs lane) i ≡ Some x → one (is_posted root x) ≡ Mails (posts root) x
+  post-weight : (lane i : ℕ) (x : Note) → slice_get (of_lane logs lane) i ≡ Some x → one (is_posted root x) ≡ Mails (posts root) x
   post-weight lane i (At o k d) is =
       posted-note (At o k d)
       ∙ at-mails (posts root) o k d (posts root d) refl (some-or (posts root d)) (posts-mail o d (note-mail lane i k o d is))
@@ -264,7 +264,7 @@ module _ (shape : Shape) (logs : Logs) (holds : HistoriesHold shape logs) (root 
   post-weight lane i (Ref r did) is = sym none-inside
   post-weight lane i (Busy held) is = sym none-inside
 
-  fetch-weight : (lane i : ℕ) (x : Note) → slice_get (log_of logs lane) i ≡ Some x → one (is_fetched root x) ≡ Mails (fetches root) x
+  fetch-weight : (lane i : ℕ) (x : Note) → slice_get (of_lane logs lane) i ≡ Some x → one (is_fetched root x) ≡ Mails (fetches root) x
   fetch-weight lane i (At o k d) is =
       fetched-note (At o k d)
       ∙ at-mails (fetches root) o k d (fetches root d) refl (some-or (fetches root d)) (fetches-mail o d (note-mail lane i k o d is))

@@ -5,21 +5,21 @@ use Rattle.pool_law.specs.declared.id.RegionId.{RegionId}
 use Rattle.pool_law.specs.declared.command.Command.{Command}
 use Rattle.pool_law.specs.declared.note.Object.{Object}
 use Rattle.pool_law.specs.declared.note.Did.{Did}
-use Rattle.pool_law.specs.declared.note.Did.TheVariants.{Post, Give, Shed, Close, Birth, End}
+use Rattle.pool_law.specs.declared.note.Did.TheVariants.{Post, Give, Shed, Trim, Close, Birth, End}
 use Rattle.pool_law.specs.declared.note.Note.{Note}
 use Rattle.pool_law.specs.declared.note.Note.TheVariants.{At}
 use Rattle.pool_law.specs.declared.run.Shape.{Shape}
 use Rattle.pool_law.specs.declared.run.Answered.{Answered}
-use Rattle.pool_law.specs.Logs.{Logs, log_of, entry_of}
+use Rattle.pool_law.specs.Logs.{Logs, of_lane, entry_of}
 use Rattle.pool_law.specs.Legal.{fits_after, all_fit}
 use Rattle.run_laws.specs.Parcels.{PostsWithin}
 use Rattle.arena_law.specs.Slots.{EachOf}
-use Rattle.pool_law.specs.Patterns.{Entries}
+use Rattle.pool_law.specs.Readers.{Entries}
 use Rattle.pool_law.specs.LaneLaw.{IsLaneLog}
 use Rattle.pool_law.proofs.SameLemmas.{and-first, and-second}
 use Rattle.run_laws.proofs.Sums.{sum_by, sum-at, sum-none}
 use Rattle.run_laws.proofs.Acts.{sum_notes, IsOther, Less, less-acts}
-use Rattle.run_laws.proofs.LaneActs.{Sends, MayClose, log-acts}
+use Rattle.run_laws.proofs.LaneActs.{Sends, MayDrain, log-acts}
 use Rattle.run_laws.proofs.LogEntries.{lane-there, sum-entries}
 
 -- a post is to one of so many lanes
@@ -68,9 +68,13 @@ log-near shape lane commands replies es fit log =
     less-acts (NearPosts shape.lanes) (strays shape.lanes) (λ n. 0) (strays-less shape.lanes) es [] (log-acts (NearPosts shape.lanes) (may shape.lanes) shape lane commands replies es (sends-fit shape [] commands fit) log) (omega arith) in
     omega (arith, less, sum-none es)
   where
-    may : (lanes : ℕ) → MayClose (NearPosts lanes)
-    may lanes = record { closes = λ o q. closes o q; sheds = λ o r. sheds o r }
+    may : (lanes : ℕ) → MayDrain (NearPosts lanes)
+    may lanes = record { trims = λ o q. trims o q; closes = λ o q. closes o q; sheds = λ o r. sheds o r }
       where
+        trims : (o : Object) (q : ℕ) → NearPosts lanes o (Trim q)
+        trims (Object.Mail from to) q = tt
+        trims _ q = tt
+
         closes : (o : Object) (q : ℕ) → NearPosts lanes o (Close q)
         closes (Object.Mail from to) q = tt
         closes _ q = tt
@@ -79,11 +83,11 @@ log-near shape lane commands replies es fit log =
         sheds (Object.Mail from to) r = tt
         sheds _ r = tt
 
-pub posts-within : (logs : Logs) (lanes : ℕ) → ((lane : ℕ) → lane < length logs → sum_notes (strays lanes) (map (entry_of logs) (log_of logs lane)) ≡ 0) → PostsWithin logs lanes
+pub posts-within : (logs : Logs) (lanes : ℕ) → ((lane : ℕ) → lane < length logs → sum_notes (strays lanes) (map (entry_of logs) (of_lane logs lane)) ≡ 0) → PostsWithin logs lanes
 posts-within logs lanes near from to p d = go (nat_lt to lanes) refl
   where
     go : (b : Bool) → nat_lt to lanes ≡ b → to < lanes
     go true e = ltb-true to lanes e
     go false e =
         let weight : strays lanes (At (Object.Mail from to) d.number (Post p)) ≡ 1 = (rw e refl) in
-        absurd (omega (arith, weight, sum-at (strays lanes) (log_of logs d.lane) d.at (At (Object.Mail from to) d.number (Post p)) d.stands, sum-entries logs (strays lanes) (log_of logs d.lane), near d.lane (lane-there logs d.lane d.at (At (Object.Mail from to) d.number (Post p)) d.stands)))
+        absurd (omega (arith, weight, sum-at (strays lanes) (of_lane logs d.lane) d.at (At (Object.Mail from to) d.number (Post p)) d.stands, sum-entries logs (strays lanes) (of_lane logs d.lane), near d.lane (lane-there logs d.lane d.at (At (Object.Mail from to) d.number (Post p)) d.stands)))

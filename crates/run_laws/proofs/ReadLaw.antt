@@ -1,9 +1,8 @@
 -- Each read gives the bytes that were last written to its root.
-use Rattle.std.proofs.Common.{⊎_elim, ◌≡◌, ℕ, zero, suc, ◌+◌, ◌-◌, ◌≤◌, List, [], ◌∷◌, ◌++◌, length, take, drop, replicate, get_or, refl, sym, ap, subst, arith, Bool, true, false, Some, None, ◌∙◌, eqb-true, ltb-true, leb-true, le-leb, lt-ltb}
-use Rattle.std.specs.Prelude.{◌<◌, ◌==◌, ◌&&◌, nat_lt, nat_le, if◌then◌else◌, Option, slice_get}
+use Rattle.std.proofs.Common.{⊎_elim, inl, inr, ◌≡◌, ℕ, zero, suc, ◌+◌, ◌-◌, ◌≤◌, List, [], ◌∷◌, ◌++◌, length, take, drop, replicate, get_or, refl, sym, ap, subst, arith, Bool, true, false, Some, None, ◌∙◌, eqb-true, ltb-true, leb-true, le-leb, lt-ltb}
+use Rattle.std.specs.Prelude.{◌⊎◌, ◌<◌, option_and_then, option_map, ◌==◌, ◌&&◌, nat_lt, nat_le, if◌then◌else◌, Option, slice_get}
 use Rattle.std.proofs.lemmas.List.{get_or_append_left, get_or-append_right, get_or-drop, get_or-take, length-take-le}
 use Rattle.std.proofs.lemmas.Bool.{cond_both}
-use Rattle.pool_law.specs.declared.id.RootId.{RootId}
 use Rattle.pool_law.specs.declared.id.ViewData.{ViewData}
 use Rattle.pool_law.specs.declared.command.Command.{Command}
 use Rattle.pool_law.specs.declared.note.Object.{Object}
@@ -14,28 +13,36 @@ use Rattle.pool_law.specs.declared.run.Shape.{Shape}
 use Rattle.pool_law.specs.declared.run.Reply.{Reply}
 use Rattle.pool_law.specs.declared.run.Run.{Run}
 use Rattle.pool_law.specs.Same.{same_root, same_bytes}
-use Rattle.pool_law.specs.Views.{root_index, in_range, can_read, after_read}
 use Rattle.pool_law.specs.Roots.{RootPlace, Present, new_place, laid_over, bytes_at, born, may_be_born, with_bytes, place_step, place_step_by}
 use Rattle.pool_law.specs.Histories.{after, place_after}
-use Rattle.pool_law.specs.Logs.{Logs, Entry, dids, history_of, log_of, entry_of, entries_of}
+use Rattle.pool_law.specs.Logs.{Logs, Entry, dids, history_of, of_lane, entry_of, entries_of}
 use Rattle.pool_law.specs.Counts.{root_is}
 use Rattle.pool_law.specs.Legal.{HistoriesHold, IsLegal, logs_of, replies_of}
 use Rattle.pool_law.specs.Lives.{Done}
-use Rattle.pool_law.specs.Reading.{◌>>=◌, front, check, at_end}
-use Rattle.pool_law.specs.Patterns.{Entries, done_at, marked}
-use Rattle.pool_law.specs.Lanes.{LaneState, Bound, Plain, Answer, Answers, new_lane, lookup, bind, counts, refuse, on_bound, on_view, access, bytes_got, get_at, busy_or, tried, answer_of}
-use Rattle.pool_law.specs.LaneLaw.{state_after, lane_step, lane_run, pieces, note_counts, replies_in}
-use Rattle.run_laws.specs.Reads.{covers, byte_after, last_written, earlier_at, IsRead, Range, range_of, IsReading, groups_of, ReadsGiveWritten}
-use Rattle.pool_law.proofs.SameLemmas.{and-first, and-second, same_root-is}
+use Rattle.size_classes.specs.Sizes.{below}
+use Rattle.pool_law.specs.declared.id.Part.{Part}
+use Rattle.pool_law.specs.Limits.{cached_classes}
+use Rattle.pool_law.specs.Dids as says
+use Rattle.pool_law.specs.Readers.{Entries, Log, Reader, ◌>>=◌, ◌>>◌, give, nothing, given, behind_entry, first_of_left, next, done_at, note, busy, access, asks_anew, read_all}
+use Rattle.pool_law.specs.Names.{Bound, Plain, Composed, Names, view_in, reader_of, parts_at, bind, read_on}
+use Rattle.pool_law.specs.LaneStates.{LaneState, new_lane, log_at, state_at, named, view_named}
+use Rattle.pool_law.specs.Refusals.{Refusal, first_refusal, refusals}
+use Rattle.pool_law.specs.Patterns.{give_back, sheds, drain, sweep, sweep_if_due}
+use Rattle.pool_law.specs.Lanes.{Answer, answer, get_parts, get_at, busy_or, carried_out, not_carried_out, answer_by, answer_of, turn}
+use Rattle.pool_law.specs.LaneLaw.{sweep_period, lane_step, lane_run, before_stop, stopped_run, pieces, note_counts, replies_in}
+use Rattle.arena_law.specs.Slots.{EachOf}
+use Rattle.run_laws.specs.Reads.{covers, byte_after, last_written, earlier_at, get_note, parts_read, joined, IsReading, groups_of, GetsPart, GetsParts, ReadsGiveWritten}
+use Rattle.pool_law.proofs.SameLemmas.{and-first, and-second}
 use Rattle.pool_law.proofs.PatternLemmas.{both_true}
 use Rattle.run_laws.proofs.Sums.{below-or}
-use Rattle.run_laws.proofs.CacheLaw.{if_so-is, if-some}
+use Rattle.run_laws.proofs.CacheLaw.{if_so-is}
 use Rattle.run_laws.proofs.PlaceLaw.{if_so-test, after-first}
 use Rattle.run_laws.proofs.Numbered.{in-history}
 use Rattle.run_laws.proofs.Placed.{step-at, is-some, take-get}
 use Rattle.run_laws.proofs.Totals.{dids-at}
 use Rattle.run_laws.proofs.LogEntries.{entry-note, map-get, entries-at}
-use Rattle.run_laws.proofs.LaneActs.{bind-some, check-true, if-test, front-is, done_at-note}
+use Rattle.run_laws.proofs.LaneActs.{bind-some, map-some, or-some, access-read, read_all-is}
+use Rattle.run_laws.proofs.CloseLaw.{drain-is}
 
 -- a byte of what is laid over others
 pub laid-byte : (old bytes : List ℕ) (offset i : ℕ) → offset + length bytes ≤ length old →
@@ -142,129 +149,242 @@ got-written shape logs holds place offset bytes d k low =
     ∙ after-written place (offset + k) 0 new_place s.0 (take j.0 (dids (history_of (Object.Root place) logs))) s.2 (λ p none. absurd (cc none)) g.0 g.1
     ∙ ap (λ n. last_written (offset + k) 0 (take n (dids (history_of (Object.Root place) logs)))) (sym number)
 
--- the first of these notes got the bytes, at the view's offset, of the view's root
-pub record GotFirst (v : ViewData) (at len : ℕ) (es : Entries) (bytes : List ℕ) : Type 0 where
-  pub entry : Entry
-  pub rest : Entries
-  pub are : es ≡ entry ∷ rest
+-- an entry got these bytes of a part
+pub record GotPart (part : Part) (e : Entry) (bytes : List ℕ) : Type 0 where
   pub number : ℕ
-  pub note : entry.note ≡ At (Object.Root v.root.place) number (Get (root_index v at) bytes)
-  pub root : entry.root ≡ Some v.root
-  pub size : length bytes ≡ len
+  pub note : e.note ≡ get_note part number bytes
+  pub root : e.root ≡ Some part.root
+  pub size : length bytes ≡ part.len
 
-pub get_at-first : (v : ViewData) (at len : ℕ) (names : List (ℕ × Bound)) (es : Entries) (p : Answer × Entries) (bytes : List ℕ) → get_at v at len names es ≡ Some p → p.0.reply ≡ Reply.OkBytes bytes → GotFirst v at len es bytes
-get_at-first v at len names es p bytes is reply =
-    let f = bind-some (access v.root es) _ p is in
-    let b = bind-some (bytes_got (root_index v at) len f.0.0) _ p f.2 in
-    let x = bind-some (front es) _ f.0 f.1 in
-    let d = bind-some (done_at (Object.Root v.root.place) x.0.0.note) _ f.0 x.2 in
-    let u = bind-some (check (root_is v.root x.0.0.root)) _ f.0 d.2 in
-    let did : d.0 ≡ f.0.0 = ap (λ q. q.0) (let same : ◌≡◌ {A = Did × Entries} (d.0, x.0.1) f.0 = cc u.2 in same) in
-    let n = done_at-note (Object.Root v.root.place) x.0.0.note d.0 d.1 in
-    let answered : ◌≡◌ {A = Answer × Entries} (record { reply = Reply.OkBytes b.0; names = names }, f.0.1) p = cc b.2 in
-    let same : b.0 ≡ bytes = cc (ap (λ q. q.0.reply) answered ∙ reply) in
-    let g = got f.0.0 b.0 b.1 in
-    record {
-      entry = x.0.0;
-      rest = x.0.1;
-      are = front-is es x.0 x.1;
-      number = n.0;
-      note = n.1 ∙ ap (At (Object.Root v.root.place) n.0) (did ∙ g.0 ∙ ap (Get (root_index v at)) same);
-      root = found x.0.0.root (check-true (root_is v.root x.0.0.root) u.0 u.1);
-      size = ap length (sym same) ∙ g.1;
-    }
+-- the first of these entries got the parts, in order
+abbrev pub GotParts : List Part → Entries → Entries → List (List ℕ) → Type 0
+GotParts [] es rest [] = es ≡ rest
+GotParts (p ∷ ps) es rest (b ∷ bs) = (e : Entry) × (xs : Entries) × (es ≡ e ∷ xs) × GotPart p e b × GotParts ps xs rest bs
+GotParts _ es rest _ = ⊥
+
+pub next-asked : {A : Type 0} (read : Entry → Option A) (log : Log) (p : A × Log) → next read log ≡ Some p → p.1.asked ≡ log.asked
+next-asked {A} read log p is = go log.left is
   where
-    got : (d : Did) (b : List ℕ) → bytes_got (root_index v at) len d ≡ Some b → (d ≡ Get (root_index v at) b) × (length b ≡ len)
+    go : (es : Entries) → first_of_left read log es ≡ Some p → p.1.asked ≡ log.asked
+    go [] e = absurd (cc e)
+    go (x ∷ xs) e = let f = map-some (read x) (λ a. (a, behind_entry log x xs)) p e in ap (λ q. q.1.asked) (sym f.2)
+
+pub access-got : (part : Part) (log : Log) (p : List ℕ × Log) → access part.root (says.get part.offset part.len) log ≡ Some p → (e : Entry) × (log.left ≡ e ∷ p.1.left) × GotPart part e p.0
+access-got part log p is =
+    let a = access-read part.root (says.get part.offset part.len) log p is in
+    let g = got a.read.did p.0 a.read.said in
+    (a.read.entry, a.read.are, record { number = a.read.number; note = a.read.is ∙ ap (At (Object.Root part.root.place) a.read.number) g.0; root = a.root; size = g.1 })
+  where
+    got : (d : Did) (b : List ℕ) → says.get part.offset part.len d ≡ Some b → (d ≡ Get part.offset b) × (length b ≡ part.len)
     got (Get o bs) b e =
-        let test = if-test ((o == root_index v at) && (length bs == len)) (Some bs) b e in
-        let same : bs ≡ b = cc (if-some ((o == root_index v at) && (length bs == len)) (Some bs) b e) in
-        let here : o ≡ root_index v at = eqb-true o (root_index v at) (and-first (o == root_index v at) (length bs == len) test) in
-        (λ i. Get (here i) (same i), ap length (sym same) ∙ eqb-true (length bs) len (and-second (o == root_index v at) (length bs == len) test))
+        let test = if_so-test ((o == part.offset) && (length bs == part.len)) bs b e in
+        let same : bs ≡ b = if_so-is ((o == part.offset) && (length bs == part.len)) bs b e in
+        let here : o ≡ part.offset = eqb-true o part.offset (and-first (o == part.offset) (length bs == part.len) test) in
+        (λ i. Get (here i) (same i), ap length (sym same) ∙ eqb-true (length bs) part.len (and-second (o == part.offset) (length bs == part.len) test))
     got _ b e = absurd (cc e)
 
-    found : (o : Option RootId) → root_is v.root o ≡ true → o ≡ Some v.root
-    found None e = absurd (cc e)
-    found (Some r) e = ap (λ x. Some x) (same_root-is r v.root e)
+-- what a reading of parts gives
+pub record PartsGot (ps : List Part) (log : Log) (p : List ℕ × Log) : Type 0 where
+  pub pieces_got : List (List ℕ)
+  pub gives : p.0 ≡ joined pieces_got
+  pub got : GotParts ps log.left p.1.left pieces_got
+  pub asked : p.1.asked ≡ log.asked
 
--- a command that answers with bytes is on a view that the lane counts
-pub on_view-first : (s : LaneState) (name : ℕ) (go : ViewData → Entries → Answers) (es : Entries) (p : Answer × Entries) (bytes : List ℕ) → on_view s name go es ≡ Some p → p.0.reply ≡ Reply.OkBytes bytes →
-    (v : ViewData) × (lookup name s.names ≡ Some (Plain v)) × (go v es ≡ Some p)
-on_view-first s name go es p bytes is reply = on (lookup name s.names) refl is
+pub get_parts-got : (ps : List Part) (log : Log) (p : List ℕ × Log) → get_parts ps log ≡ Some p → PartsGot ps log p
+get_parts-got [] log p is =
+    let same : ◌≡◌ {A = List ℕ × Log} ([], log) p = cc is in
+    record { pieces_got = []; gives = ap (λ q. q.0) (sym same); got = ap (λ q. q.1.left) same; asked = ap (λ q. q.1.asked) (sym same) }
+get_parts-got (part ∷ ps) log p is =
+    let x = bind-some (access part.root (says.get part.offset part.len) log) _ p is in
+    let y = bind-some (get_parts ps x.0.1) _ p x.2 in
+    let same : ◌≡◌ {A = List ℕ × Log} (x.0.0 ++ y.0.0, y.0.1) p = cc y.2 in
+    let a = access-got part log x.0 x.1 in
+    let r = get_parts-got ps x.0.1 y.0 y.1 in
+    let kept : x.0.1.asked ≡ log.asked = next-asked (λ e. if root_is part.root e.root then option_and_then (says.get part.offset part.len) (done_at (Object.Root part.root.place) e.note) else None) log x.0 x.1 in
+    record {
+      pieces_got = x.0.0 ∷ r.pieces_got;
+      gives = ap (λ q. q.0) (sym same) ∙ ap (λ b. x.0.0 ++ b) r.gives;
+      got = (a.0, x.0.1.left, a.1, a.2, subst (λ q. GotParts ps x.0.1.left q.1.left r.pieces_got) same r.got);
+      asked = ap (λ q. q.1.asked) (sym same) ∙ r.asked ∙ kept;
+    }
+
+-- a reply that a command gets before its notes
+abbrev pub IsRefusal : Reply → Type 0
+IsRefusal (Reply.OkBytes bytes) = ⊥
+IsRefusal _ = Unit {0}
+
+abbrev pub Refuses : Refusal → Type 0
+Refuses r = IsRefusal r.reply
+
+pub first-refuses : (rs : List Refusal) (reply : Reply) → EachOf Refuses rs → first_refusal rs ≡ Some reply → IsRefusal reply
+first-refuses [] reply h e = absurd (cc e)
+first-refuses (r ∷ rs) reply h e =
+    cond_both r.comes (Some r.reply) (first_refusal rs) (λ z. z ≡ Some reply → IsRefusal reply)
+    (λ _ is. let same : r.reply ≡ reply = cc is in subst IsRefusal same h.0)
+    (λ _ is. first-refuses rs reply h.1 is)
+    e
+
+-- a read that answers with bytes got the parts first of all
+pub record ReadsParts (s : LaneState) (c : Command) (log : Log) (p : Answer × Log) (bytes : List ℕ) : Type 0 where
+  pub parts : List Part
+  pub is : parts_read s c ≡ Some parts
+  pub pieces_got : List (List ℕ)
+  pub gives : bytes ≡ joined pieces_got
+  pub got : GotParts parts log.left p.1.left pieces_got
+  pub asked : p.1.asked ≡ log.asked
+
+pub got-answer : (s : LaneState) (c : Command) (ps : List Part) (names : List ℕ → Names) (log : Log) (p : Answer × Log) (bytes : List ℕ) → parts_read s c ≡ Some ps →
+    (get_parts ps >>= (λ b. give (answer (Reply.OkBytes b) (names b)))) log ≡ Some p → p.0.reply ≡ Reply.OkBytes bytes → ReadsParts s c log p bytes
+got-answer s c ps names log p bytes parts is reply =
+    let x = bind-some (get_parts ps log) (λ got. give (answer (Reply.OkBytes got.0) (names got.0)) got.1) p is in
+    let r = get_parts-got ps log x.0 x.1 in
+    let same : ◌≡◌ {A = Answer × Log} (answer (Reply.OkBytes x.0.0) (names x.0.0), x.0.1) p = cc x.2 in
+    let b : x.0.0 ≡ bytes = cc (ap (λ q. q.0.reply) same ∙ reply) in
+    record { parts = ps; is = parts; pieces_got = r.pieces_got; gives = sym b ∙ r.gives; got = subst (λ q. GotParts ps log.left q.1.left r.pieces_got) same r.got; asked = ap (λ q. q.1.asked) (sym same) ∙ r.asked }
+
+pub given-some : {A B : Type 0} (o : Option A) (f : A → Reader B) (log : Log) (p : B × Log) → (given o >>= f) log ≡ Some p → (a : A) × (o ≡ Some a) × (f a log ≡ Some p)
+given-some None f log p is = absurd (cc is)
+given-some (Some a) f log p is = (a, refl, is)
+
+pub view-plain : (o : Option Bound) (v : ViewData) → option_and_then view_in o ≡ Some v → o ≡ Some (Plain v)
+view-plain None v e = absurd (cc e)
+view-plain (Some (Plain w)) v e = let same : w ≡ v = cc e in ap (λ x. Some (Plain x)) same
+view-plain (Some (Composed c)) v e = absurd (cc e)
+
+pub reads-carried : (shape : Shape) (lane : ℕ) (s : LaneState) (c : Command) (log : Log) (p : Answer × Log) (bytes : List ℕ) → IsReading c → carried_out shape lane s c log ≡ Some p → p.0.reply ≡ Reply.OkBytes bytes → ReadsParts s c log p bytes
+reads-carried shape lane s (Command.Get name at len false) log p bytes reads is reply =
+    let g = given-some (named s name) (get_at s at len) log p is in
+    got-answer s (Command.Get name at len false) (parts_at g.0 at len) (λ _. s.names) log p bytes (ap (λ o. option_map (λ b. parts_at b at len) o) g.1) g.2 reply
+reads-carried shape lane s (Command.Get name at len true) log p bytes reads is reply =
+    let g = given-some (view_named s name) (λ view. busy_or s view (get_at s at len (Plain view))) log p is in
+    let bound : named s name ≡ Some (Plain g.0) = view-plain (named s name) g.0 g.1 in
+    ⊎_elim
+    (λ e.
+    let x = bind-some (busy (Object.Root g.0.root.place) log) (λ got. give (answer (Reply.Busy got.0) s.names) got.1) p e in
+    let same : ◌≡◌ {A = Answer × Log} (answer (Reply.Busy x.0.0) s.names, x.0.1) p = cc x.2 in
+    absurd (cc (ap (λ q. q.0.reply) same ∙ reply)))
+    (λ e. got-answer s (Command.Get name at len true) (parts_at (Plain g.0) at len) (λ _. s.names) log p bytes (ap (λ o. option_map (λ b. parts_at b at len) o) bound) e reply)
+    (or-some ((busy (Object.Root g.0.root.place) >>= (λ number. give (answer (Reply.Busy number) s.names))) log) (get_at s at len (Plain g.0) log) p g.2)
+reads-carried shape lane s (Command.Read name len) log p bytes reads is reply =
+    let g = given-some (named s name) _ log p is in
+    got-answer s (Command.Read name len) (parts_at g.0 (reader_of g.0) len) (λ _. bind name (read_on len g.0) s.names) log p bytes (ap (λ o. option_map (λ b. parts_at b (reader_of b) len) o) g.1) g.2 reply
+reads-carried shape lane s _ log p bytes reads is reply = absurd reads
+
+pub reads-parts : (shape : Shape) (lane : ℕ) (s : LaneState) (c : Command) (log : Log) (p : Answer × Log) (bytes : List ℕ) → IsReading c → answer_of shape lane s c log ≡ Some p → p.0.reply ≡ Reply.OkBytes bytes → ReadsParts s c log p bytes
+reads-parts shape lane s c log p bytes reads is reply = by (first_refusal (refusals shape s c)) refl is
   where
-    refused : (r : Reply) → refuse s r es ≡ Some p → r ≡ Reply.OkBytes bytes
-    refused r e = let same : ◌≡◌ {A = Answer × Entries} (record { reply = r; names = s.names }, es) p = cc e in ap (λ q. q.0.reply) same ∙ reply
+    each : (c : Command) → IsReading c → EachOf Refuses (refusals shape s c)
+    each (Command.Get name at len false) reads = (tt, (tt, (tt, tt)))
+    each (Command.Get name at len true) reads = (tt, (tt, (tt, (tt, tt))))
+    each (Command.Read name len) reads = (tt, (tt, (tt, tt)))
+    each _ reads = absurd reads
 
-    on : (b : Option Bound) → lookup name s.names ≡ b → on_bound s b (refuse s) go es ≡ Some p → (v : ViewData) × (lookup name s.names ≡ Some (Plain v)) × (go v es ≡ Some p)
-    on None here e = absurd (cc (refused Reply.Unbound e))
-    on (Some (Plain v)) here e =
-        cond_both (counts s v.root) (go v es) (refuse s Reply.Illegal es) (λ z. z ≡ Some p → (v : ViewData) × (lookup name s.names ≡ Some (Plain v)) × (go v es ≡ Some p))
-        (λ _ x. (v, here, x)) (λ _ x. absurd (cc (refused Reply.Illegal x))) e
+    by : (o : Option Reply) → first_refusal (refusals shape s c) ≡ o → answer_by shape lane s c o log ≡ Some p → ReadsParts s c log p bytes
+    by None first e = reads-carried shape lane s c log p bytes reads e reply
+    by (Some r) first e =
+        let x = bind-some (not_carried_out lane c log) (λ got. give (answer r s.names) got.1) p e in
+        let same : ◌≡◌ {A = Answer × Log} (answer r s.names, x.0.1) p = cc x.2 in
+        absurd (subst IsRefusal (ap (λ q. q.0.reply) same ∙ reply) (first-refuses (refusals shape s c) r (each c reads) first))
 
-pub if-first : (s : LaneState) (test : Bool) (going : Answers) (es : Entries) (p : Answer × Entries) (bytes : List ℕ) → (if test then going else refuse s Reply.Range es) ≡ Some p → p.0.reply ≡ Reply.OkBytes bytes → going ≡ Some p
-if-first s true going es p bytes is reply = is
-if-first s false going es p bytes is reply =
-    let same : ◌≡◌ {A = Answer × Entries} (record { reply = Reply.Range; names = s.names }, es) p = cc is in
-    absurd (cc (ap (λ q. q.0.reply) same ∙ reply))
+-- ---- No sweep is due behind a read.
 
-pub tried-first : (tries : Bool) (s : LaneState) (v : ViewData) (es : Entries) (going : Answers) (p : Answer × Entries) (bytes : List ℕ) → tried tries s v es going ≡ Some p → p.0.reply ≡ Reply.OkBytes bytes → going ≡ Some p
-tried-first tries s v es going p bytes is reply =
-    let f = bind-some (front es) (λ x. busy_or tries s (marked (Object.Root v.root.place) x.0.note) x.1 going) p is in
-    go tries (marked (Object.Root v.root.place) f.0.0.note) f.0.1 f.2
+pub note-asked : {A : Type 0} (o : Object) (says_it : Did → Option A) (log : Log) (p : A × Log) → note o says_it log ≡ Some p → p.1.asked ≡ log.asked
+note-asked o says_it log p is = next-asked (λ e. option_and_then says_it (done_at o e.note)) log p is
+
+pub nothing-asked : (log : Log) (p : Unit {0} × Log) → nothing log ≡ Some p → p.1.asked ≡ log.asked
+nothing-asked log p is = let same : ◌≡◌ {A = Unit {0} × Log} (tt, log) p = cc is in ap (λ q. q.1.asked) (sym same)
+
+pub sheds-asked : (lane class n : ℕ) (log : Log) (p : Unit {0} × Log) → sheds lane class n log ≡ Some p → p.1.asked ≡ log.asked
+sheds-asked lane class zero log p is = nothing-asked log p is
+sheds-asked lane class (suc n) log p is =
+    let x = bind-some (note (Object.Cache lane class) says.shed log) _ p is in
+    let g = bind-some (give_back x.0.0 x.0.1) _ p x.2 in
+    sheds-asked lane class n g.0.1 p g.2 ∙ note-asked (Object.Arena x.0.0.place.arena) (says.give x.0.0) x.0.1 g.0 g.1 ∙ note-asked (Object.Cache lane class) says.shed log x.0 x.1
+
+pub drain-asked : (lane : ℕ) (kind : Did → Option ℕ) (classes : List ℕ) (log : Log) (p : Unit {0} × Log) → drain lane kind classes log ≡ Some p → p.1.asked ≡ log.asked
+drain-asked lane kind [] log p is = nothing-asked log p is
+drain-asked lane kind (class ∷ classes) log p is =
+    let d = drain-is lane class kind classes log p is in
+    drain-asked lane kind classes d.shed.1 p d.others ∙ sheds-asked lane class d.quota.0 d.quota.1 d.shed d.sheds_it ∙ note-asked (Object.Cache lane class) kind log d.quota d.noted
+
+-- behind a command fewer allocations asked a cache than make a sweep due
+pub sweep-asked : (period lane : ℕ) (log : Log) (p : Unit {0} × Log) → 0 < period → sweep_if_due period lane log ≡ Some p → p.1.asked < period
+sweep-asked period lane log p some is = go (nat_le period log.asked) refl is
   where
-    go : (t : Bool) (m : Option ℕ) (rest : Entries) → busy_or t s m rest going ≡ Some p → going ≡ Some p
-    go false m rest e = e
-    go true None rest e = e
-    go true (Some k) rest e =
-        let same : ◌≡◌ {A = Answer × Entries} (record { reply = Reply.Busy k; names = s.names }, rest) p = cc e in
-        absurd (cc (ap (λ q. q.0.reply) same ∙ reply))
+    go : (test : Bool) → nat_le period log.asked ≡ test → (if test then (asks_anew >> sweep lane) else nothing) log ≡ Some p → p.1.asked < period
+    go true due e =
+        let kept : p.1.asked ≡ 0 = drain-asked lane says.trim (below cached_classes) (record log { asked = 0 }) p e in
+        omega (arith, kept, some)
+    go false due e =
+        let same : p.1.asked ≡ log.asked = nothing-asked log p e in
+        let low : log.asked < period = under (below-or log.asked period) in
+        omega (arith, same, low)
+      where
+        under : (log.asked < period) ⊎ (period ≤ log.asked) → log.asked < period
+        under (inl low) = low
+        under (inr high) = let both : true ≡ false = sym (le-leb period log.asked high) ∙ due in absurd (cc both)
 
--- a read that answers with bytes got them first of all
-pub record ReadsFirst (s : LaneState) (c : Command) (es : Entries) (bytes : List ℕ) : Type 0 where
-  pub range : Range
-  pub is : range_of s c ≡ Some range
-  pub first : GotFirst range.view range.index range.len es bytes
+-- where no sweep is due, nothing is read of one
+pub no-sweep : (period lane : ℕ) (log : Log) (p : Unit {0} × Log) → log.asked < period → sweep_if_due period lane log ≡ Some p → p.1 ≡ log
+no-sweep period lane log p low is = go (nat_le period log.asked) refl is
+  where
+    go : (test : Bool) → nat_le period log.asked ≡ test → (if test then (asks_anew >> sweep lane) else nothing) log ≡ Some p → p.1 ≡ log
+    go true due e = absurd (omega (arith, low, leb-true period log.asked due))
+    go false due e = let same : ◌≡◌ {A = Unit {0} × Log} (tt, log) p = cc e in ap (λ q. q.1) (sym same)
 
-pub reads-first : (shape : Shape) (lane : ℕ) (s : LaneState) (c : Command) (es : Entries) (p : Answer × Entries) (bytes : List ℕ) → IsReading c → answer_of shape lane s c es ≡ Some p → p.0.reply ≡ Reply.OkBytes bytes → ReadsFirst s c es bytes
-reads-first shape lane s (Command.Get name at len tries) es p bytes reads is reply =
-    let v = on_view-first s name _ es p bytes is reply in
-    let going = if-first s (in_range v.0 at len) _ es p bytes v.2 reply in
-    let got = tried-first tries s v.0 es _ p bytes going reply in
-    record { range = record { view = v.0; index = at; len = len }; is = rw v.1 refl; first = get_at-first v.0 at len s.names es p bytes got reply }
-reads-first shape lane s (Command.Read name len) es p bytes reads is reply =
-    let v = on_view-first s name _ es p bytes is reply in
-    let got = if-first s (can_read v.0 len) _ es p bytes v.2 reply in
-    record { range = record { view = v.0; index = v.0.reader; len = len }; is = rw v.1 refl; first = get_at-first v.0 v.0.reader len (bind name (after_read v.0 len) s.names) es p bytes got reply }
-reads-first shape lane s _ es p bytes reads is reply = absurd reads
+-- a lane's step: its answer, and the sweep behind it
+pub record Steps (period : ℕ) (shape : Shape) (lane : ℕ) (s : LaneState) (c : Command) (es : Entries) (p : Reply × LaneState) : Type 0 where
+  pub answered : Answer × Log
+  pub by : answer_of shape lane s c (log_at s es) ≡ Some answered
+  pub swept : Unit {0} × Log
+  pub sweeps : sweep_if_due period lane answered.1 ≡ Some swept
+  pub ended : swept.1.left ≡ []
+  pub reply : answered.0.reply ≡ p.0
+  pub asked : p.1.asked ≡ swept.1.asked
+
+pub step-is : (period : ℕ) (shape : Shape) (lane : ℕ) (s : LaneState) (c : Command) (es : Entries) (p : Reply × LaneState) → lane_step period shape lane s c es ≡ Some p → Steps period shape lane s c es p
+step-is period shape lane s c es p is =
+    let f = bind-some (read_all (turn period shape lane s c) (log_at s es)) (λ got. Some (got.0.reply, state_at got.0.names got.1)) p is in
+    let r = read_all-is (turn period shape lane s c) (log_at s es) f.0 f.1 in
+    let a = bind-some (answer_of shape lane s c (log_at s es)) (λ got. (sweep_if_due period lane >> give got.0) got.1) f.0 r.0 in
+    let w = bind-some (sweep_if_due period lane a.0.1) (λ got. give a.0.0 got.1) f.0 a.2 in
+    let same : ◌≡◌ {A = Answer × Log} (a.0.0, w.0.1) f.0 = cc w.2 in
+    let said : ◌≡◌ {A = Reply × LaneState} (f.0.0.reply, state_at f.0.0.names f.0.1) p = cc f.2 in
+    record { answered = a.0; by = a.1; swept = w.0; sweeps = w.1; ended = ap (λ q. q.1.left) same ∙ r.1; reply = ap (λ q. q.0.reply) same ∙ ap (λ q. q.0) said; asked = ap (λ q. q.1.asked) (sym said) ∙ ap (λ q. q.1.asked) (sym same) }
 
 -- a lane's step at one of its commands
-pub record StepAt (shape : Shape) (lane : ℕ) (s : LaneState) (cs : List Command) (groups : List Entries) (replies : List Reply) (j : ℕ) (c : Command) : Type 0 where
+pub record StepAt (period : ℕ) (shape : Shape) (lane : ℕ) (s : LaneState) (cs : List Command) (groups : List Entries) (replies : List Reply) (j : ℕ) (c : Command) : Type 0 where
   pub state : LaneState
-  pub before : lane_run shape lane s (take j cs) (take j groups) ≡ Some (take j replies, state)
+  pub low : state.asked < period
+  pub before : lane_run period shape lane s (take j cs) (take j groups) ≡ Some (take j replies, state)
   pub group : Entries
   pub there : slice_get groups j ≡ Some group
   pub answered : Reply × LaneState
   pub reply : slice_get replies j ≡ Some answered.0
-  pub step : lane_step shape lane state c group ≡ Some answered
+  pub step : lane_step period shape lane state c group ≡ Some answered
 
-pub lane_run-at : (shape : Shape) (lane : ℕ) (s : LaneState) (cs : List Command) (groups : List Entries) (p : List Reply × LaneState) (j : ℕ) (c : Command) → lane_run shape lane s cs groups ≡ Some p → slice_get cs j ≡ Some c → StepAt shape lane s cs groups p.0 j c
-lane_run-at shape lane s [] groups p j c is at = absurd (cc at)
-lane_run-at shape lane s (x ∷ cs) [] p j c is at = absurd (cc is)
-lane_run-at shape lane s (x ∷ cs) (g ∷ groups) p j c is at =
-    let f = bind-some (lane_step shape lane s x g) (λ y. lane_run shape lane y.1 cs groups >>= (λ z. Some (y.0 ∷ z.0, z.1))) p is in
-    let r = bind-some (lane_run shape lane f.0.1 cs groups) (λ z. Some (f.0.0 ∷ z.0, z.1)) p f.2 in
+pub lane_run-at : (period : ℕ) → 0 < period → (shape : Shape) (lane : ℕ) (s : LaneState) → s.asked < period → (cs : List Command) (groups : List Entries) (p : List Reply × LaneState) (j : ℕ) (c : Command) → lane_run period shape lane s cs groups ≡ Some p → slice_get cs j ≡ Some c → StepAt period shape lane s cs groups p.0 j c
+lane_run-at period some shape lane s low [] groups p j c is at = absurd (cc at)
+lane_run-at period some shape lane s low (x ∷ cs) [] p j c is at = absurd (cc is)
+lane_run-at period some shape lane s low (x ∷ cs) (g ∷ groups) p j c is at =
+    let f = bind-some (lane_step period shape lane s x g) (λ y. option_and_then (λ z. Some (y.0 ∷ z.0, z.1)) (lane_run period shape lane y.1 cs groups)) p is in
+    let r = bind-some (lane_run period shape lane f.0.1 cs groups) (λ z. Some (f.0.0 ∷ z.0, z.1)) p f.2 in
     let same : ◌≡◌ {A = List Reply × LaneState} (f.0.0 ∷ r.0.0, r.0.1) p = cc r.2 in
-    subst (λ q. StepAt shape lane s (x ∷ cs) (g ∷ groups) q.0 j c) same (go j at f.0 f.1 r.0 (λ i there. lane_run-at shape lane f.0.1 cs groups r.0 i c r.1 there))
+    let w = step-is period shape lane s x g f.0 f.1 in
+    let kept : f.0.1.asked < period = (let less : w.swept.1.asked < period = sweep-asked period lane w.answered.1 w.swept some w.sweeps in omega (arith, less, w.asked)) in
+    subst (λ q. StepAt period shape lane s (x ∷ cs) (g ∷ groups) q.0 j c) same (go j at f.0 f.1 r.0 (λ i there. lane_run-at period some shape lane f.0.1 kept cs groups r.0 i c r.1 there))
   where
-    go : (j : ℕ) → slice_get (x ∷ cs) j ≡ Some c → (y : Reply × LaneState) → lane_step shape lane s x g ≡ Some y → (z : List Reply × LaneState) →
-        ((i : ℕ) → slice_get cs i ≡ Some c → StepAt shape lane y.1 cs groups z.0 i c) → StepAt shape lane s (x ∷ cs) (g ∷ groups) (y.0 ∷ z.0) j c
+    go : (j : ℕ) → slice_get (x ∷ cs) j ≡ Some c → (y : Reply × LaneState) → lane_step period shape lane s x g ≡ Some y → (z : List Reply × LaneState) →
+        ((i : ℕ) → slice_get cs i ≡ Some c → StepAt period shape lane y.1 cs groups z.0 i c) → StepAt period shape lane s (x ∷ cs) (g ∷ groups) (y.0 ∷ z.0) j c
     go zero at y first z later =
         let same : x ≡ c = cc at in
-        record { state = s; before = refl; group = g; there = refl; answered = y; reply = refl; step = subst (λ d. lane_step shape lane s d g ≡ Some y) same first }
+        record { state = s; low = low; before = refl; group = g; there = refl; answered = y; reply = refl; step = subst (λ d. lane_step period shape lane s d g ≡ Some y) same first }
     go (suc i) at y first z later =
-        let r : StepAt shape lane y.1 cs groups z.0 i c = later i at in
+        let r : StepAt period shape lane y.1 cs groups z.0 i c = later i at in
         record {
           state = r.state;
-          before = ap (λ o. o >>= (λ w. lane_run shape lane w.1 (take i cs) (take i groups) >>= (λ v. Some (w.0 ∷ v.0, v.1)))) first ∙ ap (λ o. o >>= (λ v. Some (y.0 ∷ v.0, v.1))) r.before;
+          low = r.low;
+          before = ap (λ o. option_and_then (λ w. option_and_then (λ v. Some (w.0 ∷ v.0, v.1)) (lane_run period shape lane w.1 (take i cs) (take i groups))) o) first ∙ ap (λ o. option_and_then (λ v. Some (y.0 ∷ v.0, v.1)) o) r.before;
           group = r.group;
           there = r.there;
           answered = r.answered;
@@ -283,27 +403,97 @@ piece-there (n ∷ ns) es group (suc j) m e at is = let r = piece-there ns (drop
     behind (suc n) [] i is = absurd (cc is)
     behind (suc n) (x ∷ es) i is = let r = behind n es i is in (suc r.0, r.1)
 
+-- the front of a list
+pub take-take : {X : Type 0} (j n : ℕ) (xs : List X) → j ≤ n → take j (take n xs) ≡ take j xs
+take-take zero n xs h = refl
+take-take (suc j) zero xs h = absurd (omega (arith, h))
+take-take (suc j) (suc n) [] h = refl
+take-take (suc j) (suc n) (x ∷ xs) h = ap (λ t. x ∷ t) (take-take j n xs (omega (arith, h)))
+
+pub get-in_front : {X : Type 0} (j n : ℕ) (xs : List X) → j < n → slice_get (take n xs) j ≡ slice_get xs j
+get-in_front j zero xs h = absurd (omega (arith, h))
+get-in_front j (suc n) [] h = refl
+get-in_front zero (suc n) (x ∷ xs) h = refl
+get-in_front (suc j) (suc n) (x ∷ xs) h = get-in_front j n xs (omega (arith, h))
+
+pub get-dropped : {X : Type 0} (n m k : ℕ) (xs : List X) → k ≡ n + m → slice_get (drop n xs) m ≡ slice_get xs k
+get-dropped zero m k xs e = let same : m ≡ k = omega (arith, e) in ap (slice_get xs) same
+get-dropped (suc n) m k [] e = refl
+get-dropped (suc n) m zero (x ∷ xs) e = absurd (omega (arith, e))
+get-dropped (suc n) m (suc k) (x ∷ xs) e = get-dropped n m k xs (omega (arith, e))
+
+-- a stopped lane answers nothing else
+pub stopped-says : (lane : ℕ) (cs : List Command) (groups : List Entries) (replies : List Reply) (i : ℕ) (r : Reply) → stopped_run lane cs groups ≡ Some replies → slice_get replies i ≡ Some r → r ≡ Reply.Stopped
+stopped-says lane [] [] replies i r is at = let same : [] ≡ replies = cc is in absurd (cc (ap (λ xs. slice_get xs i) same ∙ at))
+stopped-says lane [] (g ∷ groups) replies i r is at = absurd (cc is)
+stopped-says lane (x ∷ cs) [] replies i r is at = absurd (cc is)
+stopped-says lane (x ∷ cs) (g ∷ groups) replies i r is at =
+    let f = bind-some (read_all (not_carried_out lane x) (log_at new_lane g)) (λ _. option_and_then (λ rs. Some (Reply.Stopped ∷ rs)) (stopped_run lane cs groups)) replies is in
+    let q = bind-some (stopped_run lane cs groups) (λ rs. Some (Reply.Stopped ∷ rs)) replies f.2 in
+    let same : Reply.Stopped ∷ q.0 ≡ replies = cc q.2 in
+    go i q.0 (ap (λ xs. slice_get xs i) same ∙ at) (λ k there. stopped-says lane cs groups q.0 k r q.1 there)
+  where
+    go : (i : ℕ) (rs : List Reply) → slice_get (Reply.Stopped ∷ rs) i ≡ Some r → ((k : ℕ) → slice_get rs k ≡ Some r → r ≡ Reply.Stopped) → r ≡ Reply.Stopped
+    go zero rs at later = sym (cc at)
+    go (suc k) rs at later = later k at
+
 pub reads-give_written : (run : Run) → IsLegal run → ReadsGiveWritten run
 reads-give_written run legal lane number command bytes low is reads reply =
     let log = legal.answers lane low in
-    let s = lane_run-at run.shape lane new_lane (log_of run.trace.lanes lane) (groups_of run lane) (replies_in (replies_of run lane), log.last) number command log.answered is in
-    let said : s.answered.0 ≡ Reply.OkBytes bytes = cc (sym s.reply ∙ reply) in
-    let f = bind-some (answer_of run.shape lane s.state command s.group) (λ x. at_end x.1 >>= (λ _. Some (x.0.reply, state_after s.state s.group x.0))) s.answered s.step in
-    let u = bind-some (at_end f.0.1) (λ _. Some (f.0.0.reply, state_after s.state s.group f.0.0)) s.answered f.2 in
-    let answered : ◌≡◌ {A = Reply × LaneState} (f.0.0.reply, state_after s.state s.group f.0.0) s.answered = cc u.2 in
-    let first : ReadsFirst s.state command s.group bytes = reads-first run.shape lane s.state command s.group f.0 bytes reads f.1 (ap (λ q. q.0) answered ∙ said) in
-    record { state = s.state; before = s.before; range = first.range; is = first.is; size = first.first.size; read = read s.group s.there first.range.view first.range.index first.range.len first.first }
+    let s = lane_run-at sweep_period (omega arith) run.shape lane new_lane (omega arith) (take stop (of_lane run.trace.lanes lane)) (take stop (groups_of run lane)) (take stop (replies_in (replies_of run lane)), log.last) number command log.answered (get-in_front number stop (of_lane run.trace.lanes lane) early ∙ is) in
+    let said : s.answered.0 ≡ Reply.OkBytes bytes = cc (sym s.reply ∙ get-in_front number stop (replies_in (replies_of run lane)) early ∙ reply) in
+    let w = step-is sweep_period run.shape lane s.state command s.group s.answered s.step in
+    let r = reads-parts run.shape lane s.state command (log_at s.state s.group) w.answered bytes reads w.by (w.reply ∙ said) in
+    let not_due : w.swept.1 ≡ w.answered.1 = no-sweep sweep_period lane w.answered.1 w.swept (omega (arith, r.asked, s.low)) w.sweeps in
+    let none : w.answered.1.left ≡ [] = ap (λ l. l.left) (sym not_due) ∙ w.ended in
+    let there : slice_get (groups_of run lane) number ≡ Some s.group = sym (get-in_front number stop (groups_of run lane) early) ∙ s.there in
+    record {
+      state = s.state;
+      before = ap (λ cs. lane_run sweep_period run.shape lane new_lane cs (take number (groups_of run lane))) (sym (take-take number stop (of_lane run.trace.lanes lane) (omega (arith, early))))
+          ∙ ap (λ gs. lane_run sweep_period run.shape lane new_lane (take number (take stop (of_lane run.trace.lanes lane))) gs) (sym (take-take number stop (groups_of run lane) (omega (arith, early))))
+          ∙ s.before
+          ∙ ap (λ rs. Some (rs, s.state)) (take-take number stop (replies_in (replies_of run lane)) (omega (arith, early)));
+      parts = r.parts;
+      is = r.is;
+      notes = s.group;
+      own = there;
+      got = r.pieces_got;
+      gives = r.gives;
+      gets = all r.parts s.group r.pieces_got (λ m e at. piece-there (note_counts (replies_of run lane)) (of_lane (entries_of (logs_of run)) lane) s.group number m e there at) (subst (λ xs. GotParts r.parts s.group xs r.pieces_got) none r.got);
+    }
   where
-    read : (group : Entries) → slice_get (groups_of run lane) number ≡ Some group → (v : ViewData) (at len : ℕ) → GotFirst v at len group bytes → IsRead (logs_of run) lane v.root (root_index v at) bytes
-    read group there v at len g =
-        let logs : Logs = logs_of run in
-        let i = piece-there (note_counts (replies_of run lane)) (log_of (entries_of (logs_of run)) lane) group number 0 g.entry there (ap (λ xs. slice_get xs 0) g.are) in
-        let n = map-get (entry_of (logs_of run)) (log_of (logs_of run) lane) i.0 g.entry (ap (λ xs. slice_get xs i.0) (sym (entries-at (logs_of run) (logs_of run) lane)) ∙ i.1) in
-        let note : n.0 ≡ At (Object.Root v.root.place) g.number (Get (root_index v at) bytes) = sym (entry-note (logs_of run) n.0) ∙ ap (λ e. e.note) n.2 ∙ g.note in
-        let got : Done (logs_of run) (Object.Root v.root.place) (Get (root_index v at) bytes) = record { lane = lane; at = i.0; number = g.number; stands = n.1 ∙ ap (λ x. Some x) note } in
+    stop : ℕ
+    stop = before_stop (replies_in (replies_of run lane))
+
+    -- what is answered with bytes is answered before a stop
+    early : number < stop
+    early = go (below-or number (before_stop (replies_in (replies_of run lane))))
+      where
+        go : (number < before_stop (replies_in (replies_of run lane))) ⊎ (before_stop (replies_in (replies_of run lane)) ≤ number) → number < before_stop (replies_in (replies_of run lane))
+        go (inl less) = less
+        go (inr high) =
+            let at : slice_get (drop (before_stop (replies_in (replies_of run lane))) (replies_in (replies_of run lane))) (number - before_stop (replies_in (replies_of run lane))) ≡ Some (Reply.OkBytes bytes) =
+            get-dropped (before_stop (replies_in (replies_of run lane))) (number - before_stop (replies_in (replies_of run lane))) number (replies_in (replies_of run lane)) (omega (arith, high)) ∙ reply in
+            absurd (cc (stopped-says lane (drop (before_stop (replies_in (replies_of run lane))) (of_lane run.trace.lanes lane)) (drop (before_stop (replies_in (replies_of run lane))) (groups_of run lane)) (drop (before_stop (replies_in (replies_of run lane))) (replies_in (replies_of run lane))) (number - before_stop (replies_in (replies_of run lane))) (Reply.OkBytes bytes) (legal.answers lane low).stopped at))
+
+    one : (part : Part) (e : Entry) (b : List ℕ) → (i : ℕ) × (slice_get (of_lane (entries_of (logs_of run)) lane) i ≡ Some e) → GotPart part e b → GetsPart (logs_of run) part e b
+    one part e b i g =
+        let n = map-get (entry_of (logs_of run)) (of_lane (logs_of run) lane) i.0 e (ap (λ xs. slice_get xs i.0) (sym (entries-at (logs_of run) (logs_of run) lane)) ∙ i.1) in
+        let note_is : n.0 ≡ get_note part g.number b = sym (entry-note (logs_of run) n.0) ∙ ap (λ x. x.note) n.2 ∙ g.note in
+        let d : Done (logs_of run) (Object.Root part.root.place) (Get part.offset b) = record { lane = lane; at = i.0; number = g.number; stands = n.1 ∙ ap (λ x. Some x) note_is } in
         record {
-          got = got;
-          own = refl;
-          present = ap (λ x. (entry_of (logs_of run) x).root) (sym note) ∙ ap (λ e. e.root) n.2 ∙ g.root;
-          written = got-written run.shape (logs_of run) legal.histories v.root.place (root_index v at) bytes got;
+          number = g.number;
+          is = sym n.2 ∙ ap (entry_of (logs_of run)) note_is;
+          size = g.size;
+          present = ap (λ x. (entry_of (logs_of run) x).root) (sym note_is) ∙ ap (λ x. x.root) n.2 ∙ g.root;
+          written = got-written run.shape (logs_of run) legal.histories part.root.place part.offset b d;
         }
+
+    all : (ps : List Part) (es : Entries) (bs : List (List ℕ)) → ((m : ℕ) (e : Entry) → slice_get es m ≡ Some e → (i : ℕ) × (slice_get (of_lane (entries_of (logs_of run)) lane) i ≡ Some e)) → GotParts ps es [] bs → GetsParts (logs_of run) ps es bs
+    all [] es [] there g = subst (λ xs. GetsParts (logs_of run) [] xs []) (sym g) tt
+    all [] es (b ∷ bs) there g = absurd g
+    all (p ∷ ps) es [] there g = absurd g
+    all (p ∷ ps) es (b ∷ bs) there g =
+        let here : es ≡ g.0 ∷ g.1 = g.2 in
+        subst (λ xs. GetsParts (logs_of run) (p ∷ ps) xs (b ∷ bs)) (sym here)
+        (one p g.0 b (there 0 g.0 (ap (λ xs. slice_get xs 0) here)) g.3, all ps g.1 bs (λ m e at. there (suc m) e (ap (λ xs. slice_get xs (suc m)) here ∙ at)) g.4)

@@ -2,20 +2,24 @@
 use Rattle.std.proofs.Common.{⊎_elim, ◌≡◌, ℕ, suc, List, [], ◌∷◌, length, refl, sym, ap, subst, arith, ◌∙◌}
 use Rattle.std.specs.Prelude.{◌<◌, map}
 use Rattle.pool_law.specs.declared.run.Run.{Run}
-use Rattle.pool_law.specs.Logs.{log_of, entry_of, entries_of}
+use Rattle.pool_law.specs.Logs.{of_lane, entry_of, entries_of}
 use Rattle.pool_law.specs.Legal.{IsLegal, logs_of, replies_of}
-use Rattle.pool_law.specs.Lives.{RegionsLive, LieApart}
+use Rattle.pool_law.specs.Lives.{RegionsLive}
+use Rattle.pool_law.specs.Apart.{LieApart, NeverOverlap}
 use Rattle.run_laws.specs.Conserved.{CachesEndEmpty, RegionsReturn, OutAtEnd}
 use Rattle.run_laws.proofs.Sums.{below-or}
 use Rattle.run_laws.proofs.Acts.{sum_notes, Acts, no-acts}
-use Rattle.run_laws.proofs.LaneActs.{Parts, AnyNote, OfCommands, all-send, log-parts, any-acts}
+use Rattle.run_laws.proofs.LaneActs.{AnyNote, any-acts}
+use Rattle.run_laws.proofs.CloseLaw.{Parts, log-parts}
 use Rattle.run_laws.proofs.LogEntries.{LanesAct, entries-at, log-past}
-use Rattle.run_laws.proofs.LifeOrder.{lives}
+use Rattle.run_laws.proofs.LifeChain as chain
+use Rattle.run_laws.proofs.OverlapLaw.{never-overlap}
 use Rattle.run_laws.proofs.ApartLaw.{apart}
 use Rattle.run_laws.specs.Parcels.{PostsWithin, TotalsAreShared}
 use Rattle.run_laws.proofs.ParcelLaw.{total-shared}
 use Rattle.run_laws.proofs.PostLaw.{strays, log-near, posts-within}
-use Rattle.run_laws.proofs.EndLaw.{cache-empty, returns-once, birth-counts}
+use Rattle.run_laws.proofs.EndLaw.{cache-empty, birth-counts}
+use Rattle.run_laws.proofs.ReturnsLaw.{returns-once}
 use Rattle.run_laws.specs.OneLog.{StandInOneLog}
 use Rattle.run_laws.proofs.OneLogLaw.{stand-in_one_log}
 use Rattle.run_laws.proofs.OutLaw.{out-at_end}
@@ -30,12 +34,9 @@ acts-of run legal lane =
     ⊎_elim
     (λ low.
     subst (λ es. Acts AnyNote es []) (entries-at (logs_of run) (logs_of run) lane)
-    (any-acts run.shape lane (log_of run.trace.lanes lane) (replies_of run lane) (log_of (entries_of (logs_of run)) lane) (legal.answers lane low)))
-    (λ high. no-acts (map (entry_of (logs_of run)) (log_of (logs_of run) lane)) [] (ap (map (entry_of (logs_of run))) (log-past (logs_of run) lane (omega (arith, map-length (λ l. l.notes) run.logs, legal.logs, high)))))
+    (any-acts run.shape lane (of_lane run.trace.lanes lane) (replies_of run lane) (of_lane (entries_of (logs_of run)) lane) (legal.answers lane low)))
+    (λ high. no-acts (map (entry_of (logs_of run)) (of_lane (logs_of run) lane)) [] (ap (map (entry_of (logs_of run))) (log-past (logs_of run) lane (omega (arith, map-length (λ l. l.notes) run.logs, legal.logs, high)))))
     (below-or lane run.shape.lanes)
-
-pub regions-live : (run : Run) → IsLegal run → RegionsLive (logs_of run)
-regions-live run legal = lives run.shape (logs_of run) legal.histories (acts-of run legal)
 
 pub regions-apart : (run : Run) → IsLegal run → LieApart (logs_of run)
 regions-apart run legal = apart run.shape (logs_of run) legal.histories (acts-of run legal)
@@ -44,10 +45,10 @@ pub logs-length : (run : Run) → IsLegal run → length (logs_of run) ≡ run.s
 logs-length run legal = omega (arith, map-length (λ l. l.notes) run.logs, legal.logs)
 
 -- each lane's log is what its commands note, and the closing of its caches
-pub parts-of : (run : Run) → IsLegal run → (lane : ℕ) → lane < length (logs_of run) → Parts OfCommands lane (map (entry_of (logs_of run)) (log_of (logs_of run) lane))
+pub parts-of : (run : Run) → IsLegal run → (lane : ℕ) → lane < length (logs_of run) → Parts lane (map (entry_of (logs_of run)) (of_lane (logs_of run) lane))
 parts-of run legal lane low =
-    subst (Parts OfCommands lane) (entries-at (logs_of run) (logs_of run) lane)
-    (log-parts OfCommands run.shape lane (log_of run.trace.lanes lane) (replies_of run lane) (log_of (entries_of (logs_of run)) lane) (all-send (log_of run.trace.lanes lane)).1 (legal.answers lane (omega (arith, low, logs-length run legal))))
+    subst (Parts lane) (entries-at (logs_of run) (logs_of run) lane)
+    (log-parts run.shape lane (of_lane run.trace.lanes lane) (replies_of run lane) (of_lane (entries_of (logs_of run)) lane) (legal.answers lane (omega (arith, low, logs-length run legal))))
 
 pub caches-end_empty : (run : Run) → IsLegal run → CachesEndEmpty run.shape (logs_of run)
 caches-end_empty run legal lane class c low cached e =
@@ -63,7 +64,7 @@ pub posts-are_near : (run : Run) → IsLegal run → PostsWithin (logs_of run) r
 posts-are_near run legal =
     posts-within (logs_of run) run.shape.lanes
     (λ lane low. ap (sum_notes (strays run.shape.lanes)) (sym (entries-at (logs_of run) (logs_of run) lane))
-    ∙ log-near run.shape lane (log_of run.trace.lanes lane) (replies_of run lane) (log_of (entries_of (logs_of run)) lane) (legal.commands lane).fit (legal.answers lane (omega (arith, low, logs-length run legal))))
+    ∙ log-near run.shape lane (of_lane run.trace.lanes lane) (replies_of run lane) (of_lane (entries_of (logs_of run)) lane) (legal.commands lane).fit (legal.answers lane (omega (arith, low, logs-length run legal))))
 
 pub totals-are_shared : (run : Run) → IsLegal run → TotalsAreShared (logs_of run) run.shape.lanes
 totals-are_shared run legal root region used =
@@ -72,3 +73,9 @@ totals-are_shared run legal root region used =
 
 pub roots-in_one_log : (run : Run) → IsLegal run → StandInOneLog (logs_of run)
 roots-in_one_log run legal = stand-in_one_log run.shape (logs_of run) legal.histories (acts-of run legal) (parts-of run legal) legal.counts
+
+pub regions-live : (run : Run) → IsLegal run → RegionsLive (logs_of run)
+regions-live run legal = chain.regions-live run.shape (logs_of run) legal.histories (acts-of run legal) (parts-of run legal) legal.counts
+
+pub roots-never_overlap : (run : Run) → IsLegal run → NeverOverlap (logs_of run)
+roots-never_overlap run legal = never-overlap (logs_of run) (regions-live run legal) (regions-apart run legal)

@@ -9,8 +9,9 @@ use Rattle.pool_law.specs.declared.note.Did.TheVariants.{Take, Give, Hit, Kept, 
 use Rattle.pool_law.specs.declared.note.RefDid.{RefDid}
 use Rattle.pool_law.specs.declared.note.Note.{Note}
 use Rattle.pool_law.specs.declared.note.Note.TheVariants.{At, Ref, Busy}
-use Rattle.pool_law.specs.Logs.{Logs, Entry, log_of, entry_of}
-use Rattle.pool_law.specs.Patterns.{Entries, one_more}
+use Rattle.pool_law.specs.Logs.{Logs, Entry, of_lane, entry_of}
+use Rattle.pool_law.specs.Readers.{Entries}
+use Rattle.pool_law.specs.Patterns.{one_more}
 use Rattle.run_laws.specs.Hands.{Source, Got, Ended, Dropped}
 use Rattle.run_laws.proofs.Acts.{Gets, PutsAway, IsQuiet, AreQuiet, Birthing, Ending, Act, before, act_notes, Acts, Within, entry-within}
 use Rattle.run_laws.proofs.LaneActs.{AnyNote}
@@ -24,34 +25,34 @@ Fills Dropped y t d = d ≡ Shed y
 
 -- before this place of the log a note gave the region
 abbrev pub FilledAt : Logs → ℕ → ℕ → Source → RegionId → Type 0
-FilledAt logs lane i from y = (j : ℕ) × (o : Object) × (k : ℕ) × (d : Did) × (slice_get (log_of logs lane) j ≡ Some (At o k d)) × (j < i) × Fills from y (entry_of logs (At o k d)).region d
+FilledAt logs lane i from y = (j : ℕ) × (o : Object) × (k : ℕ) × (d : Did) × (slice_get (of_lane logs lane) j ≡ Some (At o k d)) × (j < i) × Fills from y (entry_of logs (At o k d)).region d
 
 pub record BirthHere (logs : Logs) (lane : ℕ) (root : RootId) : Type 0 where
   pub region : RegionId
   pub birth : ℕ
   pub object : Object
   pub number : ℕ
-  pub birth_is : slice_get (log_of logs lane) birth ≡ Some (At object number (Birth root region))
+  pub birth_is : slice_get (of_lane logs lane) birth ≡ Some (At object number (Birth root region))
   pub set : ℕ
-  pub set_is : slice_get (log_of logs lane) set ≡ Some (Ref root RefDid.Born)
+  pub set_is : slice_get (of_lane logs lane) set ≡ Some (Ref root RefDid.Born)
   pub order : birth < set
 
 pub record EndHere (logs : Logs) (lane : ℕ) (root : RootId) : Type 0 where
   pub region : RegionId
   pub ended : ℕ
-  pub ended_is : slice_get (log_of logs lane) ended ≡ Some (Ref root RefDid.Ended)
+  pub ended_is : slice_get (of_lane logs lane) ended ≡ Some (Ref root RefDid.Ended)
   pub end : ℕ
   pub object : Object
   pub number : ℕ
-  pub end_is : slice_get (log_of logs lane) end ≡ Some (At object number (End root))
+  pub end_is : slice_get (of_lane logs lane) end ≡ Some (At object number (End root))
   pub out : (entry_of logs (At object number (End root))).region ≡ Some region
   pub vacated : ℕ
-  pub vacated_is : slice_get (log_of logs lane) vacated ≡ Some (Ref root RefDid.Vacated)
+  pub vacated_is : slice_get (of_lane logs lane) vacated ≡ Some (Ref root RefDid.Vacated)
   pub away : ℕ
   pub did : Did
   pub away_object : Object
   pub away_number : ℕ
-  pub away_is : slice_get (log_of logs lane) away ≡ Some (At away_object away_number did)
+  pub away_is : slice_get (of_lane logs lane) away ≡ Some (At away_object away_number did)
   pub puts_away : PutsAway region did
   pub after_ended : ended < end
   pub after_end : end < vacated
@@ -97,11 +98,11 @@ module _ (logs : Logs) (lane : ℕ) where
   away-together i k o r _ puts filled = absurd puts
 
   abbrev pub log_entries : Entries
-  log_entries = map (entry_of logs) (log_of logs lane)
+  log_entries = map (entry_of logs) (of_lane logs lane)
 
-  note-at : (j : ℕ) (x : Entry) (n : Note) → slice_get log_entries j ≡ Some x → x.note ≡ n → (slice_get (log_of logs lane) j ≡ Some n) × (x ≡ entry_of logs n)
+  note-at : (j : ℕ) (x : Entry) (n : Note) → slice_get log_entries j ≡ Some x → x.note ≡ n → (slice_get (of_lane logs lane) j ≡ Some n) × (x ≡ entry_of logs n)
   note-at j x n is note =
-      let m = map-get (entry_of logs) (log_of logs lane) j x is in
+      let m = map-get (entry_of logs) (of_lane logs lane) j x is in
       let same : m.0 ≡ n = sym (entry-note logs m.0) ∙ ap (λ y. y.note) m.2 ∙ note in
       (m.1 ∙ ap (λ y. Some y) same, sym m.2 ∙ ap (entry_of logs) same)
 
@@ -143,7 +144,7 @@ module _ (logs : Logs) (lane : ℕ) where
         last None = (3, omega arith, refl)
         last (Some r) = (4, omega arith, refl)
 
-        n : (slice_get (log_of logs lane) (place 1) ≡ Some (At x.end_is.object x.end_is.number (End x.root))) × (end ≡ entry_of logs (At x.end_is.object x.end_is.number (End x.root)))
+        n : (slice_get (of_lane logs lane) (place 1) ≡ Some (At x.end_is.object x.end_is.number (End x.root))) × (end ≡ entry_of logs (At x.end_is.object x.end_is.number (End x.root)))
         n = note-at (place 1) end (At x.end_is.object x.end_is.number (End x.root)) (there 1 end refl) x.end_is.is
 
         here : EndHere logs lane x.root
@@ -198,12 +199,12 @@ module _ (logs : Logs) (lane : ℕ) where
     act-together (Act.Sheds shed given x) there zero is = let same : shed ≡ e = cc is in subst (λ y. Together logs lane (place 0) y.note) same (subst (Together logs lane (place 0)) (sym x.shed_is.is) tt)
     act-together (Act.Sheds shed given x) there (suc zero) is =
         let same : given ≡ e = cc is in
-        let shed_at : slice_get (log_of logs lane) (place 0) ≡ Some (At x.shed_is.object x.shed_is.number (Shed x.region)) = (note-at (place 0) shed (At x.shed_is.object x.shed_is.number (Shed x.region)) (there 0 shed refl) x.shed_is.is).0 in
+        let shed_at : slice_get (of_lane logs lane) (place 0) ≡ Some (At x.shed_is.object x.shed_is.number (Shed x.region)) = (note-at (place 0) shed (At x.shed_is.object x.shed_is.number (Shed x.region)) (there 0 shed refl) x.shed_is.is).0 in
         subst (λ y. Together logs lane (place 1) y.note) same (subst (Together logs lane (place 1)) (sym x.given_is.is) (inr (place 0, x.shed_is.object, x.shed_is.number, Shed x.region, shed_at, rises 0 1 (omega arith), refl)))
     act-together (Act.Sheds shed given x) there (suc (suc m)) is = absurd (cc is)
 
   -- each note stands with the others of its act
-  pub note-together : Acts AnyNote log_entries [] → (i : ℕ) (n : Note) → slice_get (log_of logs lane) i ≡ Some n → Together logs lane i n
+  pub note-together : Acts AnyNote log_entries [] → (i : ℕ) (n : Note) → slice_get (of_lane logs lane) i ≡ Some n → Together logs lane i n
   note-together acts i n is =
-      let w : Within AnyNote log_entries i (entry_of logs n) = entry-within AnyNote log_entries i (entry_of logs n) acts (get-map (entry_of logs) (log_of logs lane) i n is) in
+      let w : Within AnyNote log_entries i (entry_of logs n) = entry-within AnyNote log_entries i (entry_of logs n) acts (get-map (entry_of logs) (of_lane logs lane) i n is) in
       subst (Together logs lane i) (entry-note logs n) (subst (λ k. Together logs lane k (entry_of logs n).note) (sym w.here) (act-together (entry_of logs n) w.place w.rises w.act w.there w.index w.found))

@@ -13,7 +13,7 @@ use Rattle.pool_law.specs.Arenas.{Arena}
 use Rattle.pool_law.specs.Caches.{Cache}
 use Rattle.pool_law.specs.Roots.{RootPlace, Present, new_place, place_step, place_step_by}
 use Rattle.pool_law.specs.Histories.{after, place_after, cache_after, arena_after}
-use Rattle.pool_law.specs.Logs.{Logs, History, dids, log_of, history_of, entry_of, present_in, present_before, region_for}
+use Rattle.pool_law.specs.Logs.{Logs, History, dids, of_lane, history_of, entry_of, present_in, present_before, region_for}
 use Rattle.pool_law.specs.Legal.{HistoriesHold}
 use Rattle.pool_law.specs.Lives.{cache_of, arena_of}
 use Rattle.arena_law.specs.Takings.{TakenInOrder}
@@ -238,7 +238,7 @@ pub none-ended : (r : RegionId) (d : Did) → ended_by r None d ≡ 0
 none-ended r (End root) = refl
 none-ended r _ = refl
 
-pub over-less-at : {X : Type 0} (f g : X → ℕ) (logs : List (List X)) → ((lane i : ℕ) (x : X) → slice_get (log_of logs lane) i ≡ Some x → f x ≤ g x) → sum_over f logs ≤ sum_over g logs
+pub over-less-at : {X : Type 0} (f g : X → ℕ) (logs : List (List X)) → ((lane i : ℕ) (x : X) → slice_get (of_lane logs lane) i ≡ Some x → f x ≤ g x) → sum_over f logs ≤ sum_over g logs
 over-less-at f g [] h = omega arith
 over-less-at {X = X} f g (xs ∷ logs) h = omega (arith, one xs (λ i x is. h 0 i x is), over-less-at f g logs (λ lane i x is. h (suc lane) i x is))
   where
@@ -248,7 +248,7 @@ over-less-at {X = X} f g (xs ∷ logs) h = omega (arith, one xs (λ i x is. h 0 
 
 -- the laws that need the histories and the hands of a run
 module _ (shape : Shape) (logs : Logs) (holds : HistoriesHold shape logs) (acts : LanesAct logs) where
-  pub note-placed : (lane i k : ℕ) (o : Object) (d : Did) → slice_get (log_of logs lane) i ≡ Some (At o k d) → IsPlaced o d
+  pub note-placed : (lane i k : ℕ) (o : Object) (d : Did) → slice_get (of_lane logs lane) i ≡ Some (At o k d) → IsPlaced o d
   note-placed lane i k o d is =
       let at : (j : ℕ) × (k ≡ 1 + j) × (slice_get (history_of o logs) j ≡ Some (lane, d)) = in-history o logs (history_of o logs) (holds.whole o) lane i k d is in
       placed shape o (dids (history_of o logs)) at.0 d (holds.accepted o) (dids-at (history_of o logs) at.0 lane d at.2)
@@ -257,7 +257,7 @@ module _ (shape : Shape) (logs : Logs) (holds : HistoriesHold shape logs) (acts 
   tally-log f [] = refl
   tally-log f (n ∷ log) = omega (arith, tally-log f log, ap (λ m. tally_if f (entry_of logs n).region (did_of m)) (entry-note logs n))
 
-  pub hands-total : (r : RegionId) (rest : Logs) → ((lane : ℕ) → Acts AnyNote (map (entry_of logs) (log_of rest lane)) []) →
+  pub hands-total : (r : RegionId) (rest : Logs) → ((lane : ℕ) → Acts AnyNote (map (entry_of logs) (of_lane rest lane)) []) →
       (sum_over (note_tally logs (got_by r)) rest ≡ sum_over (note_tally logs (used_by r)) rest)
       × (sum_over (note_tally logs (ended_by r)) rest + sum_over (note_tally logs (shed_by r)) rest ≡ sum_over (note_tally logs (kept_by r)) rest + sum_over (note_tally logs (given_by r)) rest)
   hands-total r [] h = (refl, refl)
@@ -299,7 +299,7 @@ module _ (shape : Shape) (logs : Logs) (holds : HistoriesHold shape logs) (acts 
     given-weight (Ref root did) p = refl
     given-weight (Busy held) p = refl
 
-    place-of : (lane i : ℕ) (n : Note) → slice_get (log_of logs lane) i ≡ Some n → (o : Object) (k : ℕ) (d : Did) → n ≡ At o k d → IsPlaced o d
+    place-of : (lane i : ℕ) (n : Note) → slice_get (of_lane logs lane) i ≡ Some n → (o : Object) (k : ℕ) (d : Did) → n ≡ At o k d → IsPlaced o d
     place-of lane i n is o k d same = note-placed lane i k o d (is ∙ ap (λ x. Some x) same)
 
     pub got-total : total logs (got_by r) ≡ takes_in logs r + hits_in logs r

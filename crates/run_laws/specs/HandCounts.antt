@@ -6,7 +6,8 @@ use Rattle.pool_law.specs.declared.note.Did.TheVariants.{Take, Give, Hit, Kept, 
 use Rattle.pool_law.specs.Same.{same_region}
 use Rattle.run_laws.specs.CacheCounts.{one_of}
 use Rattle.run_laws.specs.Hands.{did_of}
-use Rattle.pool_law.specs.Patterns.{Entries, one_more}
+use Rattle.pool_law.specs.Readers.{Entries}
+use Rattle.pool_law.specs.Patterns.{one_more}
 
 -- a number for what was done, with the region that an end takes out
 abbrev pub Tally : Type 0

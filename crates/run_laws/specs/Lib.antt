@@ -4,9 +4,10 @@ pub mod HandCounts
 pub mod CacheCounts
 pub mod Regroup
 pub mod PlaceLives
+pub mod OneLog
 pub mod Conserved
 pub mod Parcels
-pub mod OneLog
 pub mod Reads
 pub mod Reported
 pub mod Headline
+pub mod Refused

@@ -7,7 +7,7 @@ use Rattle.pool_law.specs.declared.note.Did.{Did}
 use Rattle.pool_law.specs.declared.note.RefDid.{RefDid}
 use Rattle.pool_law.specs.declared.note.Note.{Note}
 use Rattle.pool_law.specs.Logs.{Logs}
-use Rattle.pool_law.specs.Lives.{StandsAt, Use, Done}
+use Rattle.pool_law.specs.Lives.{StandsAt, IsUse, Done}
 
 -- a step on the count of a root, in this lane's log at this place
 pub record Counted (logs : Logs) (root : RootId) (did : RefDid) : Type 0 where
@@ -28,12 +28,12 @@ EndsOnce logs root =
 -- the birth of a root stands only once, whatever the region
 abbrev pub BornOnce : Logs → RootId → Type 0
 BornOnce logs root =
-    (r q : RegionId) (a : Use logs root r) (b : Use logs root q) → (a.lane ≡ b.lane) × (a.at ≡ b.at)
+    (r q : RegionId) (a : IsUse logs root r) (b : IsUse logs root q) → (a.lane ≡ b.lane) × (a.at ≡ b.at)
 
 -- a root is born in one log: its birth, and then the step that sets its word, each once
 pub record IsBorn (logs : Logs) (root : RootId) : Type 0 where
   pub region : RegionId
-  pub birth : Use logs root region
+  pub birth : IsUse logs root region
   pub set : Counted logs root RefDid.Born
   pub same_log : set.lane ≡ birth.lane
   pub order : birth.at < set.at
@@ -54,7 +54,7 @@ pub record HasEnded (logs : Logs) (root : RootId) : Type 0 where
 
 -- where one of these notes of a root stands, all of them do
 pub record StandInOneLog (logs : Logs) : Type 0 where
-  pub born : (root : RootId) (region : RegionId) → Use logs root region → IsBorn logs root
+  pub born : (root : RootId) (region : RegionId) → IsUse logs root region → IsBorn logs root
   pub set : (root : RootId) → Counted logs root RefDid.Born → IsBorn logs root
   pub ended : (root : RootId) → Counted logs root RefDid.Ended → HasEnded logs root
   pub end : (root : RootId) → Done logs (Object.Root root.place) (Did.End root) →

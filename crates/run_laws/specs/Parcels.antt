@@ -12,7 +12,7 @@ use Rattle.pool_law.specs.Logs.{Logs, dids, history_of, entries_of}
 use Rattle.pool_law.specs.Counts.{view_is_of}
 use Rattle.run_laws.specs.CountLaw.{counts_of}
 use Rattle.run_laws.specs.Conserved.{total_in}
-use Rattle.pool_law.specs.Lives.{Use, Done}
+use Rattle.pool_law.specs.Lives.{IsUse, Done}
 
 -- the parcels with a view of the root
 abbrev pub parcels_of : RootId → List Parcel → ℕ
@@ -52,4 +52,4 @@ TotalIsShared logs lanes root =
 -- so it is for each root that was born
 abbrev pub TotalsAreShared : Logs → ℕ → Type 0
 TotalsAreShared logs lanes =
-    (root : RootId) (region : RegionId) → Use logs root region → TotalIsShared logs lanes root
+    (root : RootId) (region : RegionId) → IsUse logs root region → TotalIsShared logs lanes root

@@ -1,20 +1,21 @@
--- What a read gives: the bytes that were last written to its root, at its view's offsets.
-use Rattle.std.specs.Prelude.{◌≡◌, ℕ, ◌+◌, ◌-◌, ◌<◌, Bool, ◌&&◌, nat_lt, nat_le, if◌then◌else◌, List, [], ◌∷◌, length, take, get_or, Option, Some, None, option_map, slice_get}
+-- What a read gives: the bytes that were last written to the roots of its parts, at their offsets.
+use Rattle.std.specs.Prelude.{◌≡◌, ℕ, ◌+◌, ◌-◌, ◌<◌, Bool, ◌&&◌, nat_lt, nat_le, if◌then◌else◌, List, [], ◌∷◌, ◌++◌, length, take, get_or, Option, Some, None, option_map, slice_get}
 use Rattle.pool_law.specs.declared.id.RootId.{RootId}
-use Rattle.pool_law.specs.declared.id.ViewData.{ViewData}
+use Rattle.pool_law.specs.declared.id.Part.{Part}
 use Rattle.pool_law.specs.declared.command.Command.{Command}
 use Rattle.pool_law.specs.declared.note.Object.{Object}
 use Rattle.pool_law.specs.declared.note.Did.{Did}
 use Rattle.pool_law.specs.declared.note.Did.TheVariants.{Birth, Set}
+use Rattle.pool_law.specs.declared.note.Note.{Note}
+use Rattle.pool_law.specs.declared.note.Note.TheVariants.{At}
 use Rattle.pool_law.specs.declared.run.Reply.{Reply}
 use Rattle.pool_law.specs.declared.run.Run.{Run}
-use Rattle.pool_law.specs.Views.{root_index}
-use Rattle.pool_law.specs.Logs.{Logs, dids, history_of, log_of, entries_of, present_before}
-use Rattle.pool_law.specs.Lanes.{LaneState, Bound, Plain, new_lane, lookup}
-use Rattle.pool_law.specs.LaneLaw.{pieces, lane_run, note_counts, replies_in}
-use Rattle.pool_law.specs.Patterns.{Entries}
+use Rattle.pool_law.specs.Logs.{Logs, Entry, dids, history_of, of_lane, entry_of, entries_of, present_before}
+use Rattle.pool_law.specs.Names.{reader_of, parts_at}
+use Rattle.pool_law.specs.LaneStates.{LaneState, new_lane, named}
+use Rattle.pool_law.specs.LaneLaw.{sweep_period, pieces, lane_run, note_counts, replies_in}
+use Rattle.pool_law.specs.Readers.{Entries}
 use Rattle.pool_law.specs.Legal.{logs_of, replies_of}
-use Rattle.pool_law.specs.Lives.{Done}
 
 -- bytes that are set at an offset cover this index
 abbrev pub covers : ℕ → List ℕ → ℕ → Bool
@@ -36,36 +37,18 @@ last_written i old (d ∷ ds) = last_written i (byte_after i old d) ds
 abbrev pub earlier_at : Logs → ℕ → ℕ → List Did
 earlier_at logs place number = take (number - 1) (dids (history_of (Object.Root place) logs))
 
--- a note in a lane's log got these bytes of a root, from an offset on: the root was present, and
--- each is the byte that was last written there
-pub record IsRead (logs : Logs) (lane : ℕ) (root : RootId) (offset : ℕ) (bytes : List ℕ) : Type 0
-  where
-    pub got : Done logs (Object.Root root.place) (Did.Get offset bytes)
-    pub own : got.lane ≡ lane
-    pub present :
-        option_map (λ p. p.root) (present_before logs root.place got.number) ≡ Some root
-    pub written : (k : ℕ) → k < length bytes →
-        get_or bytes k 0 ≡ last_written (offset + k) 0 (earlier_at logs root.place got.number)
+-- the note that gets these bytes of a part
+abbrev pub get_note : Part → ℕ → List ℕ → Note
+get_note part number bytes =
+    At (Object.Root part.root.place) number (Did.Get part.offset bytes)
 
--- so many bytes of a view, from an index on
-pub record Range : Type 0 where
-  pub view : ViewData
-  pub index : ℕ
-  pub len : ℕ
-
--- the view that a name is bound to
-abbrev pub view_bound : Option Bound → Option ViewData
-view_bound None = None
-view_bound (Some (Plain v)) = Some v
-
--- what a command reads
-abbrev pub range_of : LaneState → Command → Option Range
-range_of s (Command.Get name at len tries) =
-    option_map (λ v. record { view = v; index = at; len = len }) (view_bound (lookup name s.names))
-range_of s (Command.Read name len) =
-    option_map (λ v. record { view = v; index = v.reader; len = len })
-    (view_bound (lookup name s.names))
-range_of s _ = None
+-- what a command reads: parts of roots, in order
+abbrev pub parts_read : LaneState → Command → Option (List Part)
+parts_read s (Command.Get name at len tries) =
+    option_map (λ b. parts_at b at len) (named s name)
+parts_read s (Command.Read name len) =
+    option_map (λ b. parts_at b (reader_of b) len) (named s name)
+parts_read s _ = None
 
 -- a command is a read
 abbrev pub IsReading : Command → Type 0
@@ -76,29 +59,59 @@ IsReading _ = ⊥
 -- the notes of each command of a lane
 abbrev pub groups_of : Run → ℕ → List Entries
 groups_of run lane =
-    pieces (note_counts (replies_of run lane)) (log_of (entries_of (logs_of run)) lane)
+    pieces (note_counts (replies_of run lane)) (of_lane (entries_of (logs_of run)) lane)
 
 -- the lane's state before its command with this number
 abbrev pub IsBefore : Run → ℕ → ℕ → LaneState → Type 0
 IsBefore run lane number s =
-    lane_run run.shape lane new_lane
-    (take number (log_of run.trace.lanes lane)) (take number (groups_of run lane))
+    lane_run sweep_period run.shape lane new_lane
+    (take number (of_lane run.trace.lanes lane)) (take number (groups_of run lane))
     ≡ Some (take number (replies_in (replies_of run lane)), s)
 
--- what a command reads, and that its reply gives the bytes last written there
+-- the root that is present as a note comes
+abbrev pub root_before : Logs → ℕ → ℕ → Option RootId
+root_before logs place number = option_map (λ p. p.root) (present_before logs place number)
+
+-- an entry gets these bytes of a part: of the root that is present, at the part's offset, and each
+-- is the byte that was last written there
+pub record GetsPart (logs : Logs) (part : Part) (e : Entry) (bytes : List ℕ) : Type 0 where
+  pub number : ℕ  -- of the note
+  pub is : e ≡ entry_of logs (get_note part number bytes)
+  pub size : length bytes ≡ part.len
+  pub present : root_before logs part.root.place number ≡ Some part.root
+  pub written : (k : ℕ) → k < length bytes →
+      get_or bytes k 0 ≡ last_written (part.offset + k) 0 (earlier_at logs part.root.place number)
+
+-- these entries, and no others, get the parts in order
+abbrev pub GetsParts : Logs → List Part → Entries → List (List ℕ) → Type 0
+GetsParts logs [] [] [] = Unit {0}
+GetsParts logs (p ∷ ps) (e ∷ es) (b ∷ bs) = GetsPart logs p e b × GetsParts logs ps es bs
+GetsParts logs _ _ _ = ⊥
+
+-- bytes one behind the other
+abbrev pub joined : List (List ℕ) → List ℕ
+joined [] = []
+joined (b ∷ bs) = b ++ joined bs
+
+-- a command reads parts of roots: its notes are those that get the parts, in order, and it gives
+-- their bytes joined
 pub record ReadsWritten (run : Run) (lane number : ℕ) (command : Command) (bytes : List ℕ) : Type 0
   where
     pub state : LaneState
     pub before : IsBefore run lane number state
-    pub range : Range
-    pub is : range_of state command ≡ Some range
-    pub size : length bytes ≡ range.len
-    pub read : IsRead (logs_of run) lane range.view.root (root_index range.view range.index) bytes
+    pub parts : List Part
+    pub is : parts_read state command ≡ Some parts
+    pub notes : Entries
+    pub own : slice_get (groups_of run lane) number ≡ Some notes
+    pub got : List (List ℕ)
+    pub gives : bytes ≡ joined got
+    pub gets : GetsParts (logs_of run) parts notes got
 
--- each read that is answered with bytes gives those last written to its root, at its view's offsets
+-- each read that is answered with bytes gives those last written to the roots of its
+-- parts, at their offsets
 abbrev pub ReadsGiveWritten : Run → Type 0
 ReadsGiveWritten run =
     (lane number : ℕ) (command : Command) (bytes : List ℕ) → lane < run.shape.lanes →
-    slice_get (log_of run.trace.lanes lane) number ≡ Some command → IsReading command →
+    slice_get (of_lane run.trace.lanes lane) number ≡ Some command → IsReading command →
     slice_get (replies_in (replies_of run lane)) number ≡ Some (Reply.OkBytes bytes) →
     ReadsWritten run lane number command bytes

@@ -4,7 +4,7 @@ use Rattle.pool_law.specs.declared.id.RootId.{RootId}
 use Rattle.pool_law.specs.declared.note.RefDid.{RefDid}
 use Rattle.pool_law.specs.declared.report.Leak.{Leak}
 use Rattle.pool_law.specs.declared.run.Run.{Run}
-use Rattle.pool_law.specs.Logs.{Logs, log_of}
+use Rattle.pool_law.specs.Logs.{Logs, of_lane}
 use Rattle.pool_law.specs.Legal.{logs_of}
 use Rattle.pool_law.specs.Leaks.{births, is_sampled, leak_of}
 use Rattle.run_laws.specs.OneLog.{Counted}
@@ -17,7 +17,7 @@ NeverFreed logs root = Counted logs root RefDid.Ended → ⊥
 pub record IsLeak (run : Run) (leak : Leak) : Type 0 where
   pub root : RootId
   pub earlier : ℕ  -- so many roots were born in the lane before it
-  pub born : slice_get (births (log_of (logs_of run) leak.lane)) earlier ≡ Some root
+  pub born : slice_get (births (of_lane (logs_of run) leak.lane)) earlier ≡ Some root
   pub serial : leak.serial ≡ earlier + 1
   pub sampled : IsTrue (is_sampled run.shape.level run.shape.interval leak.serial)
   pub never_freed : NeverFreed (logs_of run) root

@@ -17,14 +17,17 @@ ghost use Rattle.pool_law.specs.declared.run.Answered.{Answered};
 ghost use Rattle.run_laws.specs.Hands.{EmptyHanded};
 ghost use Rattle.pool_law.specs.declared.run.Run.{Run};
 ghost use Rattle.pool_law.specs.Legal.{IsLegal, logs_of};
-ghost use Rattle.run_laws.specs.Conserved.{CachesEndEmpty, RegionsReturn, OutAtEnd};
+ghost use Rattle.run_laws.specs.Conserved.{ReturnsOnce, CachesEndEmpty, RegionsReturn, OutAtEnd};
+ghost use Rattle.run_laws.specs.Reads.{ReadsGiveWritten};
+ghost use Rattle.run_laws.specs.Refused.{first_taking, byte_root, given_while_live, given_alive, kept_alive, given_and_kept, kept_and_given, stale, swapped};
 ghost use Rattle.run_laws.specs.Headline.{Headline};
 ghost use Rattle.run_laws.specs.OneLog.{StandInOneLog};
 ghost use Rattle.run_laws.specs.Parcels.{TotalsAreShared};
-ghost use Rattle.pool_law.specs.Lives.{RegionsLive, LieApart};
+ghost use Rattle.pool_law.specs.Lives.{RegionsLive};
+ghost use Rattle.pool_law.specs.Apart.{LieApart, NeverOverlap};
 ghost use Rattle.pool_law.specs.LaneLaw.{IsLaneLog};
-ghost use Rattle.pool_law.specs.Patterns.{Entries};
-ghost use Rattle.pool_law.specs.Logs.{Entry, Logs, History, IsHistory, history_of, log_of};
+ghost use Rattle.pool_law.specs.Readers.{Entries};
+ghost use Rattle.pool_law.specs.Logs.{Entry, Logs, History, IsHistory, history_of, of_lane};
 ghost use Rattle.run_laws.specs.PlaceLives.{PlaceLives};
 
 /// What was kept by a cache has been hit or shed, or is still there.
@@ -59,7 +62,7 @@ pub fn hands_balance()
 /// The total of a root is what the lanes count, with what was posted and not fetched.
 pub fn totals_are_counted()
     ensures counted { (root : RootId) (logs : List (List Entry)) →
-        ((lane : ℕ) → CountsHold root 0 (log_of logs lane)) → TotalHolds root logs →
+        ((lane : ℕ) → CountsHold root 0 (of_lane logs lane)) → TotalHolds root logs →
         TotalIsCounted root logs }
 {}
 
@@ -68,8 +71,9 @@ pub fn sums_agree()
     ensures agree { SumsAgree }
 {}
 
-/// In a legal run each region lives its life: its uses are numbered from 1, each once; between two
-/// of them its owner's cache kept it once; and it comes back at most once, after its last use.
+/// In a legal run each taking lives one life: its Take, and all that moves it after that, in order.
+/// One root after another uses it, each with one use more; after each that ends, the arena gets it
+/// at once, or a cache keeps it, which is hit for the next root or sheds it for the arena.
 pub fn regions_live()
     ensures live { (run : Run) → IsLegal run → RegionsLive (logs_of run) }
 {}
@@ -78,6 +82,11 @@ pub fn regions_live()
 /// before that of the other was taken.
 pub fn regions_lie_apart()
     ensures apart { (run : Run) → IsLegal run → LieApart (logs_of run) }
+{}
+
+/// In a legal run, of two roots whose places overlap one ended before the other was born.
+pub fn roots_never_overlap()
+    ensures apart { (run : Run) → IsLegal run → NeverOverlap (logs_of run) }
 {}
 
 /// In a legal run a root that is born has in one log its birth and then the step that sets its
@@ -92,8 +101,8 @@ pub fn caches_end_empty()
     ensures empty { (run : Run) → IsLegal run → CachesEndEmpty run.shape (logs_of run) }
 {}
 
-/// In a legal run the region of a root is put away once, after the root's one end, exactly where
-/// the root's total is 0.
+/// In a legal run the region of a root returns once, by the release that ends the root's count and
+/// after it in its log, and otherwise never; which is exactly where the root's total is 0.
 pub fn regions_return()
     ensures returned { (run : Run) → IsLegal run → RegionsReturn (logs_of run) }
 {}
@@ -117,4 +126,18 @@ pub fn totals_are_shared()
 /// sampled roots never freed.
 pub fn headline()
     ensures headline { (run : Run) → IsLegal run → Headline run }
+{}
+
+/// Notes that no pool makes are refused: a region that is given back while its root is live, so
+/// that another root lies on it; one that returns though its root never ends; one that returns
+/// twice; a read of what was there before; one of a composite's parts the wrong way round.
+pub fn forged_notes_are_refused()
+    ensures overlapping { NeverOverlap given_while_live → ⊥ }
+    ensures given_early { RegionsLive given_while_live → ⊥ }
+    ensures given_alive { ReturnsOnce given_alive (byte_root 0) (first_taking 1) → ⊥ }
+    ensures kept_alive { ReturnsOnce kept_alive (byte_root 0) (first_taking 1) → ⊥ }
+    ensures given_and_kept { ReturnsOnce given_and_kept (byte_root 0) (first_taking 1) → ⊥ }
+    ensures kept_and_given { ReturnsOnce kept_and_given (byte_root 0) (first_taking 1) → ⊥ }
+    ensures stale { ReadsGiveWritten stale → ⊥ }
+    ensures swapped { ReadsGiveWritten swapped → ⊥ }
 {}

@@ -1,16 +1,16 @@
--- Where in the log each note stands.
-use Rattle.std.proofs.Common.{inl, refl, arith}
+-- What follows what, and where in the log each note stands.
+use Rattle.std.proofs.Common.{inl, inr, refl, arith, [], ◌∷◌}
+use Rattle.pool_law.specs.declared.note.Object.{Object}
+use Rattle.pool_law.specs.declared.note.Did.{Did}
+use Rattle.law_rows.specs.ArenaRuns.{five, five_region, ten_region}
+use Rattle.law_rows.specs.LifeRows.{event, first_arena, larger_taken, larger_born}
 use Rattle.law_rows.proofs.lives.region_given_at_once.Goals as goal
 
-pub returns-clause-used : goal.returns-clause-used
-returns-clause-used c = record { lane = 0; at = 6; number = 1; birth = refl }
+pub returns-clause-lives : goal.returns-clause-lives
+returns-clause-lives c = (refl, (refl, refl))
 
-pub returns-clause-returns : goal.returns-clause-returns
-returns-clause-returns c = record {
-  ended = record { lane = 0; at = 18; number = 2; stands = refl };
-  given = record { lane = 0; at = 20; number = 5; stands = refl };
-  way = inl (refl, omega arith);
-}
+pub returns-clause-order : goal.returns-clause-order
+returns-clause-order c = (refl, ((refl, omega arith), (refl, ((refl, omega arith), (refl, ((refl, omega arith), refl))))))
 
 pub returns-clause-before : goal.returns-clause-before
 returns-clause-before c = record {
@@ -18,4 +18,15 @@ returns-clause-before c = record {
   given = record { lane = 0; at = 20; number = 5; stands = refl };
   taken = record { lane = 0; at = 23; number = 6; stands = refl };
   order = omega arith;
+}
+
+pub returns-clause-apart : goal.returns-clause-apart
+returns-clause-apart c = record {
+  end = event 0 18 (Object.Root 1) 2 (Did.End (five 1));
+  birth = larger_born;
+  region = ten_region 1;
+  ended = (refl, refl);
+  born = (refl, refl);
+  between = event 0 20 first_arena 5 (Did.Give (five_region 1 1)) ∷ larger_taken ∷ [];
+  order = (inl (refl, omega arith), (refl, (inr (refl, omega arith), (refl, inl (refl, omega arith)))));
 }

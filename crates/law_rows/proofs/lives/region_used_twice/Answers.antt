@@ -1,36 +1,25 @@
--- Where in the log each note stands.
-use Rattle.std.proofs.Common.{inr, refl, arith}
+-- What follows what, and where in the log each note stands.
+use Rattle.std.proofs.Common.{inl, inr, refl, arith, [], ◌∷◌}
+use Rattle.pool_law.specs.declared.note.Object.{Object}
+use Rattle.pool_law.specs.declared.note.Did.{Did}
+use Rattle.law_rows.specs.Notes.{least_region}
+use Rattle.law_rows.specs.RootRuns.{first_root, second_root}
+use Rattle.law_rows.specs.LifeRows.{event, least_cache}
 use Rattle.law_rows.proofs.lives.region_used_twice.Goals as goal
 
-pub returns-clause-first : goal.returns-clause-first
-returns-clause-first c = record { lane = 0; at = 3; number = 1; birth = refl }
+pub returns-clause-lives : goal.returns-clause-lives
+returns-clause-lives c = (refl, (refl, (refl, (refl, (refl, (refl, (refl, (refl, refl))))))))
 
-pub returns-clause-passage : goal.returns-clause-passage
-returns-clause-passage c = (
-  record { lane = 0; at = 14; number = 4; birth = refl },
-  record {
-    ended = record { lane = 0; at = 8; number = 3; stands = refl };
-    kept = record { lane = 0; at = 10; number = 2; stands = refl };
-    hit = record { lane = 0; at = 13; number = 3; stands = refl };
-    same_log = refl;
-    after_end = omega arith;
-    after_kept = omega arith;
-    next_log = refl;
-    before_birth = omega arith;
-  },
-)
+pub returns-clause-order : goal.returns-clause-order
+returns-clause-order c = (refl, ((refl, omega arith), (refl, ((refl, omega arith), (refl, ((refl, omega arith), (refl, ((refl, omega arith), (refl, ((refl, omega arith), (refl, ((refl, omega arith), (refl, ((refl, omega arith), (refl, ((refl, omega arith), (refl, ((refl, omega arith), refl))))))))))))))))))
 
-pub returns-clause-returns : goal.returns-clause-returns
-returns-clause-returns c = record {
-  ended = record { lane = 0; at = 18; number = 6; stands = refl };
-  given = record { lane = 0; at = 24; number = 2; stands = refl };
-  way = inr (
-    record { lane = 0; at = 20; number = 4; stands = refl },
-    record { lane = 0; at = 23; number = 6; stands = refl },
-    refl,
-    omega arith,
-    omega arith,
-    refl,
-    omega arith,
-  );
+pub returns-clause-apart : goal.returns-clause-apart
+returns-clause-apart c = record {
+  end = event 0 8 (Object.Root 0) 3 (Did.End first_root);
+  birth = event 0 14 (Object.Root 0) 4 (Did.Birth second_root (least_region 2));
+  region = least_region 2;
+  ended = (refl, refl);
+  born = (refl, refl);
+  between = event 0 10 least_cache 2 (Did.Kept (least_region 1)) ∷ event 0 13 least_cache 3 (Did.Hit (least_region 1)) ∷ [];
+  order = (inl (refl, omega arith), (refl, (inr (refl, omega arith), (refl, inl (refl, omega arith)))));
 }

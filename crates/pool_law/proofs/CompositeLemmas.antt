@@ -1,0 +1,54 @@
+-- How the copying of parts, and their release, go on after the notes of the first part.
+use Rattle.std.proofs.Common.{eq-eqb, ◌≡◌, ℕ, ◌+◌, List, [], ◌∷◌, length, refl, ap, true, false, Some, None, ◌∙◌}
+use Rattle.std.specs.Prelude.{◌==◌, if◌then◌else◌, Option, option_map, option_and_then}
+use Rattle.pool_law.specs.declared.id.RootId.{RootId}
+use Rattle.pool_law.specs.declared.id.Part.{Part}
+use Rattle.pool_law.specs.declared.note.Object.{Object}
+use Rattle.pool_law.specs.declared.note.Did.{Did}
+use Rattle.pool_law.specs.declared.note.Note.{Note}
+use Rattle.pool_law.specs.declared.run.Shape.{Shape}
+use Rattle.pool_law.specs.Same.{same_bytes}
+use Rattle.pool_law.specs.Logs.{Entry}
+use Rattle.pool_law.specs.Counts.{count_of, root_is}
+use Rattle.pool_law.specs.Dids as say
+use Rattle.pool_law.specs.Readers.{Entries, Log, ◌>>◌, nothing, behind_entry, first_of_left, done_at, access}
+use Rattle.pool_law.specs.Patterns.{release}
+use Rattle.pool_law.specs.Lanes.{copy_parts, release_part}
+use Rattle.pool_law.proofs.PatternLemmas.{same_number, done_at-is}
+
+pub same_bytes-refl : (xs : List ℕ) → same_bytes xs xs ≡ true
+same_bytes-refl [] = refl
+same_bytes-refl (x ∷ xs) = rw (same_number x, same_bytes-refl xs) refl
+
+-- an access to a root that is present is read
+pub access-is : {A : Type 0} (root : RootId) (says : Did → Option A) (n : ℕ) (did : Did) (log : Log) (e : Entry) (rest : Entries) →
+    log.left ≡ e ∷ rest → e.note ≡ Note.At (Object.Root root.place) n did → root_is root e.root ≡ true →
+    access root says log ≡ option_map (λ a. (a, behind_entry log e rest)) (says did)
+access-is root says n did log e rest left is here =
+    ap (λ es. first_of_left (λ x. if root_is root x.root then option_and_then says (done_at (Object.Root root.place) x.note) else None) log es) left
+    ∙ ap (λ b. option_map (λ a. (a, behind_entry log e rest)) (if b then option_and_then says (done_at (Object.Root root.place) e.note) else None)) here
+    ∙ ap (λ d. option_map (λ a. (a, behind_entry log e rest)) (option_and_then says d)) (ap (done_at (Object.Root root.place)) is ∙ done_at-is (Object.Root root.place) n did)
+
+-- after the get and the set of a part, the others are copied behind it
+pub copy_parts-goes_on : (root : RootId) (at n m : ℕ) (bytes : List ℕ) (p : Part) (ps : List Part) (log : Log) (e f : Entry) (rest : Entries) →
+    log.left ≡ e ∷ f ∷ rest →
+    e.note ≡ Note.At (Object.Root p.root.place) n (Did.Get p.offset bytes) → root_is p.root e.root ≡ true → length bytes ≡ p.len →
+    f.note ≡ Note.At (Object.Root root.place) m (Did.Set at bytes) → root_is root f.root ≡ true →
+    copy_parts root at (p ∷ ps) log ≡ copy_parts root (at + p.len) ps (behind_entry (behind_entry log e (f ∷ rest)) f rest)
+copy_parts-goes_on root at n m bytes p ps log e f rest left gets here long sets there =
+    let first : access p.root (say.get p.offset p.len) log ≡ Some (bytes, behind_entry log e (f ∷ rest)) =
+    access-is p.root (say.get p.offset p.len) n (Did.Get p.offset bytes) log e (f ∷ rest) left gets here
+    ∙ rw (same_number p.offset, eq-eqb (length bytes) p.len long) refl in
+    let second : access root (say.set at bytes) (behind_entry log e (f ∷ rest)) ≡ Some (tt, behind_entry (behind_entry log e (f ∷ rest)) f rest) =
+    access-is root (say.set at bytes) m (Did.Set at bytes) (behind_entry log e (f ∷ rest)) f rest refl sets there
+    ∙ rw (same_number at, same_bytes-refl bytes) refl in
+    rw (first, second) refl
+
+-- a part whose root the lane counts no more is passed by, and any other is released
+pub release_part-gone : (shape : Shape) (p : Part) (log : Log) → count_of p.root log.seen ≡ 0 →
+    release_part shape p log ≡ Some (tt, log)
+release_part-gone shape p log none = rw none refl
+
+pub release_part-counted : (shape : Shape) (p : Part) (log : Log) → (count_of p.root log.seen == 0) ≡ false →
+    release_part shape p log ≡ (release shape p.root >> nothing) log
+release_part-counted shape p log some = rw some refl
