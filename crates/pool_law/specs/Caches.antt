@@ -35,7 +35,7 @@ abbrev pub is_empty : {X : Type 0} → List X → Bool
 is_empty [] = true
 is_empty (x ∷ xs) = false
 
--- a cache with the rest of its regions, after a hit and after a shed
+-- a cache once its front was hit
 abbrev pub after_hit : ℕ → Cache → Option (List RegionId) → Option Cache
 after_hit capacity c None = None
 after_hit capacity c (Some rest) =

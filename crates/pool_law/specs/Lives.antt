@@ -53,10 +53,11 @@ pub record Event : Type 0 where
 abbrev pub Stands : Logs → Event → Type 0
 Stands logs e = StandsAt logs e.lane e.at (Note.At e.object e.number e.did)
 
--- an event is later than another in a log, and at an object
+-- of two events in one log the second stands later
 abbrev pub InOneLog : Event → Event → Type 0
 InOneLog e f = (e.lane ≡ f.lane) × (e.at < f.at)
 
+-- of two events at one object the second has a higher number
 abbrev pub AtOneObject : Event → Event → Type 0
 AtOneObject e f = (e.object ≡ f.object) × (e.number < f.number)
 
@@ -68,9 +69,9 @@ pub data Where : Type 0 where
   Cached : Where  -- in a cache
   Dropped : Where  -- with the lane that closed its cache
 
--- all that is done from then on with a region that is there, in order: a root is born with it and
--- one use more; the root never ends, or it ends; then the arena gets the region, or a cache keeps
--- it, until it is hit for the next root, or is shed for the arena
+-- all that is done from then on with a region that is there, in order: a root is born with one that
+-- was got, and one use more; the root of one that is used never ends, or ends; one that was freed is
+-- given, and no more, or is kept; one that is cached is hit, and so got, or is shed and then given
 abbrev pub LivesOn : Where → RegionId → List Did → Type 0
 LivesOn Got r (Birth root x ∷ ds) = (x ≡ one_more r) × LivesOn (Used root) x ds
 LivesOn (Used root) r [] = Unit {0}
@@ -88,6 +89,18 @@ abbrev pub Follows : Did → Event → Event → Type 0
 Follows (Birth root region) e f = AtOneObject e f
 Follows (Kept region) e f = AtOneObject e f
 Follows _ e f = InOneLog e f
+
+-- what moves a region is done at the region's arena, at its owner's cache of its class, or at the
+-- place of its root
+abbrev pub IsDoneAt : Object → Did → Type 0
+IsDoneAt object (Take class region) = object ≡ arena_of region
+IsDoneAt object (Birth root region) = object ≡ Object.Root root.place
+IsDoneAt object (End root) = object ≡ Object.Root root.place
+IsDoneAt object (Give region) = object ≡ arena_of region
+IsDoneAt object (Kept region) = object ≡ cache_of region
+IsDoneAt object (Hit region) = object ≡ cache_of region
+IsDoneAt object (Shed region) = object ≡ cache_of region
+IsDoneAt object _ = ⊥
 
 -- these events stand in the logs, each after the one before it
 abbrev pub InOrder : Logs → Event → List Event → Type 0
@@ -113,13 +126,14 @@ IsAmong e (f ∷ fs) = (e ≡ f) ⊎ IsAmong e fs
 abbrev pub dids_of : List Event → List Did
 dids_of es = map (λ e. e.did) es
 
--- the life of a taking: its Take, and all that moves it after that, in order
+-- the life of a taking: its Take, and all that moves it after that, in order, each where it belongs
 pub record Life (logs : Logs) (taking : RegionId) : Type 0 where
   pub take : Event
   pub later : List Event
   pub taken : take.did ≡ Did.Take taking.class taking
   pub lives : LivesOn Got taking (dids_of later)
   pub order : InOrder logs take later
+  pub places : (e : Event) → IsAmong e (take ∷ later) → IsDoneAt e.object e.did
   pub all : (e : Event) → Stands logs e → Moves logs taking e.did → IsAmong e (take ∷ later)
 
 -- whatever moves a region belongs to the life of its taking, which begins with no uses

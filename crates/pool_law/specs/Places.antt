@@ -4,7 +4,7 @@ use Rattle.ground.specs.Ground.{Origin, Segment}
 use Rattle.ground.specs.Grounds.{Grounds}
 use Rattle.pool_law.specs.declared.id.Place.{Place}
 
--- two places have a byte in common
+-- two places overlap: where neither is empty, they have a byte in common
 pub record Overlap (a b : Place) : Type 0 where
   pub arena : a.arena ≡ b.arena
   pub chunk : a.chunk ≡ b.chunk

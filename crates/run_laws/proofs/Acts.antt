@@ -253,13 +253,14 @@ module _ (P : Object → Did → Type 0) where
     pub place : ℕ → ℕ
     pub here : i ≡ place index
     pub rises : (j l : ℕ) → j < l → place j < place l
+    pub in_row : (j : ℕ) → place j ≡ place 0 + j
     pub there : (j : ℕ) (x : Entry) → slice_get (act_notes act) j ≡ Some x → slice_get es (place j) ≡ Some x
 
   pub within-behind : (xs es : Entries) (i : ℕ) (e : Entry) → Within es i e → Within (xs ++ es) (length xs + i) e
   within-behind [] es i e w = let same : i ≡ 0 + i = omega arith in subst (λ k. Within es k e) same w
   within-behind (x ∷ xs) es i e w =
       let r : Within (xs ++ es) (length xs + i) e = within-behind xs es i e w in
-      record { act = r.act; index = r.index; found = r.found; place = λ j. suc (r.place j); here = omega (arith, r.here); rises = λ j l h. omega (arith, r.rises j l h); there = r.there }
+      record { act = r.act; index = r.index; found = r.found; place = λ j. suc (r.place j); here = omega (arith, r.here); rises = λ j l h. omega (arith, r.rises j l h); in_row = λ j. omega (arith, r.in_row j); there = r.there }
 
   pub entry-within : (es : Entries) (i : ℕ) (e : Entry) → Acts P es [] → slice_get es i ≡ Some e → Within es i e
   entry-within es i e a is = subst (λ xs. Within xs i e) (sym whole) (go a.acts i (ap (λ xs. slice_get xs i) (sym whole) ∙ is))
@@ -270,6 +271,6 @@ module _ (P : Object → Did → Type 0) where
       go : (acts : List (Act P)) (i : ℕ) → slice_get (all_notes acts) i ≡ Some e → Within (all_notes acts) i e
       go [] i is = absurd (cc is)
       go (x ∷ acts) i is =
-          ⊎_elim (λ inside. record { act = x; index = i; found = inside; place = λ j. j; here = refl; rises = λ j l h. h; there = get-front (act_notes x) (all_notes acts) })
+          ⊎_elim (λ inside. record { act = x; index = i; found = inside; place = λ j. j; here = refl; rises = λ j l h. h; in_row = λ j. omega arith; there = get-front (act_notes x) (all_notes acts) })
           (λ later. subst (λ k. Within (act_notes x ++ all_notes acts) k e) (sym later.1) (within-behind (act_notes x) (all_notes acts) later.0 e (go acts later.0 later.2)))
           (get-split (act_notes x) (all_notes acts) i e is)

@@ -1,29 +1,24 @@
--- Why the laws refuse notes that no pool makes.
+-- Why the laws refuse logs that no pool makes.
 use Rattle.std.proofs.Common.{⊎_elim, inl, inr, ◌≡◌, ℕ, zero, suc, ◌+◌, ◌≤◌, List, [], ◌∷◌, length, get_or, refl, sym, ap, subst, arith, Some, ◌∙◌}
 use Rattle.std.specs.Prelude.{◌⊎◌, ◌<◌, false, slice_get, Option, None}
 use Rattle.pool_law.specs.declared.id.RegionId.{RegionId}
-use Rattle.pool_law.specs.declared.command.Command.{Command}
 use Rattle.pool_law.specs.declared.note.Object.{Object}
 use Rattle.pool_law.specs.declared.note.Did.{Did}
 use Rattle.pool_law.specs.declared.note.Did.TheVariants.{Take, Give, Hit, Kept, Shed, Birth, Get, End}
 use Rattle.pool_law.specs.declared.note.RefDid.{RefDid}
 use Rattle.pool_law.specs.declared.note.Note.{Note}
 use Rattle.pool_law.specs.declared.note.Note.TheVariants.{At, Ref}
-use Rattle.pool_law.specs.Logs.{Entry, of_lane, entry_of}
-use Rattle.pool_law.specs.declared.run.Reply.{Reply}
-use Rattle.pool_law.specs.LaneStates.{LaneState}
-use Rattle.pool_law.specs.Legal.{logs_of}
-use Rattle.pool_law.specs.declared.id.Part.{Part}
-use Rattle.pool_law.proofs.HistoryLemmas.{append-nil}
-use Rattle.pool_law.specs.Lives.{cache_of, Event, Stands, InOneLog, AtOneObject, Where, Got, Used, Freed, Cached, Dropped, LivesOn, IsAmong, dids_of, Life, RegionsLive}
+use Rattle.pool_law.specs.Logs.{of_lane}
+use Rattle.pool_law.specs.Lives.{cache_of, with_uses, Event, Stands, InOneLog, AtOneObject, Where, Got, Used, Freed, Cached, Dropped, LivesOn, IsAmong, dids_of, Life, RegionsLive}
 use Rattle.pool_law.specs.Apart.{Leads, NeverOverlap}
-use Rattle.run_laws.proofs.Sums.{below-or}
+use Rattle.pool_law.specs.Arenas.{Arena}
+use Rattle.pool_law.specs.Caches.{Cache}
+use Rattle.run_laws.proofs.Sums.{below-or, sum_over, over-at}
 use Rattle.run_laws.specs.OneLog.{Counted}
-use Rattle.run_laws.specs.Conserved.{ReturnsOnce}
-use Rattle.run_laws.specs.Reads.{last_written, earlier_at, get_note, parts_read, joined, GetsPart, GetsParts, ReadsWritten, ReadsGiveWritten}
-use Rattle.run_laws.specs.Refused.{first_taking, second_taking, byte_root, given_while_live, given_alive, kept_alive, given_and_kept, kept_and_given, stale, swapped}
+use Rattle.run_laws.specs.Conserved.{EndsAsCache, EndsAsArena, CachesEndEmpty, ReturnsOnce, OutIsHeld, OutAtEnd}
+use Rattle.run_laws.specs.Refused.{first_taking, second_taking, byte_root, given_while_live, given_alive, kept_alive, given_and_kept, kept_and_given, given_late, ended_twice, kept_elsewhere, false_full, false_hit}
+use Rattle.run_laws.specs.RefusedRuns.{shape_of}
 use Rattle.run_laws.proofs.HandPairs.{same-some}
-use Rattle.run_laws.proofs.LogEntries.{entry-note}
 
 -- a region that was got has one use more as it comes back
 abbrev more : Where → ℕ
@@ -140,72 +135,49 @@ twice-kept r =
     not_shed zero (suc (suc (suc (suc (suc (suc (suc i))))))) n before e = absurd (omega (arith, before))
     not_shed (suc lane) i n before e = absurd (cc e)
 
-pub stale-read : ReadsGiveWritten stale → ⊥
-stale-read reads = go (reads 0 3 (Command.Get 0 0 1 false) (0 ∷ []) (omega arith) refl tt refl)
+-- a note of these logs says a shed
+abbrev shed_weight : Note → ℕ
+shed_weight (At o k (Shed r)) = 1
+shed_weight _ = 0
+
+pub late-given : ReturnsOnce given_late (byte_root 0) (first_taking 1) → ⊥
+late-given r =
+    let near : 10 ≤ 3 + 4 = (r.after (record { lane = 0; at = 10; number = 2; is = inr (refl, λ shed l before. not_shed shed.lane shed.at shed.number shed.stands) }) (record { lane = 0; at = 3; stands = refl })).2 in
+    absurd (omega (arith, near))
   where
-    second : Entry
-    second = entry_of (logs_of stale) (At (Object.Root 0) 4 (Get 0 (0 ∷ [])))
+    not_shed : (lane i n : ℕ) → slice_get (of_lane given_late lane) i ≡ Some (At (cache_of (first_taking 1)) n (Shed (first_taking 1))) → ⊥
+    not_shed lane i n e =
+        let none : sum_over shed_weight given_late ≡ 0 = refl in
+        absurd (omega (arith, none, over-at shed_weight given_late lane i (At (cache_of (first_taking 1)) n (Shed (first_taking 1))) e))
 
-    one : (part : Part) (b : List ℕ) → GetsPart (logs_of stale) part second b → (0 ∷ []) ≡ b → ⊥
-    one part b g whole =
-        let note : At (Object.Root 0) 4 (Get 0 (0 ∷ [])) ≡ get_note part g.number b = sym (entry-note (logs_of stale) (At (Object.Root 0) 4 (Get 0 (0 ∷ [])))) ∙ ap (λ e. e.note) g.is ∙ entry-note (logs_of stale) (get_note part g.number b) in
-        let place : 0 ≡ part.root.place = cc note in
-        let got : 4 ≡ g.number = cc note in
-        let index : 0 ≡ part.offset = cc note in
-        let written : get_or b 0 0 ≡ last_written (part.offset + 0) 0 (earlier_at (logs_of stale) part.root.place g.number) = g.written 0 (omega (arith, ap length whole)) in
-        let here : 0 ≡ last_written (0 + 0) 0 (earlier_at (logs_of stale) 0 4) = ap (λ x. get_or x 0 0) whole ∙ written ∙ (λ i. last_written (sym index i + 0) 0 (earlier_at (logs_of stale) (sym place i) (sym got i))) in
-        let last : last_written (0 + 0) 0 (earlier_at (logs_of stale) 0 4) ≡ 255 = refl in
-        absurd (omega (arith, here ∙ last))
+pub twice-ended : ReturnsOnce ended_twice (byte_root 0) (first_taking 1) → ⊥
+twice-ended r =
+    let same : (0 ≡ 0) × (3 ≡ 7) = r.ended_once (record { lane = 0; at = 3; stands = refl }) (record { lane = 0; at = 7; stands = refl }) in
+    absurd (omega (arith, same.1))
 
-    parts : (ps : List Part) (bs : List (List ℕ)) → GetsParts (logs_of stale) ps (second ∷ []) bs → (0 ∷ []) ≡ joined bs → ⊥
-    parts [] [] g whole = absurd g
-    parts [] (b ∷ bs) g whole = absurd g
-    parts (p ∷ ps) [] g whole = absurd g
-    parts (p ∷ []) (b ∷ []) g whole = one p b g.0 (whole ∙ append-nil b)
-    parts (p ∷ []) (b ∷ (c ∷ bs)) g whole = absurd g.1
-    parts (p ∷ (q ∷ ps)) (b ∷ []) g whole = absurd g.1
-    parts (p ∷ (q ∷ ps)) (b ∷ (c ∷ bs)) g whole = absurd g.1
-
-    go : ReadsWritten stale 0 3 (Command.Get 0 0 1 false) (0 ∷ []) → ⊥
-    go w =
-        let own : Some (second ∷ []) ≡ Some w.notes = w.own in
-        let notes : second ∷ [] ≡ w.notes = cc own in
-        parts w.parts w.got (subst (λ es. GetsParts (logs_of stale) w.parts es w.got) (sym notes) w.gets) w.gives
-
--- what the composite's command reads, in the state that a run of commands gives
-abbrev parts_if : Option (List Reply × LaneState) → Option (List Part)
-parts_if None = None
-parts_if (Some p) = parts_read p.1 (Command.Read 2 2)
-
-pub swapped-read : ReadsGiveWritten swapped → ⊥
-swapped-read reads = go (reads 0 5 (Command.Read 2 2) (2 ∷ 1 ∷ []) (omega arith) refl tt refl)
+pub elsewhere-kept : RegionsLive kept_elsewhere → ⊥
+elsewhere-kept live = go (live kept (first_taking 1) refl refl)
   where
-    first : Part
-    first = record { root = byte_root 0; offset = 0; len = 1 }
+    kept : Event
+    kept = record { object = Object.Cache 1 0; did = Kept (first_taking 1); lane = 0; at = 6; number = 1 }
 
-    second : Part
-    second = record { root = byte_root 1; offset = 0; len = 1 }
+    go : Life kept_elsewhere (with_uses (first_taking 1) 0) → ⊥
+    go life =
+        let here : Object.Cache 1 0 ≡ Object.Cache 0 0 = life.places kept (life.all kept refl refl) in
+        let lane : ◌≡◌ {A = ℕ} 1 0 = cc here in
+        absurd (omega (arith, lane))
 
-    of_second : Entry
-    of_second = entry_of (logs_of swapped) (At (Object.Root 1) 3 (Get 0 (2 ∷ [])))
+pub full-false : OutAtEnd (shape_of 1 1) false_full → ⊥
+full-false out =
+    let a : (a : Arena) × (EndsAsArena (shape_of 1 1) false_full 0 a × OutIsHeld false_full 0 a) = out 0 in
+    let none : ◌≡◌ {A = Option Arena} None (Some a.0) = a.1.0 in
+    absurd (cc none)
 
-    of_first : Entry
-    of_first = entry_of (logs_of swapped) (At (Object.Root 0) 3 (Get 0 (1 ∷ [])))
-
-    wrong : (bs : List (List ℕ)) → GetsParts (logs_of swapped) (first ∷ second ∷ []) (of_second ∷ of_first ∷ []) bs → ⊥
-    wrong [] g = absurd g
-    wrong (b ∷ bs) g =
-        let note : At (Object.Root 1) 3 (Get 0 (2 ∷ [])) ≡ get_note first g.0.number b = sym (entry-note (logs_of swapped) (At (Object.Root 1) 3 (Get 0 (2 ∷ [])))) ∙ ap (λ e. e.note) g.0.is ∙ entry-note (logs_of swapped) (get_note first g.0.number b) in
-        let place : ◌≡◌ {A = ℕ} 1 0 = cc note in
-        absurd (omega (arith, place))
-
-    go : ReadsWritten swapped 0 5 (Command.Read 2 2) (2 ∷ 1 ∷ []) → ⊥
-    go w =
-        let parts_are : Some (first ∷ second ∷ []) ≡ Some w.parts = ap parts_if w.before ∙ w.is in
-        let parts : first ∷ second ∷ [] ≡ w.parts = cc parts_are in
-        let own : Some (of_second ∷ of_first ∷ []) ≡ Some w.notes = w.own in
-        let notes : of_second ∷ of_first ∷ [] ≡ w.notes = cc own in
-        wrong w.got (subst (λ ps. GetsParts (logs_of swapped) ps (of_second ∷ of_first ∷ []) w.got) (sym parts) (subst (λ es. GetsParts (logs_of swapped) w.parts es w.got) (sym notes) w.gets))
+pub hit-false : CachesEndEmpty (shape_of 1 1) false_hit → ⊥
+hit-false caches =
+    let c : (c : Cache) × (EndsAsCache false_hit 0 0 c × (c.regions ≡ [])) = caches 0 0 (omega arith) (omega arith) in
+    let none : ◌≡◌ {A = Option Cache} None (Some c.0) = c.1.0 in
+    absurd (cc none)
 
 -- the forged notes behind the first root's end, and those before it
 abbrev IsLateDid : Did → Type 0

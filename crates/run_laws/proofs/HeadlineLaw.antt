@@ -25,7 +25,7 @@ use Rattle.run_laws.proofs.Totals.{note-placed}
 use Rattle.run_laws.proofs.LifeLaw.{birth-use}
 use Rattle.run_laws.proofs.EndLaw.{dead-ended, ended-dead}
 use Rattle.run_laws.proofs.OneLogLaw.{stand-in_one_log}
-use Rattle.run_laws.proofs.LeakLaw.{birth-there, Listed, leaks-only, leaks-all, leaks-once}
+use Rattle.run_laws.proofs.LeakLaw.{birth-there, Listed, leaks-only, leaks-all, leaks-order}
 use Rattle.run_laws.proofs.ReadLaw.{reads-give_written}
 use Rattle.run_laws.proofs.RunLaws.{acts-of, parts-of, regions-live, regions-apart, roots-never_overlap, regions-return, arenas-end, caches-end_empty}
 
@@ -80,7 +80,7 @@ lists-leaks run legal =
     record {
       only = λ i leak e. only leak (leaks-only run.shape (logs_of run) 0 (logs_of run) i leak (ap (λ xs. slice_get xs i) (sym legal.leaks) ∙ e));
       all = λ leak is. let r = leaks-all run.shape (logs_of run) 0 (logs_of run) leak (listed leak is) in (r.0, ap (λ xs. slice_get xs r.0) legal.leaks ∙ r.1);
-      once = λ i j a b e d. leaks-once run.shape (logs_of run) 0 (logs_of run) i j a b (ap (λ xs. slice_get xs i) (sym legal.leaks) ∙ e) (ap (λ xs. slice_get xs j) (sym legal.leaks) ∙ d);
+      order = λ i j a b e d. leaks-order run.shape (logs_of run) 0 (logs_of run) i j a b (ap (λ xs. slice_get xs i) (sym legal.leaks) ∙ e) (ap (λ xs. slice_get xs j) (sym legal.leaks) ∙ d);
     }
   where
     only : (leak : Leak) → Listed run.shape (logs_of run) 0 (logs_of run) leak → IsLeak run leak
@@ -125,6 +125,7 @@ lists-leaks run legal =
 pub headline-holds : (run : Run) → IsLegal run → Headline run
 headline-holds run legal =
     record {
+      legal = legal;
       never_overlap = roots-never_overlap run legal;
       one_after_another = regions-live run legal;
       lie_apart = regions-apart run legal;

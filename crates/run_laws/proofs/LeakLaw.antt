@@ -1,5 +1,5 @@
--- The report lists exactly the sampled roots that were never freed, each once.
-use Rattle.std.proofs.Common.{⊎_elim, ◌≡◌, ℕ, zero, suc, ◌+◌, List, [], ◌∷◌, ◌++◌, length, refl, sym, ap, arith, Bool, true, false, Some, ◌∙◌}
+-- The report lists exactly the sampled roots that were never freed, by lane and serial.
+use Rattle.std.proofs.Common.{⊎_elim, inl, inr, ◌≡◌, ℕ, zero, suc, ◌+◌, List, [], ◌∷◌, ◌++◌, length, refl, sym, ap, arith, Bool, true, false, Some, ◌∙◌}
 use Rattle.std.specs.Prelude.{◌⊎◌, ◌<◌, ◌&&◌, if◌then◌else◌, slice_get}
 use Rattle.pool_law.specs.declared.id.RootId.{RootId}
 use Rattle.pool_law.specs.declared.id.RegionId.{RegionId}
@@ -12,7 +12,9 @@ use Rattle.pool_law.specs.declared.run.Shape.{Shape}
 use Rattle.pool_law.specs.Logs.{Logs}
 use Rattle.pool_law.specs.Leaks.{births, is_sampled, is_live, leak_of, lane_leaks, leaks_from}
 use Rattle.pool_law.proofs.SameLemmas.{and-first, and-second}
+use Rattle.pool_law.proofs.ListLemmas.{slice_get-below}
 use Rattle.pool_law.proofs.PatternLemmas.{both_true}
+use Rattle.run_laws.specs.Reported.{ComesBefore}
 use Rattle.run_laws.proofs.Acts.{get-front, get-split, get-behind}
 
 -- what is born in a log stands there
@@ -108,29 +110,28 @@ module _ (shape : Shape) (logs : Logs) where
           let m = go (from + 1) rest order there (omega (arith, lane)) in
           get-behind (lane_leaks shape logs from 1 (births log)) (leaks_from shape logs (from + 1) rest) m.0 leak m.1
 
-  -- a lane and a serial are reported once
-  pub lane-once : (lane from : ℕ) (roots : List RootId) (i j : ℕ) (a b : Leak) → slice_get (lane_leaks shape logs lane from roots) i ≡ Some a → slice_get (lane_leaks shape logs lane from roots) j ≡ Some b → a.serial ≡ b.serial → i ≡ j
-  lane-once lane from [] i j a b e d same = absurd (cc e)
-  lane-once lane from (root ∷ roots) i j a b e d same = go (is_live logs root && is_sampled shape.level shape.interval from) i j e d (λ m n x y. lane-once lane (from + 1) roots m n a b x y same)
+  -- what is reported of a lane comes by serial, and the lanes come in order
+  pub lane-order : (lane from : ℕ) (roots : List RootId) (i j : ℕ) (a b : Leak) → slice_get (lane_leaks shape logs lane from roots) i ≡ Some a → slice_get (lane_leaks shape logs lane from roots) j ≡ Some b → i < j → a.serial < b.serial
+  lane-order lane from [] i j a b e d less = absurd (cc e)
+  lane-order lane from (root ∷ roots) i j a b e d less = go (is_live logs root && is_sampled shape.level shape.interval from) i j e d less (λ m n x y. lane-order lane (from + 1) roots m n a b x y)
     where
       past : (m : ℕ) (x : Leak) → slice_get (lane_leaks shape logs lane (from + 1) roots) m ≡ Some x → from < x.serial
       past m x is = let r = lane-only lane (from + 1) roots m x is in omega (arith, ap (λ y. y.serial) r.told, r.serial_is)
 
       go : (test : Bool) (i j : ℕ) → slice_get ((if test then leak_of shape.level logs lane from root ∷ [] else []) ++ lane_leaks shape logs lane (from + 1) roots) i ≡ Some a →
-          slice_get ((if test then leak_of shape.level logs lane from root ∷ [] else []) ++ lane_leaks shape logs lane (from + 1) roots) j ≡ Some b →
-          ((m n : ℕ) → slice_get (lane_leaks shape logs lane (from + 1) roots) m ≡ Some a → slice_get (lane_leaks shape logs lane (from + 1) roots) n ≡ Some b → m ≡ n) → i ≡ j
-      go true zero zero e d rest = refl
-      go true zero (suc j) e d rest = let first : leak_of shape.level logs lane from root ≡ a = cc e in absurd (omega (arith, past j b d, ap (λ y. y.serial) first, same))
-      go true (suc i) zero e d rest = let first : leak_of shape.level logs lane from root ≡ b = cc d in absurd (omega (arith, past i a e, ap (λ y. y.serial) first, same))
-      go true (suc i) (suc j) e d rest = ap suc (rest i j e d)
-      go false i j e d rest = rest i j e d
+          slice_get ((if test then leak_of shape.level logs lane from root ∷ [] else []) ++ lane_leaks shape logs lane (from + 1) roots) j ≡ Some b → i < j →
+          ((m n : ℕ) → slice_get (lane_leaks shape logs lane (from + 1) roots) m ≡ Some a → slice_get (lane_leaks shape logs lane (from + 1) roots) n ≡ Some b → m < n → a.serial < b.serial) → a.serial < b.serial
+      go true i zero e d less rest = absurd (omega (arith, less))
+      go true zero (suc j) e d less rest = let first : leak_of shape.level logs lane from root ≡ a = cc e in omega (arith, past j b d, ap (λ y. y.serial) first)
+      go true (suc i) (suc j) e d less rest = rest i j e d (omega (arith, less))
+      go false i j e d less rest = rest i j e d less
 
-  pub leaks-once : (from : ℕ) (rest : Logs) (i j : ℕ) (a b : Leak) → slice_get (leaks_from shape logs from rest) i ≡ Some a → slice_get (leaks_from shape logs from rest) j ≡ Some b → a.lane ≡ b.lane → a.serial ≡ b.serial → i ≡ j
-  leaks-once from [] i j a b e d lanes same = absurd (cc e)
-  leaks-once from (log ∷ rest) i j a b e d lanes same =
+  pub leaks-order : (from : ℕ) (rest : Logs) (i j : ℕ) (a b : Leak) → slice_get (leaks_from shape logs from rest) i ≡ Some a → slice_get (leaks_from shape logs from rest) j ≡ Some b → i < j → ComesBefore a b
+  leaks-order from [] i j a b e d less = absurd (cc e)
+  leaks-order from (log ∷ rest) i j a b e d less =
       ⊎_elim
-      (λ x. ⊎_elim (λ y. lane-once from 1 (births log) i j a b x y same) (λ y. absurd (omega (arith, here i a x, past y.0 b y.2, lanes))) second)
-      (λ x. ⊎_elim (λ y. absurd (omega (arith, here j b y, past x.0 a x.2, lanes))) (λ y. let m : x.0 ≡ y.0 = leaks-once (from + 1) rest x.0 y.0 a b x.2 y.2 lanes same in omega (arith, m, x.1, y.1)) second)
+      (λ x. ⊎_elim (λ y. inr (here i a x ∙ sym (here j b y), lane-order from 1 (births log) i j a b x y less)) (λ y. inl (omega (arith, here i a x, past y.0 b y.2))) second)
+      (λ x. ⊎_elim (λ y. absurd (omega (arith, inside j b y, x.1, less))) (λ y. leaks-order (from + 1) rest x.0 y.0 a b x.2 y.2 (omega (arith, less, x.1, y.1))) second)
       (get-split (lane_leaks shape logs from 1 (births log)) (leaks_from shape logs (from + 1) rest) i a e)
     where
       second : (slice_get (lane_leaks shape logs from 1 (births log)) j ≡ Some b) ⊎ ((m : ℕ) × (j ≡ length (lane_leaks shape logs from 1 (births log)) + m) × (slice_get (leaks_from shape logs (from + 1) rest) m ≡ Some b))
@@ -141,3 +142,6 @@ module _ (shape : Shape) (logs : Logs) where
 
       past : (m : ℕ) (x : Leak) → slice_get (leaks_from shape logs (from + 1) rest) m ≡ Some x → from < x.lane
       past m x is = let l = leaks-only (from + 1) rest m x is in omega (arith, ap (λ y. y.lane) l.reported.told, l.lane_is)
+
+      inside : (m : ℕ) (x : Leak) → slice_get (lane_leaks shape logs from 1 (births log)) m ≡ Some x → m < length (lane_leaks shape logs from 1 (births log))
+      inside m x is = slice_get-below (lane_leaks shape logs from 1 (births log)) m x is

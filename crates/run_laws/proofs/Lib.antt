@@ -21,14 +21,16 @@ pub mod CloseLaw
 pub mod EndLaw
 pub mod OneLogLaw
 pub mod ReturnsLaw
+pub mod ReplyLaw
 pub mod ReadLaw
 pub mod LeakLaw
 pub mod OutLaw
 pub mod LifeEvents
-pub mod LifeChain
 pub mod OverlapLaw
+pub mod LifeChain
 pub mod ParcelLaw
 pub mod PostLaw
 pub mod RunLaws
 pub mod HeadlineLaw
 pub mod Forged
+pub mod ForgedRuns

@@ -4,14 +4,14 @@ use Rattle.std.specs.Prelude.{◌<◌, map, slice_get}
 use Rattle.pool_law.specs.declared.id.RootId.{RootId}
 use Rattle.pool_law.specs.declared.id.RegionId.{RegionId}
 use Rattle.pool_law.specs.declared.note.Did.{Did}
-use Rattle.pool_law.specs.declared.note.Did.TheVariants.{Take, Give, Hit, Kept, Shed, End}
+use Rattle.pool_law.specs.declared.note.Did.TheVariants.{Take, Give, Hit, Kept, Shed, Birth, End}
 use Rattle.pool_law.specs.declared.note.Note.{Note}
 use Rattle.pool_law.specs.declared.note.Note.TheVariants.{At}
 use Rattle.pool_law.specs.declared.run.Shape.{Shape}
 use Rattle.pool_law.specs.Logs.{Logs, dids, of_lane, history_of, entry_of, entries_of}
 use Rattle.pool_law.specs.Legal.{HistoriesHold, CountsAgree}
 use Rattle.pool_law.specs.Patterns.{one_more}
-use Rattle.pool_law.specs.Lives.{IsUse, Done, cache_of, arena_of, with_uses, Event, Stands, Got, Used, LivesOn, Follows, InOrder, IsAmong, dids_of, Life, RegionsLive}
+use Rattle.pool_law.specs.Lives.{IsUse, Done, cache_of, arena_of, with_uses, Event, Stands, Got, Used, LivesOn, Follows, IsDoneAt, InOrder, IsAmong, dids_of, Life, RegionsLive}
 use Rattle.run_laws.specs.CacheCounts.{one_of}
 use Rattle.run_laws.specs.HandCounts.{got_by}
 use Rattle.pool_law.proofs.PatternLemmas.{same_region-refl, same_root-refl}
@@ -19,9 +19,11 @@ use Rattle.run_laws.proofs.LogEntries.{LanesAct}
 use Rattle.run_laws.proofs.CloseLaw.{Parts}
 use Rattle.run_laws.proofs.Acts.{Gets}
 use Rattle.run_laws.proofs.Sums.{sum_over, over-at}
-use Rattle.run_laws.proofs.Totals.{note_tally, takes_in, hits_in, sheds_in, births_in, births-next, takes-unused, ends-born, got-total}
+use Rattle.run_laws.proofs.Totals.{note_tally, note-placed, takes_in, hits_in, sheds_in, births_in, births-next, takes-unused, ends-born, got-total}
 use Rattle.run_laws.proofs.LifeLaw.{use-counts, use-used, hits-less, keeps-less, born-most, one-use, unused-none}
 use Rattle.run_laws.proofs.LifeOrder.{kept-first, none-later, given-born}
+use Rattle.run_laws.proofs.Placed.{IsPlaced}
+use Rattle.run_laws.proofs.OverlapLaw.{all-stand, IsMove, all-move}
 use Rattle.run_laws.proofs.ApartLaw.{done-at, taken-of, taken-at}
 use Rattle.run_laws.proofs.EndLaw.{one, end_weight, end-found, end-counts}
 use Rattle.run_laws.proofs.OutLaw.{uses_number, owner-there, kept-gone, few-uses}
@@ -274,8 +276,30 @@ module _ (shape : Shape) (logs : Logs) (holds : HistoriesHold shape logs) (acts 
       let at : (j : ℕ) × (slice_get (dids (history_of (arena_of r) logs)) j ≡ Some (Take r.class (with_uses r 0))) = taken-at shape logs holds acts r taken in
       let t : Done logs (arena_of r) (Take r.class (with_uses r 0)) = (done-at shape logs holds acts (arena_of r) at.0 (Take r.class (with_uses r 0)) at.1).0 in
       let rest : GotOn (with_uses r 0) (the t) = got-on (sum_over uses_number logs) (with_uses r 0) (the t) (omega arith) t.stands refl in
-      record { take = the t; later = rest.later; taken = refl; lives = rest.lives; order = rest.order; all = λ f s moves. let m = moves-at logs (with_uses r 0) f.did moves in among t rest f s m.0 m.1 }
+      record { take = the t; later = rest.later; taken = refl; lives = rest.lives; order = rest.order; places = places t rest; all = λ f s moves. let m = moves-at logs (with_uses r 0) f.did moves in among t rest f s m.0 m.1 }
     where
+      belongs : (f : Event) → IsMove f.did → IsPlaced f.object f.did → IsDoneAt f.object f.did
+      belongs f = go f.did
+        where
+          go : (d : Did) → IsMove d → IsPlaced f.object d → IsDoneAt f.object d
+          go (Take c x) move placed = placed.0
+          go (Birth root x) move placed = placed
+          go (End root) move placed = placed
+          go (Give x) move placed = placed
+          go (Kept x) move placed = placed
+          go (Hit x) move placed = placed
+          go (Shed x) move placed = placed
+          go _ move placed = absurd move
+
+      moves : (t : Done logs (arena_of r) (Take r.class (with_uses r 0))) (rest : GotOn (with_uses r 0) (the t)) (f : Event) → IsAmong f (the t ∷ rest.later) → IsMove f.did
+      moves t rest f (inl same) = subst (λ e. IsMove e.did) (sym same) tt
+      moves t rest f (inr among) = all-move Got (with_uses r 0) rest.later f rest.lives among
+
+      places : (t : Done logs (arena_of r) (Take r.class (with_uses r 0))) (rest : GotOn (with_uses r 0) (the t)) (f : Event) → IsAmong f (the t ∷ rest.later) → IsDoneAt f.object f.did
+      places t rest f among =
+          let s : Stands logs f = all-stand logs (the t) rest.later f rest.order among in
+          belongs f (moves t rest f among) (note-placed shape logs holds acts f.lane f.at f.number f.object f.did s)
+
       among : (t : Done logs (arena_of r) (Take r.class (with_uses r 0))) (rest : GotOn (with_uses r 0) (the t)) (f : Event) → Stands logs f → (n : ℕ) → MovesAt logs (with_uses r n) f.did → IsAmong f (the t ∷ rest.later)
       among t rest f s zero moves =
           let k : (c : ℕ) × (f.did ≡ Take c (with_uses r 0)) = unused-taken f (with_uses r 0) refl s (kind-of logs (with_uses r 0) f.did moves) in

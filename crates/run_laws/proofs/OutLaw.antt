@@ -19,7 +19,7 @@ use Rattle.pool_law.specs.Histories.{after, arena_after, cache_after}
 use Rattle.pool_law.specs.Logs.{Logs, dids, of_lane, history_of, entry_of, entries_of, note_stands}
 use Rattle.pool_law.specs.Legal.{HistoriesHold, CountsAgree}
 use Rattle.pool_law.specs.Lives.{IsUse, Done, cache_of, arena_of, with_uses}
-use Rattle.run_laws.specs.Conserved.{total_in, IsHeld, OutAtEnd}
+use Rattle.run_laws.specs.Conserved.{total_in, IsHeld, EndsAsArena, OutIsHeld}
 use Rattle.arena_law.specs.Slots.{EachOf, ArenaHolds}
 use Rattle.arena_law.specs.Takings.{TakenInOrder}
 use Rattle.arena_law.specs.Returns.{gives}
@@ -323,7 +323,7 @@ module _ (shape : Shape) (logs : Logs) (holds : HistoriesHold shape logs) (acts 
           keeps-removes : hits_in logs r + sheds_in logs r ≤ keeps_in logs r
           keeps-removes = removes-less shape logs holds acts r
 
-  pub out-at_end : OutAtEnd shape logs
+  pub out-at_end : (number : ℕ) (a : Arena) → EndsAsArena shape logs number a → OutIsHeld logs number a
   out-at_end number a e =
       record {
         held = each-of (IsHeld logs) a.out (λ r o. held-one r o);

@@ -70,6 +70,33 @@ step Cached r (Shed x) ds l = record { to = Dropped; region = r; rest = l.1; bir
 step Dropped r (Give x) [] l = record { to = Used no_root; region = r; rest = tt; birth = λ p y e. absurd (cc e); used = λ p e. absurd (cc e); give = λ y e. refl; take = λ c y e. absurd (cc e) }
 step w r d ds l = absurd l
 
+-- what moves a region
+abbrev pub IsMove : Did → Type 0
+IsMove (Take c x) = Unit {0}
+IsMove (Birth root x) = Unit {0}
+IsMove (End root) = Unit {0}
+IsMove (Give x) = Unit {0}
+IsMove (Kept x) = Unit {0}
+IsMove (Hit x) = Unit {0}
+IsMove (Shed x) = Unit {0}
+IsMove _ = ⊥
+
+is-move : (w : Where) (r : RegionId) (d : Did) (ds : List Did) → LivesOn w r (d ∷ ds) → IsMove d
+is-move Got r (Birth root x) ds l = tt
+is-move (Used root) r (End x) ds l = tt
+is-move Freed r (Kept x) ds l = tt
+is-move Freed r (Give x) [] l = tt
+is-move Cached r (Hit x) ds l = tt
+is-move Cached r (Shed x) ds l = tt
+is-move Dropped r (Give x) [] l = tt
+is-move w r d ds l = absurd l
+
+-- each event of a life moves the region
+pub all-move : (w : Where) (r : RegionId) (es : List Event) (f : Event) → LivesOn w r (dids_of es) → IsAmong f es → IsMove f.did
+all-move w r [] f lives among = absurd among
+all-move w r (g ∷ gs) f lives (inl same) = subst (λ e. IsMove e.did) (sym same) (is-move w r g.did (dids_of gs) lives)
+all-move w r (g ∷ gs) f lives (inr among) = let s : Step w g.did (dids_of gs) = step w r g.did (dids_of gs) lives in all-move s.to s.region gs f s.rest among
+
 -- the end of a root, from which an event comes later
 pub record EndThen (logs : Logs) (root : RootId) (f : Event) : Type 0 where
   pub end : Event

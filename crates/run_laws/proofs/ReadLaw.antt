@@ -24,14 +24,14 @@ use Rattle.pool_law.specs.declared.id.Part.{Part}
 use Rattle.pool_law.specs.Limits.{cached_classes}
 use Rattle.pool_law.specs.Dids as says
 use Rattle.pool_law.specs.Readers.{Entries, Log, Reader, ◌>>=◌, ◌>>◌, give, nothing, given, behind_entry, first_of_left, next, done_at, note, busy, access, asks_anew, read_all}
-use Rattle.pool_law.specs.Names.{Bound, Plain, Composed, Names, view_in, reader_of, parts_at, bind, read_on}
+use Rattle.pool_law.specs.Names.{Bound, Plain, Composed, Names, view_in, has_range, has_to_read, reader_of, parts_at, bind, read_on}
 use Rattle.pool_law.specs.LaneStates.{LaneState, new_lane, log_at, state_at, named, view_named}
-use Rattle.pool_law.specs.Refusals.{Refusal, first_refusal, refusals}
+use Rattle.pool_law.specs.Caches.{if_so}
+use Rattle.pool_law.specs.Refusals.{first_refusal, unbound, composite, illegal, range, read_range, refusals}
 use Rattle.pool_law.specs.Patterns.{give_back, sheds, drain, sweep, sweep_if_due}
 use Rattle.pool_law.specs.Lanes.{Answer, answer, get_parts, get_at, busy_or, carried_out, not_carried_out, answer_by, answer_of, turn}
 use Rattle.pool_law.specs.LaneLaw.{sweep_period, lane_step, lane_run, before_stop, stopped_run, pieces, note_counts, replies_in}
-use Rattle.arena_law.specs.Slots.{EachOf}
-use Rattle.run_laws.specs.Reads.{covers, byte_after, last_written, earlier_at, get_note, parts_read, joined, IsReading, groups_of, GetsPart, GetsParts, ReadsGiveWritten}
+use Rattle.run_laws.specs.Reads.{covers, byte_after, last_written, earlier_at, get_note, parts_read, joined, groups_of, GetsPart, GetsParts, ReadsGiveWritten}
 use Rattle.pool_law.proofs.SameLemmas.{and-first, and-second}
 use Rattle.pool_law.proofs.PatternLemmas.{both_true}
 use Rattle.run_laws.proofs.Sums.{below-or}
@@ -40,9 +40,10 @@ use Rattle.run_laws.proofs.PlaceLaw.{if_so-test, after-first}
 use Rattle.run_laws.proofs.Numbered.{in-history}
 use Rattle.run_laws.proofs.Placed.{step-at, is-some, take-get}
 use Rattle.run_laws.proofs.Totals.{dids-at}
-use Rattle.run_laws.proofs.LogEntries.{entry-note, map-get, entries-at}
+use Rattle.run_laws.proofs.LogEntries.{entry-note, map-get, entries-at, log-past}
 use Rattle.run_laws.proofs.LaneActs.{bind-some, map-some, or-some, access-read, read_all-is}
 use Rattle.run_laws.proofs.CloseLaw.{drain-is}
+use Rattle.run_laws.proofs.ReplyLaw.{NoBytes, first-refuses, none-comes, passes-it, refusals-quiet, other-quiet}
 
 -- a byte of what is laid over others
 pub laid-byte : (old bytes : List ℕ) (offset i : ℕ) → offset + length bytes ≤ length old →
@@ -208,22 +209,6 @@ get_parts-got (part ∷ ps) log p is =
       asked = ap (λ q. q.1.asked) (sym same) ∙ r.asked ∙ kept;
     }
 
--- a reply that a command gets before its notes
-abbrev pub IsRefusal : Reply → Type 0
-IsRefusal (Reply.OkBytes bytes) = ⊥
-IsRefusal _ = Unit {0}
-
-abbrev pub Refuses : Refusal → Type 0
-Refuses r = IsRefusal r.reply
-
-pub first-refuses : (rs : List Refusal) (reply : Reply) → EachOf Refuses rs → first_refusal rs ≡ Some reply → IsRefusal reply
-first-refuses [] reply h e = absurd (cc e)
-first-refuses (r ∷ rs) reply h e =
-    cond_both r.comes (Some r.reply) (first_refusal rs) (λ z. z ≡ Some reply → IsRefusal reply)
-    (λ _ is. let same : r.reply ≡ reply = cc is in subst IsRefusal same h.0)
-    (λ _ is. first-refuses rs reply h.1 is)
-    e
-
 -- a read that answers with bytes got the parts first of all
 pub record ReadsParts (s : LaneState) (c : Command) (log : Log) (p : Answer × Log) (bytes : List ℕ) : Type 0 where
   pub parts : List Part
@@ -251,40 +236,45 @@ view-plain None v e = absurd (cc e)
 view-plain (Some (Plain w)) v e = let same : w ≡ v = cc e in ap (λ x. Some (Plain x)) same
 view-plain (Some (Composed c)) v e = absurd (cc e)
 
-pub reads-carried : (shape : Shape) (lane : ℕ) (s : LaneState) (c : Command) (log : Log) (p : Answer × Log) (bytes : List ℕ) → IsReading c → carried_out shape lane s c log ≡ Some p → p.0.reply ≡ Reply.OkBytes bytes → ReadsParts s c log p bytes
-reads-carried shape lane s (Command.Get name at len false) log p bytes reads is reply =
+-- what is bound and passes the test gives its parts
+pub in-range : (o : Option Bound) (b : Bound) (test : Bound → Bool) (ps : Bound → List Part) → o ≡ Some b → test b ≡ true → option_and_then (λ x. if_so (test x) (ps x)) o ≡ Some (ps b)
+in-range o b test ps is passes = ap (λ q. option_and_then (λ x. if_so (test x) (ps x)) q) is ∙ ap (λ t. if t then Some (ps b) else None) passes
+
+pub reads-carried : (shape : Shape) (lane : ℕ) (s : LaneState) (c : Command) (log : Log) (p : Answer × Log) (bytes : List ℕ) → first_refusal (refusals shape s c) ≡ None → carried_out shape lane s c log ≡ Some p → p.0.reply ≡ Reply.OkBytes bytes → ReadsParts s c log p bytes
+reads-carried shape lane s (Command.Get name at len false) log p bytes none is reply =
     let g = given-some (named s name) (get_at s at len) log p is in
-    got-answer s (Command.Get name at len false) (parts_at g.0 at len) (λ _. s.names) log p bytes (ap (λ o. option_map (λ b. parts_at b at len) o) g.1) g.2 reply
-reads-carried shape lane s (Command.Get name at len true) log p bytes reads is reply =
+    let two = none-comes (illegal s name) (range s name at len ∷ []) (none-comes (unbound s name) (illegal s name ∷ range s name at len ∷ []) none).1 in
+    let fits = passes-it (has_range at len) (named s name) g.0 (none-comes (range s name at len) [] two.1).0 g.1 in
+    got-answer s (Command.Get name at len false) (parts_at g.0 at len) (λ _. s.names) log p bytes (in-range (named s name) g.0 (has_range at len) (λ b. parts_at b at len) g.1 fits) g.2 reply
+reads-carried shape lane s (Command.Get name at len true) log p bytes none is reply =
     let g = given-some (view_named s name) (λ view. busy_or s view (get_at s at len (Plain view))) log p is in
     let bound : named s name ≡ Some (Plain g.0) = view-plain (named s name) g.0 g.1 in
+    let two = none-comes (composite s name) (illegal s name ∷ range s name at len ∷ []) (none-comes (unbound s name) (composite s name ∷ illegal s name ∷ range s name at len ∷ []) none).1 in
+    let three = none-comes (illegal s name) (range s name at len ∷ []) two.1 in
+    let fits = passes-it (has_range at len) (named s name) (Plain g.0) (none-comes (range s name at len) [] three.1).0 bound in
     ⊎_elim
     (λ e.
     let x = bind-some (busy (Object.Root g.0.root.place) log) (λ got. give (answer (Reply.Busy got.0) s.names) got.1) p e in
     let same : ◌≡◌ {A = Answer × Log} (answer (Reply.Busy x.0.0) s.names, x.0.1) p = cc x.2 in
     absurd (cc (ap (λ q. q.0.reply) same ∙ reply)))
-    (λ e. got-answer s (Command.Get name at len true) (parts_at (Plain g.0) at len) (λ _. s.names) log p bytes (ap (λ o. option_map (λ b. parts_at b at len) o) bound) e reply)
+    (λ e. got-answer s (Command.Get name at len true) (parts_at (Plain g.0) at len) (λ _. s.names) log p bytes (in-range (named s name) (Plain g.0) (has_range at len) (λ b. parts_at b at len) bound fits) e reply)
     (or-some ((busy (Object.Root g.0.root.place) >>= (λ number. give (answer (Reply.Busy number) s.names))) log) (get_at s at len (Plain g.0) log) p g.2)
-reads-carried shape lane s (Command.Read name len) log p bytes reads is reply =
+reads-carried shape lane s (Command.Read name len) log p bytes none is reply =
     let g = given-some (named s name) _ log p is in
-    got-answer s (Command.Read name len) (parts_at g.0 (reader_of g.0) len) (λ _. bind name (read_on len g.0) s.names) log p bytes (ap (λ o. option_map (λ b. parts_at b (reader_of b) len) o) g.1) g.2 reply
-reads-carried shape lane s _ log p bytes reads is reply = absurd reads
+    let two = none-comes (illegal s name) (read_range s name len ∷ []) (none-comes (unbound s name) (illegal s name ∷ read_range s name len ∷ []) none).1 in
+    let fits = passes-it (has_to_read len) (named s name) g.0 (none-comes (read_range s name len) [] two.1).0 g.1 in
+    got-answer s (Command.Read name len) (parts_at g.0 (reader_of g.0) len) (λ _. bind name (read_on len g.0) s.names) log p bytes (in-range (named s name) g.0 (has_to_read len) (λ b. parts_at b (reader_of b) len) g.1 fits) g.2 reply
+reads-carried shape lane s c log p bytes none is reply = absurd (subst NoBytes reply (other-quiet shape lane s c tt log p is))
 
-pub reads-parts : (shape : Shape) (lane : ℕ) (s : LaneState) (c : Command) (log : Log) (p : Answer × Log) (bytes : List ℕ) → IsReading c → answer_of shape lane s c log ≡ Some p → p.0.reply ≡ Reply.OkBytes bytes → ReadsParts s c log p bytes
-reads-parts shape lane s c log p bytes reads is reply = by (first_refusal (refusals shape s c)) refl is
+pub reads-parts : (shape : Shape) (lane : ℕ) (s : LaneState) (c : Command) (log : Log) (p : Answer × Log) (bytes : List ℕ) → answer_of shape lane s c log ≡ Some p → p.0.reply ≡ Reply.OkBytes bytes → ReadsParts s c log p bytes
+reads-parts shape lane s c log p bytes is reply = by (first_refusal (refusals shape s c)) refl is
   where
-    each : (c : Command) → IsReading c → EachOf Refuses (refusals shape s c)
-    each (Command.Get name at len false) reads = (tt, (tt, (tt, tt)))
-    each (Command.Get name at len true) reads = (tt, (tt, (tt, (tt, tt))))
-    each (Command.Read name len) reads = (tt, (tt, (tt, tt)))
-    each _ reads = absurd reads
-
     by : (o : Option Reply) → first_refusal (refusals shape s c) ≡ o → answer_by shape lane s c o log ≡ Some p → ReadsParts s c log p bytes
-    by None first e = reads-carried shape lane s c log p bytes reads e reply
+    by None first e = reads-carried shape lane s c log p bytes first e reply
     by (Some r) first e =
         let x = bind-some (not_carried_out lane c log) (λ got. give (answer r s.names) got.1) p e in
         let same : ◌≡◌ {A = Answer × Log} (answer r s.names, x.0.1) p = cc x.2 in
-        absurd (subst IsRefusal (ap (λ q. q.0.reply) same ∙ reply) (first-refuses (refusals shape s c) r (each c reads) first))
+        absurd (subst NoBytes (ap (λ q. q.0.reply) same ∙ reply) (first-refuses (refusals shape s c) r (refusals-quiet shape s c) first))
 
 -- ---- No sweep is due behind a read.
 
@@ -438,12 +428,12 @@ stopped-says lane (x ∷ cs) (g ∷ groups) replies i r is at =
     go (suc k) rs at later = later k at
 
 pub reads-give_written : (run : Run) → IsLegal run → ReadsGiveWritten run
-reads-give_written run legal lane number command bytes low is reads reply =
+reads-give_written run legal lane number command bytes is reply =
     let log = legal.answers lane low in
     let s = lane_run-at sweep_period (omega arith) run.shape lane new_lane (omega arith) (take stop (of_lane run.trace.lanes lane)) (take stop (groups_of run lane)) (take stop (replies_in (replies_of run lane)), log.last) number command log.answered (get-in_front number stop (of_lane run.trace.lanes lane) early ∙ is) in
     let said : s.answered.0 ≡ Reply.OkBytes bytes = cc (sym s.reply ∙ get-in_front number stop (replies_in (replies_of run lane)) early ∙ reply) in
     let w = step-is sweep_period run.shape lane s.state command s.group s.answered s.step in
-    let r = reads-parts run.shape lane s.state command (log_at s.state s.group) w.answered bytes reads w.by (w.reply ∙ said) in
+    let r = reads-parts run.shape lane s.state command (log_at s.state s.group) w.answered bytes w.by (w.reply ∙ said) in
     let not_due : w.swept.1 ≡ w.answered.1 = no-sweep sweep_period lane w.answered.1 w.swept (omega (arith, r.asked, s.low)) w.sweeps in
     let none : w.answered.1.left ≡ [] = ap (λ l. l.left) (sym not_due) ∙ w.ended in
     let there : slice_get (groups_of run lane) number ≡ Some s.group = sym (get-in_front number stop (groups_of run lane) early) ∙ s.there in
@@ -462,6 +452,16 @@ reads-give_written run legal lane number command bytes low is reads reply =
       gets = all r.parts s.group r.pieces_got (λ m e at. piece-there (note_counts (replies_of run lane)) (of_lane (entries_of (logs_of run)) lane) s.group number m e there at) (subst (λ xs. GotParts r.parts s.group xs r.pieces_got) none r.got);
     }
   where
+    -- a lane with a command is one of the run's
+    low : lane < run.shape.lanes
+    low = go (below-or lane run.shape.lanes)
+      where
+        go : (lane < run.shape.lanes) ⊎ (run.shape.lanes ≤ lane) → lane < run.shape.lanes
+        go (inl less) = less
+        go (inr high) =
+            let none : of_lane run.trace.lanes lane ≡ [] = log-past run.trace.lanes lane (omega (arith, high, legal.lanes)) in
+            absurd (cc (ap (λ cs. slice_get cs number) (sym none) ∙ is))
+
     stop : ℕ
     stop = before_stop (replies_in (replies_of run lane))
 

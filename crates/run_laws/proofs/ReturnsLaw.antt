@@ -1,5 +1,5 @@
 -- The region of a root returns once, by the release that ends the root's count, and otherwise never.
-use Rattle.std.proofs.Common.{⊎_elim, inl, inr, ◌≡◌, ℕ, ◌≤◌, length, refl, sym, ap, subst, arith, Some, ◌∙◌}
+use Rattle.std.proofs.Common.{⊎_elim, inl, inr, ◌≡◌, ℕ, ◌+◌, ◌≤◌, length, refl, sym, ap, subst, arith, true, false, Some, ◌∙◌}
 use Rattle.std.specs.Prelude.{◌⊎◌, ◌<◌, map, slice_get}
 use Rattle.pool_law.specs.declared.id.RootId.{RootId}
 use Rattle.pool_law.specs.declared.id.RegionId.{RegionId}
@@ -8,23 +8,24 @@ use Rattle.pool_law.specs.declared.note.Did.{Did}
 use Rattle.pool_law.specs.declared.note.Did.TheVariants.{Give, Kept, Shed, End}
 use Rattle.pool_law.specs.declared.note.RefDid.{RefDid}
 use Rattle.pool_law.specs.declared.note.Note.{Note}
-use Rattle.pool_law.specs.declared.note.Note.TheVariants.{At}
+use Rattle.pool_law.specs.declared.note.Note.TheVariants.{At, Ref}
 use Rattle.pool_law.specs.declared.run.Shape.{Shape}
-use Rattle.pool_law.specs.Logs.{Logs, dids, of_lane, history_of, entry_of, entries_of}
+use Rattle.pool_law.specs.Logs.{Logs, Entry, dids, of_lane, history_of, entry_of, entries_of}
 use Rattle.pool_law.specs.Legal.{HistoriesHold, CountsAgree}
 use Rattle.pool_law.specs.Lives.{IsUse, Done, cache_of, arena_of}
 use Rattle.run_laws.specs.Conserved.{Returned, ReturnsOnce}
 use Rattle.run_laws.specs.OneLog.{Counted, HasEnded, StandInOneLog}
-use Rattle.run_laws.specs.Hands.{Source, Got, Ended, Dropped}
+use Rattle.run_laws.specs.Hands.{did_of, Source, Got, Ended, Dropped}
 use Rattle.run_laws.specs.CacheCounts.{one_of, puts}
 use Rattle.run_laws.specs.HandCounts.{shed_by}
 use Rattle.pool_law.proofs.PatternLemmas.{same_region-refl}
-use Rattle.run_laws.proofs.LogEntries.{LanesAct}
+use Rattle.run_laws.proofs.LogEntries.{LanesAct, entry-note, get-map}
 use Rattle.run_laws.proofs.CloseLaw.{Parts}
-use Rattle.run_laws.proofs.Sums.{over-at}
+use Rattle.run_laws.proofs.Acts.{PutsAway}
+use Rattle.run_laws.proofs.Sums.{below-or, over-at}
 use Rattle.run_laws.proofs.Placed.{total-found, puts-kept}
-use Rattle.run_laws.proofs.Together.{Fills}
-use Rattle.run_laws.proofs.HandPairs.{Empties, same-some}
+use Rattle.run_laws.proofs.Together.{Fills, EndHere, note-together}
+use Rattle.run_laws.proofs.HandPairs.{Empties, moving, no-both, same-some}
 use Rattle.run_laws.proofs.HandNotes.{Held, held-from, held-to, held-once}
 use Rattle.run_laws.proofs.Totals.{note_tally, note-placed, keeps_in, shed-total, removes-less}
 use Rattle.run_laws.proofs.LifeLaw.{end-use, one-use}
@@ -182,17 +183,52 @@ module _ (shape : Shape) (logs : Logs) (holds : HistoriesHold shape logs) (acts 
         let same : f.root ≡ root = one-use shape logs holds acts f.root root r f.used u in
         subst (λ x. (end : Done logs (Object.Root x.place) (End x)) × (end.lane ≡ a.lane) × (end.at < a.at)) same (f.end, f.same, f.held.order)
 
+    -- a region in hand is put away with the act that ended its root
+    away-moves : (r : RegionId) (d : Did) → PutsAway r d → moving (Some d) ≡ true
+    away-moves r (Kept x) puts = refl
+    away-moves r (Give x) puts = refl
+    away-moves r _ puts = absurd puts
+
+    pub put-soon : (lane k : ℕ) (r : RegionId) (f : FromEnd logs lane k r) (h : EndHere logs f.end.lane f.root) → h.end ≡ f.end.at → k ≤ h.ended + 4
+    put-soon lane k r f h same =
+        ⊎_elim
+        (λ (less : h.away < k).
+        let entry : Entry = entry_of logs (At h.away_object h.away_number h.did) in
+        let there : slice_get (map (entry_of logs) (of_lane logs lane)) h.away ≡ Some entry =
+        ap (λ l. slice_get (map (entry_of logs) (of_lane logs l)) h.away) (sym f.same) ∙ get-map (entry_of logs) (of_lane logs f.end.lane) h.away (At h.away_object h.away_number h.did) h.away_is in
+        let quiet : moving (did_of entry.note) ≡ false = f.held.pair.still h.away entry (omega (arith, same, h.after_end, h.after_vacated)) less there in
+        let loud : moving (did_of entry.note) ≡ true = ap (λ n. moving (did_of n)) (entry-note logs (At h.away_object h.away_number h.did)) ∙ away-moves h.region h.did h.puts_away in
+        absurd (no-both (moving (did_of entry.note)) loud quiet))
+        (λ most. omega (arith, most, h.near))
+        (below-or h.away k)
+
+    soon : (root : RootId) (r : RegionId) → IsUse logs root r → (a : Returned logs r) (release : Counted logs root RefDid.Ended) → a.at ≤ release.at + 4
+    soon root r u a release =
+        let f : FromEnd logs a.lane a.at r = returned-from r a in
+        let same : f.root ≡ root = one-use shape logs holds acts f.root root r f.used u in
+        let mine : Counted logs f.root RefDid.Ended = record { lane = release.lane; at = release.at; stands = release.stands ∙ ap (λ x. Some (Ref x RefDid.Ended)) (sym same) } in
+        let h : EndHere logs f.end.lane f.root = note-together logs f.end.lane (acts f.end.lane) f.end.at (At (Object.Root f.root.place) f.end.number (End f.root)) f.end.stands in
+        let placed : h.object ≡ Object.Root f.root.place = note-placed shape logs holds acts f.end.lane h.end h.number h.object (End f.root) h.end_is in
+        let here : Done logs (Object.Root f.root.place) (End f.root) = record { lane = f.end.lane; at = h.end; number = h.number; stands = h.end_is ∙ ap (λ o. Some (At o h.number (End f.root))) placed } in
+        let e : HasEnded logs f.root = notes.end f.root f.end in
+        let ends : (here.lane ≡ f.end.lane) × (here.at ≡ f.end.at) = e.end_once here f.end in
+        let first : Counted logs f.root RefDid.Ended = record { lane = f.end.lane; at = h.ended; stands = h.ended_is } in
+        let released : (first.lane ≡ mine.lane) × (first.at ≡ mine.at) = e.ended_once first mine in
+        omega (arith, put-soon a.lane a.at r f h ends.1, released.1)
+
     pub returns-once : (root : RootId) (r : RegionId) → IsUse logs root r → ReturnsOnce logs root r
     returns-once root r u =
         record {
           exactly = (λ a. (notes.end root (returned-end root r u a).0).ended, λ c. ended-returned root r u (notes.ended root c).end);
-          after = λ a release. let e = returned-end root r u a in order e.0 e.1 e.2 release (notes.end root e.0);
+          after = λ a release. let e = returned-end root r u a in order a e.0 e.1 e.2 release (notes.end root e.0);
           once = λ a b. one-way_out root r u a.lane b.lane a.at b.at (returned-from r a) (returned-from r b);
+          ended_once = λ a b. (notes.ended root a).ended_once a b;
           at_zero = (λ a. ended-dead shape logs holds acts parts counts root r u (returned-end root r u a).0, λ dead. ended-returned root r u (dead-ended shape logs holds acts parts counts root r u dead));
         }
       where
-        order : {lane at : ℕ} (end : Done logs (Object.Root root.place) (End root)) → end.lane ≡ lane → end.at < at → (release : Counted logs root RefDid.Ended) → HasEnded logs root → (release.lane ≡ lane) × (release.at < at)
-        order end in_lane before release h =
+        order : (a : Returned logs r) (end : Done logs (Object.Root root.place) (End root)) → end.lane ≡ a.lane → end.at < a.at → (release : Counted logs root RefDid.Ended) → HasEnded logs root →
+            (release.lane ≡ a.lane) × (release.at < a.at) × (a.at ≤ release.at + 4)
+        order a end in_lane before release h =
             let e : (end.lane ≡ h.end.lane) × (end.at ≡ h.end.at) = h.end_once end h.end in
             let c : (release.lane ≡ h.ended.lane) × (release.at ≡ h.ended.at) = h.ended_once release h.ended in
-            (c.0 ∙ sym h.same_log.0 ∙ sym e.0 ∙ in_lane, omega (arith, e.1, c.1, h.order.0, before))
+            (c.0 ∙ sym h.same_log.0 ∙ sym e.0 ∙ in_lane, omega (arith, e.1, c.1, h.order.0, before), soon root r u a release)

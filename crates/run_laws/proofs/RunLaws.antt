@@ -2,12 +2,15 @@
 use Rattle.std.proofs.Common.{⊎_elim, ◌≡◌, ℕ, suc, List, [], ◌∷◌, length, refl, sym, ap, subst, arith, ◌∙◌}
 use Rattle.std.specs.Prelude.{◌<◌, map}
 use Rattle.pool_law.specs.declared.run.Run.{Run}
-use Rattle.pool_law.specs.Logs.{of_lane, entry_of, entries_of}
+use Rattle.pool_law.specs.declared.note.Object.{Object}
+use Rattle.pool_law.specs.Histories.{arena_after, cache_after}
+use Rattle.pool_law.specs.Logs.{of_lane, dids, history_of, entry_of, entries_of}
 use Rattle.pool_law.specs.Legal.{IsLegal, logs_of, replies_of}
 use Rattle.pool_law.specs.Lives.{RegionsLive}
 use Rattle.pool_law.specs.Apart.{LieApart, NeverOverlap}
 use Rattle.run_laws.specs.Conserved.{CachesEndEmpty, RegionsReturn, OutAtEnd}
 use Rattle.run_laws.proofs.Sums.{below-or}
+use Rattle.run_laws.proofs.Placed.{is-some}
 use Rattle.run_laws.proofs.Acts.{sum_notes, Acts, no-acts}
 use Rattle.run_laws.proofs.LaneActs.{AnyNote, any-acts}
 use Rattle.run_laws.proofs.CloseLaw.{Parts, log-parts}
@@ -51,14 +54,17 @@ parts-of run legal lane low =
     (log-parts run.shape lane (of_lane run.trace.lanes lane) (replies_of run lane) (of_lane (entries_of (logs_of run)) lane) (legal.answers lane (omega (arith, low, logs-length run legal))))
 
 pub caches-end_empty : (run : Run) → IsLegal run → CachesEndEmpty run.shape (logs_of run)
-caches-end_empty run legal lane class c low cached e =
-    cache-empty run.shape (logs_of run) legal.histories (acts-of run legal) (parts-of run legal) lane class c (omega (arith, low, logs-length run legal)) cached e
+caches-end_empty run legal lane class low cached =
+    let ends = is-some (cache_after lane class (dids (history_of (Object.Cache lane class) (logs_of run)))) (legal.histories.accepted (Object.Cache lane class)) in
+    (ends.0, (ends.1, cache-empty run.shape (logs_of run) legal.histories (acts-of run legal) (parts-of run legal) lane class ends.0 (omega (arith, low, logs-length run legal)) cached ends.1))
 
 pub regions-return : (run : Run) → IsLegal run → RegionsReturn (logs_of run)
 regions-return run legal root region used = returns-once run.shape (logs_of run) legal.histories (acts-of run legal) (parts-of run legal) legal.counts root region used
 
 pub arenas-end : (run : Run) → IsLegal run → OutAtEnd run.shape (logs_of run)
-arenas-end run legal = out-at_end run.shape (logs_of run) legal.histories (acts-of run legal) (parts-of run legal) legal.counts
+arenas-end run legal number =
+    let ends = is-some (arena_after run.shape number (dids (history_of (Object.Arena number) (logs_of run)))) (legal.histories.accepted (Object.Arena number)) in
+    (ends.0, (ends.1, out-at_end run.shape (logs_of run) legal.histories (acts-of run legal) (parts-of run legal) legal.counts number ends.0 ends.1))
 
 pub posts-are_near : (run : Run) → IsLegal run → PostsWithin (logs_of run) run.shape.lanes
 posts-are_near run legal =

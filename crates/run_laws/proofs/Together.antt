@@ -1,5 +1,5 @@
 -- What stands together in a lane's log: the notes of a birth, and those of an end.
-use Rattle.std.proofs.Common.{inl, inr, ◌≡◌, ℕ, zero, suc, [], ◌∷◌, refl, sym, ap, subst, arith, Some, None, ◌∙◌}
+use Rattle.std.proofs.Common.{inl, inr, ◌≡◌, ℕ, zero, suc, ◌+◌, ◌≤◌, [], ◌∷◌, refl, sym, ap, subst, arith, Some, None, ◌∙◌}
 use Rattle.std.specs.Prelude.{◌⊎◌, ◌<◌, map, Option, slice_get}
 use Rattle.pool_law.specs.declared.id.RootId.{RootId}
 use Rattle.pool_law.specs.declared.id.RegionId.{RegionId}
@@ -57,6 +57,7 @@ pub record EndHere (logs : Logs) (lane : ℕ) (root : RootId) : Type 0 where
   pub after_ended : ended < end
   pub after_end : end < vacated
   pub after_vacated : vacated < away
+  pub near : away ≤ ended + 4
 
 -- what stands in the log with this note at this place
 abbrev pub Together : Logs → ℕ → ℕ → Note → Type 0
@@ -107,7 +108,7 @@ module _ (logs : Logs) (lane : ℕ) where
       (m.1 ∙ ap (λ y. Some y) same, sym m.2 ∙ ap (entry_of logs) same)
 
   -- the entries of an act at their places
-  module _ (e : Entry) (place : ℕ → ℕ) (rises : (j l : ℕ) → j < l → place j < place l) where
+  module _ (e : Entry) (place : ℕ → ℕ) (rises : (j l : ℕ) → j < l → place j < place l) (in_row : (j : ℕ) → place j ≡ place 0 + j) where
     births-together : (got birth set : Entry) → Birthing got birth set → ((j : ℕ) (x : Entry) → slice_get (got ∷ birth ∷ set ∷ []) j ≡ Some x → slice_get log_entries (place j) ≡ Some x) →
         (m : ℕ) → slice_get (got ∷ birth ∷ set ∷ []) m ≡ Some e → Together logs lane (place m) e.note
     births-together got birth set b there = go
@@ -140,9 +141,9 @@ module _ (logs : Logs) (lane : ℕ) where
         (m : ℕ) → slice_get (ended ∷ end ∷ vacated ∷ before refused (away ∷ [])) m ≡ Some e → Together logs lane (place m) e.note
     ends-together ended end vacated refused away quiet x there = go
       where
-        last : (o : Option Entry) → (l : ℕ) × (2 < l) × (slice_get (ended ∷ end ∷ vacated ∷ before o (away ∷ [])) l ≡ Some away)
-        last None = (3, omega arith, refl)
-        last (Some r) = (4, omega arith, refl)
+        last : (o : Option Entry) → (l : ℕ) × (2 < l) × (slice_get (ended ∷ end ∷ vacated ∷ before o (away ∷ [])) l ≡ Some away) × (l ≤ 4)
+        last None = (3, omega arith, refl, omega arith)
+        last (Some r) = (4, omega arith, refl, omega arith)
 
         n : (slice_get (of_lane logs lane) (place 1) ≡ Some (At x.end_is.object x.end_is.number (End x.root))) × (end ≡ entry_of logs (At x.end_is.object x.end_is.number (End x.root)))
         n = note-at (place 1) end (At x.end_is.object x.end_is.number (End x.root)) (there 1 end refl) x.end_is.is
@@ -170,6 +171,7 @@ module _ (logs : Logs) (lane : ℕ) where
               after_ended = rises 0 1 (omega arith);
               after_end = rises 1 2 (omega arith);
               after_vacated = rises 2 l.0 l.1;
+              near = omega (arith, in_row l.0, l.3);
             }
 
         put : (l : ℕ) → 1 < l → away ≡ e → Together logs lane (place l) e.note
@@ -207,4 +209,4 @@ module _ (logs : Logs) (lane : ℕ) where
   pub note-together : Acts AnyNote log_entries [] → (i : ℕ) (n : Note) → slice_get (of_lane logs lane) i ≡ Some n → Together logs lane i n
   note-together acts i n is =
       let w : Within AnyNote log_entries i (entry_of logs n) = entry-within AnyNote log_entries i (entry_of logs n) acts (get-map (entry_of logs) (of_lane logs lane) i n is) in
-      subst (Together logs lane i) (entry-note logs n) (subst (λ k. Together logs lane k (entry_of logs n).note) (sym w.here) (act-together (entry_of logs n) w.place w.rises w.act w.there w.index w.found))
+      subst (Together logs lane i) (entry-note logs n) (subst (λ k. Together logs lane k (entry_of logs n).note) (sym w.here) (act-together (entry_of logs n) w.place w.rises w.in_row w.act w.there w.index w.found))

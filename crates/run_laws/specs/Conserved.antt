@@ -1,6 +1,6 @@
 -- What a legal run keeps: its caches end empty, a root's region returns once where its total is 0,
 -- and what the arenas have out at the end is what the live roots use.
-use Rattle.std.specs.Prelude.{◌≡◌, ◌≢◌, ◌⊎◌, ◌↔◌, ℕ, ◌<◌, IsTrue, [], Some}
+use Rattle.std.specs.Prelude.{◌≡◌, ◌≢◌, ◌⊎◌, ◌↔◌, ℕ, ◌+◌, ◌<◌, ◌≤◌, IsTrue, [], Some}
 use Rattle.pool_law.specs.declared.id.RootId.{RootId}
 use Rattle.pool_law.specs.declared.id.RegionId.{RegionId}
 use Rattle.pool_law.specs.declared.note.Object.{Object}
@@ -17,7 +17,7 @@ use Rattle.pool_law.specs.Logs.{Logs, dids, history_of, entries_of}
 use Rattle.pool_law.specs.Counts.{total_of}
 use Rattle.arena_law.specs.Slots.{EachOf}
 use Rattle.pool_law.specs.Lives.{StandsAt, IsUse, Done, cache_of, arena_of}
-use Rattle.run_laws.specs.OneLog.{Counted}
+use Rattle.run_laws.specs.OneLog.{Counted, CountedOnce}
 
 -- the cache of a lane and class, and an arena, at the end of the run
 abbrev pub EndsAsCache : Logs → ℕ → ℕ → Cache → Type 0
@@ -28,11 +28,11 @@ abbrev pub EndsAsArena : Shape → Logs → ℕ → Arena → Type 0
 EndsAsArena shape logs number a =
     arena_after shape number (dids (history_of (Object.Arena number) logs)) ≡ Some a
 
--- each cache ends empty
+-- each cache comes to an end, and is empty there
 abbrev pub CachesEndEmpty : Shape → Logs → Type 0
 CachesEndEmpty shape logs =
-    (lane class : ℕ) (c : Cache) → lane < shape.lanes → class < cached_classes →
-    EndsAsCache logs lane class c → c.regions ≡ []
+    (lane class : ℕ) → lane < shape.lanes → class < cached_classes →
+    (c : Cache) × (EndsAsCache logs lane class c × (c.regions ≡ []))
 
 abbrev pub total_in : Logs → RootId → ℕ
 total_in logs root = total_of root (entries_of logs)
@@ -55,9 +55,11 @@ pub record Returned (logs : Logs) (region : RegionId) : Type 0 where
 -- the region of a root returns once, by the release that ends the root's count, and otherwise never
 pub record ReturnsOnce (logs : Logs) (root : RootId) (region : RegionId) : Type 0 where
   pub exactly : Returned logs region ↔ Counted logs root RefDid.Ended
+  -- it stands behind that release in its log, within four notes
   pub after : (a : Returned logs region) (release : Counted logs root RefDid.Ended) →
-      (release.lane ≡ a.lane) × (release.at < a.at)
+      (release.lane ≡ a.lane) × (release.at < a.at) × (a.at ≤ release.at + 4)
   pub once : (a b : Returned logs region) → (a.lane ≡ b.lane) × (a.at ≡ b.at)
+  pub ended_once : CountedOnce logs root RefDid.Ended
   -- which is exactly where the root's total is 0
   pub at_zero : Returned logs region ↔ (total_in logs root ≡ 0)
 
@@ -81,6 +83,7 @@ pub record OutIsHeld (logs : Logs) (number : ℕ) (a : Arena) : Type 0 where
   pub out : (root : RootId) (region : RegionId) → IsUse logs root region →
       total_in logs root ≢ 0 → region.place.arena ≡ number → IsTrue (is_out_of a region)
 
+-- each arena comes to an end, and has out there exactly what live roots use
 abbrev pub OutAtEnd : Shape → Logs → Type 0
 OutAtEnd shape logs =
-    (number : ℕ) (a : Arena) → EndsAsArena shape logs number a → OutIsHeld logs number a
+    (number : ℕ) → (a : Arena) × (EndsAsArena shape logs number a × OutIsHeld logs number a)

@@ -5,7 +5,7 @@ use Rattle.pool_law.specs.declared.id.RegionId.{RegionId}
 use Rattle.pool_law.specs.declared.run.Run.{Run}
 use Rattle.pool_law.specs.Places.{Overlap}
 use Rattle.pool_law.specs.Logs.{Logs}
-use Rattle.pool_law.specs.Legal.{logs_of}
+use Rattle.pool_law.specs.Legal.{IsLegal, logs_of}
 use Rattle.pool_law.specs.Lives.{IsUse, RegionsLive}
 use Rattle.pool_law.specs.Apart.{NeverOverlap, LieApart}
 use Rattle.run_laws.specs.Conserved.{total_in, RegionsReturn, CachesEndEmpty, OutAtEnd}
@@ -26,6 +26,8 @@ LiveIsNeverFreed logs =
 
 -- what a legal run gives, whatever its trace, its lanes and their interleaving
 pub record Headline (run : Run) : Type 0 where
+  -- its notes and replies are those of the definitions, over which the rest is read
+  pub legal : IsLegal run
   -- regions of live roots never overlap: of two that do, one ended before the other was born
   pub never_overlap : NeverOverlap (logs_of run)
   -- for each taking lives one life, in which one root after another is born with it and ends

@@ -11,3 +11,4 @@ pub mod Reads
 pub mod Reported
 pub mod Headline
 pub mod Refused
+pub mod RefusedRuns

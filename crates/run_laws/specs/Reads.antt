@@ -11,7 +11,9 @@ use Rattle.pool_law.specs.declared.note.Note.TheVariants.{At}
 use Rattle.pool_law.specs.declared.run.Reply.{Reply}
 use Rattle.pool_law.specs.declared.run.Run.{Run}
 use Rattle.pool_law.specs.Logs.{Logs, Entry, dids, history_of, of_lane, entry_of, entries_of, present_before}
-use Rattle.pool_law.specs.Names.{reader_of, parts_at}
+use Rattle.pool_law.specs.Caches.{if_so}
+use Rattle.pool_law.specs.Options.{◌>>=◌}
+use Rattle.pool_law.specs.Names.{has_range, has_to_read, reader_of, parts_at}
 use Rattle.pool_law.specs.LaneStates.{LaneState, new_lane, named}
 use Rattle.pool_law.specs.LaneLaw.{sweep_period, pieces, lane_run, note_counts, replies_in}
 use Rattle.pool_law.specs.Readers.{Entries}
@@ -42,19 +44,14 @@ abbrev pub get_note : Part → ℕ → List ℕ → Note
 get_note part number bytes =
     At (Object.Root part.root.place) number (Did.Get part.offset bytes)
 
--- what a command reads: parts of roots, in order
+-- what a command reads: parts of roots, in order; none where the range leaves the view or the
+-- composite, and where the command is no read
 abbrev pub parts_read : LaneState → Command → Option (List Part)
 parts_read s (Command.Get name at len tries) =
-    option_map (λ b. parts_at b at len) (named s name)
+    named s name >>= (λ b. if_so (has_range at len b) (parts_at b at len))
 parts_read s (Command.Read name len) =
-    option_map (λ b. parts_at b (reader_of b) len) (named s name)
+    named s name >>= (λ b. if_so (has_to_read len b) (parts_at b (reader_of b) len))
 parts_read s _ = None
-
--- a command is a read
-abbrev pub IsReading : Command → Type 0
-IsReading (Command.Get name at len tries) = Unit {0}
-IsReading (Command.Read name len) = Unit {0}
-IsReading _ = ⊥
 
 -- the notes of each command of a lane
 abbrev pub groups_of : Run → ℕ → List Entries
@@ -107,11 +104,11 @@ pub record ReadsWritten (run : Run) (lane number : ℕ) (command : Command) (byt
     pub gives : bytes ≡ joined got
     pub gets : GetsParts (logs_of run) parts notes got
 
--- each read that is answered with bytes gives those last written to the roots of its
--- parts, at their offsets
+-- each command that is answered with bytes is a read, and gives those last written to the roots of
+-- its parts, at their offsets
 abbrev pub ReadsGiveWritten : Run → Type 0
 ReadsGiveWritten run =
-    (lane number : ℕ) (command : Command) (bytes : List ℕ) → lane < run.shape.lanes →
-    slice_get (of_lane run.trace.lanes lane) number ≡ Some command → IsReading command →
+    (lane number : ℕ) (command : Command) (bytes : List ℕ) →
+    slice_get (of_lane run.trace.lanes lane) number ≡ Some command →
     slice_get (replies_in (replies_of run lane)) number ≡ Some (Reply.OkBytes bytes) →
     ReadsWritten run lane number command bytes

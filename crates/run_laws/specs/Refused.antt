@@ -1,18 +1,13 @@
 -- Notes that no pool makes, and that the laws refuse.
-use Rattle.std.specs.Prelude.{ℕ, false, List, [], ◌∷◌}
+use Rattle.std.specs.Prelude.{ℕ, List, [], ◌∷◌}
 use Rattle.pool_law.specs.declared.id.Place.{Place}
 use Rattle.pool_law.specs.declared.id.RootId.{RootId}
 use Rattle.pool_law.specs.declared.id.RegionId.{RegionId}
-use Rattle.pool_law.specs.declared.command.Command.{Command}
 use Rattle.pool_law.specs.declared.note.Object.{Object}
 use Rattle.pool_law.specs.declared.note.Did.{Did}
 use Rattle.pool_law.specs.declared.note.RefDid.{RefDid}
 use Rattle.pool_law.specs.declared.note.Note.{Note}
 use Rattle.pool_law.specs.declared.note.Note.TheVariants.{At, Ref}
-use Rattle.pool_law.specs.declared.run.Level.{Level}
-use Rattle.pool_law.specs.declared.run.Reply.{Reply}
-use Rattle.pool_law.specs.declared.run.Answered.{Answered}
-use Rattle.pool_law.specs.declared.run.Run.{Run}
 use Rattle.pool_law.specs.Logs.{Logs}
 
 -- the front of the first chunk
@@ -101,111 +96,48 @@ kept_and_given =
     ∷ at_cache 3 (Did.Shed (first_taking 1))
     ∷ [])
 
--- a reply, and how many notes its command made
-abbrev pub answered_by : Reply → ℕ → Answered
-answered_by reply notes = record { reply = reply; notes = notes }
+-- it returns long after the release that ended its count
+abbrev pub given_late : Logs
+given_late =
+    ends_with
+    (Ref (byte_root 0) RefDid.Ended
+    ∷ At (Object.Bin 0) 1 (Did.Handle 1)
+    ∷ At (Object.Bin 0) 2 (Did.Home 1)
+    ∷ At (Object.Bin 0) 3 (Did.Handle 1)
+    ∷ At (Object.Bin 0) 4 (Did.Home 1)
+    ∷ at_root 0 2 (Did.End (byte_root 0))
+    ∷ Ref (byte_root 0) RefDid.Vacated
+    ∷ at_arena 2 (Did.Give (first_taking 1))
+    ∷ [])
 
--- a byte is read, set, and read again as it was
-abbrev pub stale : Run
-stale =
-    record {
-      trace = record {
-        lanes =
-            (Command.Alloc 0 1
-            ∷ Command.Get 0 0 1 false
-            ∷ Command.Set 0 0 (255 ∷ []) false
-            ∷ Command.Get 0 0 1 false
-            ∷ [])
-            ∷ [];
-      };
-      shape = record {
-        order = 9;
-        arenas = 1;
-        chunks = 1;
-        handles = 1;
-        lanes = 1;
-        level = Level.Simple;
-        interval = 128;
-      };
-      logs = record {
-        replies =
-            answered_by (Reply.OkPlace 16 front_place) 5
-            ∷ answered_by (Reply.OkBytes (0 ∷ [])) 1
-            ∷ answered_by Reply.Ok 1
-            ∷ answered_by (Reply.OkBytes (0 ∷ [])) 1
-            ∷ [];
-        notes =
-            At (Object.Bin 0) 1 (Did.Handle 0)
-            ∷ at_cache 1 Did.Miss
-            ∷ at_arena 1 (Did.Take 0 (first_taking 0))
-            ∷ at_root 0 1 (Did.Birth (byte_root 0) (first_taking 1))
-            ∷ Ref (byte_root 0) RefDid.Born
-            ∷ at_root 0 2 (Did.Get 0 (0 ∷ []))
-            ∷ at_root 0 3 (Did.Set 0 (255 ∷ []))
-            ∷ at_root 0 4 (Did.Get 0 (0 ∷ []))
-            ∷ [];
-      } ∷ [];
-      chunks = [];
-      leaks = [];
-    }
+-- its count ends twice
+abbrev pub ended_twice : Logs
+ended_twice =
+    ends_with
+    (Ref (byte_root 0) RefDid.Ended
+    ∷ at_root 0 2 (Did.End (byte_root 0))
+    ∷ Ref (byte_root 0) RefDid.Vacated
+    ∷ at_arena 2 (Did.Give (first_taking 1))
+    ∷ Ref (byte_root 0) RefDid.Ended
+    ∷ [])
 
--- two bytes of a composite are read the wrong way round
-abbrev pub behind_place : Place
-behind_place = record { arena = 0; chunk = 0; offset = 16; len = 16 }
+-- it is kept by a cache of another lane, and shed there
+abbrev pub kept_elsewhere : Logs
+kept_elsewhere =
+    ends_with
+    (Ref (byte_root 0) RefDid.Ended
+    ∷ at_root 0 2 (Did.End (byte_root 0))
+    ∷ Ref (byte_root 0) RefDid.Vacated
+    ∷ At (Object.Cache 1 0) 1 (Did.Kept (first_taking 1))
+    ∷ At (Object.Cache 1 0) 2 (Did.Close 1)
+    ∷ At (Object.Cache 1 0) 3 (Did.Shed (first_taking 1))
+    ∷ at_arena 2 (Did.Give (first_taking 1))
+    ∷ [])
 
-abbrev pub behind_taking : ℕ → RegionId
-behind_taking uses =
-    record { place = behind_place; class = 0; taking = 2; uses = uses; owner = 0 }
+-- an arena that has given nothing away says that it is full
+abbrev pub false_full : Logs
+false_full = (at_arena 1 (Did.Full 0) ∷ []) ∷ []
 
-abbrev pub swapped : Run
-swapped =
-    record {
-      trace = record {
-        lanes =
-            (Command.Alloc 0 1
-            ∷ Command.Alloc 1 1
-            ∷ Command.Write 0 (1 ∷ [])
-            ∷ Command.Write 1 (2 ∷ [])
-            ∷ Command.Compose 2 (0 ∷ 1 ∷ [])
-            ∷ Command.Read 2 2
-            ∷ [])
-            ∷ [];
-      };
-      shape = record {
-        order = 9;
-        arenas = 1;
-        chunks = 1;
-        handles = 2;
-        lanes = 1;
-        level = Level.Simple;
-        interval = 128;
-      };
-      logs = record {
-        replies =
-            answered_by (Reply.OkPlace 16 front_place) 5
-            ∷ answered_by (Reply.OkPlace 16 behind_place) 5
-            ∷ answered_by Reply.Ok 1
-            ∷ answered_by Reply.Ok 1
-            ∷ answered_by (Reply.OkNumber 2) 0
-            ∷ answered_by (Reply.OkBytes (2 ∷ 1 ∷ [])) 2
-            ∷ [];
-        notes =
-            At (Object.Bin 0) 1 (Did.Handle 0)
-            ∷ at_cache 1 Did.Miss
-            ∷ at_arena 1 (Did.Take 0 (first_taking 0))
-            ∷ at_root 0 1 (Did.Birth (byte_root 0) (first_taking 1))
-            ∷ Ref (byte_root 0) RefDid.Born
-            ∷ At (Object.Bin 0) 2 (Did.Handle 1)
-            ∷ at_cache 2 Did.Miss
-            ∷ at_arena 2 (Did.Take 0 (behind_taking 0))
-            ∷ at_root 1 1 (Did.Birth (byte_root 1) (behind_taking 1))
-            ∷ Ref (byte_root 1) RefDid.Born
-            ∷ at_root 0 2 (Did.Set 0 (1 ∷ []))
-            ∷ at_root 1 2 (Did.Set 0 (2 ∷ []))
-            ∷ at_root 1 3 (Did.Get 0 (2 ∷ []))
-            ∷ at_root 0 3 (Did.Get 0 (1 ∷ []))
-            ∷ [];
-      } ∷ [];
-      chunks = [];
-      leaks = [];
-    }
+-- a cache gives what it never kept
+abbrev pub false_hit : Logs
+false_hit = (at_cache 1 (Did.Hit (first_taking 1)) ∷ []) ∷ []

@@ -1,5 +1,5 @@
 -- What the leak report lists: the sampled roots that were never freed.
-use Rattle.std.specs.Prelude.{◌≡◌, ℕ, ◌+◌, IsTrue, Some, slice_get}
+use Rattle.std.specs.Prelude.{◌≡◌, ◌⊎◌, ℕ, ◌+◌, ◌<◌, IsTrue, Some, slice_get}
 use Rattle.pool_law.specs.declared.id.RootId.{RootId}
 use Rattle.pool_law.specs.declared.note.RefDid.{RefDid}
 use Rattle.pool_law.specs.declared.report.Leak.{Leak}
@@ -23,9 +23,13 @@ pub record IsLeak (run : Run) (leak : Leak) : Type 0 where
   pub never_freed : NeverFreed (logs_of run) root
   pub told : leak ≡ leak_of run.shape.level (logs_of run) leak.lane leak.serial root
 
--- the report lists exactly these, each once
+-- a leak is listed before another: of an earlier lane, or with an earlier serial of the same lane
+abbrev pub ComesBefore : Leak → Leak → Type 0
+ComesBefore a b = (a.lane < b.lane) ⊎ ((a.lane ≡ b.lane) × (a.serial < b.serial))
+
+-- the report lists exactly these, by lane and then by serial, so each once
 pub record ListsLeaks (run : Run) : Type 0 where
   pub only : (i : ℕ) (leak : Leak) → slice_get run.leaks i ≡ Some leak → IsLeak run leak
   pub all : (leak : Leak) → IsLeak run leak → (i : ℕ) × (slice_get run.leaks i ≡ Some leak)
-  pub once : (i j : ℕ) (a b : Leak) → slice_get run.leaks i ≡ Some a →
-      slice_get run.leaks j ≡ Some b → a.lane ≡ b.lane → a.serial ≡ b.serial → i ≡ j
+  pub order : (i j : ℕ) (a b : Leak) → slice_get run.leaks i ≡ Some a →
+      slice_get run.leaks j ≡ Some b → i < j → ComesBefore a b

@@ -19,7 +19,9 @@ ghost use Rattle.pool_law.specs.declared.run.Run.{Run};
 ghost use Rattle.pool_law.specs.Legal.{IsLegal, logs_of};
 ghost use Rattle.run_laws.specs.Conserved.{ReturnsOnce, CachesEndEmpty, RegionsReturn, OutAtEnd};
 ghost use Rattle.run_laws.specs.Reads.{ReadsGiveWritten};
-ghost use Rattle.run_laws.specs.Refused.{first_taking, byte_root, given_while_live, given_alive, kept_alive, given_and_kept, kept_and_given, stale, swapped};
+ghost use Rattle.run_laws.specs.Reported.{ListsLeaks};
+ghost use Rattle.run_laws.specs.Refused.{first_taking, byte_root, given_while_live, given_alive, kept_alive, given_and_kept, kept_and_given, given_late, ended_twice, kept_elsewhere, false_full, false_hit};
+ghost use Rattle.run_laws.specs.RefusedRuns.{shape_of, stale, swapped, read_early, set_unnoted, read_past, touched, leaks_turned};
 ghost use Rattle.run_laws.specs.Headline.{Headline};
 ghost use Rattle.run_laws.specs.OneLog.{StandInOneLog};
 ghost use Rattle.run_laws.specs.Parcels.{TotalsAreShared};
@@ -96,19 +98,20 @@ pub fn roots_in_one_log()
     ensures one_log { (run : Run) → IsLegal run → StandInOneLog (logs_of run) }
 {}
 
-/// In a legal run each cache of each lane ends empty.
+/// In a legal run each cache of each lane comes to an end, and is empty there.
 pub fn caches_end_empty()
     ensures empty { (run : Run) → IsLegal run → CachesEndEmpty run.shape (logs_of run) }
 {}
 
 /// In a legal run the region of a root returns once, by the release that ends the root's count and
-/// after it in its log, and otherwise never; which is exactly where the root's total is 0.
+/// within four notes behind it in its log, and otherwise never; which is exactly where the root's
+/// total is 0.
 pub fn regions_return()
     ensures returned { (run : Run) → IsLegal run → RegionsReturn (logs_of run) }
 {}
 
-/// At the end of a legal run each arena has out exactly the regions of the live roots whose places
-/// name it.
+/// In a legal run each arena comes to an end, and has out there exactly the regions of the live roots
+/// whose places name it.
 pub fn live_regions_are_out()
     ensures out { (run : Run) → IsLegal run → OutAtEnd run.shape (logs_of run) }
 {}
@@ -128,9 +131,10 @@ pub fn headline()
     ensures headline { (run : Run) → IsLegal run → Headline run }
 {}
 
-/// Notes that no pool makes are refused: a region that is given back while its root is live, so
-/// that another root lies on it; one that returns though its root never ends; one that returns
-/// twice; a read of what was there before; one of a composite's parts the wrong way round.
+/// Logs that no pool makes are refused: a region that is given back while its root is live, so that
+/// another root lies on it; one that returns though its root never ends, or twice, or long after its
+/// end, or by way of a cache that isn't its own; a count that ends twice; an arena that says it is
+/// full and is not; a cache that gives what it never kept.
 pub fn forged_notes_are_refused()
     ensures overlapping { NeverOverlap given_while_live → ⊥ }
     ensures given_early { RegionsLive given_while_live → ⊥ }
@@ -138,6 +142,22 @@ pub fn forged_notes_are_refused()
     ensures kept_alive { ReturnsOnce kept_alive (byte_root 0) (first_taking 1) → ⊥ }
     ensures given_and_kept { ReturnsOnce given_and_kept (byte_root 0) (first_taking 1) → ⊥ }
     ensures kept_and_given { ReturnsOnce kept_and_given (byte_root 0) (first_taking 1) → ⊥ }
+    ensures given_late { ReturnsOnce given_late (byte_root 0) (first_taking 1) → ⊥ }
+    ensures ended_twice { ReturnsOnce ended_twice (byte_root 0) (first_taking 1) → ⊥ }
+    ensures kept_elsewhere { RegionsLive kept_elsewhere → ⊥ }
+    ensures false_full { OutAtEnd (shape_of 1 1) false_full → ⊥ }
+    ensures false_hit { CachesEndEmpty (shape_of 1 1) false_hit → ⊥ }
+{}
+
+/// Runs that no pool makes are refused: a read of what was there before; one of a composite's parts
+/// the wrong way round; one noted earlier than the write before it; a write that was not noted; a
+/// read past a slice; bytes that no read gives; leaks out of order.
+pub fn forged_runs_are_refused()
     ensures stale { ReadsGiveWritten stale → ⊥ }
     ensures swapped { ReadsGiveWritten swapped → ⊥ }
+    ensures read_early { Headline read_early → ⊥ }
+    ensures set_unnoted { Headline set_unnoted → ⊥ }
+    ensures read_past { ReadsGiveWritten read_past → ⊥ }
+    ensures touched { ReadsGiveWritten touched → ⊥ }
+    ensures leaks_turned { ListsLeaks leaks_turned → ⊥ }
 {}

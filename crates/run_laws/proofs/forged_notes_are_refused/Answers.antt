@@ -1,4 +1,4 @@
-use Rattle.run_laws.proofs.Forged.{still-overlapping, overlapping, alive-given, alive-kept, twice-given, twice-kept, stale-read, swapped-read}
+use Rattle.run_laws.proofs.Forged.{still-overlapping, overlapping, alive-given, alive-kept, twice-given, twice-kept, late-given, twice-ended, elsewhere-kept, full-false, hit-false}
 use Rattle.run_laws.proofs.forged_notes_are_refused.Goals as goal
 
 pub returns-clause-overlapping : goal.returns-clause-overlapping
@@ -19,8 +19,17 @@ returns-clause-given_and_kept c = twice-given
 pub returns-clause-kept_and_given : goal.returns-clause-kept_and_given
 returns-clause-kept_and_given c = twice-kept
 
-pub returns-clause-stale : goal.returns-clause-stale
-returns-clause-stale c = stale-read
+pub returns-clause-given_late : goal.returns-clause-given_late
+returns-clause-given_late c = late-given
 
-pub returns-clause-swapped : goal.returns-clause-swapped
-returns-clause-swapped c = swapped-read
+pub returns-clause-ended_twice : goal.returns-clause-ended_twice
+returns-clause-ended_twice c = twice-ended
+
+pub returns-clause-kept_elsewhere : goal.returns-clause-kept_elsewhere
+returns-clause-kept_elsewhere c = elsewhere-kept
+
+pub returns-clause-false_full : goal.returns-clause-false_full
+returns-clause-false_full c = full-false
+
+pub returns-clause-false_hit : goal.returns-clause-false_hit
+returns-clause-false_hit c = hit-false
