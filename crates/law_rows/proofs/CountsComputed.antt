@@ -2,6 +2,7 @@
 use Rattle.std.proofs.Common.{◌≡◌, ℕ, ◌+◌, ◌<◌, List, [], ◌∷◌, Bool, true, false, refl, sym, subst, arith, ◌∙◌}
 use Rattle.std.specs.Prelude.{◌&&◌, ◌||◌, not, nat_lt, map, Option, Some, None}
 use Rattle.std.specs.List.{list_all}
+use Rattle.std.proofs.lemmas.Bool.{ltb-true}
 use Rattle.pool_law.specs.declared.id.RootId.{RootId}
 use Rattle.pool_law.specs.declared.id.ViewData.{ViewData}
 use Rattle.pool_law.specs.declared.note.Did.TheVariants.{Post, Fetch, Birth}
@@ -10,7 +11,7 @@ use Rattle.pool_law.specs.declared.note.Note.{Note}
 use Rattle.pool_law.specs.declared.note.Note.TheVariants.{At, Ref, Busy}
 use Rattle.pool_law.specs.Same.{same_root}
 use Rattle.pool_law.specs.Logs.{Entry, of_lane}
-use Rattle.pool_law.specs.Counts.{view_is_of, root_is, note_gains, note_loses, note_needs, needs_count, ends_root, count_step, CountsHold, count_in, count_over, is_retain, is_release, is_birth, TotalHolds}
+use Rattle.pool_law.specs.Counts.{view_is_of, root_is, note_gains, note_loses, note_needs, needs_count, ends_root, count_step, CountsHold, count_in, count_over, names_root, is_retain, is_release, is_birth, TotalHolds}
 use Rattle.pool_law.specs.Legal.{LookAt, LooksHold, one_if, others_retains, CountsAgree}
 use Rattle.pool_law.proofs.SameLemmas.{and-first, and-second, same_root-is}
 use Rattle.law_rows.proofs.Lanes.{all_from, all_lanes}
@@ -57,6 +58,13 @@ module _ (roots : List RootId) (root : RootId) (absent : listed same_root roots 
   birth-unnamed (At object number (Birth r region)) e = another r e
   birth-unnamed _ e = refl
 
+  names-unnamed : (n : Note) → note_listed roots n ≡ true → names_root root n ≡ false
+  names-unnamed (Ref r did) e = another r e
+  names-unnamed (At object number (Post parcel)) e = view_is-unnamed parcel.view e
+  names-unnamed (At object number (Fetch parcel)) e = rw (view_is-unnamed parcel.view e) refl
+  names-unnamed (At object number _) e = refl
+  names-unnamed (Busy held) e = refl
+
   look-unnamed : (retains releases count others : ℕ) (n : Note) → note_listed roots n ≡ true →
       LookAt root retains releases count others n
   look-unnamed retains releases count others (Ref r (Look found)) e =
@@ -92,22 +100,32 @@ module _ (roots : List RootId) (root : RootId) (absent : listed same_root roots 
             (and-second _ _ e),
       )
 
-  births-unnamed : (es : List Entry) → list_all (entry_listed roots) es ≡ true → count_in (is_birth root) es ≡ 0
-  births-unnamed [] e = refl
-  births-unnamed (x ∷ xs) e =
+  -- no entry passes a test that no note passes
+  in-unnamed : (test : Note → Bool) → ((n : Note) → note_listed roots n ≡ true → test n ≡ false) →
+      (es : List Entry) → list_all (entry_listed roots) es ≡ true → count_in test es ≡ 0
+  in-unnamed test none [] e = refl
+  in-unnamed test none (x ∷ xs) e =
       let here : (note_listed roots x.note && root_listed roots x.root) ≡ true = and-first _ _ e in
-      rw (birth-unnamed x.note (and-first _ _ here))
-      (omega (arith, births-unnamed xs (and-second _ _ e)))
+      rw (none x.note (and-first _ _ here))
+      (omega (arith, in-unnamed test none xs (and-second _ _ e)))
+
+  over-unnamed : (test : Note → Bool) → ((n : Note) → note_listed roots n ≡ true → test n ≡ false) →
+      (k : ℕ) (logs : List (List Entry)) → all_from (roots_pass roots) k logs ≡ true → count_over test logs ≡ 0
+  over-unnamed test none k [] e = refl
+  over-unnamed test none k (es ∷ logs) e =
+      omega (
+        arith,
+        in-unnamed test none es (and-first _ _ e),
+        over-unnamed test none (k + 1) logs (and-second _ _ e),
+      )
 
   pub all_births-unnamed : (k : ℕ) (logs : List (List Entry)) → all_from (roots_pass roots) k logs ≡ true →
       count_over (is_birth root) logs ≡ 0
-  all_births-unnamed k [] e = refl
-  all_births-unnamed k (es ∷ logs) e =
-      omega (
-        arith,
-        births-unnamed es (and-first _ _ e),
-        all_births-unnamed (k + 1) logs (and-second _ _ e),
-      )
+  all_births-unnamed k logs e = over-unnamed (is_birth root) birth-unnamed k logs e
+
+  pub all_names-unnamed : (k : ℕ) (logs : List (List Entry)) → all_from (roots_pass roots) k logs ≡ true →
+      count_over (names_root root) logs ≡ 0
+  all_names-unnamed k logs e = over-unnamed (names_root root) names-unnamed k logs e
 
 -- ---- The sentences on all roots.
 
@@ -129,8 +147,12 @@ module _ (logs : List (List Entry)) (roots : List RootId)
   abbrev lane_looks : RootId → Bool
   lane_looks root = all_from (λ lane es. looks_pass root (others_retains root lane 0 logs) 0 0 0 es) 0 logs
 
+  -- it was born, if it is named
+  abbrev births : RootId → Bool
+  births root = not (nat_lt 0 (count_over (names_root root) logs)) || nat_lt 0 (count_over (is_birth root) logs)
+
   root-passes : (root : RootId) → listed same_root roots root ≡ true →
-      (lane_counts root && (totals root && lane_looks root)) ≡ true
+      (lane_counts root && (totals root && (lane_looks root && births root))) ≡ true
   root-passes root in_list = each_listed same_root same_root-is (root_passes logs) (λ _. true) roots root pass in_list
 
   in_lanes : (root : RootId) (lane : ℕ) → CountsHold root 0 (of_lane logs lane)
@@ -153,6 +175,19 @@ module _ (logs : List (List Entry)) (roots : List RootId)
           (search (arith, born)))
       go false absent = absurd (omega (arith, all_births-unnamed roots root absent 0 logs named))
 
+  in_births : (root : RootId) → 0 < count_over (names_root root) logs → 0 < count_over (is_birth root) logs
+  in_births root named_here = go (listed same_root roots root) refl
+    where
+      go : (b : Bool) → listed same_root roots root ≡ b → 0 < count_over (is_birth root) logs
+      go true in_list =
+          ltb-true 0 (count_over (is_birth root) logs)
+          (unless (nat_lt 0 (count_over (names_root root) logs)) (nat_lt 0 (count_over (is_birth root) logs))
+          (and-second (lane_looks root) (births root)
+          (and-second (totals root) (lane_looks root && births root)
+          (and-second (lane_counts root) (totals root && (lane_looks root && births root)) (root-passes root in_list))))
+          (search (arith, named_here)))
+      go false absent = absurd (omega (arith, all_names-unnamed roots root absent 0 logs named))
+
   in_looks : (root : RootId) (lane : ℕ) → LooksHold root (others_retains root lane 0 logs) 0 0 0 (of_lane logs lane)
   in_looks root lane = go (listed same_root roots root) refl
     where
@@ -161,10 +196,10 @@ module _ (logs : List (List Entry)) (roots : List RootId)
       go true in_list =
           LooksHold-passes root (others_retains root lane 0 logs) 0 0 0 (of_lane logs lane)
           (all_lanes (λ l es. looks_pass root (others_retains root l 0 logs) 0 0 0 es) (λ k. refl) logs
-          (and-second _ _ (and-second _ _ (root-passes root in_list))) lane)
+          (and-first _ _ (and-second _ _ (and-second _ _ (root-passes root in_list)))) lane)
       go false absent =
           LooksHold-unnamed roots root absent (others_retains root lane 0 logs) 0 0 0 (of_lane logs lane)
           (lane_named lane)
 
   pub counts : CountsAgree logs
-  counts = record { lanes = in_lanes; totals = in_total; looks = in_looks }
+  counts = record { lanes = in_lanes; born = in_births; totals = in_total; looks = in_looks }

@@ -11,7 +11,7 @@ use Rattle.pool_law.specs.declared.note.Note.{Note}
 use Rattle.pool_law.specs.declared.note.Note.TheVariants.{At, Ref, Busy}
 use Rattle.pool_law.specs.Same.{same_root}
 use Rattle.pool_law.specs.Logs.{Entry}
-use Rattle.pool_law.specs.Counts.{needs_count, ends_root, count_step, CountsHold, count_over, is_retain, is_release, is_born, is_birth, total_of, TotalHolds}
+use Rattle.pool_law.specs.Counts.{needs_count, ends_root, count_step, CountsHold, count_over, names_root, is_retain, is_release, is_born, is_birth, total_of, TotalHolds}
 use Rattle.pool_law.specs.Legal.{LookAt, LooksHold, one_if, others_retains}
 use Rattle.pool_law.proofs.SameLemmas.{and-first, and-second}
 use Rattle.law_rows.proofs.Lanes.{all_from}
@@ -117,7 +117,8 @@ abbrev pub root_passes : List (List Entry) → RootId → Bool
 root_passes logs root =
     all_from (λ lane es. counts_pass root 0 es) 0 logs
     && ((not (nat_lt 0 (count_over (is_birth root) logs)) || total_passes root logs)
-    && all_from (λ lane es. looks_pass root (others_retains root lane 0 logs) 0 0 0 es) 0 logs)
+    && (all_from (λ lane es. looks_pass root (others_retains root lane 0 logs) 0 0 0 es) 0 logs
+    && (not (nat_lt 0 (count_over (names_root root) logs)) || nat_lt 0 (count_over (is_birth root) logs))))
 
 -- ---- Where a test passes, the sentence holds.
 

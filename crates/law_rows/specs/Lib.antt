@@ -25,4 +25,5 @@ pub mod CompositeRuns
 pub mod CompositePlays
 pub mod SweepPlays
 pub mod StopRuns
+pub mod OddRuns
 pub mod LifeRows

@@ -39,9 +39,9 @@ asking_composed asked command es = step_of composing_lane asked command es
 
 -- so many caches of a lane, from a class on, are trimmed as this number at each, and shed nothing
 abbrev pub trims : ℕ → ℕ → ℕ → ℕ → List Note
-trims lane class number zero = []
-trims lane class number (suc n) =
-    cache lane class number (Did.Trim 0) ∷ trims lane (class + 1) number n
+trims owner class number zero = []
+trims owner class number (suc n) =
+    cache owner class number (Did.Trim 0) ∷ trims owner (class + 1) number n
 
 -- ---- A whole log: two roots of 32 bytes are released, and then one of 16 bytes is born.
 

@@ -19,6 +19,7 @@ pub mod lists;
 pub mod lives;
 pub mod logs;
 pub mod marks;
+pub mod odd_runs;
 pub mod pages;
 pub mod places;
 pub mod refusals;

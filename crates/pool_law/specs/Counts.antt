@@ -21,7 +21,7 @@ abbrev pub root_is : RootId → Option RootId → Bool
 root_is root None = false
 root_is root (Some r) = same_root r root
 
--- whether an entry adds one to the lane's count of the root, and whether it takes one away
+-- a step on the word adds one to the lane's count
 abbrev pub ref_gains : RefDid → Bool
 ref_gains Born = true
 ref_gains Retain = true
@@ -39,7 +39,7 @@ ref_loses Ended = true
 ref_loses Vacated = false
 ref_loses (Look found) = false
 
--- a parcel with the root comes, and one goes
+-- a parcel with the root comes
 abbrev pub brings : RootId → Passing → Bool
 brings root Stays = false
 brings root (Goes parcel) = false
@@ -92,6 +92,12 @@ note_needs root (Ref r did) = same_root r root && ref_needs did
 note_needs root (At object number did) = takes_away root (passing did)
 note_needs root (Busy held) = false
 
+-- a note names the root: a step on its word, or a parcel with it that goes or comes
+abbrev pub names_root : RootId → Note → Bool
+names_root root (Ref r did) = same_root r root
+names_root root (At object number did) = brings root (passing did) || takes_away root (passing did)
+names_root root (Busy held) = false
+
 -- an entry that may stand only where the lane counts the root
 abbrev pub needs_count : RootId → Entry → Bool
 needs_count root e = note_needs root e.note || root_is root e.root
@@ -109,7 +115,7 @@ CountsHold root k (e ∷ es) =
     × ((ends_root root e.note ≡ true → count_step root k e ≡ 0)
     × CountsHold root (count_step root k e) es)
 
--- how many entries of all logs pass a test
+-- how many entries of a log pass a test
 abbrev pub count_in : (Note → Bool) → List Entry → ℕ
 count_in test [] = 0
 count_in test (e ∷ es) = (if test e.note then 1 else 0) + count_in test es

@@ -17,7 +17,7 @@ use Rattle.pool_law.specs.Limits.{IsShape, geometry_of}
 use Rattle.pool_law.specs.Arenas.{Arena, chunk_ends}
 use Rattle.pool_law.specs.Histories.{IsAccepted, arena_after}
 use Rattle.pool_law.specs.Logs.{Logs, Entry, dids, of_lane, IsHistory, history_of, note_stands, entries_of}
-use Rattle.pool_law.specs.Counts.{CountsHold, TotalHolds, LookHolds, count_over, count_in, count_step, is_retain, is_release, is_birth}
+use Rattle.pool_law.specs.Counts.{CountsHold, TotalHolds, LookHolds, count_over, count_in, count_step, names_root, is_retain, is_release, is_birth}
 use Rattle.pool_law.specs.LaneLaw.{IsLaneLog}
 use Rattle.pool_law.specs.Busy.{BusyHolds}
 use Rattle.pool_law.specs.Leaks.{leaks_of}
@@ -84,11 +84,14 @@ others_retains root lane at (es ∷ logs) =
     (if at == lane then 0 else count_in (is_retain root) es)
     + others_retains root lane (at + 1) logs
 
--- the sentences on counts, over the logs of all lanes: each lane's own counts, the totals of the
--- roots that were born, and what was looked up. (That a birth and its Born stand in one log, and an
--- end, its Ended and its Vacated in one, each once and in order, the patterns of a lane's log say.)
+-- the sentences on counts, over the logs of all lanes: each lane's own counts, what is named was
+-- born, the totals of the roots that were born, and what was looked up. (That a birth and its Born
+-- stand in one log, and an end, its Ended and its Vacated in one, each once and in order, the
+-- patterns of a lane's log say.)
 pub record CountsAgree (logs : List (List Entry)) : Type 0 where
   pub lanes : (root : RootId) (lane : ℕ) → CountsHold root 0 (of_lane logs lane)
+  pub born : (root : RootId) → 0 < count_over (names_root root) logs →
+      0 < count_over (is_birth root) logs
   pub totals : (root : RootId) → 0 < count_over (is_birth root) logs → TotalHolds root logs
   pub looks : (root : RootId) (lane : ℕ) →
       LooksHold root (others_retains root lane 0 logs) 0 0 0 (of_lane logs lane)

@@ -4,7 +4,7 @@ use Rattle.pool_law.specs.declared.id.RootId.{RootId}
 use Rattle.pool_law.specs.declared.id.RegionId.{RegionId}
 use Rattle.pool_law.specs.declared.note.Object.{Object}
 use Rattle.pool_law.specs.declared.note.Did.{Did}
-use Rattle.pool_law.specs.declared.note.Did.TheVariants.{Take, Give, Hit, Kept, Shed, Birth, End}
+use Rattle.pool_law.specs.declared.note.Did.TheVariants.{Take, Full, Give, Hit, Miss, Kept, Back, Trim, Close, Shed, Handle, NoHandle, Home, Post, Fetch, Birth, Set, Get, Touch, End}
 use Rattle.pool_law.specs.declared.note.Note.{Note}
 use Rattle.pool_law.specs.Same.{same_taking}
 use Rattle.pool_law.specs.Logs.{Logs, of_lane}
@@ -70,8 +70,8 @@ pub data Where : Type 0 where
   Dropped : Where  -- with the lane that closed its cache
 
 -- all that is done from then on with a region that is there, in order: a root is born with one that
--- was got, and one use more; the root of one that is used never ends, or ends; one that was freed is
--- given, and no more, or is kept; one that is cached is hit, and so got, or is shed and then given
+-- was got, and one use more; the root of one that is used never ends, or ends; one that was freed
+-- is given, and no more, or is kept; one that is cached is hit, and so got, or is shed and given
 abbrev pub LivesOn : Where → RegionId → List Did → Type 0
 LivesOn Got r (Birth root x ∷ ds) = (x ≡ one_more r) × LivesOn (Used root) x ds
 LivesOn (Used root) r [] = Unit {0}
@@ -116,7 +116,19 @@ Moves logs taking (Give x) = IsTrue (same_taking taking x)
 Moves logs taking (Kept x) = IsTrue (same_taking taking x)
 Moves logs taking (Hit x) = IsTrue (same_taking taking x)
 Moves logs taking (Shed x) = IsTrue (same_taking taking x)
-Moves logs taking _ = ⊥
+Moves logs taking (Full class) = ⊥
+Moves logs taking Miss = ⊥
+Moves logs taking (Back x why) = ⊥
+Moves logs taking (Trim quota) = ⊥
+Moves logs taking (Close quota) = ⊥
+Moves logs taking (Handle place) = ⊥
+Moves logs taking NoHandle = ⊥
+Moves logs taking (Home place) = ⊥
+Moves logs taking (Post parcel) = ⊥
+Moves logs taking (Fetch parcel) = ⊥
+Moves logs taking (Set offset bytes) = ⊥
+Moves logs taking (Get offset bytes) = ⊥
+Moves logs taking Touch = ⊥
 
 -- an event is one of these
 abbrev pub IsAmong : Event → List Event → Type 0
