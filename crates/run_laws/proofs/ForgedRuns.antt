@@ -1,11 +1,10 @@
 -- Why the laws refuse runs that no pool makes.
-use Rattle.std.proofs.Common.{⊎_elim, inl, inr, ◌≡◌, ℕ, ◌+◌, List, [], ◌∷◌, length, get_or, refl, sym, ap, subst, arith, Some, ◌∙◌}
-use Rattle.std.specs.Prelude.{◌⊎◌, ◌<◌, false, take, slice_get, Option, None}
+use Rattle.std.proofs.Common.{inl, inr, ◌≡◌, ℕ, ◌+◌, List, [], ◌∷◌, length, get_or, refl, sym, ap, subst, arith, Some, ◌∙◌}
+use Rattle.std.specs.Prelude.{false, Option, None}
 use Rattle.pool_law.specs.declared.command.Command.{Command}
 use Rattle.pool_law.specs.declared.note.Object.{Object}
 use Rattle.pool_law.specs.declared.note.Did.{Did}
 use Rattle.pool_law.specs.declared.note.Did.TheVariants.{Get}
-use Rattle.pool_law.specs.declared.note.Note.{Note}
 use Rattle.pool_law.specs.declared.note.Note.TheVariants.{At}
 use Rattle.pool_law.specs.declared.run.Reply.{Reply}
 use Rattle.pool_law.specs.declared.id.Part.{Part}

@@ -1,6 +1,6 @@
 -- Each read gives the bytes that were last written to its root.
 use Rattle.std.proofs.Common.{⊎_elim, inl, inr, ◌≡◌, ℕ, zero, suc, ◌+◌, ◌-◌, ◌≤◌, List, [], ◌∷◌, ◌++◌, length, take, drop, replicate, get_or, refl, sym, ap, subst, arith, Bool, true, false, Some, None, ◌∙◌, eqb-true, ltb-true, leb-true, le-leb, lt-ltb}
-use Rattle.std.specs.Prelude.{◌⊎◌, ◌<◌, option_and_then, option_map, ◌==◌, ◌&&◌, nat_lt, nat_le, if◌then◌else◌, Option, slice_get}
+use Rattle.std.specs.Prelude.{◌⊎◌, ◌<◌, option_and_then, ◌==◌, ◌&&◌, nat_lt, nat_le, if◌then◌else◌, Option, slice_get}
 use Rattle.std.proofs.lemmas.List.{get_or_append_left, get_or-append_right, get_or-drop, get_or-take, length-take-le}
 use Rattle.std.proofs.lemmas.Bool.{cond_both}
 use Rattle.pool_law.specs.declared.id.ViewData.{ViewData}

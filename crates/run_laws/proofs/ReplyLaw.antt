@@ -1,6 +1,6 @@
 -- Reads alone are answered with bytes, and a read that is not refused lies in what its name is bound to.
-use Rattle.std.proofs.Common.{⊎_elim, ◌≡◌, ℕ, ◌-◌, List, [], ◌∷◌, ◌++◌, length, sym, subst, Bool, true, false, Some, None, Ok, Err, ◌∙◌}
-use Rattle.std.specs.Prelude.{◌==◌, not, map, if◌then◌else◌, Option, Result, is_none}
+use Rattle.std.proofs.Common.{⊎_elim, ◌≡◌, ℕ, ◌-◌, List, [], ◌∷◌, ◌++◌, length, subst, Bool, true, false, Some, None, Ok, Err}
+use Rattle.std.specs.Prelude.{◌==◌, not, map, if◌then◌else◌, Option, Result}
 use Rattle.std.proofs.lemmas.Bool.{cond_both}
 use Rattle.pool_law.specs.declared.id.ViewData.{ViewData}
 use Rattle.pool_law.specs.declared.id.RootId.{RootId}
@@ -12,13 +12,13 @@ use Rattle.pool_law.specs.declared.run.Reply.{Reply}
 use Rattle.size_classes.specs.Sizes.{class_of}
 use Rattle.pool_law.specs.Limits.{geometry_of}
 use Rattle.pool_law.specs.Dids as says
-use Rattle.pool_law.specs.Readers.{Log, Reader, give, given, note, step, busy, access, ◌>>=◌, ◌>>◌, nothing}
+use Rattle.pool_law.specs.Readers.{Log, give, given, note, step, busy, access, ◌>>=◌, ◌>>◌, nothing}
 use Rattle.pool_law.specs.Composites.{Composite, size_of, filled, is_crowded, moved_to}
 use Rattle.pool_law.specs.Names.{Bound, Plain, Composed, Names, bind, passes, writer_of, parts_at}
 use Rattle.pool_law.specs.LaneStates.{LaneState, named, view_named, composite_from, composite_with}
 use Rattle.pool_law.specs.Refusals.{Refusal, first_refusal, unbound, taken, composite, illegal, too_long, refusals}
 use Rattle.pool_law.specs.Patterns.{New, obtain, one_more, bear, with_handle, allot, end_of, release}
-use Rattle.pool_law.specs.Lanes.{Answer, answer, parcel_of, set_parts, copy_parts, release_parts, copied_to, consolidate, composed, allotted, received, busy_or, set_at, retain_of, release_of, count_in, carried_out}
+use Rattle.pool_law.specs.Lanes.{Answer, answer, parcel_of, set_parts, copy_parts, release_parts, copied_to, consolidate, composed, allotted, received, set_at, retain_of, release_of, count_in, carried_out}
 use Rattle.arena_law.specs.Slots.{EachOf}
 use Rattle.run_laws.proofs.LaneActs.{bind-some, or-some}
 

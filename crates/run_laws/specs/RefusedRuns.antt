@@ -1,5 +1,5 @@
 -- Runs that no pool makes, and that the laws refuse.
-use Rattle.std.specs.Prelude.{ℕ, false, List, [], ◌∷◌, Some}
+use Rattle.std.specs.Prelude.{ℕ, false, List, [], ◌∷◌}
 use Rattle.pool_law.specs.declared.id.Place.{Place}
 use Rattle.pool_law.specs.declared.id.RootId.{RootId}
 use Rattle.pool_law.specs.declared.id.RegionId.{RegionId}
@@ -237,5 +237,5 @@ byte_leak serial =
 -- two leaks of a lane are reported the later one first
 abbrev pub leaks_turned : Run
 leaks_turned = record (run_with (shape_of 2 1) ([] ∷ []) []) {
-  leaks = byte_leak 2 ∷ byte_leak 1 ∷ []
+  leaks = byte_leak 2 ∷ byte_leak 1 ∷ [];
 }
