@@ -1,50 +1,68 @@
 -- How the law reads a command that accesses bytes of the view of a name, and that an access is
 -- prepared for it.
-use Rattle.std.proofs.Common.{◌≡◌, ℕ, ◌+◌, ◌<◌, ◌≤◌, Bool, true, false, List, [], ◌∷◌, length, refl, sym, ap, ◌∙◌, subst, arith, Option, Some, None, Result, Ok, Err, Vec, Global, le-leb, leb-true}
-use Rattle.std.specs.Prelude.{if◌then◌else◌, option_map, slice_set, IfOk, IfErr}
-use Rattle.std.proofs.lemmas.Bool.{lt-leb}
+use Rattle.std.proofs.Common.{◌≡◌, ℕ, ◌+◌, ◌<◌, ◌≤◌, Bool, true, false, List, [], ◌∷◌, ◌++◌, length, take, refl, sym, ap, ◌∙◌, subst, arith, append-nil, Option, Some, None, Result, Ok, Err, Vec, Global, leb-true}
+use Rattle.std.specs.Prelude.{option_and_then, slice_set, IfOk, IfErr}
 use Rattle.pool_law.specs.declared.command.Command.{Command}
+use Rattle.pool_law.specs.declared.id.Part.{Part}
 use Rattle.pool_law.specs.declared.id.RootId.{RootId}
 use Rattle.pool_law.specs.declared.id.ViewData.{ViewData}
+use Rattle.pool_law.specs.declared.note.Object.TheVariants.{Root}
 use Rattle.pool_law.specs.declared.run.Reply.{Reply}
 use Rattle.pool_law.specs.declared.run.Shape.{Shape}
-use Rattle.pool_law.specs.Counts.{count_of}
+use Rattle.pool_law.specs.Arenas.{or_else}
+use Rattle.pool_law.specs.Bounds.{most_notes}
+use Rattle.pool_law.specs.Dids as says
+use Rattle.pool_law.specs.LaneStates.{LaneState}
+use Rattle.pool_law.specs.Lanes.{Answer, answer, answer_of, set_parts, get_parts, set_at, get_at, busy_or, carried_out}
+use Rattle.pool_law.specs.Names.{Bound, Plain, Names, bind, has_range, has_to_read, has_room, reader_of, writer_of, read_on, written_on, parts_at}
+use Rattle.pool_law.specs.Readers.{Log, Reader, ◌>>=◌, ◌>>◌, give, given, nothing, busy, access}
+use Rattle.pool_law.specs.Refusals.{first_refusal, refusals}
 use Rattle.pool_law.specs.Views.{root_index, in_range, can_read, can_write, after_read, after_write}
-use Rattle.pool_law.specs.Reading.{◌>>=◌}
-use Rattle.pool_law.specs.Patterns.{Entries}
-use Rattle.pool_law.specs.Lanes.{LaneState, Bound, Plain, Answers, Using, lookup, bind, counts, answer, refuse, on_bound, on_view, tried, access, is_set, bytes_got, set_at, get_at, answer_of}
 use Rattle.lane_core.specs.declared.access.Refusal.{Refusal}
-use Rattle.lane_core.specs.declared.access.Refusal.TheVariants.{Unbound, Taken, Illegal, Range}
 use Rattle.lane_core.specs.declared.access.Reach.{Reach}
 use Rattle.lane_core.specs.declared.access.Access.{Access}
 use Rattle.lane_core.specs.declared.access.Access.TheVariants.{Refused, Set, Get}
 use Rattle.lane_core.specs.declared.counts.Counted.{Counted}
 use Rattle.lane_core.specs.Named.{bound_at, NamesAre}
 use Rattle.lane_core.specs.Counting.{counted}
-use Rattle.lane_core.specs.Accesses.{reply_for, IsState, IsRefused, IsRefusedRange, IsReached, Reaches, IsPrepared, BindsBelow, IsMadeSet, IsMadeGet}
+use Rattle.lane_core.specs.Accesses.{reply_for, tries_or, IsState, IsRefusedRange, IsReached, Reaches, IsPrepared, BindsBelow, IsMadeSet, IsMadeGet}
+use Rattle.lane_core.proofs.LaneLogs.{take_whole}
 use Rattle.lane_core.proofs.NameLaws.{bound_within, NamesAre-again, NamesAre-bind}
+use Rattle.lane_core.proofs.StateReads.{named_so, viewed, ranged, ranged_view, unranged, unranged_view, goes, refuses}
 
--- how the law reads a set and a get, by where they are
-abbrev set_with : RootId → ℕ → List ℕ → List (ℕ × Bound) → Entries → Answers
-set_with root offset bytes names es = do
-  (did, rest) ← access root es
-  _ ← is_set offset bytes did
-  answer Reply.Ok names rest
+-- ---- One part.
 
-abbrev get_with : RootId → ℕ → ℕ → List (ℕ × Bound) → Entries → Answers
-get_with root offset len names es = do
-  (did, rest) ← access root es
-  bytes ← bytes_got offset len did
-  answer (Reply.OkBytes bytes) names rest
+-- how the law reads a set and a get of one part, by where they are
+abbrev set_with : RootId → ℕ → List ℕ → Names → Reader Answer
+set_with root offset bytes names = access root (says.set offset bytes) >> give (answer Reply.Ok names)
 
--- without a note there is nothing to read, so that a command that doesn't try reads its own alone
-untried_set : (s : LaneState) (v : ViewData) (root : RootId) (offset : ℕ) (bytes : List ℕ) (names : List (ℕ × Bound)) (es : Entries) → tried false s v es (set_with root offset bytes names es) ≡ set_with root offset bytes names es
-untried_set s v root offset bytes names [] = refl
-untried_set s v root offset bytes names (e ∷ es) = refl
+abbrev get_with : RootId → ℕ → ℕ → Names → Reader Answer
+get_with root offset len names = access root (says.get offset len) >>= (λ bytes. give (answer (Reply.OkBytes bytes) names))
 
-untried_get : (s : LaneState) (v : ViewData) (root : RootId) (offset len : ℕ) (names : List (ℕ × Bound)) (es : Entries) → tried false s v es (get_with root offset len names es) ≡ get_with root offset len names es
-untried_get s v root offset len names [] = refl
-untried_get s v root offset len names (e ∷ es) = refl
+module _ (root : RootId) (offset : ℕ) (names : Names) where
+  abbrev part : ℕ → List Part
+  part len = record { root = root; offset = offset; len = len } ∷ []
+
+  one_set : (bytes : List ℕ) (log : Log) → (set_parts (part (length bytes)) bytes >> give (answer Reply.Ok names)) log ≡ set_with root offset bytes names log
+  one_set bytes log =
+      ap (λ (xs : List ℕ). (access root (says.set offset xs) >> nothing >> give (answer Reply.Ok names)) log) (take_whole (length bytes) bytes (omega arith))
+      ∙ last (access root (says.set offset bytes) log)
+    where
+      last : (o : Option (Unit {0} × Log)) → option_and_then (λ got. Some (answer Reply.Ok names, got.1)) (option_and_then (λ got. Some (tt, got.1)) o) ≡ option_and_then (λ got. Some (answer Reply.Ok names, got.1)) o
+      last None = refl
+      last (Some got) = refl
+
+  one_get : (len : ℕ) (log : Log) → (get_parts (part len) >>= (λ bytes. give (answer (Reply.OkBytes bytes) names))) log ≡ get_with root offset len names log
+  one_get len log = last (access root (says.get offset len) log)
+    where
+      last : (o : Option (List ℕ × Log)) →
+          option_and_then (λ got. Some (answer (Reply.OkBytes got.0) names, got.1)) (option_and_then (λ got. Some (got.0 ++ [], got.1)) o) ≡ option_and_then (λ got. Some (answer (Reply.OkBytes got.0) names, got.1)) o
+      last None = refl
+      last (Some got) = ap (λ (xs : List ℕ). Some (answer (Reply.OkBytes xs) names, got.1)) (append-nil got.0)
+
+-- what a command that tries reads where the root isn't busy
+tries_alike : (s : LaneState) (v : ViewData) (r q : Reader Answer) (log : Log) → r log ≡ q log → busy_or s v r log ≡ busy_or s v q log
+tries_alike s v r q log same = ap (or_else ((busy (Root v.root.place) >>= (λ number. give (answer (Reply.Busy number) s.names))) log)) same
 
 -- what is made of a range that was reached binds a name that was bound
 module _ (names : List (Option ViewData)) (cs : List Counted) (name : ℕ) (tries : Bool) (test : ViewData → Bool) (index : ViewData → ℕ) (behind : ViewData → ViewData) where
@@ -63,45 +81,6 @@ module _ (names : List (Option ViewData)) (cs : List Counted) (name : ℕ) (trie
   get_within _ len _ ok is = absurd is
 
 module _ (s : LaneState) (names : List (Option ViewData)) (cs : List Counted) (state : IsState s names cs) where
-  looked : (name : ℕ) (o : Option ViewData) → bound_at names name ≡ o → lookup name s.names ≡ option_map Plain o
-  looked name o is = state.names_are name ∙ ap (option_map Plain) is
-
-  counting : (root : RootId) → 0 < counted cs root → counts s root ≡ true
-  counting root lt = let same = state.counts_are.counts root in le-leb 1 (count_of root s.seen) (omega (arith, same, lt))
-
-  not_counting : (root : RootId) → counted cs root ≡ 0 → counts s root ≡ false
-  not_counting root none = let same = state.counts_are.counts root in lt-leb 1 (count_of root s.seen) (omega (arith, same, none))
-
-  -- a command on the view of a name that the lane counts, and one that is refused
-  uses : (name : ℕ) (v : ViewData) → bound_at names name ≡ Some v → 0 < counted cs v.root → (go : Using) (es : Entries) → on_view s name go es ≡ go v es
-  uses name v is lt go es =
-      ap (λ (o : Option Bound). on_bound s o (refuse s) go es) (looked name (Some v) is)
-      ∙ ap (λ (b : Bool). if b then go v es else refuse s Reply.Illegal es) (counting v.root lt)
-
-  refuses : (name : ℕ) (refusal : Refusal) → IsRefused names cs name refusal → (go : Using) (es : Entries) → on_view s name go es ≡ refuse s (reply_for refusal) es
-  refuses name Unbound is go es = ap (λ (o : Option Bound). on_bound s o (refuse s) go es) (looked name None is)
-  refuses name Illegal is go es =
-      ap (λ (o : Option Bound). on_bound s o (refuse s) go es) (looked name (Some is.0) is.1)
-      ∙ ap (λ (b : Bool). if b then go is.0 es else refuse s Reply.Illegal es) (not_counting is.0.root is.2)
-  refuses name Taken is go es = absurd is
-  refuses name Range is go es = absurd is
-
-  module _ (name : ℕ) (test : ViewData → Bool) (go : Using) where
-    -- the view has to pass a test
-    abbrev tested : Using
-    tested v rest = if test v then go v rest else refuse s Reply.Range rest
-
-    passes : (v : ViewData) → bound_at names name ≡ Some v → 0 < counted cs v.root → test v ≡ true → (es : Entries) → on_view s name tested es ≡ go v es
-    passes v is lt pass es =
-        uses name v is lt tested es ∙ ap (λ (b : Bool). if b then go v es else refuse s Reply.Range es) pass
-
-    fails : (refusal : Refusal) → IsRefusedRange names cs name test refusal → (es : Entries) → on_view s name tested es ≡ refuse s (reply_for refusal) es
-    fails Range is es =
-        uses name is.0 is.1 is.2 tested es ∙ ap (λ (b : Bool). if b then go is.0 es else refuse s Reply.Range es) is.3
-    fails Unbound is es = refuses name Unbound is tested es
-    fails Illegal is es = refuses name Illegal is tested es
-    fails Taken is es = absurd is
-
   module _ (name : ℕ) (tries : Bool) (test : ViewData → Bool) (index : ViewData → ℕ) (behind : ViewData → ViewData) (r : Reach) (reached : IsReached names cs name tries test index behind r) where
     -- the names afterwards are those with the view behind the access
     again : ((v : ViewData) → behind v ≡ v) → NamesAre s.names (slice_set names r.name (Some r.after.at))
@@ -110,9 +89,9 @@ module _ (s : LaneState) (names : List (Option ViewData)) (cs : List Counted) (s
         (λ i. (sym reached.name_is i, sym (reached.after ∙ same reached.view) i))
         (NamesAre-again s.names names state.names_are name reached.view reached.bound)
 
-    bound_behind : NamesAre (bind name (behind reached.view) s.names) (slice_set names r.name (Some r.after.at))
+    bound_behind : NamesAre (bind name (Plain (behind reached.view)) s.names) (slice_set names r.name (Some r.after.at))
     bound_behind =
-        subst (λ (p : ℕ × ViewData). NamesAre (bind name (behind reached.view) s.names) (slice_set names p.0 (Some p.1)))
+        subst (λ (p : ℕ × ViewData). NamesAre (bind name (Plain (behind reached.view)) s.names) (slice_set names p.0 (Some p.1)))
         (λ i. (sym reached.name_is i, sym reached.after i))
         (NamesAre-bind s.names names state.names_are name (behind reached.view) (bound_within names name reached.view reached.bound))
 
@@ -134,59 +113,101 @@ module _ (s : LaneState) (names : List (Option ViewData)) (cs : List Counted) (s
         }
 
   -- a refusal is prepared
-  prepared_refusal : (command : Command) (refusal : Refusal) → ((shape : Shape) (lane : ℕ) (es : Entries) → answer_of shape lane s command es ≡ refuse s (reply_for refusal) es) → IsPrepared names cs command (Refused refusal) s
-  prepared_refusal command refusal reads =
-      record { ready = tt; bindings = s.names; names_are = state.names_are; read = reads }
+  prepared_refusal : (command : Command) → 1 ≤ most_notes false command → (refusal : Refusal) → ((shape : Shape) (lane : ℕ) (log : Log) → answer_of shape lane s command log ≡ Some (answer (reply_for refusal) s.names, log)) → IsPrepared names cs command (Refused refusal) s
+  prepared_refusal command noted refusal reads =
+      record { ready = tt; noted = noted; bound = s.names; names_are = state.names_are; read = reads }
 
-  module _ (name at : ℕ) (bytes : List ℕ) (tries : Bool) where
+  module _ (name at : ℕ) (bytes : List ℕ) where
     abbrev can_set : ViewData → Bool
     can_set v = in_range v at (length bytes)
 
-    set_reached : (r : Reach) (copy : Vec ℕ Global) → IsReached names cs name tries can_set (λ v. at) (λ v. v) r → copy.items ≡ bytes → IsPrepared names cs (Command.Set name at bytes tries) (Set r copy) s
-    set_reached r copy k same = record {
-      ready =
-          reaches name tries can_set (λ v. at) (λ v. v) r k (length copy.items) refl refl
-          (let pass = leb-true (at + length bytes) k.view.len k.passes in let len = ap length same in omega (arith, pass, len));
-      bindings = s.names;
-      names_are = again name tries can_set (λ v. at) (λ v. v) r k (λ v. refl);
-      read = λ shape lane es.
-          passes name can_set (λ v rest. tried tries s v rest (set_at v at bytes s.names rest)) k.view k.bound k.counts k.passes es
-          ∙ (λ i. tried (sym k.tries_is i) s (sym k.after i) es (set_with (sym k.root i) (sym k.offset i) (sym same i) s.names es));
-    }
+    -- a set notes once, tried or not
+    set_noted : (tries : Bool) → 1 ≤ most_notes false (Command.Set name at bytes tries)
+    set_noted true = omega arith
+    set_noted false = omega arith
 
-    pub prepared_set : (reach : Result Reach Refusal) (made : Access) → IfOk reach (IsReached names cs name tries can_set (λ v. at) (λ v. v)) → IfErr reach (IsRefusedRange names cs name can_set) → IsMadeSet reach bytes made → IsPrepared names cs (Command.Set name at bytes tries) made s
-    prepared_set (Ok reach) (Set other copy) ok err is =
-        set_reached other copy (subst (IsReached names cs name tries can_set (λ v. at) (λ v. v)) (sym is.0) ok) is.1
-    prepared_set (Err refusal) (Refused other) ok err is =
-        prepared_refusal (Command.Set name at bytes tries) other
-        (λ shape lane es. fails name can_set (λ v rest. tried tries s v rest (set_at v at bytes s.names rest)) other (subst (IsRefusedRange names cs name can_set) (sym is) err) es)
-    prepared_set _ _ ok err is = absurd is
+    -- where it isn't refused, and where it is
+    reads_set : (tries : Bool) (v : ViewData) → bound_at names name ≡ Some v → 0 < counted cs v.root → can_set v ≡ true → (shape : Shape) (lane : ℕ) (log : Log) →
+        answer_of shape lane s (Command.Set name at bytes tries) log ≡ tries_or tries s v (set_with v.root (root_index v at) bytes s.names) log
+    reads_set false v is lt pass shape lane log =
+        goes s names cs state shape lane (Command.Set name at bytes false) (ranged s names cs state name (has_range at (length bytes)) v is lt pass) log
+        ∙ ap (λ (o : Option Bound). (given o >>= set_at s at bytes) log) (named_so s names cs state name (Some v) is)
+        ∙ one_set v.root (root_index v at) s.names bytes log
+    reads_set true v is lt pass shape lane log =
+        goes s names cs state shape lane (Command.Set name at bytes true) (ranged_view s names cs state name (has_range at (length bytes)) v is lt pass) log
+        ∙ ap (λ (o : Option ViewData). (given o >>= (λ view. busy_or s view (set_at s at bytes (Plain view)))) log) (viewed s names cs state name v is)
+        ∙ tries_alike s v (set_at s at bytes (Plain v)) (set_with v.root (root_index v at) bytes s.names) log (one_set v.root (root_index v at) s.names bytes log)
 
-  module _ (name at len : ℕ) (tries : Bool) where
+    refuses_set : (tries : Bool) (why : Refusal) → IsRefusedRange names cs name can_set why → (shape : Shape) (lane : ℕ) (log : Log) → answer_of shape lane s (Command.Set name at bytes tries) log ≡ Some (answer (reply_for why) s.names, log)
+    refuses_set false why is shape lane log = refuses s names cs state shape lane (Command.Set name at bytes false) (reply_for why) (unranged s names cs state name (has_range at (length bytes)) why is) log
+    refuses_set true why is shape lane log = refuses s names cs state shape lane (Command.Set name at bytes true) (reply_for why) (unranged_view s names cs state name (has_range at (length bytes)) why is) log
+
+    module _ (tries : Bool) where
+      set_reached : (r : Reach) (copy : Vec ℕ Global) → IsReached names cs name tries can_set (λ v. at) (λ v. v) r → copy.items ≡ bytes → IsPrepared names cs (Command.Set name at bytes tries) (Set r copy) s
+      set_reached r copy k same = record {
+        ready =
+            reaches name tries can_set (λ v. at) (λ v. v) r k (length copy.items) refl refl
+            (let pass = leb-true (at + length bytes) k.view.len k.passes in let len = ap length same in omega (arith, pass, len));
+        noted = set_noted tries;
+        bound = s.names;
+        names_are = again name tries can_set (λ v. at) (λ v. v) r k (λ v. refl);
+        read = λ shape lane log.
+            reads_set tries k.view k.bound k.counts k.passes shape lane log
+            ∙ (λ i. tries_or (sym k.tries_is i) s (sym k.after i) (set_with (sym k.root i) (sym k.offset i) (sym same i) s.names) log);
+      }
+
+      pub prepared_set : (reach : Result Reach Refusal) (made : Access) → IfOk reach (IsReached names cs name tries can_set (λ v. at) (λ v. v)) → IfErr reach (IsRefusedRange names cs name can_set) → IsMadeSet reach bytes made → IsPrepared names cs (Command.Set name at bytes tries) made s
+      prepared_set (Ok reach) (Set other copy) ok err is =
+          set_reached other copy (subst (IsReached names cs name tries can_set (λ v. at) (λ v. v)) (sym is.0) ok) is.1
+      prepared_set (Err refusal) (Refused other) ok err is =
+          prepared_refusal (Command.Set name at bytes tries) (set_noted tries) other (refuses_set tries other (subst (IsRefusedRange names cs name can_set) (sym is) err))
+      prepared_set _ _ ok err is = absurd is
+
+  module _ (name at len : ℕ) where
     abbrev can_get : ViewData → Bool
     can_get v = in_range v at len
 
-    get_reached : (r : Reach) (note reply : Vec ℕ Global) → IsReached names cs name tries can_get (λ v. at) (λ v. v) r → length note.items ≡ len → length reply.items ≡ len → IsPrepared names cs (Command.Get name at len tries) (Get r note reply) s
-    get_reached r note reply k same also = record {
-      ready = (
-        reaches name tries can_get (λ v. at) (λ v. v) r k (length note.items) refl refl
-            (let pass = leb-true (at + len) k.view.len k.passes in omega (arith, pass, same)),
-        also ∙ sym same,
-      );
-      bindings = s.names;
-      names_are = again name tries can_get (λ v. at) (λ v. v) r k (λ v. refl);
-      read = λ shape lane es.
-          passes name can_get (λ v rest. tried tries s v rest (get_at v at len s.names rest)) k.view k.bound k.counts k.passes es
-          ∙ (λ i. tried (sym k.tries_is i) s (sym k.after i) es (get_with (sym k.root i) (sym k.offset i) (sym same i) s.names es));
-    }
+    get_noted : (tries : Bool) → 1 ≤ most_notes false (Command.Get name at len tries)
+    get_noted true = omega arith
+    get_noted false = omega arith
 
-    pub prepared_get : (reach : Result Reach Refusal) (made : Access) → IfOk reach (IsReached names cs name tries can_get (λ v. at) (λ v. v)) → IfErr reach (IsRefusedRange names cs name can_get) → IsMadeGet reach len made → IsPrepared names cs (Command.Get name at len tries) made s
-    prepared_get (Ok reach) (Get other note reply) ok err is =
-        get_reached other note reply (subst (IsReached names cs name tries can_get (λ v. at) (λ v. v)) (sym is.0) ok) is.1 is.2
-    prepared_get (Err refusal) (Refused other) ok err is =
-        prepared_refusal (Command.Get name at len tries) other
-        (λ shape lane es. fails name can_get (λ v rest. tried tries s v rest (get_at v at len s.names rest)) other (subst (IsRefusedRange names cs name can_get) (sym is) err) es)
-    prepared_get _ _ ok err is = absurd is
+    reads_get : (tries : Bool) (v : ViewData) → bound_at names name ≡ Some v → 0 < counted cs v.root → can_get v ≡ true → (shape : Shape) (lane : ℕ) (log : Log) →
+        answer_of shape lane s (Command.Get name at len tries) log ≡ tries_or tries s v (get_with v.root (root_index v at) len s.names) log
+    reads_get false v is lt pass shape lane log =
+        goes s names cs state shape lane (Command.Get name at len false) (ranged s names cs state name (has_range at len) v is lt pass) log
+        ∙ ap (λ (o : Option Bound). (given o >>= get_at s at len) log) (named_so s names cs state name (Some v) is)
+        ∙ one_get v.root (root_index v at) s.names len log
+    reads_get true v is lt pass shape lane log =
+        goes s names cs state shape lane (Command.Get name at len true) (ranged_view s names cs state name (has_range at len) v is lt pass) log
+        ∙ ap (λ (o : Option ViewData). (given o >>= (λ view. busy_or s view (get_at s at len (Plain view)))) log) (viewed s names cs state name v is)
+        ∙ tries_alike s v (get_at s at len (Plain v)) (get_with v.root (root_index v at) len s.names) log (one_get v.root (root_index v at) s.names len log)
+
+    refuses_get : (tries : Bool) (why : Refusal) → IsRefusedRange names cs name can_get why → (shape : Shape) (lane : ℕ) (log : Log) → answer_of shape lane s (Command.Get name at len tries) log ≡ Some (answer (reply_for why) s.names, log)
+    refuses_get false why is shape lane log = refuses s names cs state shape lane (Command.Get name at len false) (reply_for why) (unranged s names cs state name (has_range at len) why is) log
+    refuses_get true why is shape lane log = refuses s names cs state shape lane (Command.Get name at len true) (reply_for why) (unranged_view s names cs state name (has_range at len) why is) log
+
+    module _ (tries : Bool) where
+      get_reached : (r : Reach) (note reply : Vec ℕ Global) → IsReached names cs name tries can_get (λ v. at) (λ v. v) r → length note.items ≡ len → length reply.items ≡ len → IsPrepared names cs (Command.Get name at len tries) (Get r note reply) s
+      get_reached r note reply k same also = record {
+        ready = (
+          reaches name tries can_get (λ v. at) (λ v. v) r k (length note.items) refl refl
+              (let pass = leb-true (at + len) k.view.len k.passes in omega (arith, pass, same)),
+          also ∙ sym same,
+        );
+        noted = get_noted tries;
+        bound = s.names;
+        names_are = again name tries can_get (λ v. at) (λ v. v) r k (λ v. refl);
+        read = λ shape lane log.
+            reads_get tries k.view k.bound k.counts k.passes shape lane log
+            ∙ (λ i. tries_or (sym k.tries_is i) s (sym k.after i) (get_with (sym k.root i) (sym k.offset i) (sym same i) s.names) log);
+      }
+
+      pub prepared_get : (reach : Result Reach Refusal) (made : Access) → IfOk reach (IsReached names cs name tries can_get (λ v. at) (λ v. v)) → IfErr reach (IsRefusedRange names cs name can_get) → IsMadeGet reach len made → IsPrepared names cs (Command.Get name at len tries) made s
+      prepared_get (Ok reach) (Get other note reply) ok err is =
+          get_reached other note reply (subst (IsReached names cs name tries can_get (λ v. at) (λ v. v)) (sym is.0) ok) is.1 is.2
+      prepared_get (Err refusal) (Refused other) ok err is =
+          prepared_refusal (Command.Get name at len tries) (get_noted tries) other (refuses_get tries other (subst (IsRefusedRange names cs name can_get) (sym is) err))
+      prepared_get _ _ ok err is = absurd is
 
   module _ (name : ℕ) (bytes : List ℕ) where
     abbrev may_write : ViewData → Bool
@@ -195,25 +216,35 @@ module _ (s : LaneState) (names : List (Option ViewData)) (cs : List Counted) (s
     abbrev written : ViewData → ViewData
     written v = after_write v (length bytes)
 
+    abbrev writes : Bound → Reader Answer
+    writes b = set_parts (parts_at b (writer_of b) (length bytes)) bytes >> give (answer Reply.Ok (bind name (written_on (length bytes) b) s.names))
+
+    reads_write : (v : ViewData) → bound_at names name ≡ Some v → 0 < counted cs v.root → may_write v ≡ true → (shape : Shape) (lane : ℕ) (log : Log) →
+        answer_of shape lane s (Command.Write name bytes) log ≡ set_with v.root (root_index v v.writer) bytes (bind name (Plain (written v)) s.names) log
+    reads_write v is lt pass shape lane log =
+        goes s names cs state shape lane (Command.Write name bytes) (ranged s names cs state name (has_room (length bytes)) v is lt pass) log
+        ∙ ap (λ (o : Option Bound). (given o >>= writes) log) (named_so s names cs state name (Some v) is)
+        ∙ one_set v.root (root_index v v.writer) (bind name (Plain (written v)) s.names) bytes log
+
     write_reached : (r : Reach) (copy : Vec ℕ Global) → IsReached names cs name false may_write (λ v. v.writer) written r → copy.items ≡ bytes → IsPrepared names cs (Command.Write name bytes) (Set r copy) s
     write_reached r copy k same = record {
       ready =
           reaches name false may_write (λ v. v.writer) written r k (length copy.items) refl refl
           (let pass = leb-true (k.view.writer + length bytes) k.view.len k.passes in let len = ap length same in omega (arith, pass, len));
-      bindings = bind name (written k.view) s.names;
+      noted = omega arith;
+      bound = bind name (Plain (written k.view)) s.names;
       names_are = bound_behind name false may_write (λ v. v.writer) written r k;
-      read = λ shape lane es.
-          passes name may_write (λ v rest. set_at v v.writer bytes (bind name (written v) s.names) rest) k.view k.bound k.counts k.passes es
-          ∙ sym (untried_set s (written k.view) k.view.root (root_index k.view k.view.writer) bytes (bind name (written k.view) s.names) es)
-          ∙ (λ i. tried (sym k.tries_is i) s (sym k.after i) es (set_with (sym k.root i) (sym k.offset i) (sym same i) (bind name (written k.view) s.names) es));
+      read = λ shape lane log.
+          reads_write k.view k.bound k.counts k.passes shape lane log
+          ∙ (λ i. tries_or (sym k.tries_is i) s (sym k.after i) (set_with (sym k.root i) (sym k.offset i) (sym same i) (bind name (Plain (written k.view)) s.names)) log);
     }
 
     pub prepared_write : (reach : Result Reach Refusal) (made : Access) → IfOk reach (IsReached names cs name false may_write (λ v. v.writer) written) → IfErr reach (IsRefusedRange names cs name may_write) → IsMadeSet reach bytes made → IsPrepared names cs (Command.Write name bytes) made s
     prepared_write (Ok reach) (Set other copy) ok err is =
         write_reached other copy (subst (IsReached names cs name false may_write (λ v. v.writer) written) (sym is.0) ok) is.1
     prepared_write (Err refusal) (Refused other) ok err is =
-        prepared_refusal (Command.Write name bytes) other
-        (λ shape lane es. fails name may_write (λ v rest. set_at v v.writer bytes (bind name (written v) s.names) rest) other (subst (IsRefusedRange names cs name may_write) (sym is) err) es)
+        prepared_refusal (Command.Write name bytes) (omega arith) other
+        (λ shape lane. refuses s names cs state shape lane (Command.Write name bytes) (reply_for other) (unranged s names cs state name (has_room (length bytes)) other (subst (IsRefusedRange names cs name may_write) (sym is) err)))
     prepared_write _ _ ok err is = absurd is
 
   module _ (name len : ℕ) where
@@ -222,6 +253,16 @@ module _ (s : LaneState) (names : List (Option ViewData)) (cs : List Counted) (s
 
     abbrev past : ViewData → ViewData
     past v = after_read v len
+
+    abbrev reads_of : Bound → Reader Answer
+    reads_of b = get_parts (parts_at b (reader_of b) len) >>= (λ bytes. give (answer (Reply.OkBytes bytes) (bind name (read_on len b) s.names)))
+
+    reads_read : (v : ViewData) → bound_at names name ≡ Some v → 0 < counted cs v.root → may_read v ≡ true → (shape : Shape) (lane : ℕ) (log : Log) →
+        answer_of shape lane s (Command.Read name len) log ≡ get_with v.root (root_index v v.reader) len (bind name (Plain (past v)) s.names) log
+    reads_read v is lt pass shape lane log =
+        goes s names cs state shape lane (Command.Read name len) (ranged s names cs state name (has_to_read len) v is lt pass) log
+        ∙ ap (λ (o : Option Bound). (given o >>= reads_of) log) (named_so s names cs state name (Some v) is)
+        ∙ one_get v.root (root_index v v.reader) (bind name (Plain (past v)) s.names) len log
 
     read_reached : (r : Reach) (note reply : Vec ℕ Global) → IsReached names cs name false may_read (λ v. v.reader) past r → length note.items ≡ len → length reply.items ≡ len → IsPrepared names cs (Command.Read name len) (Get r note reply) s
     read_reached r note reply k same also = record {
@@ -233,18 +274,18 @@ module _ (s : LaneState) (names : List (Option ViewData)) (cs : List Counted) (s
             omega (arith, order, most, same, reader, full)),
         also ∙ sym same,
       );
-      bindings = bind name (past k.view) s.names;
+      noted = omega arith;
+      bound = bind name (Plain (past k.view)) s.names;
       names_are = bound_behind name false may_read (λ v. v.reader) past r k;
-      read = λ shape lane es.
-          passes name may_read (λ v rest. get_at v v.reader len (bind name (past v) s.names) rest) k.view k.bound k.counts k.passes es
-          ∙ sym (untried_get s (past k.view) k.view.root (root_index k.view k.view.reader) len (bind name (past k.view) s.names) es)
-          ∙ (λ i. tried (sym k.tries_is i) s (sym k.after i) es (get_with (sym k.root i) (sym k.offset i) (sym same i) (bind name (past k.view) s.names) es));
+      read = λ shape lane log.
+          reads_read k.view k.bound k.counts k.passes shape lane log
+          ∙ (λ i. tries_or (sym k.tries_is i) s (sym k.after i) (get_with (sym k.root i) (sym k.offset i) (sym same i) (bind name (Plain (past k.view)) s.names)) log);
     }
 
     pub prepared_read : (reach : Result Reach Refusal) (made : Access) → IfOk reach (IsReached names cs name false may_read (λ v. v.reader) past) → IfErr reach (IsRefusedRange names cs name may_read) → IsMadeGet reach len made → IsPrepared names cs (Command.Read name len) made s
     prepared_read (Ok reach) (Get other note reply) ok err is =
         read_reached other note reply (subst (IsReached names cs name false may_read (λ v. v.reader) past) (sym is.0) ok) is.1 is.2
     prepared_read (Err refusal) (Refused other) ok err is =
-        prepared_refusal (Command.Read name len) other
-        (λ shape lane es. fails name may_read (λ v rest. get_at v v.reader len (bind name (past v) s.names) rest) other (subst (IsRefusedRange names cs name may_read) (sym is) err) es)
+        prepared_refusal (Command.Read name len) (omega arith) other
+        (λ shape lane. refuses s names cs state shape lane (Command.Read name len) (reply_for other) (unranged s names cs state name (has_to_read len) other (subst (IsRefusedRange names cs name may_read) (sym is) err)))
     prepared_read _ _ ok err is = absurd is

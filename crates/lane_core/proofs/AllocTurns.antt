@@ -1,6 +1,6 @@
 -- The turns of a command that begins an allocation, and what an allocation asks of the desk's counts.
-use Rattle.std.proofs.Common.{◌≡◌, ℕ, ◌*◌, ◌<◌, List, ◌++◌, Bool, length, map, refl, sym, ap, ◌∙◌, subst, arith, Option, Some, None}
-use Rattle.std.specs.Prelude.{if◌then◌else◌, is_some, vec_capacity}
+use Rattle.std.proofs.Common.{◌≡◌, ℕ, ◌*◌, ◌<◌, List, [], ◌∷◌, ◌++◌, Bool, length, map, refl, sym, ap, ◌∙◌, subst, arith, Option, Some, None}
+use Rattle.std.specs.Prelude.{if◌then◌else◌, is_none, option_and_then, vec_capacity}
 use Rattle.std.proofs.lemmas.List.{length-map}
 use Rattle.size_classes.specs.Sizes.{class_of}
 use Rattle.pool_law.specs.declared.command.Command.{Command}
@@ -9,16 +9,20 @@ use Rattle.pool_law.specs.declared.id.RootId.{RootId}
 use Rattle.pool_law.specs.declared.id.ViewData.{ViewData}
 use Rattle.pool_law.specs.declared.run.Reply.{Reply}
 use Rattle.pool_law.specs.Limits.{geometry_of}
-use Rattle.pool_law.specs.Lanes.{LaneState, Bound, answer_of, refuse, alloc}
-use Rattle.pool_law.specs.Patterns.{Entries, allot_class}
+use Rattle.pool_law.specs.LaneStates.{LaneState}
+use Rattle.pool_law.specs.Lanes.{Answer}
+use Rattle.pool_law.specs.Names.{Names}
+use Rattle.pool_law.specs.Readers.{Entries, Log, Reader}
+use Rattle.pool_law.specs.Refusals.{first_refusal, refusals, taken, too_large as too_large_for}
 use Rattle.pool_law.proofs.PatternLemmas.{same_root-refl}
+use Rattle.pool_table.specs.declared.views.Entry.{Entry}
 use Rattle.pool_table.specs.Seats.{view_of}
 use Rattle.shared_pool.specs.declared.pool.SharedPool.{SharedPool}
 use Rattle.shared_pool.specs.Closing.{entry_of}
 use Rattle.shared_pool.specs.SeatLanes.{lane_of}
 use Rattle.lane_core.specs.declared.counts.Counted.{Counted}
 use Rattle.lane_core.specs.declared.desk.Desk.{Desk}
-use Rattle.lane_core.specs.declared.desk.Stage.TheVariants.{Ready, Allotting, Ending, Closing}
+use Rattle.lane_core.specs.declared.desk.Stage.TheVariants.{Ready, Allotting, Ending, Sweeping, Closing}
 use Rattle.lane_core.specs.declared.desk.Turn.{Turn}
 use Rattle.lane_core.specs.declared.desk.Turn.TheVariants.{Went, Pending, Waiting}
 use Rattle.lane_core.specs.declared.access.Refusal.TheVariants.{Taken}
@@ -31,26 +35,27 @@ use Rattle.lane_core.specs.Accesses.{IsState}
 use Rattle.lane_core.specs.Counting.{counted, one_for}
 use Rattle.lane_core.specs.Hands.{empty_hand}
 use Rattle.lane_core.specs.Named.{bound_at}
-use Rattle.lane_core.specs.Desks.{IsDesk, notes_of, entries_of, reads_from, reads_allot, left_for, HasRoomFor, HasTurned}
+use Rattle.lane_core.specs.Readings.{swept, renamed}
+use Rattle.lane_core.specs.Desks.{IsDesk, notes_of, entries_of, log_of, reads_from, left_for, HasRoomFor, GoesOn, HasTurned}
 use Rattle.lane_core.specs.DeskSteps.{HasReplied, CanAnswer, MayTurn}
 use Rattle.lane_core.proofs.EntryCounts.{few_counted, alone_added}
-use Rattle.lane_core.proofs.StateReads.{looked_up}
+use Rattle.lane_core.proofs.StateReads.{passed, comes_first, is_free, is_taken, goes, refuses}
 use Rattle.lane_core.proofs.Turning.{noteless, refused_turn}
 use Rattle.lane_core.proofs.DeskLaws.{noted_so}
 use Rattle.lane_core.proofs.StageTurns.{Staged, allotted, answers_behind, staged_counts, staged_names}
 
 -- a step of an allocation, and the desk behind it
-module _ (pool : SharedPool) (old mid : Desk) (name size class : ℕ) (stage : AllotStage) (d : IsDesk pool (allotment.hand_of stage) old) (class_is : class_of (geometry_of old.shape) size ≡ Some class) (mid_so : mid ≡ record old { seat = mid.seat; sampler = mid.sampler; notes = mid.notes }) where
+module _ (pool : SharedPool) (old mid : Desk) (name size class : ℕ) (stage : AllotStage) (d : IsDesk pool (allotment.hand_of stage) old) (class_is : class_of (geometry_of old.shape) size ≡ Some class) (mid_so : mid ≡ record old { seat = mid.seat; sampler = mid.sampler; notes = mid.notes; asked = allotment.asks_of stage old.asked }) where
   -- it can be answered
   pub allot_can : (allots : Allots) → allotment.HasAllotted pool old.seat mid.seat old.sampler mid.sampler old.notes mid.notes size class stage allots → HasRoomFor old (allotment.left_of stage) → length old.replies.items < vec_capacity old.replies → CanAnswer mid
   allot_can allots did room replies =
-      let start : Desk = record old { seat = mid.seat; sampler = mid.sampler } in
+      let start : Desk = record old { seat = mid.seat; sampler = mid.sampler; asked = allotment.asks_of stage old.asked } in
       answers_behind pool (allotment.hand_of stage) old d (allotment.left_of stage) (allotment.left_after allots) room (view_of mid.seat) did.wrote.added did.written did.wrote.more did.wrote.noted did.spends start mid refl (noted_so start mid did.written did.log mid_so) replies
 
   -- a root was born, and what its count asks of the desk that noted that
   module _ (root : RootId) (region : RegionId) (did : allotment.HasAllotted pool old.seat mid.seat old.sampler mid.sampler old.notes mid.notes size class stage (New root region)) where
     abbrev born_start : Desk
-    born_start = record old { seat = mid.seat; sampler = mid.sampler }
+    born_start = record old { seat = mid.seat; sampler = mid.sampler; asked = allotment.asks_of stage old.asked }
 
     new_staged : Staged pool (allotment.hand_of stage) empty_hand old born_start mid did.wrote.added (one_for root)
     new_staged = allotted pool old mid name size class stage d class_is mid_so (New root region) did
@@ -88,24 +93,28 @@ module _ (pool : SharedPool) (old new : Desk) (name size : ℕ) (s : LaneState) 
   pub taken_turn : MayTurn pool (left_for command) old → (v : ViewData) → bound_at old.names name ≡ Some v → HasReplied old new Reply.Taken → HasTurned pool old new s command Ready (Went Ready)
   taken_turn may v bound replied =
       refused_turn pool (left_for command) old new may Taken replied s command state.names_are
-      (λ rest. ap (λ (o : Option Bound). if is_some o then refuse s Reply.Taken rest else alloc old.shape (lane_of old.seat) s name size rest) (looked_up s old.names old.counts state name (Some v) bound))
+      (refuses s old.names old.counts state old.shape (lane_of old.seat) command Reply.Taken (comes_first (taken s name) (too_large_for old.shape size ∷ []) (is_taken s old.names old.counts state name v bound)))
 
   module _ (none : bound_at old.names name ≡ None) where
-    reads_free : (rest : Entries) → answer_of old.shape (lane_of old.seat) s command rest ≡ alloc old.shape (lane_of old.seat) s name size rest
-    reads_free rest = ap (λ (o : Option Bound). if is_some o then refuse s Reply.Taken rest else alloc old.shape (lane_of old.seat) s name size rest) (looked_up s old.names old.counts state name None none)
-
-    reads_class : (class : Option ℕ) → class_of (geometry_of old.shape) size ≡ class → (rest : Entries) →
-        answer_of old.shape (lane_of old.seat) s command rest ≡ reads_allot old.shape (lane_of old.seat) s name (allot_class old.shape (lane_of old.seat) size class rest)
-    reads_class class is rest = reads_free rest ∙ ap (λ (k : Option ℕ). reads_allot old.shape (lane_of old.seat) s name (allot_class old.shape (lane_of old.seat) size k rest)) is
+    free_first : (class : Option ℕ) → class_of (geometry_of old.shape) size ≡ class → first_refusal (refusals old.shape s command) ≡ (if is_none class then Some Reply.TooLarge else None)
+    free_first class is =
+        passed (taken s name) (too_large_for old.shape size ∷ []) (is_free s old.names old.counts state name none)
+        ∙ ap (λ (o : Option ℕ). if is_none o then Some Reply.TooLarge else None) is
 
     -- no class holds the size
     pub too_large : MayTurn pool (left_for command) old → class_of (geometry_of old.shape) size ≡ None → HasReplied old new Reply.TooLarge → HasTurned pool old new s command Ready (Went Ready)
-    too_large may is replied = noteless pool old new may.desk old.names Reply.TooLarge replied refl s command s.names state.names_are (reads_class None is)
+    too_large may is replied =
+        noteless pool old new may.desk may.asked old.names Reply.TooLarge refl replied refl s command s.names state.names_are
+        (refuses s old.names old.counts state old.shape (lane_of old.seat) command Reply.TooLarge (free_first None is))
 
     -- the allocation was begun
     module _ (class : ℕ) (is : class_of (geometry_of old.shape) size ≡ Some class) where
-      begun_reads : (rest : Entries) → reads_from old.shape (lane_of old.seat) s command Ready rest ≡ reads_from old.shape (lane_of old.seat) s command (Allotting name size class AskHandle) rest
-      begun_reads rest = reads_class (Some class) is rest
+      begun_reads : (log : Log) → reads_from old.shape (lane_of old.seat) s command Ready log ≡ reads_from old.shape (lane_of old.seat) s command (Allotting name size class AskHandle) log
+      begun_reads log = ap (λ o. option_and_then (λ got. swept (lane_of old.seat) got.0 got.1) o) (goes s old.names old.counts state old.shape (lane_of old.seat) command (free_first (Some class) is) log)
+
+      -- it goes on as it is read then
+      begun_on : (added : List Entry) (before : Names → Reader Answer) → GoesOn old new added (reads_from old.shape (lane_of old.seat) s command (Allotting name size class AskHandle)) before → GoesOn old new added (reads_from old.shape (lane_of old.seat) s command Ready) before
+      begun_on added before t = record { some = t.some; replies = t.replies; begun = t.begun; bound = t.bound; names = t.names; reads = λ rest. begun_reads (log_of old (map entry_of added ++ rest)) ∙ t.reads rest }
 
       pub begun_turn : (turn : Turn) → HasTurned pool old new s command (Allotting name size class AskHandle) turn → HasTurned pool old new s command Ready turn
       begun_turn (Went Ready) t = record {
@@ -117,56 +126,23 @@ module _ (pool : SharedPool) (old new : Desk) (name size : ℕ) (s : LaneState) 
         comes = record {
           answered = t.comes.answered;
           replies = t.comes.replies;
+          unstopped = t.comes.unstopped;
           notes = t.comes.notes;
           begun = t.comes.begun;
-          bindings = t.comes.bindings;
+          bound = t.comes.bound;
           names = t.comes.names;
-          reads = λ rest. begun_reads (map entry_of t.added ++ rest) ∙ t.comes.reads rest;
+          reads = λ rest. begun_reads (log_of old (map entry_of t.added ++ rest)) ∙ t.comes.reads rest;
         };
         waits = tt;
         held = tt;
       }
-      begun_turn (Went (Allotting other more at next)) t = record {
-        added = t.added;
-        grew = t.grew;
-        fits = t.fits;
-        name = t.name;
-        spends = t.spends;
-        comes = record { some = t.comes.some; replies = t.comes.replies; names = t.comes.names; begun = t.comes.begun; reads = λ rest. begun_reads (map entry_of t.added ++ rest) ∙ t.comes.reads rest };
-        waits = tt;
-        held = tt;
-      }
-      begun_turn (Went (Ending next)) t = record {
-        added = t.added;
-        grew = t.grew;
-        fits = t.fits;
-        name = t.name;
-        spends = t.spends;
-        comes = record { some = t.comes.some; replies = t.comes.replies; names = t.comes.names; begun = t.comes.begun; reads = λ rest. begun_reads (map entry_of t.added ++ rest) ∙ t.comes.reads rest };
-        waits = tt;
-        held = tt;
-      }
+      begun_turn (Went (Allotting other more at next)) t = record { added = t.added; grew = t.grew; fits = t.fits; name = t.name; spends = t.spends; comes = begun_on t.added (λ names. reads_from old.shape (lane_of old.seat) (renamed s names) command (Allotting other more at next)) t.comes; waits = tt; held = tt }
+      begun_turn (Went (Ending next)) t = record { added = t.added; grew = t.grew; fits = t.fits; name = t.name; spends = t.spends; comes = begun_on t.added (λ names. reads_from old.shape (lane_of old.seat) (renamed s names) command (Ending next)) t.comes; waits = tt; held = tt }
+      begun_turn (Went (Sweeping reply next)) t = record { added = t.added; grew = t.grew; fits = t.fits; name = t.name; spends = t.spends; comes = begun_on t.added (λ names. reads_from old.shape (lane_of old.seat) (renamed s names) command (Sweeping reply next)) t.comes; waits = tt; held = tt }
       begun_turn (Went (Closing next)) t = absurd t.comes
       begun_turn (Pending held Ready) t = absurd (cc t.comes.0)
-      begun_turn (Pending held (Allotting other more at next)) t = record {
-        added = t.added;
-        grew = t.grew;
-        fits = t.fits;
-        name = t.name;
-        spends = t.spends;
-        comes = (λ rest. begun_reads rest ∙ t.comes.0 rest, t.comes.1);
-        waits = tt;
-        held = t.held;
-      }
-      begun_turn (Pending held (Ending next)) t = record {
-        added = t.added;
-        grew = t.grew;
-        fits = t.fits;
-        name = t.name;
-        spends = t.spends;
-        comes = (λ rest. begun_reads rest ∙ t.comes.0 rest, t.comes.1);
-        waits = tt;
-        held = t.held;
-      }
+      begun_turn (Pending held (Allotting other more at next)) t = record { added = t.added; grew = t.grew; fits = t.fits; name = t.name; spends = t.spends; comes = (λ log. begun_reads log ∙ t.comes.0 log, t.comes.1); waits = tt; held = t.held }
+      begun_turn (Pending held (Ending next)) t = record { added = t.added; grew = t.grew; fits = t.fits; name = t.name; spends = t.spends; comes = (λ log. begun_reads log ∙ t.comes.0 log, t.comes.1); waits = tt; held = t.held }
+      begun_turn (Pending held (Sweeping reply next)) t = record { added = t.added; grew = t.grew; fits = t.fits; name = t.name; spends = t.spends; comes = (λ log. begun_reads log ∙ t.comes.0 log, t.comes.1); waits = tt; held = t.held }
       begun_turn (Pending held (Closing next)) t = absurd t.comes
       begun_turn (Waiting sender) t = absurd (cc t.comes.0)

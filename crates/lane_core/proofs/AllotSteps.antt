@@ -1,6 +1,7 @@
 -- The steps of an allocation, by what the pool answered.
 use Rattle.std.proofs.Common.{◌≡◌, ℕ, ◌+◌, ◌-◌, ◌*◌, ◌%◌, ◌<◌, ◌≤◌, List, [], ◌∷◌, true, false, refl, sym, ap, ◌∙◌, subst, arith}
-use Rattle.std.specs.Prelude.{Option, unwrap_or}
+use Rattle.std.specs.Prelude.{⊤, Option, Some, unwrap_or}
+use Rattle.size_classes.specs.Sizes.{class_of}
 use Rattle.std.specs.Global.{Vec}
 use Rattle.step_law.specs.declared.Told.{Ghosts}
 use Rattle.pool_law.specs.declared.id.Region.{Region}
@@ -13,7 +14,7 @@ use Rattle.pool_law.specs.declared.note.Object.{Object}
 use Rattle.pool_law.specs.declared.note.Object.TheVariants.{Arena, Cache, Bin, Root}
 use Rattle.pool_law.specs.declared.note.RefDid.TheVariants.{Born}
 use Rattle.pool_law.specs.declared.run.Shape.{Shape}
-use Rattle.pool_law.specs.Limits.{cached_classes}
+use Rattle.pool_law.specs.Limits.{cached_classes, geometry_of}
 use Rattle.leak_records.specs.Records.{Sampling, with_birth, watch_of}
 use Rattle.handle_bin.specs.Bins.{HandleValue}
 use Rattle.pool_table.specs.declared.views.Entry.{Entry}
@@ -34,15 +35,16 @@ use Rattle.lane_core.specs.declared.allotment.Allotting.{Allotting}
 use Rattle.lane_core.specs.declared.allotment.Allotting.TheVariants.{Handle, Cache as AskCache, Arena as AskArena, Birth, Home}
 use Rattle.lane_core.specs.declared.allotment.Allots.TheVariants.{More, Held as HeldBack, New as NewRoot, NoHandle, Full}
 use Rattle.lane_core.specs.Hands.{empty_hand, IsHeld}
-use Rattle.lane_core.specs.Allotments.{MayAllot, HasAllotted, Fits, IsOwnHandle, hand_of, left_of, left_after, rest_of, rest_after}
+use Rattle.lane_core.specs.Allotments.{MayAllot, HasAllotted, Fits, IsOwnHandle, hand_of, left_of, left_after, rest_of, rest_after, asks_of}
 use Rattle.lane_core.proofs.EntryCounts.{born_added, none_added, still_added}
 use Rattle.lane_core.proofs.Grown.{Grows, note_at, grows_noted, grows_busy, grows_held, grows_with, spends}
 use Rattle.lane_core.proofs.HandLaws.{held_on, handle_comes, handle_goes, no_handle, region_taken, arena_full, region_hit, cache_missed, marked_busy, both_born}
 use Rattle.lane_core.proofs.Holds.{is_handle, is_region}
 use Rattle.lane_core.proofs.LogLaws.{wrote_none}
 use Rattle.lane_core.proofs.OneNote.{wrote_note, wrote_mark, wrote_nothing, found_there}
-use Rattle.lane_core.proofs.Readings.{read_handle, read_handle_uncached, read_hit, read_missed, read_busy, read_taken, read_full, read_born, read_home}
-use Rattle.pool_law.proofs.PatternLemmas.{allot-no_handle}
+use Rattle.lane_core.specs.Readings.{ReadsOn, none_asked, one_asked}
+use Rattle.lane_core.proofs.ReadLaws.{still_on}
+use Rattle.lane_core.proofs.Readings.{read_no_handle, read_handle, read_handle_uncached, read_hit, read_missed, read_busy, read_taken, read_full, read_born, read_home}
 
 -- each stage has a note left
 pub allot_left : (stage : Allotting) → 1 ≤ (left_of stage).notes
@@ -51,6 +53,11 @@ allot_left (AskCache handle) = omega arith
 allot_left (AskArena handle) = omega arith
 allot_left (Birth handle region) = omega arith
 allot_left (Home handle) = omega arith
+
+-- the step at this stage asks no cache
+abbrev pub IsUnasked : Allotting → Type 0
+IsUnasked (AskCache handle) = ⊥
+IsUnasked _ = ⊤
 
 module _ {G : Ghosts HomeValue Noted} (pool : SharedPool) (old new : PoolSeat HomeValue G) (class : ℕ) (is : IsPoolSeat pool new) (same : SameSeat old new) where
   abbrev shape : Shape
@@ -78,51 +85,54 @@ module _ {G : Ghosts HomeValue Noted} (pool : SharedPool) (old new : PoolSeat Ho
         record {
           written = note ∷ [];
           log = adds;
-          wrote = wrote_note pool old new may.seat_is is same sampler (rest_of shape lane size class Handle) (rest_after shape lane size class NoHandle) (Bin lane) number n note noted it (tt, refl)
-              (λ rest. allot-no_handle shape lane size class number (entry_of e) rest refl);
+          wrote = wrote_note pool old new may.seat_is is same sampler (rest_of shape lane size class Handle) none_asked (rest_after shape lane size class NoHandle) (Bin lane) number n note noted it (tt, refl)
+              (read_no_handle shape lane size class 0 number (entry_of e) refl);
           hand = held_on v w (e ∷ []) 0 empty_hand empty_hand grows (no_handle lane number v.own.number empty_hand lane) may.hand;
           fits = tt;
           again = omega arith;
           counts = still_added (entry_of e) (record { gains = λ q. refl; loses = λ q. refl; needs = λ q. refl; ends = λ q. refl }) refl;
           place = tt;
           spends = spends v w (e ∷ []) 0 grows (left_of Handle) (left_after NoHandle) (omega arith) (omega arith) (omega arith) (λ to. omega arith);
+          asked = λ n. omega arith;
         }
 
     module _ (h : HandleValue) where
-      pub asked_handle : class < cached_classes → MayAllot pool old class Handle → IsNoted pool old new (Bin lane) number (plain (Did.Handle h.place)) → HoldsHandle pool new h → h.lane ≡ lane → note ≡ Note.At (Bin lane) number (Did.Handle h.place) →
+      pub asked_handle : class_of (geometry_of shape) size ≡ Some class → class < cached_classes → MayAllot pool old class Handle → IsNoted pool old new (Bin lane) number (plain (Did.Handle h.place)) → HoldsHandle pool new h → h.lane ≡ lane → note ≡ Note.At (Bin lane) number (Did.Handle h.place) →
           HasAllotted pool old new sampler sampler log later size class Handle (More (AskCache h))
-      asked_handle less may noted holds own it =
+      asked_handle class_is less may noted holds own it =
           let n : Noted = plain (Did.Handle h.place) in let e : Entry = note_at pool old new may.seat_is is (Bin lane) number n in
           let grows : Grows v w (e ∷ []) 0 = grows_noted pool old new may.seat_is is (Bin lane) number n noted in
           record {
             written = note ∷ [];
             log = adds;
-            wrote = wrote_note pool old new may.seat_is is same sampler (rest_of shape lane size class Handle) (rest_after shape lane size class (More (AskCache h))) (Bin lane) number n note noted it (tt, refl)
-                (λ rest. read_handle shape lane size class h.place number (entry_of e) rest less refl);
+            wrote = wrote_note pool old new may.seat_is is same sampler (rest_of shape lane size class Handle) none_asked (rest_after shape lane size class (More (AskCache h))) (Bin lane) number n note noted it (tt, refl)
+                (read_handle shape lane size class h.place number (entry_of e) class_is refl);
             hand = held_on v w (e ∷ []) 0 empty_hand (hand_of (AskCache h)) grows (handle_comes lane number v.own.number empty_hand lane h.place) may.hand;
             fits = (own_still h (e ∷ []) 0 grows (is_handle pool new h holds, own), less);
             again = omega arith;
             counts = still_added (entry_of e) (record { gains = λ q. refl; loses = λ q. refl; needs = λ q. refl; ends = λ q. refl }) refl;
             place = tt;
             spends = spends v w (e ∷ []) 0 grows (left_of Handle) (left_of (AskCache h)) (omega arith) (omega arith) (omega arith) (λ to. omega arith);
+            asked = λ n. omega arith;
           }
 
-      pub asked_handle_uncached : cached_classes ≤ class → MayAllot pool old class Handle → IsNoted pool old new (Bin lane) number (plain (Did.Handle h.place)) → HoldsHandle pool new h → h.lane ≡ lane → note ≡ Note.At (Bin lane) number (Did.Handle h.place) →
+      pub asked_handle_uncached : class_of (geometry_of shape) size ≡ Some class → cached_classes ≤ class → MayAllot pool old class Handle → IsNoted pool old new (Bin lane) number (plain (Did.Handle h.place)) → HoldsHandle pool new h → h.lane ≡ lane → note ≡ Note.At (Bin lane) number (Did.Handle h.place) →
           HasAllotted pool old new sampler sampler log later size class Handle (More (AskArena h))
-      asked_handle_uncached more may noted holds own it =
+      asked_handle_uncached class_is more may noted holds own it =
           let n : Noted = plain (Did.Handle h.place) in let e : Entry = note_at pool old new may.seat_is is (Bin lane) number n in
           let grows : Grows v w (e ∷ []) 0 = grows_noted pool old new may.seat_is is (Bin lane) number n noted in
           record {
             written = note ∷ [];
             log = adds;
-            wrote = wrote_note pool old new may.seat_is is same sampler (rest_of shape lane size class Handle) (rest_after shape lane size class (More (AskArena h))) (Bin lane) number n note noted it (tt, refl)
-                (λ rest. read_handle_uncached shape lane size class h.place number (entry_of e) rest more refl);
+            wrote = wrote_note pool old new may.seat_is is same sampler (rest_of shape lane size class Handle) none_asked (rest_after shape lane size class (More (AskArena h))) (Bin lane) number n note noted it (tt, refl)
+                (read_handle_uncached shape lane size class h.place number (entry_of e) class_is refl more);
             hand = held_on v w (e ∷ []) 0 empty_hand (hand_of (AskArena h)) grows (handle_comes lane number v.own.number empty_hand lane h.place) may.hand;
             fits = own_still h (e ∷ []) 0 grows (is_handle pool new h holds, own);
             again = omega arith;
             counts = still_added (entry_of e) (record { gains = λ q. refl; loses = λ q. refl; needs = λ q. refl; ends = λ q. refl }) refl;
             place = tt;
             spends = spends v w (e ∷ []) 0 grows (left_of Handle) (left_of (AskArena h)) (omega arith) (omega arith) (omega arith) (λ to. omega arith);
+            asked = λ n. omega arith;
           }
 
       pub cache_hit : (r : Region) → MayAllot pool old class (AskCache h) → IsNoted pool old new (Cache lane class) number (plain (Did.Hit r.id)) → HoldsRegion pool new r → r.id.class ≡ class → note ≡ Note.At (Cache lane class) number (Did.Hit r.id) →
@@ -133,14 +143,15 @@ module _ {G : Ghosts HomeValue Noted} (pool : SharedPool) (old new : PoolSeat Ho
           record {
             written = note ∷ [];
             log = adds;
-            wrote = wrote_note pool old new may.seat_is is same sampler (rest_of shape lane size class (AskCache h)) (rest_after shape lane size class (More (Birth h r))) o number n note noted it (tt, refl)
-                (λ rest. read_hit shape lane size class h.place number (entry_of e) rest r.id refl);
+            wrote = wrote_note pool old new may.seat_is is same sampler (rest_of shape lane size class (AskCache h)) one_asked (rest_after shape lane size class (More (Birth h r))) o number n note noted it (tt, refl)
+                (read_hit shape lane size class h.place number (entry_of e) may.fits.1 r.id refl);
             hand = held_on v w (e ∷ []) 0 (hand_of (AskCache h)) (hand_of (Birth h r)) grows (region_hit lane number v.own.number (hand_of (AskCache h)) lane class r.id) may.hand;
             fits = (may.fits.0.0, is_region pool new r holds, classed);
             again = omega arith;
             counts = still_added (entry_of e) (record { gains = λ q. refl; loses = λ q. refl; needs = λ q. refl; ends = λ q. refl }) refl;
             place = tt;
             spends = spends v w (e ∷ []) 0 grows (left_of (AskCache h)) (left_of (Birth h r)) (omega arith) (omega arith) (omega arith) (λ to. omega arith);
+            asked = λ n. omega arith;
           }
 
       pub cache_empty : MayAllot pool old class (AskCache h) → IsNoted pool old new (Cache lane class) number (plain Did.Miss) → note ≡ Note.At (Cache lane class) number Did.Miss →
@@ -151,14 +162,15 @@ module _ {G : Ghosts HomeValue Noted} (pool : SharedPool) (old new : PoolSeat Ho
           record {
             written = note ∷ [];
             log = adds;
-            wrote = wrote_note pool old new may.seat_is is same sampler (rest_of shape lane size class (AskCache h)) (rest_after shape lane size class (More (AskArena h))) o number n note noted it (tt, refl)
-                (λ rest. read_missed shape lane size class h.place number (entry_of e) rest refl);
+            wrote = wrote_note pool old new may.seat_is is same sampler (rest_of shape lane size class (AskCache h)) one_asked (rest_after shape lane size class (More (AskArena h))) o number n note noted it (tt, refl)
+                (read_missed shape lane size class h.place number (entry_of e) may.fits.1 refl);
             hand = held_on v w (e ∷ []) 0 (hand_of (AskCache h)) (hand_of (AskArena h)) grows (cache_missed lane number v.own.number (hand_of (AskCache h)) lane class) may.hand;
             fits = own_still h (e ∷ []) 0 grows may.fits.0;
             again = omega arith;
             counts = still_added (entry_of e) (record { gains = λ q. refl; loses = λ q. refl; needs = λ q. refl; ends = λ q. refl }) refl;
             place = tt;
             spends = spends v w (e ∷ []) 0 grows (left_of (AskCache h)) (left_of (AskArena h)) (omega arith) (omega arith) (omega arith) (λ to. omega arith);
+            asked = λ n. omega arith;
           }
 
       pub arena_gave : (r : Region) → MayAllot pool old class (AskArena h) → IsNoted pool old new (Arena (lane % shape.arenas)) number (plain (Did.Take class r.id)) → HoldsRegion pool new r → r.id.class ≡ class →
@@ -169,14 +181,15 @@ module _ {G : Ghosts HomeValue Noted} (pool : SharedPool) (old new : PoolSeat Ho
           record {
             written = note ∷ [];
             log = adds;
-            wrote = wrote_note pool old new may.seat_is is same sampler (rest_of shape lane size class (AskArena h)) (rest_after shape lane size class (More (Birth h r))) o number n note noted it (tt, refl)
-                (λ rest. read_taken shape lane size class h.place number (entry_of e) rest r.id refl);
+            wrote = wrote_note pool old new may.seat_is is same sampler (rest_of shape lane size class (AskArena h)) none_asked (rest_after shape lane size class (More (Birth h r))) o number n note noted it (tt, refl)
+                (read_taken shape lane size class h.place number (entry_of e) r.id refl);
             hand = held_on v w (e ∷ []) 0 (hand_of (AskArena h)) (hand_of (Birth h r)) grows (region_taken lane number v.own.number (hand_of (AskArena h)) (lane % shape.arenas) class r.id) may.hand;
             fits = (may.fits.0, is_region pool new r holds, classed);
             again = omega arith;
             counts = still_added (entry_of e) (record { gains = λ q. refl; loses = λ q. refl; needs = λ q. refl; ends = λ q. refl }) refl;
             place = tt;
             spends = spends v w (e ∷ []) 0 grows (left_of (AskArena h)) (left_of (Birth h r)) (omega arith) (omega arith) (omega arith) (λ to. omega arith);
+            asked = λ n. omega arith;
           }
 
       pub arena_was_full : MayAllot pool old class (AskArena h) → IsNoted pool old new (Arena (lane % shape.arenas)) number (plain (Did.Full class)) → note ≡ Note.At (Arena (lane % shape.arenas)) number (Did.Full class) →
@@ -187,14 +200,15 @@ module _ {G : Ghosts HomeValue Noted} (pool : SharedPool) (old new : PoolSeat Ho
           record {
             written = note ∷ [];
             log = adds;
-            wrote = wrote_note pool old new may.seat_is is same sampler (rest_of shape lane size class (AskArena h)) (rest_after shape lane size class (More (Home h))) o number n note noted it (tt, refl)
-                (λ rest. read_full shape lane size class h.place number (entry_of e) rest refl);
+            wrote = wrote_note pool old new may.seat_is is same sampler (rest_of shape lane size class (AskArena h)) none_asked (rest_after shape lane size class (More (Home h))) o number n note noted it (tt, refl)
+                (read_full shape lane size class h.place number (entry_of e) refl);
             hand = held_on v w (e ∷ []) 0 (hand_of (AskArena h)) (hand_of (Home h)) grows (arena_full lane number v.own.number (hand_of (AskArena h)) (lane % shape.arenas) class) may.hand;
             fits = own_still h (e ∷ []) 0 grows may.fits;
             again = omega arith;
             counts = still_added (entry_of e) (record { gains = λ q. refl; loses = λ q. refl; needs = λ q. refl; ends = λ q. refl }) refl;
             place = tt;
             spends = spends v w (e ∷ []) 0 grows (left_of (AskArena h)) (left_of (Home h)) (omega arith) (omega arith) (omega arith) (λ to. omega arith);
+            asked = λ n. omega arith;
           }
 
       pub went_home : MayAllot pool old class (Home h) → IsNoted pool old new (Bin h.lane) number (plain (Did.Home h.place)) → note ≡ Note.At (Bin h.lane) number (Did.Home h.place) →
@@ -205,14 +219,15 @@ module _ {G : Ghosts HomeValue Noted} (pool : SharedPool) (old new : PoolSeat Ho
           record {
             written = note ∷ [];
             log = adds;
-            wrote = wrote_note pool old new may.seat_is is same sampler (rest_of shape lane size class (Home h)) (rest_after shape lane size class Full) o number n note noted it (tt, refl)
-                (λ rest. read_home shape lane size class h.place number (entry_of e) rest h.lane may.fits.1 refl);
+            wrote = wrote_note pool old new may.seat_is is same sampler (rest_of shape lane size class (Home h)) none_asked (rest_after shape lane size class Full) o number n note noted it (tt, refl)
+                (read_home shape lane size class h.place number (entry_of e) h.lane may.fits.1 refl);
             hand = held_on v w (e ∷ []) 0 (hand_of (Home h)) empty_hand grows (handle_goes lane number v.own.number (hand_of (Home h)) h.lane h.place) may.hand;
             fits = tt;
             again = omega arith;
             counts = still_added (entry_of e) (record { gains = λ q. refl; loses = λ q. refl; needs = λ q. refl; ends = λ q. refl }) refl;
             place = tt;
             spends = spends v w (e ∷ []) 0 grows (left_of (Home h)) (left_after Full) (omega arith) (omega arith) (omega arith) (λ to. omega arith);
+            asked = λ n. omega arith;
           }
 
   -- another lane was in the cache
@@ -223,14 +238,15 @@ module _ {G : Ghosts HomeValue Noted} (pool : SharedPool) (old new : PoolSeat Ho
       record {
         written = Note.Busy held ∷ [];
         log = adds;
-        wrote = wrote_mark pool old new may.seat_is is same sampler (rest_of shape lane size class (AskCache h)) (rest_after shape lane size class (More (AskArena h))) (Cache lane class) held found
-            (λ rest. read_busy shape lane size class h.place 0 (entry_of (Busy held)) rest held found.object refl);
+        wrote = wrote_mark pool old new may.seat_is is same sampler (rest_of shape lane size class (AskCache h)) one_asked (rest_after shape lane size class (More (AskArena h))) (Cache lane class) held found
+            (read_busy shape lane size class h.place 0 (entry_of (Busy held)) may.fits.1 held found.object refl);
         hand = held_on v w (Busy held ∷ []) 0 (hand_of (AskCache h)) (hand_of (AskArena h)) grows (marked_busy lane 0 v.own.number (hand_of (AskCache h)) held) may.hand;
         fits = own_still h (Busy held ∷ []) 0 grows may.fits.0;
         again = omega arith;
         counts = still_added (entry_of (Busy held)) (record { gains = λ q. refl; loses = λ q. refl; needs = λ q. refl; ends = λ q. refl }) refl;
         place = tt;
         spends = spends v w (Busy held ∷ []) 0 grows (left_of (AskCache h)) (left_of (AskArena h)) (omega arith) (omega arith) (omega arith) (λ to. omega arith);
+        asked = λ n. omega arith;
       }
 
   -- a root is born
@@ -251,7 +267,7 @@ module _ {G : Ghosts HomeValue Noted} (pool : SharedPool) (old new : PoolSeat Ho
           more = grows.more;
           noted = λ i. sym it i ∷ sym next_it i ∷ [];
           sampled = (ap watch_of sampled, sym sampled);
-          read = λ rest. read_born shape lane size class h.place number (entry_of e) rest root r.id (entry_of (Ref root Born)) at long refl refl;
+          read = read_born shape lane size class h.place number (entry_of e) root r.id (entry_of (Ref root Born)) at long refl refl;
         };
         hand = held_on v w es 1 (hand_of (Birth h r)) empty_hand grows (both_born lane number v.own.number empty_hand root r.id (watch_of last) h.place at) may.hand;
         fits = tt;
@@ -259,22 +275,39 @@ module _ {G : Ghosts HomeValue Noted} (pool : SharedPool) (old new : PoolSeat Ho
         counts = born_added (entry_of e) root (record { gains = λ q. refl; loses = λ q. refl; needs = λ q. refl; ends = λ q. refl }) refl;
         place = subst (λ (p : ℕ). p < shape.lanes * shape.handles) (sym at) may.fits.0.place;
         spends = spends v w es 1 grows (left_of (Birth h r)) (left_after (NewRoot root (record r.id { uses = r.id.uses + 1 }))) (omega arith) (omega arith) (omega arith) (λ to. omega arith);
+        asked = λ n. omega arith;
       }
 
+  still_asked : (stage : Allotting) → IsUnasked stage → (n : ℕ) → (left_of stage).asks + asks_of stage n ≤ (left_of stage).asks + n
+  still_asked Handle un n = omega arith
+  still_asked (AskCache h) un n = absurd un
+  still_asked (AskArena h) un n = omega arith
+  still_asked (Birth h r) un n = omega arith
+  still_asked (Home h) un n = omega arith
+
+  -- where no cache is asked, the same is read of no notes
+  still_at : (size : ℕ) (stage : Allotting) → IsUnasked stage → ReadsOn (rest_of shape lane size class stage) [] (asks_of stage) (rest_of shape lane size class stage)
+  still_at size Handle un = still_on (rest_of shape lane size class Handle)
+  still_at size (AskCache h) un = absurd un
+  still_at size (AskArena h) un = still_on (rest_of shape lane size class (AskArena h))
+  still_at size (Birth h r) un = still_on (rest_of shape lane size class (Birth h r))
+  still_at size (Home h) un = still_on (rest_of shape lane size class (Home h))
+
   -- another seat was there, and the same is to be tried again
-  pub found_held : (o : Object) (held : Held) (stage again : Allotting) (log : Vec Note) (sampler : Sampling) (size : ℕ) → MayAllot pool old class stage → FoundBusy pool o false old new held → again ≡ stage → Fits pool new class stage →
+  pub found_held : (o : Object) (held : Held) (stage again : Allotting) (log : Vec Note) (sampler : Sampling) (size : ℕ) → IsUnasked stage → MayAllot pool old class stage → FoundBusy pool o false old new held → again ≡ stage → Fits pool new class stage →
       HasAllotted pool old new sampler sampler log log size class stage (HeldBack held again)
-  found_held o held stage again log sampler size may found alike fits =
+  found_held o held stage again log sampler size unasked may found alike fits =
       let grows : Grows v w [] 0 = grows_held pool old new may.seat_is is o held found in
       subst (λ (x : Allotting). HasAllotted pool old new sampler sampler log log size class stage (HeldBack held x)) (sym alike)
       (record {
         written = [];
         log = wrote_none log;
-        wrote = wrote_nothing pool old new may.seat_is is same sampler (rest_of shape lane size class stage) (rest_of shape lane size class stage) o held found (λ rest. refl);
+        wrote = wrote_nothing pool old new may.seat_is is same sampler (rest_of shape lane size class stage) (asks_of stage) (rest_of shape lane size class stage) o held found (still_at size stage unasked);
         hand = subst (λ (x : SeatView). IsHeld (hand_of stage) x) (sym (ap (λ m. m.0) found.marked)) may.hand;
         fits = fits;
         again = (refl, refl, found_there pool old new may.seat_is is same o false held found);
         counts = none_added;
         place = tt;
         spends = spends v w [] 0 grows (left_of stage) (left_of stage) (omega arith) (omega arith) (omega arith) (λ to. omega arith);
+        asked = still_asked stage unasked;
       })

@@ -1,6 +1,6 @@
 -- The turns of the commands that bind a name, release a root, or claim a root's place.
 use Rattle.std.proofs.Common.{◌≡◌, ℕ, ◌+◌, ◌-◌, ◌<◌, ◌≤◌, List, [], ◌∷◌, ◌++◌, Bool, true, false, length, refl, sym, ap, ◌∙◌, subst, arith, Option, Some, None}
-use Rattle.std.specs.Prelude.{◌==◌, vec_capacity, slice_set, option_map, if◌then◌else◌}
+use Rattle.std.specs.Prelude.{◌==◌, vec_capacity, slice_set, option_and_then, if◌then◌else◌}
 use Rattle.std.proofs.lemmas.List.{length-map}
 use Rattle.std.proofs.lemmas.List.Sums.{sum_by-cons}
 use Rattle.pool_law.specs.declared.command.Command.{Command}
@@ -10,13 +10,18 @@ use Rattle.pool_law.specs.declared.note.Note.{Note}
 use Rattle.pool_law.specs.declared.note.RefDid.TheVariants.{Retain, Kept, Ended}
 use Rattle.pool_law.specs.declared.run.Reply.{Reply}
 use Rattle.pool_law.specs.declared.run.Shape.{Shape}
-use Rattle.pool_law.specs.Reading.{◌>>=◌}
 use Rattle.pool_law.specs.Views.{in_range, slice_of}
-use Rattle.pool_law.specs.Lanes.{LaneState, Bound, bind, unbound, answer, refuse, answer_of, forget, slice, release_view}
-use Rattle.pool_law.specs.Patterns.{Entries, retire}
+use Rattle.pool_law.specs.Dids as says
+use Rattle.pool_law.specs.LaneLaw.{sweep_period}
+use Rattle.pool_law.specs.LaneStates.{LaneState}
+use Rattle.pool_law.specs.Lanes.{Answer, answer, answer_of, carried_out, release_of}
+use Rattle.pool_law.specs.Names.{Bound, Plain, Names, bind, without, has_range}
+use Rattle.pool_law.specs.Patterns.{release, end_of}
+use Rattle.pool_law.specs.Readers.{Log, Reader, ◌>>=◌, ◌>>◌, ◌or◌, give, given, nothing, step}
+use Rattle.pool_law.specs.Refusals.{first_refusal, refusals, unbound}
 use Rattle.pool_law.specs.Same.{same_root}
 use Rattle.pool_law.proofs.ListLemmas.{slice_set-length}
-use Rattle.pool_law.proofs.PatternLemmas.{same_root-refl, next_to-is}
+use Rattle.pool_law.proofs.PatternLemmas.{same_root-refl}
 use Rattle.pool_table.specs.declared.roots.EndToken.{EndToken}
 use Rattle.pool_table.specs.declared.views.Entry.TheVariants.{Ref}
 use Rattle.pool_table.specs.declared.views.SeatView.{SeatView}
@@ -38,6 +43,8 @@ use Rattle.lane_core.specs.Budgets.{Spends, notes_alone, lane_in}
 use Rattle.lane_core.specs.Counting.{counted, one_for}
 use Rattle.lane_core.specs.Hands.{Hand, empty_hand}
 use Rattle.lane_core.specs.Named.{bound_at, NamesAre}
+use Rattle.lane_core.specs.Endings.{retired}
+use Rattle.lane_core.specs.Readings.{before_left, behind, ReadsOn, none_asked, swept, renamed}
 use Rattle.lane_core.specs.Desks.{IsDesk, notes_of, entries_of, HasRoomFor, reads_from, left_for, HasTurned}
 use Rattle.lane_core.specs.DeskSteps.{HasNoted, HasReplied, HasRetained, CountsMore, CountsLess, MayTurn}
 use Rattle.lane_core.proofs.CountLaws.{counted_within}
@@ -45,8 +52,9 @@ use Rattle.lane_core.proofs.NameLaws.{NamesAre-bind, NamesAre-unbound}
 use Rattle.lane_core.proofs.Grown.{Grows, spends}
 use Rattle.lane_core.proofs.HandLaws.{Carries, held_on}
 use Rattle.lane_core.proofs.EntryCounts.{retained, kept, ended, last_count, has_count, few_counted, stays_counted}
-use Rattle.lane_core.proofs.StateReads.{looked_up, used, used_fresh}
-use Rattle.lane_core.proofs.DeskLaws.{Advances, grows_ref, mid_grew, goes_on}
+use Rattle.lane_core.proofs.ReadLaws.{then_on, given_on, first_on, second_on, none_then, step_on, step_off}
+use Rattle.lane_core.proofs.StateReads.{named_so, viewed, is_bound, passed, used_fresh, ranged_fresh, unranged_fresh, goes, refuses, goes_uncounted}
+use Rattle.lane_core.proofs.DeskLaws.{Advances, grows_ref, mid_grew, goes_on, spends_at}
 use Rattle.lane_core.proofs.Turning.{noteless, ref_advances, one_turn, one_turn_same, mid_names, weightless}
 
 -- ---- Names.
@@ -55,27 +63,61 @@ use Rattle.lane_core.proofs.Turning.{noteless, ref_advances, one_turn, one_turn_
 pub forget_turn : (pool : SharedPool) (name : ℕ) (old new : Desk) → MayTurn pool (left_for (Command.Forget name)) old → name < length old.names → (v : ViewData) → bound_at old.names name ≡ Some v →
     HasReplied (record old { names = slice_set old.names name None }) new Reply.Ok → (s : LaneState) → IsState s old.names old.counts → HasTurned pool old new s (Command.Forget name) Ready (Went Ready)
 forget_turn pool name old new may lt v is replied s state =
-    noteless pool old new may.desk (slice_set old.names name None) Reply.Ok replied (slice_set-length old.names name None) s (Command.Forget name) (unbound name s.names)
+    noteless pool old new may.desk may.asked (slice_set old.names name None) Reply.Ok refl replied (slice_set-length old.names name None) s (Command.Forget name) (without name s.names)
     (NamesAre-unbound s.names old.names state.names_are name lt)
-    (λ rest. ap (λ (o : Option Bound). forget s name o rest) (looked_up s old.names old.counts state name (Some v) is))
+    (goes s old.names old.counts state old.shape (lane_of old.seat) (Command.Forget name) (passed (unbound s name) [] (is_bound s old.names old.counts state name v is)))
 
 -- a new name is bound to a view
-module _ (pool : SharedPool) (fresh : ℕ) (old new : Desk) (d : IsDesk pool empty_hand old) (lt : fresh < length old.names) (v : ViewData) (replied : HasReplied (record old { names = slice_set old.names fresh (Some v) }) new Reply.Ok) (s : LaneState) (are : NamesAre s.names old.names) where
-  pub bound_turn : (command : Command) → ((rest : Entries) → answer_of old.shape (lane_of old.seat) s command rest ≡ answer Reply.Ok (bind fresh v s.names) rest) → HasTurned pool old new s command Ready (Went Ready)
+module _ (pool : SharedPool) (fresh : ℕ) (old new : Desk) (d : IsDesk pool empty_hand old) (low : old.asked < sweep_period) (lt : fresh < length old.names) (v : ViewData) (replied : HasReplied (record old { names = slice_set old.names fresh (Some v) }) new Reply.Ok) (s : LaneState) (are : NamesAre s.names old.names) where
+  pub bound_turn : (command : Command) → ((log : Log) → answer_of old.shape (lane_of old.seat) s command log ≡ Some (answer Reply.Ok (bind fresh (Plain v) s.names), log)) → HasTurned pool old new s command Ready (Went Ready)
   bound_turn command reads =
-      noteless pool old new d (slice_set old.names fresh (Some v)) Reply.Ok replied (slice_set-length old.names fresh (Some v)) s command (bind fresh v s.names) (NamesAre-bind s.names old.names are fresh v lt) reads
+      noteless pool old new d low (slice_set old.names fresh (Some v)) Reply.Ok refl replied (slice_set-length old.names fresh (Some v)) s command (bind fresh (Plain v) s.names) (NamesAre-bind s.names old.names are fresh v lt) reads
 
 -- ---- A release.
 
-read_kept : (shape : Shape) (s : LaneState) (v : ViewData) (rest : Entries) → release_view shape s v (entry_of (Ref v.root Kept) ∷ rest) ≡ answer Reply.Kept s.names rest
-read_kept shape s v rest = rw (next_to-is v.root Kept (entry_of (Ref v.root Kept)) rest refl) refl
+-- a release, by what the step on the word says
+module _ (shape : Shape) (root : RootId) where
+  abbrev keeps : Reader Reply
+  keeps = step root says.count_kept >> give Reply.Kept
 
-freed : (names : List (ℕ × Bound)) (o : Option Entries) → (let f : Entries → Reply × Entries = λ (rest : Entries). (Reply.Freed, rest) in option_map f o >>= (λ p. answer p.0 names p.1)) ≡ (o >>= (λ (rest : Entries). answer Reply.Freed names rest))
-freed names None = refl
-freed names (Some rest) = refl
+  read_kept : ReadsOn (release shape root) (entry_of (Ref root Kept) ∷ []) none_asked (give Reply.Kept)
+  read_kept =
+      let e = entry_of (Ref root Kept) in
+      first_on keeps (end_of shape root >> give Reply.Freed) (e ∷ []) none_asked Reply.Kept (given_on (step root says.count_kept) (e ∷ []) none_asked (λ _. give Reply.Kept) tt (step_on e root says.count_kept Kept refl tt refl))
 
-read_ended : (shape : Shape) (s : LaneState) (v : ViewData) (rest : Entries) → release_view shape s v (entry_of (Ref v.root Ended) ∷ rest) ≡ (retire shape v.root rest >>= (λ (left : Entries). answer Reply.Freed s.names left))
-read_ended shape s v rest = rw (next_to-is v.root Ended (entry_of (Ref v.root Ended)) rest refl) (freed s.names (retire shape v.root rest))
+  read_ended : ReadsOn (release shape root) (entry_of (Ref root Ended) ∷ []) none_asked (retired shape root >> give Reply.Freed)
+  read_ended =
+      let e = entry_of (Ref root Ended) in
+      second_on keeps (end_of shape root >> give Reply.Freed) (e ∷ []) none_asked (retired shape root >> give Reply.Freed)
+      (λ log. none_then (step root says.count_kept) (λ _. give Reply.Kept) (before_left log (e ∷ [])) (step_off e root says.count_kept Ended refl refl log))
+      (then_on (end_of shape root) (e ∷ []) none_asked (λ _. give Reply.Freed) (retired shape root) (given_on (step root says.ended) (e ∷ []) none_asked (λ _. retired shape root) tt (step_on e root says.ended Ended refl tt refl)))
+
+-- the end of a root, and its answer
+freed : (names : Names) (r : Reader (Unit {0})) (log : Log) → (r >> give Reply.Freed >>= (λ reply. give (answer reply names))) log ≡ (r >> give (answer Reply.Freed names)) log
+freed names r log = last (r log)
+  where
+    last : (o : Option (Unit {0} × Log)) → option_and_then (λ got. Some (answer got.0 names, got.1)) (option_and_then (λ got. Some (Reply.Freed, got.1)) o) ≡ option_and_then (λ got. Some (answer Reply.Freed names, got.1)) o
+    last None = refl
+    last (Some got) = refl
+
+-- the release of a view that the lane counts
+module _ (shape : Shape) (lane : ℕ) (s : LaneState) (names : List (Option ViewData)) (cs : List Counted) (state : IsState s names cs) (name : ℕ) (v : ViewData) (bound : bound_at names name ≡ Some v) (lt : 0 < counted cs v.root) where
+  released : (log : Log) → answer_of shape lane s (Command.Release name) log ≡ (release shape v.root >>= (λ reply. give (answer reply s.names))) log
+  released log =
+      goes_uncounted s names cs state shape lane (Command.Release name) name v bound lt refl log
+      ∙ ap (λ (o : Option Bound). (given o >>= release_of shape s name) log) (named_so s names cs state name (Some v) bound)
+
+  reads_kept : ReadsOn (answer_of shape lane s (Command.Release name)) (entry_of (Ref v.root Kept) ∷ []) none_asked (give (answer Reply.Kept s.names))
+  reads_kept log =
+      let e = entry_of (Ref v.root Kept) in
+      released (before_left log (e ∷ [])) ∙ given_on (release shape v.root) (e ∷ []) none_asked (λ reply. give (answer reply s.names)) Reply.Kept (read_kept shape v.root) log
+
+  reads_ended : ReadsOn (answer_of shape lane s (Command.Release name)) (entry_of (Ref v.root Ended) ∷ []) none_asked (retired shape v.root >> give (answer Reply.Freed s.names))
+  reads_ended log =
+      let e = entry_of (Ref v.root Ended) in
+      released (before_left log (e ∷ []))
+      ∙ then_on (release shape v.root) (e ∷ []) none_asked (λ reply. give (answer reply s.names)) (retired shape v.root >> give Reply.Freed) (read_ended shape v.root) log
+      ∙ freed s.names (retired shape v.root) (behind log (e ∷ []) none_asked)
 
 pub kept_turn : (pool : SharedPool) (name : ℕ) (old start mid new : Desk) → MayTurn pool (left_for (Command.Release name)) old → start ≡ record old { seat = start.seat; counts = start.counts } →
     SameSeat old.seat start.seat → IsPoolSeat pool start.seat → (v : ViewData) → bound_at old.names name ≡ Some v → 0 < counted old.counts v.root → HasView start.seat (with_ref (view_of old.seat) v.root Kept (view_of old.seat).moves) → CountsLess old.counts start.counts v.root →
@@ -83,9 +125,10 @@ pub kept_turn : (pool : SharedPool) (name : ℕ) (old start mid new : Desk) → 
 kept_turn pool name old start mid new may start_is same seat v bound lt has less noted replied s state =
     let adv = ref_advances pool old start may.desk v.root Kept (view_of old.seat).moves 0 same seat has (omega arith) refl refl refl in
     let sampler_is : start.sampler ≡ old.sampler = ap (λ (x : Desk). x.sampler) start_is in
-    one_turn_same pool old start mid new may.desk (start_is ∙ (λ i. record old { seat = start.seat; counts = start.counts; sampler = sym sampler_is i })) (Ref v.root Kept) 0 adv noted Reply.Kept replied
+    let asked_is : start.asked ≡ old.asked = ap (λ (x : Desk). x.asked) start_is in
+    one_turn_same pool old start mid new may.desk may.asked (start_is ∙ (λ i. record old { seat = start.seat; counts = start.counts; sampler = sym sampler_is i; asked = sym asked_is i })) asked_is (Ref v.root Kept) 0 adv noted Reply.Kept refl replied
     (kept old.counts start.counts v.root lt less.counts) less.places (sym sampler_is) s (Command.Release name) state.names_are (omega arith) (omega arith) (omega arith) (λ to. omega arith)
-    (λ rest. used s old.names old.counts state name v bound lt (λ reply es. answer reply s.names es) (release_view old.shape s) (entry_of (Ref v.root Kept) ∷ rest) ∙ read_kept old.shape s v rest)
+    (reads_kept old.shape (lane_of old.seat) s old.names old.counts state name v bound lt)
 
 pub ended_carries : (lane : ℕ) (r : RootId) → Carries lane empty_hand (record empty_hand { token = Some r }) (Ref r Ended ∷ [])
 ended_carries lane r = record {
@@ -114,7 +157,10 @@ ended_turn pool name old start mid may start_is same seat v bound lt token is ho
           (subst (λ (q : RootId). Carries (lane_in (view_of old.seat)) empty_hand (record empty_hand { token = Some q }) (Ref r Ended ∷ [])) (sym is) (ended_carries (lane_in (view_of old.seat)) r)) may.desk.held;
     } in
     let sampler_is : start.sampler ≡ old.sampler = ap (λ (x : Desk). x.sampler) start_is in
-    let from_old = start_is ∙ (λ i. record old { seat = start.seat; counts = start.counts; sampler = sym sampler_is i }) in
+    let asked_is : start.asked ≡ old.asked = ap (λ (x : Desk). x.asked) start_is in
+    let from_old = start_is ∙ (λ i. record old { seat = start.seat; counts = start.counts; sampler = sym sampler_is i; asked = sym asked_is i }) in
+    let mid_asked : mid.asked ≡ old.asked = ap (λ (x : Desk). x.asked) noted.rest ∙ asked_is in
+    let lane = lane_of old.seat in let before : Reader Answer = reads_from old.shape lane s (Command.Release name) Ready in
     let seat_is : mid.seat ≡ start.seat = ap (λ (x : Desk). x.seat) noted.rest in
     let uncounted : HasCount r (view_of start.seat) → ⊥ = seat.counts.ended r (subst (λ (q : RootId). HasToken q (view_of start.seat)) is holds.token_is) in
     let last = last_count old.counts (view_of old.seat) (view_of start.seat) r 0 may.desk.counts may.desk.seat.alone grows uncounted in
@@ -122,13 +168,16 @@ ended_turn pool name old start mid may start_is same seat v bound lt token is ho
     record {
       added = Ref r Ended ∷ [];
       grew = mid_grew pool empty_hand after old start mid may.desk from_old (Ref r Ended ∷ []) 0 adv noted (ended old.counts start.counts r lt less.counts none) less.places (sym sampler_is);
-      fits = subst (λ x. HoldsToken x token) (sym seat_is) holds;
+      fits = (subst (λ x. HoldsToken x token) (sym seat_is) holds, (let a = mid_asked in let b = may.asked in omega (arith, a, b)));
       name = tt;
-      spends = subst (λ x. Spends (view_of old.seat) (view_of x) (notes_alone 6) (notes_alone 5)) (sym seat_is)
-          (spends (view_of old.seat) (view_of start.seat) (Ref r Ended ∷ []) 0 grows (notes_alone 6) (notes_alone 5) (omega arith) (omega arith) (omega arith) (λ to. omega arith));
-      comes = goes_on pool empty_hand after old start mid may.desk from_old (Ref r Ended ∷ []) 0 adv noted (omega arith) (reads_from old.shape (lane_of old.seat) s (Command.Release name) Ready) (reads_from old.shape (lane_of old.seat) s (Command.Release name) (Ending (RootEnds token)))
-          (λ rest. used s old.names old.counts state name v bound lt (λ reply es. answer reply s.names es) (release_view old.shape s) (entry_of (Ref r Ended) ∷ rest) ∙ read_ended old.shape s v rest
-          ∙ ap (λ (q : RootId). retire old.shape q rest >>= (λ (left : Entries). answer Reply.Freed s.names left)) (sym is));
+      spends = spends_at old mid (left_for (Command.Release name)) (notes_alone 5)
+          (subst (λ x. Spends (view_of old.seat) (view_of x) (left_for (Command.Release name)) (notes_alone 5)) (sym seat_is)
+          (spends (view_of old.seat) (view_of start.seat) (Ref r Ended ∷ []) 0 grows (left_for (Command.Release name)) (notes_alone 5) (omega arith) (omega arith) (omega arith) (λ to. omega arith)))
+          (let a = mid_asked in omega (arith, a));
+      comes = goes_on pool empty_hand after old start mid may.desk from_old (Ref r Ended ∷ []) 0 adv noted (omega arith) none_asked asked_is before (λ names. reads_from old.shape lane (renamed s names) (Command.Release name) (Ending (RootEnds token))) s.names state.names_are
+          (λ log.
+          then_on (answer_of old.shape lane s (Command.Release name)) (entry_of (Ref r Ended) ∷ []) none_asked (swept lane) (retired old.shape r >> give (answer Reply.Freed s.names)) (reads_ended old.shape lane s old.names old.counts state name v bound lt) log
+          ∙ ap (λ (q : RootId). (retired old.shape q >> give (answer Reply.Freed s.names) >>= swept lane) (behind log (entry_of (Ref r Ended) ∷ []) none_asked)) (sym is));
       waits = tt;
       held = tt;
     }
@@ -142,7 +191,7 @@ module _ (pool : SharedPool) (old : Desk) (d : IsDesk pool empty_hand old) (r : 
   pub counted_place : r.place < length old.counts
   counted_place = counted_within old.counts r lt
 
-  pub few_of : HasRoomFor old (left_with 1 0 1) → counted old.counts r < 4294967295
+  pub few_of : HasRoomFor old (left_with 1 0 0 1) → counted old.counts r < 4294967295
   few_of room = let a = few_counted old.counts (entries_of old) d.counts r in let b = length-map (notes_of old) entry_of in let e = room.few in omega (arith, a, b, e)
 
 -- of the root's place no other root is counted
@@ -173,35 +222,37 @@ has_retained pool old start mid r ds start_is same seat did noted more =
     }
 
 -- a slice that is retained
-read_slice : (s : LaneState) (fresh : ℕ) (v : ViewData) (at len : ℕ) (rest : Entries) → slice s fresh v at len true (entry_of (Ref v.root Retain) ∷ rest) ≡ answer Reply.Ok (bind fresh (slice_of v at len) s.names) rest
-read_slice s fresh v at len rest = rw (next_to-is v.root Retain (entry_of (Ref v.root Retain)) rest refl) refl
-
 pub slice_turn : (pool : SharedPool) (fresh name at len : ℕ) (old mid new : Desk) → MayTurn pool (left_for (Command.Slice fresh name at len true)) old → fresh < length old.names → (v : ViewData) → bound_at old.names name ≡ Some v → bound_at old.names fresh ≡ None → 0 < counted old.counts v.root → in_range v at len ≡ true →
     HasRetained pool old mid v.root → HasReplied (record mid { names = slice_set mid.names fresh (Some (slice_of v at len)) }) new Reply.Ok → (s : LaneState) → IsState s old.names old.counts → HasTurned pool old new s (Command.Slice fresh name at len true) Ready (Went Ready)
 slice_turn pool fresh name at len old mid new may in_names v bound none lt inside did replied s state =
     let start : Desk = record old { seat = mid.seat; counts = mid.counts } in
     let adv = ref_advances pool old start may.desk v.root Retain ((view_of old.seat).moves - 1) 1 did.same did.seat did.did (omega arith) refl refl refl in
-    let names_are : mid.names ≡ old.names = mid_names pool old start mid new may.desk refl (Ref v.root Retain) 1 adv did.noted in
+    let names_are : mid.names ≡ old.names = mid_names pool old start mid new may.desk may.asked refl refl (Ref v.root Retain) 1 adv did.noted in
     let w : ViewData = slice_of v at len in
-    one_turn pool old start mid new may.desk refl (Ref v.root Retain) 1 adv did.noted (slice_set mid.names fresh (Some w)) Reply.Ok replied
-    (retained old.counts mid.counts v.root lt did.counts.counts) did.counts.places refl (slice_set-length mid.names fresh (Some w) ∙ ap (λ (names : List (Option ViewData)). length names) names_are) s (Command.Slice fresh name at len true) (bind fresh w s.names)
-    (subst (λ (names : List (Option ViewData)). NamesAre (bind fresh w s.names) (slice_set names fresh (Some w))) (sym names_are) (NamesAre-bind s.names old.names state.names_are fresh w in_names))
+    let lane = lane_of old.seat in let e = entry_of (Ref v.root Retain) in
+    one_turn pool old start mid new may.desk may.asked refl refl (Ref v.root Retain) 1 adv did.noted (slice_set mid.names fresh (Some w)) Reply.Ok refl replied
+    (retained old.counts mid.counts v.root lt did.counts.counts) did.counts.places refl (slice_set-length mid.names fresh (Some w) ∙ ap (λ (names : List (Option ViewData)). length names) names_are) s (Command.Slice fresh name at len true) (bind fresh (Plain w) s.names)
+    (subst (λ (names : List (Option ViewData)). NamesAre (bind fresh (Plain w) s.names) (slice_set names fresh (Some w))) (sym names_are) (NamesAre-bind s.names old.names state.names_are fresh w in_names))
     (omega arith) (omega arith) (omega arith) (λ to. omega arith)
-    (λ rest. used_fresh s old.names old.counts state fresh name v bound none lt (λ w es. if in_range w at len then slice s fresh w at len true es else refuse s Reply.Range es) (entry_of (Ref v.root Retain) ∷ rest)
-    ∙ ap (λ (b : Bool). if b then slice s fresh v at len true (entry_of (Ref v.root Retain) ∷ rest) else refuse s Reply.Range (entry_of (Ref v.root Retain) ∷ rest)) inside
-    ∙ read_slice s fresh v at len rest)
+    (λ log.
+    goes s old.names old.counts state old.shape lane (Command.Slice fresh name at len true) (ranged_fresh s old.names old.counts state name (has_range at len) v bound fresh none lt inside) (before_left log (e ∷ []))
+    ∙ ap (λ (o : Option ViewData). (given o >>= slices) (before_left log (e ∷ []))) (viewed s old.names old.counts state name v bound)
+    ∙ given_on (step v.root says.retain) (e ∷ []) none_asked (λ _. give (answer Reply.Ok (bind fresh (Plain w) s.names))) tt (step_on e v.root says.retain Retain refl tt refl) log)
+  where
+    slices : ViewData → Reader Answer
+    slices view = step view.root says.retain >> give (answer Reply.Ok (bind fresh (Plain (slice_of view at len)) s.names))
 
 -- how the law reads a slice that isn't, one that leaves the view, and a duplicate
 module _ (shape : Shape) (lane : ℕ) (s : LaneState) (names : List (Option ViewData)) (cs : List Counted) (state : IsState s names cs) (fresh name : ℕ) (v : ViewData) (bound : bound_at names name ≡ Some v) (none : bound_at names fresh ≡ None) (lt : 0 < counted cs v.root) where
-  pub reads_slice : (at len : ℕ) (rest : Entries) → in_range v at len ≡ true → answer_of shape lane s (Command.Slice fresh name at len false) rest ≡ answer Reply.Ok (bind fresh (slice_of v at len) s.names) rest
-  reads_slice at len rest inside =
-      used_fresh s names cs state fresh name v bound none lt (λ w es. if in_range w at len then slice s fresh w at len false es else refuse s Reply.Range es) rest
-      ∙ ap (λ (b : Bool). if b then slice s fresh v at len false rest else refuse s Reply.Range rest) inside
+  pub reads_slice : (at len : ℕ) → in_range v at len ≡ true → (log : Log) → answer_of shape lane s (Command.Slice fresh name at len false) log ≡ Some (answer Reply.Ok (bind fresh (Plain (slice_of v at len)) s.names), log)
+  reads_slice at len inside log =
+      goes s names cs state shape lane (Command.Slice fresh name at len false) (ranged_fresh s names cs state name (has_range at len) v bound fresh none lt inside) log
+      ∙ ap (λ (o : Option ViewData). (given o >>= (λ view. nothing >> give (answer Reply.Ok (bind fresh (Plain (slice_of view at len)) s.names)))) log) (viewed s names cs state name v bound)
 
-  pub reads_range : (at len : ℕ) (kept : Bool) (rest : Entries) → in_range v at len ≡ false → answer_of shape lane s (Command.Slice fresh name at len kept) rest ≡ answer Reply.Range s.names rest
-  reads_range at len kept rest outside =
-      used_fresh s names cs state fresh name v bound none lt (λ w es. if in_range w at len then slice s fresh w at len kept es else refuse s Reply.Range es) rest
-      ∙ ap (λ (b : Bool). if b then slice s fresh v at len kept rest else refuse s Reply.Range rest) outside
+  pub reads_range : (at len : ℕ) (kept : Bool) → in_range v at len ≡ false → (log : Log) → answer_of shape lane s (Command.Slice fresh name at len kept) log ≡ Some (answer Reply.Range s.names, log)
+  reads_range at len kept outside = refuses s names cs state shape lane (Command.Slice fresh name at len kept) Reply.Range (unranged_fresh s names cs state name (has_range at len) v bound fresh none lt outside)
 
-  pub reads_duplicate : (rest : Entries) → answer_of shape lane s (Command.Dup fresh name) rest ≡ answer Reply.Ok (bind fresh v s.names) rest
-  reads_duplicate rest = used_fresh s names cs state fresh name v bound none lt (λ w es. answer Reply.Ok (bind fresh w s.names) es) rest
+  pub reads_duplicate : (log : Log) → answer_of shape lane s (Command.Dup fresh name) log ≡ Some (answer Reply.Ok (bind fresh (Plain v) s.names), log)
+  reads_duplicate log =
+      goes s names cs state shape lane (Command.Dup fresh name) (used_fresh s names cs state name v bound lt fresh none []) log
+      ∙ ap (λ (o : Option ViewData). (given o >>= (λ view. give (answer Reply.Ok (bind fresh (Plain view) s.names)))) log) (viewed s names cs state name v bound)

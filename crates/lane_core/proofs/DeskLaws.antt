@@ -1,7 +1,7 @@
 -- A desk behind a step of its seat, the notes of that step and an answer: it is a desk again, and what
 -- it turned.
-use Rattle.std.proofs.Common.{◌≡◌, ℕ, ◌+◌, ◌-◌, ◌<◌, ◌≤◌, List, [], ◌∷◌, ◌++◌, false, length, map, refl, sym, ap, ◌∙◌, subst, arith, Option, append-nil, length-append}
-use Rattle.std.specs.Prelude.{vec_capacity, unwrap_or}
+use Rattle.std.proofs.Common.{◌≡◌, ℕ, ◌+◌, ◌-◌, ◌<◌, ◌≤◌, List, [], ◌∷◌, ◌++◌, false, length, map, refl, sym, ap, ◌∙◌, subst, arith, Option, Some, append-nil, length-append}
+use Rattle.std.specs.Prelude.{vec_capacity, unwrap_or, option_and_then}
 use Rattle.std.proofs.lemmas.List.{map-append, length-map}
 use Rattle.step_law.specs.declared.Told.{Ghosts}
 use Rattle.pool_law.specs.declared.command.Command.{Command}
@@ -13,8 +13,11 @@ use Rattle.pool_law.specs.declared.note.Noted.{Noted}
 use Rattle.pool_law.specs.declared.note.Object.{Object}
 use Rattle.pool_law.specs.declared.note.RefDid.{RefDid}
 use Rattle.pool_law.specs.declared.run.Reply.{Reply}
-use Rattle.pool_law.specs.Lanes.{LaneState, Bound, Answers, answer}
-use Rattle.pool_law.specs.Patterns.{Entries}
+use Rattle.pool_law.specs.LaneLaw.{sweep_period, before_stop}
+use Rattle.pool_law.specs.LaneStates.{LaneState}
+use Rattle.pool_law.specs.Lanes.{Answer, answer, answer_of}
+use Rattle.pool_law.specs.Names.{Names}
+use Rattle.pool_law.specs.Readers.{Entries, Log, Reader, ◌>>=◌, give}
 use Rattle.leak_records.specs.Records.{Sampling, new_sampler}
 use Rattle.pool_table.specs.declared.table.PoolSeat.{PoolSeat}
 use Rattle.pool_table.specs.declared.views.Entry.{Entry}
@@ -33,16 +36,18 @@ use Rattle.lane_core.specs.declared.desk.Desk.{Desk}
 use Rattle.lane_core.specs.declared.desk.Stage.{Stage}
 use Rattle.lane_core.specs.declared.desk.Stage.TheVariants.{Ready}
 use Rattle.lane_core.specs.declared.desk.Turn.TheVariants.{Went, Pending, Waiting}
-use Rattle.lane_core.specs.Budgets.{Left, Spends, notes_alone}
+use Rattle.lane_core.specs.Budgets.{Left, Spends, notes_alone, with_sheds}
 use Rattle.lane_core.specs.Counting.{CountsAre}
 use Rattle.lane_core.specs.Hands.{Hand, empty_hand, IsHeld}
 use Rattle.lane_core.specs.Logs.{HasWritten}
 use Rattle.lane_core.specs.Named.{NamesAre}
 use Rattle.lane_core.specs.Sampled.{AreSampled, sampler_after}
-use Rattle.lane_core.specs.Desks.{IsDesk, notes_of, entries_of, reads_from, left_at, DeskGrew, GoesOn, HasRoomFor, ReceivesFrom, HasTurned}
+use Rattle.lane_core.specs.Desks.{IsDesk, notes_of, entries_of, log_of, reads_from, left_for, left_now, DeskGrew, GoesOn, Waits, SpendsAt, HasRoomFor, ReceivesFrom, HasTurned}
+use Rattle.lane_core.specs.Readings.{before_left, behind, ReadsOn, none_asked, swept}
 use Rattle.lane_core.specs.DeskSteps.{HasNoted, HasReplied, CanAnswer, MayTurn}
 use Rattle.lane_core.proofs.Grown.{Grows, spends}
 use Rattle.lane_core.proofs.EntryCounts.{Recounts, recounted, none_recounted}
+use Rattle.lane_core.proofs.ReadLaws.{given_on, unswept}
 
 pub sampled_append : (first mid last : Sampling) (xs ys : List Entry) → AreSampled first xs mid → AreSampled mid ys last → AreSampled first (xs ++ ys) last
 sampled_append first mid last [] ys a b = subst (λ (s : Sampling). AreSampled s ys last) (sym a) b
@@ -121,9 +126,9 @@ module _ (pool : SharedPool) (left : Left) (old : Desk) (may : MayTurn pool left
   pub note_room : length old.notes.items < vec_capacity old.notes
   note_room = room_to_note pool left old may.desk may.room some
 
-  pub can_answer_noted : (start mid : Desk) (note : Note) → HasNoted start mid (note ∷ []) → start ≡ record old { seat = start.seat; counts = start.counts; sampler = start.sampler } → CanAnswer mid
+  pub can_answer_noted : (start mid : Desk) (note : Note) → HasNoted start mid (note ∷ []) → start ≡ record old { seat = start.seat; counts = start.counts; sampler = start.sampler; asked = start.asked } → CanAnswer mid
   can_answer_noted start mid note noted start_is =
-      let path : mid ≡ record old { seat = start.seat; counts = start.counts; sampler = start.sampler; notes = mid.notes } = noted.rest ∙ ap (λ (x : Desk). record x { notes = mid.notes }) start_is in
+      let path : mid ≡ record old { seat = start.seat; counts = start.counts; sampler = start.sampler; notes = mid.notes; asked = start.asked } = noted.rest ∙ ap (λ (x : Desk). record x { notes = mid.notes }) start_is in
       let a = noted_length pool left old may.desk may.room some in let b = may.room.few in
       let c = ap (λ (ns : List Note). length ns) noted.log in let d = length-append start.notes.items (note ∷ []) in
       let e = ap (λ (x : Desk). length x.notes.items) start_is in let g = may.desk.begun in
@@ -134,7 +139,32 @@ module _ (pool : SharedPool) (left : Left) (old : Desk) (may : MayTurn pool left
         room = subst (λ (x : Desk). length x.replies.items < vec_capacity x.replies) (sym path) may.replies;
       }
 
-module _ (pool : SharedPool) (hand after : Hand) (old start mid : Desk) (d : IsDesk pool hand old) (start_is : start ≡ record old { seat = start.seat; counts = start.counts; sampler = start.sampler }) (added : List Entry) (spent : ℕ)
+-- ---- The log as a desk has read it.
+
+-- the entries of a desk that noted more
+pub entries_more : (old new : Desk) (added : List Entry) → notes_of new ≡ notes_of old ++ added → entries_of new ≡ entries_of old ++ map entry_of added
+entries_more old new added more = ap (map entry_of) more ∙ map-append entry_of (notes_of old) added
+
+-- what is read over them goes from the one desk's log to the other's
+pub reads_at : (old new : Desk) (es : Entries) (asks : ℕ → ℕ) → entries_of new ≡ entries_of old ++ es → new.asked ≡ asks old.asked → {A : Type 0} (before after : Reader A) → ReadsOn before es asks after →
+    (rest : Entries) → before (log_of old (es ++ rest)) ≡ after (log_of new rest)
+reads_at old new es asks more asked before after on rest =
+    on (log_of old rest) ∙ (λ i. after (record { seen = sym more i; asked = sym asked i; left = rest }))
+
+-- ---- What a turn spends.
+
+-- what a seat spent, a desk did that began no sweep
+pub spends_at : (old new : Desk) (before after : Left) → Spends (view_of old.seat) (view_of new.seat) before after → after.asks + new.asked ≤ before.asks + old.asked →
+    SpendsAt old new (with_sheds (view_of old.seat) before) (with_sheds (view_of new.seat) after)
+spends_at old new before after spent asks = record {
+  sweeps = 0;
+  notes = (let a = spent.notes in let b = spent.takes in omega (arith, a, b));
+  asks = omega (arith, asks);
+  moves = spent.moves;
+  sends = spent.sends;
+}
+
+module _ (pool : SharedPool) (hand after : Hand) (old start mid : Desk) (d : IsDesk pool hand old) (start_is : start ≡ record old { seat = start.seat; counts = start.counts; sampler = start.sampler; asked = start.asked }) (added : List Entry) (spent : ℕ)
     (adv : Advances pool old.seat start.seat after added spent) (noted : HasNoted start mid (map note_of added)) where
   pub log_is : mid.notes.items ≡ map note_of (notes_of start)
   log_is =
@@ -149,15 +179,15 @@ module _ (pool : SharedPool) (hand after : Hand) (old start mid : Desk) (d : IsD
   pub lengthened : length (notes_of start) ≡ length (notes_of old) + length added
   lengthened = ap (λ (es : List Entry). length es) adv.grows.more.notes ∙ length-append (notes_of old) added
 
-  pub mid_is : mid ≡ record old { seat = start.seat; counts = start.counts; sampler = start.sampler; notes = mid.notes }
+  pub mid_is : mid ≡ record old { seat = start.seat; counts = start.counts; sampler = start.sampler; notes = mid.notes; asked = start.asked }
   mid_is = noted.rest ∙ ap (λ (x : Desk). record x { notes = mid.notes }) start_is
 
   -- with these names, counts and replies it is a desk that grew by the entries
-  module _ (final : Desk) (is : final ≡ record old { seat = start.seat; names = final.names; counts = final.counts; sampler = start.sampler; notes = mid.notes; replies = final.replies; begun = final.begun })
+  module _ (final : Desk) (is : final ≡ record old { seat = start.seat; names = final.names; counts = final.counts; sampler = start.sampler; notes = mid.notes; replies = final.replies; begun = final.begun; asked = final.asked })
       (recounts : Recounts old.counts final.counts (map entry_of added)) (places : length final.counts ≡ length old.counts) (sampled : AreSampled old.sampler added start.sampler)
       (begun : final.begun ≤ length (notes_of start)) (replies_room : vec_capacity old.replies ≤ vec_capacity final.replies) (name_count : length final.names ≡ length old.names) where
     abbrev made : Desk
-    made = record old { seat = start.seat; names = final.names; counts = final.counts; sampler = start.sampler; notes = mid.notes; replies = final.replies; begun = final.begun }
+    made = record old { seat = start.seat; names = final.names; counts = final.counts; sampler = start.sampler; notes = mid.notes; replies = final.replies; begun = final.begun; asked = final.asked }
 
     made_desk : IsDesk pool after made
     made_desk = record {
@@ -200,6 +230,7 @@ module _ (pool : SharedPool) (hand after : Hand) (old start mid : Desk) (d : IsD
         notes = mid.notes;
         replies = sym (ap (λ (x : Desk). x.replies) mid_is) i;
         begun = sym (ap (λ (x : Desk). x.begun) mid_is) i;
+        asked = sym (ap (λ (x : Desk). x.asked) mid_is) i;
       }))
       (subst (λ (cs : List Counted). Recounts old.counts cs (map entry_of added)) (sym counts_are) recounts)
       (ap (λ (cs : List Counted). length cs) counts_are ∙ places)
@@ -208,48 +239,69 @@ module _ (pool : SharedPool) (hand after : Hand) (old start mid : Desk) (d : IsD
       (let a = ap (λ (x : Desk). vec_capacity x.replies) mid_is in omega (arith, a))
       (ap (λ (x : Desk). length x.names) mid_is)
 
-  pub goes_on : 0 < length added → (before behind : Entries → Answers) → ((rest : Entries) → before (map entry_of added ++ rest) ≡ behind rest) → GoesOn old mid added before behind
-  goes_on some before behind reads = record {
+  pub mid_asked : mid.asked ≡ start.asked
+  mid_asked = ap (λ (x : Desk). x.asked) mid_is
+
+  -- what the law reads of the entries at the desk
+  pub goes_on : 0 < length added → (asks : ℕ → ℕ) → start.asked ≡ asks old.asked → (before : Reader Answer) (behind : Names → Reader Answer) (bound : Names) → NamesAre bound old.names → ReadsOn before (map entry_of added) asks (behind bound) → GoesOn old mid added before behind
+  goes_on some asks asked before behind bound are reads = record {
     some = some;
     replies = ap (λ (x : Desk). x.replies.items) mid_is;
-    names = ap (λ (x : Desk). x.names) mid_is;
     begun = ap (λ (x : Desk). x.begun) mid_is;
-    reads = reads;
+    bound = bound;
+    names = subst (NamesAre bound) (sym (ap (λ (x : Desk). x.names) mid_is)) are;
+    reads = reads_at old mid (map entry_of added) asks (entries_more old mid added (ap (λ (x : Desk). notes_of x) mid_is ∙ adv.grows.more.notes)) (mid_asked ∙ asked) before (behind bound) reads;
   }
 
   -- and an answer
   module _ (new : Desk) (names : List (Option ViewData)) (cs : List Counted) (reply : Reply) (replied : HasReplied (record mid { names = names; counts = cs }) new reply) where
-    new_is : new ≡ record old { seat = start.seat; names = names; counts = cs; sampler = start.sampler; notes = mid.notes; replies = new.replies; begun = length mid.notes.items }
+    new_is : new ≡ record old { seat = start.seat; names = names; counts = cs; sampler = start.sampler; notes = mid.notes; replies = new.replies; begun = length mid.notes.items; asked = start.asked }
     new_is = replied.rest ∙ ap (λ (x : Desk). record x { names = names; counts = cs; replies = new.replies; begun = length mid.notes.items }) mid_is
 
     abbrev answered_desk : Desk
-    answered_desk = record old { seat = start.seat; names = names; counts = cs; sampler = start.sampler; notes = mid.notes; replies = new.replies; begun = length mid.notes.items }
+    answered_desk = record old { seat = start.seat; names = names; counts = cs; sampler = start.sampler; notes = mid.notes; replies = new.replies; begun = length mid.notes.items; asked = start.asked }
 
     pub answered : after ≡ empty_hand → Recounts old.counts cs (map entry_of added) → length cs ≡ length old.counts → AreSampled old.sampler added start.sampler → length names ≡ length old.names →
-        (s : LaneState) (command : Command) (stage : Stage) (bindings : List (ℕ × Bound)) → NamesAre bindings names → Spends (view_of old.seat) (view_of start.seat) (left_at command stage) (notes_alone 0) →
-        ((rest : Entries) → reads_from old.shape (lane_of old.seat) s command stage (map entry_of added ++ rest) ≡ answer reply bindings rest) → HasTurned pool old new s command stage (Went Ready)
-    answered empty recounts places sampled name_count s command stage bindings are spent_all reads =
+        (s : LaneState) (command : Command) (stage : Stage) (bound : Names) → NamesAre bound names → before_stop (reply ∷ []) ≡ 1 → start.asked < sweep_period →
+        SpendsAt old answered_desk (left_now command stage (view_of old.seat)) (with_sheds (view_of start.seat) (notes_alone 0)) →
+        ((rest : Entries) → reads_from old.shape (lane_of old.seat) s command stage (log_of old (map entry_of added ++ rest)) ≡ Some (answer reply bound, log_of answered_desk rest)) → HasTurned pool old new s command stage (Went Ready)
+    answered empty recounts places sampled name_count s command stage bound are unstopped low spent_all reads =
         subst (λ (x : Desk). HasTurned pool old x s command stage (Went Ready)) (sym new_is)
         (record {
           added = added;
           grew =
               subst (λ (h : Hand). DeskGrew pool h old answered_desk added) empty
               (grew answered_desk refl recounts places sampled (let a = length_is in omega (arith, a)) (subst (λ (n : ℕ). n ≤ vec_capacity new.replies) (ap (λ (x : Desk). vec_capacity x.replies) mid_is) replied.room) name_count);
-          fits = tt;
+          fits = low;
           name = tt;
           spends = spent_all;
           comes = record {
             answered = record { reply = reply; notes = length mid.notes.items - old.begun };
             replies = replied.replies ∙ ap (λ (x : Desk). x.replies.items ++ record { reply = reply; notes = length mid.notes.items - x.begun } ∷ []) mid_is;
+            unstopped = unstopped;
             notes = (let a = length_is in let b = lengthened in let c = d.begun in omega (arith, a, b, c));
             begun = length_is;
-            bindings = bindings;
+            bound = bound;
             names = are;
             reads = reads;
           };
           waits = tt;
           held = tt;
         })
+
+    -- what the law reads of the entries, up to the answer
+    pub answer_reads : (asks : ℕ → ℕ) → start.asked ≡ asks old.asked → (before : Reader Answer) (bound : Names) → ReadsOn before (map entry_of added) asks (give (answer reply bound)) →
+        (rest : Entries) → before (log_of old (map entry_of added ++ rest)) ≡ Some (answer reply bound, log_of answered_desk rest)
+    answer_reads asks asked before bound reads =
+        reads_at old answered_desk (map entry_of added) asks (entries_more old answered_desk added adv.grows.more.notes) asked before (give (answer reply bound)) reads
+
+    -- and where no sweep is due behind it
+    pub swept_reads : (asks : ℕ → ℕ) → start.asked ≡ asks old.asked → start.asked < sweep_period → (body : Reader Answer) (bound : Names) → ReadsOn body (map entry_of added) asks (give (answer reply bound)) →
+        (rest : Entries) → (body >>= swept (lane_of old.seat)) (log_of old (map entry_of added ++ rest)) ≡ Some (answer reply bound, log_of answered_desk rest)
+    swept_reads asks asked low body bound reads rest =
+        reads_at old answered_desk (map entry_of added) asks (entries_more old answered_desk added adv.grows.more.notes) asked (body >>= swept (lane_of old.seat)) (swept (lane_of old.seat) (answer reply bound))
+        (given_on body (map entry_of added) asks (swept (lane_of old.seat)) (answer reply bound) reads) rest
+        ∙ unswept (lane_of old.seat) (answer reply bound) (log_of answered_desk rest) low
 
 -- what was written into the log was noted
 pub noted_so : (start mid : Desk) (notes : List Note) → HasWritten start.notes mid.notes notes → mid ≡ record start { notes = mid.notes } → HasNoted start mid notes
@@ -261,8 +313,11 @@ module _ (pool : SharedPool) (old start : Desk) (d : IsDesk pool empty_hand old)
   unspent : (left : Left) → Spends (view_of old.seat) (view_of start.seat) left left
   unspent left = spends (view_of old.seat) (view_of start.seat) [] 0 adv.grows left left (omega arith) (omega arith) (omega arith) (λ to. omega arith)
 
-  same_start : start ≡ record old { seat = start.seat; counts = start.counts; sampler = start.sampler }
-  same_start = start_is ∙ (λ i. record old { seat = start.seat; counts = sym (ap (λ (x : Desk). x.counts) start_is) i; sampler = sym (ap (λ (x : Desk). x.sampler) start_is) i })
+  same_start : start ≡ record old { seat = start.seat; counts = start.counts; sampler = start.sampler; asked = start.asked }
+  same_start = start_is ∙ (λ i. record old { seat = start.seat; counts = sym (ap (λ (x : Desk). x.counts) start_is) i; sampler = sym (ap (λ (x : Desk). x.sampler) start_is) i; asked = sym (ap (λ (x : Desk). x.asked) start_is) i })
+
+  same_asked : start.asked ≡ old.asked
+  same_asked = ap (λ (x : Desk). x.asked) start_is
 
   still_noted : HasNoted start start []
   still_noted = record { log = sym (append-nil start.notes.items); room = omega arith; rest = refl }
@@ -278,6 +333,7 @@ module _ (pool : SharedPool) (old start : Desk) (d : IsDesk pool empty_hand old)
         notes = sym (ap (λ (x : Desk). x.notes) start_is) i;
         replies = sym (ap (λ (x : Desk). x.replies) start_is) i;
         begun = sym (ap (λ (x : Desk). x.begun) start_is) i;
+        asked = sym same_asked i;
       }))
       (subst (λ (cs : List Counted). Recounts old.counts cs []) (sym (ap (λ (x : Desk). x.counts) start_is)) (none_recounted old.counts))
       (ap (λ (x : Desk). length x.counts) start_is)
@@ -286,33 +342,45 @@ module _ (pool : SharedPool) (old start : Desk) (d : IsDesk pool empty_hand old)
       (let a = ap (λ (x : Desk). vec_capacity x.replies) start_is in omega (arith, a))
       (ap (λ (x : Desk). length x.names) start_is)
 
-  pub pending : (held : Held) → FoundBusy pool held.object false old.seat start.seat held → (s : LaneState) (command : Command) → HasTurned pool old start s command Ready (Pending held Ready)
-  pending held found s command = record {
+  still_waits : Waits old start []
+  still_waits = record {
+    none = refl;
+    replies = ap (λ (x : Desk). x.replies.items) start_is;
+    names = ap (λ (x : Desk). x.names) start_is;
+    begun = ap (λ (x : Desk). x.begun) start_is;
+    asked = same_asked;
+  }
+
+  still_spent : (command : Command) → SpendsAt old start (left_now command Ready (view_of old.seat)) (left_now command Ready (view_of start.seat))
+  still_spent command = spends_at old start (left_for command) (left_for command) (unspent (left_for command)) (let a = same_asked in omega (arith, a))
+
+  pub pending : old.asked < sweep_period → (held : Held) → FoundBusy pool held.object false old.seat start.seat held → (s : LaneState) (command : Command) → HasTurned pool old start s command Ready (Pending held Ready)
+  pending low held found s command = record {
     added = [];
     grew = unmoved;
-    fits = tt;
+    fits = (let a = same_asked in omega (arith, a, low));
     name = tt;
-    spends = unspent (left_at command Ready);
-    comes = (refl, (refl, ap (λ (x : Desk). x.replies.items) start_is, ap (λ (x : Desk). x.names) start_is, ap (λ (x : Desk). x.begun) start_is));
+    spends = still_spent command;
+    comes = (refl, still_waits);
     waits = tt;
     held = found;
   }
 
-  pub waiting : (sender : ℕ) (s : LaneState) (command : Command) → ReceivesFrom command sender → IsDrained pool sender old.seat → HasTurned pool old start s command Ready (Waiting sender)
-  waiting sender s command receives drained = record {
+  pub waiting : old.asked < sweep_period → (sender : ℕ) (s : LaneState) (command : Command) → ReceivesFrom command sender → IsDrained pool sender old.seat → HasTurned pool old start s command Ready (Waiting sender)
+  waiting low sender s command receives drained = record {
     added = [];
     grew = unmoved;
-    fits = tt;
+    fits = (let a = same_asked in omega (arith, a, low));
     name = tt;
-    spends = unspent (left_at command Ready);
-    comes = (refl, (refl, ap (λ (x : Desk). x.replies.items) start_is, ap (λ (x : Desk). x.names) start_is, ap (λ (x : Desk). x.begun) start_is));
+    spends = still_spent command;
+    comes = (refl, still_waits);
     waits = (receives, drained);
     held = tt;
   }
 
 -- a command that found another seat there waits
-pub waits_turn : (pool : SharedPool) (old start : Desk) → IsDesk pool empty_hand old → start ≡ record old { seat = start.seat } → SameSeat old.seat start.seat → IsPoolSeat pool start.seat → (object : Object) (held : Held) → FoundBusy pool object false old.seat start.seat held →
+pub waits_turn : (pool : SharedPool) (old start : Desk) → old.asked < sweep_period → IsDesk pool empty_hand old → start ≡ record old { seat = start.seat } → SameSeat old.seat start.seat → IsPoolSeat pool start.seat → (object : Object) (held : Held) → FoundBusy pool object false old.seat start.seat held →
     (s : LaneState) (command : Command) → HasTurned pool old start s command Ready (Pending held Ready)
-waits_turn pool old start d start_is same seat object held found s command =
-    pending pool old start d start_is (advances_none pool old.seat start.seat empty_hand d.seat d.held same seat found.marked) held
+waits_turn pool old start low d start_is same seat object held found s command =
+    pending pool old start d start_is (advances_none pool old.seat start.seat empty_hand d.seat d.held same seat found.marked) low held
     (subst (λ (o : Object). FoundBusy pool o false old.seat start.seat held) (sym found.object) found) s command

@@ -1,5 +1,6 @@
 -- The steps of the end of a root, by what the pool answered.
 use Rattle.std.proofs.Common.{◌≡◌, ℕ, ◌<◌, ◌≤◌, List, [], ◌∷◌, true, false, refl, sym, ap, ◌∙◌, subst, arith}
+use Rattle.std.specs.Prelude.{map}
 use Rattle.std.specs.Global.{Vec}
 use Rattle.step_law.specs.declared.Told.{Ghosts}
 use Rattle.pool_law.specs.declared.id.Region.{Region}
@@ -40,7 +41,9 @@ use Rattle.lane_core.proofs.HandLaws.{held_on, handle_goes, region_given, region
 use Rattle.lane_core.proofs.Holds.{is_handle, is_region, region_stays}
 use Rattle.lane_core.proofs.LogLaws.{wrote_none}
 use Rattle.lane_core.proofs.OneNote.{wrote_note, wrote_mark, wrote_nothing, found_there}
-use Rattle.lane_core.proofs.Readings.{read_end, put_cached, put_uncached, read_kept, read_back, read_away_busy, read_given, read_gone}
+use Rattle.lane_core.specs.Readings.{behind, none_asked}
+use Rattle.lane_core.proofs.ReadLaws.{still_on}
+use Rattle.lane_core.proofs.Readings.{read_end, put_uncached, read_kept, read_back, read_away_busy, read_given, read_gone}
 
 -- each stage has a note left
 pub end_left : (stage : Ending) → 1 ≤ (left_of stage).notes
@@ -72,8 +75,8 @@ module _ {G : Ghosts HomeValue Noted} (pool : SharedPool) (old new : PoolSeat Ho
           record {
             written = note ∷ [];
             log = adds;
-            wrote = λ sampler. wrote_note pool old new may.seat_is is same sampler (rest_of shape (AskCache r h)) (rest_after shape (More (Home h))) o number n note noted it (tt, refl)
-                (λ rest. read_kept shape h.place number (entry_of e) rest r.id refl);
+            wrote = λ sampler. wrote_note pool old new may.seat_is is same sampler (rest_of shape (AskCache r h)) none_asked (rest_after shape (More (Home h))) o number n note noted it (tt, refl)
+                (read_kept shape h.place number (entry_of e) r.id may.fits.2 refl);
             hand = held_on v w (e ∷ []) 0 (hand_of (AskCache r h)) (hand_of (Home h)) grows (region_kept lane number v.own.number (hand_of (Home h)) r.id.owner r.id.class r.id) may.hand;
             fits = may.fits.0;
             again = omega arith;
@@ -89,8 +92,8 @@ module _ {G : Ghosts HomeValue Noted} (pool : SharedPool) (old new : PoolSeat Ho
           record {
             written = note ∷ [];
             log = adds;
-            wrote = λ sampler. wrote_note pool old new may.seat_is is same sampler (rest_of shape (AskCache r h)) (rest_after shape (More (AskArena r h))) o number n note noted it (tt, refl)
-                (λ rest. read_back shape h.place number (entry_of e) rest r.id why refl);
+            wrote = λ sampler. wrote_note pool old new may.seat_is is same sampler (rest_of shape (AskCache r h)) none_asked (rest_after shape (More (AskArena r h))) o number n note noted it (tt, refl)
+                (read_back shape h.place number (entry_of e) r.id may.fits.2 why refl);
             hand = held_on v w (e ∷ []) 0 (hand_of (AskCache r h)) (hand_of (AskArena r h)) grows (region_back lane number v.own.number (hand_of (AskCache r h)) r.id.owner r.id.class r.id why) may.hand;
             fits = (may.fits.0, region_stays pool old new r grows.more.setting may.fits.1);
             again = omega arith;
@@ -106,8 +109,8 @@ module _ {G : Ghosts HomeValue Noted} (pool : SharedPool) (old new : PoolSeat Ho
           record {
             written = note ∷ [];
             log = adds;
-            wrote = λ sampler. wrote_note pool old new may.seat_is is same sampler (rest_of shape (AskArena r h)) (rest_after shape (More (Home h))) o number n note noted it (tt, refl)
-                (λ rest. read_given shape h.place number (entry_of e) rest r.id refl);
+            wrote = λ sampler. wrote_note pool old new may.seat_is is same sampler (rest_of shape (AskArena r h)) none_asked (rest_after shape (More (Home h))) o number n note noted it (tt, refl)
+                (read_given shape h.place number (entry_of e) r.id refl);
             hand = held_on v w (e ∷ []) 0 (hand_of (AskArena r h)) (hand_of (Home h)) grows (region_given lane number v.own.number (hand_of (Home h)) r.id.place.arena r.id) may.hand;
             fits = may.fits.0;
             again = omega arith;
@@ -122,8 +125,8 @@ module _ {G : Ghosts HomeValue Noted} (pool : SharedPool) (old new : PoolSeat Ho
         record {
           written = note ∷ [];
           log = adds;
-          wrote = λ sampler. wrote_note pool old new may.seat_is is same sampler (rest_of shape (Home h)) (rest_after shape Done) o number n note noted it (tt, refl)
-              (λ rest. read_gone shape h.place number (entry_of e) rest h.lane may.fits.lane refl);
+          wrote = λ sampler. wrote_note pool old new may.seat_is is same sampler (rest_of shape (Home h)) none_asked (rest_after shape Done) o number n note noted it (tt, refl)
+              (read_gone shape h.place number (entry_of e) h.lane may.fits.lane refl);
           hand = held_on v w (e ∷ []) 0 (hand_of (Home h)) empty_hand grows (handle_goes lane number v.own.number (hand_of (Home h)) h.lane h.place) may.hand;
           fits = tt;
           again = omega arith;
@@ -139,8 +142,8 @@ module _ {G : Ghosts HomeValue Noted} (pool : SharedPool) (old new : PoolSeat Ho
       record {
         written = Note.Busy held ∷ [];
         log = adds;
-        wrote = λ sampler. wrote_mark pool old new may.seat_is is same sampler (rest_of shape (AskCache r h)) (rest_after shape (More (AskArena r h))) o held found
-            (λ rest. read_away_busy shape h.place 0 (entry_of (Busy held)) rest r.id held found.object refl);
+        wrote = λ sampler. wrote_mark pool old new may.seat_is is same sampler (rest_of shape (AskCache r h)) none_asked (rest_after shape (More (AskArena r h))) o held found
+            (read_away_busy shape h.place 0 (entry_of (Busy held)) r.id may.fits.2 held found.object refl);
         hand = held_on v w (Busy held ∷ []) 0 (hand_of (AskCache r h)) (hand_of (AskArena r h)) grows (marked_busy lane 0 v.own.number (hand_of (AskCache r h)) held) may.hand;
         fits = (may.fits.0, region_stays pool old new r grows.more.setting may.fits.1);
         again = omega arith;
@@ -174,7 +177,7 @@ module _ {G : Ghosts HomeValue Noted} (pool : SharedPool) (old new : PoolSeat Ho
         more = grows.more;
         noted = λ i. sym it i ∷ sym next_it i ∷ [];
         sampled = (tt, refl);
-        read = λ rest. read_end shape h.place number (entry_of e) rest token.root r.id (entry_of (Ref token.root Vacated)) at refl refl refl ∙ put_cached shape h.place number (entry_of e) rest r.id less;
+        read = read_end shape h.place number (entry_of e) token.root r.id (entry_of (Ref token.root Vacated)) at refl refl refl;
       };
       hand = held_on v w es 0 (hand_of (EndRoot token)) (hand_of (AskCache r h)) grows (both_come lane number v.own.number empty_hand token.root r.id h.place at) may.hand;
       fits = (is_handle pool new h handle, is_region pool new r holds, less);
@@ -194,7 +197,9 @@ module _ {G : Ghosts HomeValue Noted} (pool : SharedPool) (old new : PoolSeat Ho
         more = grows.more;
         noted = λ i. sym it i ∷ sym next_it i ∷ [];
         sampled = (tt, refl);
-        read = λ rest. read_end shape h.place number (entry_of e) rest token.root r.id (entry_of (Ref token.root Vacated)) at refl refl refl ∙ put_uncached shape h.place number (entry_of e) rest r.id more;
+        read = λ log.
+            read_end shape h.place number (entry_of e) token.root r.id (entry_of (Ref token.root Vacated)) at refl refl refl log
+            ∙ put_uncached shape h.place number (entry_of e) r.id more (behind log (map entry_of es) none_asked);
       };
       hand = held_on v w es 0 (hand_of (EndRoot token)) (hand_of (AskArena r h)) grows (both_come lane number v.own.number empty_hand token.root r.id h.place at) may.hand;
       fits = (is_handle pool new h handle, is_region pool new r holds);
@@ -211,7 +216,7 @@ module _ {G : Ghosts HomeValue Noted} (pool : SharedPool) (old new : PoolSeat Ho
       (record {
         written = [];
         log = wrote_none log;
-        wrote = λ sampler. wrote_nothing pool old new may.seat_is is same sampler (rest_of shape stage) (rest_of shape stage) o held found (λ rest. refl);
+        wrote = λ sampler. wrote_nothing pool old new may.seat_is is same sampler (rest_of shape stage) none_asked (rest_of shape stage) o held found (still_on (rest_of shape stage));
         hand = subst (λ (x : SeatView). IsHeld (hand_of stage) x) (sym (ap (λ m. m.0) found.marked)) may.hand;
         fits = fits;
         again = (refl, refl, found_there pool old new may.seat_is is same o false held found);

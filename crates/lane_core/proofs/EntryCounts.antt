@@ -12,7 +12,7 @@ use Rattle.pool_law.specs.declared.note.Object.{Object}
 use Rattle.pool_law.specs.declared.note.RefDid.{RefDid}
 use Rattle.pool_law.specs.declared.note.RefDid.TheVariants.{Born, Retain, Kept, Ended, Vacated, Look}
 use Rattle.pool_law.specs.Counts.{view_is_of, root_is, ref_gains, ref_loses, ref_needs, note_gains, note_loses, note_needs, needs_count, ends_root, count_step, count_from, count_of, CountsHold}
-use Rattle.pool_law.specs.Patterns.{Entries}
+use Rattle.pool_law.specs.Readers.{Entries}
 use Rattle.pool_law.specs.Logs.{Entry as LawEntry}
 use Rattle.pool_law.specs.Same.{same_root}
 use Rattle.pool_law.proofs.SameLemmas.{same_root-is}

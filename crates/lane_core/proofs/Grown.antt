@@ -26,6 +26,7 @@ use Rattle.shared_pool.specs.RootNotes.{IsNotedWith}
 use Rattle.shared_pool.specs.Seats.{IsPoolSeat, IsNoted, FoundBusy}
 use Rattle.lane_core.specs.Budgets.{Left, Spends, takes, lane_in}
 use Rattle.lane_core.specs.Wrote.{HasMore}
+use Rattle.lane_core.proofs.Outs.{all_out_now}
 
 -- the view has these entries more, no part but its own, and spent at most so many moves
 pub record Grows (v w : SeatView) (added : List Entry) (spent : ℕ) : Type 0 where
@@ -61,7 +62,7 @@ module _ (v w : SeatView) (added : List Entry) (spent : ℕ) (grows : Grows v w 
   spends before after notes taken moves sends =
       record {
         notes = (let a = ap (λ (es : List Entry). length es) grows.more.notes in let b = length-append v.own.notes added in omega (arith, a, b, notes));
-        takes = (let a = own_more takes in omega (arith, a, taken));
+        takes = (let a = all_out_now v w added grows.more in omega (arith, a, taken));
         moves = (let a = grows.moves in omega (arith, a, moves));
         sends = λ to. (let a = posted to in let b = sends to in omega (arith, a, b));
       }

@@ -1,5 +1,5 @@
 -- What a seat has in hand behind its next entries.
-use Rattle.std.proofs.Common.{◌≡◌, ℕ, ◌+◌, ◌-◌, List, [], ◌∷◌, ◌++◌, Bool, true, false, cond, refl, ap, ◌∙◌, arith}
+use Rattle.std.proofs.Common.{◌≡◌, ℕ, ◌+◌, ◌-◌, List, [], ◌∷◌, ◌++◌, Bool, true, false, cond, refl, sym, ap, ◌∙◌, arith}
 use Rattle.std.specs.Prelude.{sum_by, unwrap_or, Option, Some, None, ◌==◌, ◌&&◌, if◌then◌else◌, nat_lt}
 use Rattle.std.proofs.lemmas.Bool.Decides.{nat_tests}
 use Rattle.pool_law.specs.declared.id.RootId.{RootId}
@@ -29,7 +29,7 @@ use Rattle.lane_core.proofs.Grown.{Grows, weigh_more}
 
 -- how many regions of the class are still to be shed
 abbrev pub quota_of : Hand → ℕ → ℕ
-quota_of hand class = if class + 1 == hand.closed then hand.quota else 0
+quota_of hand class = if class + 1 == hand.drained then hand.quota else 0
 
 -- what these entries take up of regions, and lay down
 abbrev up_in : (RegionId → ℕ) → List Entry → ℕ
@@ -293,8 +293,11 @@ module _ (lane k : ℕ) (number : Option ℕ) (h : Hand) where
     closes = λ class. refl;
   }
 
-  -- the next cache of the lane is closed, and so many regions are to be shed
-  pub cache_closed : (class quota : ℕ) → Carries lane (record h { closed = class; quota = 0 }) (record h { closed = class + 1; quota = quota }) (note (Cache lane class) (Did.Close quota))
+  -- the next cache of the lane is asked, and so many regions of it are to be shed
+  asked_quota : (class quota c : ℕ) → (if (lane == lane) && (class == c) then quota else (if c + 1 == class then 0 else 0)) ≡ (if c + 1 == class + 1 then quota else 0)
+  asked_quota class quota c = ap (λ (b : Bool). if b && (class == c) then quota else (if c + 1 == class then 0 else 0)) (same_number lane) ∙ grind (arith, nat_tests)
+
+  pub cache_closed : (class quota : ℕ) → Carries lane (record h { closed = class; drained = class; quota = 0 }) (record h { closed = class + 1; drained = class + 1; quota = quota }) (note (Cache lane class) (Did.Close quota))
   cache_closed class quota = record {
     places = λ q. omega arith;
     births = λ q. refl;
@@ -302,19 +305,28 @@ module _ (lane k : ℕ) (number : Option ℕ) (h : Hand) where
     uses = λ q. omega arith;
     tokens = λ q. omega arith;
     ended = λ q. refl;
-    quotas = quotas;
+    quotas = asked_quota class quota;
     closes = closes;
   }
     where
-      quotas : (c : ℕ) → (if (lane == lane) && (class == c) then quota else (if c + 1 == class then 0 else 0)) ≡ (if c + 1 == class + 1 then quota else 0)
-      quotas c = ap (λ (b : Bool). if b && (class == c) then quota else (if c + 1 == class then 0 else 0)) (same_number lane) ∙ grind (arith, nat_tests)
-
       closes : (c : ℕ) → (if (if ((lane == lane) && (class == c)) && true then true else false) then true else nat_lt c class) ≡ nat_lt c (class + 1)
       closes c = ap (λ (b : Bool). if (if (b && (class == c)) && true then true else false) then true else nat_lt c class) (same_number lane) ∙ grind (arith, nat_tests)
 
+  pub cache_trimmed : (class quota : ℕ) → Carries lane (record h { drained = class; quota = 0 }) (record h { drained = class + 1; quota = quota }) (note (Cache lane class) (Did.Trim quota))
+  cache_trimmed class quota = record {
+    places = λ q. omega arith;
+    births = λ q. refl;
+    regions = λ q. omega arith;
+    uses = λ q. omega arith;
+    tokens = λ q. omega arith;
+    ended = λ q. refl;
+    quotas = asked_quota class quota;
+    closes = λ c. not_closed (same_object (Cache lane class) (Cache lane c)) (nat_lt c h.closed);
+  }
+
   -- a region of its quota comes
   pub region_shed : (class left : ℕ) (r : RegionId) →
-      Carries lane (record h { region = None; closed = class + 1; quota = left }) (record h { region = Some r; closed = class + 1; quota = left - 1 }) (note (Cache lane class) (Did.Shed r))
+      Carries lane (record h { region = None; drained = class + 1; quota = left }) (record h { region = Some r; drained = class + 1; quota = left - 1 }) (note (Cache lane class) (Did.Shed r))
   region_shed class left r = record {
     places = λ q. omega arith;
     births = λ q. refl;
@@ -323,8 +335,21 @@ module _ (lane k : ℕ) (number : Option ℕ) (h : Hand) where
     tokens = λ q. omega arith;
     ended = λ q. refl;
     quotas = quotas;
-    closes = λ c. not_closed (same_object (Cache lane class) (Cache lane c)) (nat_lt c (class + 1));
+    closes = λ c. not_closed (same_object (Cache lane class) (Cache lane c)) (nat_lt c h.closed);
   }
     where
       quotas : (c : ℕ) → (if (lane == lane) && (class == c) then (if c + 1 == class + 1 then left else 0) - 1 else (if c + 1 == class + 1 then left else 0)) ≡ (if c + 1 == class + 1 then left - 1 else 0)
       quotas c = ap (λ (b : Bool). if b && (class == c) then (if c + 1 == class + 1 then left else 0) - 1 else (if c + 1 == class + 1 then left else 0)) (same_number lane) ∙ grind (arith, nat_tests)
+
+-- once nothing more is to be shed, it is of no account how many caches were asked
+pub drained_held : (hand : Hand) (v : SeatView) → hand.quota ≡ 0 → IsHeld hand v → IsHeld (record hand { drained = 0; quota = 0 }) v
+drained_held hand v none held = record {
+  places = held.places;
+  births = held.births;
+  regions = held.regions;
+  uses = held.uses;
+  tokens = held.tokens;
+  ended = held.ended;
+  quotas = λ class. held.quotas class ∙ ap (λ (n : ℕ). if class + 1 == hand.drained then n else 0) none ∙ same_quota (class + 1 == hand.drained) 0 ∙ sym (same_quota (class + 1 == 0) 0);
+  closes = held.closes;
+}

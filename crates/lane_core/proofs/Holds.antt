@@ -61,9 +61,9 @@ module _ {G : Ghosts Home Noted} (pool : SharedPool) where
 module _ (v : SeatView) (hand : Hand) (class : ℕ) where
   -- no region of the class is to be shed, or so many are
   pub none_left : IsHeld (record hand { quota = 0 }) v → quota_left (lane_in v) class v.own.notes ≡ 0
-  none_left held = held.quotas class ∙ same_quota (class + 1 == hand.closed) 0
+  none_left held = held.quotas class ∙ same_quota (class + 1 == hand.drained) 0
 
-  pub some_left : (left : ℕ) → 0 < left → IsHeld (record hand { closed = class + 1; quota = left }) v → 0 < quota_left (lane_in v) class v.own.notes
+  pub some_left : (left : ℕ) → 0 < left → IsHeld (record hand { drained = class + 1; quota = left }) v → 0 < quota_left (lane_in v) class v.own.notes
   some_left left more held =
       let a : quota_left (lane_in v) class v.own.notes ≡ left = held.quotas class ∙ ap (λ (b : Bool). if b then left else 0) (same_number (class + 1)) in omega (arith, a, more)
 

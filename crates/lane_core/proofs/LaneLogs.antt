@@ -1,16 +1,17 @@
 -- The log of a lane with one command more.
 use Rattle.std.proofs.Common.{◌≡◌, ℕ, zero, suc, ◌+◌, ◌<◌, ◌≤◌, List, [], ◌∷◌, ◌++◌, length, take, drop, refl, sym, ap, ◌∙◌, arith, Option, Some, None, append-nil}
-use Rattle.std.specs.Prelude.{sum}
+use Rattle.std.specs.Prelude.{sum, option_and_then}
 use Rattle.std.proofs.lemmas.List.{take-append-le, drop-append-le, length-drop, map-append}
 use Rattle.std.proofs.lemmas.List.Sums.{sum_by-cons, sum_by-append}
 use Rattle.pool_law.specs.declared.command.Command.{Command}
 use Rattle.pool_law.specs.declared.run.Answered.{Answered}
 use Rattle.pool_law.specs.declared.run.Reply.{Reply}
 use Rattle.pool_law.specs.declared.run.Shape.{Shape}
-use Rattle.pool_law.specs.LaneLaw.{lane_step, lane_run, pieces, note_counts}
-use Rattle.pool_law.specs.Lanes.{LaneState, Bound, answer, answer_of}
-use Rattle.pool_law.specs.Patterns.{Entries}
-use Rattle.pool_law.specs.Reading.{◌>>=◌}
+use Rattle.pool_law.specs.LaneLaw.{lane_step, before_stop, pieces, note_counts}
+use Rattle.pool_law.specs.LaneStates.{LaneState, log_at, state_at}
+use Rattle.pool_law.specs.Lanes.{Answer, answer, turn}
+use Rattle.pool_law.specs.Names.{Names}
+use Rattle.pool_law.specs.Readers.{Entries, Log, ended_with}
 
 -- the first of what is left
 pub cut_more : {X : Type 0} (k : ℕ) (xs : List X) (x : X) (ys : List X) → drop k xs ≡ x ∷ ys → (take (suc k) xs ≡ take k xs ++ x ∷ []) × (drop (suc k) xs ≡ ys) × (k < length xs)
@@ -58,44 +59,19 @@ counts_more rs a =
     let cut = ap (λ (ns : List ℕ). sum ns) (map-append (λ (x : Answered). x.notes) rs (a ∷ [])) in omega (arith, one, both, cut)
 
 -- a command whose notes are these is answered
-pub step_is : (shape : Shape) (lane : ℕ) (s : LaneState) (c : Command) (es : Entries) (reply : Reply) (bindings : List (ℕ × Bound)) → ((rest : Entries) → answer_of shape lane s c (es ++ rest) ≡ answer reply bindings rest) →
-    lane_step shape lane s c es ≡ Some (reply, record { names = bindings; seen = s.seen ++ es })
-step_is shape lane s c es reply bindings reads =
-    let read : answer_of shape lane s c es ≡ answer reply bindings [] = ap (answer_of shape lane s c) (sym (append-nil es)) ∙ reads [] in rw read refl
-
--- a reply before others, and the reply of a command before those of the rest
-abbrev with_reply : Reply → List Reply × LaneState → Option (List Reply × LaneState)
-with_reply a q = Some (a ∷ q.0, q.1)
-
-abbrev then_run : Shape → ℕ → List Command → List Entries → Reply × LaneState → Option (List Reply × LaneState)
-then_run shape lane cs gs p = lane_run shape lane p.1 cs gs >>= with_reply p.0
-
--- a run with one command more
-pub run_more : (shape : Shape) (lane : ℕ) (s mid last : LaneState) (cs : List Command) (c : Command) (gs : List Entries) (g : Entries) (rs : List Reply) (r : Reply) →
-    lane_run shape lane s cs gs ≡ Some (rs, mid) → lane_step shape lane mid c g ≡ Some (r, last) → lane_run shape lane s (cs ++ c ∷ []) (gs ++ g ∷ []) ≡ Some (rs ++ r ∷ [], last)
-run_more shape lane s mid last [] c [] g rs r ran step =
-    let none : List Reply × LaneState = ([], s) in let all : List Reply × LaneState = (rs, mid) in
-    let both : none ≡ all = cc ran in
-    ap (λ (x : LaneState). lane_step shape lane x c g >>= then_run shape lane [] []) (ap (λ (x : List Reply × LaneState). x.1) both)
-    ∙ ap (λ (o : Option (Reply × LaneState)). o >>= then_run shape lane [] []) step
-    ∙ ap (λ (x : List Reply × LaneState). let y : List Reply × LaneState = (x.0 ++ r ∷ [], last) in Some y) both
-run_more shape lane s mid last [] c (h ∷ gs) g rs r ran step = absurd (cc ran)
-run_more shape lane s mid last (d ∷ cs) c [] g rs r ran step = absurd (cc ran)
-run_more shape lane s mid last (d ∷ cs) c (h ∷ gs) g rs r ran step =
-    first (λ x replies e. run_more shape lane x mid last cs c gs g replies r e step) (lane_step shape lane s d h) refl ran
+pub step_is : (period : ℕ) (shape : Shape) (lane : ℕ) (s : LaneState) (c : Command) (es seen : Entries) (asked : ℕ) (reply : Reply) (names : Names) →
+    ((rest : Entries) → turn period shape lane s c (log_at s (es ++ rest)) ≡ Some (answer reply names, record { seen = seen; asked = asked; left = rest })) →
+    lane_step period shape lane s c es ≡ Some (reply, record { names = names; seen = seen; asked = asked })
+step_is period shape lane s c es seen asked reply names reads =
+    ended (turn period shape lane s c (log_at s es)) (ap (λ (xs : Entries). turn period shape lane s c (log_at s xs)) (sym (append-nil es)) ∙ reads [])
   where
-    first : ((x : LaneState) (replies : List Reply) → lane_run shape lane x cs gs ≡ Some (replies, mid) → lane_run shape lane x (cs ++ c ∷ []) (gs ++ g ∷ []) ≡ Some (replies ++ r ∷ [], last)) →
-        (o : Option (Reply × LaneState)) → lane_step shape lane s d h ≡ o → o >>= then_run shape lane cs gs ≡ Some (rs, mid) → lane_run shape lane s ((d ∷ cs) ++ c ∷ []) ((h ∷ gs) ++ g ∷ []) ≡ Some (rs ++ r ∷ [], last)
-    first ih None is all = absurd (cc all)
-    first ih (Some p) is all = ap (λ (o : Option (Reply × LaneState)). o >>= then_run shape lane (cs ++ c ∷ []) (gs ++ g ∷ [])) is ∙ second (lane_run shape lane p.1 cs gs) refl all
-      where
-        second : (o : Option (List Reply × LaneState)) → lane_run shape lane p.1 cs gs ≡ o → o >>= with_reply p.0 ≡ Some (rs, mid) →
-            lane_run shape lane p.1 (cs ++ c ∷ []) (gs ++ g ∷ []) >>= with_reply p.0 ≡ Some (rs ++ r ∷ [], last)
-        second None so all = absurd (cc all)
-        second (Some q) so all =
-            let got : List Reply × LaneState = (p.0 ∷ q.0, q.1) in let whole : List Reply × LaneState = (rs, mid) in
-            let both : got ≡ whole = cc all in
-            let ended : q.1 ≡ mid = ap (λ (x : List Reply × LaneState). x.1) both in
-            let ran : lane_run shape lane p.1 cs gs ≡ Some (q.0, mid) = so ∙ ap (λ (x : LaneState). let y : List Reply × LaneState = (q.0, x) in Some y) ended in
-            ap (λ (o : Option (List Reply × LaneState)). o >>= with_reply p.0) (ih p.1 q.0 ran)
-            ∙ ap (λ (x : List Reply × LaneState). let y : List Reply × LaneState = (x.0 ++ r ∷ [], last) in Some y) both
+    ended : (o : Option (Answer × Log)) → o ≡ Some (answer reply names, record { seen = seen; asked = asked; left = [] }) →
+        option_and_then (λ (p : Answer × Log). Some (p.0.reply, state_at p.0.names p.1)) (option_and_then (λ (p : Answer × Log). option_and_then (λ (q : Unit {0} × Log). Some (p.0, q.1)) (ended_with p.1 p.1.left)) o)
+        ≡ Some (reply, record { names = names; seen = seen; asked = asked })
+    ended o is = ap (λ (x : Option (Answer × Log)). option_and_then (λ (p : Answer × Log). Some (p.0.reply, state_at p.0.names p.1)) (option_and_then (λ (p : Answer × Log). option_and_then (λ (q : Unit {0} × Log). Some (p.0, q.1)) (ended_with p.1 p.1.left)) x)) is
+
+-- none of these replies says that the lane was stopped, and nor does one more
+pub unstopped_more : (rs : List Reply) (r : Reply) → before_stop rs ≡ length rs → before_stop (r ∷ []) ≡ 1 → before_stop (rs ++ r ∷ []) ≡ length (rs ++ r ∷ [])
+unstopped_more [] r e f = f
+unstopped_more (Reply.Stopped ∷ rs) r e f = absurd (cc e)
+unstopped_more (x ∷ rs) r e f = let a = unstopped_more rs r (cc e) f in omega (arith, a)

@@ -11,7 +11,9 @@ pub mod Readings
 pub mod OneNote
 pub mod AllotSteps
 pub mod EndSteps
-pub mod CloseSteps
+pub mod Outs
+pub mod ReadLaws
+pub mod DrainSteps
 pub mod ClassLaws
 pub mod EntryCounts
 pub mod StateReads

@@ -1,12 +1,11 @@
 -- What a step wrote that made one note, or found another seat.
 use Rattle.std.proofs.Common.{◌≡◌, ℕ, [], ◌∷◌, Bool, true, false, refl, sym, ap, subst}
-use Rattle.std.specs.Prelude.{Option}
 use Rattle.step_law.specs.declared.Told.{Ghosts}
 use Rattle.pool_law.specs.declared.note.Held.{Held}
 use Rattle.pool_law.specs.declared.note.Note.{Note}
 use Rattle.pool_law.specs.declared.note.Noted.{Noted}
 use Rattle.pool_law.specs.declared.note.Object.{Object}
-use Rattle.pool_law.specs.Patterns.{Entries}
+use Rattle.pool_law.specs.Readers.{Reader}
 use Rattle.leak_records.specs.Records.{Sampling}
 use Rattle.pool_table.specs.declared.views.Entry.TheVariants.{Busy}
 use Rattle.pool_table.specs.declared.table.PoolSeat.{PoolSeat}
@@ -15,14 +14,15 @@ use Rattle.shared_pool.specs.declared.home.Home.{Home}
 use Rattle.shared_pool.specs.declared.pool.SharedPool.{SharedPool}
 use Rattle.shared_pool.specs.Closing.{entry_of}
 use Rattle.shared_pool.specs.Seats.{IsPoolSeat, IsNoted, FoundBusy}
+use Rattle.lane_core.specs.Readings.{ReadsOn}
 use Rattle.lane_core.specs.Sampled.{AreSampled}
 use Rattle.lane_core.specs.Wrote.{Wrote}
 use Rattle.lane_core.proofs.Grown.{note_at, grows_noted, grows_busy, grows_held}
 
 module _ {G : Ghosts Home Noted} (pool : SharedPool) (old new : PoolSeat Home G) (was : IsPoolSeat pool old) (is : IsPoolSeat pool new) (same : SameSeat old new) where
-  module _ {X : Type 0} (sampler : Sampling) (before after : Entries → Option X) where
+  module _ {X : Type 0} (sampler : Sampling) (before : Reader X) (asks : ℕ → ℕ) (after : Reader X) where
     abbrev pub wrote_note : (o : Object) (number : ℕ) (n : Noted) (note : Note) → IsNoted pool old new o number n → note ≡ Note.At o number n.did → AreSampled sampler (note_at pool old new was is o number n ∷ []) sampler →
-        ((rest : Entries) → before (entry_of (note_at pool old new was is o number n) ∷ rest) ≡ after rest) → Wrote pool old new (note ∷ []) sampler sampler before after
+        ReadsOn before (entry_of (note_at pool old new was is o number n) ∷ []) asks after → Wrote pool old new (note ∷ []) sampler sampler before asks after
     wrote_note o number n note noted it sampled read = record {
       added = note_at pool old new was is o number n ∷ [];
       same = same;
@@ -33,7 +33,7 @@ module _ {G : Ghosts Home Noted} (pool : SharedPool) (old new : PoolSeat Home G)
       read = read;
     }
 
-    abbrev pub wrote_mark : (o : Object) (held : Held) → FoundBusy pool o true old new held → ((rest : Entries) → before (entry_of (Busy held) ∷ rest) ≡ after rest) → Wrote pool old new (Note.Busy held ∷ []) sampler sampler before after
+    abbrev pub wrote_mark : (o : Object) (held : Held) → FoundBusy pool o true old new held → ReadsOn before (entry_of (Busy held) ∷ []) asks after → Wrote pool old new (Note.Busy held ∷ []) sampler sampler before asks after
     wrote_mark o held found read = record {
       added = Busy held ∷ [];
       same = same;
@@ -45,7 +45,7 @@ module _ {G : Ghosts Home Noted} (pool : SharedPool) (old new : PoolSeat Home G)
     }
 
     -- nothing was noted, and all is read as before
-    abbrev pub wrote_nothing : (o : Object) (held : Held) → FoundBusy pool o false old new held → ((rest : Entries) → before rest ≡ after rest) → Wrote pool old new [] sampler sampler before after
+    abbrev pub wrote_nothing : (o : Object) (held : Held) → FoundBusy pool o false old new held → ReadsOn before [] asks after → Wrote pool old new [] sampler sampler before asks after
     wrote_nothing o held found read = record {
       added = [];
       same = same;

@@ -14,7 +14,7 @@ use Rattle.pool_law.specs.Legal.{all_fit, fits_after}
 use Rattle.pool_law.specs.Limits.{cached_classes}
 use Rattle.pool_law.specs.LaneLaw.{lane_run, pieces, note_counts, replies_in, close_caches}
 use Rattle.pool_law.specs.Lanes.{Plain, new_lane, answer_of}
-use Rattle.pool_law.specs.Patterns.{Entries}
+use Rattle.pool_law.specs.Readers.{Entries}
 use Rattle.pool_table.specs.declared.views.Entry.{Entry}
 use Rattle.pool_table.specs.declared.views.SeatView.{SeatView}
 use Rattle.pool_table.specs.Seats.{view_of}

@@ -16,7 +16,7 @@ use Rattle.pool_law.specs.Histories.{after, IsAccepted}
 use Rattle.pool_law.specs.Leaks.{births}
 use Rattle.pool_law.specs.Legal.{HistoriesHold}
 use Rattle.pool_law.specs.Limits.{cache_capacity, geometry_of}
-use Rattle.pool_law.specs.Logs.{Logs, History, dids, log_of}
+use Rattle.pool_law.specs.Logs.{Logs, History, dids, of_lane}
 use Rattle.pool_law.specs.Roots.{born, RootPlace, Present, new_place, place_step, place_step_by}
 use Rattle.pool_table.specs.declared.views.Entry.{Entry}
 use Rattle.pool_table.specs.declared.views.Entry.TheVariants.{At, Ref, Busy}
@@ -194,9 +194,9 @@ accepted-birth shape (Object.Root place) first last lane root region ok =
     ap Object.Root (sym (born-there place m.0 m.0.present root region m.1))
 
 pub birth-placed : (shape : Shape) (logs : Logs) → HistoriesHold shape logs → (lane at k : ℕ) (o : Object) (root : RootId) (region : RegionId) →
-    slice_get (log_of logs lane) at ≡ Some (Note.At o k (Birth root region)) → o ≡ Object.Root root.place
+    slice_get (of_lane logs lane) at ≡ Some (Note.At o k (Birth root region)) → o ≡ Object.Root root.place
 birth-placed shape logs hold lane at k o root region e =
-    let c = cut-at (log_of logs lane) at (Note.At o k (Birth root region)) e in
+    let c = cut-at (of_lane logs lane) at (Note.At o k (Birth root region)) e in
     let s = own-split o logs lane c.0 c.1 k (Birth root region) shape hold c.2 in
     accepted-birth shape o s.first s.last lane root region
     (subst (λ h. IsAccepted shape o (dids h)) s.whole (hold.accepted o))

@@ -6,7 +6,7 @@ use Rattle.pool_law.specs.declared.id.RootId.{RootId}
 use Rattle.pool_law.specs.declared.report.Leak.{Leak}
 use Rattle.pool_law.specs.declared.run.Shape.{Shape}
 use Rattle.pool_law.specs.Leaks.{births, is_sampled, leak_of, is_live, lane_leaks, leaks_from}
-use Rattle.pool_law.specs.Logs.{Logs, log_of}
+use Rattle.pool_law.specs.Logs.{Logs, of_lane}
 use Rattle.pool_law.proofs.PatternLemmas.{both_true}
 use Rattle.pool_law.proofs.SameLemmas.{and-first, and-second}
 use Rattle.lane_core.proofs.PlayedReport.{In, in-append, in-left, in-right, IsBefore, Ascends}
@@ -90,7 +90,7 @@ lane-has shape logs lane serial (r ∷ roots) (suc nth) root e live sampled =
 -- a leak of the lanes from one on
 pub record IsLeakFrom (shape : Shape) (logs : Logs) (lane : ℕ) (rest : Logs) (leak : Leak) : Type 0 where
   pub place : ℕ
-  pub of : IsLeakOf shape logs (lane + place) 1 (births (log_of rest place)) leak
+  pub of : IsLeakOf shape logs (lane + place) 1 (births (of_lane rest place)) leak
 
 pub in-lanes : (shape : Shape) (logs : Logs) (lane : ℕ) (rest : Logs) (leak : Leak) → In leak (leaks_from shape logs lane rest) → IsLeakFrom shape logs lane rest leak
 in-lanes shape logs lane [] leak (k, e) = absurd (cc e)
@@ -102,10 +102,10 @@ in-lanes shape logs lane (log ∷ rest) leak i =
     (λ (more : In leak (leaks_from shape logs (lane + 1) rest)).
     let l = in-lanes shape logs (lane + 1) rest leak more in
     let same : lane + 1 + l.place ≡ lane + suc l.place = omega arith in
-    record { place = suc l.place; of = subst (λ n. IsLeakOf shape logs n 1 (births (log_of rest l.place)) leak) same l.of })
+    record { place = suc l.place; of = subst (λ n. IsLeakOf shape logs n 1 (births (of_lane rest l.place)) leak) same l.of })
     (in-append leak (lane_leaks shape logs lane 1 (births log)) (leaks_from shape logs (lane + 1) rest) i)
 
-pub lanes-have : (shape : Shape) (logs : Logs) (lane : ℕ) (rest : Logs) (place : ℕ) (leak : Leak) → In leak (lane_leaks shape logs (lane + place) 1 (births (log_of rest place))) → In leak (leaks_from shape logs lane rest)
+pub lanes-have : (shape : Shape) (logs : Logs) (lane : ℕ) (rest : Logs) (place : ℕ) (leak : Leak) → In leak (lane_leaks shape logs (lane + place) 1 (births (of_lane rest place))) → In leak (leaks_from shape logs lane rest)
 lanes-have shape logs lane [] place (leak) (k, e) = absurd (cc e)
 lanes-have shape logs lane (log ∷ rest) zero leak i =
     let same : lane + 0 ≡ lane = omega arith in
@@ -113,7 +113,7 @@ lanes-have shape logs lane (log ∷ rest) zero leak i =
 lanes-have shape logs lane (log ∷ rest) (suc place) leak i =
     let same : lane + suc place ≡ lane + 1 + place = omega arith in
     in-right leak (lane_leaks shape logs lane 1 (births log)) (leaks_from shape logs (lane + 1) rest)
-    (lanes-have shape logs (lane + 1) rest place leak (subst (λ n. In leak (lane_leaks shape logs n 1 (births (log_of rest place)))) same i))
+    (lanes-have shape logs (lane + 1) rest place leak (subst (λ n. In leak (lane_leaks shape logs n 1 (births (of_lane rest place)))) same i))
 
 -- they ascend
 ascends-append : (xs ys : List Leak) → Ascends xs → Ascends ys → ((x y : Leak) → In x xs → In y ys → IsBefore x y) → Ascends (xs ++ ys)

@@ -3,7 +3,7 @@ use Rattle.std.proofs.Common.{◌≡◌, ℕ, zero, suc, ◌+◌, ◌<◌, ◌�
 use Rattle.std.specs.Prelude.{map, HoldsAt, All, sum, remove, slice_get, slice_index_or}
 use Rattle.std.proofs.lemmas.List.{take-take, drop-take, drop-drop}
 use Rattle.std.proofs.lemmas.List.Sums.{sum_by-cons}
-use Rattle.pool_law.specs.Logs.{log_of}
+use Rattle.pool_law.specs.Logs.{of_lane}
 use Rattle.pool_law.specs.LaneLaw.{pieces, behind}
 
 -- what holds at a place holds of what stands there, and back
@@ -65,12 +65,12 @@ get-below [] k x e = absurd (cc e)
 get-below (y ∷ ys) zero x e = omega arith
 get-below (y ∷ ys) (suc k) x e = let ih : k < length ys = get-below ys k x e in omega arith
 
-pub log-at : {X Y : Type 0} (f : X → List Y) (xs : List X) (k : ℕ) (x : X) → slice_get xs k ≡ Some x → log_of (map f xs) k ≡ f x
+pub log-at : {X Y : Type 0} (f : X → List Y) (xs : List X) (k : ℕ) (x : X) → slice_get xs k ≡ Some x → of_lane (map f xs) k ≡ f x
 log-at f [] k x e = absurd (cc e)
 log-at f (y ∷ ys) zero x e = let same : y ≡ x = cc e in ap f same
 log-at f (y ∷ ys) (suc k) x e = log-at f ys k x e
 
-pub log-past : {X : Type 0} (logs : List (List X)) (k : ℕ) → length logs ≤ k → log_of logs k ≡ []
+pub log-past : {X : Type 0} (logs : List (List X)) (k : ℕ) → length logs ≤ k → of_lane logs k ≡ []
 log-past [] k h = refl
 log-past (x ∷ xs) zero h = absurd (omega arith)
 log-past (x ∷ xs) (suc k) h = log-past xs k (omega arith)

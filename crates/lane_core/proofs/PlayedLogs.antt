@@ -4,7 +4,7 @@ use Rattle.std.specs.Prelude.{map, slice_get}
 use Rattle.pool_law.specs.declared.run.Run.{Run}
 use Rattle.pool_law.specs.declared.run.Shape.{Shape}
 use Rattle.pool_law.specs.Legal.{logs_of}
-use Rattle.pool_law.specs.Logs.{log_of}
+use Rattle.pool_law.specs.Logs.{of_lane}
 use Rattle.pool_table.specs.declared.views.Part.{Part}
 use Rattle.pool_table.specs.Seats.{view_of}
 use Rattle.shared_pool.specs.declared.pool.SharedPool.{SharedPool}
@@ -47,8 +47,8 @@ pub parts-length : (lanes : List Lane) → length (parts_of_lanes lanes) ≡ len
 parts-length lanes = ap length (parts-are lanes) ∙ length-map own_part lanes
 
 -- the entries of a lane
-pub entries-at : (lanes : List Lane) (k : ℕ) (l : Lane) → slice_get lanes k ≡ Some l → log_of (entries_in (parts_of_lanes lanes)) k ≡ entries_of l.desk
+pub entries-at : (lanes : List Lane) (k : ℕ) (l : Lane) → slice_get lanes k ≡ Some l → of_lane (entries_in (parts_of_lanes lanes)) k ≡ entries_of l.desk
 entries-at lanes k l e =
-    ap (λ ps. log_of (entries_in ps) k) (parts-are lanes)
-    ∙ ap (λ es. log_of es k) (map-map (λ (p : Part). map entry_of p.notes) own_part lanes)
+    ap (λ ps. of_lane (entries_in ps) k) (parts-are lanes)
+    ∙ ap (λ es. of_lane es k) (map-map (λ (p : Part). map entry_of p.notes) own_part lanes)
     ∙ log-at (λ (l : Lane). map entry_of (own_part l).notes) lanes k l e

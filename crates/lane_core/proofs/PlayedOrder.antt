@@ -14,7 +14,7 @@ use Rattle.pool_law.specs.declared.run.Shape.{Shape}
 use Rattle.pool_law.specs.Caches.{mail_step}
 use Rattle.pool_law.specs.Histories.{after}
 use Rattle.pool_law.specs.Legal.{HistoriesHold}
-use Rattle.pool_law.specs.Logs.{Logs, History, dids, log_of, own_note, own, numbered, note_stands, history_of}
+use Rattle.pool_law.specs.Logs.{Logs, History, dids, of_lane, own_note, own, numbered, note_stands, history_of}
 use Rattle.pool_law.specs.Same.{same_object, same_parcel}
 use Rattle.pool_law.proofs.HistoryLemmas.{append-assoc, own-append}
 use Rattle.pool_law.proofs.PatternLemmas.{same_object-refl}
@@ -246,14 +246,14 @@ cut-at (y ∷ ys) (suc i) x e = let c = cut-at ys i x e in (y ∷ c.0, c.1, ap (
 
 -- what is noted at a mail before a note there
 pub own-split : (mail : Object) (logs : Logs) (lane : ℕ) (early late : List Note) (k : ℕ) (d : Did) (shape : Shape) → HistoriesHold shape logs →
-    log_of logs lane ≡ early ++ At mail k d ∷ late → Stands lane 1 (history_of mail logs) (own mail early) k d
+    of_lane logs lane ≡ early ++ At mail k d ∷ late → Stands lane 1 (history_of mail logs) (own mail early) k d
 own-split mail logs lane early late k d shape hold is =
     stands lane 1 (history_of mail logs) (own mail early) k d (own mail late) (sym split ∙ hold.whole mail lane)
   where
     here : own mail (At mail k d ∷ late) ≡ (k, d) ∷ own mail late
     here = rw (same_object-refl mail) refl
 
-    split : own mail (log_of logs lane) ≡ own mail early ++ (k, d) ∷ own mail late
+    split : own mail (of_lane logs lane) ≡ own mail early ++ (k, d) ∷ own mail late
     split = ap (own mail) is ∙ own-append mail early (At mail k d ∷ late) ∙ ap (λ t. own mail early ++ t) here
 
 module _ (shape : Shape) (logs : Logs) (hold : HistoriesHold shape logs) (sender receiver : ℕ) where
@@ -266,7 +266,7 @@ module _ (shape : Shape) (logs : Logs) (hold : HistoriesHold shape logs) (sender
   -- only the sender posts
   posts-of : (other : ℕ) → other ≢ sender → total post_of (numbered other 1 all) ≡ 0
   posts-of other ne =
-      ap (total post_of) (sym (hold.whole mail other)) ∙ no-posts shape other sender receiver (log_of logs other) ne (hold.stand other)
+      ap (total post_of) (sym (hold.whole mail other)) ∙ no-posts shape other sender receiver (of_lane logs other) ne (hold.stand other)
 
   -- so many fetches before one more, and so many posts before that, are not the same
   never-behind : (posts fetches rest last between : History) (parcel got : Parcel) → all ≡ posts ++ (sender, Post parcel) ∷ rest → all ≡ fetches ++ (receiver, Fetch got) ∷ last →
@@ -303,7 +303,7 @@ module _ (shape : Shape) (logs : Logs) (hold : HistoriesHold shape logs) (sender
 
   -- the k-th post has a lower number than the k-th fetch
   sent-before : (early late before after_ : List Note) (sent taken : ℕ) (parcel got : Parcel) →
-      log_of logs sender ≡ early ++ At mail sent (Post parcel) ∷ late → log_of logs receiver ≡ before ++ At mail taken (Fetch got) ∷ after_ →
+      of_lane logs sender ≡ early ++ At mail sent (Post parcel) ∷ late → of_lane logs receiver ≡ before ++ At mail taken (Fetch got) ∷ after_ →
       how_many (is_post mail) early ≡ how_many (is_fetch mail) before → sent < taken
   sent-before early late before after_ sent taken parcel got out in_ counts =
       ⊎_elim (λ (lt : length p.first < length f.first). omega (arith, lt, p.number, f.number))

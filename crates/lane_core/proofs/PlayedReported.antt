@@ -13,7 +13,7 @@ use Rattle.pool_law.specs.declared.run.Shape.{Shape}
 use Rattle.pool_law.specs.Counts.{total_of}
 use Rattle.pool_law.specs.Leaks.{births, is_sampled, keeps_records, accesses_to, kept_of, dropped_of, leak_of, lane_leaks, leaks_of}
 use Rattle.pool_law.specs.Legal.{HistoriesHold}
-use Rattle.pool_law.specs.Logs.{Logs, Entry as LogEntry, log_of, entries_of}
+use Rattle.pool_law.specs.Logs.{Logs, Entry as LogEntry, of_lane, entries_of}
 use Rattle.pool_law.proofs.SameLemmas.{and-first, and-second}
 use Rattle.leak_records.specs.declared.live.LiveRoot.{LiveRoot}
 use Rattle.leak_records.specs.Records.{Sampling, new_sampler, watch_of}
@@ -105,13 +105,13 @@ in-contains xs x i = let d = index-of xs i.0 x x i.1 in (i.0, d.1, d.0)
 
 -- ---- Births that were given a watch.
 
-part-there : (parts : List Part) (lane at : ℕ) (e : Entry) → slice_get (log_of (map (λ p. p.notes) parts) lane) at ≡ Some e →
+part-there : (parts : List Part) (lane at : ℕ) (e : Entry) → slice_get (of_lane (map (λ p. p.notes) parts) lane) at ≡ Some e →
     (p : Part) × (slice_get parts lane ≡ Some p) × (slice_get p.notes at ≡ Some e)
 part-there [] lane at e is = absurd (cc is)
 part-there (p ∷ ps) zero at e is = (p, refl, is)
 part-there (p ∷ ps) (suc lane) at e is = part-there ps lane at e is
 
-part-born : (parts : List Part) (lane nth : ℕ) (root : RootId) → slice_get (births (log_of (logs_in parts) lane)) nth ≡ Some root → (p : Part) × (slice_get parts lane ≡ Some p)
+part-born : (parts : List Part) (lane nth : ℕ) (root : RootId) → slice_get (births (of_lane (logs_in parts) lane)) nth ≡ Some root → (p : Part) × (slice_get parts lane ≡ Some p)
 part-born [] lane nth root e = absurd (cc e)
 part-born (p ∷ ps) zero nth root e = (p, refl)
 part-born (p ∷ ps) (suc lane) nth root e = part-born ps lane nth root e
@@ -141,11 +141,11 @@ module _ (shape : Shape) (parts : List Part) (hold : HistoriesHold shape (logs_i
   record IsBorn (x : RootId × Watch) : Type 0 where
     lane : ℕ
     nth : ℕ
-    born : slice_get (births (log_of logs lane)) nth ≡ Some x.0
+    born : slice_get (births (of_lane logs lane)) nth ≡ Some x.0
     was_sampled : is_sampled shape.level shape.interval (1 + nth) ≡ true
     watch : x.1 ≡ watch_at lane nth
 
-  log-is : (lane : ℕ) (p : Part) → slice_get parts lane ≡ Some p → log_of logs lane ≡ map note_of p.notes
+  log-is : (lane : ℕ) (p : Part) → slice_get parts lane ≡ Some p → of_lane logs lane ≡ map note_of p.notes
   log-is lane p e = log-at (λ (q : Part). map note_of q.notes) parts lane p e
 
   was-born : (x : RootId × Watch) → WasWatched parts x.0 x.1 → IsBorn x
@@ -162,12 +162,12 @@ module _ (shape : Shape) (parts : List Part) (hold : HistoriesHold shape (logs_i
         watch = c.1;
       }
 
-  watched : (lane nth : ℕ) (root : RootId) → slice_get (births (log_of logs lane)) nth ≡ Some root → is_sampled shape.level shape.interval (1 + nth) ≡ true → WasWatched parts root (watch_at lane nth)
+  watched : (lane nth : ℕ) (root : RootId) → slice_get (births (of_lane logs lane)) nth ≡ Some root → is_sampled shape.level shape.interval (1 + nth) ≡ true → WasWatched parts root (watch_at lane nth)
   watched lane nth root e by =
       let p = part-born parts lane nth root e in
       let s = sampled lane p.0 p.1 in
       let b = birth-of_index (sampler_of lane) s.0 p.0.notes s.1 nth root (sym (ap (λ ns. slice_get (births ns) nth) (log-is lane p.0 p.1)) ∙ e) in
-      let noted : slice_get (log_of logs lane) b.at ≡ Some (Note.At b.object b.number (Birth root b.region)) =
+      let noted : slice_get (of_lane logs lane) b.at ≡ Some (Note.At b.object b.number (Birth root b.region)) =
       ap (λ ns. slice_get ns b.at) (log-is lane p.0 p.1) ∙ get-map note_of p.0.notes b.at (At b.object b.number b.noted) b.stands ∙ ap (λ d. Some (Note.At b.object b.number d)) b.birth in
       let place : b.object ≡ Object.Root root.place = birth-placed shape logs hold lane b.at b.number b.object root b.region noted in
       record {
@@ -214,7 +214,7 @@ module _ (shape : Shape) (parts : List Part) (hold : HistoriesHold shape (logs_i
         let a = was-born x lx.watched in let b = was-born y ly.watched in
         let same_lane : a.lane ≡ b.lane = sym (ap (λ w. w.lane) a.watch) ∙ lanes ∙ ap (λ w. w.lane) b.watch in
         let same_nth : a.nth ≡ b.nth = omega (arith, ap (λ w. w.serial) a.watch, ap (λ w. w.serial) b.watch, serials) in
-        let both : Some x.0 ≡ Some y.0 = sym a.born ∙ ap (λ l. slice_get (births (log_of logs l)) a.nth) same_lane ∙ ap (λ n. slice_get (births (log_of logs b.lane)) n) same_nth ∙ b.born in
+        let both : Some x.0 ≡ Some y.0 = sym a.born ∙ ap (λ l. slice_get (births (of_lane logs l)) a.nth) same_lane ∙ ap (λ n. slice_get (births (of_lane logs b.lane)) n) same_nth ∙ b.born in
         cc both
 
     once : OnceEach (map told_leak told.roots)
@@ -256,8 +256,8 @@ module _ (shape : Shape) (parts : List Part) (hold : HistoriesHold shape (logs_i
             let lane : b.lane ≡ 0 + b.lane = omega arith in
             subst (λ z. In z (leaks_of shape logs)) (sym (reported r.0 b) ∙ r.3)
             (lanes-have shape logs 0 logs b.lane (leak_of shape.level logs b.lane (1 + b.nth) r.0.0)
-            (subst (λ n. In (leak_of shape.level logs b.lane (1 + b.nth) r.0.0) (lane_leaks shape logs n 1 (births (log_of logs b.lane)))) lane
-            (lane-has shape logs b.lane 1 (births (log_of logs b.lane)) b.nth r.0.0 b.born lv.live b.was_sampled)))
+            (subst (λ n. In (leak_of shape.level logs b.lane (1 + b.nth) r.0.0) (lane_leaks shape logs n 1 (births (of_lane logs b.lane)))) lane
+            (lane-has shape logs b.lane 1 (births (of_lane logs b.lane)) b.nth r.0.0 b.born lv.live b.was_sampled)))
 
         up : (l : Leak) → In l (leaks_of shape logs) → In l leaks
         up l i =

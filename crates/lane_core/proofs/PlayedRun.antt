@@ -13,7 +13,7 @@ use Rattle.pool_law.specs.LaneLaw.{IsLaneLog}
 use Rattle.pool_law.specs.Leaks.{leaks_of}
 use Rattle.pool_law.specs.Legal.{AreCommands, CountsAgree, HistoriesHold, ends_from, logs_of, replies_of}
 use Rattle.pool_law.specs.Limits.{IsShape}
-use Rattle.pool_law.specs.Logs.{Entry, log_of, entries_of, history_of}
+use Rattle.pool_law.specs.Logs.{Entry, of_lane, entries_of, history_of}
 use Rattle.leak_records.specs.declared.live.LiveRoot.{LiveRoot}
 use Rattle.leak_records.specs.Records.{Sampling, new_sampler}
 use Rattle.leak_records.specs.Reports.{IsReport}
@@ -57,9 +57,9 @@ module _ (pool : SharedPool) (lanes : List Lane) (run : Run) (fin : AreFinished 
   lane-or : (k : ℕ) → ((l : Lane) × (slice_get lanes k ≡ Some l) × IsFinishedLane pool k l) ⊎ (length lanes ≤ k)
   lane-or k = ⊎_elim (λ (lt : k < shape.lanes). inl (lane-at pool lanes fin k lt)) (λ (ge : shape.lanes ≤ k). inr (omega (arith, ge, fin.many))) (below-or k shape.lanes)
 
-  commands : (k : ℕ) → AreCommands shape (log_of run.trace.lanes k)
+  commands : (k : ℕ) → AreCommands shape (of_lane run.trace.lanes k)
   commands k =
-      subst (λ t. AreCommands shape (log_of t k)) (sym of.trace)
+      subst (λ t. AreCommands shape (of_lane t k)) (sym of.trace)
       (⊎_elim
       (λ (a : (l : Lane) × (slice_get lanes k ≡ Some l) × IsFinishedLane pool k l).
       subst (AreCommands shape) (sym (log-at (λ (l : Lane). l.commands) lanes k a.0 a.1))
@@ -69,7 +69,7 @@ module _ (pool : SharedPool) (lanes : List Lane) (run : Run) (fin : AreFinished 
       (record { few = omega arith; fit = refl }))
       (lane-or k))
 
-  own-counts : (root : RootId) (k : ℕ) → CountsHold root 0 (log_of (entries_in parts) k)
+  own-counts : (root : RootId) (k : ℕ) → CountsHold root 0 (of_lane (entries_in parts) k)
   own-counts root k =
       ⊎_elim
       (λ (a : (l : Lane) × (slice_get lanes k ≡ Some l) × IsFinishedLane pool k l).
@@ -83,13 +83,13 @@ module _ (pool : SharedPool) (lanes : List Lane) (run : Run) (fin : AreFinished 
       subst CountsAgree entries-same
       (record { lanes = own-counts; totals = whole.totals; looks = λ root k. whole.looks root k (own-counts root k) })
 
-  answers : (k : ℕ) → k < shape.lanes → IsLaneLog shape k (log_of run.trace.lanes k) (replies_of run k) (log_of (entries_of (logs_of run)) k)
+  answers : (k : ℕ) → k < shape.lanes → IsLaneLog shape k (of_lane run.trace.lanes k) (replies_of run k) (of_lane (entries_of (logs_of run)) k)
   answers k lt =
       let a = lane-at pool lanes fin k lt in
-      log-as shape k a.0.commands (log_of run.trace.lanes k) a.0.desk.replies.items (replies_of run k) (desks.entries_of a.0.desk) (log_of (entries_of (logs_of run)) k)
-      (sym (ap (λ t. log_of t k) of.trace ∙ log-at (λ (l : Lane). l.commands) lanes k a.0 a.1))
-      (sym (ap (λ ls. log_of (map (λ l. l.replies) ls) k) of.logs ∙ ap (λ rs. log_of rs k) (map-map (λ l. l.replies) log_written lanes) ∙ log-at (λ (l : Lane). l.desk.replies.items) lanes k a.0 a.1))
-      (sym (entries-at lanes k a.0 a.1) ∙ ap (λ es. log_of es k) entries-same)
+      log-as shape k a.0.commands (of_lane run.trace.lanes k) a.0.desk.replies.items (replies_of run k) (desks.entries_of a.0.desk) (of_lane (entries_of (logs_of run)) k)
+      (sym (ap (λ t. of_lane t k) of.trace ∙ log-at (λ (l : Lane). l.commands) lanes k a.0 a.1))
+      (sym (ap (λ ls. of_lane (map (λ l. l.replies) ls) k) of.logs ∙ ap (λ rs. of_lane rs k) (map-map (λ l. l.replies) log_written lanes) ∙ log-at (λ (l : Lane). l.desk.replies.items) lanes k a.0 a.1))
+      (sym (entries-at lanes k a.0 a.1) ∙ ap (λ es. of_lane es k) entries-same)
       (subst (λ s. IsLaneLog s k a.0.commands a.0.desk.replies.items (desks.entries_of a.0.desk)) a.2.lane.desk.shape (lane-log pool k a.0 a.2))
 
   sampled : (k : ℕ) (p : Part) → slice_get parts k ≡ Some p → (last : Sampling) × AreSampled (new_sampler k shape.level shape.interval) p.notes last
@@ -111,13 +111,13 @@ module _ (pool : SharedPool) (lanes : List Lane) (run : Run) (fin : AreFinished 
         shape = subst IsShape (sym of.shape_is) shape_ok;
         lanes = ap length of.trace ∙ length-map (λ (l : Lane). l.commands) lanes ∙ fin.many ∙ ap (λ s. s.lanes) (sym of.shape_is);
         logs = ap length of.logs ∙ length-map log_written lanes ∙ fin.many ∙ ap (λ s. s.lanes) (sym of.shape_is);
-        commands = λ k. subst (λ s. AreCommands s (log_of run.trace.lanes k)) (sym of.shape_is) (commands k);
+        commands = λ k. subst (λ s. AreCommands s (of_lane run.trace.lanes k)) (sym of.shape_is) (commands k);
         histories = subst (λ s. HistoriesHold s (logs_of run)) (sym of.shape_is) (subst (HistoriesHold shape) logs-same whole.histories);
         counts = counts;
         answers = λ k lt.
-            subst (λ s. IsLaneLog s k (log_of run.trace.lanes k) (replies_of run k) (log_of (entries_of (logs_of run)) k)) (sym of.shape_is)
+            subst (λ s. IsLaneLog s k (of_lane run.trace.lanes k) (replies_of run k) (of_lane (entries_of (logs_of run)) k)) (sym of.shape_is)
             (answers k (omega (arith, lt, ap (λ s. s.lanes) of.shape_is)));
-        busy = λ k. subst (λ ls. BusyHolds k (λ o. history_of o ls) (log_of ls k)) logs-same (whole.busy k);
+        busy = λ k. subst (λ ls. BusyHolds k (λ o. history_of o ls) (of_lane ls k)) logs-same (whole.busy k);
         chunks =
             chunks ∙ ap (λ ls. ends_from shape ls (below shape.arenas)) logs-same
             ∙ ap (λ s. ends_from s (logs_of run) (below s.arenas)) (sym of.shape_is);

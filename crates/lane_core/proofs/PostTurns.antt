@@ -15,8 +15,12 @@ use Rattle.pool_law.specs.declared.run.Reply.{Reply}
 use Rattle.pool_law.specs.declared.run.Shape.{Shape}
 use Rattle.pool_law.specs.Counts.{view_is_of}
 use Rattle.pool_law.specs.Naming.{noted_by}
-use Rattle.pool_law.specs.Lanes.{LaneState, Bound, bind, answer, answer_of, no_parcel, parcel_of, refuse_send, send_view}
-use Rattle.pool_law.specs.Patterns.{Entries}
+use Rattle.pool_law.specs.Dids as says
+use Rattle.pool_law.specs.LaneLaw.{before_stop}
+use Rattle.pool_law.specs.LaneStates.{LaneState}
+use Rattle.pool_law.specs.Lanes.{Answer, answer, answer_of, received, no_parcel, parcel_of}
+use Rattle.pool_law.specs.Names.{Plain, Names, bind}
+use Rattle.pool_law.specs.Readers.{Log, Reader, ◌>>=◌, ◌>>◌, give, given, note}
 use Rattle.pool_law.proofs.ListLemmas.{slice_set-length}
 use Rattle.pool_law.proofs.PatternLemmas.{same_number, same_root-refl}
 use Rattle.table_law.specs.NoteCounts.{one_if_so, view_of_root}
@@ -42,15 +46,17 @@ use Rattle.lane_core.specs.Budgets.{lane_in}
 use Rattle.lane_core.specs.Counting.{counted}
 use Rattle.lane_core.specs.Hands.{empty_hand}
 use Rattle.lane_core.specs.Named.{bound_at, NamesAre}
+use Rattle.lane_core.specs.Readings.{before_left, behind, ReadsOn, none_asked}
 use Rattle.lane_core.specs.Desks.{IsDesk, notes_of, entries_of, HasRoomFor, left_for, HasTurned}
 use Rattle.lane_core.specs.DeskSteps.{CanAnswer, HasNoted, HasReplied, HasPosted, CountsMore, CountsLess, MayTurn, left_to_post}
 use Rattle.lane_core.proofs.NameLaws.{NamesAre-bind}
 use Rattle.lane_core.proofs.Grown.{Grows, grows_noted, weigh_more}
 use Rattle.lane_core.proofs.HandLaws.{Carries, held_on}
 use Rattle.lane_core.proofs.EntryCounts.{Recounts, still, posted, fetched, own_count, has_count, few_counted, stays_counted}
-use Rattle.lane_core.proofs.StateReads.{used, refused}
+use Rattle.lane_core.proofs.StateReads.{used_view, refused_view, viewed, goes, refuses}
 use Rattle.lane_core.proofs.DeskLaws.{Advances, can_answer_noted}
-use Rattle.lane_core.proofs.Turning.{one_turn, one_turn_same}
+use Rattle.lane_core.proofs.ReadLaws.{given_on, note_on}
+use Rattle.lane_core.proofs.Turning.{one_turn, one_turn_same, unstopped_for}
 
 module _ (from to number : ℕ) (lane : Option ℕ) where
   abbrev pub post_entry : Parcel → Entry
@@ -141,12 +147,12 @@ module _ (pool : SharedPool) (name receiver : ℕ) (old mid new : Desk) (may : M
       record { same = did.same; seat = did.seat; grows = grows; held = held_on (view_of old.seat) (view_of mid.seat) (e ∷ []) 0 empty_hand empty_hand grows (post_carries (lane_of old.seat) receiver did.number (view_of old.seat).own.number parcel (lane_in (view_of old.seat))) may.desk.held }
 
   -- with these counts it is answered
-  posted_turn : (cs : List Counted) (reply : Reply) → HasReplied (record mid { counts = cs }) new reply → Recounts old.counts cs (entry_of e ∷ []) → length cs ≡ length old.counts → (s : LaneState) → NamesAre s.names old.names →
-      ((rest : Entries) → answer_of old.shape (lane_of old.seat) s (Command.Send name receiver) (entry_of e ∷ rest) ≡ answer reply s.names rest) → HasTurned pool old new s (Command.Send name receiver) Ready (Went Ready)
-  posted_turn cs reply replied recounts places s are reads =
+  posted_turn : (cs : List Counted) (reply : Reply) → before_stop (reply ∷ []) ≡ 1 → HasReplied (record mid { counts = cs }) new reply → Recounts old.counts cs (entry_of e ∷ []) → length cs ≡ length old.counts → (s : LaneState) → NamesAre s.names old.names →
+      ReadsOn (answer_of old.shape (lane_of old.seat) s (Command.Send name receiver)) (entry_of e ∷ []) none_asked (give (answer reply s.names)) → HasTurned pool old new s (Command.Send name receiver) Ready (Went Ready)
+  posted_turn cs reply unstopped replied recounts places s are reads =
       let start : Desk = record old { seat = mid.seat; counts = cs } in
       let noted : HasNoted start (record mid { counts = cs }) (note_of e ∷ []) = record { log = did.noted.log; room = did.noted.room; rest = ap (λ (x : Desk). record x { counts = cs }) did.noted.rest } in
-      one_turn_same pool old start (record mid { counts = cs }) new may.desk refl e 0 post_advances noted reply replied recounts places (tt, refl) s (Command.Send name receiver) are
+      one_turn_same pool old start (record mid { counts = cs }) new may.desk may.asked refl refl e 0 post_advances noted reply unstopped replied recounts places (tt, refl) s (Command.Send name receiver) are
       (omega arith) (omega arith) (omega arith) (λ to. one_post (lane_of old.seat == lane_in (view_of old.seat)) (receiver == to)) reads
 
 module _ (pool : SharedPool) (name receiver : ℕ) (old mid new : Desk) (may : MayTurn pool (left_for (Command.Send name receiver)) old) (s : LaneState) (state : IsState s old.names old.counts) where
@@ -158,28 +164,32 @@ module _ (pool : SharedPool) (name receiver : ℕ) (old mid new : Desk) (may : M
   send_turn v bound lt did cs less replied =
       let lane = lane_of old.seat in
       let before : CountsLess old.counts cs v.root = subst (λ (ds : List Counted). CountsLess ds cs v.root) (mid_counts (parcel_of v) did) less in
-      posted_turn pool name receiver old mid new may (parcel_of v) did cs Reply.Ok replied (posted old.counts cs v (Mail lane receiver) did.number lt before.counts) before.places s state.names_are
-      (λ rest. used s old.names old.counts state name v bound lt (refuse_send s lane receiver) (send_view s lane receiver) (entry_of (post_entry lane receiver did.number (view_of old.seat).own.number (parcel_of v)) ∷ rest)
-      ∙ read_sent lane did.number (view_of old.seat).own.number rest)
+      let own = (view_of old.seat).own.number in let e = entry_of (post_entry lane receiver did.number own (parcel_of v)) in
+      posted_turn pool name receiver old mid new may (parcel_of v) did cs Reply.Ok refl replied (posted old.counts cs v (Mail lane receiver) did.number lt before.counts) before.places s state.names_are
+      (λ log.
+      goes s old.names old.counts state old.shape lane (Command.Send name receiver) (used_view s old.names old.counts state name v bound lt []) (before_left log (e ∷ []))
+      ∙ ap (λ (o : Option ViewData). (given o >>= sends lane) (before_left log (e ∷ []))) (viewed s old.names old.counts state name v bound)
+      ∙ given_on (note (Mail lane receiver) (says.post (parcel_of v))) (e ∷ []) none_asked (λ _. give (answer Reply.Ok s.names)) tt (note_on e (Mail lane receiver) (says.post (parcel_of v)) did.number (Did.Post (parcel_of v)) refl tt sent) log)
     where
-      read_sent : (lane number : ℕ) (own : Option ℕ) (rest : Entries) → send_view s lane receiver v (entry_of (post_entry lane receiver number own (parcel_of v)) ∷ rest) ≡ answer Reply.Ok s.names rest
-      read_sent lane number own rest =
-          rw (same_number lane, same_number receiver, same_number v.root.place, same_number v.root.generation, same_number v.root.capacity, same_number v.offset, same_number v.len, same_number v.reader, same_number v.writer) refl
+      sends : ℕ → ViewData → Reader Answer
+      sends lane view = note (Mail lane receiver) (says.post (parcel_of view)) >> give (answer Reply.Ok s.names)
+
+      sent : says.post (parcel_of v) (Did.Post (parcel_of v)) ≡ Some tt
+      sent = rw (same_number v.root.place, same_number v.root.generation, same_number v.root.capacity, same_number v.offset, same_number v.len, same_number v.reader, same_number v.writer) refl
 
   -- a send that is refused posts the empty parcel
   pub unsent_turn : (refusal : Refusal) → IsRefused old.names old.counts name refusal → (did : HasPosted pool old mid receiver no_parcel) → HasReplied mid new (reply_for refusal) → HasTurned pool old new s (Command.Send name receiver) Ready (Went Ready)
   unsent_turn refusal is did replied =
       let lane = lane_of old.seat in
       let same : mid.counts ≡ old.counts = mid_counts no_parcel did in
-      posted_turn pool name receiver old mid new may no_parcel did mid.counts (reply_for refusal) replied
-      (subst (λ (cs : List Counted). Recounts old.counts cs (entry_of (post_entry lane receiver did.number (view_of old.seat).own.number no_parcel) ∷ [])) (sym same)
-      (still old.counts (entry_of (post_entry lane receiver did.number (view_of old.seat).own.number no_parcel)) (record { gains = λ root. refl; loses = λ root. refl; needs = λ root. refl; ends = λ root. refl }) (λ root uses. absurd (cc uses))))
+      let own = (view_of old.seat).own.number in let e = entry_of (post_entry lane receiver did.number own no_parcel) in
+      posted_turn pool name receiver old mid new may no_parcel did mid.counts (reply_for refusal) (unstopped_for refusal) replied
+      (subst (λ (cs : List Counted). Recounts old.counts cs (e ∷ [])) (sym same)
+      (still old.counts e (record { gains = λ root. refl; loses = λ root. refl; needs = λ root. refl; ends = λ root. refl }) (λ root uses. absurd (cc uses))))
       (ap (λ (cs : List Counted). length cs) same) s state.names_are
-      (λ rest. refused s old.names old.counts state name refusal is (refuse_send s lane receiver) (send_view s lane receiver) (entry_of (post_entry lane receiver did.number (view_of old.seat).own.number no_parcel) ∷ rest)
-      ∙ read_unsent lane did.number (view_of old.seat).own.number rest)
-    where
-      read_unsent : (lane number : ℕ) (own : Option ℕ) (rest : Entries) → refuse_send s lane receiver (reply_for refusal) (entry_of (post_entry lane receiver number own no_parcel) ∷ rest) ≡ answer (reply_for refusal) s.names rest
-      read_unsent lane number own rest = rw (same_number lane, same_number receiver) refl
+      (λ log.
+      refuses s old.names old.counts state old.shape lane (Command.Send name receiver) (reply_for refusal) (refused_view s old.names old.counts state name refusal is []) (before_left log (e ∷ []))
+      ∙ given_on (note (Mail lane receiver) (says.post no_parcel)) (e ∷ []) none_asked (λ _. give (answer (reply_for refusal) s.names)) tt (note_on e (Mail lane receiver) (says.post no_parcel) did.number (Did.Post no_parcel) refl tt refl) log)
 
 -- ---- A parcel that comes.
 
@@ -194,15 +204,21 @@ module _ (pool : SharedPool) (fresh from : ℕ) (old start mid new : Desk) (may 
   fetch_advances : Advances pool old.seat start.seat empty_hand (f ∷ []) 0
   fetch_advances = record { same = same; seat = seat; grows = fetch_grows; held = held_on (view_of old.seat) (view_of start.seat) (f ∷ []) 0 empty_hand empty_hand fetch_grows (fetch_carries from (lane_of old.seat) number (view_of old.seat).own.number parcel (lane_in (view_of old.seat))) may.desk.held }
 
-  fetched_turn : (cs : List Counted) (names : List (Option ViewData)) (reply : Reply) → HasReplied (record mid { names = names; counts = cs }) new reply → Recounts old.counts cs (entry_of f ∷ []) → length cs ≡ length old.counts → length names ≡ length old.names → (s : LaneState) (bindings : List (ℕ × Bound)) → NamesAre bindings names →
-      ((rest : Entries) → answer_of old.shape (lane_of old.seat) s (Command.Recv fresh from) (entry_of f ∷ rest) ≡ answer reply bindings rest) → HasTurned pool old new s (Command.Recv fresh from) Ready (Went Ready)
-  fetched_turn cs names reply replied recounts places name_count s bindings are reads =
+  fetched_turn : (cs : List Counted) (names : List (Option ViewData)) (reply : Reply) → before_stop (reply ∷ []) ≡ 1 → HasReplied (record mid { names = names; counts = cs }) new reply → Recounts old.counts cs (entry_of f ∷ []) → length cs ≡ length old.counts → length names ≡ length old.names → (s : LaneState) (bound : Names) → NamesAre bound names →
+      received s fresh parcel.view ≡ answer reply bound → HasTurned pool old new s (Command.Recv fresh from) Ready (Went Ready)
+  fetched_turn cs names reply unstopped replied recounts places name_count s bound are answers =
       let begin : Desk = record start { counts = cs } in
       let sampler_is : start.sampler ≡ old.sampler = ap (λ (x : Desk). x.sampler) start_is in
-      let begin_is : begin ≡ record old { seat = start.seat; counts = cs; sampler = start.sampler } = ap (λ (x : Desk). record x { counts = cs }) start_is ∙ (λ i. record old { seat = start.seat; counts = cs; sampler = sym sampler_is i }) in
-      one_turn pool old begin (record mid { counts = cs }) new may.desk begin_is f 0 fetch_advances
+      let asked_is : start.asked ≡ old.asked = ap (λ (x : Desk). x.asked) start_is in
+      let begin_is : begin ≡ record old { seat = start.seat; counts = cs; sampler = start.sampler; asked = start.asked } =
+      ap (λ (x : Desk). record x { counts = cs }) start_is ∙ (λ i. record old { seat = start.seat; counts = cs; sampler = sym sampler_is i; asked = sym asked_is i }) in
+      let mail = Mail from (lane_of old.seat) in
+      one_turn pool old begin (record mid { counts = cs }) new may.desk may.asked begin_is asked_is f 0 fetch_advances
       (record { log = noted.log; room = noted.room; rest = ap (λ (x : Desk). record x { counts = cs }) noted.rest })
-      names reply replied recounts places (tt, sym sampler_is) name_count s (Command.Recv fresh from) bindings are (omega arith) (omega arith) (omega arith) (λ to. no_post ((from == lane_in (view_of old.seat)) && (lane_of old.seat == to))) reads
+      names reply unstopped replied recounts places (tt, sym sampler_is) name_count s (Command.Recv fresh from) bound are (omega arith) (omega arith) (omega arith) (λ to. no_post ((from == lane_in (view_of old.seat)) && (lane_of old.seat == to)))
+      (λ log.
+      given_on (note mail says.fetch) (entry_of f ∷ []) none_asked (λ p. give (received s fresh p.view)) parcel (note_on (entry_of f) mail says.fetch number (Did.Fetch parcel) refl parcel refl) log
+      ∙ ap (λ (a : Answer). give a (behind log (entry_of f ∷ []) none_asked)) answers)
 
   mid_names_are : mid.names ≡ old.names
   mid_names_are = ap (λ (x : Desk). x.names) noted.rest ∙ ap (λ (x : Desk). x.names) start_is
@@ -213,22 +229,22 @@ module _ (pool : SharedPool) (fresh from : ℕ) (old start mid new : Desk) (may 
   -- an empty parcel
   pub nothing_turn : parcel.view ≡ None → HasReplied mid new Reply.Nothing → (s : LaneState) → IsState s old.names old.counts → HasTurned pool old new s (Command.Recv fresh from) Ready (Went Ready)
   nothing_turn none replied s state =
-      fetched_turn mid.counts mid.names Reply.Nothing replied
+      fetched_turn mid.counts mid.names Reply.Nothing refl replied
       (subst (λ (cs : List Counted). Recounts old.counts cs (entry_of f ∷ [])) (sym mid_counts_are)
       (still old.counts (entry_of f) (record { gains = λ root. ap (λ (o : Option ViewData). view_is_of root o) none; loses = λ root. refl; needs = λ root. refl; ends = λ root. refl }) (λ root uses. absurd (cc uses))))
       (ap (λ (cs : List Counted). length cs) mid_counts_are) (ap (λ (names : List (Option ViewData)). length names) mid_names_are) s s.names (subst (NamesAre s.names) (sym mid_names_are) state.names_are)
-      (λ rest. rw (same_number from, same_number (lane_of old.seat), none) refl)
+      (ap (received s fresh) none)
 
   -- a parcel with a view
   pub receive_turn : (v : ViewData) → parcel.view ≡ Some v → fresh < length old.names → (cs : List Counted) → CountsMore mid.counts cs v.root → HasReplied (record mid { counts = cs; names = slice_set mid.names fresh (Some v) }) new Reply.Ok → (s : LaneState) → IsState s old.names old.counts → HasTurned pool old new s (Command.Recv fresh from) Ready (Went Ready)
   receive_turn v some lt cs more replied s state =
       let before : CountsMore old.counts cs v.root = subst (λ (ds : List Counted). CountsMore ds cs v.root) mid_counts_are more in
-      fetched_turn cs (slice_set mid.names fresh (Some v)) Reply.Ok replied
+      fetched_turn cs (slice_set mid.names fresh (Some v)) Reply.Ok refl replied
       (subst (λ (p : Parcel). Recounts old.counts cs (entry_of (fetch_entry from (lane_of old.seat) number (view_of old.seat).own.number p) ∷ [])) (λ i. record { view = sym some i })
       (fetched old.counts cs v (Mail from (lane_of old.seat)) number before.counts))
-      before.places (slice_set-length mid.names fresh (Some v) ∙ ap (λ (names : List (Option ViewData)). length names) mid_names_are) s (bind fresh v s.names)
-      (subst (λ (names : List (Option ViewData)). NamesAre (bind fresh v s.names) (slice_set names fresh (Some v))) (sym mid_names_are) (NamesAre-bind s.names old.names state.names_are fresh v lt))
-      (λ rest. rw (same_number from, same_number (lane_of old.seat), some) refl)
+      before.places (slice_set-length mid.names fresh (Some v) ∙ ap (λ (names : List (Option ViewData)). length names) mid_names_are) s (bind fresh (Plain v) s.names)
+      (subst (λ (names : List (Option ViewData)). NamesAre (bind fresh (Plain v) s.names) (slice_set names fresh (Some v))) (sym mid_names_are) (NamesAre-bind s.names old.names state.names_are fresh v lt))
+      (ap (received s fresh) some)
 
   -- of the root's place no other root is counted
   pub alone_fetched : (v : ViewData) → parcel.view ≡ Some v → (other : RootId) → other.place ≡ v.root.place → 0 < counted old.counts other → other ≡ v.root
@@ -261,4 +277,4 @@ module _ (pool : SharedPool) (fresh from : ℕ) (old start mid new : Desk) (may 
   pub can_answer_fetched : CanAnswer mid
   can_answer_fetched =
       can_answer_noted pool (left_for (Command.Recv fresh from)) old may (omega arith) start mid (Note.At (Mail from (lane_of old.seat)) number (Did.Fetch parcel)) noted
-      (start_is ∙ (λ i. record old { seat = start.seat; counts = sym (ap (λ (x : Desk). x.counts) start_is) i; sampler = sym (ap (λ (x : Desk). x.sampler) start_is) i }))
+      (start_is ∙ (λ i. record old { seat = start.seat; counts = sym (ap (λ (x : Desk). x.counts) start_is) i; sampler = sym (ap (λ (x : Desk). x.sampler) start_is) i; asked = sym (ap (λ (x : Desk). x.asked) start_is) i }))

@@ -1,53 +1,107 @@
 -- What commands may spend in all, one command after another.
-use Rattle.std.proofs.Common.{◌≡◌, ℕ, ◌+◌, ◌*◌, ◌<◌, ◌≤◌, Bool, true, false, List, [], ◌∷◌, ◌++◌, length, take, get_or, refl, sym, ap, ◌∙◌, subst, arith}
-use Rattle.std.specs.Prelude.{◌==◌, cond, nat_lt, All}
+use Rattle.std.proofs.Common.{◌≡◌, ℕ, ◌+◌, ◌*◌, ◌<◌, ◌≤◌, Bool, true, false, List, [], ◌∷◌, ◌++◌, length, map, take, get_or, refl, sym, ap, ◌∙◌, subst, arith}
+use Rattle.std.specs.Prelude.{◌==◌, cond, nat_lt, All, sum, ◌||◌}
+use Rattle.std.specs.List.{list_any}
 use Rattle.std.specs.Ordering.{ord_max, nat_cmp, is_lt}
 use Rattle.std.specs.declared.cmp.Ordering.TheVariants.{Less, Equal, Greater}
 use Rattle.std.proofs.lemmas.Bool.{ltb-true, ltb-false}
 use Rattle.std.proofs.lemmas.List.{take_more}
-use Rattle.std.proofs.lemmas.List.Elements.{All-more, All-weaker}
+use Rattle.std.proofs.lemmas.List.Elements.{All-head, All-tail, All-more, All-weaker}
+use Rattle.std.proofs.lemmas.List.Sums.{sum_by-cons}
 use Rattle.std.proofs.lemmas.Option.{IfSome_then}
 use Rattle.pool_law.specs.declared.command.Command.{Command}
-use Rattle.lane_core.specs.Desks.{left_for}
+use Rattle.pool_law.specs.Bounds.{composes, may_ask, most_notes, most_drained, note_bound}
 use Rattle.lane_core.specs.Lanes.{left_for_all}
 use Rattle.lane_core.specs.Named.{changed_name, ChangesBelow}
+use Rattle.lane_core.specs.Opened.{IsPlain}
 
--- a command makes at most six notes, and takes at most one region
-pub few_notes : (c : Command) → (left_for c).notes ≤ 6
-few_notes (Command.Slice fresh name at len true) = omega arith
-few_notes (Command.Slice fresh name at len false) = omega arith
-few_notes _ = omega arith
+-- a command that makes no composite makes at most six notes, and asks at most one cache
+pub few_notes : (c : Command) → IsPlain c → most_notes false c ≤ 6
+few_notes (Command.Alloc name size) plain = omega arith
+few_notes (Command.Set name at bytes true) plain = omega arith
+few_notes (Command.Set name at bytes false) plain = omega arith
+few_notes (Command.Get name at len true) plain = omega arith
+few_notes (Command.Get name at len false) plain = omega arith
+few_notes (Command.Write name bytes) plain = omega arith
+few_notes (Command.Read name len) plain = omega arith
+few_notes (Command.Slice fresh name at len true) plain = omega arith
+few_notes (Command.Slice fresh name at len false) plain = omega arith
+few_notes (Command.Dup fresh name) plain = omega arith
+few_notes (Command.Retain name) plain = omega arith
+few_notes (Command.Release name) plain = omega arith
+few_notes (Command.Refcnt name) plain = omega arith
+few_notes (Command.Touch name) plain = omega arith
+few_notes (Command.Forget name) plain = omega arith
+few_notes (Command.Send name lane) plain = omega arith
+few_notes (Command.Recv fresh lane) plain = omega arith
+few_notes (Command.Compose fresh names) plain = absurd plain
+few_notes (Command.Add whole name) plain = absurd plain
 
-pub one_take : (c : Command) → (left_for c).takes ≤ 1
-one_take (Command.Slice fresh name at len true) = omega arith
-one_take (Command.Slice fresh name at len false) = omega arith
-one_take _ = omega arith
+pub one_ask : (c : Command) → may_ask c ≤ 1
+one_ask _ = omega arith
 
-pub all_few : (cs : List Command) → (left_for_all cs).notes ≤ 6 * length cs
-all_few [] = omega arith
-all_few (c ∷ cs) = let one = few_notes c in let rest = all_few cs in omega (arith, one, rest)
+pub all_few : (cs : List Command) → All IsPlain cs → (left_for_all cs).notes ≤ 6 * length cs
+all_few [] plain = omega arith
+all_few (c ∷ cs) plain =
+    let one = few_notes c (All-head IsPlain c cs plain) in let rest = all_few cs (All-tail IsPlain c cs plain) in
+    omega (arith, one, rest)
 
-pub all_takes_few : (cs : List Command) → (left_for_all cs).takes ≤ length cs
-all_takes_few [] = omega arith
-all_takes_few (c ∷ cs) = let one = one_take c in let rest = all_takes_few cs in omega (arith, one, rest)
+pub all_asks_few : (cs : List Command) → (left_for_all cs).asks ≤ length cs
+all_asks_few [] = omega arith
+all_asks_few (c ∷ cs) = let one = one_ask c in let rest = all_asks_few cs in omega (arith, one, rest)
 
-notes_push : (cs : List Command) (c : Command) → (left_for_all (cs ++ c ∷ [])).notes ≡ (left_for_all cs).notes + (left_for c).notes
+-- where a cache is asked, a region may be taken
+pub all_takes : (cs : List Command) → (left_for_all cs).takes ≡ (left_for_all cs).asks
+all_takes [] = refl
+all_takes (c ∷ cs) = let rest = all_takes cs in omega (arith, rest)
+
+notes_push : (cs : List Command) (c : Command) → (left_for_all (cs ++ c ∷ [])).notes ≡ (left_for_all cs).notes + most_notes false c
 notes_push [] c = omega arith
 notes_push (b ∷ bs) c = let rest = notes_push bs c in omega (arith, rest)
 
-takes_push : (cs : List Command) (c : Command) → (left_for_all (cs ++ c ∷ [])).takes ≡ (left_for_all cs).takes + (left_for c).takes
-takes_push [] c = omega arith
-takes_push (b ∷ bs) c = let rest = takes_push bs c in omega (arith, rest)
+asks_push : (cs : List Command) (c : Command) → (left_for_all (cs ++ c ∷ [])).asks ≡ (left_for_all cs).asks + may_ask c
+asks_push [] c = omega arith
+asks_push (b ∷ bs) c = let rest = asks_push bs c in omega (arith, rest)
 
 module _ (cs : List Command) (i : ℕ) (c : Command) (lt : i < length cs) (is : c ≡ get_or cs i c) where
   more : take (i + 1) cs ≡ take i cs ++ c ∷ []
   more = take_more cs i c lt ∙ ap (λ x. take i cs ++ x ∷ []) (sym is)
 
-  pub notes_more : (left_for_all (take (i + 1) cs)).notes ≡ (left_for_all (take i cs)).notes + (left_for c).notes
+  pub notes_more : (left_for_all (take (i + 1) cs)).notes ≡ (left_for_all (take i cs)).notes + most_notes false c
   notes_more = ap (λ xs. (left_for_all xs).notes) more ∙ notes_push (take i cs) c
 
-  pub takes_more : (left_for_all (take (i + 1) cs)).takes ≡ (left_for_all (take i cs)).takes + (left_for c).takes
-  takes_more = ap (λ xs. (left_for_all xs).takes) more ∙ takes_push (take i cs) c
+  pub asks_more : (left_for_all (take (i + 1) cs)).asks ≡ (left_for_all (take i cs)).asks + may_ask c
+  asks_more = ap (λ xs. (left_for_all xs).asks) more ∙ asks_push (take i cs) c
+
+-- ---- The law's bound.
+
+plain_one : (c : Command) → IsPlain c → composes c ≡ false
+plain_one (Command.Compose fresh names) plain = absurd plain
+plain_one _ plain = refl
+
+no_composite : (cs : List Command) → All IsPlain cs → list_any composes cs ≡ false
+no_composite [] plain = refl
+no_composite (c ∷ cs) plain =
+    ap (λ (b : Bool). b || list_any composes cs) (plain_one c (All-head IsPlain c cs plain))
+    ∙ no_composite cs (All-tail IsPlain c cs plain)
+
+all_notes : (cs : List Command) → sum (map (most_notes false) cs) ≡ (left_for_all cs).notes
+all_notes [] = refl
+all_notes (c ∷ cs) =
+    let cut = sum_by-cons (λ (n : ℕ). n) (most_notes false c) (map (most_notes false) cs) in let rest = all_notes cs in
+    omega (arith, cut, rest)
+
+all_asks : (cs : List Command) → sum (map may_ask cs) ≡ (left_for_all cs).asks
+all_asks [] = refl
+all_asks (c ∷ cs) =
+    let cut = sum_by-cons (λ (n : ℕ). n) (may_ask c) (map may_ask cs) in let rest = all_asks cs in
+    omega (arith, cut, rest)
+
+-- for commands that make no composite it is what they may spend in all
+pub bound_is : (cs : List Command) → All IsPlain cs → note_bound cs ≡ (left_for_all cs).notes + most_drained (left_for_all cs).asks
+bound_is cs plain =
+    ap (λ (b : Bool). sum (map (most_notes b) cs) + most_drained (sum (map may_ask cs))) (no_composite cs plain)
+    ∙ (λ i. all_notes cs i + most_drained (all_asks cs i))
 
 -- names below less are below more
 below_more : (m n : ℕ) → m ≤ n → (c : Command) → ChangesBelow m c → ChangesBelow n c

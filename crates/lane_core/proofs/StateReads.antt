@@ -1,61 +1,200 @@
--- How the law reads a command on the view of a name, by what the lane's names and counts are.
-use Rattle.std.proofs.Common.{◌≡◌, ℕ, ◌<◌, Bool, true, false, List, ap, ◌∙◌, arith, Option, Some, None, le-leb}
+-- Which refusal of a command comes, by what the lane's names and counts are.
+use Rattle.std.proofs.Common.{◌≡◌, ℕ, ◌<◌, Bool, true, false, List, [], ◌∷◌, refl, ap, ◌∙◌, arith, Option, Some, None, le-leb}
 use Rattle.std.proofs.lemmas.Bool.{lt-leb}
-use Rattle.std.specs.Prelude.{if◌then◌else◌, option_map, is_some}
+use Rattle.std.specs.Prelude.{if◌then◌else◌, not, option_map, option_and_then, is_none, is_some}
+use Rattle.pool_law.specs.declared.command.Command.{Command}
 use Rattle.pool_law.specs.declared.id.RootId.{RootId}
 use Rattle.pool_law.specs.declared.id.ViewData.{ViewData}
 use Rattle.pool_law.specs.declared.run.Reply.{Reply}
+use Rattle.pool_law.specs.declared.run.Shape.{Shape}
 use Rattle.pool_law.specs.Counts.{count_of}
-use Rattle.pool_law.specs.Patterns.{Entries}
-use Rattle.pool_law.specs.Lanes.{LaneState, Bound, Plain, Refusing, Using, lookup, is_bound, counts, refuse, if_counted, on_bound, on_fresh}
+use Rattle.pool_law.specs.LaneStates.{LaneState, counts, named, view_named}
+use Rattle.pool_law.specs.Lanes.{Answer, answer, answer_by, answer_of, carried_out}
+use Rattle.pool_law.specs.Names.{Bound, Plain, passes, view_in, composite_in, is_usable, is_counted}
+use Rattle.pool_law.specs.Readers.{Log}
+use Rattle.pool_law.specs.Refusals.{Refusal as Refuses, first_refusal, refusals, refusal, unbound, taken, composite, illegal, uncounted}
 use Rattle.lane_core.specs.declared.access.Refusal.{Refusal}
 use Rattle.lane_core.specs.declared.access.Refusal.TheVariants.{Unbound, Taken, Illegal, Range}
 use Rattle.lane_core.specs.declared.counts.Counted.{Counted}
 use Rattle.lane_core.specs.Named.{bound_at}
 use Rattle.lane_core.specs.Counting.{counted}
-use Rattle.lane_core.specs.Accesses.{reply_for, IsState, IsRefused, IsRefusedFresh}
+use Rattle.lane_core.specs.Accesses.{reply_for, IsState, IsRefused, IsRefusedFresh, IsRefusedRange}
+
+-- a refusal that doesn't come is passed, and one that comes is the first
+pub passed : (r : Refuses) (rest : List Refuses) → r.comes ≡ false → first_refusal (r ∷ rest) ≡ first_refusal rest
+passed r rest is = ap (λ (b : Bool). if b then Some r.reply else first_refusal rest) is
+
+pub comes_first : (r : Refuses) (rest : List Refuses) → r.comes ≡ true → first_refusal (r ∷ rest) ≡ Some r.reply
+comes_first r rest is = ap (λ (b : Bool). if b then Some r.reply else first_refusal rest) is
 
 module _ (s : LaneState) (names : List (Option ViewData)) (cs : List Counted) (state : IsState s names cs) where
-  pub looked_up : (name : ℕ) (o : Option ViewData) → bound_at names name ≡ o → lookup name s.names ≡ option_map Plain o
-  looked_up name o is = state.names_are name ∙ ap (option_map Plain) is
+  -- what a name is bound to
+  pub named_so : (name : ℕ) (o : Option ViewData) → bound_at names name ≡ o → named s name ≡ option_map Plain o
+  named_so name o is = state.names_are name ∙ ap (option_map Plain) is
 
-  counting : (root : RootId) → 0 < counted cs root → counts s root ≡ true
+  pub counting : (root : RootId) → 0 < counted cs root → counts s root ≡ true
   counting root lt = let same = state.counts_are.counts root in le-leb 1 (count_of root s.seen) (omega (arith, same, lt))
 
   not_counting : (root : RootId) → counted cs root ≡ 0 → counts s root ≡ false
   not_counting root none = let same = state.counts_are.counts root in lt-leb 1 (count_of root s.seen) (omega (arith, same, none))
 
-  -- a view that the lane counts is used, and else it is refused
-  pub used : (name : ℕ) (v : ViewData) → bound_at names name ≡ Some v → 0 < counted cs v.root → (no_go : Refusing) (go : Using) (es : Entries) → on_bound s (lookup name s.names) no_go go es ≡ go v es
-  used name v is lt no_go go es =
-      ap (λ (o : Option Bound). on_bound s o no_go go es) (looked_up name (Some v) is)
-      ∙ ap (λ (b : Bool). if b then go v es else no_go Reply.Illegal es) (counting v.root lt)
+  -- a new name is free, or taken
+  pub is_free : (fresh : ℕ) → bound_at names fresh ≡ None → (taken s fresh).comes ≡ false
+  is_free fresh is = ap (λ (o : Option Bound). is_some o) (named_so fresh None is)
 
-  pub refused : (name : ℕ) (refusal : Refusal) → IsRefused names cs name refusal → (no_go : Refusing) (go : Using) (es : Entries) → on_bound s (lookup name s.names) no_go go es ≡ no_go (reply_for refusal) es
-  refused name Unbound is no_go go es = ap (λ (o : Option Bound). on_bound s o no_go go es) (looked_up name None is)
-  refused name Illegal is no_go go es =
-      ap (λ (o : Option Bound). on_bound s o no_go go es) (looked_up name (Some is.0) is.1)
-      ∙ ap (λ (b : Bool). if b then go is.0 es else no_go Reply.Illegal es) (not_counting is.0.root is.2)
-  refused name Taken is no_go go es = absurd is
-  refused name Range is no_go go es = absurd is
+  pub is_taken : (fresh : ℕ) (v : ViewData) → bound_at names fresh ≡ Some v → (taken s fresh).comes ≡ true
+  is_taken fresh v is = ap (λ (o : Option Bound). is_some o) (named_so fresh (Some v) is)
 
-  -- the same with a new name
-  free : (fresh : ℕ) → bound_at names fresh ≡ None → is_bound fresh s.names ≡ false
-  free fresh is = ap (λ (o : Option Bound). is_some o) (looked_up fresh None is)
+  pub is_unbound : (name : ℕ) → bound_at names name ≡ None → (unbound s name).comes ≡ true
+  is_unbound name is = ap (λ (o : Option Bound). is_none o) (named_so name None is)
 
-  pub used_fresh : (fresh name : ℕ) (v : ViewData) → bound_at names name ≡ Some v → bound_at names fresh ≡ None → 0 < counted cs v.root → (go : Using) (es : Entries) → on_fresh s fresh (lookup name s.names) go es ≡ go v es
-  used_fresh fresh name v is none lt go es =
-      ap (λ (o : Option Bound). on_fresh s fresh o go es) (looked_up name (Some v) is)
-      ∙ ap (λ (b : Bool). if b then refuse s Reply.Taken es else if_counted s v (refuse s) go es) (free fresh none)
-      ∙ ap (λ (b : Bool). if b then go v es else refuse s Reply.Illegal es) (counting v.root lt)
+  module _ (name : ℕ) (v : ViewData) (is : bound_at names name ≡ Some v) where
+    pub is_bound : (unbound s name).comes ≡ false
+    is_bound = ap (λ (o : Option Bound). is_none o) (named_so name (Some v) is)
 
-  pub refused_fresh : (fresh name : ℕ) (refusal : Refusal) → IsRefusedFresh names cs fresh name refusal → (go : Using) (es : Entries) → on_fresh s fresh (lookup name s.names) go es ≡ refuse s (reply_for refusal) es
-  refused_fresh fresh name Unbound is go es = ap (λ (o : Option Bound). on_fresh s fresh o go es) (looked_up name None is)
-  refused_fresh fresh name Taken is go es =
-      ap (λ (o : Option Bound). on_fresh s fresh o go es) (looked_up name (Some is.0) is.2)
-      ∙ ap (λ (b : Bool). if b then refuse s Reply.Taken es else if_counted s is.0 (refuse s) go es) (ap (λ (o : Option Bound). is_some o) (looked_up fresh (Some is.1) is.3))
-  refused_fresh fresh name Illegal is go es =
-      ap (λ (o : Option Bound). on_fresh s fresh o go es) (looked_up name (Some is.0) is.1)
-      ∙ ap (λ (b : Bool). if b then refuse s Reply.Taken es else if_counted s is.0 (refuse s) go es) (free fresh is.2)
-      ∙ ap (λ (b : Bool). if b then go is.0 es else refuse s Reply.Illegal es) (not_counting is.0.root is.3)
-  refused_fresh fresh name Range is go es = absurd is
+    is_plain : (composite s name).comes ≡ false
+    is_plain = ap (λ (o : Option Bound). passes (λ b. is_some (composite_in b)) o) (named_so name (Some v) is)
+
+    is_legal : 0 < counted cs v.root → (illegal s name).comes ≡ false
+    is_legal lt = ap (λ (o : Option Bound). passes (λ b. not (is_usable (counts s) b)) o) (named_so name (Some v) is) ∙ ap (λ (b : Bool). not b) (counting v.root lt)
+
+    is_illegal : counted cs v.root ≡ 0 → (illegal s name).comes ≡ true
+    is_illegal none = ap (λ (o : Option Bound). passes (λ b. not (is_usable (counts s) b)) o) (named_so name (Some v) is) ∙ ap (λ (b : Bool). not b) (not_counting v.root none)
+
+    has_count : 0 < counted cs v.root → (uncounted s name).comes ≡ false
+    has_count lt = ap (λ (o : Option Bound). passes (λ b. not (is_counted (counts s) b)) o) (named_so name (Some v) is) ∙ ap (λ (b : Bool). not b) (counting v.root lt)
+
+    has_none : counted cs v.root ≡ 0 → (uncounted s name).comes ≡ true
+    has_none none = ap (λ (o : Option Bound). passes (λ b. not (is_counted (counts s) b)) o) (named_so name (Some v) is) ∙ ap (λ (b : Bool). not b) (not_counting v.root none)
+
+    -- the name's view
+    pub viewed : view_named s name ≡ Some v
+    viewed = ap (option_and_then view_in) (named_so name (Some v) is)
+
+    -- a test of what the name is bound to
+    pub tested : (test : Bound → Bool) → passes test (named s name) ≡ test (Plain v)
+    tested test = ap (λ (o : Option Bound). passes test o) (named_so name (Some v) is)
+
+  -- ---- The first refusals of a command on the view of a name.
+
+  module _ (name : ℕ) where
+    abbrev of_bytes : List Refuses → List Refuses
+    of_bytes rest = unbound s name ∷ illegal s name ∷ rest
+
+    abbrev of_view : List Refuses → List Refuses
+    of_view rest = unbound s name ∷ composite s name ∷ illegal s name ∷ rest
+
+    abbrev of_fresh : ℕ → List Refuses → List Refuses
+    of_fresh fresh rest = unbound s name ∷ taken s fresh ∷ composite s name ∷ illegal s name ∷ rest
+
+    abbrev of_count : List Refuses
+    of_count = unbound s name ∷ uncounted s name ∷ []
+
+    -- where the lane counts it, none of them comes
+    module _ (v : ViewData) (is : bound_at names name ≡ Some v) (lt : 0 < counted cs v.root) where
+      pub used : (rest : List Refuses) → first_refusal (of_bytes rest) ≡ first_refusal rest
+      used rest = passed (unbound s name) (illegal s name ∷ rest) (is_bound name v is) ∙ passed (illegal s name) rest (is_legal name v is lt)
+
+      pub used_view : (rest : List Refuses) → first_refusal (of_view rest) ≡ first_refusal rest
+      used_view rest =
+          passed (unbound s name) (composite s name ∷ illegal s name ∷ rest) (is_bound name v is)
+          ∙ passed (composite s name) (illegal s name ∷ rest) (is_plain name v is)
+          ∙ passed (illegal s name) rest (is_legal name v is lt)
+
+      pub used_fresh : (fresh : ℕ) → bound_at names fresh ≡ None → (rest : List Refuses) → first_refusal (of_fresh fresh rest) ≡ first_refusal rest
+      used_fresh fresh none rest =
+          passed (unbound s name) (taken s fresh ∷ composite s name ∷ illegal s name ∷ rest) (is_bound name v is)
+          ∙ passed (taken s fresh) (composite s name ∷ illegal s name ∷ rest) (is_free fresh none)
+          ∙ passed (composite s name) (illegal s name ∷ rest) (is_plain name v is)
+          ∙ passed (illegal s name) rest (is_legal name v is lt)
+
+      pub used_count : first_refusal of_count ≡ None
+      used_count = passed (unbound s name) (uncounted s name ∷ []) (is_bound name v is) ∙ passed (uncounted s name) [] (has_count name v is lt)
+
+    -- where it is refused, that comes
+    pub refused : (refusal : Refusal) → IsRefused names cs name refusal → (rest : List Refuses) → first_refusal (of_bytes rest) ≡ Some (reply_for refusal)
+    refused Unbound is rest = comes_first (unbound s name) (illegal s name ∷ rest) (is_unbound name is)
+    refused Illegal is rest = passed (unbound s name) (illegal s name ∷ rest) (is_bound name is.0 is.1) ∙ comes_first (illegal s name) rest (is_illegal name is.0 is.1 is.2)
+    refused Taken is rest = absurd is
+    refused Range is rest = absurd is
+
+    pub refused_view : (refusal : Refusal) → IsRefused names cs name refusal → (rest : List Refuses) → first_refusal (of_view rest) ≡ Some (reply_for refusal)
+    refused_view Unbound is rest = comes_first (unbound s name) (composite s name ∷ illegal s name ∷ rest) (is_unbound name is)
+    refused_view Illegal is rest =
+        passed (unbound s name) (composite s name ∷ illegal s name ∷ rest) (is_bound name is.0 is.1)
+        ∙ passed (composite s name) (illegal s name ∷ rest) (is_plain name is.0 is.1)
+        ∙ comes_first (illegal s name) rest (is_illegal name is.0 is.1 is.2)
+    refused_view Taken is rest = absurd is
+    refused_view Range is rest = absurd is
+
+    pub refused_count : (refusal : Refusal) → IsRefused names cs name refusal → first_refusal of_count ≡ Some (reply_for refusal)
+    refused_count Unbound is = comes_first (unbound s name) (uncounted s name ∷ []) (is_unbound name is)
+    refused_count Illegal is = passed (unbound s name) (uncounted s name ∷ []) (is_bound name is.0 is.1) ∙ comes_first (uncounted s name) [] (has_none name is.0 is.1 is.2)
+    refused_count Taken is = absurd is
+    refused_count Range is = absurd is
+
+    pub refused_fresh : (fresh : ℕ) (refusal : Refusal) → IsRefusedFresh names cs fresh name refusal → (rest : List Refuses) → first_refusal (of_fresh fresh rest) ≡ Some (reply_for refusal)
+    refused_fresh fresh Unbound is rest = comes_first (unbound s name) (taken s fresh ∷ composite s name ∷ illegal s name ∷ rest) (is_unbound name is)
+    refused_fresh fresh Taken is rest =
+        passed (unbound s name) (taken s fresh ∷ composite s name ∷ illegal s name ∷ rest) (is_bound name is.0 is.2)
+        ∙ comes_first (taken s fresh) (composite s name ∷ illegal s name ∷ rest) (is_taken fresh is.1 is.3)
+    refused_fresh fresh Illegal is rest =
+        passed (unbound s name) (taken s fresh ∷ composite s name ∷ illegal s name ∷ rest) (is_bound name is.0 is.1)
+        ∙ passed (taken s fresh) (composite s name ∷ illegal s name ∷ rest) (is_free fresh is.2)
+        ∙ passed (composite s name) (illegal s name ∷ rest) (is_plain name is.0 is.1)
+        ∙ comes_first (illegal s name) rest (is_illegal name is.0 is.1 is.3)
+    refused_fresh fresh Range is rest = absurd is
+
+  -- ---- And where what the name is bound to has to pass a test.
+
+  module _ (name : ℕ) (test : Bound → Bool) where
+    abbrev out_of_range : Refuses
+    out_of_range = refusal Reply.Range (passes (λ b. not (test b)) (named s name))
+
+    module _ (v : ViewData) (is : bound_at names name ≡ Some v) where
+      in_range_so : test (Plain v) ≡ true → out_of_range.comes ≡ false
+      in_range_so pass = tested name v is (λ b. not (test b)) ∙ ap (λ (b : Bool). not b) pass
+
+      out_of_range_so : test (Plain v) ≡ false → out_of_range.comes ≡ true
+      out_of_range_so fail = tested name v is (λ b. not (test b)) ∙ ap (λ (b : Bool). not b) fail
+
+      pub ranged : 0 < counted cs v.root → test (Plain v) ≡ true → first_refusal (of_bytes name (out_of_range ∷ [])) ≡ None
+      ranged lt pass = used name v is lt (out_of_range ∷ []) ∙ passed out_of_range [] (in_range_so pass)
+
+      pub ranged_view : 0 < counted cs v.root → test (Plain v) ≡ true → first_refusal (of_view name (out_of_range ∷ [])) ≡ None
+      ranged_view lt pass = used_view name v is lt (out_of_range ∷ []) ∙ passed out_of_range [] (in_range_so pass)
+
+      -- with a new name
+      module _ (fresh : ℕ) (none : bound_at names fresh ≡ None) (lt : 0 < counted cs v.root) where
+        pub ranged_fresh : test (Plain v) ≡ true → first_refusal (of_fresh name fresh (out_of_range ∷ [])) ≡ None
+        ranged_fresh pass = used_fresh name v is lt fresh none (out_of_range ∷ []) ∙ passed out_of_range [] (in_range_so pass)
+
+        pub unranged_fresh : test (Plain v) ≡ false → first_refusal (of_fresh name fresh (out_of_range ∷ [])) ≡ Some Reply.Range
+        unranged_fresh fail = used_fresh name v is lt fresh none (out_of_range ∷ []) ∙ comes_first out_of_range [] (out_of_range_so fail)
+
+    pub unranged : (why : Refusal) → IsRefusedRange names cs name (λ v. test (Plain v)) why → first_refusal (of_bytes name (out_of_range ∷ [])) ≡ Some (reply_for why)
+    unranged Range is = used name is.0 is.1 is.2 (out_of_range ∷ []) ∙ comes_first out_of_range [] (out_of_range_so is.0 is.1 is.3)
+    unranged Unbound is = refused name Unbound is (out_of_range ∷ [])
+    unranged Illegal is = refused name Illegal is (out_of_range ∷ [])
+    unranged Taken is = absurd is
+
+    pub unranged_view : (why : Refusal) → IsRefusedRange names cs name (λ v. test (Plain v)) why → first_refusal (of_view name (out_of_range ∷ [])) ≡ Some (reply_for why)
+    unranged_view Range is = used_view name is.0 is.1 is.2 (out_of_range ∷ []) ∙ comes_first out_of_range [] (out_of_range_so is.0 is.1 is.3)
+    unranged_view Unbound is = refused_view name Unbound is (out_of_range ∷ [])
+    unranged_view Illegal is = refused_view name Illegal is (out_of_range ∷ [])
+    unranged_view Taken is = absurd is
+
+  -- ---- What the law reads then.
+
+  module _ (shape : Shape) (lane : ℕ) (command : Command) where
+    -- a command whose refusals don't come is carried out
+    pub goes : first_refusal (refusals shape s command) ≡ None → (log : Log) → answer_of shape lane s command log ≡ carried_out shape lane s command log
+    goes none log = ap (λ (o : Option Reply). answer_by shape lane s command o log) none
+
+    -- and else it isn't
+    pub refuses : (reply : Reply) → first_refusal (refusals shape s command) ≡ Some reply → (log : Log) → answer_of shape lane s command log ≡ answer_by shape lane s command (Some reply) log
+    refuses reply first log = ap (λ (o : Option Reply). answer_by shape lane s command o log) first
+
+    -- a command on the count of a view
+    pub goes_uncounted : (name : ℕ) (v : ViewData) → bound_at names name ≡ Some v → 0 < counted cs v.root → refusals shape s command ≡ unbound s name ∷ uncounted s name ∷ [] → (log : Log) → answer_of shape lane s command log ≡ carried_out shape lane s command log
+    goes_uncounted name v is lt of = goes (ap first_refusal of ∙ used_count name v is lt)

@@ -1,13 +1,16 @@
 -- What a command that accesses bytes is prepared for, and how the law reads it.
-use Rattle.std.specs.Prelude.{◌≡◌, ℕ, ◌+◌, ◌<◌, ◌≤◌, Bool, true, false, ⊤, List, length, slice_set, Option, Some, None, Result, Ok, Err}
+use Rattle.std.specs.Prelude.{◌≡◌, ℕ, ◌+◌, ◌<◌, ◌≤◌, Bool, true, false, ⊤, List, length, slice_set, Option, Some, None, Result, Ok, Err, if◌then◌else◌}
 use Rattle.pool_law.specs.declared.command.Command.{Command}
 use Rattle.pool_law.specs.declared.id.ViewData.{ViewData}
 use Rattle.pool_law.specs.declared.run.Reply.{Reply}
 use Rattle.pool_law.specs.declared.run.Shape.{Shape}
 use Rattle.pool_law.specs.Views.{root_index}
-use Rattle.pool_law.specs.Reading.{◌>>=◌}
-use Rattle.pool_law.specs.Patterns.{Entries}
-use Rattle.pool_law.specs.Lanes.{LaneState, Bound, Answers, answer, answer_of, refuse, tried, access, is_set, bytes_got}
+use Rattle.pool_law.specs.Bounds.{most_notes}
+use Rattle.pool_law.specs.Dids as says
+use Rattle.pool_law.specs.Readers.{Log, Reader, ◌>>=◌, ◌>>◌, give, access}
+use Rattle.pool_law.specs.Names.{Names}
+use Rattle.pool_law.specs.LaneStates.{LaneState}
+use Rattle.pool_law.specs.Lanes.{Answer, answer, answer_of, busy_or}
 use Rattle.lane_core.specs.declared.access.Refusal.{Refusal}
 use Rattle.lane_core.specs.declared.access.Refusal.TheVariants.{Unbound, Taken, Illegal, Range}
 use Rattle.lane_core.specs.declared.access.Reach.{Reach}
@@ -82,25 +85,26 @@ names_after names (Refused refusal) = names
 names_after names (Set reach bytes) = slice_set names reach.name (Some reach.after.at)
 names_after names (Get reach note reply) = slice_set names reach.name (Some reach.after.at)
 
--- how the law reads the notes of an access, after which its bindings are these
-abbrev pub reads_set : List (ℕ × Bound) → Reach → List ℕ → Entries → Answers
-reads_set bindings reach bytes es = do
-  (did, rest) ← access reach.root es
-  _ ← is_set reach.offset bytes did
-  answer Reply.Ok bindings rest
+-- how the law reads the note of an access, after which these names are bound
+abbrev pub reads_set : Names → Reach → List ℕ → Reader Answer
+reads_set names reach bytes =
+    access reach.root (says.set reach.offset bytes) >> give (answer Reply.Ok names)
 
-abbrev pub reads_get : List (ℕ × Bound) → Reach → ℕ → Entries → Answers
-reads_get bindings reach len es = do
-  (did, rest) ← access reach.root es
-  bytes ← bytes_got reach.offset len did
-  answer (Reply.OkBytes bytes) bindings rest
+abbrev pub reads_get : Names → Reach → ℕ → Reader Answer
+reads_get names reach len = do
+  bytes ← access reach.root (says.get reach.offset len)
+  give (answer (Reply.OkBytes bytes) names)
 
-abbrev pub reads : LaneState → List (ℕ × Bound) → Access → Entries → Answers
-reads s bindings (Refused refusal) es = refuse s (reply_for refusal) es
-reads s bindings (Set reach bytes) es =
-    tried reach.tries s reach.after.at es (reads_set bindings reach bytes.items es)
-reads s bindings (Get reach note reply) es =
-    tried reach.tries s reach.after.at es (reads_get bindings reach (length note.items) es)
+-- where the command only tries, the root may be busy
+abbrev pub tries_or : Bool → LaneState → ViewData → Reader Answer → Reader Answer
+tries_or tries s v r = if tries then busy_or s v r else r
+
+abbrev pub reads : LaneState → Names → Access → Reader Answer
+reads s names (Refused refusal) = give (answer (reply_for refusal) s.names)
+reads s names (Set reach bytes) =
+    tries_or reach.tries s reach.after.at (reads_set names reach bytes.items)
+reads s names (Get reach note reply) =
+    tries_or reach.tries s reach.after.at (reads_get names reach (length note.items))
 
 -- an access has room for its bytes, and reaches them
 abbrev pub IsReady : List Counted → Access → Type 0
@@ -113,10 +117,11 @@ IsReady cs (Get reach note reply) =
 pub record IsPrepared (names : List (Option ViewData)) (cs : List Counted) (command : Command)
     (made : Access) (s : LaneState) : Type 0 where
   pub ready : IsReady cs made
-  pub bindings : List (ℕ × Bound)
-  pub names_are : NamesAre bindings (names_after names made)
-  pub read : (shape : Shape) (lane : ℕ) (rest : Entries) →
-      answer_of shape lane s command rest ≡ reads s bindings made rest
+  pub noted : 1 ≤ most_notes false command
+  pub bound : Names
+  pub names_are : NamesAre bound (names_after names made)
+  pub read : (shape : Shape) (lane : ℕ) (log : Log) →
+      answer_of shape lane s command log ≡ reads s bound made log
 
 -- the access of a set, of where it reaches
 abbrev pub IsMadeSet : Result Reach Refusal → List ℕ → Access → Type 0

@@ -1,16 +1,15 @@
 -- An allocation, step by step: what is in hand at each stage, and how the law reads the rest of it.
-use Rattle.std.specs.Prelude.{◌≡◌, ℕ, ◌*◌, ◌<◌, ⊤, false, List, [], length, map, Option, Some, None}
+use Rattle.std.specs.Prelude.{◌≡◌, ℕ, ◌+◌, ◌*◌, ◌<◌, ◌≤◌, ⊤, false, List, [], length, map, Some, None, Result, Ok, Err}
 use Rattle.std.specs.Global.{Vec}
 use Rattle.step_law.specs.declared.Told.{Ghosts}
 use Rattle.pool_law.specs.declared.id.RootId.{RootId}
-use Rattle.pool_law.specs.declared.id.RegionId.{RegionId}
 use Rattle.pool_law.specs.declared.note.Note.{Note}
 use Rattle.pool_law.specs.declared.note.Noted.{Noted}
 use Rattle.pool_law.specs.declared.run.Shape.{Shape}
 use Rattle.pool_law.specs.declared.run.Reply.{Reply}
 use Rattle.pool_law.specs.Limits.{cached_classes}
-use Rattle.pool_law.specs.Reading.{◌>>=◌}
-use Rattle.pool_law.specs.Patterns.{Entries, Allotted, New, Refused, allot_class, ask_both, ask_arena, settle}
+use Rattle.pool_law.specs.Readers.{Reader, ◌>>=◌, give}
+use Rattle.pool_law.specs.Patterns.{New, allot, obtain, ask_arena, bear}
 use Rattle.leak_records.specs.Records.{Sampling}
 use Rattle.handle_bin.specs.Bins.{HandleValue}
 use Rattle.pool_table.specs.declared.table.PoolSeat.{PoolSeat}
@@ -26,6 +25,7 @@ use Rattle.lane_core.specs.declared.allotment.Allots.TheVariants.{More, Held, Ne
 use Rattle.lane_core.specs.Logs.{HasWritten}
 use Rattle.lane_core.specs.Hands.{Hand, empty_hand, IsHeld, IsHandle, IsRegion}
 use Rattle.lane_core.specs.Budgets.{Left, notes_alone, Spends}
+use Rattle.lane_core.specs.Readings.{none_asked, one_asked}
 use Rattle.lane_core.specs.Wrote.{Wrote}
 use Rattle.lane_core.specs.Counting.{AddCounts, one_for}
 use Rattle.shared_pool.specs.Closing.{entry_of}
@@ -44,16 +44,16 @@ hand_after (Held held stage) = hand_of stage
 hand_after _ = empty_hand
 
 -- what may still be spent on an allocation
-abbrev pub left_with : ℕ → ℕ → ℕ → Left
-left_with notes takes moves =
-    record { notes = notes; takes = takes; moves = moves; sends = λ to. 0 }
+abbrev pub left_with : ℕ → ℕ → ℕ → ℕ → Left
+left_with notes asks takes moves =
+    record { notes = notes; asks = asks; takes = takes; moves = moves; sends = λ to. 0 }
 
 abbrev pub left_of : Allotting → Left
-left_of Handle = left_with 5 1 1
-left_of (Cache handle) = left_with 4 1 1
-left_of (Arena handle) = left_with 3 1 1
-left_of (Birth handle region) = left_with 2 0 1
-left_of (Home handle) = left_with 1 0 0
+left_of Handle = left_with 5 1 1 1
+left_of (Cache handle) = left_with 4 1 1 1
+left_of (Arena handle) = left_with 3 0 1 1
+left_of (Birth handle region) = left_with 2 0 0 1
+left_of (Home handle) = left_with 1 0 0 0
 
 -- a root that was born is counted once
 abbrev pub born_in : Allots → RootId → ℕ
@@ -65,33 +65,30 @@ left_after (More stage) = left_of stage
 left_after (Held held stage) = left_of stage
 left_after _ = notes_alone 0
 
--- a region is got, and the allocation settled
-abbrev pub got_then :
-    ℕ → ℕ → ℕ → Option (Option RegionId × Entries) → Option (Allotted × Entries)
-got_then lane place size got = do
-  (region, rest) ← got
-  settle lane place size region rest
-
 -- how a log is read from this stage on, of an allocation of this size and class
-abbrev pub rest_of :
-    Shape → ℕ → ℕ → ℕ → Allotting → Entries → Option (Allotted × Entries)
-rest_of shape lane size class Handle es = allot_class shape lane size (Some class) es
-rest_of shape lane size class (Cache handle) es =
-    got_then lane handle.place size (ask_both shape lane class es)
-rest_of shape lane size class (Arena handle) es =
-    got_then lane handle.place size (ask_arena shape lane class es)
-rest_of shape lane size class (Birth handle region) es =
-    settle lane handle.place size (Some region.id) es
-rest_of shape lane size class (Home handle) es = settle lane handle.place size None es
+abbrev pub rest_of : Shape → ℕ → ℕ → ℕ → Allotting → Reader (Result New Reply)
+rest_of shape lane size class Handle = allot shape lane size
+rest_of shape lane size class (Cache handle) =
+    obtain shape lane class >>= bear lane handle.place size
+rest_of shape lane size class (Arena handle) =
+    ask_arena shape lane class >>= bear lane handle.place size
+rest_of shape lane size class (Birth handle region) =
+    bear lane handle.place size (Some region.id)
+rest_of shape lane size class (Home handle) = bear lane handle.place size None
 
 -- and behind a step
-abbrev pub rest_after :
-    Shape → ℕ → ℕ → ℕ → Allots → Entries → Option (Allotted × Entries)
-rest_after shape lane size class (More stage) es = rest_of shape lane size class stage es
-rest_after shape lane size class (Held held stage) es = rest_of shape lane size class stage es
-rest_after shape lane size class (Born root region) es = Some (New root region, es)
-rest_after shape lane size class NoHandle es = Some (Refused Reply.Handles, es)
-rest_after shape lane size class Full es = Some (Refused Reply.Full, es)
+abbrev pub rest_after : Shape → ℕ → ℕ → ℕ → Allots → Reader (Result New Reply)
+rest_after shape lane size class (More stage) = rest_of shape lane size class stage
+rest_after shape lane size class (Held held stage) = rest_of shape lane size class stage
+rest_after shape lane size class (Born root region) =
+    give (Ok (record { root = root; region = region }))
+rest_after shape lane size class NoHandle = give (Err Reply.Handles)
+rest_after shape lane size class Full = give (Err Reply.Full)
+
+-- the step at this stage asks a cache, or it doesn't
+abbrev pub asks_of : Allotting → ℕ → ℕ
+asks_of (Cache handle) = one_asked
+asks_of _ = none_asked
 
 -- a root is born at a place of the shape
 abbrev pub BornWithin : SharedPool → Allots → Type 0
@@ -146,7 +143,7 @@ module _ {G : Ghosts HomeValue Noted} where
       pub wrote :
           let shape = pool.table.layout.shape in
           Wrote pool old new written first last
-          (rest_of shape (lane_of old) size class stage)
+          (rest_of shape (lane_of old) size class stage) (asks_of stage)
           (rest_after shape (lane_of old) size class result)
       pub counts : AddCounts (born_in result) (map entry_of wrote.added)
       pub place : BornWithin pool result
@@ -154,3 +151,4 @@ module _ {G : Ghosts HomeValue Noted} where
       pub fits : FitsAfter pool new class result
       pub again : IsTriedAgain pool old new stage result written
       pub spends : Spends (view_of old) (view_of new) (left_of stage) (left_after result)
+      pub asked : (n : ℕ) → (left_after result).asks + asks_of stage n ≤ (left_of stage).asks + n

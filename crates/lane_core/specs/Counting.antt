@@ -2,7 +2,7 @@
 use Rattle.std.specs.Prelude.{◌≡◌, ℕ, ◌+◌, if◌then◌else◌, List, Option, Some, None, slice_get}
 use Rattle.pool_law.specs.declared.id.RootId.{RootId}
 use Rattle.pool_law.specs.Counts.{count_of, count_from, CountsHold}
-use Rattle.pool_law.specs.Patterns.{Entries}
+use Rattle.pool_law.specs.Readers.{Entries}
 use Rattle.pool_law.specs.Same.{same_root}
 use Rattle.lane_core.specs.declared.counts.Counted.{Counted}
 

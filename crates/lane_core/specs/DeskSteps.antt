@@ -9,7 +9,8 @@ use Rattle.pool_law.specs.declared.note.Note.{Note}
 use Rattle.pool_law.specs.declared.note.Object.TheVariants.{Mail}
 use Rattle.pool_law.specs.declared.note.RefDid.TheVariants.{Retain}
 use Rattle.pool_law.specs.declared.run.Reply.{Reply}
-use Rattle.pool_law.specs.Lanes.{LaneState}
+use Rattle.pool_law.specs.LaneLaw.{sweep_period}
+use Rattle.pool_law.specs.LaneStates.{LaneState}
 use Rattle.pool_table.specs.Counts.{with_ref}
 use Rattle.pool_table.specs.Seats.{view_of, SameSeat, HasView}
 use Rattle.shared_pool.specs.declared.pool.SharedPool.{SharedPool}
@@ -18,8 +19,9 @@ use Rattle.shared_pool.specs.SeatLanes.{lane_of}
 use Rattle.shared_pool.specs.Seats.{IsPoolSeat, IsNoted, FoundBusy}
 use Rattle.lane_core.specs.declared.access.Access.{Access}
 use Rattle.lane_core.specs.declared.counts.Counted.{Counted}
+use Rattle.lane_core.specs.declared.draining.Draining.TheVariants.{Ask}
 use Rattle.lane_core.specs.declared.desk.Desk.{Desk}
-use Rattle.lane_core.specs.declared.desk.Stage.TheVariants.{Ready}
+use Rattle.lane_core.specs.declared.desk.Stage.TheVariants.{Ready, Sweeping}
 use Rattle.lane_core.specs.declared.desk.Turn.{Turn}
 use Rattle.lane_core.specs.declared.desk.Turn.TheVariants.{Went, Pending}
 use Rattle.lane_core.specs.Accesses.{IsState, IsPrepared}
@@ -47,6 +49,14 @@ pub record HasReplied (old new : Desk) (reply : Reply) : Type 0 where
       new.replies.items ≡ old.replies.items ++ record { reply = reply; notes = notes } ∷ []
   pub room : vec_capacity old.replies ≤ vec_capacity new.replies
   pub rest : new ≡ record old { replies = new.replies; begun = length old.notes.items }
+
+-- the command has this reply, or where a sweep is due it has it once that is done
+abbrev pub Concludes : Desk → Desk → Reply → Turn → Type 0
+Concludes old new reply (Went Ready) = HasReplied old new reply × (old.asked < sweep_period)
+Concludes old new reply (Went (Sweeping later stage)) =
+    (later ≡ reply) × (stage ≡ Ask 0) × (new ≡ record old { asked = 0 })
+    × (sweep_period ≤ old.asked)
+Concludes old new reply _ = ⊥
 
 -- a root is counted once more, and once less
 pub record CountsMore (old new : List Counted) (root : RootId) : Type 0 where
@@ -108,16 +118,18 @@ abbrev pub left_to_post : ℕ → Left
 left_to_post receiver =
     record {
       notes = 1;
+      asks = 0;
       takes = 0;
       moves = 0;
       sends = λ to. if receiver == to then 1 else 0;
     }
 
--- a desk with nothing in hand, and with room for what is left and for a reply
+-- a desk with nothing in hand, with room for what is left and for a reply, and with no sweep due
 pub record MayTurn (pool : SharedPool) (left : Left) (d : Desk) : Type 0 where
   pub desk : IsDesk pool empty_hand d
   pub room : HasRoomFor d left
   pub replies : length d.replies.items < vec_capacity d.replies
+  pub asked : d.asked < sweep_period
 
 -- a turn of a command from its beginning on, whatever the law's bindings are
 abbrev pub Turns : SharedPool → Desk → Desk → Command → Turn → Type 0

@@ -1,17 +1,21 @@
 -- What a lane works with, and what a turn of it does.
-use Rattle.std.specs.Prelude.{◌≡◌, ℕ, ◌+◌, ◌*◌, ◌<◌, ◌≤◌, ◌==◌, if◌then◌else◌, true, false, ⊤, List, [], ◌∷◌, ◌++◌, length, map, Option, Some, None, IfSome, slice_get, vec_capacity}
+use Rattle.std.specs.Prelude.{◌≡◌, ◌≢◌, ℕ, ◌+◌, ◌*◌, ◌<◌, ◌≤◌, ◌==◌, if◌then◌else◌, true, false, ⊤, List, [], ◌∷◌, ◌++◌, length, map, Some, None, IfSome, slice_get, vec_capacity}
 use Rattle.size_classes.specs.Sizes.{of_order, class_of}
 use Rattle.pool_law.specs.declared.command.Command.{Command}
 use Rattle.pool_law.specs.declared.note.Held.{Held}
 use Rattle.pool_law.specs.declared.run.Reply.{Reply}
 use Rattle.pool_law.specs.declared.run.Answered.{Answered}
 use Rattle.pool_law.specs.declared.run.Shape.{Shape}
-use Rattle.pool_law.specs.Limits.{geometry_of}
-use Rattle.pool_law.specs.Reading.{◌>>=◌}
-use Rattle.pool_law.specs.Patterns.{Entries, Allotted}
-use Rattle.pool_law.specs.Lanes.{LaneState, Bound, Answers, answer, answer_of, after_allot}
+use Rattle.pool_law.specs.Bounds.{most_notes, may_ask}
+use Rattle.pool_law.specs.Limits.{cached_classes, geometry_of}
+use Rattle.pool_law.specs.LaneLaw.{sweep_period, before_stop}
+use Rattle.pool_law.specs.LaneStates.{LaneState}
+use Rattle.pool_law.specs.Lanes.{Answer, answer, allotted, turn}
+use Rattle.pool_law.specs.Names.{Names}
+use Rattle.pool_law.specs.Readers.{Entries, Log, Reader, ◌>>=◌, ◌>>◌, give}
 use Rattle.leak_records.specs.Records.{new_sampler}
 use Rattle.pool_table.specs.declared.views.Entry.{Entry}
+use Rattle.pool_table.specs.declared.views.SeatView.{SeatView}
 use Rattle.pool_table.specs.Seats.{view_of, SameSeat}
 use Rattle.shared_pool.specs.declared.pool.SharedPool.{SharedPool}
 use Rattle.shared_pool.specs.Closing.{note_of, entry_of}
@@ -23,19 +27,22 @@ use Rattle.lane_core.specs.declared.access.Access.{Access}
 use Rattle.lane_core.specs.declared.access.Access.TheVariants.{Refused, Set, Get}
 use Rattle.lane_core.specs.declared.desk.Desk.{Desk}
 use Rattle.lane_core.specs.declared.desk.Stage.{Stage}
-use Rattle.lane_core.specs.declared.desk.Stage.TheVariants.{Ready, Allotting, Ending, Closing}
+use Rattle.lane_core.specs.declared.desk.Stage.TheVariants.{Ready, Allotting, Ending, Sweeping, Closing}
 use Rattle.lane_core.specs.declared.desk.Turn.{Turn}
 use Rattle.lane_core.specs.declared.desk.Turn.TheVariants.{Went, Pending, Waiting}
-use Rattle.lane_core.specs.declared.closing.Closing.{Closing as ClosingStage}
+use Rattle.lane_core.specs.declared.draining.Drain.TheVariants.{Trim, Close}
+use Rattle.lane_core.specs.declared.draining.Draining.{Draining}
+use Rattle.lane_core.specs.declared.draining.Draining.TheVariants.{Done as AllDrained}
 use Rattle.lane_core.specs.Hands.{Hand, empty_hand, IsHeld}
 use Rattle.lane_core.specs.Sampled.{AreSampled}
-use Rattle.lane_core.specs.Budgets.{Left, notes_alone, Spends}
+use Rattle.lane_core.specs.Budgets.{Left, notes_alone, with_sheds, all_out, Spends}
 use Rattle.lane_core.specs.Wrote.{HasMore}
 use Rattle.lane_core.specs.Counting.{CountsAre}
 use Rattle.lane_core.specs.Named.{NamesAre}
+use Rattle.lane_core.specs.Readings.{ReadsOn, none_asked, swept, renamed}
 use Rattle.lane_core.specs.Allotments as allotment
 use Rattle.lane_core.specs.Endings as ending
-use Rattle.lane_core.specs.Closings as closing
+use Rattle.lane_core.specs.Drainings as draining
 
 -- what the seat noted, and as the law reads it
 abbrev pub notes_of : Desk → List Entry
@@ -64,56 +71,71 @@ abbrev pub hand_of : Stage → Hand
 hand_of Ready = empty_hand
 hand_of (Allotting name size class stage) = allotment.hand_of stage
 hand_of (Ending stage) = ending.hand_of stage
-hand_of (Closing stage) = closing.hand_of stage
+hand_of (Sweeping reply stage) = draining.hand_of Trim stage
+hand_of (Closing stage) = draining.hand_of Close stage
 
--- and what is known of it
+-- and what is known of it; a sweep is due only behind the command that asked a cache
 abbrev pub Fits : SharedPool → Desk → Stage → Type 0
-Fits pool d Ready = ⊤
+Fits pool d Ready = d.asked < sweep_period
 Fits pool d (Allotting name size class stage) =
     (class_of (geometry_of d.shape) size ≡ Some class) × allotment.Fits pool d.seat class stage
-Fits pool d (Ending stage) = ending.Fits pool d.seat stage
-Fits pool d (Closing stage) = closing.Fits pool d.seat stage
+    × (d.asked + (allotment.left_of stage).asks ≤ sweep_period)
+Fits pool d (Ending stage) = ending.Fits pool d.seat stage × (d.asked < sweep_period)
+Fits pool d (Sweeping reply stage) =
+    draining.Fits pool d.seat stage × (d.asked < sweep_period)
+    × (before_stop (reply ∷ []) ≡ 1) × (stage ≢ AllDrained)
+Fits pool d (Closing stage) = draining.Fits pool d.seat stage
 
--- what a command may spend in all
+-- how many births and retains a command makes
+abbrev pub moves_of : Command → ℕ
+moves_of (Command.Alloc name size) = 1
+moves_of (Command.Slice fresh name at len retained) = if retained then 1 else 0
+moves_of (Command.Retain name) = 1
+moves_of _ = 0
+
+-- how many parcels it sends to a lane
+abbrev pub sends_of : Command → ℕ → ℕ
+sends_of (Command.Send name lane) to = if lane == to then 1 else 0
+sends_of _ to = 0
+
+-- what a command may spend in all, but for a sweep
 abbrev pub left_for : Command → Left
-left_for (Command.Alloc name size) = allotment.left_with 5 1 1
-left_for (Command.Release name) = notes_alone 6
-left_for (Command.Slice fresh name at len true) = allotment.left_with 1 0 1
-left_for (Command.Slice fresh name at len false) = notes_alone 0
-left_for (Command.Dup fresh name) = notes_alone 0
-left_for (Command.Forget name) = notes_alone 0
-left_for (Command.Retain name) = allotment.left_with 1 0 1
-left_for (Command.Send name lane) =
-    record { notes = 1; takes = 0; moves = 0; sends = λ to. if lane == to then 1 else 0 }
-left_for _ = notes_alone 1
+left_for command =
+    record {
+      notes = most_notes false command;
+      asks = may_ask command;
+      takes = may_ask command;
+      moves = moves_of command;
+      sends = sends_of command;
+    }
 
--- what it may still spend from this stage on
-abbrev pub left_at : Command → Stage → Left
-left_at command Ready = left_for command
-left_at command (Allotting name size class stage) = allotment.left_of stage
-left_at command (Ending stage) = ending.left_of stage
-left_at command (Closing stage) = notes_alone 0
+-- what it may still spend from this stage on; a sweep, what caches shed in it too
+abbrev pub left_at : Command → Stage → SeatView → Left
+left_at command Ready v = left_for command
+left_at command (Allotting name size class stage) v = allotment.left_of stage
+left_at command (Ending stage) v = ending.left_of stage
+left_at command (Sweeping reply stage) v = draining.left_of stage v
+left_at command (Closing stage) v = notes_alone 0
 
--- how the law reads the rest of an allocation, and of a release
-abbrev pub reads_allot :
-    Shape → ℕ → LaneState → ℕ → Option (Allotted × Entries) → Answers
-reads_allot shape lane s name got = do
-  (allotted, rest) ← got
-  after_allot s name allotted rest
+-- the same, with what caches may shed
+abbrev pub left_now : Command → Stage → SeatView → Left
+left_now command Ready v = with_sheds v (left_for command)
+left_now command (Allotting name size class stage) v = with_sheds v (allotment.left_of stage)
+left_now command (Ending stage) v = with_sheds v (ending.left_of stage)
+left_now command (Sweeping reply stage) v = draining.left_of stage v
+left_now command (Closing stage) v = notes_alone 0
 
-abbrev pub reads_end : LaneState → Option Entries → Answers
-reads_end s ended = do
-  rest ← ended
-  answer Reply.Freed s.names rest
-
--- how the law reads the notes of a command from this stage on
-abbrev pub reads_from : Shape → ℕ → LaneState → Command → Stage → Entries → Answers
-reads_from shape lane s command Ready es = answer_of shape lane s command es
-reads_from shape lane s command (Allotting name size class stage) es =
-    reads_allot shape lane s name (allotment.rest_of shape lane size class stage es)
-reads_from shape lane s command (Ending stage) es =
-    reads_end s (ending.rest_of shape stage es)
-reads_from shape lane s command (Closing stage) es = None
+-- how the law reads the notes of a command from this stage on, with the names that are bound now
+abbrev pub reads_from : Shape → ℕ → LaneState → Command → Stage → Reader Answer
+reads_from shape lane s command Ready = turn sweep_period shape lane s command
+reads_from shape lane s command (Allotting name size class stage) =
+    allotment.rest_of shape lane size class stage >>= (λ got. give (allotted s name got))
+    >>= swept lane
+reads_from shape lane s command (Ending stage) =
+    ending.rest_of shape stage >> give (answer Reply.Freed s.names) >>= swept lane
+reads_from shape lane s command (Sweeping reply stage) =
+    draining.rest_of Trim lane stage >> give (answer reply s.names)
+reads_from shape lane s command (Closing stage) = λ log. None
 
 -- a turn adds these entries to what the seat noted, and nothing else is new at the desk but its
 -- names and its replies
@@ -128,32 +150,43 @@ pub record DeskGrew (pool : SharedPool) (hand : Hand) (old new : Desk) (added : 
     pub replies_room : vec_capacity old.replies ≤ vec_capacity new.replies
     pub name_count : length new.names ≡ length old.names
 
--- the command that was under way is answered, as the law reads its notes
-pub record IsAnswered (old new : Desk) (added : List Entry) (read : Entries → Answers) : Type 0
-  where
-    pub answered : Answered
-    pub replies : new.replies.items ≡ old.replies.items ++ answered ∷ []
-    pub notes : old.begun + answered.notes ≡ length (notes_of new)
-    pub begun : new.begun ≡ length (notes_of new)
-    pub bindings : List (ℕ × Bound)
-    pub names : NamesAre bindings new.names
-    pub reads : (rest : Entries) →
-        read (map entry_of added ++ rest) ≡ answer answered.reply bindings rest
+-- the lane's log, read as far as its seat noted, with these entries behind
+abbrev pub log_of : Desk → Entries → Log
+log_of d rest = record { seen = entries_of d; asked = d.asked; left = rest }
 
--- it goes on where something was noted, and is now read so
-pub record GoesOn (old new : Desk) (added : List Entry) (before after : Entries → Answers) : Type 0
+-- the command that was under way is answered, as the law reads its notes
+pub record IsAnswered (old new : Desk) (added : List Entry) (read : Reader Answer) : Type 0 where
+  pub answered : Answered
+  pub replies : new.replies.items ≡ old.replies.items ++ answered ∷ []
+  pub unstopped : before_stop (answered.reply ∷ []) ≡ 1
+  pub notes : old.begun + answered.notes ≡ length (notes_of new)
+  pub begun : new.begun ≡ length (notes_of new)
+  pub bound : Names
+  pub names : NamesAre bound new.names
+  pub reads : (rest : Entries) →
+      read (log_of old (map entry_of added ++ rest))
+      ≡ Some (answer answered.reply bound, log_of new rest)
+
+-- it goes on where something was noted, and is now read so, with the names that are bound now
+pub record GoesOn
+    (old new : Desk) (added : List Entry) (before : Reader Answer) (after : Names → Reader Answer) :
+    Type 0
   where
     pub some : 0 < length added
     pub replies : new.replies.items ≡ old.replies.items
-    pub names : new.names ≡ old.names
     pub begun : new.begun ≡ old.begun
-    pub reads : (rest : Entries) → before (map entry_of added ++ rest) ≡ after rest
+    pub bound : Names
+    pub names : NamesAre bound new.names
+    pub reads : (rest : Entries) →
+        before (log_of old (map entry_of added ++ rest)) ≡ after bound (log_of new rest)
 
 -- it waits, and nothing is new
-abbrev pub Waits : Desk → Desk → List Entry → Type 0
-Waits old new added =
-    (added ≡ []) × (new.replies.items ≡ old.replies.items) × (new.names ≡ old.names)
-    × (new.begun ≡ old.begun)
+pub record Waits (old new : Desk) (added : List Entry) : Type 0 where
+  pub none : added ≡ []
+  pub replies : new.replies.items ≡ old.replies.items
+  pub names : new.names ≡ old.names
+  pub begun : new.begun ≡ old.begun
+  pub asked : new.asked ≡ old.asked
 
 -- another seat was there, and this holds of it
 abbrev pub IfPending : Turn → (Held → Type 0) → Type 0
@@ -176,24 +209,39 @@ next_of stage (Went next) = next
 next_of stage (Pending held next) = next
 next_of stage (Waiting sender) = stage
 
--- a turn of a command that is under way, from this stage on
-abbrev pub ComesTo : (Stage → Entries → Answers) → Desk → Desk → List Entry → Stage → Turn → Type 0
-ComesTo reads old new added stage (Went Ready) = IsAnswered old new added (reads stage)
-ComesTo reads old new added stage (Went (Closing next)) = ⊥
-ComesTo reads old new added stage (Went next) =
-    GoesOn old new added (reads stage) (reads next)
-ComesTo reads old new added stage (Pending held (Closing next)) = ⊥
-ComesTo reads old new added stage (Pending held Ready) = (stage ≡ Ready) × Waits old new added
-ComesTo reads old new added stage (Pending held next) =
-    ((rest : Entries) → reads stage rest ≡ reads next rest) × Waits old new added
-ComesTo reads old new added stage (Waiting sender) = (stage ≡ Ready) × Waits old new added
+-- a turn of a command that is under way, from this stage on, in this state of the law
+abbrev pub ComesTo :
+    (LaneState → Stage → Reader Answer) → LaneState → Desk → Desk → List Entry → Stage → Turn →
+    Type 0
+ComesTo reads s old new added stage (Went Ready) = IsAnswered old new added (reads s stage)
+ComesTo reads s old new added stage (Went (Closing next)) = ⊥
+ComesTo reads s old new added stage (Went next) =
+    GoesOn old new added (reads s stage) (λ names. reads (renamed s names) next)
+ComesTo reads s old new added stage (Pending held (Closing next)) = ⊥
+ComesTo reads s old new added stage (Pending held Ready) = (stage ≡ Ready) × Waits old new added
+ComesTo reads s old new added stage (Pending held next) =
+    ((log : Log) → reads s stage log ≡ reads s next log) × Waits old new added
+ComesTo reads s old new added stage (Waiting sender) = (stage ≡ Ready) × Waits old new added
 
--- what it may spend after a turn
-abbrev pub left_after : Command → Stage → Turn → Left
-left_after command stage (Went Ready) = notes_alone 0
-left_after command stage (Went next) = left_at command next
-left_after command stage (Pending held next) = left_at command next
-left_after command stage (Waiting sender) = left_at command stage
+-- what the lane may spend after a turn, and what caches may shed
+abbrev pub left_after : Command → Stage → Turn → SeatView → Left
+left_after command stage (Went Ready) v = with_sheds v (notes_alone 0)
+left_after command stage (Went next) v = left_now command next v
+left_after command stage (Pending held next) v = left_now command next v
+left_after command stage (Waiting sender) v = left_now command stage v
+
+-- a turn spent no more than what is left less, but for the notes of caches that are asked in a sweep
+-- that it began
+pub record SpendsAt (old new : Desk) (before after : Left) : Type 0 where
+  pub sweeps : ℕ
+  pub notes :
+      after.notes + length (notes_of new)
+      ≤ before.notes + length (notes_of old) + cached_classes * sweeps
+  pub asks : after.asks + new.asked + sweep_period * sweeps ≤ before.asks + old.asked
+  pub moves : after.moves + (view_of old.seat).moves ≤ before.moves + (view_of new.seat).moves
+  pub sends : (to : ℕ) →
+      after.sends to + posts (lane_of new.seat) to (notes_of new)
+      ≤ before.sends to + posts (lane_of old.seat) to (notes_of old)
 
 -- the name that an allocation, or an access, will bind is one of the desk's
 abbrev pub NameFits : Desk → Stage → Type 0
@@ -208,10 +256,11 @@ pub record HasTurned (pool : SharedPool) (old new : Desk) (s : LaneState) (comma
   pub fits : Fits pool new (next_of stage turn)
   pub name : NameFits new (next_of stage turn)
   pub spends :
-      Spends (view_of old.seat) (view_of new.seat)
-      (left_at command stage) (left_after command stage turn)
+      SpendsAt old new
+      (left_now command stage (view_of old.seat)) (left_after command stage turn (view_of new.seat))
   pub comes :
-      ComesTo (reads_from old.shape (lane_of old.seat) s command) old new added stage turn
+      let reads = λ state. reads_from old.shape (lane_of old.seat) state command in
+      ComesTo reads s old new added stage turn
   pub waits : IfWaiting turn (λ sender.
       ReceivesFrom command sender × IsDrained pool sender old.seat)
   pub held : IfPending turn (λ held. FoundBusy pool held.object false old.seat new.seat held)
@@ -251,6 +300,7 @@ FitsDesk d (Command.Add whole name) = ⊥
 abbrev pub IsUnderway : Stage → Type 0
 IsUnderway (Allotting name size class stage) = ⊤
 IsUnderway (Ending stage) = ⊤
+IsUnderway (Sweeping reply stage) = ⊤
 IsUnderway _ = ⊥
 
 abbrev pub AccessFits : Desk → Access → Type 0
@@ -259,26 +309,27 @@ AccessFits d (Set reach bytes) = reach.name < length d.names
 AccessFits d (Get reach note reply) = reach.name < length d.names
 
 -- a turn of the closing, from this stage on
-abbrev pub ClosesTo : ClosingStage → Turn → ClosingStage → List Entry → Type 0
+abbrev pub ClosesTo : Draining → Turn → Draining → List Entry → Type 0
 ClosesTo stage (Went (Closing next)) after added = (after ≡ next) × (0 < length added)
 ClosesTo stage (Pending held (Closing next)) after added =
     (next ≡ stage) × (after ≡ stage) × (added ≡ [])
 ClosesTo stage _ after added = ⊥
 
 pub record HasTurnedClosing
-    (pool : SharedPool) (old new : Desk) (stage : ClosingStage) (turn : Turn) : Type 0 where
-  pub after : ClosingStage
+    (pool : SharedPool) (old new : Desk) (stage : Draining) (turn : Turn) : Type 0 where
+  pub after : Draining
   pub added : List Entry
   pub comes : ClosesTo stage turn after added
-  pub grew : DeskGrew pool (closing.hand_of after) old new added
-  pub fits : closing.Fits pool new.seat after
+  pub grew : DeskGrew pool (draining.hand_of Close after) old new added
+  pub fits : draining.Fits pool new.seat after
   pub spends :
       Spends (view_of old.seat) (view_of new.seat)
-      (closing.left_of stage (view_of old.seat)) (closing.left_of after (view_of new.seat))
+      (draining.left_of stage (view_of old.seat)) (draining.left_of after (view_of new.seat))
   pub replies : new.replies.items ≡ old.replies.items
   pub names : new.names ≡ old.names
   pub begun : new.begun ≡ old.begun
+  pub asked : new.asked ≡ old.asked
   pub held : IfPending turn (λ held. FoundBusy pool held.object false old.seat new.seat held)
-  pub reads : (rest : Entries) →
-      closing.rest_of (lane_of old.seat) stage (map entry_of added ++ rest)
-      ≡ closing.rest_of (lane_of old.seat) after rest
+  pub reads :
+      let reads = draining.rest_of Close (lane_of old.seat) in
+      ReadsOn (reads stage) (map entry_of added) none_asked (reads after)

@@ -1,5 +1,5 @@
 -- The end of a root, step by step: what is in hand at each stage, and how the law reads the rest.
-use Rattle.std.specs.Prelude.{◌≡◌, ℕ, ◌/◌, ◌<◌, ⊤, false, List, [], length, map, Option, Some}
+use Rattle.std.specs.Prelude.{◌≡◌, ℕ, ◌/◌, ◌<◌, ⊤, false, List, [], length, map, Some}
 use Rattle.std.specs.Global.{Vec}
 use Rattle.step_law.specs.declared.Told.{Ghosts}
 use Rattle.pool_law.specs.declared.note.Note.{Note}
@@ -7,8 +7,10 @@ use Rattle.pool_law.specs.declared.note.Noted.{Noted}
 use Rattle.pool_law.specs.declared.note.Object.TheVariants.{Bin}
 use Rattle.pool_law.specs.declared.run.Shape.{Shape}
 use Rattle.pool_law.specs.Limits.{cached_classes}
-use Rattle.pool_law.specs.Reading.{◌>>=◌}
-use Rattle.pool_law.specs.Patterns.{Entries, retire, offer, give_back, next_at, home_of}
+use Rattle.pool_law.specs.declared.id.RootId.{RootId}
+use Rattle.pool_law.specs.Dids as says
+use Rattle.pool_law.specs.Readers.{Reader, ◌>>=◌, ◌>>◌, nothing, note, step, ending}
+use Rattle.pool_law.specs.Patterns.{put_away, give_back}
 use Rattle.leak_records.specs.Records.{Sampling}
 use Rattle.pool_table.specs.declared.table.PoolSeat.{PoolSeat}
 use Rattle.pool_table.specs.Seats.{view_of}
@@ -23,6 +25,7 @@ use Rattle.lane_core.specs.declared.retirement.Ends.TheVariants.{More, Held, Don
 use Rattle.lane_core.specs.Logs.{HasWritten}
 use Rattle.lane_core.specs.Hands.{Hand, empty_hand, IsHeld, IsHandle, IsRegion}
 use Rattle.lane_core.specs.Budgets.{Left, notes_alone, Spends}
+use Rattle.lane_core.specs.Readings.{none_asked}
 use Rattle.lane_core.specs.Wrote.{Wrote}
 use Rattle.lane_core.specs.Counting.{AddCounts}
 use Rattle.shared_pool.specs.Closing.{entry_of}
@@ -53,30 +56,29 @@ left_after (Held held stage) = left_of stage
 left_after Done = notes_alone 0
 
 -- the handle of a place goes home
-abbrev pub goes_home : Shape → ℕ → Entries → Option Entries
-goes_home shape place es = do
-  (did, rest) ← next_at (Bin (place / shape.handles)) es
-  _ ← home_of place did
-  Some rest
+abbrev pub goes_home : Shape → ℕ → Reader (Unit {0})
+goes_home shape place = note (Bin (place / shape.handles)) (says.home place)
 
--- the region was put away, and the handle goes home
-abbrev pub away_then : Shape → ℕ → Option Entries → Option Entries
-away_then shape place put = do
-  rest ← put
-  goes_home shape place rest
+-- what follows the last count of a root
+abbrev pub retired : Shape → RootId → Reader (Unit {0})
+retired shape root = do
+  region ← ending root
+  step root says.vacated
+  put_away region
+  goes_home shape root.place
 
 -- how a log is read from this stage on
-abbrev pub rest_of : Shape → Ending → Entries → Option Entries
-rest_of shape (Root token) es = retire shape token.root es
-rest_of shape (Cache region handle) es = away_then shape handle.place (offer region.id es)
-rest_of shape (Arena region handle) es = away_then shape handle.place (give_back region.id es)
-rest_of shape (Home handle) es = goes_home shape handle.place es
+abbrev pub rest_of : Shape → Ending → Reader (Unit {0})
+rest_of shape (Root token) = retired shape token.root
+rest_of shape (Cache region handle) = put_away region.id >> goes_home shape handle.place
+rest_of shape (Arena region handle) = give_back region.id >> goes_home shape handle.place
+rest_of shape (Home handle) = goes_home shape handle.place
 
 -- and behind a step
-abbrev pub rest_after : Shape → Ends → Entries → Option Entries
-rest_after shape (More stage) es = rest_of shape stage es
-rest_after shape (Held held stage) es = rest_of shape stage es
-rest_after shape Done es = Some es
+abbrev pub rest_after : Shape → Ends → Reader (Unit {0})
+rest_after shape (More stage) = rest_of shape stage
+rest_after shape (Held held stage) = rest_of shape stage
+rest_after shape Done = nothing
 
 module _ {G : Ghosts HomeValue Noted} where
   -- where another seat was there the same is to be tried again, and nothing was noted; else
@@ -117,7 +119,7 @@ module _ {G : Ghosts HomeValue Noted} where
       pub wrote : (sampler : Sampling) →
           let shape = pool.table.layout.shape in
           Wrote pool old new written sampler sampler
-          (rest_of shape stage) (rest_after shape result)
+          (rest_of shape stage) none_asked (rest_after shape result)
       pub counts : (sampler : Sampling) →
           AddCounts (λ root. 0) (map entry_of (wrote sampler).added)
       pub hand : IsHeld (hand_after result) (view_of new)

@@ -1,5 +1,5 @@
 -- What a seat has in hand, exactly: at most one root place, one region and one end token; and how
--- far it has closed its caches.
+-- far it has closed and drained its caches.
 use Rattle.std.specs.Prelude.{◌≡◌, ℕ, ◌+◌, ◌*◌, ◌/◌, ◌<◌, ◌==◌, cond, if◌then◌else◌, nat_lt, Option, Some, None, IfSome}
 use Rattle.step_law.specs.declared.Told.{Ghosts}
 use Rattle.size_classes.specs.Sizes.{class_count, size_at}
@@ -22,16 +22,19 @@ use Rattle.lane_core.specs.Budgets.{lane_in}
 use Rattle.shared_pool.specs.declared.home.Home.{Home}
 use Rattle.shared_pool.specs.declared.pool.SharedPool.{SharedPool}
 
--- so many caches of the lane are closed, and so many regions of the last are still to be shed
+-- so many caches of the lane are closed; so many were asked for a quota by the draining that is under
+-- way, and so many regions of the last of these are still to be shed
 pub record Hand : Type 0 where
   pub place : Option ℕ
   pub region : Option RegionId
   pub token : Option RootId
   pub closed : ℕ
+  pub drained : ℕ
   pub quota : ℕ
 
 abbrev pub empty_hand : Hand
-empty_hand = record { place = None; region = None; token = None; closed = 0; quota = 0 }
+empty_hand =
+    record { place = None; region = None; token = None; closed = 0; drained = 0; quota = 0 }
 
 -- 1 where the place is held, and the root's token
 abbrev pub is_place : ℕ → Option ℕ → ℕ
@@ -48,7 +51,7 @@ held_weight weight None = 0
 held_weight weight (Some r) = weight r
 
 -- this and no more is in the view's hands, no birth or end is half done, and the caches are closed
--- so far
+-- and drained so far
 pub record IsHeld (hand : Hand) (v : SeatView) : Type 0 where
   pub places : (p : ℕ) → taken p v ≡ put_down p v + is_place p hand.place
   pub births : (p : ℕ) → weigh (at_birth p) v ≡ weigh (on_place ref_born p) v
@@ -62,7 +65,7 @@ pub record IsHeld (hand : Hand) (v : SeatView) : Type 0 where
   pub ended : (root : RootId) → weigh (ends root) v ≡ weigh (on_this ref_vacated root) v
   pub quotas : (class : ℕ) →
       quota_left (lane_in v) class v.own.notes
-      ≡ (if class + 1 == hand.closed then hand.quota else 0)
+      ≡ (if class + 1 == hand.drained then hand.quota else 0)
   pub closes : (class : ℕ) →
       has_closed (lane_in v) class v.own.notes ≡ nat_lt class hand.closed
 

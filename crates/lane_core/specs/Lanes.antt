@@ -1,25 +1,30 @@
 -- A lane of a pool: its log so far is the law's for its commands so far.
-use Rattle.std.specs.Prelude.{◌≡◌, ℕ, ◌+◌, ◌*◌, ◌/◌, ◌<◌, ◌≤◌, ⊤, List, [], ◌∷◌, ◌++◌, length, take, drop, sum, All, Option, Some, None, vec_capacity}
-use Rattle.size_classes.specs.Sizes.{below}
+use Rattle.std.specs.Prelude.{◌≡◌, ℕ, ◌+◌, ◌*◌, ◌/◌, ◌<◌, ◌≤◌, ⊤, List, [], ◌∷◌, ◌++◌, length, take, drop, sum, All, Some, None, vec_capacity}
 use Rattle.pool_law.specs.declared.command.Command.{Command}
 use Rattle.pool_law.specs.declared.run.Shape.{Shape}
 use Rattle.pool_law.specs.Limits.{cached_classes, IsShape}
 use Rattle.pool_law.specs.Legal.{AreCommands}
-use Rattle.pool_law.specs.LaneLaw.{lane_run, pieces, note_counts, replies_in, close_caches}
-use Rattle.pool_law.specs.Lanes.{LaneState, new_lane, answer_of}
-use Rattle.pool_law.specs.Patterns.{Entries}
+use Rattle.pool_law.specs.LaneLaw.{sweep_period, lane_run, before_stop, pieces, note_counts, replies_in}
+use Rattle.pool_law.specs.LaneStates.{LaneState, new_lane, log_at}
+use Rattle.pool_law.specs.Lanes.{turn}
+use Rattle.pool_law.specs.Names.{Names}
+use Rattle.pool_law.specs.Patterns.{closing}
+use Rattle.pool_law.specs.Readers.{Entries, Reader}
+use Rattle.pool_table.specs.declared.views.SeatView.{SeatView}
 use Rattle.pool_table.specs.Seats.{view_of}
 use Rattle.shared_pool.specs.declared.pool.SharedPool.{SharedPool}
 use Rattle.shared_pool.specs.SeatLanes.{lane_of}
 use Rattle.lane_core.specs.declared.desk.Desk.{Desk}
 use Rattle.lane_core.specs.declared.desk.Stage.{Stage}
 use Rattle.lane_core.specs.declared.desk.Stage.TheVariants.{Ready, Closing}
-use Rattle.lane_core.specs.declared.closing.Closing.TheVariants.{Done as AllClosed}
+use Rattle.lane_core.specs.declared.draining.Drain.TheVariants.{Close}
+use Rattle.lane_core.specs.declared.draining.Draining.TheVariants.{Done as AllClosed}
 use Rattle.lane_core.specs.declared.lane.Lane.{Lane}
-use Rattle.lane_core.specs.Budgets.{Left, notes_alone, all_takes}
+use Rattle.lane_core.specs.Budgets.{Left, notes_alone, with_sheds}
 use Rattle.lane_core.specs.Named.{NamesAre}
-use Rattle.lane_core.specs.Closings as closing
-use Rattle.lane_core.specs.Desks.{IsDesk, notes_of, entries_of, hand_of, Fits, FitsDesk, IsUnderway, NameFits, HasRoomFor, left_for, left_at, reads_from}
+use Rattle.lane_core.specs.Readings.{ReadsOn, none_asked, renamed}
+use Rattle.lane_core.specs.Drainings as draining
+use Rattle.lane_core.specs.Desks.{IsDesk, notes_of, entries_of, log_of, hand_of, Fits, FitsDesk, IsUnderway, NameFits, HasRoomFor, left_for, left_now, reads_from}
 
 -- the commands that are not answered yet, that one first which is under way
 abbrev pub commands_left : Lane → List Command
@@ -37,27 +42,31 @@ entries_since l = drop l.desk.begun (entries_of l.desk)
 pub record HasAnswered (shape : Shape) (lane : ℕ) (l : Lane) (s : LaneState) : Type 0 where
   pub counted : sum (note_counts l.desk.replies.items) ≡ l.desk.begun
   pub run :
-      lane_run shape lane new_lane (take (length l.desk.replies.items) l.commands)
+      lane_run sweep_period shape lane new_lane
+      (take (length l.desk.replies.items) l.commands)
       (pieces (note_counts l.desk.replies.items) (answered_entries l))
       ≡ Some (replies_in l.desk.replies.items, s)
-  pub names : NamesAre s.names l.desk.names
+  pub unstopped :
+      before_stop (replies_in l.desk.replies.items) ≡ length l.desk.replies.items
   pub seen : s.seen ≡ answered_entries l
 
 -- how the law reads the closing from a stage on
-abbrev pub reads_closing : ℕ → Stage → Entries → Option Entries
-reads_closing lane Ready es = close_caches lane (below cached_classes) es
-reads_closing lane (Closing stage) es = closing.rest_of lane stage es
-reads_closing lane _ es = None
+abbrev pub reads_closing : ℕ → Stage → Reader (Unit {0})
+reads_closing lane Ready = closing lane
+reads_closing lane (Closing stage) = draining.rest_of Close lane stage
+reads_closing lane _ = λ log. None
 
 -- what was noted since is the beginning of what is under way: of the first of these commands, or
 -- where there is none of the closing
-abbrev pub IsBegun : Shape → ℕ → LaneState → List Command → Stage → Entries → Type 0
-IsBegun shape lane s [] stage es =
+abbrev pub IsBegun : Lane → LaneState → Names → List Command → Entries → Type 0
+IsBegun l s names [] es =
+    let lane = lane_of l.desk.seat in
+    ReadsOn (closing lane) es none_asked (reads_closing lane l.stage)
+IsBegun l s names (command ∷ later) es =
+    let lane = lane_of l.desk.seat in
     (rest : Entries) →
-    close_caches lane (below cached_classes) (es ++ rest) ≡ reads_closing lane stage rest
-IsBegun shape lane s (command ∷ later) stage es =
-    (rest : Entries) →
-    answer_of shape lane s command (es ++ rest) ≡ reads_from shape lane s command stage rest
+    turn sweep_period l.desk.shape lane s command (log_at s (es ++ rest))
+    ≡ reads_from l.desk.shape lane (renamed s names) command l.stage (log_of l.desk rest)
 
 -- ---- What is still to be spent.
 
@@ -65,6 +74,7 @@ abbrev pub both : Left → Left → Left
 both a b =
     record {
       notes = a.notes + b.notes;
+      asks = a.asks + b.asks;
       takes = a.takes + b.takes;
       moves = a.moves + b.moves;
       sends = λ to. a.sends to + b.sends to;
@@ -75,22 +85,27 @@ abbrev pub left_for_all : List Command → Left
 left_for_all [] = notes_alone 0
 left_for_all (command ∷ later) = both (left_for command) (left_for_all later)
 
--- on the commands of which the first is at this stage
-abbrev pub left_for_rest : List Command → Stage → Left
-left_for_rest [] stage = notes_alone 0
-left_for_rest (command ∷ later) stage = both (left_at command stage) (left_for_all later)
+-- and on shedding the regions that they may take
+abbrev pub with_takes : Left → Left
+with_takes left = record left { notes = left.notes + 2 * left.takes }
 
--- on the closing, after so many takings more
-abbrev pub left_for_closing : Stage → Desk → ℕ → Left
-left_for_closing (Closing stage) d takes = closing.left_of stage (view_of d.seat)
-left_for_closing _ d takes =
-    notes_alone (cached_classes + 2 * (all_takes (view_of d.seat) + takes))
+-- on the commands of which the first is at this stage, or on the closing
+abbrev pub left_for_rest : List Command → Stage → SeatView → Left
+left_for_rest [] (Closing stage) v = draining.left_of stage v
+left_for_rest [] stage v = with_sheds v (notes_alone 0)
+left_for_rest (command ∷ later) stage v =
+    both (left_now command stage v) (with_takes (left_for_all later))
+
+-- on asking the caches, in the sweeps to come and the closing, where so many allocations ask a cache
+abbrev pub left_to_ask : Stage → ℕ → Left
+left_to_ask (Closing stage) asking = notes_alone 0
+left_to_ask _ asking = notes_alone (cached_classes * (1 + asking / sweep_period))
 
 -- on all that the lane has still to do
 abbrev pub left_of : Lane → Left
 left_of l =
-    let rest = left_for_rest (commands_left l) l.stage in
-    both rest (left_for_closing l.stage l.desk rest.takes)
+    let rest = left_for_rest (commands_left l) l.stage (view_of l.desk.seat) in
+    both rest (left_to_ask l.stage (l.desk.asked + rest.asks))
 
 -- ---- A lane.
 
@@ -103,6 +118,12 @@ IsClosing _ = ⊥
 abbrev pub IsAtRest : Stage → Type 0
 IsAtRest Ready = ⊤
 IsAtRest _ = ⊥
+
+-- where no command is under way, the law's state is the desk's
+pub record IsResting (d : Desk) (s : LaneState) (names : Names) : Type 0 where
+  pub begun : d.begun ≡ length (notes_of d)
+  pub names_are : names ≡ s.names
+  pub asked : s.asked ≡ d.asked
 
 -- the lane's number
 abbrev pub number_of : Lane → ℕ
@@ -118,10 +139,11 @@ pub record IsLane (pool : SharedPool) (l : Lane) : Type 0 where
   pub few : length l.desk.replies.items ≤ length l.commands
   pub state : LaneState
   pub answered : HasAnswered l.desk.shape (number_of l) l state
-  pub begun :
-      IsBegun l.desk.shape (number_of l) state (commands_left l) l.stage (entries_since l)
+  pub bound : Names
+  pub bound_are : NamesAre bound l.desk.names
+  pub begun : IsBegun l state bound (commands_left l) (entries_since l)
   pub all_answered : IsClosing l.stage → commands_left l ≡ []
-  pub rest : IsAtRest l.stage → l.desk.begun ≡ length (notes_of l.desk)
+  pub rest : IsAtRest l.stage → IsResting l.desk state bound
   pub underway : IsUnderway l.stage → length l.desk.replies.items < length l.commands
   pub names : NameFits l.desk l.stage
   pub room : HasRoomFor l.desk (left_of l)
@@ -149,12 +171,3 @@ pub record SameLane (old new : Lane) : Type 0 where
   pub number : number_of new ≡ number_of old
   pub shape : new.desk.shape ≡ old.desk.shape
   pub commands : new.commands ≡ old.commands
-
--- what the bound on a lane's notes says: those of its commands, and of its closing
-abbrev pub takes_of_all : List Command → ℕ
-takes_of_all commands = (left_for_all commands).takes
-
-abbrev pub note_bound : List Command → ℕ
-note_bound commands =
-    (left_for_all commands).notes
-    + (cached_classes * (1 + takes_of_all commands / 8192) + 2 * takes_of_all commands)

@@ -4,10 +4,11 @@ pub mod Counting
 pub mod Budgets
 pub mod Hands
 pub mod Sampled
+pub mod Readings
 pub mod Wrote
 pub mod Allotments
 pub mod Endings
-pub mod Closings
+pub mod Drainings
 pub mod Accesses
 pub mod Desks
 pub mod DeskSteps

@@ -2,16 +2,16 @@
 use Rattle.std.specs.Prelude.{◌≡◌, ℕ, ◌<◌, List, Option, Some, None, IfSome, option_map, unwrap_or, slice_get}
 use Rattle.pool_law.specs.declared.command.Command.{Command}
 use Rattle.pool_law.specs.declared.id.ViewData.{ViewData}
-use Rattle.pool_law.specs.Lanes.{Bound, Plain, lookup}
+use Rattle.pool_law.specs.Names.{Names, Plain, lookup}
 
 -- what a name is bound to, of a list by name
 abbrev pub bound_at : List (Option ViewData) → ℕ → Option ViewData
 bound_at names name = unwrap_or (slice_get names name) None
 
--- the list has what the law's bindings have
-abbrev pub NamesAre : List (ℕ × Bound) → List (Option ViewData) → Type 0
-NamesAre bindings names =
-    (name : ℕ) → lookup name bindings ≡ option_map Plain (bound_at names name)
+-- the list has what the law's names are bound to
+abbrev pub NamesAre : Names → List (Option ViewData) → Type 0
+NamesAre bound names =
+    (name : ℕ) → lookup name bound ≡ option_map Plain (bound_at names name)
 
 -- the name whose binding a command may change
 abbrev pub changed_name : Command → Option ℕ

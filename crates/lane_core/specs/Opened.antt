@@ -6,6 +6,7 @@ use Rattle.pool_law.specs.declared.command.Command.{Command}
 use Rattle.pool_law.specs.declared.id.RootId.{RootId}
 use Rattle.pool_law.specs.declared.note.Noted.{Noted}
 use Rattle.pool_law.specs.declared.run.Shape.{Shape}
+use Rattle.pool_law.specs.Bounds.{note_bound}
 use Rattle.pool_law.specs.Legal.{AreCommands}
 use Rattle.pool_law.specs.Limits.{IsShape}
 use Rattle.leak_records.specs.Records.{new_sampler}
@@ -18,7 +19,7 @@ use Rattle.shared_pool.specs.Seats.{IsPoolSeat}
 use Rattle.lane_core.specs.declared.lane.Parts.{Parts}
 use Rattle.lane_core.specs.Named.{ChangesBelow}
 use Rattle.lane_core.specs.Counting.{counted}
-use Rattle.lane_core.specs.Lanes.{left_for_all, note_bound}
+use Rattle.lane_core.specs.Lanes.{left_for_all}
 
 -- it makes no composite
 abbrev pub IsPlain : Command → Type 0

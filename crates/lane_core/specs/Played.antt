@@ -12,7 +12,7 @@ use Rattle.pool_law.specs.declared.run.LaneLog.{LaneLog}
 use Rattle.pool_law.specs.declared.run.Run.{Run}
 use Rattle.pool_law.specs.declared.run.Shape.{Shape}
 use Rattle.pool_law.specs.Legal.{IsLegal, logs_of}
-use Rattle.pool_law.specs.Logs.{Logs, log_of}
+use Rattle.pool_law.specs.Logs.{Logs, of_lane}
 use Rattle.pool_law.specs.Same.{same_object}
 use Rattle.shared_pool.specs.declared.pool.SharedPool.{SharedPool}
 use Rattle.lane_core.specs.declared.lane.Lane.{Lane}
@@ -40,8 +40,8 @@ IsHandedOver logs =
     (sender receiver : ℕ) (early late before after : List Note)
     (sent taken : ℕ) (parcel got : Parcel) →
     let mail = Mail sender receiver in
-    log_of logs sender ≡ early ++ At mail sent (Post parcel) ∷ late →
-    log_of logs receiver ≡ before ++ At mail taken (Fetch got) ∷ after →
+    of_lane logs sender ≡ early ++ At mail sent (Post parcel) ∷ late →
+    of_lane logs receiver ≡ before ++ At mail taken (Fetch got) ∷ after →
     how_many (is_post mail) early ≡ how_many (is_fetch mail) before →
     (object : Object) (i j m n : ℕ) (d e : Did) →
     slice_get early i ≡ Some (At object m d) →

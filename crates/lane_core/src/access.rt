@@ -2,7 +2,7 @@
 
 ghost use Rattle.std.specs.Prelude.{◌≡◌, ◌<◌, ◌≤◌, length, replicate, Some, None, IfOk, IfErr, IfSome, IfNone, true, false};
 ghost use Rattle.pool_law.specs.declared.command.Command.{Command};
-ghost use Rattle.pool_law.specs.Lanes.{LaneState};
+ghost use Rattle.pool_law.specs.LaneStates.{LaneState};
 ghost use Rattle.pool_law.specs.Views.{in_range, can_read, can_write, after_read, after_write};
 ghost use Rattle.lane_core.specs.Named.{bound_at};
 ghost use Rattle.lane_core.specs.Counting.{counted};

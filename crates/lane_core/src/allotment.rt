@@ -79,6 +79,7 @@ fn ask_bin(pool: &SharedPool, seat: &mut PoolSeat, log: &mut Vec<Note>, class: u
     requires may { MayAllot pool.now seat.old class Allotting.Handle }
     requires room { length log.old.items < vec_capacity log.old }
     ensures { (sampler : Sampling) (size : ℕ) →
+        class_of (geometry_of pool.now.table.layout.shape) size ≡ Some class →
         HasAllotted pool.now seat.old seat.new sampler sampler log.old log.new
         size class Allotting.Handle result }
 {

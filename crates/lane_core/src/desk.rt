@@ -1,7 +1,8 @@
 //! What a lane works with: its seat, its names, its counts, and the log that it writes.
 
 ghost use Rattle.std.specs.Prelude.{◌≡◌, ◌≢◌, ◌+◌, ◌-◌, ◌<◌, ◌≤◌, [], ◌∷◌, ◌++◌, length, Some, None, IfSome, vec_capacity};
-ghost use Rattle.pool_law.specs.Lanes.{LaneState};
+ghost use Rattle.pool_law.specs.LaneLaw.{sweep_period};
+ghost use Rattle.pool_law.specs.LaneStates.{LaneState};
 ghost use Rattle.pool_law.specs.declared.command.Command.{Command};
 ghost use Rattle.lane_core.specs.Hands.{empty_hand};
 ghost use Rattle.lane_core.specs.Accesses.{IsState, Reaches, IsReady, IsPrepared, IsAccess, reply_for};
@@ -9,23 +10,24 @@ ghost use Rattle.lane_core.specs.declared.access.Access.TheVariants.{Set, Get};
 ghost use Rattle.pool_law.specs.Views.{IsView};
 ghost use Rattle.lane_core.specs.Allotments.{left_with};
 ghost use Rattle.lane_core.specs.Counting.{counted};
-ghost use Rattle.lane_core.specs.DeskSteps.{CanAnswer, HasNoted, HasReplied, HasRetained, FindsBusy, PostsTo, left_to_post, MayTurn, Turns, AccessTurns};
+ghost use Rattle.lane_core.specs.DeskSteps.{CanAnswer, Concludes, HasNoted, HasReplied, HasRetained, FindsBusy, PostsTo, left_to_post, MayTurn, Turns, AccessTurns};
 ghost use Rattle.lane_core.specs.declared.desk.Turn.{Turn};
 ghost use Rattle.shared_pool.specs.declared.pool.SharedPool.{SharedPool};
 ghost use Rattle.lane_core.specs.Named.{NamesAre};
-ghost use Rattle.lane_core.specs.Closings as closing;
+ghost use Rattle.lane_core.specs.Drainings as draining;
 ghost use Rattle.lane_core.specs.Allotments as allotment;
 ghost use Rattle.lane_core.specs.Endings as ending;
 ghost use Rattle.lane_core.specs.Desks.{IsDesk, hand_of, Fits, FitsDesk, HasRoomFor, left_for, left_at, IsUnderway, NameFits, AccessFits, HasTurned, HasTurnedClosing};
 ghost use Rattle.lane_core.specs.declared.desk.Stage.{Stage};
-ghost use Rattle.lane_core.specs.declared.closing.Closing.{Closing};
+ghost use Rattle.lane_core.specs.declared.draining.Drain.TheVariants.{Close};
+ghost use Rattle.lane_core.specs.declared.draining.Draining.{Draining};
 ghost use Rattle.lane_core.specs.Budgets.{notes_alone};
 ghost use Rattle.pool_table.specs.Seats.{view_of};
 
 use crate::access::{Access, Reach, Refusal, counted, derived};
 use crate::allotment::{Allots, Allotting, allot};
-use crate::closing::{Closes, Closing, close};
 use crate::counts::OwnCounts;
+use crate::draining::{Drain, Draining, Drains, drain};
 use crate::names::Names;
 use crate::notes::{at, lane_of, to, write};
 use crate::retirement::{Ending, Ends, end};
@@ -49,7 +51,12 @@ pub(crate) struct Desk {
     pub(crate) notes: Vec<Note>,
     /// How many notes stood before the command that is under way.
     pub(crate) begun: usize,
+    /// How many allocations asked a cache since the last sweep.
+    pub(crate) asked: u32,
 }
+
+/// A lane sweeps its caches once so many allocations asked one.
+const SWEEP_PERIOD: u32 = 8192;
 
 /// What a command has still to do once it has begun.
 pub(crate) enum Stage {
@@ -62,7 +69,13 @@ pub(crate) enum Stage {
         stage: Allotting,
     },
     Ending(Ending),
-    Closing(Closing),
+    /// The caches are swept, and then the command has this reply.
+    Sweeping {
+        reply: Reply,
+        stage: Draining,
+    },
+    /// All commands are answered, and the caches are closed.
+    Closing(Draining),
 }
 
 /// What a turn of a lane came to. The stage is what is to be done next.
@@ -90,6 +103,17 @@ fn reply_of(refusal: Refusal) -> Reply
     }
 }
 
+// How many allocations asked a cache, with one that is about to do what its stage says.
+fn asked_with(stage: &Allotting, asked: u32) -> u32
+    requires { asked < 4294967295 }
+    ensures { result ≡ allotment.asks_of stage.now asked }
+{
+    match stage {
+        Allotting::Cache(_) => asked + 1,
+        _ => asked,
+    }
+}
+
 impl Desk {
     // Writes a note.
     fn note(&mut self, note: Note)
@@ -113,6 +137,19 @@ impl Desk {
         Turn::Went(Stage::Ready)
     }
 
+    // Answers the command that is under way, or where a sweep is due begins that.
+    fn conclude(&mut self, reply: Reply) -> Turn
+        requires { CanAnswer self.old }
+        ensures { Concludes self.old self.new reply result }
+    {
+        if self.asked < SWEEP_PERIOD {
+            return self.answer(reply);
+        }
+        self.asked = 0;
+        let stage = Draining::Ask { class: 0 };
+        Turn::Went(Stage::Sweeping { reply, stage })
+    }
+
     fn refuse(&mut self, refusal: Refusal) -> Turn
         requires { CanAnswer self.old }
         ensures replied { HasReplied self.old self.new (reply_for refusal) }
@@ -128,6 +165,7 @@ impl Desk {
         requires replies { length self.old.replies.items < vec_capacity self.old.replies }
         requires fits { FitsDesk self.old command.now }
         requires other { IsAccess command.now → ⊥ }
+        requires asked { self.old.asked < sweep_period }
         ensures { (s : LaneState) → IsState s self.old.names self.old.counts →
             HasTurned pool.now self.old self.new s command.now Stage.Ready result }
     {
@@ -157,7 +195,8 @@ impl Desk {
         requires desk { IsDesk pool.now (hand_of stage) self.old }
         requires fits { Fits pool.now self.old stage }
         requires begun { IsUnderway stage }
-        requires room { (command : Command) → HasRoomFor self.old (left_at command stage) }
+        requires room { (command : Command) →
+            HasRoomFor self.old (left_at command stage (view_of self.old.seat)) }
         requires replies { length self.old.replies.items < vec_capacity self.old.replies }
         requires name { NameFits self.old stage }
         ensures { (s : LaneState) (command : Command) → NamesAre s.names self.old.names →
@@ -171,6 +210,7 @@ impl Desk {
                 stage,
             } => self.allot(pool, name, size, class, stage),
             Stage::Ending(stage) => self.end(pool, stage),
+            Stage::Sweeping { reply, stage } => self.sweep(pool, reply, stage),
             _ => unreachable!(),
         }
     }
@@ -207,6 +247,7 @@ impl Desk {
             let stage = Stage.Allotting name size class stage in
             HasTurned pool.now self.old self.new s command stage result }
     {
+        self.asked = asked_with(&stage, self.asked);
         let allots = allot(
             pool,
             &self.shape,
@@ -236,13 +277,13 @@ impl Desk {
             Allots::New(root, region) => {
                 self.counts.add(root);
                 self.names.bind(name, View::of_root(root));
-                self.answer(Reply::OkPlace {
+                self.conclude(Reply::OkPlace {
                     size: region.place.len,
                     place: region.place,
                 })
             }
-            Allots::NoHandle => self.answer(Reply::Handles),
-            Allots::Full => self.answer(Reply::Full),
+            Allots::NoHandle => self.conclude(Reply::Handles),
+            Allots::Full => self.conclude(Reply::Full),
         }
     }
 
@@ -252,6 +293,7 @@ impl Desk {
         requires room { HasRoomFor self.old (notes_alone 1) }
         requires replies { length self.old.replies.items < vec_capacity self.old.replies }
         requires ready { IsReady self.old.counts access }
+        requires asked { self.old.asked < sweep_period }
         requires name { AccessFits self.old access }
         ensures { (s : LaneState) (command : Command) → IsState s self.old.names self.old.counts →
             IsPrepared self.old.names self.old.counts command access s →
@@ -369,7 +411,7 @@ impl Desk {
     // One count more of a root.
     fn count_more(&mut self, pool: &SharedPool, root: RootId)
         requires desk { IsDesk pool.now empty_hand self.old }
-        requires room { HasRoomFor self.old (left_with 1 0 1) }
+        requires room { HasRoomFor self.old (left_with 1 0 0 1) }
         requires counts { 0 < counted self.old.counts root }
         ensures { HasRetained pool.now self.old self.new root }
     {
@@ -425,6 +467,22 @@ impl Desk {
             Ends::More(stage) => Turn::Went(Stage::Ending(stage)),
             Ends::Held(held, stage) => Turn::Pending(held, Stage::Ending(stage)),
             Ends::Done => self.answer(Reply::Freed),
+        }
+    }
+
+    /// Goes on with a sweep of the caches, behind which the command has this reply.
+    pub(crate) fn sweep(&mut self, pool: &SharedPool, reply: Reply, stage: Draining) -> Turn
+        requires desk { IsDesk pool.now (hand_of (Stage.Sweeping reply stage)) self.old }
+        requires fits { Fits pool.now self.old (Stage.Sweeping reply stage) }
+        requires room { HasRoomFor self.old (draining.left_of stage (view_of self.old.seat)) }
+        requires replies { length self.old.replies.items < vec_capacity self.old.replies }
+        ensures { (s : LaneState) (command : Command) → NamesAre s.names self.old.names →
+            HasTurned pool.now self.old self.new s command (Stage.Sweeping reply stage) result }
+    {
+        match drain(pool, &mut self.seat, &mut self.notes, Drain::Trim, stage) {
+            Drains::More(Draining::Done) => self.answer(reply),
+            Drains::More(stage) => Turn::Went(Stage::Sweeping { reply, stage }),
+            Drains::Held(held, stage) => Turn::Pending(held, Stage::Sweeping { reply, stage }),
         }
     }
 
@@ -544,16 +602,16 @@ impl Desk {
     }
 
     /// Goes on with the closing of the caches.
-    pub(crate) fn close(&mut self, pool: &SharedPool, stage: Closing) -> Turn
-        requires desk { IsDesk pool.now (closing.hand_of stage) self.old }
-        requires fits { closing.Fits pool.now self.old.seat stage }
-        requires room { HasRoomFor self.old (closing.left_of stage (view_of self.old.seat)) }
-        requires more { stage ≢ Closing.Done }
+    pub(crate) fn close(&mut self, pool: &SharedPool, stage: Draining) -> Turn
+        requires desk { IsDesk pool.now (draining.hand_of Close stage) self.old }
+        requires fits { draining.Fits pool.now self.old.seat stage }
+        requires room { HasRoomFor self.old (draining.left_of stage (view_of self.old.seat)) }
+        requires more { stage ≢ Draining.Done }
         ensures { HasTurnedClosing pool.now self.old self.new stage result }
     {
-        match close(pool, &mut self.seat, &mut self.notes, stage) {
-            Closes::More(stage) => Turn::Went(Stage::Closing(stage)),
-            Closes::Held(held, stage) => Turn::Pending(held, Stage::Closing(stage)),
+        match drain(pool, &mut self.seat, &mut self.notes, Drain::Close, stage) {
+            Drains::More(stage) => Turn::Went(Stage::Closing(stage)),
+            Drains::Held(held, stage) => Turn::Pending(held, Stage::Closing(stage)),
         }
     }
 
@@ -579,6 +637,7 @@ impl Desk {
             replies,
             notes,
             begun: _,
+            asked: _,
         } = self;
         (seat, replies, notes)
     }

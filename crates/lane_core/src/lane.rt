@@ -1,6 +1,6 @@
 //! A lane, which is stepped over its pool.
 
-ghost use Rattle.std.specs.Prelude.{◌≡◌, ◌≢◌, ℕ, ◌<◌, ◌≤◌, [], false, length, IsSome, IfOk, IfErr, OnErr, Ok, vec_capacity};
+ghost use Rattle.std.specs.Prelude.{◌≡◌, ◌≢◌, ℕ, ◌<◌, ◌≤◌, [], false, length, IsSome, IfOk, IfErr, OnErr, Ok, All, vec_capacity};
 ghost use Rattle.pool_law.specs.declared.run.LaneLog.{LaneLog};
 ghost use Rattle.pool_law.specs.Limits.{IsShape};
 ghost use Rattle.pool_table.specs.Seats.{view_of};
@@ -8,17 +8,17 @@ ghost use Rattle.shared_pool.specs.declared.pool.SharedPool.{SharedPool};
 ghost use Rattle.shared_pool.specs.SeatLanes.{lane_of};
 ghost use Rattle.lane_core.specs.declared.lane.Stepped.TheVariants.{Went, Finished};
 ghost use Rattle.lane_core.specs.Lanes.{IsLane, IsFinished, SameLane, number_of};
-ghost use Rattle.lane_core.specs.Opened.{IsFirstSeat, AreFirst, AreParts};
+ghost use Rattle.lane_core.specs.Opened.{IsFirstSeat, AreFirst, AreParts, IsPlain};
 ghost use Rattle.lane_core.specs.Steps.{HasStepped, at_stage, stepped_of};
 ghost use Rattle.lane_core.specs.Desks.{next_of};
-ghost use Rattle.lane_core.specs.declared.closing.Closing.{Closing};
+ghost use Rattle.lane_core.specs.declared.draining.Draining.{Draining};
 ghost use Rattle.lane_core.specs.declared.desk.Stage.{Stage};
 
 use crate::access::prepare;
 use crate::allotment::Allotting;
-use crate::closing::Closing;
 use crate::counts::OwnCounts;
 use crate::desk::{Desk, Stage, Turn};
+use crate::draining::Draining;
 use crate::gate::{Gate, Pass};
 use crate::names::Names;
 use crate::notes::lane_of;
@@ -92,6 +92,7 @@ impl Lane {
             replies: log.0,
             notes: log.1,
             begun: 0,
+            asked: 0,
         };
         Ok(Lane {
             commands,
@@ -145,7 +146,7 @@ impl Lane {
     {
         let line = self.desk.replies.len();
         let Some(command) = self.commands.items().get(line) else {
-            let turn = self.desk.close(pool, Closing::Close { class: 0 });
+            let turn = self.desk.close(pool, Draining::Ask { class: 0 });
             return Ok(self.after(turn));
         };
         let access = prepare(alloc, &self.desk.names, &self.desk.counts, command)?;
@@ -163,18 +164,18 @@ impl Lane {
     }
 
     // Goes on with the closing, unless it is done.
-    fn close(&mut self, pool: &SharedPool, stage: Closing) -> Stepped
+    fn close(&mut self, pool: &SharedPool, stage: Draining) -> Stepped
         requires lane { IsLane pool.now (at_stage self.old (Stage.Closing stage)) }
         requires ready { self.old.stage ≡ Stage.Ready }
         ensures lane { IsLane pool.now self.new }
         ensures same { SameLane (at_stage self.old (Stage.Closing stage)) self.new }
         ensures stepped { HasStepped pool.now (at_stage self.old (Stage.Closing stage))
             self.new result }
-        ensures finished { stage ≡ Closing.Done → result ≡ Finished }
+        ensures finished { stage ≡ Draining.Done → result ≡ Finished }
     {
         match stage {
-            Closing::Done => {
-                self.put(Stage::Closing(Closing::Done));
+            Draining::Done => {
+                self.put(Stage::Closing(Draining::Done));
                 Stepped::Finished
             }
             stage => {
@@ -267,7 +268,7 @@ impl Lane {
             asked: _,
             spare,
         } = self;
-        let Stage::Closing(Closing::Done) = stage else {
+        let Stage::Closing(Draining::Done) = stage else {
             unreachable!()
         };
         let (seat, replies, notes) = desk.into_log();
@@ -319,6 +320,7 @@ fn equipped(
 ) -> Result<Parts, AllocError>
     requires shape { IsShape shape.now }
     requires few { length commands.now ≤ 65536 }
+    requires plain { All IsPlain commands.now }
     requires lane { IsSome (view_of seat.now).own.number }
     ensures { IfOk result (AreParts shape.now (lane_of seat.now) commands.now) }
 {
@@ -349,20 +351,21 @@ fn spend(stage: Stage) {
             stage,
         } => spend_allotting(stage),
         Stage::Ending(stage) => spend_ending(stage),
-        Stage::Closing(stage) => spend_closing(stage),
+        Stage::Sweeping { reply: _, stage } => spend_draining(stage),
+        Stage::Closing(stage) => spend_draining(stage),
     }
 }
 
-fn spend_closing(stage: Closing) {
+fn spend_draining(stage: Draining) {
     match stage {
-        Closing::Close { class: _ } => {}
-        Closing::Shed { class: _, left: _ } => {}
-        Closing::Give {
+        Draining::Ask { class: _ } => {}
+        Draining::Shed { class: _, left: _ } => {}
+        Draining::Give {
             class: _,
             left: _,
             region,
         } => leave(region),
-        Closing::Done => {}
+        Draining::Done => {}
     }
 }
 

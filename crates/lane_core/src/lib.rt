@@ -4,9 +4,9 @@
 
 mod access;
 mod allotment;
-mod closing;
 mod counts;
 mod desk;
+mod draining;
 mod gate;
 mod lane;
 mod names;

@@ -1,9 +1,9 @@
 //! How much a lane of given commands can need: names, and notes.
 
-ghost use Rattle.std.specs.Prelude.{◌≡◌, ◌≤◌, All, length};
-ghost use Rattle.lane_core.specs.Desks.{left_for};
-ghost use Rattle.lane_core.specs.Lanes.{note_bound};
+ghost use Rattle.std.specs.Prelude.{◌≡◌, ◌≤◌, false, All, length};
+ghost use Rattle.pool_law.specs.Bounds.{may_ask, most_notes, note_bound};
 ghost use Rattle.lane_core.specs.Named.{ChangesBelow};
+ghost use Rattle.lane_core.specs.Opened.{IsPlain};
 
 use pool_law::Command;
 
@@ -42,24 +42,26 @@ fn names_of(command: &Command) -> usize
     name as usize + 1
 }
 
-/// The most notes that a lane of these commands makes, its closing among them.
+/// The most notes that a lane of these commands makes, its sweeps and its closing among them.
 pub(crate) fn note_bound(commands: &[Command]) -> usize
-    requires { length commands.now ≤ 65536 }
+    requires few { length commands.now ≤ 65536 }
+    requires plain { All IsPlain commands.now }
     ensures bound { result ≡ note_bound commands.now }
     ensures most { result ≤ 1048576 }
 {
     let mut bound = 40;
-    let mut allocs = 0;
+    let mut asks = 0;
     for command in commands {
         bound += bound_of(command);
-        allocs += takes_of(command);
+        asks += asks_of(command);
     }
-    bound + 40 * (allocs / 8192) + 2 * allocs
+    bound + 40 * (asks / 8192) + 2 * asks
 }
 
 // The most notes of one command.
 fn bound_of(command: &Command) -> usize
-    ensures notes { result ≡ (left_for command.now).notes }
+    requires { IsPlain command.now }
+    ensures notes { result ≡ most_notes false command.now }
     ensures few { result ≤ 6 }
 {
     match command {
@@ -74,9 +76,10 @@ fn bound_of(command: &Command) -> usize
     }
 }
 
-// The most regions that one command takes.
-fn takes_of(command: &Command) -> usize
-    ensures takes { result ≡ (left_for command.now).takes }
+// How many caches one command asks.
+fn asks_of(command: &Command) -> usize
+    requires { IsPlain command.now }
+    ensures asks { result ≡ may_ask command.now }
     ensures few { result ≤ 1 }
 {
     match command {

@@ -1,10 +1,11 @@
 //! Lanes over a new pool, from their making to their run.
 
 ghost use Rattle.std.specs.Prelude.{◌≡◌, ◌∷◌, ◌≤◌, [], false, IfOk, OnOk};
+ghost use Rattle.pool_law.specs.Bounds.{note_bound};
 ghost use Rattle.pool_law.specs.Limits.{IsShape};
 ghost use Rattle.pool_law.specs.declared.command.Command.{Command};
 ghost use Rattle.shared_pool.specs.Opening.{IsOpened};
-ghost use Rattle.lane_core.specs.Lanes.{IsLane, IsFinished, SameLane, left_for_all, note_bound, number_of};
+ghost use Rattle.lane_core.specs.Lanes.{IsLane, IsFinished, SameLane, left_for_all, number_of};
 ghost use Rattle.lane_core.specs.Opened.{AreFirst};
 
 use crate::{Gate, Lane, Pass, Played, Stepped, finish};

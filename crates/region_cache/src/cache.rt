@@ -31,7 +31,7 @@ impl Model for Cache {
 }
 
 impl Cache {
-    ghost use Rattle.pool_law.specs.declared.note.Did.TheVariants.{Hit, Miss, Kept, Back, Close, Shed};
+    ghost use Rattle.pool_law.specs.declared.note.Did.TheVariants.{Hit, Miss, Kept, Back, Trim, Close, Shed};
     ghost use Rattle.region_cache.specs.Queues.{Makes, new_queue};
 
     /// An empty cache that holds at most `capacity` regions. All memory is taken here.
@@ -80,6 +80,19 @@ impl Cache {
             self.served += 1;
         }
         Some(front)
+    }
+
+    /// Answers how many regions are to be shed: what the hits since the last trim left of the
+    /// capacity, but no more than are in it. Hits are counted anew from here on.
+    pub fn trim(&mut self) -> u32
+        requires { self.old.quota ≡ 0 }
+        ensures trim { Makes self.old (Trim result) self.new }
+        ensures rest { self.new ≡ record self.old { quota = result; served = 0 } }
+    {
+        let unserved = self.regions.capacity() - self.served as usize;
+        self.quota = self.regions.len().min(unserved) as u32;
+        self.served = 0;
+        self.quota
     }
 
     /// Closes the cache, and answers how many regions are to be shed: all that are in it.

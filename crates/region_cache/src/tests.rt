@@ -91,3 +91,20 @@ fn the_first_in_is_the_first_out(rt: HostRuntime) {
     assert_eq!(rt; pop(&mut cache), None);
     cache.leave();
 }
+
+#[test]
+fn a_trim_sheds_what_was_not_served(rt: HostRuntime) {
+    let alloc = rt.alloc();
+    let mut cache = Cache::new(alloc, 4).expect(&rt, "ample memory");
+    assert_eq!(rt; put(&mut cache, region_of(&rt, alloc, 1)), None);
+    assert_eq!(rt; put(&mut cache, region_of(&rt, alloc, 2)), None);
+    assert_eq!(rt; put(&mut cache, region_of(&rt, alloc, 3)), None);
+    assert_eq!(rt; pop(&mut cache), Some(1));
+    let quota = cache.trim();
+    assert_eq!(rt; quota, 2);
+    assert_eq!(rt; taking_of(cache.shed()), 2);
+    assert_eq!(rt; taking_of(cache.shed()), 3);
+    let none = cache.trim();
+    assert_eq!(rt; none, 0);
+    cache.leave();
+}

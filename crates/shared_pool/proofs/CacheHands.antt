@@ -1,6 +1,6 @@
 -- Regions in a seat's hands: what a pop and a shed of a cache take up, and what is put into one.
 use Rattle.std.proofs.Common.{◌≡◌, ℕ, ◌+◌, ◌<◌, ◌≤◌, List, [], ◌∷◌, ◌++◌, length, Bool, true, false, cond, eqb, sym, refl, ap, ◌∙◌, subst, arith, eqb-true, eq-eqb}
-use Rattle.std.specs.Prelude.{Option, Some, None, IfSome, IsTrue, is_some, option_and_then, ◌&&◌, not}
+use Rattle.std.specs.Prelude.{Option, Some, None, IfSome, IsTrue, is_some, option_and_then, ◌&&◌, ◌-◌, min, not}
 use Rattle.step_law.specs.Settings.{Setting}
 use Rattle.step_law.specs.declared.Told.{Ghosts}
 use Rattle.size_classes.specs.Sizes.{class_count}
@@ -8,13 +8,13 @@ use Rattle.pool_law.specs.declared.run.Shape.{Shape}
 use Rattle.pool_law.specs.declared.id.Region.{Region}
 use Rattle.pool_law.specs.declared.id.RegionId.{RegionId}
 use Rattle.pool_law.specs.declared.note.Did.{Did}
-use Rattle.pool_law.specs.declared.note.Did.TheVariants.{Hit, Close, Shed}
+use Rattle.pool_law.specs.declared.note.Did.TheVariants.{Hit, Trim, Close, Shed}
 use Rattle.pool_law.specs.declared.note.Noted.{Noted}
 use Rattle.pool_law.specs.declared.note.Object.{Object}
 use Rattle.pool_law.specs.declared.note.Object.TheVariants.{Cache as CacheOf}
 use Rattle.pool_law.specs.Caches.{Cache as CacheState, new_cache, lane_cache_step, is_own, if_so}
 use Rattle.pool_law.specs.Histories.{cache_after}
-use Rattle.pool_law.specs.Limits.{IsShape, geometry_of}
+use Rattle.pool_law.specs.Limits.{IsShape, cache_capacity, geometry_of}
 use Rattle.pool_law.specs.NotedHistories.{noted_dids}
 use Rattle.pool_law.specs.Places.{IsInPlace}
 use Rattle.pool_law.proofs.HistoryLemmas.{after-noted}
@@ -143,28 +143,42 @@ module _ {G : Ghosts Home Noted} (pool : SharedPool) (lane class : ℕ) (old new
       HoldsRegion pool last x × (x.id.owner ≡ lane) × (x.id.class ≡ class)
   shed_held number turns n x did follows was seen = held number turns n x (shed_takes x.id n did) follows (shed_front n x.id did) was seen
 
--- ---- What a close answers.
+-- ---- What a trim and a close answer.
 
 module _ (l : Layout) (lane class : ℕ) (v : SeatView) (h : List Noted) (home : Home) (e : Enters HomeStands l (CacheOf lane class) v h home) (number : v.own.number ≡ Some lane) where
-  -- a close that may come next gives a quota of as many regions as the seat took and didn't give
-  pub close_bound : (k : ℕ) (n : Noted) → n.did ≡ Close k → IsHistory l.shape (CacheOf lane class) (h ++ n ∷ []) → k + in_own (gives_of lane class) v ≤ in_own (takes_of class) v
-  close_bound k n did follows =
+  -- a note that may come next, and gives a quota of no more regions than are in the cache, gives it of as many as the seat took and didn't give
+  bounded : (k : ℕ) (d : Did) (n : Noted) → n.did ≡ d → IsHistory l.shape (CacheOf lane class) (h ++ n ∷ []) → ((c : CacheState) → IsTrue (is_some (lane_cache_step lane class c d)) → k ≤ length c.regions) → k + in_own (gives_of lane class) v ≤ in_own (takes_of class) v
+  bounded k d n did follows most =
       let c = cache_there l.shape lane class h e.accepted in
-      let next : cache_after lane class (noted_dids (h ++ n ∷ [])) ≡ lane_cache_step lane class c.0 (Close k) =
+      let next : cache_after lane class (noted_dids (h ++ n ∷ [])) ≡ lane_cache_step lane class c.0 d =
       after-noted (lane_cache_step lane class) new_cache h n ∙ ap (option_and_then (λ t. lane_cache_step lane class t n.did)) c.1 ∙ ap (lane_cache_step lane class c.0) did in
-      let all : k ≡ length c.0.regions = as_many c.0 (subst (λ (o : Option CacheState). IsTrue (is_some o)) next follows.accepted) in
+      let all : k ≤ length c.0.regions = most c.0 (subst (λ (o : Option CacheState). IsTrue (is_some o)) next follows.accepted) in
       let bound = (e.cache lane class c.0 refl number c.1).bound in
-      let x : ℕ = length c.0.regions in let all' : k ≡ x = all in let g : ℕ = in_own (gives_of lane class) v in let t : ℕ = in_own (takes_of class) v in
+      let x : ℕ = length c.0.regions in let all' : k ≤ x = all in let g : ℕ = in_own (gives_of lane class) v in let t : ℕ = in_own (takes_of class) v in
       let bound' : x + g ≤ t = bound in let goal' : k + g ≤ t = omega (arith, all', bound') in goal'
-    where
-      sure : (b : Bool) (x : CacheState) → IsTrue (is_some (if_so b x)) → b ≡ true
-      sure true x is = refl
-      sure false x is = absurd (cc is)
 
-      as_many : (c : CacheState) → IsTrue (is_some (lane_cache_step lane class c (Close k))) → k ≡ length c.regions
-      as_many c is =
+  sure : (b : Bool) (x : CacheState) → IsTrue (is_some (if_so b x)) → b ≡ true
+  sure true x is = refl
+  sure false x is = absurd (cc is)
+
+  pub close_bound : (k : ℕ) (n : Noted) → n.did ≡ Close k → IsHistory l.shape (CacheOf lane class) (h ++ n ∷ []) → k + in_own (gives_of lane class) v ≤ in_own (takes_of class) v
+  close_bound k n did follows = bounded k (Close k) n did follows most
+    where
+      most : (c : CacheState) → IsTrue (is_some (lane_cache_step lane class c (Close k))) → k ≤ length c.regions
+      most c is =
           let both = sure (eqb c.quota 0 && (not c.closed && eqb k (length c.regions))) (record c { quota = k; closed = true }) is in
-          eqb-true k (length c.regions) (and-second (not c.closed) (eqb k (length c.regions)) (and-second (eqb c.quota 0) (not c.closed && eqb k (length c.regions)) both))
+          let all = eqb-true k (length c.regions) (and-second (not c.closed) (eqb k (length c.regions)) (and-second (eqb c.quota 0) (not c.closed && eqb k (length c.regions)) both)) in
+          omega (arith, all)
+
+  pub trim_bound : (k : ℕ) (n : Noted) → n.did ≡ Trim k → IsHistory l.shape (CacheOf lane class) (h ++ n ∷ []) → k + in_own (gives_of lane class) v ≤ in_own (takes_of class) v
+  trim_bound k n did follows = bounded k (Trim k) n did follows most
+    where
+      most : (c : CacheState) → IsTrue (is_some (lane_cache_step lane class c (Trim k))) → k ≤ length c.regions
+      most c is =
+          let unserved = cache_capacity class - c.served in
+          let both = sure (eqb c.quota 0 && eqb k (min (length c.regions) unserved)) (record c { quota = k; served = 0 }) is in
+          let least : k ≡ min (length c.regions) unserved = eqb-true k (min (length c.regions) unserved) (and-second (eqb c.quota 0) (eqb k (min (length c.regions) unserved)) both) in
+          omega (arith, least)
 
 -- ---- What is put into a cache.
 

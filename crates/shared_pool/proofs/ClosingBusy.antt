@@ -1,7 +1,7 @@
 -- The busy marks of the parts, as the logs have them.
 use Rattle.step_law.specs.Settings.{Setting}
 use Rattle.std.proofs.Common.{◌≡◌, ℕ, suc, ◌+◌, ◌<◌, ◌≤◌, List, [], ◌∷◌, length, get_or, Bool, true, false, cond, sym, refl, ap, ◌∙◌, subst, arith, ⊎_elim, eq-eqb, eqb-true, Some}
-use Rattle.std.specs.Prelude.{◌==◌, Option, option_map, unwrap_or, All, AllPairs, MatchBool, filter, slice_get}
+use Rattle.std.specs.Prelude.{◌==◌, Option, option_map, unwrap_or, All, AllPairs, MatchBool, filter, max, slice_get}
 use Rattle.std.proofs.lemmas.Option.{slice_get-map, slice_get_within, get_or_from_slice_get}
 use Rattle.std.proofs.lemmas.List.Elements.{All-head, All-tail, All-weaker}
 use mathlib.Core.Logic.{dite}
@@ -14,8 +14,8 @@ use Rattle.pool_law.specs.declared.note.Noted.{Noted}
 use Rattle.pool_law.specs.declared.note.Object.{Object}
 use Rattle.pool_law.specs.Homes.{home_of, IsObjectOf}
 use Rattle.pool_law.specs.Same.{same_object}
-use Rattle.pool_law.specs.Logs.{History as LawHistory, log_of, history_of}
-use Rattle.pool_law.specs.Busy.{Rises, IsOfAnother, MarksHold, BusyHolds}
+use Rattle.pool_law.specs.Logs.{History as LawHistory, of_lane, history_of}
+use Rattle.pool_law.specs.Busy.{MarksFit, IsOfAnother, MarksHold, BusyHolds}
 use Rattle.pool_table.specs.declared.views.Entry.{Entry}
 use Rattle.pool_table.specs.declared.views.Entry.TheVariants.{At, Ref, Busy}
 use Rattle.pool_table.specs.declared.views.Layout.{Layout}
@@ -69,40 +69,44 @@ rises_in seen (Busy b ∷ es) pairs above = (
   rises_in b.number es (pairs_tail Before (Busy b) es pairs) (All-weaker (Before (Busy b)) (Above b.number) (after_mark b) es (pairs_head Before (Busy b) es pairs)),
 )
 
--- and so in the whole part
-rises_all : (s : Shape) (lane : Option ℕ) (o : Object) → IsObjectOf s o → (seen : ℕ) (es : List Entry) → All (Stands s lane) es → RisesIn seen (filter (is_about s (home_of s o)) es) → Rises o seen (notes_in es)
-rises_all s lane o fits seen [] all r = tt
-rises_all s lane o fits seen (At p k n ∷ es) all r =
-    let st = All-head (Stands s lane) (At p k n) es all in let rest = All-tail (Stands s lane) (At p k n) es all in
-    by_test (same_object o p) (home_of s p == home_of s o) ((seen < k) × Rises o k (notes_in es)) (Rises o seen (notes_in es)) (same_about s o p fits st.object)
-    (by (home_of s p == home_of s o) (λ x t. rises_all s lane o fits x es rest t) r)
-  where
-    by : (b : Bool) → ((x : ℕ) → RisesIn x (filter (is_about s (home_of s o)) es) → Rises o x (notes_in es)) →
-        RisesIn seen (cond b (At p k n ∷ filter (is_about s (home_of s o)) es) (filter (is_about s (home_of s o)) es)) →
-        MatchBool b ((seen < k) × Rises o k (notes_in es)) (Rises o seen (notes_in es))
-    by true ih r = (r.0, ih k r.1)
-    by false ih r = ih seen r
-rises_all s lane o fits seen (Ref x d ∷ es) all r = rises_all s lane o fits seen es (All-tail (Stands s lane) (Ref x d) es all) r
-rises_all s lane o fits seen (Busy h ∷ es) all r =
-    let st = All-head (Stands s lane) (Busy h) es all in let rest = All-tail (Stands s lane) (Busy h) es all in
-    by_test (same_object o h.object) (home_of s h.object == home_of s o) ((seen ≤ h.number) × Rises o h.number (notes_in es)) (Rises o seen (notes_in es)) (same_about s o h.object fits st.0)
-    (by (home_of s h.object == home_of s o) (λ x t. rises_all s lane o fits x es rest t) r)
-  where
-    by : (b : Bool) → ((x : ℕ) → RisesIn x (filter (is_about s (home_of s o)) es) → Rises o x (notes_in es)) →
-        RisesIn seen (cond b (Busy h ∷ filter (is_about s (home_of s o)) es) (filter (is_about s (home_of s o)) es)) →
-        MatchBool b ((seen ≤ h.number) × Rises o h.number (notes_in es)) (Rises o seen (notes_in es))
-    by true ih r = (r.0, ih h.number r.1)
-    by false ih r = ih seen r
+-- a later number is the greatest
+later : (a b : ℕ) → a < b → b ≡ max a b
+later a b lt = omega (arith, lt)
 
-rises_none : (s : Shape) (lane : Option ℕ) (o : Object) → (IsObjectOf s o → ⊥) → (seen : ℕ) (es : List Entry) → All (Stands s lane) es → Rises o seen (notes_in es)
-rises_none s lane o none seen [] all = tt
-rises_none s lane o none seen (At p k n ∷ es) all =
+-- and so the marks fit in the whole part
+fits_all : (s : Shape) (lane : Option ℕ) (o : Object) → IsObjectOf s o → (seen least : ℕ) (es : List Entry) → least ≤ seen + 1 → All (Stands s lane) es → RisesIn seen (filter (is_about s (home_of s o)) es) → MarksFit o seen least (notes_in es)
+fits_all s lane o fits seen least [] low all r = tt
+fits_all s lane o fits seen least (At p k n ∷ es) low all r =
+    let st = All-head (Stands s lane) (At p k n) es all in let rest = All-tail (Stands s lane) (At p k n) es all in
+    by_test (same_object o p) (home_of s p == home_of s o) ((least ≤ k) × MarksFit o (max seen k) least (notes_in es)) (MarksFit o seen least (notes_in es)) (same_about s o p fits st.object)
+    (by (home_of s p == home_of s o) (λ x above t. fits_all s lane o fits x least es above rest t) r)
+  where
+    by : (b : Bool) → ((x : ℕ) → least ≤ x + 1 → RisesIn x (filter (is_about s (home_of s o)) es) → MarksFit o x least (notes_in es)) →
+        RisesIn seen (cond b (At p k n ∷ filter (is_about s (home_of s o)) es) (filter (is_about s (home_of s o)) es)) →
+        MatchBool b ((least ≤ k) × MarksFit o (max seen k) least (notes_in es)) (MarksFit o seen least (notes_in es))
+    by true ih r = (omega (arith, low, r.0), subst (λ (x : ℕ). MarksFit o x least (notes_in es)) (later seen k r.0) (ih k (omega (arith, low, r.0)) r.1))
+    by false ih r = ih seen low r
+fits_all s lane o fits seen least (Ref x d ∷ es) low all r = fits_all s lane o fits seen least es low (All-tail (Stands s lane) (Ref x d) es all) r
+fits_all s lane o fits seen least (Busy h ∷ es) low all r =
+    let st = All-head (Stands s lane) (Busy h) es all in let rest = All-tail (Stands s lane) (Busy h) es all in
+    by_test (same_object o h.object) (home_of s h.object == home_of s o) ((seen ≤ h.number) × MarksFit o h.number (h.number + 1) (notes_in es)) (MarksFit o seen least (notes_in es)) (same_about s o h.object fits st.0)
+    (by (home_of s h.object == home_of s o) (λ x y above t. fits_all s lane o fits x y es above rest t) r)
+  where
+    by : (b : Bool) → ((x y : ℕ) → y ≤ x + 1 → RisesIn x (filter (is_about s (home_of s o)) es) → MarksFit o x y (notes_in es)) →
+        RisesIn seen (cond b (Busy h ∷ filter (is_about s (home_of s o)) es) (filter (is_about s (home_of s o)) es)) →
+        MatchBool b ((seen ≤ h.number) × MarksFit o h.number (h.number + 1) (notes_in es)) (MarksFit o seen least (notes_in es))
+    by true ih r = (r.0, ih h.number (h.number + 1) (omega arith) r.1)
+    by false ih r = ih seen least low r
+
+fits_none : (s : Shape) (lane : Option ℕ) (o : Object) → (IsObjectOf s o → ⊥) → (had least : ℕ) (es : List Entry) → All (Stands s lane) es → MarksFit o had least (notes_in es)
+fits_none s lane o none had least [] all = tt
+fits_none s lane o none had least (At p k n ∷ es) all =
     let st = All-head (Stands s lane) (At p k n) es all in
-    by_test (same_object o p) false ((seen < k) × Rises o k (notes_in es)) (Rises o seen (notes_in es)) (no_same s o p none st.object) (rises_none s lane o none seen es (All-tail (Stands s lane) (At p k n) es all))
-rises_none s lane o none seen (Ref r d ∷ es) all = rises_none s lane o none seen es (All-tail (Stands s lane) (Ref r d) es all)
-rises_none s lane o none seen (Busy h ∷ es) all =
+    by_test (same_object o p) false ((least ≤ k) × MarksFit o (max had k) least (notes_in es)) (MarksFit o had least (notes_in es)) (no_same s o p none st.object) (fits_none s lane o none had least es (All-tail (Stands s lane) (At p k n) es all))
+fits_none s lane o none had least (Ref r d ∷ es) all = fits_none s lane o none had least es (All-tail (Stands s lane) (Ref r d) es all)
+fits_none s lane o none had least (Busy h ∷ es) all =
     let st = All-head (Stands s lane) (Busy h) es all in
-    by_test (same_object o h.object) false ((seen ≤ h.number) × Rises o h.number (notes_in es)) (Rises o seen (notes_in es)) (no_same s o h.object none st.0) (rises_none s lane o none seen es (All-tail (Stands s lane) (Busy h) es all))
+    by_test (same_object o h.object) false ((had ≤ h.number) × MarksFit o h.number (h.number + 1) (notes_in es)) (MarksFit o had least (notes_in es)) (no_same s o h.object none st.0) (fits_none s lane o none had least es (All-tail (Stands s lane) (Busy h) es all))
 
 told_above : (o : Object) (h : List Noted) (limit : ℕ) (lane : Option ℕ) (e : Entry) → Tells o h limit lane e → Above 0 e
 told_above o h limit lane (At p k n) t = t.0
@@ -143,14 +147,14 @@ module _ {H : Type 0} (stands : List ℕ → Setting → List Noted → H → Ty
   abbrev histories : Object → LawHistory
   histories o = history_of o (logs_in (parts_of v))
 
-  rises_at : (lane : ℕ) (p : Part) → slice_get (parts_of v) lane ≡ Some p → (o : Object) → Rises o 0 (notes_in p.notes)
-  rises_at lane p there o = ⊎_elim
+  fits_at : (lane : ℕ) (p : Part) → slice_get (parts_of v) lane ≡ Some p → (o : Object) → MarksFit o 0 0 (notes_in p.notes)
+  fits_at lane p there o = ⊎_elim
       (λ (fits : IsObjectOf l.shape o).
       let h = (closed.objects o fits).history in let t = told_at stands l v homes words closed lanes o fits lane p there in
-      rises_all l.shape p.number o fits 0 p.notes (stands_at stands l v homes words closed lanes lane p there)
+      fits_all l.shape p.number o fits 0 0 p.notes (omega arith) (stands_at stands l v homes words closed lanes lane p there)
       (rises_in 0 (filter (is_about l.shape (home_of l.shape o)) p.notes) t.ordered
       (All-weaker (Tells o h (length h) p.number) (Above 0) (told_above o h (length h) p.number) (filter (is_about l.shape (home_of l.shape o)) p.notes) t.told)))
-      (λ (none : IsObjectOf l.shape o → ⊥). rises_none l.shape p.number o none 0 p.notes (stands_at stands l v homes words closed lanes lane p there))
+      (λ (none : IsObjectOf l.shape o → ⊥). fits_none l.shape p.number o none 0 0 p.notes (stands_at stands l v homes words closed lanes lane p there))
       (object_or l.shape o)
 
   mark_at : (lane : ℕ) (p : Part) → slice_get (parts_of v) lane ≡ Some p → (j : ℕ) (b : Held) → slice_get p.notes j ≡ Some (Busy b) → IsOfAnother lane (slice_get (histories b.object) b.number)
@@ -175,11 +179,11 @@ module _ {H : Type 0} (stands : List ℕ → Setting → List Noted → H → Ty
       (λ (past : length h ≤ b.number). let a : b.number < length h = tells.0 in let m : ℕ = length h in let a' : b.number < m = a in let c : m ≤ b.number = past in absurd (omega (arith, a', c)))
       (there_or h b.number)
 
-  pub busy_holds : (lane : ℕ) → BusyHolds lane (λ o. history_of o (logs_in (parts_of v))) (log_of (logs_in (parts_of v)) lane)
+  pub busy_holds : (lane : ℕ) → BusyHolds lane (λ o. history_of o (logs_in (parts_of v))) (of_lane (logs_in (parts_of v)) lane)
   busy_holds lane = ⊎_elim
       (λ (t : (p : Part) × (slice_get (parts_of v) lane ≡ Some p)).
       subst (λ (x : List Note). BusyHolds lane histories x) (sym (log_at (parts_of v) lane t.0 t.1))
-      (record { rises = rises_at lane t.0 t.1; marks = marks_from lane histories t.0.notes (mark_at lane t.0 t.1) }))
+      (record { fit = fits_at lane t.0 t.1; marks = marks_from lane histories t.0.notes (mark_at lane t.0 t.1) }))
       (λ (past : length (parts_of v) ≤ lane).
-      subst (λ (x : List Note). BusyHolds lane histories x) (sym (log_past (parts_of v) lane past)) (record { rises = λ o. tt; marks = tt }))
+      subst (λ (x : List Note). BusyHolds lane histories x) (sym (log_past (parts_of v) lane past)) (record { fit = λ o. tt; marks = tt }))
       (there_or (parts_of v) lane)

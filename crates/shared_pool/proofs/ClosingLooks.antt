@@ -12,7 +12,7 @@ use Rattle.pool_law.specs.declared.note.RefDid.TheVariants.{Born, Retain, Kept, 
 use Rattle.pool_law.specs.declared.note.Note.{Note}
 use Rattle.pool_law.specs.declared.note.Noted.{Noted}
 use Rattle.pool_law.specs.Same.{same_root}
-use Rattle.pool_law.specs.Logs.{log_of}
+use Rattle.pool_law.specs.Logs.{of_lane}
 use Rattle.pool_law.specs.Counts.{view_is_of, root_is, note_gains, note_loses, ref_gains, ref_loses, ref_needs, needs_count, count_step, CountsHold, is_retain, is_release, count_in}
 use Rattle.pool_law.specs.Legal.{LooksHold, LookAt, one_if, others_retains}
 use Rattle.table_law.proofs.Names.{same_root-is}
@@ -138,12 +138,12 @@ beside r at (suc i) (q ∷ ps) p is =
 
 -- ---- The logs with what their entries know.
 
-entries_at : (ps : List Part) (lane : ℕ) (p : Part) → slice_get ps lane ≡ Some p → log_of (entries_in ps) lane ≡ map entry_of p.notes
+entries_at : (ps : List Part) (lane : ℕ) (p : Part) → slice_get ps lane ≡ Some p → of_lane (entries_in ps) lane ≡ map entry_of p.notes
 entries_at [] lane p is = absurd (cc is)
 entries_at (q ∷ ps) zero p is = let same : q ≡ p = cc is in ap (λ (x : Part). map entry_of x.notes) same
 entries_at (q ∷ ps) (suc lane) p is = entries_at ps lane p is
 
-entries_past : (ps : List Part) (lane : ℕ) → length ps ≤ lane → log_of (entries_in ps) lane ≡ []
+entries_past : (ps : List Part) (lane : ℕ) → length ps ≤ lane → of_lane (entries_in ps) lane ≡ []
 entries_past [] lane le = refl
 entries_past (q ∷ ps) zero le = absurd (let n : ℕ = length ps in let le' : suc n ≤ 0 = le in let g : ⊥ = omega (arith, le') in g)
 entries_past (q ∷ ps) (suc lane) le = entries_past ps lane (let n : ℕ = length ps in let le' : suc n ≤ suc lane = le in let g : n ≤ lane = omega (arith, le') in g)
@@ -182,8 +182,8 @@ module _ {H : Type 0} (stands : List ℕ → Setting → List Noted → H → Ty
       let s = right.least in let t = right.most in
       record { least = omega (arith, gains, losses, both, both', s); most = omega (arith, released, retained, own, all, views, others, t) }
 
-  pub looks_hold : (r : RootId) (lane : ℕ) → CountsHold r 0 (log_of (entries_in (parts_of v)) lane) →
-      LooksHold r (others_retains r lane 0 (entries_in (parts_of v))) 0 0 0 (log_of (entries_in (parts_of v)) lane)
+  pub looks_hold : (r : RootId) (lane : ℕ) → CountsHold r 0 (of_lane (entries_in (parts_of v)) lane) →
+      LooksHold r (others_retains r lane 0 (entries_in (parts_of v))) 0 0 0 (of_lane (entries_in (parts_of v)) lane)
   looks_hold r lane holds = ⊎_elim
       (λ (t : (p : Part) × (slice_get (parts_of v) lane ≡ Some p)).
       let e = entries_at (parts_of v) lane t.0 t.1 in

@@ -7,7 +7,7 @@ use Rattle.pool_law.specs.declared.note.Did.{Did}
 use Rattle.pool_law.specs.declared.note.Note.{Note}
 use Rattle.pool_law.specs.declared.note.Noted.{Noted}
 use Rattle.pool_law.specs.declared.note.Object.{Object}
-use Rattle.pool_law.specs.Logs.{log_of}
+use Rattle.pool_law.specs.Logs.{of_lane}
 use Rattle.pool_table.specs.declared.views.Entry.{Entry}
 use Rattle.pool_table.specs.declared.views.Entry.TheVariants.{At, Ref, Busy}
 use Rattle.pool_table.specs.declared.views.Layout.{Layout}
@@ -64,7 +64,7 @@ module _ {H : Type 0} (stands : List ℕ → Setting → List Noted → H → Ty
       at (IsInOrder q) (parts_of v) j p b there
 
   -- a lane with a note has a part
-  part_of : (lane : ℕ) (before after : List Note) (x : Note) → log_of (logs_in (parts_of v)) lane ≡ before ++ x ∷ after →
+  part_of : (lane : ℕ) (before after : List Note) (x : Note) → of_lane (logs_in (parts_of v)) lane ≡ before ++ x ∷ after →
       (p : Part) × (slice_get (parts_of v) lane ≡ Some p) × (notes_in p.notes ≡ before ++ x ∷ after)
   part_of lane before after x is = ⊎_elim
       (λ (t : (p : Part) × (slice_get (parts_of v) lane ≡ Some p)). (t.0, t.1, sym (log_at (parts_of v) lane t.0 t.1) ∙ is))

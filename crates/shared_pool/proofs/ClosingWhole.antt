@@ -17,7 +17,7 @@ use Rattle.pool_law.specs.declared.note.Object.TheVariants.{Arena, Cache, Bin, M
 use Rattle.pool_law.specs.Homes.{home_of, IsObjectOf}
 use Rattle.pool_law.specs.Histories.{IsAccepted}
 use Rattle.pool_law.specs.NotedHistories.{noted_dids}
-use Rattle.pool_law.specs.Logs.{History, dids, log_of, own, IsHistory as IsLawful, history_of, note_stands}
+use Rattle.pool_law.specs.Logs.{History, dids, of_lane, own, IsHistory as IsLawful, history_of, note_stands}
 use Rattle.pool_law.specs.Legal.{HistoriesHold}
 use Rattle.pool_law.proofs.HistoryLemmas.{history_of-is}
 use Rattle.pool_table.specs.declared.views.Entry.{Entry}
@@ -67,12 +67,12 @@ in_parts test (p ∷ ps) lt = dite (ℕ_discrete (count_by test p.notes) 0)
     (λ ne. let r = counted test p.notes (omega (arith, ne)) in (zero, p, refl, r.0, r.1, r.2, r.3))
 
 -- the log of a lane that has a part, and of one that has none
-pub log_at : (ps : List Part) (lane : ℕ) (p : Part) → slice_get ps lane ≡ Some p → log_of (logs_in ps) lane ≡ notes_in p.notes
+pub log_at : (ps : List Part) (lane : ℕ) (p : Part) → slice_get ps lane ≡ Some p → of_lane (logs_in ps) lane ≡ notes_in p.notes
 log_at [] lane p is = absurd (cc is)
 log_at (q ∷ ps) zero p is = let same : q ≡ p = cc is in ap (λ (x : Part). notes_in x.notes) same
 log_at (q ∷ ps) (suc lane) p is = log_at ps lane p is
 
-pub log_past : (ps : List Part) (lane : ℕ) → length ps ≤ lane → log_of (logs_in ps) lane ≡ []
+pub log_past : (ps : List Part) (lane : ℕ) → length ps ≤ lane → of_lane (logs_in ps) lane ≡ []
 log_past [] lane le = refl
 log_past (q ∷ ps) zero le = absurd (let n : ℕ = length ps in let le' : suc n ≤ 0 = le in let g : ⊥ = omega (arith, le') in g)
 log_past (q ∷ ps) (suc lane) le = log_past ps lane (let n : ℕ = length ps in let le' : suc n ≤ suc lane = le in let g : n ≤ lane = omega (arith, le') in g)

@@ -20,7 +20,7 @@ use Rattle.pool_law.specs.Counts.{total_of}
 use Rattle.pool_law.specs.Histories.{place_after}
 use Rattle.pool_law.specs.Homes.{home_of, objects_of, IsObjectOf}
 use Rattle.pool_law.specs.Leaks.{accesses, accesses_to, kept_of, dropped_of, is_live}
-use Rattle.pool_law.specs.Logs.{log_of, history_of, entries_of}
+use Rattle.pool_law.specs.Logs.{of_lane, history_of, entries_of}
 use Rattle.pool_law.specs.NotedHistories.{noted_dids}
 use Rattle.pool_law.specs.Roots.{Present, RootPlace, new_place}
 use Rattle.table_law.specs.Measures.{measures_of}
@@ -123,7 +123,7 @@ pub home_at : (homes : List (Option Home)) (i : ℕ) (d : Option Home) → i < l
 home_at homes i d lt = ap (λ (o : Option (Option Home)). unwrap_or o None) (sym (slice_get-get_or homes i d lt))
 
 -- an entry of a log is one of a part
-in_log : (ps : List Part) (lane at : ℕ) (e : Entry) → slice_get (log_of (map (λ (p : Part). p.notes) ps) lane) at ≡ Some e → (p : Part) × (slice_get ps lane ≡ Some p) × (slice_get p.notes at ≡ Some e)
+in_log : (ps : List Part) (lane at : ℕ) (e : Entry) → slice_get (of_lane (map (λ (p : Part). p.notes) ps) lane) at ≡ Some e → (p : Part) × (slice_get ps lane ≡ Some p) × (slice_get p.notes at ≡ Some e)
 in_log [] lane at e is = absurd (cc is)
 in_log (p ∷ ps) zero at e is = (p, refl, is)
 in_log (p ∷ ps) (suc lane) at e is = in_log ps lane at e is

@@ -6,7 +6,7 @@ use Rattle.pool_law.specs.declared.note.Did.{Did}
 use Rattle.pool_law.specs.declared.note.Note.{Note}
 use Rattle.pool_law.specs.declared.run.Shape.{Shape}
 use Rattle.pool_law.specs.NotedHistories.{entry_of_noted}
-use Rattle.pool_law.specs.Logs.{Logs, Entry, log_of, history_of, entries_of}
+use Rattle.pool_law.specs.Logs.{Logs, Entry, of_lane, history_of, entries_of}
 use Rattle.pool_law.specs.Counts.{CountsHold, TotalHolds, count_over, is_birth}
 use Rattle.pool_law.specs.Busy.{BusyHolds}
 use Rattle.pool_law.specs.Legal.{HistoriesHold, LooksHold, others_retains}
@@ -42,8 +42,8 @@ abbrev pub IsOrdered : Logs → Type 0
 IsOrdered logs =
     (lane other : ℕ) (before after early late : List Note)
     (o p : Object) (j k m n : ℕ) (a b d e : Did) (between beyond : List Note) →
-    log_of logs lane ≡ before ++ Note.At o k a ∷ (between ++ Note.At p n b ∷ after) →
-    log_of logs other ≡ early ++ Note.At p m d ∷ (beyond ++ Note.At o j e ∷ late) →
+    of_lane logs lane ≡ before ++ Note.At o k a ∷ (between ++ Note.At p n b ∷ after) →
+    of_lane logs other ≡ early ++ Note.At p m d ∷ (beyond ++ Note.At o j e ∷ late) →
     j < k → m < n
 
 -- the parts are those of the lanes, in order
@@ -63,9 +63,9 @@ pub record AreWhole (shape : Shape) (parts : List Part) : Type 0 where
   pub totals : (root : RootId) → 0 < count_over (is_birth root) (entries_in parts) →
       TotalHolds root (entries_in parts)
   pub looks : (root : RootId) (lane : ℕ) →
-      CountsHold root 0 (log_of (entries_in parts) lane) →
+      CountsHold root 0 (of_lane (entries_in parts) lane) →
       LooksHold root (others_retains root lane 0 (entries_in parts)) 0 0 0
-      (log_of (entries_in parts) lane)
+      (of_lane (entries_in parts) lane)
   pub busy : (lane : ℕ) →
-      BusyHolds lane (λ object. history_of object (logs_in parts)) (log_of (logs_in parts) lane)
+      BusyHolds lane (λ object. history_of object (logs_in parts)) (of_lane (logs_in parts) lane)
   pub order : IsOrdered (logs_in parts)

@@ -6,7 +6,7 @@ use Rattle.pool_law.specs.declared.note.Did.{Did}
 use Rattle.pool_law.specs.declared.note.Noted.{Noted}
 use Rattle.pool_law.specs.declared.note.Object.TheVariants.{Root}
 use Rattle.pool_law.specs.declared.report.Watch.{Watch}
-use Rattle.pool_law.specs.Logs.{log_of}
+use Rattle.pool_law.specs.Logs.{of_lane}
 use Rattle.pool_law.specs.Counts.{total_of}
 use Rattle.pool_law.specs.Leaks.{accesses_to, kept_of, dropped_of, is_live}
 use Rattle.leak_records.specs.declared.live.LiveRoot.{LiveRoot}
@@ -21,7 +21,7 @@ pub record WasWatched (parts : List Part) (root : RootId) (watch : Watch) : Type
   pub number : ℕ
   pub region : RegionId
   pub noted : Noted
-  pub stands : slice_get (log_of (map (λ p. p.notes) parts) lane) at
+  pub stands : slice_get (of_lane (map (λ p. p.notes) parts) lane) at
       ≡ Some (At (Root root.place) number noted)
   pub birth : noted.did ≡ Did.Birth root region
   pub given : noted.watch ≡ Some watch

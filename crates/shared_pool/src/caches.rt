@@ -88,6 +88,38 @@ impl SharedPool {
         Went::Did(number, put)
     }
 
+    /// Trims the cache of a class in the seat's lane, and answers how many regions are to be shed:
+    /// those that the hits since the last trim didn't need. They are of takings that the seat made
+    /// and hasn't given back.
+    pub fn trim_cached(&self, seat: &mut PoolSeat, class: u32) -> Went<u32, ()>
+        requires seat { IsPoolSeat self.now seat.old }
+        requires turn { 0 < (view_of seat.old).turns }
+        requires class { class < cached_classes }
+        requires no_quota { quota_left (lane_of seat.old) class (view_of seat.old).own.notes ≡ 0 }
+        ensures same { SameSeat seat.old seat.new }
+        ensures seat { IsPoolSeat self.now seat.new }
+        ensures did { IfDid result (λ number quota.
+            IsNoted self.now seat.old seat.new (Cache (lane_of seat.old) class) number
+            (plain (Did.Trim quota))) }
+        ensures bound { IfDid result (λ number quota. let v = view_of seat.old in
+            quota + in_own (gives_of (lane_of seat.old) class) v ≤ in_own (takes_of class) v) }
+        ensures held { IfHeld result (λ held back.
+            FoundBusy self.now (Cache (lane_of seat.old) class) false seat.old seat.new held) }
+    {
+        let object = Object::Cache {
+            lane: lane_of(seat),
+            class,
+        };
+        let mut section = match self.table.claim(seat, object, false) {
+            Ok(section) => section,
+            Err(held) => return Went::Held(held, ()),
+        };
+        let quota = trim(&mut section);
+        let noted = noted(Did::Trim(quota));
+        let number = note::<Brand>(&self.table, seat, section, &noted);
+        Went::Did(number, quota)
+    }
+
     /// Closes the cache of a class in the seat's lane, and answers how many regions are to be shed:
     /// all that are in it. They are of takings that the seat made and hasn't given back.
     pub fn close_cached(&self, seat: &mut PoolSeat, class: u32) -> Went<u32, ()>
@@ -121,7 +153,7 @@ impl SharedPool {
         Went::Did(number, quota)
     }
 
-    /// Takes one region of the quota that the seat's last close of the class left.
+    /// Takes one region of the quota that the seat's last trim or close of the class left.
     pub fn shed(&self, seat: &mut PoolSeat, class: u32) -> Went<Region, ()>
         requires seat { IsPoolSeat self.now seat.old }
         requires turn { 0 < (view_of seat.old).turns }
@@ -213,6 +245,22 @@ fn answered(id: RegionId, put: &Put) -> Did
             no: *no,
         },
     }
+}
+
+// Trims the cache of a section, and answers its quota.
+#[inline(always)]
+fn trim(section: &mut Section<Home>) -> u32
+    requires cache { IsCache section.old.home }
+    requires no_quota { IfCache section.old.home (λ q. q.quota ≡ 0) }
+    ensures same { (section.new.object ≡ section.old.object)
+        × (section.new.slot ≡ section.old.slot) }
+    ensures cache { IsCache section.new.home }
+    ensures stands { StandsMore section.old.home (Did.Trim result) section.new.home }
+{
+    let Home::Cache(cache) = Section::home(section) else {
+        unreachable!()
+    };
+    cache.trim()
 }
 
 // Closes the cache of a section, and answers its quota.

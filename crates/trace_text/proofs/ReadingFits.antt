@@ -9,7 +9,7 @@ use Rattle.serde_json.specs.Data.{Data}
 use Rattle.pool_law.specs.declared.command.Command.{Command}
 use Rattle.pool_law.specs.declared.command.Trace.{Trace}
 use Rattle.pool_law.specs.declared.run.Shape.{Shape}
-use Rattle.pool_law.specs.Logs.{log_of}
+use Rattle.pool_law.specs.Logs.{of_lane}
 use Rattle.pool_law.specs.Stuck.{command_count, stuck_at}
 use Rattle.trace_text.specs.declared.Limit.TheVariants.{Text}
 use Rattle.trace_text.specs.declared.TraceNo.{TraceNo}
@@ -57,12 +57,12 @@ trace_fits shape d lanes is count =
 
 -- ---- What each lane is given.
 
-lane_short : (lanes : List (List Command)) (k : ℕ) → length (log_of lanes k) ≤ command_count lanes
+lane_short : (lanes : List (List Command)) (k : ℕ) → length (of_lane lanes k) ≤ command_count lanes
 lane_short [] k = omega arith
 lane_short (cs ∷ rest) zero = omega arith
 lane_short (cs ∷ rest) (suc k) = let short = lane_short rest k in omega (arith, short)
 
-lane_fit : (shape : Shape) (lanes : List (List Command)) (k : ℕ) → All (FitsSo shape) lanes → FitsSo shape (log_of lanes k)
+lane_fit : (shape : Shape) (lanes : List (List Command)) (k : ℕ) → All (FitsSo shape) lanes → FitsSo shape (of_lane lanes k)
 lane_fit shape lanes k fit = elim (cases_lt k (length lanes)) [
   | inl below ↦ rw (slice_get-get_or lanes k [] below) (fit k [] below)
   | inr past ↦ rw (slice_get_past lanes k past) refl

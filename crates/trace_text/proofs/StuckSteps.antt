@@ -7,7 +7,8 @@ use Rattle.std.proofs.lemmas.List.Sums.{sum_by_more}
 use Rattle.std.proofs.lemmas.List.Recursion.{is_sum_by}
 use Rattle.std.proofs.lemmas.Option.{slice_get-get_or}
 use Rattle.pool_law.specs.declared.command.Command.{Command}
-use Rattle.pool_law.specs.Stuck.{how_many, moved, moves, may_pass, next_of, commands_of, first_waiting}
+use Rattle.pool_law.specs.Stuck.{how_many, moved, moves, may_pass, next_of, first_waiting}
+use Rattle.pool_law.specs.Logs.{of_lane}
 use Rattle.trace_text.specs.declared.counts.Side.{Side}
 use Rattle.trace_text.specs.Counts.{AreCounts, AreRows, AreTables, meets}
 
@@ -44,7 +45,7 @@ bound_more i total more false h e = grind (arith, h, e)
 
 -- ---- Places.
 
-pub commands_at : (lanes : List (List Command)) (lane : ℕ) (d : List Command) → lane < length lanes → commands_of lanes lane ≡ get_or lanes lane d
+pub commands_at : (lanes : List (List Command)) (lane : ℕ) (d : List Command) → lane < length lanes → of_lane lanes lane ≡ get_or lanes lane d
 commands_at lanes lane d h = rw (slice_get-get_or lanes lane d h) refl
 
 pub moved_step : (lanes : List (List Command)) (at front : List ℕ) (i : ℕ) (all : List ℕ) → i < length at → all ≡ front ++ moved lanes at i (drop i at)
@@ -76,20 +77,20 @@ waiting_found lanes at i d e h k left =
 
 pub met_is : (side : Side) (lanes : List (List Command)) (tables : List (Vec (Vec ℕ Global) Global)) (lane other k : ℕ) (d : List Command) (e : Vec (Vec ℕ Global) Global) (f : Vec ℕ Global)
     → AreTables side lanes tables → lane < length lanes → other < length lanes
-    → slice_index (get_or (get_or tables lane e).items other f).items (min k (length (get_or lanes lane d))) ≡ how_many (meets side other) (take k (commands_of lanes lane))
+    → slice_index (get_or (get_or tables lane e).items other f).items (min k (length (get_or lanes lane d))) ≡ how_many (meets side other) (take k (of_lane lanes lane))
 met_is side lanes tables lane other k d e f known h i =
-    let same : commands_of lanes lane ≡ get_or lanes lane d = commands_at lanes lane d h in
-    let counts : AreCounts (meets side other) (commands_of lanes lane) (get_or (get_or tables lane e).items other f).items = (known.each lane e h).each other f i in
-    let within : min k (length (get_or lanes lane d)) ≤ length (commands_of lanes lane) = grind (arith, same) in
+    let same : of_lane lanes lane ≡ get_or lanes lane d = commands_at lanes lane d h in
+    let counts : AreCounts (meets side other) (of_lane lanes lane) (get_or (get_or tables lane e).items other f).items = (known.each lane e h).each other f i in
+    let within : min k (length (get_or lanes lane d)) ≤ length (of_lane lanes lane) = grind (arith, same) in
     counts.each (min k (length (get_or lanes lane d))) within ∙ rw (same, take_min k (get_or lanes lane d)) refl
 
 pub tables_more : (side : Side) (lanes : List (List Command)) (list new : List (Vec (Vec ℕ Global) Global)) (rows : Vec (Vec ℕ Global) Global) (i : ℕ) (lane seen : List Command)
     → i < length lanes → lane ≡ get_or lanes i lane → seen ≡ lane → length list ≡ i → AreRows side (length lanes) seen rows.items
-    → ((k : ℕ) (d : Vec (Vec ℕ Global) Global) → k < i → AreRows side (length lanes) (commands_of lanes k) (get_or list k d).items) → new ≡ list ++ rows ∷ []
-    → (k : ℕ) (d : Vec (Vec ℕ Global) Global) → k < i + 1 → AreRows side (length lanes) (commands_of lanes k) (get_or new k d).items
+    → ((k : ℕ) (d : Vec (Vec ℕ Global) Global) → k < i → AreRows side (length lanes) (of_lane lanes k) (get_or list k d).items) → new ≡ list ++ rows ∷ []
+    → (k : ℕ) (d : Vec (Vec ℕ Global) Global) → k < i + 1 → AreRows side (length lanes) (of_lane lanes k) (get_or new k d).items
 tables_more side lanes list new rows i lane seen h at same size known before push k d below =
-    let here : commands_of lanes i ≡ seen = commands_at lanes i lane h ∙ sym at ∙ sym same in
-    rw push (each_push (λ (j : ℕ) (t : Vec (Vec ℕ Global) Global). AreRows side (length lanes) (commands_of lanes j) t.items) list rows i d size (λ j under. before j d under) (rw here known) k below)
+    let here : of_lane lanes i ≡ seen = commands_at lanes i lane h ∙ sym at ∙ sym same in
+    rw push (each_push (λ (j : ℕ) (t : Vec (Vec ℕ Global) Global). AreRows side (length lanes) (of_lane lanes j) t.items) list rows i d size (λ j under. before j d under) (rw here known) k below)
 
 pub one_longer : {A : Type 0} (list new : List A) (x : A) (i : ℕ) → length list ≡ i → new ≡ list ++ x ∷ [] → length new ≡ i + 1
 one_longer list new x i size push = rw (push, length-append list (x ∷ []), size) refl

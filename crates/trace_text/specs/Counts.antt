@@ -3,7 +3,8 @@
 use Rattle.std.specs.Prelude.{◌≡◌, ℕ, ◌+◌, ◌<◌, ◌≤◌, Bool, List, length, take, slice_index, get_or, Vec}
 use Rattle.std.specs.declared.alloc.Global.{Global}
 use Rattle.pool_law.specs.declared.command.Command.{Command}
-use Rattle.pool_law.specs.Stuck.{how_many, sends_to, receives_from, commands_of}
+use Rattle.pool_law.specs.Stuck.{how_many, sends_to, receives_from}
+use Rattle.pool_law.specs.Logs.{of_lane}
 use Rattle.trace_text.specs.declared.counts.Side.{Side}
 use Rattle.trace_text.specs.declared.counts.Side.TheVariants.{Sends, Receives}
 
@@ -30,4 +31,4 @@ pub record AreTables (side : Side) (lanes : List (List Command))
     (tables : List (Vec (Vec ℕ Global) Global)) : Type 0 where
   pub size : length tables ≡ length lanes
   pub each : (lane : ℕ) (d : Vec (Vec ℕ Global) Global) → lane < length lanes
-      → AreRows side (length lanes) (commands_of lanes lane) (get_or tables lane d).items
+      → AreRows side (length lanes) (of_lane lanes lane) (get_or tables lane d).items

@@ -3,7 +3,7 @@ use Rattle.std.proofs.Common.{◌≡◌, ◌<◌, ◌⊎◌, inl, inr, ⊎_elim,
 use Rattle.std.specs.Prelude.{All, slice_get, unwrap_or}
 use Rattle.std.proofs.lemmas.Option.{get_or_from_slice_get, slice_get-get_or, slice_get_read, slice_get_within, unwrap_or-slice_get}
 use Rattle.std.proofs.lemmas.List.{drop-drop, get_or-drop, get_or_read}
-use Rattle.pool_law.specs.Logs.{log_of}
+use Rattle.pool_law.specs.Logs.{of_lane}
 
 pub same_some : {X : Type 0} (x y : X) → Some x ≡ Some y → x ≡ y
 same_some x y e = ap (λ o. unwrap_or o x) e
@@ -65,8 +65,8 @@ pub at_all : {X : Type 0} (P : X → Type 0) (xs : List X) → All P xs → (i :
 at_all P xs all i x e = subst P (get_or_from_slice_get xs i x x e) (all i x (slice_get_within xs i x e))
 
 -- a lane's list, read by index
-pub log_read : {X : Type 0} (xs : List (List X)) (i : ℕ) (x : List X) → i < length xs → x ≡ get_or xs i x → log_of xs i ≡ x
+pub log_read : {X : Type 0} (xs : List (List X)) (i : ℕ) (x : List X) → i < length xs → x ≡ get_or xs i x → of_lane xs i ≡ x
 log_read xs i x h at = unwrap_or-slice_get xs i [] ∙ sym (get_or_read xs i x h at [])
 
-pub log_found : {X : Type 0} (xs : List (List X)) (i : ℕ) (x : List X) → slice_get xs i ≡ Some x → log_of xs i ≡ x
+pub log_found : {X : Type 0} (xs : List (List X)) (i : ℕ) (x : List X) → slice_get xs i ≡ Some x → of_lane xs i ≡ x
 log_found xs i x e = ap (λ o. unwrap_or o []) e

@@ -8,7 +8,7 @@ use Rattle.pool_law.specs.declared.note.Noted.{Noted}
 use Rattle.pool_law.specs.declared.run.Shape.{Shape}
 use Rattle.pool_law.specs.Legal.{AreCommands}
 use Rattle.pool_law.specs.Limits.{IsShape}
-use Rattle.pool_law.specs.Logs.{log_of}
+use Rattle.pool_law.specs.Logs.{of_lane}
 use Rattle.pool_table.specs.declared.table.PoolSeat.{PoolSeat}
 use Rattle.pool_table.specs.declared.views.Layout.{Layout}
 use Rattle.pool_table.specs.Seats.{view_of}
@@ -107,8 +107,8 @@ module _ {G : Ghosts Home Noted} where
   pub ready : (trace : List (List Command)) (shape : Shape) (layout : Layout) (mail : List ℕ) (pool : SharedPool)
       (seats : List (PoolSeat Home G))
       → IsShape shape → shape ≡ pool.table.layout.shape → shape.lanes ≡ length trace → layout.shape ≡ shape
-      → ((lane : ℕ) → AreCommands shape (log_of trace lane)) → All (All IsPlain) trace
-      → ((lane : ℕ) → lane < length trace → HasRoomFor layout (log_of trace lane)) → AreSent trace mail
+      → ((lane : ℕ) → AreCommands shape (of_lane trace lane)) → All (All IsPlain) trace
+      → ((lane : ℕ) → lane < length trace → HasRoomFor layout (of_lane trace lane)) → AreSent trace mail
       → AreOpened layout mail pool seats → AreReady pool shape trace seats
   ready trace shape layout mail pool seats limits same lanes layout_is commands plain room sent opened i cs s found stands =
       let here = slice_get_within trace i cs found in

@@ -1,7 +1,7 @@
 -- What the lanes of a trace need of their pool.
 use Rattle.std.specs.Prelude.{◌≡◌, ℕ, ◌+◌, ◌*◌, ◌<◌, ◌≤◌, Bool, true, false, ◌==◌, List, length, Some, slice_get}
 use Rattle.pool_law.specs.declared.command.Command.{Command}
-use Rattle.pool_law.specs.Logs.{log_of}
+use Rattle.pool_law.specs.Logs.{of_lane}
 use Rattle.pool_table.specs.declared.views.Layout.{Layout}
 use Rattle.lane_core.specs.Lanes.{left_for_all, note_bound}
 
@@ -43,7 +43,7 @@ pub record HasRoomFor (layout : Layout) (commands : List Command) : Type 0 where
 
 -- how many parcels a lane sends to another
 abbrev pub sent : List (List Command) → ℕ → ℕ → ℕ
-sent lanes sender to = (left_for_all (log_of lanes sender)).sends to
+sent lanes sender to = (left_for_all (of_lane lanes sender)).sends to
 
 -- for each two lanes, how many parcels the first sends to the second
 abbrev pub AreSent : List (List Command) → List ℕ → Type 0

@@ -1,6 +1,6 @@
 //! What the lanes of a trace need of their pool: room for notes, for roots and for parcels.
 ghost use Rattle.std.specs.Prelude.{◌≡◌, ℕ, ◌*◌, ◌<◌, ◌≤◌, count_by, length, IfOk};
-ghost use Rattle.pool_law.specs.Logs.{log_of};
+ghost use Rattle.pool_law.specs.Logs.{of_lane};
 ghost use Rattle.lane_core.specs.Lanes.{left_for_all, note_bound};
 ghost use Rattle.trace_top.specs.Needs.{AreSent, HasRoomFor, is_alloc, is_move, is_release, is_send, is_single};
 
@@ -10,10 +10,10 @@ use std::alloc::{AllocError, Global};
 
 /// The layout of a pool for these lanes.
 pub fn layout_for(lanes: &[CommandList], shape: &Shape) -> Layout
-    requires few { (lane : ℕ) → length (log_of lanes.now lane) ≤ 65536 }
+    requires few { (lane : ℕ) → length (of_lane lanes.now lane) ≤ 65536 }
     ensures shape { result.shape ≡ shape.now }
     ensures room { (lane : ℕ) → lane < length lanes.now →
-        HasRoomFor result (log_of lanes.now lane) }
+        HasRoomFor result (of_lane lanes.now lane) }
     ensures moves { result.moves ≤ 65536 }
     ensures turns { result.turns ≤ 1000000 }
 {
@@ -32,7 +32,7 @@ pub fn layout_for(lanes: &[CommandList], shape: &Shape) -> Layout
 
 /// For each two lanes, how many parcels the first sends to the second.
 pub fn mail_for(alloc: Global, lanes: &[CommandList]) -> Result<Vec<u32>, AllocError>
-    requires few { (lane : ℕ) → length (log_of lanes.now lane) ≤ 65536 }
+    requires few { (lane : ℕ) → length (of_lane lanes.now lane) ≤ 65536 }
     requires lanes { length lanes.now ≤ 16 }
     ensures many { IfOk result (λ mail. length mail.items ≡ length lanes.now * length lanes.now) }
     ensures sent { IfOk result (λ mail. AreSent lanes.now mail.items) }

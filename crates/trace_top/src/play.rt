@@ -3,7 +3,7 @@
 ghost use Rattle.std.specs.Prelude.{◌≡◌, ℕ, All, IfOk, length, false};
 ghost use Rattle.pool_law.specs.Legal.{AreCommands};
 ghost use Rattle.pool_law.specs.Limits.{IsShape};
-ghost use Rattle.pool_law.specs.Logs.{log_of};
+ghost use Rattle.pool_law.specs.Logs.{of_lane};
 ghost use Rattle.lane_core.specs.Opened.{IsPlain};
 
 use crate::crew::step_together;
@@ -28,7 +28,7 @@ pub fn play<R: Threads + Wait + Sync, G: Gate>(
     requires open { (lane line : ℕ) → G.stops gate.now lane line ≡ false }
     requires shape { IsShape shape.now }
     requires lanes { shape.now.lanes ≡ length trace.lanes }
-    requires commands { (lane : ℕ) → AreCommands shape.now (log_of trace.lanes lane) }
+    requires commands { (lane : ℕ) → AreCommands shape.now (of_lane trace.lanes lane) }
     requires plain { All (All IsPlain) trace.lanes }
     ensures trace { IfOk result (λ run. run.trace.lanes ≡ trace.lanes) }
     ensures shape { IfOk result (λ run. run.shape ≡ shape.now) }

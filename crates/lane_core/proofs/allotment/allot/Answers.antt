@@ -1,6 +1,7 @@
-use Rattle.std.proofs.Common.{ℕ, ◌+◌, ◌≤◌, length, sym, subst, arith}
+use Rattle.std.proofs.Common.{◌≡◌, ℕ, ◌+◌, ◌≤◌, length, sym, subst, arith, Some}
 use Rattle.std.specs.Prelude.{vec_capacity}
-use Rattle.size_classes.specs.Sizes.{size_at}
+use Rattle.size_classes.specs.Sizes.{class_of, size_at}
+use Rattle.pool_law.specs.declared.run.Shape.{Shape}
 use Rattle.pool_law.specs.Limits.{geometry_of}
 use Rattle.lane_core.specs.declared.allotment.Allotting.{Allotting}
 use Rattle.lane_core.specs.Allotments.{HasAllotted, Fits, left_of}
@@ -35,7 +36,8 @@ bear-requires-clause-size c =
 pub returns-in-Handle : goal.returns-in-Handle
 returns-in-Handle c =
     let sampler = c.args.sampler.now in
-    subst (λ (s : Allotting). HasAllotted c.args.pool.now c.args.seat.now c.ask_bin.new.seat sampler sampler c.args.log.now c.ask_bin.new.log c.args.size c.args.class s c.ask_bin.result) (sym c.in-Handle.is) (c.ask_bin.ensures sampler c.args.size)
+    subst (λ (s : Allotting). HasAllotted c.args.pool.now c.args.seat.now c.ask_bin.new.seat sampler sampler c.args.log.now c.ask_bin.new.log c.args.size c.args.class s c.ask_bin.result) (sym c.in-Handle.is)
+    (c.ask_bin.ensures sampler c.args.size (subst (λ (s : Shape). class_of (geometry_of s) c.args.size ≡ Some c.args.class) c.requires.shape c.requires.class))
 
 pub returns-in-Cache : goal.returns-in-Cache
 returns-in-Cache c =

@@ -38,5 +38,5 @@ returns-in-Held c = λ sampler size.
     let pool = c.args.pool.now in let old = c.args.seat.now in let new = c.take.new.seat in let held = c.in-Held in let may = c.requires.may in
     let o : Object = Arena (lane_of old % pool.table.layout.shape.arenas) in
     let grows = grows_held pool old new may.seat_is held.ensures.seat o held.held held.ensures.held in
-    found_held pool old new c.args.class held.ensures.seat held.ensures.same o held.held (AskArena c.args.handle) (AskArena c.args.handle) c.args.log.now sampler size may held.ensures.held refl
+    found_held pool old new c.args.class held.ensures.seat held.ensures.same o held.held (AskArena c.args.handle) (AskArena c.args.handle) c.args.log.now sampler size tt may held.ensures.held refl
     (own_still pool old new c.args.class held.ensures.seat held.ensures.same c.args.handle [] 0 grows may.fits)

@@ -31,5 +31,5 @@ returns-in-Held c = λ sampler size class.
     let pool = c.args.pool.now in let old = c.args.seat.now in let new = c.put_handle.new.seat in let held = c.in-Held in let may = c.requires.may class in let handle = c.args.handle in
     let o : Object = Bin handle.lane in
     let grows = grows_held pool old new may.seat_is held.ensures.seat o held.held held.ensures.held.1 in
-    found_held pool old new class held.ensures.seat held.ensures.same o held.held (Home handle) (Home held.handle) c.args.log.now sampler size may held.ensures.held.1 (ap (λ (h : HandleValue). Home h) held.ensures.held.0)
+    found_held pool old new class held.ensures.seat held.ensures.same o held.held (Home handle) (Home held.handle) c.args.log.now sampler size tt may held.ensures.held.1 (ap (λ (h : HandleValue). Home h) held.ensures.held.0)
     (own_still pool old new class held.ensures.seat held.ensures.same handle [] 0 grows may.fits)

@@ -2,8 +2,8 @@ use Rattle.std.proofs.Common.{◌≡◌, ℕ, ◌≤◌, List, length, replicate
 use Rattle.std.specs.Prelude.{All, vec_capacity}
 use Rattle.std.proofs.lemmas.List.{length-replicate}
 use Rattle.pool_law.specs.declared.command.Command.{Command}
+use Rattle.pool_law.specs.Bounds.{note_bound}
 use Rattle.leak_records.specs.Records.{new_sampler}
-use Rattle.lane_core.specs.Lanes.{note_bound}
 use Rattle.lane_core.specs.Named.{ChangesBelow}
 use Rattle.lane_core.proofs.lane.equipped.Goals as goal
 

@@ -7,6 +7,6 @@ invariant-loop-command l =
     record {
       bound : l.bound ≡ 40 + (left_for_all (take l.command-index l.commands)).notes;
       most : l.bound ≤ 40 + 6 * l.command-index;
-      allocs : l.allocs ≡ (left_for_all (take l.command-index l.commands)).takes;
-      few : l.allocs ≤ l.command-index;
+      asks : l.asks ≡ (left_for_all (take l.command-index l.commands)).asks;
+      few : l.asks ≤ l.command-index;
     }

@@ -2,7 +2,7 @@ use Rattle.std.proofs.Common.{◌≡◌, ℕ, ◌<◌, List, length, Result, Ok,
 use Rattle.std.proofs.lemmas.Result.{IfOk-weaker}
 use Rattle.pool_law.specs.declared.command.Command.{Command}
 use Rattle.pool_law.specs.declared.run.Run.{Run}
-use Rattle.pool_law.specs.Logs.{log_of}
+use Rattle.pool_law.specs.Logs.{of_lane}
 use Rattle.pool_table.specs.declared.views.Layout.{Layout}
 use Rattle.shared_pool.specs.Opening.{AreOpened}
 use Rattle.shared_pool.specs.Seats.{IsPoolSeat}
@@ -25,7 +25,7 @@ all_lanes-requires-clause-ready g c =
     let pool = c.in_ok-pool.pool in
     let seats = c.in_ok-pool.seats.items in
     let shape = sym (ap (λ (l : Layout). l.shape) (pool.same_layout ∙ c.in_ok-pool.ensures.layout) ∙ c.layout_for-layout.ensures.shape) in
-    let room = subst (λ (t : List (List Command)). (lane : ℕ) → lane < length t → HasRoomFor layout (log_of t lane)) c.items.ensures c.layout_for-layout.ensures.room in
+    let room = subst (λ (t : List (List Command)). (lane : ℕ) → lane < length t → HasRoomFor layout (of_lane t lane)) c.items.ensures c.layout_for-layout.ensures.room in
     let sent = subst (λ (t : List (List Command)). AreSent t c.in_ok-mail.mail.items) c.items-2.ensures c.in_ok-mail.ensures.sent in
     let opened = subst (λ (m : List ℕ). AreOpened layout m pool seats) c.deref.ensures.value c.in_ok-pool.ensures.seats in
     subst (λ (t : List (List Command)). AreReady pool c.args.shape.now t seats) (sym c.into_items.ensures)

@@ -12,19 +12,19 @@ use Rattle.lane_core.proofs.Turning.{refused_turn}
 use Rattle.lane_core.proofs.desk.Desk.access.Goals as goal
 
 pub refuse-requires : goal.refuse-requires
-refuse-requires c = can_answer c.args.pool.now (notes_alone 1) c.args.self.now (record { desk = c.requires.desk; room = c.requires.room; replies = c.requires.replies })
+refuse-requires c = can_answer c.args.pool.now (notes_alone 1) c.args.self.now (record { desk = c.requires.desk; room = c.requires.room; replies = c.requires.replies; asked = c.requires.asked })
 
 pub returns-in-Refused : goal.returns-in-Refused
 returns-in-Refused c = λ s command state prepared.
     let pool = c.args.pool.now in let old = c.args.self.now in let new = c.refuse.new.self in let refusal = c.in-Refused.refusal in
-    let may : MayTurn pool (notes_alone 1) old = record { desk = c.requires.desk; room = c.requires.room; replies = c.requires.replies } in
+    let may : MayTurn pool (notes_alone 1) old = record { desk = c.requires.desk; room = c.requires.room; replies = c.requires.replies; asked = c.requires.asked } in
     let read = subst (λ (a : Access). IsPrepared old.names old.counts command a s) c.in-Refused.is prepared in
     subst (λ (t : Turn). HasTurned pool old new s command Ready t) (sym c.refuse.ensures.ready)
     (refused_turn pool (notes_alone 1) old new may refusal c.refuse.ensures.replied s command state.names_are
-    (λ rest. read.read old.shape (lane_of old.seat) rest))
+    (read.read old.shape (lane_of old.seat)))
 
 pub set-requires-clause-may : goal.set-requires-clause-may
-set-requires-clause-may c = record { desk = c.requires.desk; room = c.requires.room; replies = c.requires.replies }
+set-requires-clause-may c = record { desk = c.requires.desk; room = c.requires.room; replies = c.requires.replies; asked = c.requires.asked }
 
 pub set-requires-clause-reaches : goal.set-requires-clause-reaches
 set-requires-clause-reaches c = subst (λ (a : Access). IsReady c.args.self.now.counts a) c.in-Set.is c.requires.ready
@@ -37,7 +37,7 @@ returns-in-Set c =
     subst (λ (a : Access). AccessTurns c.args.pool.now c.args.self.now c.set.new.self a c.set.result) (sym c.in-Set.is) c.set.ensures
 
 pub get-requires-clause-may : goal.get-requires-clause-may
-get-requires-clause-may c = record { desk = c.requires.desk; room = c.requires.room; replies = c.requires.replies }
+get-requires-clause-may c = record { desk = c.requires.desk; room = c.requires.room; replies = c.requires.replies; asked = c.requires.asked }
 
 pub get-requires-clause-reaches : goal.get-requires-clause-reaches
 get-requires-clause-reaches c = (subst (λ (a : Access). IsReady c.args.self.now.counts a) c.in-Get.is c.requires.ready).0

@@ -1,22 +1,26 @@
-use Rattle.std.proofs.Common.{◌≡◌, List, refl, sym, ap, ◌∙◌, subst, Option, Some}
+use Rattle.std.proofs.Common.{◌≡◌, ℕ, List, refl, ap, ◌∙◌, subst, arith, Option, Some}
 use Rattle.std.specs.Prelude.{slice_set}
 use Rattle.pool_law.specs.declared.id.ViewData.{ViewData}
 use Rattle.pool_law.specs.declared.run.Reply.{Reply}
 use Rattle.pool_law.specs.Views.{view_of as root_view}
 use Rattle.lane_core.specs.declared.desk.Desk.{Desk}
-use Rattle.lane_core.specs.declared.desk.Stage.TheVariants.{Allotting}
-use Rattle.lane_core.specs.declared.desk.Turn.{Turn}
 use Rattle.lane_core.specs.declared.allotment.Allots.{Allots}
 use Rattle.lane_core.specs.declared.allotment.Allots.TheVariants.{NoHandle, Full}
 use Rattle.lane_core.specs.Allotments as allotment
-use Rattle.lane_core.specs.Desks.{HasTurned}
-use Rattle.lane_core.specs.DeskSteps.{HasReplied}
+use Rattle.lane_core.specs.DeskSteps.{Concludes}
 use Rattle.lane_core.proofs.StageTurns.{may_allot, few_births, log_room, allot_goes, allot_waits, allot_new, allot_refused}
 use Rattle.lane_core.proofs.AllocTurns.{allot_can, new_place, new_alone, new_few, new_name}
 use Rattle.lane_core.proofs.desk.Desk.allot.Goals as goal
 
+-- the desk behind a step, with the count that was kept before
+counted_so : (old : Desk) (seat : _) (sampler : _) (notes : _) (m n : ℕ) → m ≡ n → record old { seat = seat; sampler = sampler; notes = notes; asked = m } ≡ record old { seat = seat; sampler = sampler; notes = notes; asked = n }
+counted_so old seat sampler notes m n is = ap (λ (k : ℕ). record old { seat = seat; sampler = sampler; notes = notes; asked = k }) is
+
+pub asked_with-requires : goal.asked_with-requires
+asked_with-requires c = let a = c.requires.fits.1.1 in omega (arith, a)
+
 pub allot-allots-requires-clause-may : goal.allot-allots-requires-clause-may
-allot-allots-requires-clause-may c = may_allot c.args.pool.now c.args.self.now c.args.class c.args.stage c.requires.desk c.requires.room c.requires.fits.1
+allot-allots-requires-clause-may c = may_allot c.args.pool.now c.args.self.now c.args.class c.args.stage c.requires.desk c.requires.room c.requires.fits.1.0
 
 pub allot-allots-requires-clause-moves : goal.allot-allots-requires-clause-moves
 allot-allots-requires-clause-moves c = c.requires.room.moves
@@ -36,91 +40,86 @@ allot-allots-requires-clause-room c = log_room c.args.pool.now (allotment.hand_o
 pub returns-in-More : goal.returns-in-More
 returns-in-More c = λ s command are.
     let old = c.args.self.now in let pool = c.args.pool.now in let size = c.args.size in let class = c.args.class in let stage = c.args.stage in let call = c.allot-allots in
-    let mid : Desk = record old { seat = call.new.seat; sampler = call.new.sampler; notes = call.new.log } in
-    allot_goes pool old mid c.args.name size class stage c.requires.desk c.requires.fits.0 refl s command are c.requires.name c.in-More.stage
+    let mid : Desk = record old { seat = call.new.seat; sampler = call.new.sampler; notes = call.new.log; asked = c.asked_with.result } in let mid_so = counted_so old call.new.seat call.new.sampler call.new.log c.asked_with.result (allotment.asks_of stage old.asked) c.asked_with.ensures in
+    allot_goes pool old mid c.args.name size class stage c.requires.desk c.requires.fits.0 mid_so s command are c.requires.name c.requires.fits.1.1 c.in-More.stage
     (subst (λ (x : Allots). allotment.HasAllotted pool old.seat mid.seat old.sampler mid.sampler old.notes mid.notes size class stage x) c.in-More.is call.ensures)
 
 pub returns-in-Held : goal.returns-in-Held
 returns-in-Held c = λ s command are.
     let old = c.args.self.now in let pool = c.args.pool.now in let size = c.args.size in let class = c.args.class in let stage = c.args.stage in let call = c.allot-allots in
-    let mid : Desk = record old { seat = call.new.seat; sampler = call.new.sampler; notes = call.new.log } in
-    allot_waits pool old mid c.args.name size class stage c.requires.desk c.requires.fits.0 refl s command are c.requires.name c.in-Held.held c.in-Held.stage
+    let mid : Desk = record old { seat = call.new.seat; sampler = call.new.sampler; notes = call.new.log; asked = c.asked_with.result } in let mid_so = counted_so old call.new.seat call.new.sampler call.new.log c.asked_with.result (allotment.asks_of stage old.asked) c.asked_with.ensures in
+    allot_waits pool old mid c.args.name size class stage c.requires.desk c.requires.fits.0 mid_so s command are c.requires.name c.requires.fits.1.1 c.in-Held.held c.in-Held.stage
     (subst (λ (x : Allots). allotment.HasAllotted pool old.seat mid.seat old.sampler mid.sampler old.notes mid.notes size class stage x) c.in-Held.is call.ensures)
 
 pub add-requires-clause-place : goal.add-requires-clause-place
 add-requires-clause-place c =
     let old = c.args.self.now in let pool = c.args.pool.now in let size = c.args.size in let class = c.args.class in let stage = c.args.stage in let call = c.allot-allots in
-    let mid : Desk = record old { seat = call.new.seat; sampler = call.new.sampler; notes = call.new.log } in
+    let mid : Desk = record old { seat = call.new.seat; sampler = call.new.sampler; notes = call.new.log; asked = c.asked_with.result } in let mid_so = counted_so old call.new.seat call.new.sampler call.new.log c.asked_with.result (allotment.asks_of stage old.asked) c.asked_with.ensures in
     let did = subst (λ (x : Allots). allotment.HasAllotted pool old.seat mid.seat old.sampler mid.sampler old.notes mid.notes size class stage x) c.in-New.is call.ensures in
-    new_place pool old mid c.args.name size class stage c.requires.desk c.requires.fits.0 refl c.in-New.root c.in-New.region did
+    new_place pool old mid c.args.name size class stage c.requires.desk c.requires.fits.0 mid_so c.in-New.root c.in-New.region did
 
 pub add-requires-clause-alone : goal.add-requires-clause-alone
 add-requires-clause-alone c =
     let old = c.args.self.now in let pool = c.args.pool.now in let size = c.args.size in let class = c.args.class in let stage = c.args.stage in let call = c.allot-allots in
-    let mid : Desk = record old { seat = call.new.seat; sampler = call.new.sampler; notes = call.new.log } in
+    let mid : Desk = record old { seat = call.new.seat; sampler = call.new.sampler; notes = call.new.log; asked = c.asked_with.result } in let mid_so = counted_so old call.new.seat call.new.sampler call.new.log c.asked_with.result (allotment.asks_of stage old.asked) c.asked_with.ensures in
     let did = subst (λ (x : Allots). allotment.HasAllotted pool old.seat mid.seat old.sampler mid.sampler old.notes mid.notes size class stage x) c.in-New.is call.ensures in
-    new_alone pool old mid c.args.name size class stage c.requires.desk c.requires.fits.0 refl c.in-New.root c.in-New.region did
+    new_alone pool old mid c.args.name size class stage c.requires.desk c.requires.fits.0 mid_so c.in-New.root c.in-New.region did
 
 pub add-requires-clause-few : goal.add-requires-clause-few
 add-requires-clause-few c =
     let old = c.args.self.now in let pool = c.args.pool.now in let size = c.args.size in let class = c.args.class in let stage = c.args.stage in let call = c.allot-allots in
-    let mid : Desk = record old { seat = call.new.seat; sampler = call.new.sampler; notes = call.new.log } in
+    let mid : Desk = record old { seat = call.new.seat; sampler = call.new.sampler; notes = call.new.log; asked = c.asked_with.result } in let mid_so = counted_so old call.new.seat call.new.sampler call.new.log c.asked_with.result (allotment.asks_of stage old.asked) c.asked_with.ensures in
     let did = subst (λ (x : Allots). allotment.HasAllotted pool old.seat mid.seat old.sampler mid.sampler old.notes mid.notes size class stage x) c.in-New.is call.ensures in
-    new_few pool old mid c.args.name size class stage c.requires.desk c.requires.fits.0 refl c.in-New.root c.in-New.region did c.requires.room
+    new_few pool old mid c.args.name size class stage c.requires.desk c.requires.fits.0 mid_so c.in-New.root c.in-New.region did c.requires.room
 
 pub bind-requires : goal.bind-requires
 bind-requires c =
     let old = c.args.self.now in let pool = c.args.pool.now in let size = c.args.size in let class = c.args.class in let stage = c.args.stage in let call = c.allot-allots in
-    let mid : Desk = record old { seat = call.new.seat; sampler = call.new.sampler; notes = call.new.log } in
+    let mid : Desk = record old { seat = call.new.seat; sampler = call.new.sampler; notes = call.new.log; asked = c.asked_with.result } in let mid_so = counted_so old call.new.seat call.new.sampler call.new.log c.asked_with.result (allotment.asks_of stage old.asked) c.asked_with.ensures in
     let did = subst (λ (x : Allots). allotment.HasAllotted pool old.seat mid.seat old.sampler mid.sampler old.notes mid.notes size class stage x) c.in-New.is call.ensures in
-    new_name pool old mid c.args.name size class stage c.requires.desk c.requires.fits.0 refl c.in-New.root c.in-New.region did c.requires.name
+    new_name pool old mid c.args.name size class stage c.requires.desk c.requires.fits.0 mid_so c.in-New.root c.in-New.region did c.requires.name
 
-pub answer-requires : goal.answer-requires
-answer-requires c =
+pub conclude-requires : goal.conclude-requires
+conclude-requires c =
     let old = c.args.self.now in let pool = c.args.pool.now in let size = c.args.size in let class = c.args.class in let stage = c.args.stage in let call = c.allot-allots in
-    let mid : Desk = record old { seat = call.new.seat; sampler = call.new.sampler; notes = call.new.log } in
-    let can = allot_can pool old mid c.args.name size class stage c.requires.desk c.requires.fits.0 refl call.result call.ensures c.requires.room c.requires.replies in
+    let mid : Desk = record old { seat = call.new.seat; sampler = call.new.sampler; notes = call.new.log; asked = c.asked_with.result } in let mid_so = counted_so old call.new.seat call.new.sampler call.new.log c.asked_with.result (allotment.asks_of stage old.asked) c.asked_with.ensures in
+    let can = allot_can pool old mid c.args.name size class stage c.requires.desk c.requires.fits.0 mid_so call.result call.ensures c.requires.room c.requires.replies in
     record { begun = can.begun; few = can.few; room = can.room }
 
-pub answer-requires-in-NoHandle : goal.answer-requires-in-NoHandle
-answer-requires-in-NoHandle c =
+pub conclude-requires-in-NoHandle : goal.conclude-requires-in-NoHandle
+conclude-requires-in-NoHandle c =
     let old = c.args.self.now in let pool = c.args.pool.now in let size = c.args.size in let class = c.args.class in let stage = c.args.stage in let call = c.allot-allots in
-    let mid : Desk = record old { seat = call.new.seat; sampler = call.new.sampler; notes = call.new.log } in
-    let can = allot_can pool old mid c.args.name size class stage c.requires.desk c.requires.fits.0 refl call.result call.ensures c.requires.room c.requires.replies in
+    let mid : Desk = record old { seat = call.new.seat; sampler = call.new.sampler; notes = call.new.log; asked = c.asked_with.result } in let mid_so = counted_so old call.new.seat call.new.sampler call.new.log c.asked_with.result (allotment.asks_of stage old.asked) c.asked_with.ensures in
+    let can = allot_can pool old mid c.args.name size class stage c.requires.desk c.requires.fits.0 mid_so call.result call.ensures c.requires.room c.requires.replies in
     record { begun = can.begun; few = can.few; room = can.room }
 
-pub answer-requires-in-Full : goal.answer-requires-in-Full
-answer-requires-in-Full c =
+pub conclude-requires-in-Full : goal.conclude-requires-in-Full
+conclude-requires-in-Full c =
     let old = c.args.self.now in let pool = c.args.pool.now in let size = c.args.size in let class = c.args.class in let stage = c.args.stage in let call = c.allot-allots in
-    let mid : Desk = record old { seat = call.new.seat; sampler = call.new.sampler; notes = call.new.log } in
-    let can = allot_can pool old mid c.args.name size class stage c.requires.desk c.requires.fits.0 refl call.result call.ensures c.requires.room c.requires.replies in
+    let mid : Desk = record old { seat = call.new.seat; sampler = call.new.sampler; notes = call.new.log; asked = c.asked_with.result } in let mid_so = counted_so old call.new.seat call.new.sampler call.new.log c.asked_with.result (allotment.asks_of stage old.asked) c.asked_with.ensures in
+    let can = allot_can pool old mid c.args.name size class stage c.requires.desk c.requires.fits.0 mid_so call.result call.ensures c.requires.room c.requires.replies in
     record { begun = can.begun; few = can.few; room = can.room }
 
 pub returns-in-New : goal.returns-in-New
 returns-in-New c = λ s command are.
     let old = c.args.self.now in let pool = c.args.pool.now in let size = c.args.size in let class = c.args.class in let stage = c.args.stage in let call = c.allot-allots in
-    let mid : Desk = record old { seat = call.new.seat; sampler = call.new.sampler; notes = call.new.log } in
+    let mid : Desk = record old { seat = call.new.seat; sampler = call.new.sampler; notes = call.new.log; asked = c.asked_with.result } in let mid_so = counted_so old call.new.seat call.new.sampler call.new.log c.asked_with.result (allotment.asks_of stage old.asked) c.asked_with.ensures in
     let did = subst (λ (x : Allots). allotment.HasAllotted pool old.seat mid.seat old.sampler mid.sampler old.notes mid.notes size class stage x) c.in-New.is call.ensures in
-    let new = c.answer.new.self in let cs = c.add.new.self in let root = c.in-New.root in
+    let new = c.conclude.new.self in let cs = c.add.new.self in let root = c.in-New.root in
     let bound : c.bind.new.self ≡ slice_set mid.names c.args.name (Some (root_view root)) = c.bind.ensures ∙ ap (λ (v : ViewData). slice_set mid.names c.args.name (Some v)) c.of_root.ensures in
-    subst (λ (t : Turn). HasTurned pool old new s command (Allotting c.args.name size class stage) t) (sym c.answer.ensures.ready)
-    (allot_new pool old mid c.args.name size class stage c.requires.desk c.requires.fits.0 refl s command are new root c.in-New.region did c.requires.name cs (record { counts = c.add.ensures.counts; places = c.add.ensures.places })
-    (subst (λ (names : List (Option ViewData)). HasReplied (record mid { names = names; counts = cs }) new (Reply.OkPlace c.in-New.region.place.len c.in-New.region.place)) bound c.answer.ensures.replied))
+    allot_new pool old mid c.args.name size class stage c.requires.desk c.requires.fits.0 mid_so s command are c.requires.name c.requires.fits.1.1 new root c.in-New.region did cs (record { counts = c.add.ensures.counts; places = c.add.ensures.places }) c.conclude.result
+    (subst (λ (names : List (Option ViewData)). Concludes (record mid { names = names; counts = cs }) new (Reply.OkPlace c.in-New.region.place.len c.in-New.region.place) c.conclude.result) bound c.conclude.ensures)
 
 pub returns-in-NoHandle : goal.returns-in-NoHandle
 returns-in-NoHandle c = λ s command are.
     let old = c.args.self.now in let pool = c.args.pool.now in let size = c.args.size in let class = c.args.class in let stage = c.args.stage in let call = c.allot-allots in
-    let mid : Desk = record old { seat = call.new.seat; sampler = call.new.sampler; notes = call.new.log } in
+    let mid : Desk = record old { seat = call.new.seat; sampler = call.new.sampler; notes = call.new.log; asked = c.asked_with.result } in let mid_so = counted_so old call.new.seat call.new.sampler call.new.log c.asked_with.result (allotment.asks_of stage old.asked) c.asked_with.ensures in
     let did = subst (λ (x : Allots). allotment.HasAllotted pool old.seat mid.seat old.sampler mid.sampler old.notes mid.notes size class stage x) c.in-NoHandle.is call.ensures in
-    let new = c.answer-in-NoHandle.new.self in
-    subst (λ (t : Turn). HasTurned pool old new s command (Allotting c.args.name size class stage) t) (sym c.answer-in-NoHandle.ensures.ready)
-    (allot_refused pool old mid c.args.name size class stage c.requires.desk c.requires.fits.0 refl s command are new NoHandle Reply.Handles refl (λ root. refl) refl (λ rest. refl) did c.answer-in-NoHandle.ensures.replied)
+    allot_refused pool old mid c.args.name size class stage c.requires.desk c.requires.fits.0 mid_so s command are c.requires.name c.requires.fits.1.1 c.conclude-in-NoHandle.new.self NoHandle Reply.Handles refl refl (λ root. refl) refl (λ some. some) refl did c.conclude-in-NoHandle.result c.conclude-in-NoHandle.ensures
 
 pub returns-in-Full : goal.returns-in-Full
 returns-in-Full c = λ s command are.
     let old = c.args.self.now in let pool = c.args.pool.now in let size = c.args.size in let class = c.args.class in let stage = c.args.stage in let call = c.allot-allots in
-    let mid : Desk = record old { seat = call.new.seat; sampler = call.new.sampler; notes = call.new.log } in
+    let mid : Desk = record old { seat = call.new.seat; sampler = call.new.sampler; notes = call.new.log; asked = c.asked_with.result } in let mid_so = counted_so old call.new.seat call.new.sampler call.new.log c.asked_with.result (allotment.asks_of stage old.asked) c.asked_with.ensures in
     let did = subst (λ (x : Allots). allotment.HasAllotted pool old.seat mid.seat old.sampler mid.sampler old.notes mid.notes size class stage x) c.in-Full.is call.ensures in
-    let new = c.answer-in-Full.new.self in
-    subst (λ (t : Turn). HasTurned pool old new s command (Allotting c.args.name size class stage) t) (sym c.answer-in-Full.ensures.ready)
-    (allot_refused pool old mid c.args.name size class stage c.requires.desk c.requires.fits.0 refl s command are new Full Reply.Full refl (λ root. refl) refl (λ rest. refl) did c.answer-in-Full.ensures.replied)
+    allot_refused pool old mid c.args.name size class stage c.requires.desk c.requires.fits.0 mid_so s command are c.requires.name c.requires.fits.1.1 c.conclude-in-Full.new.self Full Reply.Full refl refl (λ root. refl) refl (λ some. some) refl did c.conclude-in-Full.result c.conclude-in-Full.ensures

@@ -21,7 +21,7 @@ pub retain-requires-clause-moves : goal.retain-requires-clause-moves
 retain-requires-clause-moves c = let a = c.requires.room.moves in omega (arith, a)
 
 pub note-requires : goal.note-requires
-note-requires c = room_to_note c.args.pool.now (left_with 1 0 1) c.args.self.now c.requires.desk c.requires.room (omega arith)
+note-requires c = room_to_note c.args.pool.now (left_with 1 0 0 1) c.args.self.now c.requires.desk c.requires.room (omega arith)
 
 pub add-requires-clause-place : goal.add-requires-clause-place
 add-requires-clause-place c =

@@ -1,4 +1,4 @@
-use Rattle.std.proofs.Common.{List, sym, ap, subst, Option, None}
+use Rattle.std.proofs.Common.{List, [], sym, subst, Option}
 use Rattle.pool_law.specs.declared.command.Command.{Command}
 use Rattle.pool_law.specs.declared.id.ViewData.{ViewData}
 use Rattle.pool_law.specs.declared.run.Reply.{Reply}
@@ -6,9 +6,10 @@ use Rattle.lane_core.specs.declared.desk.Stage.TheVariants.{Ready}
 use Rattle.lane_core.specs.declared.desk.Turn.{Turn}
 use Rattle.lane_core.specs.Desks.{left_for, HasTurned}
 use Rattle.lane_core.specs.DeskSteps.{HasReplied}
-use Rattle.pool_law.specs.Lanes.{Bound, forget}
+use Rattle.pool_law.specs.Refusals.{unbound}
+use Rattle.shared_pool.specs.SeatLanes.{lane_of}
 use Rattle.lane_core.specs.declared.access.Refusal.TheVariants.{Unbound}
-use Rattle.lane_core.proofs.StateReads.{looked_up}
+use Rattle.lane_core.proofs.StateReads.{comes_first, is_unbound, refuses}
 use Rattle.lane_core.proofs.Turning.{refused_turn}
 use Rattle.lane_core.proofs.Commands.{forget_turn}
 use Rattle.lane_core.proofs.desk.Desk.forget.Goals as goal
@@ -28,4 +29,4 @@ returns c = λ pool may s state.
     let old = c.args.self.now in let new = c.refuse.new.self in let command = Command.Forget c.args.name in
     subst (λ (t : Turn). HasTurned pool old new s command Ready t) (sym c.refuse.ensures.ready)
     (refused_turn pool (left_for command) old new may Unbound c.refuse.ensures.replied s command state.names_are
-    (λ rest. ap (λ (o : Option Bound). forget s c.args.name o rest) (looked_up s old.names old.counts state c.args.name None c.in-None.ensures.unbound)))
+    (refuses s old.names old.counts state old.shape (lane_of old.seat) command Reply.Unbound (comes_first (unbound s c.args.name) [] (is_unbound s old.names old.counts state c.args.name c.in-None.ensures.unbound))))

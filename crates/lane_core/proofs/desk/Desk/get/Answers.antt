@@ -30,11 +30,11 @@ returns-in-Did c =
     let replied : HasReplied (record mid { names = slice_set mid.names reach.name (Some reach.after.at) }) new (Reply.OkBytes bytes) =
     subst (λ (p : List (Option ViewData) × List ℕ). HasReplied (record mid { names = p.0 }) new (Reply.OkBytes p.1)) (λ i. (c.bind.ensures i, answers i)) c.answer.ensures.replied in
     subst (λ (t : Turn). AccessTurns pool old new (Get reach c.args.note c.args.reply) t) (sym c.answer.ensures.ready)
-    (get_turn pool old start mid new c.requires.may.desk refl did.ensures.same did.ensures.seat reach c.requires.reaches.counts did.number note c.args.reply bytes
+    (get_turn pool old start mid new c.requires.may.desk c.requires.may.asked refl did.ensures.same did.ensures.seat reach c.requires.reaches.counts did.number note c.args.reply bytes
     len did.ensures.did noted replied)
 
 pub returns-in-Held : goal.returns-in-Held
 returns-in-Held c =
     let pool = c.args.pool.now in let old = c.args.self.now in let held = c.in-Held in
     let start : Desk = record old { seat = c.read.new.seat } in
-    get_found pool old start c.find_busy.new.self c.requires.may.desk refl held.ensures.same held.ensures.seat c.args.reach c.requires.reaches.view held.held c.find_busy.result held.ensures.held.1 c.find_busy.ensures c.args.note c.args.reply
+    get_found pool old start c.find_busy.new.self c.requires.may.desk c.requires.may.asked refl held.ensures.same held.ensures.seat c.args.reach c.requires.reaches.view held.held c.find_busy.result held.ensures.held.1 c.find_busy.ensures c.args.note c.args.reply

@@ -1,13 +1,14 @@
 use Rattle.std.proofs.Common.{[], ◌∷◌, refl, sym, subst, arith}
 use Rattle.pool_law.specs.declared.command.Command.{Command}
 use Rattle.pool_law.specs.declared.note.Note.{Note}
-use Rattle.pool_law.specs.Lanes.{refuse, refcnt}
+use Rattle.shared_pool.specs.SeatLanes.{lane_of}
+use Rattle.lane_core.specs.Accesses.{reply_for}
 use Rattle.lane_core.specs.declared.desk.Desk.{Desk}
 use Rattle.lane_core.specs.declared.desk.Stage.TheVariants.{Ready}
 use Rattle.lane_core.specs.declared.desk.Turn.{Turn}
 use Rattle.lane_core.specs.Desks.{left_for, HasTurned}
 use Rattle.lane_core.specs.DeskSteps.{HasNoted}
-use Rattle.lane_core.proofs.StateReads.{refused}
+use Rattle.lane_core.proofs.StateReads.{refused_count, refuses}
 use Rattle.lane_core.proofs.DeskLaws.{can_answer, note_room, can_answer_noted}
 use Rattle.lane_core.proofs.Turning.{refused_turn, look_turn}
 use Rattle.lane_core.proofs.Commands.{counts_root}
@@ -21,7 +22,7 @@ returns-in-Err c = λ s state.
     let pool = c.args.pool.now in let old = c.args.self.now in let new = c.refuse.new.self in let command = Command.Refcnt c.args.name in
     subst (λ (t : Turn). HasTurned pool old new s command Ready t) (sym c.refuse.ensures.ready)
     (refused_turn pool (left_for command) old new c.requires c.in-Err.refusal c.refuse.ensures.replied s command state.names_are
-    (λ rest. refused s old.names old.counts state c.args.name c.in-Err.refusal c.in-Err.ensures.refused (refuse s) (refcnt s) rest))
+    (refuses s old.names old.counts state old.shape (lane_of old.seat) command (reply_for c.in-Err.refusal) (refused_count s old.names old.counts state c.args.name c.in-Err.refusal c.in-Err.ensures.refused)))
 
 pub look-count-requires-clause-seat : goal.look-count-requires-clause-seat
 look-count-requires-clause-seat c = c.requires.desk.seat

@@ -76,10 +76,10 @@ returns-in-None c = λ s state.
 pub returns-in-Empty : goal.returns-in-Empty
 returns-in-Empty c = λ s state.
     let pool = c.args.pool.now in let old = c.args.self.now in let start : Desk = record old { seat = c.fetch.new.seat } in let d = c.requires.may.desk in let empty = c.in-Empty.ensures in
-    waiting pool old start d refl (advances_none pool old.seat start.seat empty_hand d.seat d.held empty.same empty.seat empty.empty) c.args.lane s (Command.Recv c.args.fresh c.args.lane) refl empty.drained
+    waiting pool old start d refl (advances_none pool old.seat start.seat empty_hand d.seat d.held empty.same empty.seat empty.empty) c.requires.may.asked c.args.lane s (Command.Recv c.args.fresh c.args.lane) refl empty.drained
 
 pub returns-in-Held : goal.returns-in-Held
 returns-in-Held c = λ s state.
     let pool = c.args.pool.now in let old = c.args.self.now in let held = c.in-Held in let start : Desk = record old { seat = c.fetch.new.seat } in let command = Command.Recv c.args.fresh c.args.lane in
     subst (λ (t : Turn). HasTurned pool old start s command Ready t) (sym c.waits.ensures)
-    (waits_turn pool old start c.requires.may.desk refl held.ensures.same held.ensures.seat (Mail c.args.lane (lane_of old.seat)) held.held held.ensures.held s command)
+    (waits_turn pool old start c.requires.may.asked c.requires.may.desk refl held.ensures.same held.ensures.seat (Mail c.args.lane (lane_of old.seat)) held.held held.ensures.held s command)

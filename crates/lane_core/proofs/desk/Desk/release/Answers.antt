@@ -6,10 +6,11 @@ use Rattle.lane_core.specs.declared.desk.Stage.TheVariants.{Ready}
 use Rattle.lane_core.specs.declared.desk.Turn.{Turn}
 use Rattle.lane_core.specs.Desks.{left_for, HasTurned}
 use Rattle.lane_core.specs.DeskSteps.{HasNoted}
-use Rattle.pool_law.specs.Lanes.{refuse, release_view}
+use Rattle.shared_pool.specs.SeatLanes.{lane_of}
+use Rattle.lane_core.specs.Accesses.{reply_for}
 use Rattle.shared_pool.specs.declared.went.Release.{Release}
 use Rattle.shared_pool.specs.RootNotes.{IsReleasedAs}
-use Rattle.lane_core.proofs.StateReads.{refused}
+use Rattle.lane_core.proofs.StateReads.{refused_count, refuses}
 use Rattle.lane_core.proofs.DeskLaws.{can_answer, can_answer_noted, note_room}
 use Rattle.lane_core.proofs.Turning.{refused_turn}
 use Rattle.lane_core.proofs.Commands.{counts_root, kept_turn, ended_turn}
@@ -23,7 +24,7 @@ returns-in-Err c = λ s state.
     let pool = c.args.pool.now in let old = c.args.self.now in let new = c.refuse.new.self in let command = Command.Release c.args.name in
     subst (λ (t : Turn). HasTurned pool old new s command Ready t) (sym c.refuse.ensures.ready)
     (refused_turn pool (left_for command) old new c.requires c.in-Err.refusal c.refuse.ensures.replied s command state.names_are
-    (λ rest. refused s old.names old.counts state c.args.name c.in-Err.refusal c.in-Err.ensures.refused (refuse s) (release_view old.shape s) rest))
+    (refuses s old.names old.counts state old.shape (lane_of old.seat) command (reply_for c.in-Err.refusal) (refused_count s old.names old.counts state c.args.name c.in-Err.refusal c.in-Err.ensures.refused)))
 
 pub release-release-requires-clause-seat : goal.release-release-requires-clause-seat
 release-release-requires-clause-seat c = c.requires.desk.seat

@@ -4,8 +4,9 @@ use Rattle.lane_core.specs.declared.desk.Desk.{Desk}
 use Rattle.lane_core.specs.declared.desk.Stage.TheVariants.{Ready}
 use Rattle.lane_core.specs.declared.desk.Turn.{Turn}
 use Rattle.lane_core.specs.Desks.{left_for, HasTurned}
-use Rattle.pool_law.specs.Lanes.{refuse, retain}
-use Rattle.lane_core.proofs.StateReads.{refused}
+use Rattle.shared_pool.specs.SeatLanes.{lane_of}
+use Rattle.lane_core.specs.Accesses.{reply_for}
+use Rattle.lane_core.proofs.StateReads.{refused_count, refuses}
 use Rattle.lane_core.proofs.DeskLaws.{can_answer, can_answer_noted}
 use Rattle.lane_core.proofs.Turning.{refused_turn, retain_turn}
 use Rattle.lane_core.proofs.desk.Desk.retain.Goals as goal
@@ -18,7 +19,7 @@ returns-in-Err c = λ s state.
     let pool = c.args.pool.now in let old = c.args.self.now in let new = c.refuse.new.self in let command = Command.Retain c.args.name in
     subst (λ (t : Turn). HasTurned pool old new s command Ready t) (sym c.refuse.ensures.ready)
     (refused_turn pool (left_for command) old new c.requires c.in-Err.refusal c.refuse.ensures.replied s command state.names_are
-    (λ rest. refused s old.names old.counts state c.args.name c.in-Err.refusal c.in-Err.ensures.refused (refuse s) (retain s) rest))
+    (refuses s old.names old.counts state old.shape (lane_of old.seat) command (reply_for c.in-Err.refusal) (refused_count s old.names old.counts state c.args.name c.in-Err.refusal c.in-Err.ensures.refused)))
 
 pub count_more-requires-clause-desk : goal.count_more-requires-clause-desk
 count_more-requires-clause-desk c = c.requires.desk

@@ -24,7 +24,7 @@ returns-in-Some c = λ s state.
     let pool = c.args.pool.now in let old = c.args.self.now in let mid = c.post.new.self in let command = Command.Send c.args.name c.args.lane in
     let did : HasNotPosted pool old mid c.args.lane c.in-Some.held = c.in-Some.ensures in
     subst (λ (t : Turn). HasTurned pool old mid s command Ready t) (sym c.waits.ensures)
-    (waits_turn pool old mid c.requires.may.desk did.rest did.same did.seat (Mail (lane_of old.seat) c.args.lane) c.in-Some.held did.found s command)
+    (waits_turn pool old mid c.requires.may.asked c.requires.may.desk did.rest did.same did.seat (Mail (lane_of old.seat) c.args.lane) c.in-Some.held did.found s command)
 
 pub returns-in-None : goal.returns-in-None
 returns-in-None c = λ s state.
@@ -39,7 +39,7 @@ returns-in-Some-post c = λ s state.
     let pool = c.args.pool.now in let old = c.args.self.now in let mid = c.post-in-Err.new.self in let command = Command.Send c.args.name c.args.lane in let held = c.in-Some-post.held in
     let did : HasNotPosted pool old mid c.args.lane held = c.in-Some-post.ensures in
     subst (λ (t : Turn). HasTurned pool old mid s command Ready t) (sym c.waits-in-Some-post.ensures)
-    (waits_turn pool old mid c.requires.may.desk did.rest did.same did.seat (Mail (lane_of old.seat) c.args.lane) held did.found s command)
+    (waits_turn pool old mid c.requires.may.asked c.requires.may.desk did.rest did.same did.seat (Mail (lane_of old.seat) c.args.lane) held did.found s command)
 
 pub returns-in-None-post : goal.returns-in-None-post
 returns-in-None-post c = λ s state.

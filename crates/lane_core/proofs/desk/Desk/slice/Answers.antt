@@ -1,11 +1,12 @@
-use Rattle.std.proofs.Common.{◌≡◌, List, Bool, true, false, refl, sym, ap, ◌∙◌, subst, Option, Some}
-use Rattle.std.specs.Prelude.{slice_set, if◌then◌else◌, IsTrue}
+use Rattle.std.proofs.Common.{◌≡◌, List, [], ◌∷◌, Bool, true, false, refl, sym, ap, ◌∙◌, subst, Option, Some}
+use Rattle.std.specs.Prelude.{slice_set, IsTrue}
 use Rattle.pool_law.specs.declared.command.Command.{Command}
 use Rattle.pool_law.specs.declared.id.RootId.{RootId}
 use Rattle.pool_law.specs.declared.id.ViewData.{ViewData}
 use Rattle.pool_law.specs.declared.run.Reply.{Reply}
 use Rattle.pool_law.specs.Views.{in_range, slice_of}
-use Rattle.pool_law.specs.Lanes.{refuse, slice}
+use Rattle.pool_law.specs.Refusals.{range}
+use Rattle.lane_core.specs.Accesses.{reply_for}
 use Rattle.shared_pool.specs.SeatLanes.{lane_of}
 use Rattle.lane_core.specs.declared.access.Refusal.TheVariants.{Range}
 use Rattle.lane_core.specs.declared.desk.Desk.{Desk}
@@ -14,7 +15,7 @@ use Rattle.lane_core.specs.declared.desk.Turn.{Turn}
 use Rattle.lane_core.specs.declared.desk.Turn.TheVariants.{Went}
 use Rattle.lane_core.specs.Desks.{left_for, HasTurned}
 use Rattle.lane_core.specs.DeskSteps.{HasReplied, HasRetained, MayTurn}
-use Rattle.lane_core.proofs.StateReads.{refused_fresh}
+use Rattle.lane_core.proofs.StateReads.{refused_fresh, refuses}
 use Rattle.lane_core.proofs.Turning.{refused_turn}
 use Rattle.lane_core.proofs.Commands.{bound_turn, slice_turn, reads_slice, reads_range}
 use Rattle.lane_core.proofs.desk.Desk.slice.Goals as goal
@@ -31,8 +32,7 @@ returns-in-Err c = λ s state.
     let command = Command.Slice fresh name at len kept in
     subst (λ (t : Turn). HasTurned pool old new s command Ready t) (sym c.refuse.ensures.ready)
     (refused_turn pool (left_for command) old new c.requires.may c.in-Err.refusal c.refuse.ensures.replied s command state.names_are
-    (λ rest. refused_fresh s old.names old.counts state fresh name c.in-Err.refusal c.in-Err.ensures.refused
-    (λ v es. if in_range v at len then slice s fresh v at len kept es else refuse s Reply.Range es) rest))
+    (refuses s old.names old.counts state old.shape (lane_of old.seat) command (reply_for c.in-Err.refusal) (refused_fresh s old.names old.counts state name fresh c.in-Err.refusal c.in-Err.ensures.refused (range s name at len ∷ []))))
 
 pub returns-in_default : goal.returns-in_default
 returns-in_default c = λ s state.
@@ -41,8 +41,7 @@ returns-in_default c = λ s state.
     let command = Command.Slice fresh name at len kept in let v : ViewData = c.in-Ok.view.now.at in let ok = c.in-Ok.ensures.ok in
     subst (λ (t : Turn). HasTurned pool old new s command Ready t) (sym c.refuse-in_default.ensures.ready)
     (refused_turn pool (left_for command) old new c.requires.may Range c.refuse-in_default.ensures.replied s command state.names_are
-    (λ rest. reads_range old.shape (lane_of old.seat) s old.names old.counts state fresh name v ok.0 ok.1 ok.2 at len kept rest
-    (no_range (in_range v at len) c.in_default.ensures.succeeds.1)))
+    (reads_range old.shape (lane_of old.seat) s old.names old.counts state fresh name v ok.0 ok.1 ok.2 at len kept (no_range (in_range v at len) c.in_default.ensures.succeeds.1)))
 
 pub returns : goal.returns
 returns c = λ s state.
@@ -62,8 +61,8 @@ returns c = λ s state.
           (slice_turn pool fresh name at len old mid new may c.requires.name v ok.0 ok.1 ok.2 inside did replied s state)
       | else-retained b ↦
           subst (λ (kept : Bool). HasTurned pool old new s (Command.Slice fresh name at len kept) Ready (Went Ready)) (sym b.if-retained.false)
-          (bound_turn pool fresh old new c.requires.may.desk c.requires.name w
+          (bound_turn pool fresh old new c.requires.may.desk c.requires.may.asked c.requires.name w
           (subst (λ (x : Desk). HasReplied (record x { names = slice_set x.names fresh (Some w) }) new Reply.Ok) b.self-is replied) s state.names_are (Command.Slice fresh name at len false)
-          (λ rest. reads_slice old.shape (lane_of old.seat) s old.names old.counts state fresh name v ok.0 ok.1 ok.2 at len rest inside))
+          (reads_slice old.shape (lane_of old.seat) s old.names old.counts state fresh name v ok.0 ok.1 ok.2 at len inside))
     ] in
     subst (λ (t : Turn). HasTurned pool old new s (Command.Slice fresh name at len c.args.retained) Ready t) (sym c.answer.ensures.ready) turned

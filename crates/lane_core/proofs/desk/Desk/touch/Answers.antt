@@ -7,8 +7,9 @@ use Rattle.lane_core.specs.declared.desk.Turn.{Turn}
 use Rattle.lane_core.specs.Desks.{left_for, HasTurned}
 use Rattle.lane_core.specs.DeskSteps.{HasNoted}
 use Rattle.pool_law.specs.declared.note.Object.TheVariants.{Root}
-use Rattle.pool_law.specs.Lanes.{refuse, touch}
-use Rattle.lane_core.proofs.StateReads.{refused}
+use Rattle.shared_pool.specs.SeatLanes.{lane_of}
+use Rattle.lane_core.specs.Accesses.{reply_for}
+use Rattle.lane_core.proofs.StateReads.{refused_view, refuses}
 use Rattle.lane_core.proofs.DeskLaws.{can_answer, can_answer_noted, note_room, turn_left, waits_turn}
 use Rattle.lane_core.proofs.Turning.{refused_turn}
 use Rattle.lane_core.proofs.Commands.{counts_root}
@@ -23,7 +24,7 @@ returns-in-Err c = λ s state.
     let pool = c.args.pool.now in let old = c.args.self.now in let new = c.refuse.new.self in let command = Command.Touch c.args.name in
     subst (λ (t : Turn). HasTurned pool old new s command Ready t) (sym c.refuse.ensures.ready)
     (refused_turn pool (left_for command) old new c.requires c.in-Err.refusal c.refuse.ensures.replied s command state.names_are
-    (λ rest. refused s old.names old.counts state c.args.name c.in-Err.refusal c.in-Err.ensures.refused (refuse s) (touch s) rest))
+    (refuses s old.names old.counts state old.shape (lane_of old.seat) command (reply_for c.in-Err.refusal) (refused_view s old.names old.counts state c.args.name c.in-Err.refusal c.in-Err.ensures.refused [])))
 
 pub touch-requires-clause-seat : goal.touch-requires-clause-seat
 touch-requires-clause-seat c = c.requires.desk.seat
@@ -54,4 +55,4 @@ pub returns-in-Held : goal.returns-in-Held
 returns-in-Held c = λ s state.
     let pool = c.args.pool.now in let old = c.args.self.now in let held = c.in-Held in let start : Desk = record old { seat = c.touch.new.seat } in
     subst (λ (t : Turn). HasTurned pool old start s (Command.Touch c.args.name) Ready t) (sym c.waits.ensures)
-    (waits_turn pool old start c.requires.desk refl held.ensures.same held.ensures.seat (Root c.in-Ok.view.now.at.root.place) held.held held.ensures.held s (Command.Touch c.args.name))
+    (waits_turn pool old start c.requires.asked c.requires.desk refl held.ensures.same held.ensures.seat (Root c.in-Ok.view.now.at.root.place) held.held held.ensures.held s (Command.Touch c.args.name))
