@@ -4,7 +4,6 @@ ghost use Rattle.std.specs.Prelude.{◌≡◌, ℕ, IfOk};
 ghost use Rattle.pool_law.specs.Limits.{cache_capacity};
 ghost use Rattle.pool_law.specs.Caches.{cache_step, lane_cache_step, is_own, new_cache, refusal_is, trim_quota};
 
-use crate::same::same_region;
 use crate::sizes::SMALL_CLASSES;
 use pool_law::{CacheNo, Did, RegionId};
 use std::alloc::{AllocError, Global};
@@ -93,7 +92,7 @@ impl Cache {
         }
         match self.regions.pop_front() {
             Some(front) => {
-                if same_region(region, &front) {
+                if *region == front {
                     self.served = if self.served < capacity {
                         self.served + 1
                     } else {
@@ -177,7 +176,7 @@ impl Cache {
         }
         match self.regions.pop_front() {
             Some(front) => {
-                if same_region(region, &front) {
+                if *region == front {
                     self.quota -= 1;
                     Some(self)
                 } else {

@@ -5,7 +5,7 @@
 //! and one step for each note, and says none where a note may not stand. It stands on `pool_law`,
 //! `size_classes` and `ground` alone. Of this a checker of runs takes whether an object accepts a history
 //! (`accepts`), what an arena comes to (`arena_after`), what a root place tells of its notes
-//! (`told_of_each`), the size classes, the limits of a shape, and whether two names are the same.
+//! (`told_of_each`), the size classes and the limits of a shape.
 
 mod arena;
 mod bin;
@@ -32,8 +32,6 @@ pub use arena::Arena;
 pub use limits::is_shape;
 pub use lists::same_list;
 pub use objects::{accepts, arena_after};
-pub use place::lie_within;
-pub use same::{same_bytes, same_object, same_place, same_region, same_root, same_taking};
 pub use sizes::Sizes;
 pub use telling::told_of_each;
 pub use told::Told;

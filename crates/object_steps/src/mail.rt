@@ -3,7 +3,6 @@
 ghost use Rattle.std.specs.Prelude.{◌≡◌, IfOk, []};
 ghost use Rattle.pool_law.specs.Caches.{mail_step};
 
-use crate::same::same_parcel;
 use pool_law::{Did, Parcel};
 use std::alloc::{AllocError, Global};
 use std::collections::VecDeque;
@@ -45,7 +44,7 @@ impl Mail {
             }
             Did::Fetch(parcel) => match self.parcels.pop_front() {
                 Some(front) => {
-                    if same_parcel(parcel, &front) {
+                    if *parcel == front {
                         Ok(Some(self))
                     } else {
                         Ok(None)

@@ -13,7 +13,7 @@ ghost use Rattle.pool_law.specs.Roots.{
   may_be_born,
 };
 
-use crate::same::{same_bytes, same_root};
+use crate::same::same_bytes;
 use crate::told::Told;
 use pool_law::{Did, RegionId, RootId};
 use std::alloc::{AllocError, Global};
@@ -166,7 +166,7 @@ fn present_step(generation: u32, present: Present, did: &Did) -> Option<RootPlac
             present: Some(present),
         }),
         Did::End(root) => {
-            if same_root(root, &present.root) {
+            if *root == present.root {
                 Some(RootPlace {
                     generation,
                     present: None,
@@ -180,7 +180,7 @@ fn present_step(generation: u32, present: Present, did: &Did) -> Option<RootPlac
 }
 
 /// Whether so many bytes from an offset on lie within a length.
-pub fn lie_within(offset: usize, len: usize, all: usize) -> bool
+pub(crate) fn lie_within(offset: usize, len: usize, all: usize) -> bool
     ensures { result ≡ nat_le (offset + len) all }
 {
     len <= all && offset <= all - len
