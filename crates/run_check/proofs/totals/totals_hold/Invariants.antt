@@ -1,6 +1,6 @@
 use Rattle.std.proofs.Common.{drop}
 use Rattle.run_check.specs.Tallying.{BirthsHold}
-use Rattle.run_check.proofs.lanes.totals_hold.Given as goal
+use Rattle.run_check.proofs.totals.totals_hold.Given as goal
 
 abbrev pub invariant-loop-note : goal.invariant-loop-note
 invariant-loop-note l = record {
