@@ -12,15 +12,15 @@ use Rattle.pool_law.specs.declared.run.Shape.{Shape}
 use Rattle.pool_law.specs.Same.{same_object}
 use Rattle.pool_law.specs.Roots.{RootPlace, new_place, place_step}
 use Rattle.pool_law.specs.Histories.{after, place_after}
-use Rattle.pool_law.specs.Logs.{Logs, History, Entry, dids, log_of, own, own_note, numbered, history_of, present_in, entry_of}
+use Rattle.pool_law.specs.Logs.{Logs, History, Entry, dids, of_lane, own, own_note, numbered, history_of, present_in, entry_of}
 use Rattle.pool_law.proofs.HistoryLemmas.{history_of-is}
-use Rattle.run_check.specs.declared.log.Told.{Told}
+use Rattle.object_steps.specs.declared.told.Told.{Told}
 use Rattle.run_check.specs.declared.histories.Histories.{Histories}
 use Rattle.run_check.specs.Reading.{untold, entry, entries_in}
-use Rattle.run_check.specs.Telling.{told_by, told_of_each}
+use Rattle.object_steps.specs.Telling.{told_by, told_of_each}
 use Rattle.run_check.specs.Storing.{history_in, told_in, AreHistories}
 use Rattle.run_check.specs.Entering.{IsNotedIn, IsToldOf, AreTold}
-use Rattle.run_check.proofs.TellingLemmas.{told-at}
+use Rattle.object_steps.proofs.TellingLemmas.{told-at}
 
 -- an item that stands in a list
 abbrev pub StandsIn : {X : Type 0} → X → List X → Type 0
@@ -111,8 +111,8 @@ module _ (shape : Shape) (logs : Logs) (m : Histories) (are : AreHistories shape
       entry (At (Root place) number did) told ≡ entry_of logs (At (Root place) number did)
   told-root place number did noted told is =
       let h : History = history_in m (Root place) in
-      let mine : StandsIn (number, did) (own (Root place) (log_of logs noted.0)) =
-      own-has place number did (log_of logs noted.0) noted.1 noted.2 in
+      let mine : StandsIn (number, did) (own (Root place) (of_lane logs noted.0)) =
+      own-has place number did (of_lane logs noted.0) noted.1 noted.2 in
       let same : slice_get (numbered noted.0 1 h) mine.0 ≡ Some (number, did) =
       ap (λ (xs : List (ℕ × Did)). slice_get xs mine.0) (sym (are.whole (Root place) noted.0)) ∙ mine.1 in
       let there : (1 ≤ number) × (slice_get h (number - 1) ≡ Some (noted.0, did)) =
@@ -161,7 +161,7 @@ told-get logs (x ∷ told) (y ∷ lanes) (suc k) t l are there is at =
     told-get logs told lanes k t l are.1 (omega (arith, there)) is at
 
 pub entries-get : (logs : Logs) (lanes : List LaneLog) (k : ℕ) (l : LaneLog) → k < length lanes → l ≡ get_or lanes k l →
-    log_of (map (map (entry_of logs)) (notes_in lanes)) k ≡ map (entry_of logs) l.notes
+    of_lane (map (map (entry_of logs)) (notes_in lanes)) k ≡ map (entry_of logs) l.notes
 entries-get logs [] k l there at = absurd (omega (arith, there))
 entries-get logs (y ∷ lanes) zero l there at = ap (λ (m : LaneLog). map (entry_of logs) m.notes) (sym at)
 entries-get logs (y ∷ lanes) (suc k) l there at = entries-get logs lanes k l (omega (arith, there)) at

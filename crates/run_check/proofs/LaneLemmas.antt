@@ -6,40 +6,39 @@ use Rattle.std.proofs.lemmas.List.{length-map, take_more, take_all}
 use Rattle.std.proofs.lemmas.Slice.Zip.{all_zipped_more}
 use Rattle.pool_law.specs.declared.note.Note.{Note}
 use Rattle.pool_law.specs.declared.run.LaneLog.{LaneLog}
-use Rattle.pool_law.specs.Logs.{log_of, entry_of, entries_of}
-use Rattle.run_check.specs.Spotting.{notes_in}
-use Rattle.run_check.specs.Entering.{replies_in}
+use Rattle.pool_law.specs.Logs.{of_lane, entry_of, entries_of}
+use Rattle.run_check.specs.Spotting.{notes_in, replies_in}
 
 pub lane-at : {X : Type 0} (logs : List (List X)) (k : ℕ) (log : List X) → k < length logs →
-    log ≡ get_or logs k log → log_of logs k ≡ log
+    log ≡ get_or logs k log → of_lane logs k ≡ log
 lane-at [] k log there is = absurd (omega (arith, there))
 lane-at (x ∷ logs) zero log there is = sym is
 lane-at (x ∷ logs) (suc k) log there is = lane-at logs k log (omega (arith, there)) is
 
-pub lane-past : {X : Type 0} (logs : List (List X)) (k : ℕ) → length logs ≤ k → log_of logs k ≡ []
+pub lane-past : {X : Type 0} (logs : List (List X)) (k : ℕ) → length logs ≤ k → of_lane logs k ≡ []
 lane-past [] k past = refl
 lane-past (x ∷ logs) zero past = absurd (omega (arith, past))
 lane-past (x ∷ logs) (suc k) past = lane-past logs k (omega (arith, past))
 
 pub notes-at : (logs : List LaneLog) (k : ℕ) (log : LaneLog) → k < length logs →
-    log ≡ get_or logs k log → log_of (notes_in logs) k ≡ log.notes
+    log ≡ get_or logs k log → of_lane (notes_in logs) k ≡ log.notes
 notes-at [] k log there is = absurd (omega (arith, there))
 notes-at (x ∷ logs) zero log there is = ap (λ (l : LaneLog). l.notes) (sym is)
 notes-at (x ∷ logs) (suc k) log there is = notes-at logs k log (omega (arith, there)) is
 
 pub notes-get : (logs : List LaneLog) (k : ℕ) (d : LaneLog) → k < length logs →
-    log_of (notes_in logs) k ≡ (get_or logs k d).notes
+    of_lane (notes_in logs) k ≡ (get_or logs k d).notes
 notes-get [] k d there = absurd (omega (arith, there))
 notes-get (x ∷ logs) zero d there = refl
 notes-get (x ∷ logs) (suc k) d there = notes-get logs k d (omega (arith, there))
 
 pub replies-get : (logs : List LaneLog) (k : ℕ) (d : LaneLog) → k < length logs →
-    log_of (replies_in logs) k ≡ (get_or logs k d).replies
+    of_lane (replies_in logs) k ≡ (get_or logs k d).replies
 replies-get [] k d there = absurd (omega (arith, there))
 replies-get (x ∷ logs) zero d there = refl
 replies-get (x ∷ logs) (suc k) d there = replies-get logs k d (omega (arith, there))
 
-pub notes-past : (logs : List LaneLog) (k : ℕ) → length logs ≤ k → log_of (notes_in logs) k ≡ []
+pub notes-past : (logs : List LaneLog) (k : ℕ) → length logs ≤ k → of_lane (notes_in logs) k ≡ []
 notes-past [] k past = refl
 notes-past (x ∷ logs) zero past = absurd (omega (arith, past))
 notes-past (x ∷ logs) (suc k) past = notes-past logs k (omega (arith, past))
@@ -49,8 +48,8 @@ below-or a b = grind arith
 
 -- what holds of each lane that is there, and of an empty log, holds of all lanes
 pub each-lane : {X : Type 0} (P : ℕ → List X → Type 0) (logs : List (List X)) (n : ℕ) →
-    ((k : ℕ) → k < n → P k (log_of logs k)) → length logs ≤ n → ((k : ℕ) → P k []) →
-    (k : ℕ) → P k (log_of logs k)
+    ((k : ℕ) → k < n → P k (of_lane logs k)) → length logs ≤ n → ((k : ℕ) → P k []) →
+    (k : ℕ) → P k (of_lane logs k)
 each-lane {X = X} P logs n there all none k =
     ⊎_elim
     (λ inside. there k inside)
@@ -58,8 +57,8 @@ each-lane {X = X} P logs n there all none k =
     (below-or k n)
 
 pub each-notes : (P : ℕ → List Note → Type 0) (logs : List LaneLog) (n : ℕ) →
-    ((k : ℕ) → k < n → P k (log_of (notes_in logs) k)) → length logs ≤ n → ((k : ℕ) → P k []) →
-    (k : ℕ) → P k (log_of (notes_in logs) k)
+    ((k : ℕ) → k < n → P k (of_lane (notes_in logs) k)) → length logs ≤ n → ((k : ℕ) → P k []) →
+    (k : ℕ) → P k (of_lane (notes_in logs) k)
 each-notes P logs n there all none k =
     ⊎_elim
     (λ inside. there k inside)

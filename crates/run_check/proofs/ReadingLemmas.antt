@@ -1,9 +1,8 @@
 -- The notes of a log from a place on.
-use Rattle.std.proofs.Common.{◌≡◌, ℕ, zero, suc, ◌+◌, ◌<◌, ◌≤◌, List, [], ◌∷◌, length, take, drop, get_or, refl, sym, ap, arith, ◌∙◌, length-drop}
+use Rattle.std.proofs.Common.{◌≡◌, ℕ, zero, suc, ◌+◌, ◌<◌, ◌≤◌, List, [], ◌∷◌, length, drop, get_or, refl, sym, ap, arith, ◌∙◌}
 use Rattle.std.specs.Prelude.{slice_get, unwrap_or}
 use Rattle.pool_law.specs.declared.note.Note.{Note}
-use Rattle.pool_law.specs.Logs.{Entry}
-use Rattle.run_check.specs.declared.log.Told.{Told}
+use Rattle.object_steps.specs.declared.told.Told.{Told}
 use Rattle.run_check.specs.Reading.{entry, untold, entries_in}
 
 pub entries-past : (notes : List Note) (told : List Told) (at : ℕ) → length notes ≤ at →
@@ -32,36 +31,6 @@ entries-at notes told at note there e =
     let next : suc at ≡ at + 1 = omega arith in
     entries-from notes told at note there e
     ∙ ap (λ k. entry note (unwrap_or (slice_get told at) untold) ∷ drop k (entries_in notes told)) next
-
--- a part of a log
-pub entries-take : (notes : List Note) (told : List Told) (n : ℕ) → length told ≡ length notes →
-    entries_in (take n notes) (take n told) ≡ take n (entries_in notes told)
-entries-take notes told zero e = refl
-entries-take [] told (suc n) e = refl
-entries-take (x ∷ notes) [] (suc n) e = absurd (omega (arith, e))
-entries-take (x ∷ notes) (t ∷ told) (suc n) e =
-    ap (λ es. entry x t ∷ es) (entries-take notes told n (omega (arith, e)))
-
-pub entries-drop : (notes : List Note) (told : List Told) (n : ℕ) → length told ≡ length notes →
-    entries_in (drop n notes) (drop n told) ≡ drop n (entries_in notes told)
-entries-drop notes told zero e = refl
-entries-drop [] told (suc n) e = refl
-entries-drop (x ∷ notes) [] (suc n) e = absurd (omega (arith, e))
-entries-drop (x ∷ notes) (t ∷ told) (suc n) e = entries-drop notes told n (omega (arith, e))
-
--- there are as many entries as notes
-pub length-entries : (notes : List Note) (told : List Told) → length (entries_in notes told) ≡ length notes
-length-entries [] told = refl
-length-entries (x ∷ notes) [] = ap (λ n. suc n) (length-entries notes [])
-length-entries (x ∷ notes) (t ∷ told) = ap (λ n. suc n) (length-entries notes told)
-
--- a part of a log, from one place to another
-pub entries-between : (notes : List Note) (told : List Told) (at n : ℕ) → length told ≡ length notes →
-    entries_in (take n (drop at notes)) (take n (drop at told)) ≡ take n (drop at (entries_in notes told))
-entries-between notes told at n e =
-    let same : length (drop at told) ≡ length (drop at notes) = omega (arith, e, length-drop at told, length-drop at notes) in
-    entries-take (drop at notes) (drop at told) n same
-    ∙ ap (λ (es : List Entry). take n es) (entries-drop notes told at e)
 
 -- what is told of a note that is there
 pub told-or : (told : List Told) (at : ℕ) (d : Told) → at < length told →

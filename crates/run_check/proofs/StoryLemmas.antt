@@ -12,32 +12,32 @@ use Rattle.pool_law.specs.declared.run.Shape.{Shape}
 use Rattle.pool_law.specs.Same.{same_object}
 use Rattle.pool_law.specs.Roots.{RootPlace, new_place}
 use Rattle.pool_law.specs.Histories.{accepts, arena_after, place_after}
-use Rattle.pool_law.specs.Logs.{Logs, History, dids, log_of, own, IsHistory, history_of}
+use Rattle.pool_law.specs.Logs.{Logs, History, dids, of_lane, own, IsHistory, history_of}
 use Rattle.pool_law.specs.Arenas.{Arena}
 use Rattle.pool_law.specs.declared.report.ChunkEnd.{ChunkEnd}
 use Rattle.pool_law.specs.Legal.{HistoriesHold, ends_of, arena_ends, ends_from}
 use Rattle.pool_law.proofs.HistoryLemmas.{append-nil, own-append, history_of-is}
 use Rattle.pool_law.proofs.SameLemmas.{same_object-is}
-use Rattle.run_check.specs.declared.log.Told.{Told}
+use Rattle.object_steps.specs.declared.told.Told.{Told}
 use Rattle.run_check.specs.declared.histories.Story.{Story}
 use Rattle.run_check.specs.declared.histories.Histories.{Histories}
 use Rattle.run_check.specs.Counting.{key_cmp}
 use Rattle.run_check.specs.Keying.{object_key}
 use Rattle.run_check.specs.Gathering.{AreNumbered}
-use Rattle.run_check.specs.Telling.{told_of_each}
+use Rattle.object_steps.specs.Telling.{told_of_each}
 use Rattle.run_check.specs.Storing.{TellsOf, IsStory, IsBroken, story_in, has_story, dones_of, told_by_story, history_in, AreStories, Keeps, Covers, AreHistories}
 use Rattle.run_check.proofs.KeyLemmas.{is_at-object, same-object-self}
 
 -- ---- One object.
 
 module _ (shape : Shape) (logs : Logs) (object : Object) where
-  pub broken-unmerged : (left : ℕ → List (ℕ × Did)) → ((lane : ℕ) → left lane ≡ own object (log_of logs lane)) →
+  pub broken-unmerged : (left : ℕ → List (ℕ × Did)) → ((lane : ℕ) → left lane ≡ own object (of_lane logs lane)) →
       ((g : History) → AreNumbered 1 left g → ⊥) → IsBroken shape logs object
   broken-unmerged left is never whole accepted =
       never (history_of object logs) (λ lane. is lane ∙ whole lane)
 
   merged-whole : (left : ℕ → List (ℕ × Did)) (h : History) →
-      ((lane : ℕ) → left lane ≡ own object (log_of logs lane)) → AreNumbered 1 left h → IsHistory object logs h
+      ((lane : ℕ) → left lane ≡ own object (of_lane logs lane)) → AreNumbered 1 left h → IsHistory object logs h
   merged-whole left h is numbers lane = sym (is lane) ∙ numbers lane
 
   broken-refused : (h : History) → IsHistory object logs h → accepts shape object (dids h) ≡ false →
@@ -117,7 +117,7 @@ accepts-nothing shape (Object.Mail from to) = refl
 accepts-nothing shape (Object.Root place) = refl
 
 module _ (shape : Shape) (logs : Logs) (m : Histories) (are : AreStories shape logs m)
-    (covers : (lane : ℕ) → Covers m (log_of logs lane)) where
+    (covers : (lane : ℕ) → Covers m (of_lane logs lane)) where
   pub histories-are : AreHistories shape logs m
   histories-are = record {
     whole = λ object. whole object (story_in m object) refl;
@@ -190,7 +190,7 @@ ends-push shape logs (x ∷ numbers) n =
     ∙ sym (append_assoc (arena_ends shape logs x) (ends_from shape logs numbers) (arena_ends shape logs n))
 
 pub story-broken : (shape : Shape) (logs : Logs) (object : Object) (left : ℕ → List (ℕ × Did)) (h : History) (ds : List Did) →
-    ((lane : ℕ) → left lane ≡ own object (log_of logs lane)) → AreNumbered 1 left h → ds ≡ dids h →
+    ((lane : ℕ) → left lane ≡ own object (of_lane logs lane)) → AreNumbered 1 left h → ds ≡ dids h →
     accepts shape object ds ≡ false → IsBroken shape logs object
 story-broken shape logs object left h ds is numbers same refused =
     broken-refused shape logs object h (merged-whole shape logs object left h is numbers)

@@ -3,15 +3,14 @@ use Rattle.std.specs.Prelude.{◌≡◌, ℕ, List, length, map, Some, slice_get
 use Rattle.std.specs.List.{AllZip}
 use Rattle.std.specs.declared.alloc.Global.{Global}
 use Rattle.pool_law.specs.declared.note.Note.{Note}
-use Rattle.pool_law.specs.declared.run.Answered.{Answered}
 use Rattle.pool_law.specs.declared.run.LaneLog.{LaneLog}
-use Rattle.pool_law.specs.Logs.{Logs, log_of, entry_of}
-use Rattle.run_check.specs.declared.log.Told.{Told}
+use Rattle.pool_law.specs.Logs.{Logs, of_lane, entry_of}
+use Rattle.object_steps.specs.declared.told.Told.{Told}
 use Rattle.run_check.specs.Reading.{entries_in}
 
 -- the note stands in a lane's log
 abbrev pub IsNotedIn : Logs → Note → Type 0
-IsNotedIn logs note = (lane : ℕ) × (k : ℕ) × (slice_get (log_of logs lane) k ≡ Some note)
+IsNotedIn logs note = (lane : ℕ) × (k : ℕ) × (slice_get (of_lane logs lane) k ≡ Some note)
 
 -- with what is told, a lane's notes are its entries
 pub record IsToldOf (logs : Logs) (told : Vec Told Global) (log : LaneLog) : Type 0 where
@@ -21,7 +20,3 @@ pub record IsToldOf (logs : Logs) (told : Vec Told Global) (log : LaneLog) : Typ
 -- with what is told, each lane's notes are its entries
 abbrev pub AreTold : Logs → List (Vec Told Global) → List LaneLog → Type 0
 AreTold logs told lanes = AllZip (IsToldOf logs) told lanes
-
--- the replies of each lane
-abbrev pub replies_in : List LaneLog → List (List Answered)
-replies_in logs = map (λ l. l.replies) logs

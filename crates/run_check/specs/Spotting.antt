@@ -5,7 +5,8 @@ use Rattle.std.specs.declared.alloc.Global.{Global}
 use Rattle.pool_law.specs.declared.note.Did.{Did}
 use Rattle.pool_law.specs.declared.note.Object.{Object}
 use Rattle.pool_law.specs.declared.run.LaneLog.{LaneLog}
-use Rattle.pool_law.specs.Logs.{Logs, log_of, own}
+use Rattle.pool_law.specs.declared.run.Answered.{Answered}
+use Rattle.pool_law.specs.Logs.{Logs, of_lane, own}
 use Rattle.run_check.specs.Counting.{key_cmp}
 use Rattle.run_check.specs.Keying.{object_key}
 use Rattle.run_check.specs.Gathering.{spots_behind}
@@ -15,6 +16,10 @@ use Rattle.run_check.specs.declared.spots.Spots.{Spots}
 -- the notes of each lane
 abbrev pub notes_in : List LaneLog → Logs
 notes_in logs = map (λ l. l.notes) logs
+
+-- the replies of each lane
+abbrev pub replies_in : List LaneLog → List (List Answered)
+replies_in logs = map (λ l. l.replies) logs
 
 -- the notes of a list that may be there
 abbrev pub spots_in : Option (Vec Spot Global) → List (ℕ × Did)
@@ -34,4 +39,4 @@ laned (s ∷ rest) object (suc lane) = laned rest object lane
 -- these are the notes of each lane, by object
 abbrev pub AreSpots : List Spots → Logs → Type 0
 AreSpots lanes logs =
-    (object : Object) (lane : ℕ) → laned lanes object lane ≡ own object (log_of logs lane)
+    (object : Object) (lane : ℕ) → laned lanes object lane ≡ own object (of_lane logs lane)

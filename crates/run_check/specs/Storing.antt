@@ -13,8 +13,8 @@ use Rattle.pool_law.specs.Roots.{new_place}
 use Rattle.run_check.specs.Counting.{key_cmp}
 use Rattle.run_check.specs.Keying.{object_key}
 use Rattle.run_check.specs.Merging.{dones_in}
-use Rattle.run_check.specs.Telling.{told_of_each}
-use Rattle.run_check.specs.declared.log.Told.{Told}
+use Rattle.object_steps.specs.Telling.{told_of_each}
+use Rattle.object_steps.specs.declared.told.Told.{Told}
 use Rattle.run_check.specs.declared.histories.Story.{Story}
 use Rattle.run_check.specs.declared.histories.Histories.{Histories}
 

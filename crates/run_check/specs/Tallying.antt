@@ -1,11 +1,11 @@
 -- How often logs note each root, as the program sums it.
-use Rattle.std.specs.Prelude.{◌≡◌, ◌↔◌, ℕ, ◌+◌, ◌-◌, ◌≤◌, ◌==◌, true, if◌then◌else◌, List, [], ◌∷◌, unwrap_or}
+use Rattle.std.specs.Prelude.{◌≡◌, ◌↔◌, ℕ, ◌+◌, ◌-◌, ◌<◌, ◌≤◌, ◌==◌, Bool, true, if◌then◌else◌, List, [], ◌∷◌, unwrap_or}
 use Rattle.std.specs.BTreeMap.{get}
 use Rattle.pool_law.specs.declared.id.RootId.{RootId}
 use Rattle.pool_law.specs.declared.note.Note.{Note}
 use Rattle.pool_law.specs.declared.note.RefDid.{RefDid}
 use Rattle.pool_law.specs.declared.run.LaneLog.{LaneLog}
-use Rattle.pool_law.specs.Counts.{is_birth, is_born, is_retain, is_release, ends_root}
+use Rattle.pool_law.specs.Counts.{is_birth, names_root, is_born, is_retain, is_release, ends_root}
 use Rattle.pool_law.specs.Legal.{one_if}
 use Rattle.run_check.specs.Counting.{key_cmp, key_of}
 use Rattle.run_check.specs.declared.tally.Sums.{Sums}
@@ -81,9 +81,16 @@ pub record AreTotals (s : Sums) : Type 0 where
   pub ends_once : s.ends ≤ 1
   pub ends_at_zero : (s.ends ≡ 1) ↔ ((1 + s.retains) - s.releases ≡ 0)
 
+-- what is asked of a root holds of each that passes a test with one of these notes
+abbrev pub EachHolds : (RootId → Note → Bool) → (RootId → Type 0) → List Note → Type 0
+EachHolds test Right [] = Unit {0}
+EachHolds test Right (n ∷ ns) =
+    ((root : RootId) → test root n ≡ true → Right root) × EachHolds test Right ns
+
 -- the totals of the roots that these notes let be born are right
 abbrev pub BirthsHold : List Tally → List Note → Type 0
-BirthsHold tallies [] = Unit {0}
-BirthsHold tallies (n ∷ ns) =
-    ((root : RootId) → is_birth root n ≡ true → AreTotals (total_sums tallies root))
-    × BirthsHold tallies ns
+BirthsHold tallies ns = EachHolds is_birth (λ root. AreTotals (total_sums tallies root)) ns
+
+-- the roots that these notes name were born
+abbrev pub NamesHold : List Tally → List Note → Type 0
+NamesHold tallies ns = EachHolds names_root (λ root. 0 < (total_sums tallies root).births) ns

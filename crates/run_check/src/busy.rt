@@ -1,12 +1,11 @@
 //! Whether busy marks are right.
 
-ghost use Rattle.std.specs.Prelude.{◌≡◌, ◌↔◌, ℕ, IsTrue, IfOk, OnOk};
+ghost use Rattle.std.specs.Prelude.{◌≡◌, ◌≤◌, ◌↔◌, ℕ, slice_get, if◌then◌else◌, IsTrue, IfOk, OnOk};
 ghost use Rattle.pool_law.specs.declared.note.Object.{Object};
-ghost use Rattle.pool_law.specs.Busy.{Rises, IsOfAnother, MarksHold};
-ghost use Rattle.run_check.specs.Rising.{seen_at, risen, MayRise};
-ghost use Rattle.run_check.specs.Storing.{history_in};
-ghost use Rattle.std.specs.Prelude.{slice_get, if◌then◌else◌};
 ghost use Rattle.pool_law.specs.Same.{same_object};
+ghost use Rattle.pool_law.specs.Busy.{MarksFit, IsOfAnother, MarksHold};
+ghost use Rattle.run_check.specs.Marking.{none_had, had_of, least_after, had_note, had_mark, had_after, MayCome};
+ghost use Rattle.run_check.specs.Storing.{history_in};
 
 use crate::histories::Histories;
 use crate::keys::object_key;
@@ -14,81 +13,138 @@ use pool_law::{Held, Note, Object};
 use std::alloc::{AllocError, Global};
 use std::collections::BTreeMap;
 
-/// What a lane has seen of each object: the last number, of a note or of a mark.
-#[derive(Drop)]
-pub struct Seen {
-    map: BTreeMap<(u32, u32, u32), u64>,
+/// What a lane has of an object: the greatest number since its last mark, the mark's among them, and
+/// the number of that mark.
+#[derive(Clone, Copy, Drop)]
+pub struct Had {
+    pub number: u64,
+    pub mark: Option<u64>,
 }
 
-impl Seen {
-    /// Nothing.
-    fn new(alloc: Global) -> Seen
-        ensures { (object : Object) → seen_at result object ≡ 0 }
+impl Had {
+    // Nothing.
+    fn none() -> Had
+        ensures { result ≡ none_had }
     {
-        Seen {
+        Had {
+            number: 0,
+            mark: None,
+        }
+    }
+
+    // Whether a note may have this number.
+    fn may_note(&self, number: u64) -> bool
+        ensures { IsTrue result ↔ (least_after self.now.mark ≤ number) }
+    {
+        match self.mark {
+            Some(mark) => mark < number,
+            None => true,
+        }
+    }
+
+    // After a note of this number.
+    fn noted(&self, number: u64) -> Had
+        ensures { result ≡ had_note self.now number }
+    {
+        Had {
+            number: self.number.max(number),
+            mark: self.mark,
+        }
+    }
+
+    // After a mark of this number.
+    fn marked(number: u64) -> Had
+        ensures { result ≡ had_mark number }
+    {
+        Had {
+            number,
+            mark: Some(number),
+        }
+    }
+}
+
+/// What a lane has of each object.
+#[derive(Drop)]
+pub struct Marked {
+    map: BTreeMap<(u32, u32, u32), Had>,
+}
+
+impl Marked {
+    /// Nothing.
+    fn new(alloc: Global) -> Marked
+        ensures { (object : Object) → had_of result object ≡ none_had }
+    {
+        Marked {
             map: BTreeMap::new(alloc),
         }
     }
 
-    // What is seen of an object.
-    fn of(&self, object: &Object) -> u64
-        ensures { result ≡ seen_at self.now object.now }
+    // What is had of an object.
+    fn of(&self, object: &Object) -> Had
+        ensures { result ≡ had_of self.now object.now }
     {
-        self.map.get(&object_key(object)).copied().unwrap_or(0)
+        match self.map.get(&object_key(object)) {
+            Some(had) => *had,
+            None => Had::none(),
+        }
     }
 
     // Whether a note may come next.
     fn may_come(&self, note: &Note) -> bool
         ensures { IsTrue result
-            ↔ ((object : Object) → MayRise object (seen_at self.now object) note.now) }
+            ↔ ((object : Object) → MayCome object (had_of self.now object) note.now) }
     {
         match note {
             Note::At {
                 object,
                 number,
                 did: _,
-            } => self.of(object) < *number,
-            Note::Busy(held) => self.of(&held.object) <= held.number,
+            } => self.of(object).may_note(*number),
+            Note::Busy(held) => self.of(&held.object).number <= held.number,
             Note::Ref { root: _, did: _ } => true,
         }
     }
 
-    // The number of a note is seen.
+    // What is had after a note.
     fn pass(&mut self, note: &Note) -> Result<(), AllocError>
-        ensures { (object : Object) → OnOk result (seen_at self.new object
-            ≡ risen object (seen_at self.old object) note.now) }
+        ensures { (object : Object) → OnOk result (had_of self.new object
+            ≡ had_after object (had_of self.old object) note.now) }
     {
         match note {
             Note::At {
                 object,
                 number,
                 did: _,
-            } => self.put(object, *number),
-            Note::Busy(held) => self.put(&held.object, held.number),
+            } => {
+                let had = self.of(object).noted(*number);
+                self.put(object, had)
+            }
+            Note::Busy(held) => self.put(&held.object, Had::marked(held.number)),
             Note::Ref { root: _, did: _ } => Ok(()),
         }
     }
 
-    // A number is seen of an object.
-    fn put(&mut self, object: &Object, number: u64) -> Result<(), AllocError>
-        ensures { (other : Object) → OnOk result (seen_at self.new other
-            ≡ (if same_object other object.now then number else seen_at self.old other)) }
+    // This is had of an object.
+    fn put(&mut self, object: &Object, had: Had) -> Result<(), AllocError>
+        ensures { (other : Object) → OnOk result (had_of self.new other
+            ≡ (if same_object other object.now then had else had_of self.old other)) }
     {
-        self.map.insert(object_key(object), number)?;
+        self.map.insert(object_key(object), had)?;
         Ok(())
     }
 }
 
-/// Whether the numbers at each object rise in a lane's log.
-pub fn all_rise(alloc: Global, notes: &[Note]) -> Result<bool, AllocError>
-    ensures { IfOk result (λ good. IsTrue good ↔ ((object : Object) → Rises object 0 notes.now)) }
+/// Whether the marks at each object fit what a lane has of it.
+pub fn all_fit(alloc: Global, notes: &[Note]) -> Result<bool, AllocError>
+    ensures { IfOk result
+        (λ good. IsTrue good ↔ ((object : Object) → MarksFit object 0 0 notes.now)) }
 {
-    let mut seen = Seen::new(alloc);
+    let mut marked = Marked::new(alloc);
     for note in notes {
-        if !seen.may_come(note) {
+        if !marked.may_come(note) {
             return Ok(false);
         }
-        seen.pass(note)?;
+        marked.pass(note)?;
     }
     Ok(true)
 }

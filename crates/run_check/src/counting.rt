@@ -10,8 +10,9 @@ ghost use Rattle.run_check.specs.Reading.{entry, entries};
 ghost use Rattle.run_check.specs.Tallying.{sums_in, others_sum};
 
 use crate::counts::Counts;
-use crate::log::{Log, Told};
+use crate::log::Log;
 use crate::tally::{Sums, Tally, others_of, sum};
+use object_steps::Told;
 use pool_law::{Did, Note, RefDid, RootId};
 use std::alloc::{AllocError, Global};
 

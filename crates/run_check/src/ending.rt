@@ -8,9 +8,7 @@ ghost use Rattle.pool_law.specs.Legal.{arena_ends, ends_from};
 ghost use Rattle.run_check.specs.Storing.{AreHistories};
 
 use crate::histories::{Histories, dids_of};
-use crate::lists::same_list;
-use crate::objects::arena_after;
-use crate::sizes::Sizes;
+use object_steps::{Sizes, arena_after, same_list};
 use pool_law::{ChunkEnd, Object, Shape};
 use std::alloc::{AllocError, Global};
 

@@ -2,14 +2,14 @@
 
 ghost use Rattle.std.specs.Prelude.{◌≡◌, ◌-◌, ℕ, length, map, slice_get, unwrap_or, IfOk};
 ghost use Rattle.pool_law.specs.declared.run.Shape.{Shape};
-ghost use Rattle.pool_law.specs.Logs.{Logs, log_of, entry_of};
+ghost use Rattle.pool_law.specs.Logs.{Logs, of_lane, entry_of};
 ghost use Rattle.run_check.specs.Reading.{untold, entry, entries_in};
 ghost use Rattle.run_check.specs.Spotting.{notes_in};
 ghost use Rattle.run_check.specs.Storing.{AreHistories};
 ghost use Rattle.run_check.specs.Entering.{IsNotedIn, AreTold};
 
 use crate::histories::Histories;
-use crate::log::Told;
+use object_steps::Told;
 use pool_law::{LaneLog, Note, Object};
 use std::alloc::{AllocError, Global};
 
@@ -57,7 +57,7 @@ pub fn told_of_lane(
     notes: &[Note],
 ) -> Result<Vec<Told>, AllocError>
     ensures { (shape : Shape) → (logs : Logs) → (lane : ℕ) → AreHistories shape logs histories.now
-        → notes.now ≡ log_of logs lane
+        → notes.now ≡ of_lane logs lane
         → IfOk result (λ told. (entries_in notes.now told.items ≡ map (entry_of logs) notes.now)
         × (length told.items ≡ length notes.now)) }
 {

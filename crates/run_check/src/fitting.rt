@@ -2,7 +2,7 @@
 
 ghost use Rattle.std.specs.Prelude.{◌≡◌, ◌∷◌, ◌++◌, [], ℕ, List, ◌↔◌, IsTrue, IfOk, OnOk};
 ghost use Rattle.pool_law.specs.declared.command.Command.{Command};
-ghost use Rattle.pool_law.specs.Logs.{log_of};
+ghost use Rattle.pool_law.specs.Logs.{of_lane};
 ghost use Rattle.pool_law.specs.Legal.{new_name, fits_after, AreCommands};
 ghost use Rattle.run_check.specs.Fitting.{AreBrought};
 
@@ -81,7 +81,7 @@ pub fn all_are_commands(
     lanes: &[CommandList],
 ) -> Result<bool, AllocError>
     ensures { IfOk result (λ good. IsTrue good
-        ↔ ((lane : ℕ) → AreCommands shape.now (log_of lanes.now lane))) }
+        ↔ ((lane : ℕ) → AreCommands shape.now (of_lane lanes.now lane))) }
 {
     for commands in lanes {
         if !are_commands(alloc, shape, commands.items())? {

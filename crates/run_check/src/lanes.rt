@@ -1,36 +1,33 @@
 //! What the law asks of the log of each lane.
 
-ghost use Rattle.std.specs.Prelude.{◌≡◌, ◌<◌, ◌≤◌, ◌^◌, ◌↔◌, ℕ, true, length, IsTrue, IfOk};
+ghost use Rattle.std.specs.Prelude.{◌≡◌, ◌<◌, ◌≤◌, ◌^◌, ◌↔◌, ℕ, length, IsTrue, IfOk};
 ghost use Rattle.std.specs.List.{AllZip, list_all};
 ghost use Rattle.pool_law.specs.declared.id.RootId.{RootId};
-ghost use Rattle.pool_law.specs.Limits.{geometry_of};
-ghost use Rattle.pool_law.specs.Logs.{log_of, note_stands, entries_of};
+ghost use Rattle.pool_law.specs.Logs.{of_lane, note_stands, entries_of};
 ghost use Rattle.pool_law.specs.Busy.{BusyHolds};
-ghost use Rattle.pool_law.specs.Counts.{CountsHold, TotalHolds, count_over, is_birth};
+ghost use Rattle.pool_law.specs.Counts.{CountsHold};
 ghost use Rattle.pool_law.specs.Legal.{LooksHold, others_retains};
-ghost use Rattle.pool_law.specs.LaneLaw.{IsLaneLog};
 ghost use Rattle.run_check.specs.Reading.{entries};
 ghost use Rattle.run_check.specs.Spotting.{notes_in};
 ghost use Rattle.run_check.specs.Storing.{history_in};
-ghost use Rattle.run_check.specs.Tallying.{total_sums, IsTally, AreTotals, BirthsHold};
-ghost use Rattle.run_check.specs.Entering.{AreTold, replies_in};
+ghost use Rattle.run_check.specs.Tallying.{IsTally};
+ghost use Rattle.run_check.specs.Entering.{AreTold};
 
-use crate::busy::{all_rise, marks_hold};
+use crate::busy::{all_fit, marks_hold};
 use crate::counting::{counts_hold, looks_hold};
 use crate::histories::Histories;
-use crate::lane_log::is_lane_log;
-use crate::log::{Log, Told};
-use crate::sizes::Sizes;
+use crate::log::Log;
 use crate::stands::notes_stand;
-use crate::tally::{Tally, total_of};
-use pool_law::{CommandList, Did, LaneLog, Note, Shape};
+use crate::tally::Tally;
+use object_steps::Told;
+use pool_law::{LaneLog, Shape};
 use std::alloc::{AllocError, Global};
 
 // The log of a lane, with what is told of its notes.
 fn log_at<'a>(logs: &'a [LaneLog], told: &'a [Vec<Told>], lane: usize) -> Log<'a>
     requires told { AreTold (notes_in logs.now) told.now logs.now }
     requires there { lane < length logs.now }
-    ensures entries { entries result ≡ log_of (entries_of (notes_in logs.now)) lane }
+    ensures entries { entries result ≡ of_lane (entries_of (notes_in logs.now)) lane }
     ensures as_many { length result.told.now ≡ length result.notes.now }
 {
     Log {
@@ -44,7 +41,7 @@ pub fn all_stand(shape: &Shape, logs: &[LaneLog]) -> bool
     requires arenas { 1 ≤ shape.now.arenas }
     requires few { length logs.now ≤ 2 ^ 16 }
     ensures { IsTrue result ↔ ((lane : ℕ)
-        → IsTrue (list_all (note_stands shape.now lane) (log_of (notes_in logs.now) lane))) }
+        → IsTrue (list_all (note_stands shape.now lane) (of_lane (notes_in logs.now) lane))) }
 {
     for lane in 0..logs.len() {
         if !notes_stand(shape, lane as u32, logs[lane].notes.items()) {
@@ -57,11 +54,11 @@ pub fn all_stand(shape: &Shape, logs: &[LaneLog]) -> bool
 /// Whether the busy marks of each lane are right.
 pub fn all_busy(alloc: Global, histories: &Histories, logs: &[LaneLog]) -> Result<bool, AllocError>
     ensures { IfOk result (λ good. IsTrue good ↔ ((lane : ℕ)
-        → BusyHolds lane (history_in histories.now) (log_of (notes_in logs.now) lane))) }
+        → BusyHolds lane (history_in histories.now) (of_lane (notes_in logs.now) lane))) }
 {
     for lane in 0..logs.len() {
         let notes = logs[lane].notes.items();
-        if !all_rise(alloc, notes)? {
+        if !all_fit(alloc, notes)? {
             return Ok(false);
         }
         if !marks_hold(histories, lane, notes) {
@@ -75,7 +72,7 @@ pub fn all_busy(alloc: Global, histories: &Histories, logs: &[LaneLog]) -> Resul
 pub fn all_count(alloc: Global, logs: &[LaneLog], told: &[Vec<Told>]) -> Result<bool, AllocError>
     requires { AreTold (notes_in logs.now) told.now logs.now }
     ensures { IfOk result (λ good. IsTrue good ↔ ((lane : ℕ) → (root : RootId)
-        → CountsHold root 0 (log_of (entries_of (notes_in logs.now)) lane))) }
+        → CountsHold root 0 (of_lane (entries_of (notes_in logs.now)) lane))) }
 {
     for lane in 0..logs.len() {
         if !counts_hold(alloc, &log_at(logs, told, lane))? {
@@ -96,87 +93,10 @@ pub fn all_look(
     requires tallies { AllZip IsTally tallies.now logs.now }
     ensures { IfOk result (λ good. IsTrue good ↔ ((lane : ℕ) → (root : RootId)
         → LooksHold root (others_retains root lane 0 (entries_of (notes_in logs.now))) 0 0 0
-        (log_of (entries_of (notes_in logs.now)) lane))) }
+        (of_lane (entries_of (notes_in logs.now)) lane))) }
 {
     for lane in 0..logs.len() {
         if !looks_hold(alloc, tallies, lane, &log_at(logs, told, lane))? {
-            return Ok(false);
-        }
-    }
-    Ok(true)
-}
-
-// Whether the totals of the root that a note lets be born are right.
-fn total_holds(tallies: &[Tally], note: &Note) -> Result<bool, AllocError>
-    ensures { IfOk result (λ good. IsTrue good ↔ ((root : RootId) → is_birth root note.now ≡ true
-        → AreTotals (total_sums tallies.now root))) }
-{
-    let Note::At {
-        object: _,
-        number: _,
-        did,
-    } = note
-    else {
-        return Ok(true);
-    };
-    let Did::Birth { root, region: _ } = did else {
-        return Ok(true);
-    };
-    let sums = total_of(tallies, root)?;
-    Ok(sums.are_totals())
-}
-
-// Whether the totals of the roots that notes let be born are right.
-fn totals_hold(tallies: &[Tally], notes: &[Note]) -> Result<bool, AllocError>
-    ensures { IfOk result (λ good. IsTrue good ↔ BirthsHold tallies.now notes.now) }
-{
-    for note in notes {
-        if !total_holds(tallies, note)? {
-            return Ok(false);
-        }
-    }
-    Ok(true)
-}
-
-/// Whether the totals of the roots that were born are right.
-pub fn all_total(tallies: &[Tally], logs: &[LaneLog]) -> Result<bool, AllocError>
-    requires { AllZip IsTally tallies.now logs.now }
-    ensures { IfOk result (λ good. IsTrue good ↔ ((root : RootId)
-        → 0 < count_over (is_birth root) (entries_of (notes_in logs.now))
-        → TotalHolds root (entries_of (notes_in logs.now)))) }
-{
-    for log in logs {
-        if !totals_hold(tallies, log.notes.items())? {
-            return Ok(false);
-        }
-    }
-    Ok(true)
-}
-
-/// Whether the replies and notes of each lane are those of its commands.
-pub fn all_answer(
-    alloc: Global,
-    shape: &Shape,
-    sizes: &Sizes,
-    lanes: &[CommandList],
-    logs: &[LaneLog],
-    told: &[Vec<Told>],
-) -> Result<bool, AllocError>
-    requires arenas { 1 ≤ shape.now.arenas }
-    requires handles { 1 ≤ shape.now.handles }
-    requires few { length logs.now ≤ 2 ^ 16 }
-    requires as_many { length lanes.now ≡ length logs.now }
-    requires sizes { sizes.now ≡ geometry_of shape.now }
-    requires told { AreTold (notes_in logs.now) told.now logs.now }
-    ensures { IfOk result (λ good. IsTrue good ↔ ((lane : ℕ) → lane < length logs.now
-        → IsLaneLog shape.now lane (log_of lanes.now lane) (log_of (replies_in logs.now) lane)
-        (log_of (entries_of (notes_in logs.now)) lane))) }
-{
-    for lane in 0..logs.len() {
-        let log = log_at(logs, told, lane);
-        let commands = lanes[lane].items();
-        let replies = logs[lane].replies.items();
-        if !is_lane_log(alloc, shape, sizes, lane as u32, commands, replies, &log)? {
             return Ok(false);
         }
     }

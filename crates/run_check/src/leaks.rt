@@ -13,7 +13,6 @@ ghost use Rattle.run_check.specs.Reporting.{accesses_in, access_by, live_after, 
 
 use crate::histories::Histories;
 use crate::merging::Done;
-use crate::same::same_root;
 use crate::tally::{Sums, Tally, sum, total_of};
 use pool_law::{Access, Did, LaneLog, Leak, Level, Note, Object, RootId, Shape};
 use std::alloc::{AllocError, Global};
@@ -26,7 +25,7 @@ fn live_after(root: &RootId, live: bool, did: &Did) -> bool
         Did::Birth {
             root: born,
             region: _,
-        } => same_root(born, root),
+        } => born == root,
         Did::End(_) => false,
         _ => live,
     }

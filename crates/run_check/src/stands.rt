@@ -1,53 +1,64 @@
 //! Whether a lane may note what it notes.
 
-ghost use Rattle.std.specs.Prelude.{◌≡◌, ◌≤◌, ℕ};
+ghost use Rattle.std.specs.Prelude.{◌≡◌, ◌≤◌};
 ghost use Rattle.std.specs.List.{list_all};
-ghost use Rattle.pool_law.specs.declared.note.Object.TheVariants.{Arena, Cache, Bin, Mail};
-ghost use Rattle.pool_law.specs.Logs.{may_stand, note_stands};
-ghost use Rattle.pool_law.specs.declared.run.Shape.{Shape};
+ghost use Rattle.pool_law.specs.Logs.{owns, is_sender, is_receiver, may_stand, note_stands};
 
 use pool_law::{Did, Note, Object, Shape};
 
-// Whether a lane may note this at an arena.
-fn may_take(shape: &Shape, lane: u32, number: u32, did: &Did) -> bool
+// Whether an object is a lane's own: its cache or bin, or the arena that it takes from.
+fn owns(shape: &Shape, lane: u32, object: &Object) -> bool
     requires { 1 ≤ shape.now.arenas }
-    ensures { result ≡ may_stand shape.now lane (Arena number) did.now }
+    ensures { result ≡ owns shape.now lane object.now }
 {
-    match did {
-        Did::Take { class: _, region } => lane % shape.arenas == number && region.owner == lane,
-        Did::Full { class: _ } => lane % shape.arenas == number,
-        _ => true,
+    match *object {
+        Object::Arena(number) => lane % shape.arenas == number,
+        Object::Cache {
+            lane: owner,
+            class: _,
+        } => lane == owner,
+        Object::Bin(owner) => lane == owner,
+        Object::Mail { from: _, to: _ } | Object::Root(_) => false,
     }
 }
 
-// Whether a lane may note this at a cache.
-fn may_serve(lane: u32, owner: u32, did: &Did) -> bool
-    ensures { (shape : Shape) → (class : ℕ)
-        → result ≡ may_stand shape lane (Cache owner class) did.now }
+// Whether an object is a mail that the lane sends by.
+fn is_sender(lane: u32, object: &Object) -> bool
+    ensures { result ≡ is_sender lane object.now }
 {
-    match did {
-        Did::Hit(_) | Did::Miss | Did::Trim(_) | Did::Close(_) | Did::Shed(_) => lane == owner,
-        _ => true,
+    match *object {
+        Object::Mail { from, to: _ } => lane == from,
+        _ => false,
     }
 }
 
-// Whether a lane may note this at a bin.
-fn may_handle(lane: u32, owner: u32, did: &Did) -> bool
-    ensures { (shape : Shape) → result ≡ may_stand shape lane (Bin owner) did.now }
+// Whether an object is a mail that the lane receives by.
+fn is_receiver(lane: u32, object: &Object) -> bool
+    ensures { result ≡ is_receiver lane object.now }
 {
-    match did {
-        Did::Handle(_) | Did::NoHandle => lane == owner,
-        _ => true,
+    match *object {
+        Object::Mail { from: _, to } => lane == to,
+        _ => false,
     }
 }
 
-// Whether a lane may note this at a mail.
-fn may_pass(lane: u32, from: u32, to: u32, did: &Did) -> bool
-    ensures { (shape : Shape) → result ≡ may_stand shape lane (Mail from to) did.now }
+// Whether a lane may note this at an object.
+fn may_stand(shape: &Shape, lane: u32, object: &Object, did: &Did) -> bool
+    requires { 1 ≤ shape.now.arenas }
+    ensures { result ≡ may_stand shape.now lane object.now did.now }
 {
     match did {
-        Did::Post(_) => lane == from,
-        Did::Fetch(_) => lane == to,
+        Did::Take { class: _, region } => owns(shape, lane, object) && region.owner == lane,
+        Did::Full { class: _ }
+        | Did::Hit(_)
+        | Did::Miss
+        | Did::Trim(_)
+        | Did::Close(_)
+        | Did::Shed(_)
+        | Did::Handle(_)
+        | Did::NoHandle => owns(shape, lane, object),
+        Did::Post(_) => is_sender(lane, object),
+        Did::Fetch(_) => is_receiver(lane, object),
         _ => true,
     }
 }
@@ -62,17 +73,9 @@ pub fn note_stands(shape: &Shape, lane: u32, note: &Note) -> bool
             object,
             number: _,
             did,
-        } => match object {
-            Object::Arena(number) => may_take(shape, lane, *number, did),
-            Object::Cache {
-                lane: owner,
-                class: _,
-            } => may_serve(lane, *owner, did),
-            Object::Bin(owner) => may_handle(lane, *owner, did),
-            Object::Mail { from, to } => may_pass(lane, *from, *to, did),
-            Object::Root(_) => true,
-        },
-        _ => true,
+        } => may_stand(shape, lane, object, did),
+        Note::Ref { root: _, did: _ } => true,
+        Note::Busy(_) => true,
     }
 }
 

@@ -3,7 +3,7 @@ use Rattle.std.specs.Prelude.{IsTrue}
 use Rattle.std.specs.List.{list_all}
 use Rattle.std.proofs.lemmas.Bool.{false≢true}
 use Rattle.pool_law.specs.declared.run.LaneLog.{LaneLog}
-use Rattle.pool_law.specs.Logs.{log_of, note_stands}
+use Rattle.pool_law.specs.Logs.{of_lane, note_stands}
 use Rattle.pool_law.specs.Busy.{BusyHolds}
 use Rattle.run_check.specs.Spotting.{notes_in}
 use Rattle.run_check.specs.Storing.{history_in}
@@ -18,7 +18,7 @@ returns-then-not-branch c =
       λ e. absurd (cc e),
       λ right.
           absurd (false≢true (sym c.if-not-branch.true ∙ c.in_ok-all_busy.ensures.1 (λ lane.
-          subst (λ (ls : List LaneLog). BusyHolds lane (history_in m) (log_of (notes_in ls) lane)) (sym c.items-logs.ensures)
+          subst (λ (ls : List LaneLog). BusyHolds lane (history_in m) (of_lane (notes_in ls) lane)) (sym c.items-logs.ensures)
           (busy-back run.shape logs m c.requires.histories lane (right.busy lane))))),
     )
 
@@ -29,11 +29,11 @@ returns c =
     let m = c.args.histories.now in (
       λ e. record {
         stand = λ lane.
-            subst (λ (ls : List LaneLog). IsTrue (list_all (note_stands run.shape lane) (log_of (notes_in ls) lane)))
+            subst (λ (ls : List LaneLog). IsTrue (list_all (note_stands run.shape lane) (of_lane (notes_in ls) lane)))
             c.items-logs.ensures (c.all_stand.ensures.0 c.if-not-all_stand.false lane);
         busy = λ lane.
             busy-on run.shape logs m c.requires.histories lane
-            (subst (λ (ls : List LaneLog). BusyHolds lane (history_in m) (log_of (notes_in ls) lane)) c.items-logs.ensures
+            (subst (λ (ls : List LaneLog). BusyHolds lane (history_in m) (of_lane (notes_in ls) lane)) c.items-logs.ensures
             (c.in_ok-all_busy.ensures.0 c.if-not-branch.false lane));
         chunks =
             sym c.items.ensures

@@ -4,7 +4,7 @@ use Rattle.std.proofs.lemmas.Bool.{false≢true}
 use Rattle.pool_law.specs.declared.id.RootId.{RootId}
 use Rattle.pool_law.specs.Logs.{Entry}
 use Rattle.pool_law.specs.Counts.{CountsHold}
-use Rattle.run_check.specs.declared.log.Told.{Told}
+use Rattle.object_steps.specs.declared.told.Told.{Told}
 use Rattle.run_check.specs.Counting.{count_in, count_after}
 use Rattle.run_check.specs.Needing.{NeedsHold}
 use Rattle.run_check.specs.Reading.{untold, entry, entries}

@@ -7,7 +7,7 @@ use Rattle.pool_law.specs.Logs.{dids}
 use Rattle.pool_law.specs.Arenas.{chunk_ends}
 use Rattle.pool_law.specs.Histories.{arena_after}
 use Rattle.pool_law.proofs.HistoryLemmas.{append-nil}
-use Rattle.run_check.specs.Behind.{dids_behind}
+use Rattle.object_steps.specs.Behind.{dids_behind}
 use Rattle.run_check.specs.Storing.{history_in}
 use Rattle.run_check.proofs.StoryLemmas.{ends-are}
 use Rattle.run_check.proofs.ending.push_arena.Goals as goal

@@ -3,7 +3,7 @@ use Rattle.std.specs.Prelude.{slice_get, unwrap_or}
 use Rattle.pool_law.specs.declared.note.Note.{Note}
 use Rattle.pool_law.specs.declared.note.Object.{Object}
 use Rattle.pool_law.specs.Logs.{entry_of}
-use Rattle.run_check.specs.declared.log.Told.{Told}
+use Rattle.object_steps.specs.declared.told.Told.{Told}
 use Rattle.run_check.specs.Reading.{untold, entry}
 use Rattle.run_check.specs.Entering.{IsNotedIn}
 use Rattle.run_check.proofs.EnteringLemmas.{told-root}

@@ -1,6 +1,6 @@
 use Rattle.std.proofs.Common.{rules, ◌≡◌, ◌<◌, List, length, map, sym, ap, subst, ◌∙◌}
 use Rattle.pool_law.specs.declared.note.Note.{Note}
-use Rattle.pool_law.specs.Logs.{log_of, entry_of}
+use Rattle.pool_law.specs.Logs.{of_lane, entry_of}
 use Rattle.run_check.specs.Reading.{entries_in}
 use Rattle.run_check.specs.Spotting.{notes_in}
 use Rattle.run_check.specs.Entering.{IsToldOf}
@@ -14,7 +14,7 @@ loop-log-preserved c shape are =
     let log = c.log-item.result in
     let told = c.in_ok-lane.lane in
     let there : i < length logs = search rules in
-    let here : log_of (notes_in logs) i ≡ log.notes = notes-at logs i log there c.log-item.is in
+    let here : of_lane (notes_in logs) i ≡ log.notes = notes-at logs i log there c.log-item.is in
     let both = c.in_ok-lane.ensures shape (notes_in logs) i are (c.items.ensures ∙ sym here) in
     let this : IsToldOf (notes_in logs) told log = record {
       entries = subst (λ (ns : List Note). entries_in ns told.items ≡ map (entry_of (notes_in logs)) ns) c.items.ensures both.0;

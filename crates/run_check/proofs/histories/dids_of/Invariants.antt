@@ -1,6 +1,6 @@
 use Rattle.std.proofs.Common.{◌≡◌, ◌++◌, drop}
 use Rattle.pool_law.specs.Logs.{dids}
-use Rattle.run_check.specs.Behind.{dids_behind}
+use Rattle.object_steps.specs.Behind.{dids_behind}
 use Rattle.run_check.specs.Merging.{dones_in}
 use Rattle.run_check.proofs.histories.dids_of.Given as goal
 

@@ -1,6 +1,6 @@
 use Rattle.std.proofs.Common.{ap, ◌∙◌}
 use Rattle.pool_law.specs.Logs.{dids}
-use Rattle.run_check.specs.Behind.{dids_behind}
+use Rattle.object_steps.specs.Behind.{dids_behind}
 use Rattle.run_check.specs.Gathering.{left_of}
 use Rattle.run_check.specs.Merging.{dones_in}
 use Rattle.run_check.proofs.StoryLemmas.{broken-unmerged, story-broken}

@@ -5,9 +5,9 @@ use Rattle.std.proofs.lemmas.Result.{IfOk-weaker}
 use Rattle.pool_law.specs.declared.note.Object.{Object}
 use Rattle.pool_law.specs.Roots.{new_place}
 use Rattle.pool_law.specs.Histories.{place_after}
-use Rattle.run_check.specs.declared.log.Told.{Told}
-use Rattle.run_check.specs.Behind.{dids_behind}
-use Rattle.run_check.specs.Telling.{told_of_each}
+use Rattle.object_steps.specs.declared.told.Told.{Told}
+use Rattle.object_steps.specs.Behind.{dids_behind}
+use Rattle.object_steps.specs.Telling.{told_of_each}
 use Rattle.run_check.specs.Storing.{TellsOf}
 use Rattle.run_check.proofs.StoryLemmas.{tells-root}
 use Rattle.run_check.proofs.histories.told_at.Goals as goal

@@ -1,8 +1,8 @@
 use Rattle.std.proofs.Common.{rules, ◌≡◌, ℕ, List, refl, sym, subst, below_more, ◌∙◌}
 use Rattle.std.proofs.lemmas.Bool.{false≢true}
 use Rattle.pool_law.specs.declared.note.Note.{Note}
-use Rattle.pool_law.specs.Logs.{log_of}
-use Rattle.pool_law.specs.Busy.{Rises, MarksHold, BusyHolds}
+use Rattle.pool_law.specs.Logs.{of_lane}
+use Rattle.pool_law.specs.Busy.{MarksFit, MarksHold, BusyHolds}
 use Rattle.run_check.specs.Spotting.{notes_in}
 use Rattle.run_check.specs.Storing.{history_in}
 use Rattle.run_check.proofs.LaneLemmas.{notes-get, each-notes}
@@ -12,19 +12,19 @@ pub returns-then-not-branch : goal.returns-then-not-branch
 returns-then-not-branch c =
     let logs = c.args.logs.now in
     let lane = c.loop-lane.lane in
-    let here : log_of (notes_in logs) lane ≡ c.items-notes.result.now =
+    let here : of_lane (notes_in logs) lane ≡ c.items-notes.result.now =
     notes-get logs lane c.index-logs-lane.result (search rules) ∙ sym c.items-notes.ensures in (
       λ e. absurd (cc e),
       λ all.
-          absurd (false≢true (sym c.if-not-branch.true ∙ c.in_ok-all_rise.ensures.1 (λ object.
-          subst (λ (ns : List Note). Rises object 0 ns) here ((all lane).rises object)))),
+          absurd (false≢true (sym c.if-not-branch.true ∙ c.in_ok-all_fit.ensures.1 (λ object.
+          subst (λ (ns : List Note). MarksFit object 0 0 ns) here ((all lane).fit object)))),
     )
 
 pub returns-then-not-marks_hold : goal.returns-then-not-marks_hold
 returns-then-not-marks_hold c =
     let logs = c.args.logs.now in
     let lane = c.loop-lane.lane in
-    let here : log_of (notes_in logs) lane ≡ c.items-notes.result.now =
+    let here : of_lane (notes_in logs) lane ≡ c.items-notes.result.now =
     notes-get logs lane c.index-logs-lane.result (search rules) ∙ sym c.items-notes.ensures in (
       λ e. absurd (cc e),
       λ all.
@@ -36,14 +36,14 @@ pub loop-lane-preserved : goal.loop-lane-preserved
 loop-lane-preserved c =
     let logs = c.args.logs.now in
     let lane = c.loop-lane.lane in
-    let here : log_of (notes_in logs) lane ≡ c.items-notes.result.now =
+    let here : of_lane (notes_in logs) lane ≡ c.items-notes.result.now =
     notes-get logs lane c.index-logs-lane.result (search rules) ∙ sym c.items-notes.ensures in
-    below_more (λ (k : ℕ). BusyHolds k (history_in c.args.histories.now) (log_of (notes_in logs) k))
+    below_more (λ (k : ℕ). BusyHolds k (history_in c.args.histories.now) (of_lane (notes_in logs) k))
     lane c.loop-lane.invariant
     (record {
-      rises = λ object.
-          subst (λ (ns : List Note). Rises object 0 ns) (sym here)
-          (c.in_ok-all_rise.ensures.0 c.if-not-branch.false object);
+      fit = λ object.
+          subst (λ (ns : List Note). MarksFit object 0 0 ns) (sym here)
+          (c.in_ok-all_fit.ensures.0 c.if-not-branch.false object);
       marks =
           subst (λ (ns : List Note). MarksHold lane (history_in c.args.histories.now) ns) (sym here)
           (c.marks_hold.ensures.0 c.if-not-marks_hold.false);
@@ -53,6 +53,6 @@ pub returns : goal.returns
 returns c = (
   λ _.
       each-notes (λ k (ns : List Note). BusyHolds k (history_in c.args.histories.now) ns) c.args.logs.now
-      c.loop-lane.lane c.loop-lane.invariant (search rules) (λ k. record { rises = λ object. tt; marks = tt }),
+      c.loop-lane.lane c.loop-lane.invariant (search rules) (λ k. record { fit = λ object. tt; marks = tt }),
   λ _. refl,
 )

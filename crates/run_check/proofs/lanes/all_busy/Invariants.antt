@@ -1,5 +1,5 @@
 use Rattle.std.proofs.Common.{ℕ, ◌<◌}
-use Rattle.pool_law.specs.Logs.{log_of}
+use Rattle.pool_law.specs.Logs.{of_lane}
 use Rattle.pool_law.specs.Busy.{BusyHolds}
 use Rattle.run_check.specs.Spotting.{notes_in}
 use Rattle.run_check.specs.Storing.{history_in}
@@ -7,4 +7,4 @@ use Rattle.run_check.proofs.lanes.all_busy.Given as goal
 
 abbrev pub invariant-loop-lane : goal.invariant-loop-lane
 invariant-loop-lane l =
-    (k : ℕ) → k < l.lane → BusyHolds k (history_in l.histories) (log_of (notes_in l.logs) k)
+    (k : ℕ) → k < l.lane → BusyHolds k (history_in l.histories) (of_lane (notes_in l.logs) k)

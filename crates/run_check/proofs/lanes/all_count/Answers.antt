@@ -1,7 +1,7 @@
 use Rattle.std.proofs.Common.{rules, ℕ, ◌≤◌, List, length, refl, sym, subst, arith, below_more, ◌∙◌}
 use Rattle.std.proofs.lemmas.Bool.{false≢true}
 use Rattle.pool_law.specs.declared.id.RootId.{RootId}
-use Rattle.pool_law.specs.Logs.{Entry, log_of, entries_of}
+use Rattle.pool_law.specs.Logs.{Entry, of_lane, entries_of}
 use Rattle.pool_law.specs.Counts.{CountsHold}
 use Rattle.run_check.specs.Spotting.{notes_in}
 use Rattle.run_check.proofs.LaneLemmas.{each-lane, length-entries}
@@ -18,7 +18,7 @@ returns-then-not-branch c = (
 pub loop-lane-preserved : goal.loop-lane-preserved
 loop-lane-preserved c =
     below_more
-    (λ (k : ℕ). (root : RootId) → CountsHold root 0 (log_of (entries_of (notes_in c.args.logs.now)) k))
+    (λ (k : ℕ). (root : RootId) → CountsHold root 0 (of_lane (entries_of (notes_in c.args.logs.now)) k))
     c.loop-lane.lane c.loop-lane.invariant
     (λ root.
     subst (λ (es : List Entry). CountsHold root 0 es) c.log_at.ensures.entries

@@ -1,7 +1,7 @@
 use Rattle.std.proofs.Common.{rules, ℕ, ◌≤◌, List, length, refl, sym, subst, arith, below_more, ◌∙◌}
 use Rattle.std.proofs.lemmas.Bool.{false≢true}
 use Rattle.pool_law.specs.declared.id.RootId.{RootId}
-use Rattle.pool_law.specs.Logs.{Entry, log_of, entry_of, entries_of}
+use Rattle.pool_law.specs.Logs.{Entry, of_lane, entry_of, entries_of}
 use Rattle.pool_law.specs.Legal.{LooksHold, others_retains}
 use Rattle.run_check.specs.Reading.{entries}
 use Rattle.run_check.specs.Spotting.{notes_in}
@@ -29,7 +29,7 @@ loop-lane-preserved c =
     let lane = c.loop-lane.lane in
     below_more
     (λ (k : ℕ). (root : RootId) →
-    LooksHold root (others_retains root k 0 (entries_of logs)) 0 0 0 (log_of (entries_of logs) k))
+    LooksHold root (others_retains root k 0 (entries_of logs)) 0 0 0 (of_lane (entries_of logs) k))
     lane c.loop-lane.invariant
     (λ root.
     subst (λ (es : List Entry). LooksHold root (others_retains root lane 0 (entries_of logs)) 0 0 0 es)

@@ -3,7 +3,7 @@ use Rattle.std.specs.Prelude.{IsTrue}
 use Rattle.std.specs.List.{list_all}
 use Rattle.std.proofs.lemmas.Bool.{false≢true}
 use Rattle.pool_law.specs.declared.note.Note.{Note}
-use Rattle.pool_law.specs.Logs.{log_of, note_stands}
+use Rattle.pool_law.specs.Logs.{of_lane, note_stands}
 use Rattle.run_check.specs.Spotting.{notes_in}
 use Rattle.run_check.proofs.LaneLemmas.{notes-get, each-notes}
 use Rattle.run_check.proofs.lanes.all_stand.Goals as goal
@@ -12,7 +12,7 @@ pub returns-then-not-notes_stand : goal.returns-then-not-notes_stand
 returns-then-not-notes_stand c =
     let logs = c.args.logs.now in
     let lane = c.loop-lane.lane in
-    let here : log_of (notes_in logs) lane ≡ c.items.result.now =
+    let here : of_lane (notes_in logs) lane ≡ c.items.result.now =
     notes-get logs lane c.index-logs-lane.result (search rules) ∙ sym c.items.ensures in (
       λ e. absurd (cc e),
       λ all.
@@ -24,10 +24,10 @@ pub loop-lane-preserved : goal.loop-lane-preserved
 loop-lane-preserved c =
     let logs = c.args.logs.now in
     let lane = c.loop-lane.lane in
-    let here : log_of (notes_in logs) lane ≡ c.items.result.now =
+    let here : of_lane (notes_in logs) lane ≡ c.items.result.now =
     notes-get logs lane c.index-logs-lane.result (search rules) ∙ sym c.items.ensures in
     below_more
-    (λ (k : ℕ). IsTrue (list_all (note_stands c.args.shape.now k) (log_of (notes_in logs) k)))
+    (λ (k : ℕ). IsTrue (list_all (note_stands c.args.shape.now k) (of_lane (notes_in logs) k)))
     lane c.loop-lane.invariant
     (ap (list_all (note_stands c.args.shape.now lane)) here ∙ sym c.notes_stand.ensures ∙ c.if-not-notes_stand.false)
 

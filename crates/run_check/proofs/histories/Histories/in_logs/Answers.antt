@@ -1,7 +1,7 @@
 use Rattle.std.proofs.Common.{rules, ◌≡◌, ℕ, true, false, List, sym, ap, refl, below_more, arith, ◌∙◌}
 use Rattle.std.specs.Prelude.{is_some}
 use Rattle.pool_law.specs.declared.note.Note.{Note}
-use Rattle.pool_law.specs.Logs.{log_of}
+use Rattle.pool_law.specs.Logs.{of_lane}
 use Rattle.run_check.specs.Spotting.{notes_in}
 use Rattle.run_check.specs.Storing.{Covers}
 use Rattle.run_check.proofs.LaneLemmas.{notes-at, each-notes}
@@ -28,13 +28,13 @@ loop-log-preserved c =
     let i = c.loop-log.log-index in
     let old = c.loop-log.histories in
     let new = c.add_all.new.self in
-    let here : log_of logs i ≡ c.items.result.now =
+    let here : of_lane logs i ≡ c.items.result.now =
     notes-at c.args.logs.now i c.log-item.result (search rules) c.log-item.is ∙ sym c.items.ensures in
     let more = rw c.if-not-branch.false at
     (c.in_ok-add_all.ensures logs (rw c.deref.ensures.value c.in_ok-lanes.ensures) c.loop-log.invariant.0) in (
       more.0,
-      below_more (λ (k : ℕ). Covers new (log_of logs k)) i
-          (λ k below. covers-kept old new (log_of logs k) more.1 (c.loop-log.invariant.1 k below))
+      below_more (λ (k : ℕ). Covers new (of_lane logs k)) i
+          (λ k below. covers-kept old new (of_lane logs k) more.1 (c.loop-log.invariant.1 k below))
           (rw here more.2),
     )
 

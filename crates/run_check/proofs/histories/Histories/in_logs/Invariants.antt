@@ -1,5 +1,5 @@
 use Rattle.std.proofs.Common.{ℕ, ◌<◌}
-use Rattle.pool_law.specs.Logs.{log_of}
+use Rattle.pool_law.specs.Logs.{of_lane}
 use Rattle.run_check.specs.Spotting.{notes_in}
 use Rattle.run_check.specs.Storing.{AreStories, Covers}
 use Rattle.run_check.proofs.histories.Histories.in_logs.Given as goal
@@ -7,4 +7,4 @@ use Rattle.run_check.proofs.histories.Histories.in_logs.Given as goal
 abbrev pub invariant-loop-log : goal.invariant-loop-log
 invariant-loop-log l =
     AreStories l.shape (notes_in l.logs) l.histories
-    × ((k : ℕ) → k < l.log-index → Covers l.histories (log_of (notes_in l.logs) k))
+    × ((k : ℕ) → k < l.log-index → Covers l.histories (of_lane (notes_in l.logs) k))

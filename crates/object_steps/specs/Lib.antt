@@ -1,0 +1,9 @@
+pub mod Runs
+pub mod PageRuns
+pub mod Sized
+pub mod Elementwise
+pub mod Moves
+pub mod Behind
+pub mod Telling
+pub mod Numbering
+pub mod Homing

@@ -1,0 +1,14 @@
+-- What a call makes of an arena.
+use Rattle.std.specs.Prelude.{◌≡◌, ℕ, ◌<◌, length, Option, Some, None}
+use Rattle.pool_law.specs.Arenas.{Arena, Spotted, chunk_at}
+use Rattle.object_steps.specs.Runs.{HasRoom}
+
+-- a chunk of the arena has a free run of at least so many pages that begins at a page
+pub record HasRoomAt (a : Arena) (c at pages : ℕ) : Type 0 where
+  pub room : HasRoom at pages (chunk_at a c)
+  pub chunk : c < length a.chunks
+
+-- what is spotted is answered, with the arena then; else nothing changes
+abbrev pub GivesSpot : Option Spotted → Arena → Arena → Option (ℕ × ℕ) → Type 0
+GivesSpot None old new spot = (spot ≡ None) × (new ≡ old)
+GivesSpot (Some t) old new spot = (spot ≡ Some (t.0, t.1)) × (new ≡ t.2)

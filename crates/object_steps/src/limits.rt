@@ -1,0 +1,42 @@
+//! Whether the measures of a pool are inside their limits.
+
+ghost use Rattle.std.specs.Prelude.{◌≡◌, ◌*◌, ◌^◌, ◌≤◌, ◌↔◌, IsTrue};
+ghost use Rattle.size_classes.specs.Sizes.{chunk_bytes};
+ghost use Rattle.pool_law.specs.Limits.{IsShape, geometry_of};
+
+use crate::sizes::WIDE_PAGE;
+use pool_law::Shape;
+
+// The most bytes that all chunks of a pool may have.
+const MOST_BYTES: u64 = 536_870_912;
+
+/// Whether a shape is inside the limits.
+pub fn is_shape(shape: &Shape) -> bool
+    ensures { IsTrue result ↔ IsShape shape.now }
+{
+    if shape.order < 3 || shape.order > 11 {
+        return false;
+    }
+    if shape.arenas < 1 || shape.arenas > 8 || shape.chunks < 1 || shape.chunks > 8 {
+        return false;
+    }
+    if shape.handles < 1 || shape.handles > 4096 || shape.lanes < 1 || shape.lanes > 16 {
+        return false;
+    }
+    if shape.interval < 1 || shape.interval > 65536 {
+        return false;
+    }
+    memory_of(shape) <= MOST_BYTES
+}
+
+// The bytes of all chunks of all arenas.
+fn memory_of(shape: &Shape) -> u64
+    requires order { shape.now.order ≤ 11 }
+    requires arenas { shape.now.arenas ≤ 8 }
+    requires chunks { shape.now.chunks ≤ 8 }
+    ensures { result
+        ≡ shape.now.arenas * (shape.now.chunks * chunk_bytes (geometry_of shape.now)) }
+{
+    let bytes = WIDE_PAGE * 2u64.pow(shape.order);
+    u64::from(shape.arenas) * (u64::from(shape.chunks) * bytes)
+}

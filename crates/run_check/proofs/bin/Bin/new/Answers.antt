@@ -1,8 +1,0 @@
-use Rattle.std.proofs.Common.{◌*◌}
-use Rattle.run_check.proofs.BinLemmas.{next-other}
-use Rattle.run_check.proofs.bin.Bin.new.Goals as goal
-
-pub put_place-requires-clause-other : goal.put_place-requires-clause-other
-put_place-requires-clause-other c =
-    rw (c.from.ensures, c.from-2.ensures, c.from-in-loop-index.ensures)
-    (next-other (c.args.lane * c.args.handles) c.loop-index.index c.loop-index.places.items c.loop-index.invariant.places)

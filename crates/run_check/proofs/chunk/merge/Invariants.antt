@@ -1,9 +1,0 @@
-use Rattle.std.proofs.Common.{length}
-use Rattle.run_check.proofs.ChunkLemmas.{Merges}
-use Rattle.run_check.proofs.chunk.merge.Given as goal
-
-abbrev pub invariant-loop-run : goal.invariant-loop-run
-invariant-loop-run l = Merges l.fn.runs.items l.left.items l.new.items
-
-abbrev pub decreases-loop-run : goal.decreases-loop-run
-decreases-loop-run l = length l.left.items
