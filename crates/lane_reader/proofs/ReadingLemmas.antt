@@ -1,0 +1,94 @@
+-- The notes of a log from a place on.
+use Rattle.std.proofs.Common.{◌≡◌, ℕ, zero, suc, ◌+◌, ◌<◌, ◌≤◌, List, [], ◌∷◌, ◌++◌, length, take, drop, get_or, refl, sym, ap, arith, ◌∙◌, append_assoc}
+use Rattle.std.specs.Prelude.{Option, Some, None, slice_get, unwrap_or, option_map, option_and_then}
+use Rattle.pool_law.specs.declared.id.RootId.{RootId}
+use Rattle.pool_law.specs.declared.note.Object.{Object}
+use Rattle.pool_law.specs.declared.note.Did.{Did}
+use Rattle.pool_law.specs.declared.note.RefDid.{RefDid}
+use Rattle.pool_law.specs.declared.note.Note.{Note}
+use Rattle.pool_law.specs.Logs.{Entry}
+use Rattle.pool_law.specs.Readers.{Entries, behind_entry, first_of_left, next, done_at, done_to, note, step}
+use Rattle.lane_reader.specs.declared.log.Log.{Log}
+use Rattle.lane_reader.specs.declared.log.Told.{Told}
+use Rattle.lane_reader.specs.declared.log.At.{At}
+use Rattle.lane_reader.specs.Reading.{entry, untold, entries_in, entries, log_from}
+
+pub entries-past : (notes : List Note) (told : List Told) (at : ℕ) → length notes ≤ at →
+    drop at (entries_in notes told) ≡ []
+entries-past [] told zero past = refl
+entries-past [] told (suc at) past = refl
+entries-past (n ∷ ns) told zero past = absurd (omega (arith, past))
+entries-past (n ∷ ns) [] (suc at) past = entries-past ns [] at (omega (arith, past))
+entries-past (n ∷ ns) (t ∷ ts) (suc at) past = entries-past ns ts at (omega (arith, past))
+
+entries-from : (notes : List Note) (told : List Told) (at : ℕ) (d : Note) → at < length notes →
+    drop at (entries_in notes told)
+    ≡ entry (get_or notes at d) (unwrap_or (slice_get told at) untold) ∷ drop (suc at) (entries_in notes told)
+entries-from [] told at d there = absurd (omega (arith, there))
+entries-from (n ∷ ns) [] zero d there = refl
+entries-from (n ∷ ns) (t ∷ ts) zero d there = refl
+entries-from (n ∷ ns) [] (suc at) d there = entries-from ns [] at d (omega (arith, there))
+entries-from (n ∷ ns) (t ∷ ts) (suc at) d there = entries-from ns ts at d (omega (arith, there))
+
+-- one entry more
+take-next : {X : Type 0} (xs : List X) (at : ℕ) (x : X) (rest : List X) → drop at xs ≡ x ∷ rest →
+    take (suc at) xs ≡ take at xs ++ x ∷ []
+take-next [] zero x rest e = absurd (cc e)
+take-next [] (suc at) x rest e = absurd (cc e)
+take-next (y ∷ ys) zero x rest e = cc e
+take-next (y ∷ ys) (suc at) x rest e = ap (λ zs. y ∷ zs) (take-next ys at x rest e)
+
+-- the next note of a log, where one is left
+pub next-there : (before : Entries) (log : Log) (at : At) (d : Note) (told : Told) →
+    at.place < length log.notes.now → told ≡ unwrap_or (slice_get log.told.now at.place) untold →
+    let e = entry (get_or log.notes.now at.place d) told in
+    let rest = drop (at.place + 1) (entries log) in
+    (drop at.place (entries log) ≡ e ∷ rest)
+    × (behind_entry (log_from before log at) e rest ≡ log_from before log (record at { place = at.place + 1 }))
+next-there before log at d told there is =
+    let es : Entries = entries log in
+    let e : Entry = entry (get_or log.notes.now at.place d) told in
+    let further : suc at.place ≡ at.place + 1 = omega arith in
+    let first : drop at.place es ≡ e ∷ drop (at.place + 1) es =
+    entries-from log.notes.now log.told.now at.place d there
+    ∙ (λ i. entry (get_or log.notes.now at.place d) (sym is i) ∷ drop (further i) es) in
+    let seen : (before ++ take at.place es) ++ e ∷ [] ≡ before ++ take (at.place + 1) es =
+    append_assoc before (take at.place es) (e ∷ [])
+    ∙ ap (λ (xs : Entries). before ++ xs)
+    (sym (take-next es at.place e (drop (at.place + 1) es) first) ∙ ap (λ (k : ℕ). take k es) further) in
+    (first, λ i. record { seen = seen i; asked = at.asked; left = drop (at.place + 1) es })
+
+-- what the note at an object says
+abbrev pub with : {A : Type 0} → Rattle.pool_law.specs.Readers.Log → A → A × Rattle.pool_law.specs.Readers.Log
+with log a = (a, log)
+
+says-of : {A B : Type 0} (f : B → Option A) (o : Option B) (l : Rattle.pool_law.specs.Readers.Log) →
+    option_map (with l) (option_and_then f o)
+    ≡ option_and_then (λ got. option_map (with got.1) (f got.0)) (option_map (with l) (option_and_then Some o))
+says-of f None l = refl
+says-of f (Some b) l = refl
+
+pub note_says : {A : Type 0} (object : Object) (says : Did → Option A) (log : Rattle.pool_law.specs.Readers.Log) →
+    note object says log
+    ≡ option_and_then (λ got. option_map (with got.1) (says got.0)) (note object Some log)
+note_says object says log = go log.left
+  where
+    go : (es : Entries) →
+        first_of_left (λ e. option_and_then says (done_at object e.note)) log es
+        ≡ option_and_then (λ got. option_map (with got.1) (says got.0))
+        (first_of_left (λ e. option_and_then Some (done_at object e.note)) log es)
+    go [] = refl
+    go (e ∷ es) = says-of says (done_at object e.note) (behind_entry log e es)
+
+-- what a step on a word says
+pub step_says : {A : Type 0} (root : RootId) (says : RefDid → Option A) (log : Rattle.pool_law.specs.Readers.Log) →
+    step root says log
+    ≡ option_and_then (λ got. option_map (with got.1) (says got.0)) (step root Some log)
+step_says root says log = go log.left
+  where
+    go : (es : Entries) →
+        first_of_left (λ e. option_and_then says (done_to root e.note)) log es
+        ≡ option_and_then (λ got. option_map (with got.1) (says got.0))
+        (first_of_left (λ e. option_and_then Some (done_to root e.note)) log es)
+    go [] = refl
+    go (e ∷ es) = says-of says (done_to root e.note) (behind_entry log e es)
