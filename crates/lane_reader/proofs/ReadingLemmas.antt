@@ -92,3 +92,18 @@ step_says root says log = go log.left
         (first_of_left (λ e. option_and_then Some (done_to root e.note)) log es)
     go [] = refl
     go (e ∷ es) = says-of says (done_to root e.note) (behind_entry log e es)
+
+-- no note counts the allocations that asked a cache
+pub next-asked : {A : Type 0} (read : Entry → Option A) (log after : Rattle.pool_law.specs.Readers.Log) (a : A) →
+    next read log ≡ Some (a, after) → after.asked ≡ log.asked
+next-asked {A} read log after a is = go log.left is
+  where
+    inner : (e : Entry) (es : Entries) (o : Option A) → option_map (with (behind_entry log e es)) o ≡ Some (a, after) → after.asked ≡ log.asked
+    inner e es None h = absurd (cc h)
+    inner e es (Some x) h =
+        let same : ◌≡◌ {A = A × Rattle.pool_law.specs.Readers.Log} (x, behind_entry log e es) (a, after) = cc h in
+        ap (λ p. p.1.asked) (sym same)
+
+    go : (es : Entries) → first_of_left read log es ≡ Some (a, after) → after.asked ≡ log.asked
+    go [] h = absurd (cc h)
+    go (e ∷ es) h = inner e es (read e) h

@@ -1,7 +1,7 @@
 #![tactic(auto, using(crate::proofs::ReadingLemmas::note_says))]
 //! The notes of an allocation, of a region that is put away, and of the end of a root.
 
-ghost use Rattle.std.specs.Prelude.{◌≡◌, ◌<◌, ◌≤◌, IsTrue, IfSome};
+ghost use Rattle.std.specs.Prelude.{◌≡◌, ◌<◌, ◌≤◌, ◌==◌, ◌&&◌, IsTrue, IfSome};
 ghost use Rattle.pool_law.specs.Same.{same_region};
 ghost use Rattle.pool_law.specs.Dids as says;
 ghost use Rattle.pool_law.specs.Limits.{geometry_of};
@@ -17,8 +17,8 @@ use crate::log::{At, Log};
 use pool_law::{Did, Object, RegionId, RootId, Shape};
 use size_classes::SizeClasses;
 
-// The classes that have a cache are those below this.
-const CACHED: u32 = 40;
+/// The classes that have a cache are those below this.
+pub(crate) const CACHED: u32 = 40;
 
 /// What an allocation comes to.
 #[derive(Clone, Copy, Drop)]
@@ -51,6 +51,15 @@ fn is_one_more(with: &RegionId, region: &RegionId) -> bool
         ..*with
     };
     with.uses > 0 && with.uses - 1 == region.uses && before == *region
+}
+
+// Whether a birth is of so many bytes at the place, with one more use of the region.
+fn is_birth(root: &RootId, with: &RegionId, place: u32, size: u32, region: &RegionId) -> bool
+    ensures same { result ≡ ((root.now.place == place)
+        && ((root.now.capacity == size) && same_region with.now (one_more region.now))) }
+    ensures is { IsTrue result → with.now ≡ one_more region.now }
+{
+    root.place == place && (root.capacity == size && is_one_more(with, region))
 }
 
 impl Log<'_> {
@@ -132,9 +141,7 @@ impl Log<'_> {
     {
         match self.note(at, &Object::Root(place))? {
             (Did::Birth { root, region: with }, behind) => {
-                let fits = root.place == place
-                    && (root.capacity == size && is_one_more(with, region));
-                fits.then_some((*root, *with, behind))
+                is_birth(root, with, place, size, region).then_some((*root, *with, behind))
             }
             _ => None,
         }
@@ -247,11 +254,10 @@ impl Log<'_> {
         ensures { (before : Entries) → put_away region.now (log_from before self.now at)
             ≡ passes before self.now result }
     {
-        if region.class < CACHED {
-            self.offer(at, region)
-        } else {
-            self.give_back(at, region)
+        if region.class >= CACHED {
+            return self.give_back(at, region);
         }
+        self.offer(at, region)
     }
 
     /// The end of a root: its region is put away, and its handle goes home.
