@@ -1,3 +1,4 @@
 pub mod BytesLemmas
 pub mod ReadingLemmas
 pub mod RegionLemmas
+pub mod DrainLemmas
