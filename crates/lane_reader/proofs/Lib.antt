@@ -2,3 +2,4 @@ pub mod BytesLemmas
 pub mod ReadingLemmas
 pub mod RegionLemmas
 pub mod DrainLemmas
+pub mod PartLemmas

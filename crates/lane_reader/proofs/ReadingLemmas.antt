@@ -1,13 +1,14 @@
 -- The notes of a log from a place on.
 use Rattle.std.proofs.Common.{◌≡◌, ℕ, zero, suc, ◌+◌, ◌<◌, ◌≤◌, List, [], ◌∷◌, ◌++◌, length, take, drop, get_or, refl, sym, ap, arith, ◌∙◌, append_assoc}
-use Rattle.std.specs.Prelude.{Option, Some, None, slice_get, unwrap_or, option_map, option_and_then}
+use Rattle.std.specs.Prelude.{Bool, true, false, if◌then◌else◌, Option, Some, None, slice_get, unwrap_or, option_map, option_and_then}
 use Rattle.pool_law.specs.declared.id.RootId.{RootId}
 use Rattle.pool_law.specs.declared.note.Object.{Object}
 use Rattle.pool_law.specs.declared.note.Did.{Did}
 use Rattle.pool_law.specs.declared.note.RefDid.{RefDid}
 use Rattle.pool_law.specs.declared.note.Note.{Note}
 use Rattle.pool_law.specs.Logs.{Entry}
-use Rattle.pool_law.specs.Readers.{Entries, behind_entry, first_of_left, next, done_at, done_to, note, step}
+use Rattle.pool_law.specs.Readers.{Entries, behind_entry, first_of_left, next, done_at, done_to, note, step, access}
+use Rattle.pool_law.specs.Counts.{root_is}
 use Rattle.lane_reader.specs.declared.log.Log.{Log}
 use Rattle.lane_reader.specs.declared.log.Told.{Told}
 use Rattle.lane_reader.specs.declared.log.At.{At}
@@ -107,3 +108,27 @@ next-asked {A} read log after a is = go log.left is
     go : (es : Entries) → first_of_left read log es ≡ Some (a, after) → after.asked ≡ log.asked
     go [] h = absurd (cc h)
     go (e ∷ es) h = inner e es (read e) h
+
+-- what is done at the place of a root
+abbrev pub at_root : RootId → Entry → Option Did
+at_root root e = done_at (Object.Root root.place) e.note
+
+-- what an access says
+pub access_says : {A : Type 0} (root : RootId) (says : Did → Option A) (log : Rattle.pool_law.specs.Readers.Log) →
+    access root says log
+    ≡ option_and_then (λ got. option_map (with got.1) (says got.0)) (access root Some log)
+access_says {A} root says log = go log.left
+  where
+    inner : (b : Bool) (e : Entry) (es : Entries) →
+        option_map (with (behind_entry log e es)) (if b then option_and_then says (at_root root e) else None)
+        ≡ option_and_then (λ got. option_map (with got.1) (says got.0))
+        (option_map (with (behind_entry log e es)) (if b then option_and_then Some (at_root root e) else None))
+    inner true e es = says-of says (at_root root e) (behind_entry log e es)
+    inner false e es = refl
+
+    go : (es : Entries) →
+        first_of_left (λ e. if root_is root e.root then option_and_then says (at_root root e) else None) log es
+        ≡ option_and_then (λ got. option_map (with got.1) (says got.0))
+        (first_of_left (λ e. if root_is root e.root then option_and_then Some (at_root root e) else None) log es)
+    go [] = refl
+    go (e ∷ es) = inner (root_is root e.root) e es

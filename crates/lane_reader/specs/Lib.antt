@@ -1,3 +1,5 @@
 pub mod Reading
 pub mod Allotting
 pub mod Draining
+pub mod Viewing
+pub mod Parting

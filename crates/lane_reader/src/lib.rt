@@ -7,7 +7,9 @@
 mod drains;
 mod log;
 mod notes;
+mod parts;
 mod patterns;
 mod same;
+mod view;
 
 pub use log::{Log, Told};
