@@ -3,3 +3,4 @@ pub mod ReadingLemmas
 pub mod RegionLemmas
 pub mod DrainLemmas
 pub mod PartLemmas
+pub mod CountLemmas

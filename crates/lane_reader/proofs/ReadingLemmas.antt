@@ -1,6 +1,7 @@
 -- The notes of a log from a place on.
-use Rattle.std.proofs.Common.{◌≡◌, ℕ, zero, suc, ◌+◌, ◌<◌, ◌≤◌, List, [], ◌∷◌, ◌++◌, length, take, drop, get_or, refl, sym, ap, arith, ◌∙◌, append_assoc}
-use Rattle.std.specs.Prelude.{Bool, true, false, if◌then◌else◌, Option, Some, None, slice_get, unwrap_or, option_map, option_and_then}
+use Rattle.std.proofs.Common.{◌≡◌, ℕ, zero, suc, ◌+◌, ◌<◌, ◌≤◌, List, [], ◌∷◌, ◌++◌, length, take, drop, get_or, refl, sym, ap, arith, ⊎_elim, ◌∙◌, append_assoc}
+use Rattle.std.proofs.lemmas.List.{take_all, drop_all}
+use Rattle.std.specs.Prelude.{◌⊎◌, min, Bool, true, false, if◌then◌else◌, Option, Some, None, slice_get, unwrap_or, option_map, option_and_then}
 use Rattle.pool_law.specs.declared.id.RootId.{RootId}
 use Rattle.pool_law.specs.declared.note.Object.{Object}
 use Rattle.pool_law.specs.declared.note.Did.{Did}
@@ -22,7 +23,7 @@ entries-past (n ∷ ns) told zero past = absurd (omega (arith, past))
 entries-past (n ∷ ns) [] (suc at) past = entries-past ns [] at (omega (arith, past))
 entries-past (n ∷ ns) (t ∷ ts) (suc at) past = entries-past ns ts at (omega (arith, past))
 
-entries-from : (notes : List Note) (told : List Told) (at : ℕ) (d : Note) → at < length notes →
+pub entries-from : (notes : List Note) (told : List Told) (at : ℕ) (d : Note) → at < length notes →
     drop at (entries_in notes told)
     ≡ entry (get_or notes at d) (unwrap_or (slice_get told at) untold) ∷ drop (suc at) (entries_in notes told)
 entries-from [] told at d there = absurd (omega (arith, there))
@@ -32,7 +33,7 @@ entries-from (n ∷ ns) [] (suc at) d there = entries-from ns [] at d (omega (ar
 entries-from (n ∷ ns) (t ∷ ts) (suc at) d there = entries-from ns ts at d (omega (arith, there))
 
 -- one entry more
-take-next : {X : Type 0} (xs : List X) (at : ℕ) (x : X) (rest : List X) → drop at xs ≡ x ∷ rest →
+pub take-next : {X : Type 0} (xs : List X) (at : ℕ) (x : X) (rest : List X) → drop at xs ≡ x ∷ rest →
     take (suc at) xs ≡ take at xs ++ x ∷ []
 take-next [] zero x rest e = absurd (cc e)
 take-next [] (suc at) x rest e = absurd (cc e)
@@ -132,3 +133,28 @@ access_says {A} root says log = go log.left
         (first_of_left (λ e. if root_is root e.root then option_and_then Some (at_root root e) else None) log es)
     go [] = refl
     go (e ∷ es) = inner (root_is root e.root) e es
+
+-- a piece that may be cut short by the end
+pub take-min : {X : Type 0} (xs : List X) (n m : ℕ) → m ≡ min (length xs) n → take m xs ≡ take n xs
+take-min {X} xs n m is = ⊎_elim (λ short. go short) (λ long. ap (λ (k : ℕ). take k xs) (omega (arith, is, long))) (order (length xs) n)
+  where
+    order : (a b : ℕ) → (a ≤ b) ⊎ (b ≤ a)
+    order a b = grind arith
+
+    go : length xs ≤ n → take m xs ≡ take n xs
+    go short = let whole : length xs ≤ m = omega (arith, is, short) in take_all m xs whole ∙ sym (take_all n xs short)
+
+pub drop-min : {X : Type 0} (xs : List X) (n m : ℕ) → m ≡ min (length xs) n → drop m xs ≡ drop n xs
+drop-min {X} xs n m is = ⊎_elim (λ short. go short) (λ long. ap (λ (k : ℕ). drop k xs) (omega (arith, is, long))) (order (length xs) n)
+  where
+    order : (a b : ℕ) → (a ≤ b) ⊎ (b ≤ a)
+    order a b = grind arith
+
+    go : length xs ≤ n → drop m xs ≡ drop n xs
+    go short = let whole : length xs ≤ m = omega (arith, is, short) in drop_all m xs whole ∙ sym (drop_all n xs short)
+
+-- there are as many entries as notes
+pub length-entries : (notes : List Note) (told : List Told) → length (entries_in notes told) ≡ length notes
+length-entries [] told = refl
+length-entries (x ∷ notes) [] = ap (λ n. suc n) (length-entries notes [])
+length-entries (x ∷ notes) (t ∷ told) = ap (λ n. suc n) (length-entries notes told)

@@ -3,3 +3,4 @@ pub mod Allotting
 pub mod Draining
 pub mod Viewing
 pub mod Parting
+pub mod Counting

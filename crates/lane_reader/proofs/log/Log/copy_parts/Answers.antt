@@ -13,11 +13,12 @@ returns-in_err-here c before =
 
 pub loop-part-preserved : goal.loop-part-preserved
 loop-part-preserved c = record {
-  within = ?;
+  within = omega (arith, c.from-index.ensures, c.part-item.result.within, c.loop-part.invariant.within);
   reads = λ before.
       let log = log_from before c.args.self.now c.loop-part.here in
-      sym
+      rw c.from-index.ensures
+      (sym
       (copied-on c.args.parts.now c.loop-part.part-index c.part-item.result (search rules) c.part-item.is
       c.args.root.now c.loop-part.index log _ (c.in_ok-here.ensures before))
-      ∙ c.loop-part.invariant.reads before;
+      ∙ c.loop-part.invariant.reads before);
 }
