@@ -1,8 +1,12 @@
 -- A view and a range of the program in the law's words.
+use Rattle.std.specs.Prelude.{map}
 use Rattle.pool_law.specs.declared.id.ViewData.{ViewData}
 use Rattle.pool_law.specs.declared.id.Part.{Part}
+use Rattle.pool_law.specs.Names.{Plain, Composed}
 use Rattle.lane_reader.specs.declared.view.View.{View}
 use Rattle.lane_reader.specs.declared.view.Range.{Range}
+use Rattle.lane_reader.specs.declared.composite.Composite.{Composite}
+use Rattle.lane_reader.specs.declared.bound.Bound.{Bound}
 
 -- its data
 abbrev pub data_of : View → ViewData
@@ -12,3 +16,17 @@ data_of v =
 -- the part of a root
 abbrev pub part_of : Range → Part
 part_of r = record { root = r.root; offset = r.offset; len = r.len }
+
+-- a composite, in the law's words
+abbrev pub composite_in : Composite → Rattle.pool_law.specs.Composites.Composite
+composite_in c = record {
+  parts = map part_of c.parts.items;
+  count = c.count;
+  reader = c.reader;
+  writer = c.writer;
+}
+
+-- what a name is bound to, in the law's words
+abbrev pub bound_of : Bound → Rattle.pool_law.specs.Names.Bound
+bound_of (Bound.Plain view) = Plain (data_of view)
+bound_of (Bound.Composed composite) = Composed (composite_in composite)

@@ -4,6 +4,8 @@
 //! Each function reads some of a log's notes from a place on, as the reading of the law that has its
 //! name: it gives what they say and the place behind them, or nothing where the notes are others.
 
+mod bound;
+mod composite;
 mod counts;
 mod drains;
 mod log;
