@@ -4,6 +4,7 @@ use Rattle.std.specs.Prelude.{◌==◌, ◌&&◌, not, min, if◌then◌else◌,
 use Rattle.pool_law.specs.declared.id.RootId.{RootId}
 use Rattle.pool_law.specs.declared.id.Part.{Part}
 use Rattle.pool_law.specs.declared.note.Did.{Did}
+use Rattle.pool_law.specs.declared.run.Shape.{Shape}
 use Rattle.pool_law.specs.Same.{same_bytes}
 use Rattle.pool_law.specs.Caches.{if_so}
 use Rattle.pool_law.specs.Dids as says
@@ -14,7 +15,7 @@ use Rattle.lane_reader.specs.declared.view.Range.{Range}
 use Rattle.lane_reader.specs.Viewing.{part_of}
 use Rattle.lane_reader.proofs.ReadingLemmas.{with, access_says}
 use Rattle.pool_law.specs.Readers.{Log, Reader, ◌>>=◌, ◌>>◌, access, give, nothing}
-use Rattle.pool_law.specs.Lanes.{set_parts, get_parts, copy_parts}
+use Rattle.pool_law.specs.Lanes.{set_parts, get_parts, copy_parts, release_part, release_parts}
 use Rattle.lane_reader.specs.Parting.{where_same, set_filled, get_filled, copy_filled}
 
 pub set_parts-is : (p : Part) (ps : List Part) (bytes : List ℕ) (log : Log) →
@@ -160,6 +161,13 @@ module _ (parts : List Range) (k : ℕ) (part : Range) (there : k < length parts
       ap (λ (ps : List Part). copy_parts root at (filled ps) log) from-part
       ∙ copy_parts-is root at (part_of part) (map part_of (drop (k + 1) parts)) log
       ∙ ap (option_and_then (λ got. copy_parts root (at + part.len) (filled (map part_of (drop (k + 1) parts))) got.1)) was
+
+  pub released-on : (shape : Shape) (log : Log) (o : Option (Unit {0} × Log)) → release_part shape (part_of part) log ≡ o →
+      release_parts shape (map part_of (drop k parts)) log
+      ≡ option_and_then (λ got. release_parts shape (map part_of (drop (k + 1) parts)) got.1) o
+  released-on shape log o was =
+      ap (λ (ps : List Part). release_parts shape ps log) from-part
+      ∙ ap (option_and_then (λ got. release_parts shape (map part_of (drop (k + 1) parts)) got.1)) was
 
   module _ (i n : ℕ) (piece : Range)
       (cut_is : part_of piece ≡ cut (part_of part) (min i part.len) (min n (part.len - min i part.len))) where

@@ -4,3 +4,4 @@ pub mod Draining
 pub mod Viewing
 pub mod Parting
 pub mod Counting
+pub mod Consolidating

@@ -3,7 +3,10 @@ use Rattle.std.specs.Prelude.{ℕ, ◌+◌, ◌==◌, if◌then◌else◌, List,
 use denote.Ref.{Bor}
 use Rattle.pool_law.specs.declared.id.RootId.{RootId}
 use Rattle.pool_law.specs.declared.id.Part.{Part}
+use Rattle.pool_law.specs.declared.run.Shape.{Shape}
 use Rattle.pool_law.specs.Same.{same_bytes}
+use Rattle.pool_law.specs.Composites.{filled}
+use Rattle.pool_law.specs.Lanes.{copy_parts, release_parts}
 use Rattle.pool_law.specs.Dids as says
 use Rattle.pool_law.specs.Readers.{Entries, Reader, ◌>>=◌, ◌>>◌, give, nothing, access}
 use Rattle.lane_reader.specs.declared.log.Log.{Log}
@@ -38,3 +41,7 @@ copy_filled root at p =
     if p.len == 0
     then nothing
     else access p.root (says.get p.offset p.len) >>= (λ bytes. access root (says.set at bytes))
+
+-- the parts are copied to a root, and then released
+abbrev pub moved_parts : Shape → RootId → List Part → Reader (Unit {0})
+moved_parts shape root parts = copy_parts root 0 (filled parts) >> release_parts shape parts
