@@ -1,6 +1,6 @@
 -- Bytes of parts, one part after another.
 use Rattle.std.proofs.Common.{◌≡◌, ℕ, ◌+◌, ◌-◌, Bool, true, false, List, [], ◌∷◌, ◌++◌, length, take, drop, ◌<◌, get_or, map, refl, sym, ap, arith, ◌∙◌, eqb-true, length-drop}
-use Rattle.std.specs.Prelude.{◌==◌, ◌&&◌, not, min, if◌then◌else◌, Option, Some, None, option_map, option_and_then}
+use Rattle.std.specs.Prelude.{◌==◌, ◌&&◌, not, min, if◌then◌else◌, Result, Ok, Option, Some, None, option_map, option_and_then}
 use Rattle.pool_law.specs.declared.id.RootId.{RootId}
 use Rattle.pool_law.specs.declared.id.Part.{Part}
 use Rattle.pool_law.specs.declared.note.Did.{Did}
@@ -10,13 +10,15 @@ use Rattle.pool_law.specs.Caches.{if_so}
 use Rattle.pool_law.specs.Dids as says
 use Rattle.pool_law.proofs.SameLemmas.{and-second}
 use Rattle.std.proofs.lemmas.List.{drop_more}
-use Rattle.pool_law.specs.Composites.{filled, cut, cuts, ranges}
+use Rattle.pool_law.specs.Composites.{Composite, filled, cut, cuts, ranges, moved_to}
 use Rattle.lane_reader.specs.declared.view.Range.{Range}
 use Rattle.lane_reader.specs.Viewing.{part_of}
 use Rattle.lane_reader.proofs.ReadingLemmas.{with, access_says}
 use Rattle.pool_law.specs.Readers.{Log, Reader, ◌>>=◌, ◌>>◌, access, give, nothing}
-use Rattle.pool_law.specs.Lanes.{set_parts, get_parts, copy_parts, release_part, release_parts}
-use Rattle.lane_reader.specs.Parting.{where_same, set_filled, get_filled, copy_filled}
+use Rattle.pool_law.specs.Lanes.{set_parts, get_parts, copy_parts, release_part, release_parts, copied_to}
+use Rattle.pool_law.specs.Patterns.{New}
+use Rattle.pool_law.specs.declared.run.Reply.{Reply}
+use Rattle.lane_reader.specs.Parting.{where_same, set_filled, get_filled, copy_filled, moved_parts}
 
 pub set_parts-is : (p : Part) (ps : List Part) (bytes : List ℕ) (log : Log) →
     set_parts (filled (p ∷ ps)) bytes log
@@ -208,3 +210,18 @@ module _ (parts : List Range) (k : ℕ) (part : Range) (there : k < length parts
         ap (λ (ps : List Part). where_same these (get_parts (ranges ps i n) log)) from-part
         ∙ get_parts-is these (cut (part_of part) (min i part.len) t) (cuts others (i - min i part.len) (n - t)) log
         ∙ (λ j. option_and_then (λ got. where_same (left j) (get_parts (filled (cuts others (skipped i' further j) (less j))) got.1)) (first j))
+
+-- a composite is moved once its parts are copied and released
+pub moved-then : (shape : Shape) (c : Composite) (new : New) (log : Log) →
+    copied_to shape c (Ok new) log
+    ≡ option_and_then (λ got. Some (Ok (moved_to new.root c), got.1)) (moved_parts shape new.root c.parts log)
+moved-then shape c new log = go (copy_parts new.root 0 (filled c.parts) log)
+  where
+    finish : Option (Unit {0} × Log) → Option (Result Composite Reply × Log)
+    finish o = option_and_then (λ got. Some (Ok (moved_to new.root c), got.1)) o
+
+    go : (o : Option (Unit {0} × Log)) →
+        option_and_then (λ copied. finish (release_parts shape c.parts copied.1)) o
+        ≡ finish (option_and_then (λ copied. release_parts shape c.parts copied.1) o)
+    go None = refl
+    go (Some q) = refl
