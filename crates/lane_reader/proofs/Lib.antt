@@ -4,3 +4,4 @@ pub mod RegionLemmas
 pub mod DrainLemmas
 pub mod PartLemmas
 pub mod CountLemmas
+pub mod NameLemmas

@@ -5,3 +5,4 @@ pub mod Viewing
 pub mod Parting
 pub mod Counting
 pub mod Consolidating
+pub mod Standing

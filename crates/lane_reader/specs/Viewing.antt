@@ -7,6 +7,7 @@ use Rattle.lane_reader.specs.declared.view.View.{View}
 use Rattle.lane_reader.specs.declared.view.Range.{Range}
 use Rattle.lane_reader.specs.declared.composite.Composite.{Composite}
 use Rattle.lane_reader.specs.declared.bound.Bound.{Bound}
+use Rattle.lane_reader.specs.declared.bound.Update.{Update}
 
 -- its data
 abbrev pub data_of : View → ViewData
@@ -30,3 +31,12 @@ composite_in c = record {
 abbrev pub bound_of : Bound → Rattle.pool_law.specs.Names.Bound
 bound_of (Bound.Plain view) = Plain (data_of view)
 bound_of (Bound.Composed composite) = Composed (composite_in composite)
+
+-- what is bound, after a change
+abbrev pub updated : Update → Rattle.pool_law.specs.Names.Bound → Rattle.pool_law.specs.Names.Bound
+updated (Update.Reader reader) (Plain v) = Plain (record v { reader = reader })
+updated (Update.Reader reader) (Composed c) = Composed (record c { reader = reader })
+updated (Update.Writer writer) (Plain v) = Plain (record v { writer = writer })
+updated (Update.Writer writer) (Composed c) = Composed (record c { writer = writer })
+updated (Update.Count count) (Plain v) = Plain v
+updated (Update.Count count) (Composed c) = Composed (record c { count = count })

@@ -5,7 +5,7 @@ ghost use Rattle.pool_law.specs.Names.{parts_at};
 ghost use Rattle.pool_law.specs.Lanes.{set_parts, get_parts};
 ghost use Rattle.pool_law.specs.Readers.{Entries};
 ghost use Rattle.lane_reader.specs.Reading.{log_from, passes};
-ghost use Rattle.lane_reader.specs.Viewing.{bound_of};
+ghost use Rattle.lane_reader.specs.Viewing.{bound_of, updated};
 ghost use Rattle.lane_reader.specs.Parting.{where_same};
 ghost use Rattle.pool_law.specs.Names.{has_range, has_to_read, has_room, reader_of, writer_of};
 
@@ -21,6 +21,61 @@ pub(crate) enum Bound {
     Plain(View),
     /// A composite.
     Composed(Composite),
+}
+
+/// What a command changes of what is bound.
+#[derive(Clone, Copy, Drop)]
+pub(crate) enum Update {
+    /// Where it is read next.
+    Reader(u32),
+    /// Where it is written next.
+    Writer(u32),
+    /// The composite's own count.
+    Count(u64),
+}
+
+/// What becomes of the names of a lane.
+#[derive(Drop)]
+pub(crate) enum Change {
+    /// They stay.
+    Same,
+    /// A name is bound.
+    Bind { name: u32, bound: Bound },
+    /// A name is unbound.
+    Unbind { name: u32 },
+    /// What a name is bound to changes.
+    Update { name: u32, update: Update },
+}
+
+impl Bound {
+    /// What it is after a change.
+    pub(crate) fn updated(self, update: Update) -> Bound
+        ensures { bound_of result ≡ updated update (bound_of self) }
+    {
+        match (self, update) {
+            (Bound::Plain(mut view), Update::Reader(reader)) => {
+                view.reader = reader;
+                Bound::Plain(view)
+            }
+            (Bound::Plain(mut view), Update::Writer(writer)) => {
+                view.writer = writer;
+                Bound::Plain(view)
+            }
+            (Bound::Plain(view), Update::Count(_)) => Bound::Plain(view),
+            (Bound::Composed(mut composite), Update::Reader(reader)) => {
+                composite.reader = reader;
+                Bound::Composed(composite)
+            }
+            (Bound::Composed(mut composite), Update::Writer(writer)) => {
+                composite.writer = writer;
+                Bound::Composed(composite)
+            }
+            (Bound::Composed(mut composite), Update::Count(count)) => {
+                composite.count = count;
+                Bound::Composed(composite)
+            }
+        }
+    }
 }
 
 impl Log<'_> {

@@ -8,6 +8,7 @@ mod bound;
 mod composite;
 mod counts;
 mod drains;
+mod lane;
 mod log;
 mod notes;
 mod parts;
