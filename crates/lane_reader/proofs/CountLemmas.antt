@@ -1,5 +1,5 @@
 -- Keys of roots.
-use Rattle.std.proofs.Common.{◌≡◌, ℕ, suc, ◌<◌, List, [], ◌∷◌, ◌++◌, length, take, drop, get_or, sym, ◌+◌, Bool, true, false, Option, Some, refl, ap, arith, ◌∙◌}
+use Rattle.std.proofs.Common.{◌≡◌, ℕ, suc, ◌-◌, ◌<◌, ◌≤◌, List, [], ◌∷◌, ◌++◌, length, take, drop, get_or, sym, ◌+◌, Bool, true, false, Option, Some, refl, ap, arith, ◌∙◌}
 use Rattle.std.specs.Prelude.{◌==◌, ◌&&◌, if◌then◌else◌, unwrap_or, slice_get}
 use Rattle.std.specs.declared.cmp.Ordering.{Ordering}
 use Rattle.std.specs.declared.cmp.Ordering.TheVariants.{Less, Equal, Greater}
@@ -10,7 +10,7 @@ use Rattle.pool_law.specs.declared.id.RootId.{RootId}
 use Rattle.pool_law.specs.Same.{same_root}
 use Rattle.pool_law.proofs.SameLemmas.{same_root-is}
 use Rattle.pool_law.specs.declared.note.Note.{Note}
-use Rattle.pool_law.specs.Counts.{count_from, count_step}
+use Rattle.pool_law.specs.Counts.{count_from, count_step, note_gains, note_loses}
 use Rattle.pool_law.specs.Readers.{Entries}
 use Rattle.lane_reader.specs.declared.log.Told.{Told}
 use Rattle.lane_reader.specs.Reading.{entry, untold, entries_in}
@@ -71,3 +71,12 @@ count-next root k notes told i note there is =
     ap (λ (n : ℕ). count_from root k (take n es)) (sym more)
     ∙ ap (count_from root k) (take-next es i (entry note t) (drop (suc i) es) first)
     ∙ count-append root k (take i es) (entry note t ∷ [])
+
+-- a note adds one at the most
+pub count-within : (root : RootId) (k : ℕ) (note : Note) → count_after root k note ≤ k + 1
+count-within root k note = go (note_gains root note) (note_loses root note)
+  where
+    go : (a b : Bool) → (if a then k + 1 else if b then k - 1 else k) ≤ k + 1
+    go true b = omega arith
+    go false true = omega arith
+    go false false = omega arith

@@ -52,3 +52,8 @@ module _ (names : Names) (f g : ℕ → Option Bound) (old : (q : ℕ) → looku
       go : (b : Bool) → (name == q) ≡ b → lookup q (without name names) ≡ option_map bound_of (g q)
       go true here = rw (new q, is_eq-nat name q, here) (lookup-without q name names ∙ rw here refl)
       go false there = rw (new q, is_eq-nat name q, there) (lookup-without q name names ∙ rw there (old q))
+
+-- a name that is taken out, and put in again
+pub put_again : {X : Type 0} (b : Bool) (x : X) (o : Option X) → cond b (Some x) (cond b None o) ≡ cond b (Some x) o
+put_again true x o = refl
+put_again false x o = refl

@@ -1,19 +1,21 @@
 //! A lane between two commands: its names, its counts, and how many allocations asked a cache.
 
-ghost use Rattle.std.specs.Prelude.{◌≡◌, ◌+◌, ◌≤◌, ◌<◌, ◌^◌, ℕ, length, option_map, OnOk, IfSome};
+ghost use Rattle.std.specs.Prelude.{◌≡◌, ◌-◌, ◌^◌, length, map, option_map, OnOk};
 ghost use Rattle.std.specs.Option.{option_copied};
 ghost use Rattle.pool_law.specs.declared.id.RootId.{RootId};
 ghost use Rattle.pool_law.specs.Counts.{count_from};
 ghost use Rattle.pool_law.specs.Names.{is_usable, is_counted};
 ghost use Rattle.pool_law.specs.LaneStates.{LaneState, new_lane, named, counts};
 ghost use Rattle.lane_reader.specs.Reading.{entries};
-ghost use Rattle.lane_reader.specs.Viewing.{bound_of};
+ghost use Rattle.lane_reader.specs.Viewing.{part_of, bound_of};
+ghost use Rattle.std.specs.List.{list_all};
 ghost use Rattle.lane_reader.specs.Counting.{count_in, AreWithin};
 ghost use Rattle.lane_reader.specs.Standing.{IsLane, AreNames, rebound, changed};
 
 use crate::bound::{Bound, Change, Update};
 use crate::counts::Counts;
 use crate::log::Log;
+use crate::view::Range;
 use pool_law::RootId;
 use std::alloc::{AllocError, Global};
 use std::collections::BTreeMap;
@@ -54,6 +56,19 @@ impl Lane {
         self.counts.of(root) >= 1
     }
 
+    // Whether the lane counts the roots of parts.
+    fn counts_all(&self, parts: &[Range]) -> bool
+        ensures { (s : LaneState) → IsLane self.now s
+            → result ≡ list_all (λ p. counts s p.root) (map part_of parts.now) }
+    {
+        for part in parts {
+            if !self.counts(&part.root) {
+                return false;
+            }
+        }
+        true
+    }
+
     /// Whether the lane counts what the bytes of a name need.
     pub(crate) fn is_usable(&self, bound: &Bound) -> bool
         ensures { (s : LaneState) → IsLane self.now s
@@ -62,7 +77,7 @@ impl Lane {
         match bound {
             Bound::Plain(view) => self.counts(&view.root),
             Bound::Composed(composite) => {
-                composite.count >= 1 && composite.parts.iter().all(|part| self.counts(&part.root))
+                composite.count >= 1 && self.counts_all(&composite.parts)
             }
         }
     }
