@@ -1,6 +1,6 @@
 -- Caches that are drained, one after another.
-use Rattle.std.proofs.Common.{◌≡◌, ℕ, zero, suc, ◌+◌, ◌<◌, List, [], ◌∷◌, drop, length, get_or, refl, sym, ap, arith, ◌∙◌, eqb-true, true, drop-cons}
-use Rattle.std.specs.Prelude.{◌==◌, Option, Some, None, option_map, option_and_then, IfSome}
+use Rattle.std.proofs.Common.{◌≡◌, ℕ, zero, suc, ◌+◌, ◌<◌, List, [], ◌∷◌, drop, length, get_or, refl, ap, arith, ◌∙◌, eqb-true, true, drop-cons}
+use Rattle.std.specs.Prelude.{◌==◌, Option, Some, None, option_and_then, IfSome}
 use Rattle.std.proofs.lemmas.Bool.{agree_below_at}
 use Rattle.size_classes.specs.Sizes.{below}
 use Rattle.pool_law.specs.declared.id.RegionId.{RegionId}

@@ -1,5 +1,5 @@
 -- Names that are bound and unbound.
-use Rattle.std.proofs.Common.{◌≡◌, ℕ, List, [], ◌∷◌, Bool, true, false, Option, Some, None, refl, sym, eqb-true, eq-eqb, ◌∙◌}
+use Rattle.std.proofs.Common.{◌≡◌, ℕ, [], ◌∷◌, Bool, true, false, Option, Some, None, refl, sym, eqb-true, eq-eqb, ◌∙◌}
 use Rattle.std.specs.Prelude.{◌==◌, if◌then◌else◌, cond, option_map}
 use Rattle.pool_law.specs.Names.{Names, bind, lookup, without}
 use Rattle.std.specs.Ordering.{nat_cmp}

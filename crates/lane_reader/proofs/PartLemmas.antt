@@ -1,6 +1,6 @@
 -- Bytes of parts, one part after another.
 use Rattle.std.proofs.Common.{◌≡◌, ℕ, ◌+◌, ◌-◌, Bool, true, false, List, [], ◌∷◌, ◌++◌, length, take, drop, ◌<◌, get_or, map, refl, sym, ap, arith, ◌∙◌, eqb-true, length-drop}
-use Rattle.std.specs.Prelude.{◌==◌, ◌&&◌, not, min, if◌then◌else◌, Result, Ok, Option, Some, None, option_map, option_and_then}
+use Rattle.std.specs.Prelude.{◌==◌, ◌&&◌, min, if◌then◌else◌, Result, Ok, Option, Some, None, option_map, option_and_then}
 use Rattle.pool_law.specs.declared.id.RootId.{RootId}
 use Rattle.pool_law.specs.declared.id.Part.{Part}
 use Rattle.pool_law.specs.declared.note.Did.{Did}
@@ -14,7 +14,7 @@ use Rattle.pool_law.specs.Composites.{Composite, filled, cut, cuts, ranges, move
 use Rattle.lane_reader.specs.declared.view.Range.{Range}
 use Rattle.lane_reader.specs.Viewing.{part_of}
 use Rattle.lane_reader.proofs.ReadingLemmas.{with, access_says}
-use Rattle.pool_law.specs.Readers.{Log, Reader, ◌>>=◌, ◌>>◌, access, give, nothing}
+use Rattle.pool_law.specs.Readers.{Log, access}
 use Rattle.pool_law.specs.Lanes.{set_parts, get_parts, copy_parts, release_part, release_parts, copied_to}
 use Rattle.pool_law.specs.Patterns.{New}
 use Rattle.pool_law.specs.declared.run.Reply.{Reply}

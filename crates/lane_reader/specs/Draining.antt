@@ -1,5 +1,5 @@
 -- Caches that are drained, one after another.
-use Rattle.std.specs.Prelude.{ℕ, List, Option}
+use Rattle.std.specs.Prelude.{ℕ, Option}
 use Rattle.pool_law.specs.declared.note.Did.{Did}
 use Rattle.pool_law.specs.declared.note.Object.TheVariants.{Cache}
 use Rattle.pool_law.specs.Dids as says

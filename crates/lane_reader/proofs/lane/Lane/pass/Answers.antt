@@ -21,8 +21,12 @@ loop-note-preserved c =
       names = c.loop-note.invariant.names;
       asked = c.loop-note.invariant.asked;
       within = λ root.
-          omega (arith, c.in_ok-pass.ensures root, c.loop-note.invariant.within root,
-          count-within root (count_in c.loop-note.self.counts root) note);
+          omega (
+            arith,
+            c.in_ok-pass.ensures root,
+            c.loop-note.invariant.within root,
+            count-within root (count_in c.loop-note.self.counts root) note,
+          );
       counts = λ root.
           ap (λ (k : ℕ). count_from root k (drop (i + 1) (entries log))) (c.in_ok-pass.ensures root)
           ∙ sym (ap (count_from root (count_in c.loop-note.self.counts root)) step)

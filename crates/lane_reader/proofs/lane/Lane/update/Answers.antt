@@ -1,11 +1,10 @@
-use Rattle.std.proofs.Common.{◌≡◌, ℕ, Option, Some, None, ap, sym, ◌∙◌, rules}
+use Rattle.std.proofs.Common.{◌≡◌, ℕ, Option, Some, ap, sym, ◌∙◌, rules}
 use Rattle.std.specs.Prelude.{cond, option_map}
 use Rattle.std.specs.Ordering.{nat_cmp}
 use Rattle.std.specs.BTreeMap.{get, is_at}
 use Rattle.pool_law.specs.Names.{lookup}
 use Rattle.lane_reader.specs.declared.bound.Bound.{Bound}
 use Rattle.lane_reader.specs.Viewing.{bound_of}
-use Rattle.lane_reader.specs.Standing.{rebound_to}
 use Rattle.lane_reader.proofs.NameLemmas.{after_bind, put_again}
 use Rattle.lane_reader.proofs.lane.Lane.update.Goals as goal
 

@@ -1,4 +1,4 @@
-use Rattle.std.proofs.Common.{◌≡◌, ℕ, true, List, length, map, ap, sym, refl, arith, ◌∙◌, rules}
+use Rattle.std.proofs.Common.{◌≡◌, ℕ, true, List, map, ap, sym, refl, arith, ◌∙◌, rules}
 use Rattle.std.proofs.lemmas.List.{length-map}
 use Rattle.std.proofs.lemmas.Bool.Decides.{nat_tests}
 use Rattle.pool_law.specs.Composites.{size_of, is_crowded}

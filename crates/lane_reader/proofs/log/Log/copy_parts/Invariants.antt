@@ -1,4 +1,4 @@
-use Rattle.std.proofs.Common.{◌≡◌, ◌≤◌, ◌*◌, ◌^◌, drop, length, map}
+use Rattle.std.proofs.Common.{◌≡◌, ◌≤◌, ◌*◌, ◌^◌, drop, map}
 use Rattle.pool_law.specs.Composites.{filled}
 use Rattle.pool_law.specs.Lanes.{copy_parts}
 use Rattle.pool_law.specs.Readers.{Entries}

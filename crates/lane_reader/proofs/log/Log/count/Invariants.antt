@@ -1,4 +1,4 @@
-use Rattle.std.proofs.Common.{◌≡◌, ◌+◌, ◌≤◌, drop, take}
+use Rattle.std.proofs.Common.{◌≡◌, ◌+◌, ◌≤◌, take}
 use Rattle.pool_law.specs.Counts.{count_from}
 use Rattle.lane_reader.specs.Reading.{entries}
 use Rattle.lane_reader.proofs.log.Log.count.Given as goal

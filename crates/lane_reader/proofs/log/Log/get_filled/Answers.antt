@@ -1,7 +1,6 @@
 use Rattle.std.proofs.Common.{◌≡◌, false, refl, arith}
-use Rattle.std.specs.Prelude.{◌==◌, Option, option_and_then}
+use Rattle.std.specs.Prelude.{◌==◌}
 use Rattle.std.proofs.lemmas.Bool.Decides.{nat_tests}
-use Rattle.lane_reader.specs.Parting.{where_same}
 use Rattle.lane_reader.proofs.log.Log.get_filled.Goals as goal
 
 pub returns-in_err-got : goal.returns-in_err-got

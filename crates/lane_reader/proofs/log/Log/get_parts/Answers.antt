@@ -1,6 +1,5 @@
-use Rattle.std.proofs.Common.{◌≡◌, ℕ, ◌-◌, List, take, drop, length, refl, sym, ap, arith, ◌∙◌, rules}
-use Rattle.std.specs.Prelude.{min, Option}
-use Rattle.pool_law.specs.Readers.{Log}
+use Rattle.std.proofs.Common.{◌≡◌, ℕ, ◌-◌, List, take, drop, length, refl, sym, ap, ◌∙◌, rules}
+use Rattle.std.specs.Prelude.{min}
 use Rattle.lane_reader.specs.Viewing.{part_of}
 use Rattle.lane_reader.specs.Reading.{log_from}
 use Rattle.lane_reader.specs.Parting.{where_same, get_filled}

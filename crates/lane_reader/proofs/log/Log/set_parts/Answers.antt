@@ -1,4 +1,4 @@
-use Rattle.std.proofs.Common.{ℕ, ◌-◌, refl, length, sym, ap, arith, ◌∙◌, rules}
+use Rattle.std.proofs.Common.{ℕ, ◌-◌, refl, length, sym, ap, ◌∙◌, rules}
 use Rattle.lane_reader.specs.Reading.{log_from}
 use Rattle.lane_reader.proofs.PartLemmas.{set-on}
 use Rattle.lane_reader.proofs.log.Log.set_parts.Goals as goal
