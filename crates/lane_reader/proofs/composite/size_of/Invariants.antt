@@ -1,0 +1,10 @@
+use Rattle.std.proofs.Common.{◌≡◌, ◌≤◌, ◌*◌, ◌^◌, take, map}
+use Rattle.pool_law.specs.Composites.{size_of}
+use Rattle.lane_reader.specs.Viewing.{part_of}
+use Rattle.lane_reader.proofs.composite.size_of.Given as goal
+
+abbrev pub invariant-loop-part : goal.invariant-loop-part
+invariant-loop-part l = record {
+  within : l.size ≤ l.part-index * 2 ^ 34;
+  same : l.size ≡ size_of (map part_of (take l.part-index l.parts));
+}

@@ -1,0 +1,19 @@
+#![tactic(auto)]
+//! A lane's log, read by the law.
+//!
+//! Each function reads some of a log's notes from a place on, as the reading of the law that has its
+//! name: it gives what they say and the place behind them, or nothing where the notes are others.
+
+mod bound;
+mod composite;
+mod counts;
+mod drains;
+mod lane;
+mod log;
+mod notes;
+mod parts;
+mod patterns;
+mod same;
+mod view;
+
+pub use log::{Log, Told};
