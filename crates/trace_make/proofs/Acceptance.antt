@@ -1,16 +1,15 @@
 -- A generated trace is what a run asks for.
-use Rattle.std.proofs.Common.{◌≡◌, ℕ, zero, suc, ◌+◌, ◌*◌, ◌/◌, ◌<◌, ◌≤◌, List, [], ◌∷◌, length, map, refl, sym, ◌∙◌, ap, subst, arith, inl, inr}
-use Rattle.std.specs.Prelude.{Option, All, slice_get, unwrap_or}
+use Rattle.std.proofs.Common.{◌≡◌, ℕ, ◌+◌, ◌*◌, ◌/◌, ◌≤◌, List, [], length, refl, sym, ◌∙◌, subst, arith, inl, inr}
+use Rattle.std.specs.Prelude.{Option, All, unwrap_or}
 use Rattle.std.proofs.lemmas.Bool.{cases_lt}
 use Rattle.std.proofs.lemmas.List.Elements.{All-from_recursion}
 use Rattle.std.proofs.lemmas.Option.{slice_get-get_or, slice_get_past}
 use Rattle.size_classes.specs.Sizes.{below}
 use Rattle.pool_law.specs.declared.command.Command.{Command}
-use Rattle.pool_law.specs.declared.run.Shape.{Shape}
 use Rattle.pool_law.specs.Legal.{AreCommands}
 use Rattle.pool_law.specs.Logs.{log_of}
 use Rattle.trace_make.specs.Draws.{first_state, state_after, draw_after}
-use Rattle.trace_make.specs.Generated.{size_of, byte_of, block_of, drawn_block, joined, blocks_in, generated}
+use Rattle.trace_make.specs.Generated.{size_of, byte_of, block_of, drawn_block, blocks_in, generated}
 use Rattle.trace_make.specs.Accepted.{AreLanes, IsPlain, IsAccepted}
 use Rattle.trace_make.proofs.DrawSteps.{few_blocks}
 use Rattle.trace_make.proofs.Joined.{All-joined, All-given, length-given}
@@ -26,8 +25,10 @@ lanes_long start lanes commands trace is =
     let blocks = commands / (8 * lanes) in
     let state = λ (i : ℕ). state_after (2 * blocks * i) (first_state start) in
     let P : List (List Command) → Type 0 = λ lists. (length lists ≡ lanes) × All (λ (cs : List Command). length cs ≡ 8 * blocks) lists in
-    subst P (sym is) (length-given (ring_lane lanes blocks state) lanes,
-    All-given (λ (cs : List Command). length cs ≡ 8 * blocks) (ring_lane lanes blocks state) lanes (λ i less. length-lane lanes i (state i) blocks))
+    subst P (sym is) (
+      length-given (ring_lane lanes blocks state) lanes,
+      All-given (λ (cs : List Command). length cs ≡ 8 * blocks) (ring_lane lanes blocks state) lanes (λ i less. length-lane lanes i (state i) blocks),
+    )
 
 -- what each lane has, and what a lane that isn't there has too
 log_has : (P : List Command → Type 0) (trace : List (List Command)) (k : ℕ) → All P trace → P [] → P (log_of trace k)

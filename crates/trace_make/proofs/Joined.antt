@@ -1,6 +1,6 @@
 -- Lists that are joined, and places in them.
-use Rattle.std.proofs.Common.{◌≡◌, ℕ, zero, suc, ◌+◌, ◌*◌, ◌<◌, ◌≤◌, List, [], ◌∷◌, ◌++◌, length, map, take, refl, sym, ◌∙◌, ap, subst, arith, inl, inr, zero-add, append_assoc, append-nil, length-append}
-use Rattle.std.specs.Prelude.{Option, Some, option_map, slice_get, All}
+use Rattle.std.proofs.Common.{◌≡◌, ℕ, zero, suc, ◌+◌, ◌<◌, List, [], ◌∷◌, ◌++◌, length, map, take, refl, sym, ◌∙◌, ap, subst, arith, inl, inr, zero-add, append_assoc, append-nil, length-append}
+use Rattle.std.specs.Prelude.{Some, option_map, slice_get, All}
 use Rattle.std.proofs.lemmas.Bool.{cases_lt}
 use Rattle.std.proofs.lemmas.List.{map-append}
 use Rattle.std.proofs.lemmas.List.Elements.{All-nil, All-append, All-push}
@@ -38,11 +38,11 @@ pub joined-split : {X : Type 0} (list : ℕ → List X) (n j : ℕ) → j < n �
 joined-split list zero j less = absurd (omega arith)
 joined-split list (suc n) j less = elim (cases_lt j n) [
   | inl before ↦
-    let (rest, is) = joined-split list n j before in
-    (rest ++ list n, ap (λ xs. xs ++ list n) is ∙ (append_assoc (joined list j) (list j ++ rest) (list n) ∙ ap (λ xs. joined list j ++ xs) (append_assoc (list j) rest (list n))))
+      let (rest, is) = joined-split list n j before in
+      (rest ++ list n, ap (λ xs. xs ++ list n) is ∙ (append_assoc (joined list j) (list j ++ rest) (list n) ∙ ap (λ xs. joined list j ++ xs) (append_assoc (list j) rest (list n))))
   | inr last ↦
-    let same : n ≡ j = omega arith in
-    ([], subst (λ (k : ℕ). joined list n ++ list n ≡ joined list k ++ (list k ++ [])) same (ap (λ xs. joined list n ++ xs) (sym (append-nil (list n)))))
+      let same : n ≡ j = omega arith in
+      ([], subst (λ (k : ℕ). joined list n ++ list n ≡ joined list k ++ (list k ++ [])) same (ap (λ xs. joined list n ++ xs) (sym (append-nil (list n)))))
 ]
 
 pub All-joined : {X : Type 0} (P : X → Type 0) (list : ℕ → List X) (n : ℕ) → ((j : ℕ) → All P (list j)) → All P (joined list n)
@@ -59,12 +59,12 @@ pub slice_get-below : (n i : ℕ) → i < n → slice_get (below n) i ≡ Some i
 slice_get-below zero i less = absurd (omega arith)
 slice_get-below (suc n) i less = elim (cases_lt i n) [
   | inl before ↦
-    let short : i < length (below n) = omega (arith, length-below n) in
-    slice_get-front (below n) (n ∷ []) i short ∙ slice_get-below n i before
+      let short : i < length (below n) = omega (arith, length-below n) in
+      slice_get-front (below n) (n ∷ []) i short ∙ slice_get-below n i before
   | inr last ↦
-    let same : n ≡ i = omega arith in
-    let end : length (below n) + 0 ≡ n = omega (arith, length-below n) in
-    subst (λ (k : ℕ). slice_get (below n ++ n ∷ []) k ≡ Some k) same (subst (λ (k : ℕ). slice_get (below n ++ n ∷ []) k ≡ Some n) end (slice_get-behind (below n) (n ∷ []) 0))
+      let same : n ≡ i = omega arith in
+      let end : length (below n) + 0 ≡ n = omega (arith, length-below n) in
+      subst (λ (k : ℕ). slice_get (below n ++ n ∷ []) k ≡ Some k) same (subst (λ (k : ℕ). slice_get (below n ++ n ∷ []) k ≡ Some n) end (slice_get-behind (below n) (n ∷ []) 0))
 ]
 
 pub slice_get-given : {X : Type 0} (f : ℕ → X) (n i : ℕ) → i < n → slice_get (map f (below n)) i ≡ Some (f i)

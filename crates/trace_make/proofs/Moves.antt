@@ -1,9 +1,8 @@
 -- All lanes move together, up to their last lines.
-use Rattle.std.proofs.Common.{◌≡◌, ℕ, zero, suc, ◌+◌, ◌*◌, ◌/◌, ◌%◌, ◌<◌, ◌≤◌, List, [], ◌∷◌, length, map, refl, sym, ◌∙◌, ap, subst, arith, inl, inr, Bool, true, false}
+use Rattle.std.proofs.Common.{◌≡◌, ℕ, zero, suc, ◌+◌, ◌*◌, ◌/◌, ◌%◌, ◌<◌, ◌≤◌, List, [], ◌∷◌, length, refl, sym, ◌∙◌, ap, subst, arith, inl, inr, Bool, true, false}
 use Rattle.std.specs.Prelude.{None, All, replicate, nat_lt, if◌then◌else◌}
 use Rattle.std.proofs.lemmas.Bool.{cases_lt, le-ltb}
-use Rattle.std.proofs.Math.Nat.{div-add-mod, mod-lt, mul-le-mul_left}
-use Rattle.size_classes.specs.Sizes.{below}
+use Rattle.std.proofs.Math.Nat.{div-add-mod, mul-le-mul_left}
 use Rattle.pool_law.specs.declared.command.Command.{Command}
 use Rattle.pool_law.specs.Stuck.{may_pass, next_of, moved, moves, command_count, resting, first_waiting, stuck_at}
 use Rattle.trace_make.proofs.Joined.{All-given, length-given}
@@ -40,9 +39,9 @@ moves-end lanes n state zero k low high = let e : k ≡ 8 * n = omega arith in a
 moves-end lanes n state (suc t) k low high = elim (cases_lt k (8 * n)) [
   | inl less ↦ ap (moves t (ring lanes n state)) (moved-on lanes n state k less) ∙ moves-end lanes n state t (k + 1) (omega arith) (omega arith)
   | inr end ↦
-    let e : 8 * n ≡ k = omega arith in
-    let P : ℕ → Type 0 = λ (at : ℕ). moves t (ring lanes n state) (moved (ring lanes n state) (replicate lanes at) 0 (replicate lanes at)) ≡ replicate lanes (8 * n) in
-    subst P e (ap (moves t (ring lanes n state)) (moved-no_more lanes n state) ∙ moves-end lanes n state t (8 * n) (omega arith) (omega arith))
+      let e : 8 * n ≡ k = omega arith in
+      let P : ℕ → Type 0 = λ (at : ℕ). moves t (ring lanes n state) (moved (ring lanes n state) (replicate lanes at) 0 (replicate lanes at)) ≡ replicate lanes (8 * n) in
+      subst P e (ap (moves t (ring lanes n state)) (moved-no_more lanes n state) ∙ moves-end lanes n state t (8 * n) (omega arith) (omega arith))
 ]
 
 -- no lane waits at the line behind its last
@@ -60,6 +59,6 @@ not_stuck lanes n state some =
     let as_many : length (ring lanes n state) ≡ lanes = length-given (ring_lane lanes n state) lanes in
     let P : ℕ → Type 0 = λ (l : ℕ). moves (command_count (ring lanes n state)) (ring lanes n state) (replicate l 0) ≡ replicate l (8 * n) in
     let at_end : resting (ring lanes n state) ≡ replicate (length (ring lanes n state)) (8 * n) =
-      subst P (sym as_many) (moves-end lanes n state (command_count (ring lanes n state)) 0 (omega arith) (omega (arith, total, more))) in
+    subst P (sym as_many) (moves-end lanes n state (command_count (ring lanes n state)) 0 (omega arith) (omega (arith, total, more))) in
     ap (first_waiting 0 (ring lanes n state)) at_end
     ∙ none_waits (ring lanes n state) 0 (8 * n) (All-given (λ (cs : List Command). length cs ≡ 8 * n) (ring_lane lanes n state) lanes (λ i less. length-lane lanes i (state i) n))

@@ -1,6 +1,6 @@
 -- The lanes of a generated trace, and what each has passed at a line.
-use Rattle.std.proofs.Common.{◌≡◌, ℕ, zero, suc, ◌+◌, ◌*◌, ◌<◌, ◌≤◌, List, [], ◌∷◌, ◌++◌, length, map, take, refl, sym, ◌∙◌, ap, arith, add_assoc, zero-add, Bool}
-use Rattle.std.specs.Prelude.{Option, Some, slice_get, slice_index, unwrap_or, replicate, if◌then◌else◌}
+use Rattle.std.proofs.Common.{◌≡◌, ℕ, zero, suc, ◌+◌, ◌*◌, ◌<◌, List, [], ◌∷◌, ◌++◌, map, take, refl, sym, ◌∙◌, ap, arith, add_assoc, zero-add, Bool}
+use Rattle.std.specs.Prelude.{Option, slice_get, slice_index, unwrap_or, replicate, if◌then◌else◌}
 use Rattle.std.proofs.lemmas.List.{get_or-replicate}
 use Rattle.size_classes.specs.Sizes.{below}
 use Rattle.pool_law.specs.declared.command.Command.{Command}
@@ -41,10 +41,12 @@ pub next_of-ring : (lanes n : ℕ) (state : ℕ → ℕ) (i j r : ℕ) → i < l
 next_of-ring lanes n state i j r less within =
     let (rest, split) = joined-split (drawn_block lanes i (state i)) n j within in
     let here : slice_index (replicate lanes (8 * j + r)) i ≡ 8 * j + r = get_or-replicate lanes i (8 * j + r) 0 less in
-    let own = commands_of-ring lanes n state i less in
-    (rest, ap (λ k. slice_get (commands_of (ring lanes n state) i) k) here
-    ∙ (ap (λ cs. slice_get cs (8 * j + r)) own
-    ∙ slice_get-at (ring_lane lanes n state i) (joined (drawn_block lanes i (state i)) j) (drawn_block lanes i (state i) j ++ rest) (8 * j) r split (length-lane lanes i (state i) j)))
+    let own = commands_of-ring lanes n state i less in (
+      rest,
+      ap (λ k. slice_get (commands_of (ring lanes n state) i) k) here
+          ∙ (ap (λ cs. slice_get cs (8 * j + r)) own
+          ∙ slice_get-at (ring_lane lanes n state i) (joined (drawn_block lanes i (state i)) j) (drawn_block lanes i (state i) j ++ rest) (8 * j) r split (length-lane lanes i (state i) j)),
+    )
 
 -- of the commands that a lane has passed then, one a block passes the test, and those of block j
 pub passed-ring : (lanes n : ℕ) (state : ℕ → ℕ) (i j r : ℕ) (test : Command → Bool) → i < lanes → j < n → ((k : ℕ) → how_many test (drawn_block lanes i (state i) k) ≡ 1)
@@ -56,7 +58,9 @@ passed-ring lanes n state i j r test less within each =
     let front = joined (drawn_block lanes i (state i)) j in
     let back = drawn_block lanes i (state i) j ++ rest in
     let cut : passed (ring lanes n state) (replicate lanes (8 * j + r)) i ≡ front ++ take r back =
-      ap (λ k. take k (commands_of (ring lanes n state) i)) here
-      ∙ (ap (λ cs. take (8 * j + r) cs) own ∙ take-at (ring_lane lanes n state i) front back (8 * j) r split (length-lane lanes i (state i) j)) in
-    (rest, ap (how_many test) cut
-    ∙ (how_many-append test front (take r back) ∙ ap (λ k. k + how_many test (take r back)) (how_many-joined test (drawn_block lanes i (state i)) j each)))
+    ap (λ k. take k (commands_of (ring lanes n state) i)) here
+    ∙ (ap (λ cs. take (8 * j + r) cs) own ∙ take-at (ring_lane lanes n state i) front back (8 * j) r split (length-lane lanes i (state i) j)) in (
+      rest,
+      ap (how_many test) cut
+          ∙ (how_many-append test front (take r back) ∙ ap (λ k. k + how_many test (take r back)) (how_many-joined test (drawn_block lanes i (state i)) j each)),
+    )

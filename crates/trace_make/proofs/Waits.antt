@@ -1,6 +1,6 @@
 -- Where all lanes are at the same line, each may pass its next command: what it receives was sent.
-use Rattle.std.proofs.Common.{◌≡◌, ℕ, zero, suc, ◌+◌, ◌-◌, ◌*◌, ◌%◌, ◌<◌, ◌≤◌, List, [], ◌∷◌, ◌++◌, length, take, refl, sym, ◌∙◌, ap, subst, arith, true, false, eq-eqb}
-use Rattle.std.specs.Prelude.{Option, None, slice_get, slice_index, replicate, nat_lt}
+use Rattle.std.proofs.Common.{◌≡◌, ℕ, zero, suc, ◌+◌, ◌-◌, ◌*◌, ◌%◌, ◌<◌, List, ◌++◌, take, refl, sym, ◌∙◌, ap, subst, arith, true, false, eq-eqb}
+use Rattle.std.specs.Prelude.{None, slice_get, slice_index, replicate, nat_lt}
 use Rattle.std.proofs.lemmas.Bool.{lt-ltb}
 use Rattle.std.proofs.lemmas.List.{get_or-replicate}
 use Rattle.std.proofs.lemmas.Option.{slice_get_past}
@@ -8,7 +8,7 @@ use Rattle.std.proofs.Math.Nat.{mod-add-mod, add-mod_right, mod-eq_of_lt}
 use Rattle.pool_law.specs.declared.command.Command.{Command}
 use Rattle.pool_law.specs.Stuck.{sends_to, receives_from, how_many, commands_of, passed, may_pass, next_of}
 use Rattle.trace_make.specs.Draws.{draw_after}
-use Rattle.trace_make.specs.Generated.{lane_after, lane_before, size_of, byte_of, block_of, drawn_block}
+use Rattle.trace_make.specs.Generated.{lane_after, lane_before, size_of, byte_of, block_of}
 use Rattle.trace_make.proofs.LaneFits.{before_within}
 use Rattle.trace_make.proofs.Totals.{length-lane}
 use Rattle.trace_make.proofs.Places.{ring_lane, ring, commands_of-ring, next_of-ring, passed-ring}
@@ -73,8 +73,8 @@ ring_passes lanes n state i j r less within below =
     ap (may_pass (ring lanes n state) (replicate lanes (8 * j + r)) i) next
     ∙ line_passes lanes i j (size_of (draw_after (2 * j) (state i))) (byte_of (draw_after (2 * j + 1) (state i))) r rest (ring lanes n state) (replicate lanes (8 * j + r)) below
     (λ is. let P : ℕ → Type 0 = λ r. nat_lt (how_many (receives_from (lane_before lanes i)) (passed (ring lanes n state) (replicate lanes (8 * j + r)) i))
-      (how_many (sends_to i) (passed (ring lanes n state) (replicate lanes (8 * j + r)) (lane_before lanes i))) ≡ true in
-      subst P (sym is) (was_sent lanes n state i j less within))
+    (how_many (sends_to i) (passed (ring lanes n state) (replicate lanes (8 * j + r)) (lane_before lanes i))) ≡ true in
+    subst P (sym is) (was_sent lanes n state i j less within))
 
 -- behind its last line a lane passes nothing
 pub ring_ends : (lanes n : ℕ) (state : ℕ → ℕ) (i : ℕ) → i < lanes
@@ -84,6 +84,6 @@ ring_ends lanes n state i less =
     let own = commands_of-ring lanes n state i less in
     let long = length-lane lanes i (state i) n in
     let next : next_of (ring lanes n state) (replicate lanes (8 * n)) i ≡ None =
-      ap (λ k. slice_get (commands_of (ring lanes n state) i) k) here
-      ∙ (ap (λ cs. slice_get cs (8 * n)) own ∙ slice_get_past (ring_lane lanes n state i) (8 * n) (omega (arith, long))) in
+    ap (λ k. slice_get (commands_of (ring lanes n state) i) k) here
+    ∙ (ap (λ cs. slice_get cs (8 * n)) own ∙ slice_get_past (ring_lane lanes n state i) (8 * n) (omega (arith, long))) in
     ap (may_pass (ring lanes n state) (replicate lanes (8 * n)) i) next

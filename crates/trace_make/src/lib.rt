@@ -4,6 +4,8 @@
 
 mod block;
 mod draws;
+#[cfg(test)]
+mod tests;
 mod trace;
 
 pub use trace::make;

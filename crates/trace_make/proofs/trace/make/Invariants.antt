@@ -7,5 +7,5 @@ use Rattle.trace_make.proofs.trace.make.Given as goal
 abbrev pub invariant-loop-lane : goal.invariant-loop-lane
 invariant-loop-lane l = record {
   made : l.made.items ≡ map (lane_of l.start l.lanes l.blocks) (below l.lane);
-  drawn : l.draws ≡ state_after (2 * l.blocks * l.lane) (first_state l.start)
+  drawn : l.draws ≡ state_after (2 * l.blocks * l.lane) (first_state l.start);
 }
