@@ -23,29 +23,42 @@ slice_get-behind (x ∷ xs) ys i =
     ap (λ k. slice_get (x ∷ (xs ++ ys)) k) e ∙ slice_get-behind xs ys i
 
 -- a place behind a front of n elements
-pub slice_get-at : {X : Type 0} (all front back : List X) (n r : ℕ) → all ≡ front ++ back → length front ≡ n → slice_get all (n + r) ≡ slice_get back r
+pub slice_get-at : {X : Type 0} (all front back : List X) (n r : ℕ) → all ≡ front ++ back → length front ≡ n
+    → slice_get all (n + r) ≡ slice_get back r
 slice_get-at all front back n r is long =
-    ap (λ xs. slice_get xs (n + r)) is ∙ subst (λ (k : ℕ). slice_get (front ++ back) (k + r) ≡ slice_get back r) long (slice_get-behind front back r)
+    ap (λ xs. slice_get xs (n + r)) is
+    ∙ subst (λ (k : ℕ). slice_get (front ++ back) (k + r) ≡ slice_get back r) long (slice_get-behind front back r)
 
-pub take-at : {X : Type 0} (all front back : List X) (n r : ℕ) → all ≡ front ++ back → length front ≡ n → take (n + r) all ≡ front ++ take r back
+pub take-at : {X : Type 0} (all front back : List X) (n r : ℕ) → all ≡ front ++ back → length front ≡ n
+    → take (n + r) all ≡ front ++ take r back
 take-at all front back n r is long =
-    ap (λ xs. take (n + r) xs) is ∙ subst (λ (k : ℕ). take (k + r) (front ++ back) ≡ front ++ take r back) long (take-append-add front back r)
+    ap (λ xs. take (n + r) xs) is
+    ∙ subst (λ (k : ℕ). take (k + r) (front ++ back) ≡ front ++ take r back) long (take-append-add front back r)
 
 -- ---- Lists that are joined.
 
 -- list j stands behind those before it, and something behind it
-pub joined-split : {X : Type 0} (list : ℕ → List X) (n j : ℕ) → j < n → (rest : List X) × (joined list n ≡ joined list j ++ (list j ++ rest))
+pub joined-split : {X : Type 0} (list : ℕ → List X) (n j : ℕ) → j < n
+    → (rest : List X) × (joined list n ≡ joined list j ++ (list j ++ rest))
 joined-split list zero j less = absurd (omega arith)
 joined-split list (suc n) j less = elim (cases_lt j n) [
   | inl before ↦
-      let (rest, is) = joined-split list n j before in
-      (rest ++ list n, ap (λ xs. xs ++ list n) is ∙ (append_assoc (joined list j) (list j ++ rest) (list n) ∙ ap (λ xs. joined list j ++ xs) (append_assoc (list j) rest (list n))))
+      let (rest, is) = joined-split list n j before in (
+        rest ++ list n,
+        ap (λ xs. xs ++ list n) is
+            ∙ (append_assoc (joined list j) (list j ++ rest) (list n)
+            ∙ ap (λ xs. joined list j ++ xs) (append_assoc (list j) rest (list n))),
+      )
   | inr last ↦
-      let same : n ≡ j = omega arith in
-      ([], subst (λ (k : ℕ). joined list n ++ list n ≡ joined list k ++ (list k ++ [])) same (ap (λ xs. joined list n ++ xs) (sym (append-nil (list n)))))
+      let same : n ≡ j = omega arith in (
+        [],
+        subst (λ (k : ℕ). joined list n ++ list n ≡ joined list k ++ (list k ++ [])) same
+            (ap (λ xs. joined list n ++ xs) (sym (append-nil (list n)))),
+      )
 ]
 
-pub All-joined : {X : Type 0} (P : X → Type 0) (list : ℕ → List X) (n : ℕ) → ((j : ℕ) → All P (list j)) → All P (joined list n)
+pub All-joined : {X : Type 0} (P : X → Type 0) (list : ℕ → List X) (n : ℕ) → ((j : ℕ) → All P (list j))
+    → All P (joined list n)
 All-joined P list zero each = All-nil P
 All-joined P list (suc n) each = All-append P (joined list n) (list n) (All-joined P list n each) (each n)
 
@@ -64,13 +77,15 @@ slice_get-below (suc n) i less = elim (cases_lt i n) [
   | inr last ↦
       let same : n ≡ i = omega arith in
       let end : length (below n) + 0 ≡ n = omega (arith, length-below n) in
-      subst (λ (k : ℕ). slice_get (below n ++ n ∷ []) k ≡ Some k) same (subst (λ (k : ℕ). slice_get (below n ++ n ∷ []) k ≡ Some n) end (slice_get-behind (below n) (n ∷ []) 0))
+      subst (λ (k : ℕ). slice_get (below n ++ n ∷ []) k ≡ Some k) same
+      (subst (λ (k : ℕ). slice_get (below n ++ n ∷ []) k ≡ Some n) end (slice_get-behind (below n) (n ∷ []) 0))
 ]
 
 pub slice_get-given : {X : Type 0} (f : ℕ → X) (n i : ℕ) → i < n → slice_get (map f (below n)) i ≡ Some (f i)
 slice_get-given f n i less = slice_get-map f (below n) i ∙ ap (option_map f) (slice_get-below n i less)
 
-pub All-given : {X : Type 0} (P : X → Type 0) (f : ℕ → X) (n : ℕ) → ((i : ℕ) → i < n → P (f i)) → All P (map f (below n))
+pub All-given : {X : Type 0} (P : X → Type 0) (f : ℕ → X) (n : ℕ) → ((i : ℕ) → i < n → P (f i))
+    → All P (map f (below n))
 All-given P f zero each = All-nil P
 All-given {X = X} P f (suc n) each =
     subst (λ (xs : List X). All P xs) (sym (map-append f (below n) (n ∷ [])))

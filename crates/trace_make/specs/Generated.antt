@@ -15,8 +15,8 @@ lane_after lanes lane = (lane + 1) % lanes
 abbrev pub lane_before : ℕ → ℕ → ℕ
 lane_before lanes lane = (lane + lanes - 1) % lanes
 
--- ---- Names. Block j names its buffer aj, its slice sj and what it receives rj. In this order they
--- are mentioned first, so a lane's names are numbered a0, s0, r0, a1, s1, r1 ..
+-- ---- Names. Block j names its buffer aj, its slice sj and what it receives rj. A reader numbers the
+-- names of a lane from 0 in order of first mention, and that is a0, s0, r0, a1, s1, r1 and so on.
 
 -- aj
 abbrev pub buffer_name : ℕ → ℕ
@@ -33,11 +33,11 @@ received_name j = 3 * j + 2
 -- ---- Blocks.
 
 -- the size of a block's buffer, and the byte that fills its front, each by what is drawn for it
-abbrev pub size_of : ℕ → ℕ
-size_of drawn = 16 + drawn % 1009
+abbrev pub drawn_size : ℕ → ℕ
+drawn_size drawn = 16 + drawn % 1009
 
-abbrev pub byte_of : ℕ → ℕ
-byte_of drawn = drawn % 256
+abbrev pub drawn_byte : ℕ → ℕ
+drawn_byte drawn = drawn % 256
 
 -- block j of a lane: it makes a buffer, looks at it through a slice and hands it on; then it takes
 -- the next buffer of the lane before, looks at that and releases it
@@ -57,7 +57,9 @@ block_of lanes lane j size byte =
 -- and then its byte
 abbrev pub drawn_block : ℕ → ℕ → ℕ → ℕ → List Command
 drawn_block lanes lane state j =
-    block_of lanes lane j (size_of (draw_after (2 * j) state)) (byte_of (draw_after (2 * j + 1) state))
+    block_of lanes lane j
+    (drawn_size (draw_after (2 * j) state))
+    (drawn_byte (draw_after (2 * j + 1) state))
 
 -- ---- Traces.
 

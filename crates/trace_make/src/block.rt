@@ -50,7 +50,8 @@ pub fn block(
     byte: u8,
 ) -> Result<Vec<Command>, AllocError>
     requires { number < 2 ^ 16 }
-    ensures { IfOk result (λ commands. commands.items ≡ block_of at.lanes at.lane number size byte) }
+    ensures { IfOk result (λ commands.
+        commands.items ≡ block_of at.lanes at.lane number size byte) }
 {
     let buffer = 3 * number;
     let slice = buffer + 1;
