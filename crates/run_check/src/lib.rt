@@ -36,8 +36,6 @@ mod patterns;
 mod place;
 mod roots;
 mod run;
-#[cfg(test)]
-mod run_tests;
 mod same;
 mod sizes;
 mod split;
@@ -46,8 +44,6 @@ mod stands;
 mod takings;
 mod tally;
 mod telling;
-#[cfg(test)]
-mod tests;
 mod view;
 mod word;
 
