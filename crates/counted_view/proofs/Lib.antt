@@ -1,0 +1,4 @@
+pub mod RowLaws
+pub mod ClimbLaws
+pub mod LiveLaws
+pub mod TreeLaws

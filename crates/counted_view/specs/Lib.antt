@@ -1,0 +1,3 @@
+pub mod Nests
+pub mod Rows
+pub mod Trees
