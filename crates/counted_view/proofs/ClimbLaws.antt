@@ -1,14 +1,14 @@
 -- One step upwards from a view that ended, and the end of the way.
-use Rattle.std.proofs.Common.{◌≡◌, ◌≢◌, ℕ, ◌+◌, ◌-◌, ◌<◌, ◌≤◌, ◌⊎◌, Bool, true, false, not, ◌&&◌, List, length, get_or, map, set, refl, sym, ap, ◌∙◌, subst, inl, inr, ⊎_elim, arith, Some, None, length-set, ne_eqb}
+use Rattle.std.proofs.Common.{◌≡◌, ◌≢◌, ℕ, ◌+◌, ◌-◌, ◌<◌, ◌≤◌, Bool, true, false, not, ◌&&◌, List, length, set, refl, sym, ap, ◌∙◌, subst, ⊎_elim, arith, Some, None, length-set, ne_eqb}
 use Rattle.std.specs.Prelude.{Option, is_some, ◌==◌, if◌then◌else◌, slice_get}
 use Rattle.std.proofs.Math.Seq.{map-set_same}
 use Rattle.std.proofs.lemmas.Bool.{cases_eq, eq-eqb, and_right}
-use Rattle.std.proofs.lemmas.Option.{slice_get_within, get_or_from_slice_get, same_Some}
+use Rattle.std.proofs.lemmas.Option.{slice_get_within, get_or_from_slice_get}
 use Rattle.pool_law.proofs.ListLemmas.{slice_get-set_same, slice_get-set_other}
 use Rattle.counted_view.specs.Nests.{made_from}
 use Rattle.counted_view.specs.Rows.{shown, row_live, live_rows, ended_parent, owed, root_sum, IsBelow, IsCounted, AreCounted, IsOwing, HasClimbed}
 use Rattle.counted_view.specs.declared.rows.Row.{Row}
-use Rattle.counted_view.proofs.RowLaws.{one, live_rows-set, live-held, live-kept, set_cases, IsCounted-moved}
+use Rattle.counted_view.proofs.RowLaws.{one, live_rows-set, live-kept, set_cases, IsCounted-moved}
 
 -- the row once a view made from its view ended
 abbrev pub lessened : Row → Row

@@ -2,3 +2,4 @@ pub mod RowLaws
 pub mod ClimbLaws
 pub mod LiveLaws
 pub mod TreeLaws
+pub mod SeatLaws

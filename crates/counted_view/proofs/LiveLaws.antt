@@ -1,6 +1,6 @@
 -- The rows' own counts are those of the definition, which goes down from each view.
-use Rattle.std.proofs.Common.{◌≡◌, ◌≢◌, ℕ, zero, suc, ◌+◌, ◌-◌, ◌<◌, ◌≤◌, Bool, true, false, ◌&&◌, ◌||◌, List, [], ◌∷◌, length, get_or, map, take, drop, refl, sym, ap, ◌∙◌, subst, arith, Some, None, sum_by, ne_eqb, add-one, drop-cons, length-drop, take_all}
-use Rattle.std.specs.Prelude.{Option, nat_lt, ◌==◌, if◌then◌else◌, slice_get}
+use Rattle.std.proofs.Common.{◌≡◌, ℕ, zero, suc, ◌+◌, ◌<◌, ◌≤◌, Bool, false, ◌&&◌, ◌||◌, List, [], ◌∷◌, length, get_or, map, take, drop, refl, sym, ap, ◌∙◌, subst, arith, Some, None, sum_by, ne_eqb, add-one, drop-cons, length-drop, take_all}
+use Rattle.std.specs.Prelude.{Option, nat_lt, slice_get}
 use Rattle.std.proofs.lemmas.Bool.{and_left}
 use Rattle.std.proofs.lemmas.List.Sums.{sum_by-cons, sum_by-take-drop}
 use Rattle.std.proofs.lemmas.Option.{slice_get_read}

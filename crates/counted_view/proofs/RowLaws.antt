@@ -1,12 +1,11 @@
 -- What one row that is written does to the live ones.
-use Rattle.std.proofs.Common.{◌≡◌, ◌≢◌, ℕ, ◌+◌, ◌-◌, ◌<◌, ◌≤◌, ◌⊎◌, Bool, true, false, not, ◌&&◌, ◌||◌, List, [], ◌∷◌, ◌++◌, length, get_or, set, refl, sym, ap, ◌∙◌, subst, inl, inr, ⊎_elim, arith, Some, None, sum_by, length-set}
-use Rattle.std.specs.Prelude.{Option, nat_lt, ◌==◌, if◌then◌else◌, slice_get}
+use Rattle.std.proofs.Common.{◌≡◌, ◌≢◌, ℕ, ◌+◌, ◌<◌, ◌≤◌, ◌⊎◌, Bool, true, false, not, ◌&&◌, ◌||◌, List, [], ◌∷◌, ◌++◌, length, get_or, set, refl, sym, ap, ◌∙◌, subst, inl, inr, ⊎_elim, arith, Some, sum_by}
+use Rattle.std.specs.Prelude.{Option, nat_lt, if◌then◌else◌, slice_get}
 use Rattle.std.proofs.lemmas.Bool.{cases_eq, lt-ltb, and_right}
 use Rattle.std.proofs.lemmas.List.Sums.{sum_by-set, sum_by_push, count_by-le-length}
 use Rattle.std.proofs.lemmas.Option.{slice_get_within, get_or_from_slice_get, same_Some}
 use Rattle.pool_law.proofs.ListLemmas.{slice_get-set_same, slice_get-set_other}
-use Rattle.counted_view.specs.Nests.{made_from}
-use Rattle.counted_view.specs.Rows.{row_live, live_rows, owed, IsBelow, IsCounted, AreCounted}
+use Rattle.counted_view.specs.Rows.{row_live, live_rows, owed, IsBelow, IsCounted}
 use Rattle.counted_view.specs.declared.rows.Row.{Row}
 
 -- 1 for true

@@ -1,11 +1,10 @@
 -- The calls on the rows, told as what they make of the views.
-use Rattle.std.proofs.Common.{◌≡◌, ◌≢◌, ℕ, zero, suc, ◌+◌, ◌-◌, ◌<◌, ◌≤◌, ◌⊎◌, Bool, true, false, List, [], ◌∷◌, ◌++◌, length, get_or, map, set, refl, sym, ap, ◌∙◌, subst, inl, inr, ⊎_elim, arith, Some, None, length-set, length-append, ne_eqb}
+use Rattle.std.proofs.Common.{◌≡◌, ◌≢◌, ℕ, zero, suc, ◌+◌, ◌-◌, ◌<◌, ◌≤◌, ◌⊎◌, Bool, true, false, List, [], ◌∷◌, ◌++◌, length, map, set, refl, sym, ap, ◌∙◌, subst, inl, inr, ⊎_elim, arith, Some, None, length-set, ne_eqb}
 use Rattle.std.specs.Prelude.{Option, IsSome, IfSome, option_map, nat_lt, ◌==◌, if◌then◌else◌, slice_get}
 use Rattle.std.proofs.Math.Seq.{map-set_same}
-use Rattle.std.proofs.lemmas.Bool.{cases_eq, eq-eqb, eqb-false, ltb-true, lt-ltb}
+use Rattle.std.proofs.lemmas.Bool.{eq-eqb, eqb-false, ltb-true, lt-ltb}
 use Rattle.std.proofs.lemmas.List.{map-set, map-append, length-map}
 use Rattle.std.proofs.lemmas.Option.{slice_get_within, get_or_from_slice_get, slice_get-map, same_Some}
-use Rattle.pool_law.proofs.ListLemmas.{slice_get-set_same, slice_get-set_other}
 use Rattle.pool_law.specs.declared.id.RootId.{RootId}
 use Rattle.pool_law.specs.declared.id.ViewData.{ViewData}
 use Rattle.pool_law.specs.Views.{slice_of}
@@ -14,8 +13,8 @@ use Rattle.counted_view.specs.declared.calls.NestCall.TheVariants.{Slice, Retain
 use Rattle.counted_view.specs.declared.calls.NestNo.{NestNo}
 use Rattle.counted_view.specs.declared.calls.NestNo.TheVariants.{Full}
 use Rattle.counted_view.specs.declared.rows.Row.{Row}
-use Rattle.counted_view.specs.Nests.{NestedView, NestState, made_from, with_holds, with_slice, views_after, part_of, has_all, if_held, retain_no, release_no}
-use Rattle.counted_view.specs.Rows.{shown, row_live, live_rows, root_sum, IsBelow, IsCounted, AreCounted, IsOwing}
+use Rattle.counted_view.specs.Nests.{NestedView, NestState, made_from, with_holds, with_slice, views_after, has_all, if_held, retain_no, release_no}
+use Rattle.counted_view.specs.Rows.{shown, live_rows, root_sum, IsCounted, AreCounted, IsOwing}
 use Rattle.counted_view.proofs.RowLaws.{one, live_rows-push, live_rows-kept, live-held, live-kept, set_cases, IsCounted-moved}
 use Rattle.counted_view.proofs.ClimbLaws.{IsOwing-start, AreCounted-kept}
 use Rattle.counted_view.proofs.LiveLaws.{live_rows-past}

@@ -1,8 +1,8 @@
 -- The views of a nest: what accepted calls make of them, which are live, and what is refused.
-use Rattle.std.specs.Prelude.{ℕ, ◌+◌, ◌-◌, Bool, true, false, ◌==◌, ◌&&◌, ◌||◌, nat_lt, if◌then◌else◌, List, [], ◌∷◌, ◌++◌, length, Option, Some, None, is_some, option_map, unwrap_or, Result, Ok, Err, slice_get, slice_set, fold}
+use Rattle.std.specs.Prelude.{ℕ, ◌+◌, ◌-◌, Bool, true, false, ◌==◌, ◌&&◌, ◌||◌, nat_lt, if◌then◌else◌, List, [], ◌∷◌, ◌++◌, length, Option, Some, None, is_some, option_map, unwrap_or, slice_get, slice_set, fold}
 use Rattle.pool_law.specs.declared.id.RootId.{RootId}
 use Rattle.pool_law.specs.declared.id.ViewData.{ViewData}
-use Rattle.pool_law.specs.Views.{view_of, slice_of, in_range, root_index}
+use Rattle.pool_law.specs.Views.{view_of, slice_of, in_range}
 use Rattle.counted_view.specs.declared.calls.NestCall.{NestCall}
 use Rattle.counted_view.specs.declared.calls.NestCall.TheVariants.{Slice, Retain, Release}
 use Rattle.counted_view.specs.declared.calls.NestNo.{NestNo}

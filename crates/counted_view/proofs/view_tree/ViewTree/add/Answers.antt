@@ -1,12 +1,12 @@
-use Rattle.std.proofs.Common.{◌≡◌, ◌≢◌, ◌<◌, ◌≤◌, ℕ, ◌+◌, List, [], ◌∷◌, ◌++◌, length, map, set, refl, sym, ap, ◌∙◌, subst, arith, Some, None, length-set, length-append, false}
-use Rattle.std.specs.Prelude.{◌==◌, IsSome, IfSome, slice_get}
+use Rattle.std.proofs.Common.{◌≡◌, ◌<◌, ℕ, ◌+◌, List, [], ◌∷◌, length, map, set, refl, sym, ap, ◌∙◌, subst, arith, Some, None, length-set, length-append, false}
+use Rattle.std.specs.Prelude.{◌==◌, IfSome, slice_get}
 use Rattle.std.proofs.lemmas.Option.{slice_get_read}
 use Rattle.pool_law.specs.Views.{slice_of}
 use Rattle.counted_view.specs.declared.calls.NestCall.TheVariants.{Slice}
 use Rattle.byte_view.specs.declared.view.View.{View}
 use Rattle.counted_view.specs.declared.rows.Row.{Row}
 use Rattle.counted_view.specs.Nests.{NestState, NestedView, made_from, held_view, has_all, after_call, root_counts, release_no, if_held}
-use Rattle.counted_view.specs.Rows.{shown, live_rows, AreCounted, root_sum}
+use Rattle.counted_view.specs.Rows.{shown, AreCounted, root_sum}
 use Rattle.counted_view.proofs.RowLaws.{one, live_rows-le-length}
 use Rattle.counted_view.proofs.ClimbLaws.{root_sum-more}
 use Rattle.counted_view.proofs.LiveLaws.{root_counts-rows}

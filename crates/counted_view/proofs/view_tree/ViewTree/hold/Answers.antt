@@ -3,8 +3,8 @@ use Rattle.std.specs.Prelude.{◌==◌, slice_get}
 use Rattle.std.proofs.lemmas.Option.{slice_get_read}
 use Rattle.counted_view.specs.declared.calls.NestCall.TheVariants.{Retain}
 use Rattle.counted_view.specs.declared.rows.Row.{Row}
-use Rattle.counted_view.specs.Nests.{NestState, NestedView, held_view, after_call, root_counts, retain_no, release_no, if_held}
-use Rattle.counted_view.specs.Rows.{shown, AreCounted, root_sum}
+use Rattle.counted_view.specs.Nests.{NestState, NestedView, held_view, after_call, root_counts, retain_no, if_held}
+use Rattle.counted_view.specs.Rows.{shown, AreCounted}
 use Rattle.counted_view.proofs.RowLaws.{one}
 use Rattle.counted_view.proofs.ClimbLaws.{root_sum-more}
 use Rattle.counted_view.proofs.LiveLaws.{root_counts-rows}

@@ -1,10 +1,10 @@
-use Rattle.std.proofs.Common.{◌≡◌, ◌<◌, ◌≤◌, ℕ, ◌+◌, List, length, map, set, refl, sym, ap, ◌∙◌, subst, arith, Some, None}
+use Rattle.std.proofs.Common.{◌≡◌, ◌<◌, ℕ, ◌+◌, List, length, map, set, refl, sym, ap, ◌∙◌, subst, arith, Some, None}
 use Rattle.std.specs.Prelude.{◌==◌, is_some, slice_get}
 use Rattle.std.proofs.lemmas.Option.{slice_get_read}
 use Rattle.counted_view.specs.declared.calls.NestCall.TheVariants.{Release}
 use Rattle.counted_view.specs.declared.rows.Row.{Row}
 use Rattle.counted_view.specs.Nests.{NestState, NestedView, live_from, live_slices, held_view, after_call, root_counts, release_no, if_held}
-use Rattle.counted_view.specs.Rows.{shown, live_rows, owed, AreCounted, root_sum}
+use Rattle.counted_view.specs.Rows.{shown, live_rows, owed}
 use Rattle.counted_view.proofs.RowLaws.{one, live-held, live_rows-set}
 use Rattle.counted_view.proofs.ClimbLaws.{root_sum-less}
 use Rattle.counted_view.proofs.LiveLaws.{root_counts-rows, live_from-rows}
