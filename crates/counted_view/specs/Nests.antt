@@ -97,7 +97,8 @@ live_parts s number = live_from (made_from number) 0 s.views
 
 -- the own holds of a view: none, where there is no view of that number
 abbrev pub holds_of : NestState → ℕ → ℕ
-holds_of s number = unwrap_or (option_map (λ (x : NestedView). x.holds) (slice_get s.views number)) 0
+holds_of s number =
+    unwrap_or (option_map (λ (x : NestedView). x.holds) (slice_get s.views number)) 0
 
 -- how often the nest counts its root: the root's own holds, and the live views made from it
 abbrev pub root_counts : NestState → ℕ

@@ -1,6 +1,6 @@
 //! A nest and its calls. A call that takes a seat takes one of the pool in which the root is.
 
-ghost use Rattle.std.specs.Prelude.{◌≡◌, ◌+◌, ◌<◌, ◌≤◌, ◌^◌, ◌==◌, length, IfOk, IfErr, OnOk, OnErr, MatchResult, IfSome, IsTrue, Some, None, nat_lt};
+ghost use Rattle.std.specs.Prelude.{◌≡◌, ◌+◌, ◌<◌, ◌≤◌, ◌^◌, length, IfOk, OnOk, OnErr, MatchResult, IfSome, Some, None, nat_lt};
 ghost use Rattle.pool_law.specs.Views.{root_index};
 ghost use Rattle.pool_table.specs.Seats.{view_of, SameSeat};
 ghost use Rattle.shared_pool.specs.Seats.{IsPoolSeat};

@@ -1,6 +1,6 @@
 //! The rows of a nest, one for each view, and the way upwards from a view that was let go.
 
-ghost use Rattle.std.specs.Prelude.{◌≡◌, ◌+◌, ◌≤◌, is_some, length, slice_get, vec_capacity};
+ghost use Rattle.std.specs.Prelude.{◌≡◌, is_some, length, slice_get, vec_capacity};
 ghost use Rattle.counted_view.specs.Rows.{row_live, ended_parent, owed, AreCounted, IsOwing, HasClimbed};
 
 use byte_view::View;

@@ -1,6 +1,6 @@
 //! Nests over one root of a small pool.
 
-ghost use Rattle.std.specs.Prelude.{◌≡◌, ◌+◌, ◌<◌, ◌≤◌, ◌∷◌, [], IfOk};
+ghost use Rattle.std.specs.Prelude.{◌≡◌, ◌+◌, ◌≤◌, ◌∷◌, [], IfOk};
 ghost use Rattle.pool_table.specs.Counts.{gained_of, lost_of};
 ghost use Rattle.pool_table.specs.Seats.{view_of};
 ghost use Rattle.shared_pool.specs.Opening.{IsOpened};

@@ -3,9 +3,9 @@
 //! Each view knows which it was made from, and how many made from it live. So a release goes
 //! upwards: it costs the views that it ends.
 
-ghost use Rattle.std.specs.Prelude.{◌≡◌, ◌+◌, ◌<◌, ◌≤◌, ◌^◌, ◌==◌, false, map, length, is_some, IsSome, IfSome, IsTrue, OnOk, OnErr, IfOk, IfErr, MatchResult, Some, None, Ok, Err, if◌then◌else◌, slice_get};
-ghost use Rattle.pool_law.specs.Views.{slice_of, root_index, in_range};
-ghost use Rattle.counted_view.specs.Nests.{new_nest, after_call, held_view, root_counts, live_slices, live_views, has_all, range_no, slice_no, retain_no, release_no, most_holds};
+ghost use Rattle.std.specs.Prelude.{◌≡◌, ◌+◌, ◌≤◌, ◌==◌, false, length, IsSome, IfSome, IfOk, IfErr, MatchResult, Some, None, if◌then◌else◌};
+ghost use Rattle.pool_law.specs.Views.{slice_of, root_index};
+ghost use Rattle.counted_view.specs.Nests.{new_nest, after_call, held_view, root_counts, live_slices, has_all, range_no, slice_no, retain_no, release_no};
 ghost use Rattle.counted_view.specs.Rows.{shown};
 ghost use Rattle.counted_view.specs.declared.calls.NestCall.TheVariants.{Slice, Retain, Release};
 
@@ -15,6 +15,9 @@ use byte_view::View;
 use pool_law::RootId;
 use std::alloc::{AllocError, Global};
 use std::marker::Model;
+
+/// The most holds of its own that a view may have.
+const MOST_HOLDS: u32 = 65_535;
 
 /// The views of a nest. No call but `new` takes memory.
 #[derive(Drop)]
@@ -142,7 +145,7 @@ impl ViewTree {
             (λ no. retain_no (held_view self.now number) ≡ Some no) }
     {
         let row = self.held(number)?;
-        if row.holds == 65535 {
+        if row.holds == MOST_HOLDS {
             return Err(NestNo::Full);
         }
         Ok(())

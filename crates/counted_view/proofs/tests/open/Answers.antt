@@ -1,4 +1,4 @@
-use Rattle.std.proofs.Common.{◌≡◌, List, [], ◌∷◌, ◌++◌, length, sym, ap, subst, arith, length-append}
+use Rattle.std.proofs.Common.{◌≡◌, List, [], ◌∷◌, ◌++◌, length, ap, subst, arith, length-append}
 use Rattle.std.specs.Prelude.{HoldsAt}
 use Rattle.shared_pool.specs.Opening.{IsOpened}
 use Rattle.counted_view.specs.declared.tests.TheConstants.{LAYOUT}

@@ -1,4 +1,4 @@
-use Rattle.std.proofs.Common.{◌≡◌, sym, subst}
+use Rattle.std.proofs.Common.{sym, subst}
 use Rattle.counted_view.specs.Nests.{NestState}
 use Rattle.counted_view.specs.NestSeats.{CountsRoot}
 use Rattle.counted_view.proofs.tests.start.Goals as goal
