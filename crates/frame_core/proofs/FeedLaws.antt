@@ -1,11 +1,12 @@
 -- What a call for a part of a piece says of the piece.
-use Rattle.std.proofs.Common.{◌≡◌, ℕ, ◌+◌, ◌-◌, ◌≤◌, List, ◌++◌, length, take, drop, slice_range, Option, Some, None, IfSome, IfNone, sym, ap, ◌∙◌, subst, arith}
-use Rattle.std.proofs.lemmas.List.{length-drop, take_rest}
+use Rattle.std.proofs.Common.{◌≡◌, ℕ, ◌+◌, ◌-◌, ◌<◌, ◌≤◌, List, [], ◌++◌, length, take, drop, slice_range, Option, Some, None, IfSome, IfNone, sym, ap, ◌∙◌, subst, ⊎_elim, arith}
+use Rattle.std.proofs.lemmas.List.{append-nil, length_push, length-drop, take_rest}
+use Rattle.std.proofs.lemmas.Bool.{cases_lt}
 use Rattle.frame_core.specs.declared.frame.FrameNo.{FrameNo}
 use Rattle.frame_core.specs.declared.frame.Cut.{Cut}
 use Rattle.frame_core.specs.declared.cutter.Cutter.TheInside.{Inside}
 use Rattle.frame_core.specs.contracts.cutter.Cutter.{the_view}
-use Rattle.frame_core.specs.Frames.{failure_of, refusal}
+use Rattle.frame_core.specs.Frames.{frames_of, failure_of, refusal}
 use Rattle.frame_core.specs.Standing.{Standing, IsAt, IsKept, HasRead}
 use Rattle.frame_core.specs.Feeding.{EndsFrame, GoesOn, IsRefused}
 use Rattle.frame_core.proofs.ReadingLaws.{is_open}
@@ -73,3 +74,28 @@ no_cut-of_part old s piece used gone None e none within told =
       λ bytes read.
           subst (λ more. GoesOn bytes (bytes ++ more)) (part-is piece used) (told.1 bytes (at-read old s bytes e none read)),
     )
+
+-- no frame ends where no byte comes
+ends_nowhere : (bytes none : List ℕ) (cut : Cut) → EndsFrame bytes (bytes ++ none) cut → none ≡ [] → ⊥
+ends_nowhere bytes none cut ends e =
+    let same : bytes ++ none ≡ bytes = ap (λ xs. bytes ++ xs) e ∙ append-nil bytes in
+    let long = ap length ends.frames ∙ length_push (frames_of bytes) (drop cut.start (bytes ++ none)) in
+    let kept = ap (λ xs. length (frames_of xs)) same in
+    omega arith
+
+pub moves-of_part :
+    (old : Inside) (s : Standing) (piece : List ℕ) (used gone : ℕ) (cut : Option Cut) → the_view old ≡ s → old.refusal ≡ None
+    → IfSome cut (λ cut. (bytes : List ℕ) → IsAt s bytes → EndsFrame bytes (bytes ++ take gone (part piece used)) cut)
+    → IfNone cut ((gone ≡ length (part piece used)) × ((bytes : List ℕ) → IsAt s bytes → GoesOn bytes (bytes ++ part piece used)))
+    → (bytes : List ℕ) → HasRead s bytes → used < length piece → used < used + gone
+moves-of_part old s piece used gone None e none cut_told told bytes read more =
+    let long = ap length (part-is piece used) ∙ length-drop used piece in
+    let all = told.0 in
+    omega arith
+moves-of_part old s piece used gone (Some cut) e none told no_cut_told bytes read more =
+    ⊎_elim
+    (λ (moved : 0 < gone). omega arith)
+    (λ (stays : gone ≤ 0).
+    let zero_gone : gone ≡ 0 = omega arith in
+    absurd (ends_nowhere bytes (take gone (part piece used)) cut (told bytes (at-read old s bytes e none read)) (ap (λ k. take k (part piece used)) zero_gone)))
+    (cases_lt 0 gone)

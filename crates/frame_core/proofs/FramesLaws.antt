@@ -1,10 +1,10 @@
 -- The frames of bytes to which more come.
 use Rattle.std.proofs.Common.{◌≡◌, ℕ, zero, suc, ◌+◌, ◌-◌, ◌<◌, ◌≤◌, List, [], ◌∷◌, ◌++◌, length, take, drop, Some, None, Result, Ok, Err, refl, sym, ap, ◌∙◌, subst, arith, append_assoc, length-append, length-drop}
-use Rattle.std.proofs.lemmas.List.{drop-append-le, take-append-drop, take_all, drop_all}
+use Rattle.std.proofs.lemmas.List.{drop-append-le, take-append-drop, take_all, drop_all, length-take-le}
 use Rattle.frame_core.specs.declared.frame.FrameNo.{FrameNo}
 use Rattle.frame_core.specs.declared.frame.FrameNo.TheVariants.{Length, Frames, Stream, Inside}
 use Rattle.frame_core.specs.declared.limits.TheConstants.{MAX_LENGTH, MAX_FRAMES}
-use Rattle.frame_core.specs.Frames.{Reading, length_in, whole_frame, in_front, read_on, frames_in, refusal}
+use Rattle.frame_core.specs.Frames.{Reading, length_in, whole_frame, in_front, read_on, frames_in, cuts_at, refusal}
 use Rattle.frame_core.specs.Standing.{IsPartial}
 use Rattle.frame_core.proofs.FrontLaws.{IsWhole, IsWhole-from_ok, IsWhole-append, whole_frame-whole, whole_frame-partial, whole_frame-long, frame-append, IsLong-from_err, length_in-append, whole_frame-not_frames, whole_frame-not_stream}
 
@@ -151,3 +151,39 @@ frames_in-refused zero (b ∷ bytes) more why refused = record { frames_are = re
 frames_in-refused (suc m) [] more why refused = absurd cc
 frames_in-refused (suc m) (b ∷ bytes) more why refused =
     refused-front m b bytes more why (whole_frame (MAX_FRAMES - suc m) (b ∷ bytes)) refl (λ tail r. frames_in-refused m tail more why r) refused
+
+-- the place behind frames of which the first begins at a place
+abbrev pub end_of : ℕ → List (List ℕ) → ℕ
+end_of place [] = place
+end_of place (frame ∷ frames) = end_of (place + 4 + length frame) frames
+
+pub cuts_at-push : (place : ℕ) (frames : List (List ℕ)) (frame : List ℕ) → cuts_at place (frames ++ frame ∷ []) ≡ cuts_at place frames ++ record { start = end_of place frames + 4; len = length frame } ∷ []
+cuts_at-push place [] frame = refl
+cuts_at-push place (first ∷ frames) frame =
+    ap (λ cuts. record { start = place + 4; len = length first } ∷ cuts) (cuts_at-push (place + 4 + length first) frames frame)
+
+rest-begins_front :
+    (m place b : ℕ) (bytes : List ℕ) (w : Result ℕ FrameNo)
+    → whole_frame (MAX_FRAMES - suc m) (b ∷ bytes) ≡ w
+    → ((later : ℕ) (tail : List ℕ) → end_of later (frames_in m tail).frames + length (frames_in m tail).rest ≡ later + length tail)
+    → end_of place (read_on w (b ∷ bytes) (frames_in m)).frames + length (read_on w (b ∷ bytes) (frames_in m)).rest ≡ place + length (b ∷ bytes)
+rest-begins_front m place b bytes (Ok len) e alike =
+    let whole = IsWhole-from_ok (MAX_FRAMES - suc m) (b ∷ bytes) len e in
+    let there = whole.there in
+    let all = b ∷ bytes in
+    let frame = take len (drop 4 all) in
+    let long : length frame ≡ len = length-take-le len (drop 4 all) (omega (arith, length-drop 4 all)) in
+    let tail = drop (4 + len) all in
+    let left = length-drop (4 + len) all in
+    let total : place + 4 + length frame + length tail ≡ place + length all = omega arith in
+    alike (place + 4 + length frame) tail ∙ total
+rest-begins_front m place b bytes (Err why) e alike = refl
+
+-- the rest begins behind the frames
+pub rest-begins : (n place : ℕ) (bytes : List ℕ) → end_of place (frames_in n bytes).frames + length (frames_in n bytes).rest ≡ place + length bytes
+unfolding frames_in
+rest-begins zero place [] = refl
+rest-begins zero place (b ∷ bytes) = refl
+rest-begins (suc m) place [] = refl
+rest-begins (suc m) place (b ∷ bytes) =
+    rest-begins_front m place b bytes (whole_frame (MAX_FRAMES - suc m) (b ∷ bytes)) refl (λ later tail. rest-begins m later tail)

@@ -1,5 +1,5 @@
 -- What a cutter keeps when more bytes come.
-use Rattle.std.proofs.Common.{◌≡◌, ℕ, zero, suc, ◌+◌, ◌-◌, ◌<◌, ◌≤◌, ◌==◌, min, Bool, true, false, nat_lt, if◌then◌else◌, Ok, Err, List, [], ◌∷◌, ◌++◌, length, take, drop, Option, Some, None, refl, sym, ap, ◌∙◌, subst, ◌⊎◌, ⊎_elim, arith, append_assoc, length-append}
+use Rattle.std.proofs.Common.{◌≡◌, ℕ, zero, suc, ◌+◌, ◌-◌, ◌<◌, ◌≤◌, ◌==◌, min, Bool, true, false, nat_lt, if◌then◌else◌, Ok, Err, List, [], ◌∷◌, ◌++◌, length, take, drop, Option, Some, None, refl, sym, ap, ◌∙◌, subst, ◌⊎◌, ⊎_elim, arith, append_assoc, length-append, length-drop}
 use Rattle.std.specs.Int.{from_be_bytes, w32}
 use Rattle.std.proofs.lemmas.List.{length-take, take_all, take-append-le, length-take-le, drop_at, drop-drop, append-nil, length_push}
 use Rattle.std.proofs.lemmas.Bool.{cases_lt}
@@ -7,11 +7,11 @@ use Rattle.frame_core.specs.declared.frame.FrameNo.{FrameNo}
 use Rattle.frame_core.specs.declared.frame.FrameNo.TheVariants.{Length, Frames, Stream, Inside}
 use Rattle.frame_core.specs.declared.frame.Cut.{Cut}
 use Rattle.frame_core.specs.declared.limits.TheConstants.{MAX_LENGTH, MAX_FRAMES, MAX_STREAM}
-use Rattle.frame_core.specs.Frames.{Reading, length_in, reading, frames_in, overrun, frames_of, failure_of, refusal, count_or}
+use Rattle.frame_core.specs.Frames.{Reading, length_in, reading, frames_in, overrun, cuts_at, frames_of, failure_of, refusal, count_or}
 use Rattle.frame_core.specs.Standing.{Standing, IsPartial, IsAt, IsKept, HasRead, Advances, MeetsLimit}
 use Rattle.frame_core.specs.Feeding.{EndsFrame, GoesOn, IsRefused}
 use Rattle.frame_core.proofs.FrontLaws.{lt-true, length_in-append}
-use Rattle.frame_core.proofs.FramesLaws.{frames_in-nil, rest-ends, frames_in-refused}
+use Rattle.frame_core.proofs.FramesLaws.{end_of, cuts_at-push, rest-begins, frames_in-nil, rest-ends, frames_in-refused}
 use Rattle.frame_core.proofs.ReadingLaws.{made, open_failure, eq0-true, eq0-false, is_open, either, take-append-past, reading-first, reading-fits, in_partial, in_whole, in_long, in_over, EndsAt, refused-append, stream-append}
 
 -- further bytes have come, and what they end or break hasn't been settled
@@ -127,6 +127,21 @@ last_frame bytes more start fits e =
     ∙ (sym (drop-drop 4 (length front) (bytes ++ more))
     ∙ ap (drop 4) (ap (drop (length front)) (sym whole) ∙ drop_at front (rest ++ more) (length front) refl))
 
+-- where that frame lies
+last_cut : (bytes more : List ℕ) (cut : Cut) → length bytes ≤ MAX_STREAM → 4 ≤ length ((reading bytes).rest ++ more) → cut.len + 4 ≡ length ((reading bytes).rest ++ more) → cut.start + cut.len ≡ length (bytes ++ more)
+    → cuts_at 0 ((reading bytes).frames ++ drop 4 ((reading bytes).rest ++ more) ∷ []) ≡ cuts_at 0 (reading bytes).frames ++ cut ∷ []
+last_cut bytes more cut fits four len end =
+    let frames = (reading bytes).frames in
+    let rest = (reading bytes).rest in
+    let frame = drop 4 (rest ++ more) in
+    let begins : end_of 0 frames + length rest ≡ 0 + length bytes = subst (λ (r : Reading). end_of 0 r.frames + length r.rest ≡ 0 + length bytes) (sym (reading-fits bytes fits)) (rest-begins MAX_FRAMES 0 bytes) in
+    let start : end_of 0 frames + 4 ≡ cut.start = omega (arith, length-append bytes more, length-append rest more) in
+    let long : length frame ≡ cut.len = omega (arith, length-drop 4 (rest ++ more)) in
+    let last : Cut → List Cut = λ c. cuts_at 0 frames ++ c ∷ [] in
+    cuts_at-push 0 frames frame
+    ∙ (ap (λ (k : ℕ). last (record { start = k; len = length frame })) start
+    ∙ ap (λ (k : ℕ). last (record { start = cut.start; len = k })) long)
+
 pub ends_frame :
     (s mid new : Standing) (bytes more : List ℕ) (cut : Cut) → IsAt s bytes → Comes mid bytes more
     → 4 ≤ mid.within → len_at mid ≤ MAX_LENGTH → mid.within ≡ 4 + len_at mid
@@ -157,6 +172,7 @@ ends_frame s mid new bytes more cut at c four fits there short below place' fram
       },
       record {
         frames = ap (λ (r : Reading). r.frames) e ∙ ap (λ last. frames ++ last ∷ []) (sym frame);
+        cuts = ap (λ (r : Reading). cuts_at 0 r.frames) e ∙ last_cut bytes more cut at.fits (omega arith) (omega arith) (start' ∙ (c.place ∙ sym (length-append bytes more)));
         end = start' ∙ (c.place ∙ sym (length-append bytes more));
         failure = ap (λ (r : Reading). r.failure) e;
       },

@@ -1,6 +1,7 @@
 -- The frames of a stream. A frame is four bytes of length, the highest first, and that many bytes.
 use Rattle.std.specs.Prelude.{ℕ, zero, suc, ◌+◌, ◌-◌, List, [], ◌∷◌, length, take, drop, nat_lt, if◌then◌else◌, Option, Some, None, Result, Ok, Err}
 use Rattle.std.specs.Int.{from_be_bytes, w32}
+use Rattle.frame_core.specs.declared.frame.Cut.{Cut}
 use Rattle.frame_core.specs.declared.frame.FrameNo.{FrameNo}
 use Rattle.frame_core.specs.declared.frame.FrameNo.TheVariants.{Length, Frames, Stream, Inside}
 use Rattle.frame_core.specs.declared.limits.TheConstants.{MAX_LENGTH, MAX_FRAMES, MAX_STREAM}
@@ -59,6 +60,16 @@ reading bytes =
 -- the frames of a stream that are whole, the first in front
 unfoldable pub frames_of : List ℕ → List (List ℕ)
 frames_of bytes = (reading bytes).frames
+
+-- where frames lie of which the first begins at this place: each behind the four bytes of its length
+abbrev pub cuts_at : ℕ → List (List ℕ) → List Cut
+cuts_at place [] = []
+cuts_at place (frame ∷ frames) =
+    record { start = place + 4; len = length frame } ∷ cuts_at (place + 4 + length frame) frames
+
+-- where the frames of a stream lie
+abbrev pub cuts_of : List ℕ → List Cut
+cuts_of bytes = cuts_at 0 (frames_of bytes)
 
 -- why a stream that ends here isn't frames alone
 unfoldable pub failure_of : List ℕ → Option FrameNo

@@ -55,6 +55,8 @@ impl Cutter {
     pub fn feed(&mut self, piece: &[u8], used: usize) -> Result<(usize, Option<Cut>), FrameNo>
         requires { used ≤ length piece.now }
         ensures place { IfOk result (λ r. (used ≤ r.0) × (r.0 ≤ length piece.now)) }
+        ensures moves { IfOk result (λ r. (bytes : List ℕ) → HasRead self.old bytes
+            → used < length piece.now → used < r.0) }
         ensures read { IfOk result (λ r. (bytes : List ℕ) → HasRead self.old bytes
             → HasRead self.new (bytes ++ slice_range piece.now used r.0)) }
         ensures cut { IfOk result (λ r. IfSome r.1 (λ cut. (bytes : List ℕ) → HasRead self.old bytes
@@ -121,13 +123,8 @@ impl Cutter {
         }
         self.within = 0;
         self.frames += 1;
-        Ok((
-            gone,
-            Some(Cut {
-                start: self.place - len,
-                len,
-            }),
-        ))
+        let start = self.place - len;
+        Ok((gone, Some(Cut { start, len })))
     }
 
     // Goes through what has come of the first `end` bytes of the present frame, and says how many
