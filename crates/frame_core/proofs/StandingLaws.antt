@@ -283,10 +283,17 @@ Advances-none s short =
 pub Advances-by : (s new : Standing) (bytes : List ℕ) → new.place ≡ s.place + length bytes → new.frames ≡ s.frames → new.within ≡ s.within + length bytes → new.head ≡ take 4 (s.head ++ bytes) → new.refusal ≡ s.refusal → Advances s bytes new
 Advances-by s new bytes p f w h r = record { place = p; frames = f; within = w; head = h; refusal = r }
 
+reading-nil : reading [] ≡ made [] [] None
+reading-nil = reading-fits [] (omega arith) ∙ frames_in-nil MAX_FRAMES
+
+pub frames_of-nil : frames_of [] ≡ []
+unfolding frames_of
+frames_of-nil = ap (λ (r : Reading). r.frames) reading-nil
+
 -- between frames nothing is kept
 pub IsAt-start : (s : Standing) → s.place ≡ 0 → s.frames ≡ 0 → s.within ≡ 0 → s.head ≡ [] → IsAt s []
 IsAt-start s p f w h =
-    let e : reading [] ≡ made [] [] None = reading-fits [] (omega arith) ∙ frames_in-nil MAX_FRAMES in
+    let e = reading-nil in
     record {
       fits = omega arith;
       place = p;

@@ -38,7 +38,8 @@ impl Model for Cutter {
 impl Cutter {
     /// A cutter at the beginning of a stream.
     pub fn new() -> Cutter
-        ensures { HasRead result [] }
+        ensures read { HasRead result [] }
+        ensures none { frames_of [] ≡ [] }
     {
         Cutter {
             place: 0,

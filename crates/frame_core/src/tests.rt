@@ -1,35 +1,58 @@
 //! Streams in pieces, and the limits.
 
+ghost use Rattle.std.specs.Prelude.{◌≡◌, ℕ, ◌<◌, ◌≤◌, List, ◌++◌, OnOk, IfOk, length, slice_range};
+ghost use Rattle.std.specs.Option.{option_to_list};
+ghost use Rattle.std.specs.List.{flat_map};
+ghost use Rattle.frame_core.specs.Frames.{frames_of, failure_of, cuts_of, count_or};
+ghost use Rattle.frame_core.specs.Standing.{HasRead};
+
 use super::*;
 use std::alloc::{AllocError, Global};
 use std::test::Fail;
 
-// Feeds a piece to its end, and adds the cuts.
-fn cut_piece(cutter: &mut Cutter, piece: &[u8], cuts: &mut Vec<Cut>) -> Result<(), AllocError> {
-    let mut used = 0;
-    for _ in 0..piece.len() {
-        if used < piece.len() {
-            let Ok((place, cut)) = cutter.feed(piece, used) else {
-                return Ok(());
-            };
-            if let Some(cut) = cut {
-                cuts.push(cut)?;
-            }
-            used = place;
-        }
+// Adds a cut, if there is one.
+fn add(cuts: &mut Vec<Cut>, cut: Option<Cut>) -> Result<(), AllocError>
+    ensures { OnOk result (cuts.new.items ≡ cuts.old.items ++ option_to_list cut) }
+{
+    if let Some(cut) = cut {
+        cuts.push(cut)?;
     }
     Ok(())
 }
 
-// The cuts of a stream that comes in these pieces, and how it ends.
-fn cut_all(
-    alloc: Global,
-    pieces: &[&[u8]],
-) -> Result<(Vec<Cut>, Result<u32, FrameNo>), AllocError> {
+// Goes on in a piece, and adds the cut; to its end where the stream is refused.
+fn go_on(
+    cutter: &mut Cutter,
+    cuts: &mut Vec<Cut>,
+    piece: &[u8],
+    used: usize,
+) -> Result<usize, AllocError>
+    requires { used < length piece.now }
+    ensures within { IfOk result (λ place. place ≤ length piece.now) }
+    ensures fed { IfOk result (λ place. (bytes : List ℕ) → HasRead cutter.old bytes
+        → cuts.old.items ≡ cuts_of bytes
+        → (used < place) × HasRead cutter.new (bytes ++ slice_range piece.now used place)
+        × (cuts.new.items ≡ cuts_of (bytes ++ slice_range piece.now used place))) }
+{
+    let (place, cut) = cutter.feed(piece, used).unwrap_or((piece.len(), None));
+    add(cuts, cut)?;
+    Ok(place)
+}
+
+// The cuts of a stream that comes in these pieces, and how it ends: those of all its bytes.
+fn cut_all(alloc: Global, pieces: &[&[u8]]) -> Result<(Vec<Cut>, Result<u32, FrameNo>), AllocError>
+    ensures cuts { IfOk result
+        (λ r. r.0.items ≡ cuts_of (flat_map (λ piece. piece.now) pieces.now)) }
+    ensures end { IfOk result (λ r. let bytes = flat_map (λ piece. piece.now) pieces.now in
+        r.1 ≡ count_or (frames_of bytes) (failure_of bytes)) }
+{
     let mut cutter = Cutter::new();
     let mut cuts = Vec::new(alloc);
-    for piece in pieces {
-        cut_piece(&mut cutter, piece, &mut cuts)?;
+    'pieces: for piece in pieces {
+        let mut used = 0;
+        'within: while used < piece.len() {
+            used = go_on(&mut cutter, &mut cuts, piece, used)?;
+        }
     }
     Ok((cuts, cutter.finish()))
 }
