@@ -31,8 +31,10 @@ go_on-front m b bytes more (Ok len) e behind_it still =
     let r = frames_in m tail in
     let frame = take len (drop 4 (b ∷ bytes)) in
     let less : m - length r.frames ≡ suc m - length (frame ∷ r.frames) = omega arith in
-    ap (λ w. read_on w (b ∷ (bytes ++ more)) (frames_in m)) (whole_frame-whole (MAX_FRAMES - suc m) (b ∷ (bytes ++ more)) len (IsWhole-append (b ∷ bytes) more len whole))
-    ∙ ap (λ front. in_front front (frames_in m (drop (4 + len) (b ∷ (bytes ++ more))))) (frame-append (b ∷ bytes) more len there)
+    ap (λ w. read_on w (b ∷ (bytes ++ more)) (frames_in m))
+    (whole_frame-whole (MAX_FRAMES - suc m) (b ∷ (bytes ++ more)) len (IsWhole-append (b ∷ bytes) more len whole))
+    ∙ ap (λ front. in_front front (frames_in m (drop (4 + len) (b ∷ (bytes ++ more)))))
+    (frame-append (b ∷ bytes) more len there)
     ∙ ap (λ left. in_front frame (frames_in m left)) (drop-append-le (4 + len) (b ∷ bytes) more there)
     ∙ ap (in_front frame) (behind_it tail still)
     ∙ ap (λ k. behind (frame ∷ r.frames) (frames_in k (r.rest ++ more))) less
@@ -51,7 +53,8 @@ frames_in-append (suc m) [] more still =
     let same : suc m ≡ suc m - 0 = omega arith in
     ap (λ k. frames_in k more) same
 frames_in-append (suc m) (b ∷ bytes) more still =
-    go_on-front m b bytes more (whole_frame (MAX_FRAMES - suc m) (b ∷ bytes)) refl (λ tail o. frames_in-append m tail more o) still
+    go_on-front m b bytes more (whole_frame (MAX_FRAMES - suc m) (b ∷ bytes)) refl
+    (λ tail o. frames_in-append m tail more o) still
 
 -- the rest is the end of the bytes
 pub rest-ends : (n : ℕ) (bytes : List ℕ) → (front : List ℕ) × (front ++ (frames_in n bytes).rest ≡ bytes)
@@ -60,11 +63,15 @@ rest-ends zero [] = ([], refl)
 rest-ends zero (b ∷ bytes) = ([], refl)
 rest-ends (suc m) [] = ([], refl)
 rest-ends (suc m) (b ∷ bytes) =
-    elim (whole_frame (MAX_FRAMES - suc m) (b ∷ bytes)) as (λ w. (front : List ℕ) × (front ++ (read_on w (b ∷ bytes) (frames_in m)).rest ≡ b ∷ bytes)) [
+    elim (whole_frame (MAX_FRAMES - suc m) (b ∷ bytes)) as
+    (λ w. (front : List ℕ) × (front ++ (read_on w (b ∷ bytes) (frames_in m)).rest ≡ b ∷ bytes)) [
       | Ok len ↦
           let later = rest-ends m (drop (4 + len) (b ∷ bytes)) in
-          let first = take (4 + len) (b ∷ bytes) in
-          (first ++ later.0, append_assoc first later.0 _ ∙ ap (λ tail. first ++ tail) later.1 ∙ take-append-drop (4 + len) (b ∷ bytes))
+          let first = take (4 + len) (b ∷ bytes) in (
+            first ++ later.0,
+            append_assoc first later.0 _ ∙ ap (λ tail. first ++ tail) later.1
+                ∙ take-append-drop (4 + len) (b ∷ bytes),
+          )
       | Err why ↦ ([], refl)
     ]
 
@@ -73,24 +80,28 @@ unfolding frames_in
 frames_in-nil zero = refl
 frames_in-nil (suc m) = refl
 
-pub frames_in-partial : (m : ℕ) (bytes : List ℕ) → 0 < length bytes → IsPartial bytes → frames_in (suc m) bytes ≡ record { frames = []; rest = bytes; failure = Some (Inside (MAX_FRAMES - suc m)) }
+pub frames_in-partial : (m : ℕ) (bytes : List ℕ) → 0 < length bytes → IsPartial bytes
+    → frames_in (suc m) bytes ≡ record { frames = []; rest = bytes; failure = Some (Inside (MAX_FRAMES - suc m)) }
 unfolding frames_in
 frames_in-partial m [] some part = absurd (omega arith)
 frames_in-partial m (b ∷ bytes) some part =
     ap (λ w. read_on w (b ∷ bytes) (frames_in m)) (whole_frame-partial (MAX_FRAMES - suc m) (b ∷ bytes) part)
 
-pub frames_in-long : (m : ℕ) (bytes : List ℕ) → 4 ≤ length bytes → MAX_LENGTH < length_in bytes → frames_in (suc m) bytes ≡ record { frames = []; rest = bytes; failure = Some (Length (MAX_FRAMES - suc m)) }
+pub frames_in-long : (m : ℕ) (bytes : List ℕ) → 4 ≤ length bytes → MAX_LENGTH < length_in bytes
+    → frames_in (suc m) bytes ≡ record { frames = []; rest = bytes; failure = Some (Length (MAX_FRAMES - suc m)) }
 unfolding frames_in
 frames_in-long m [] there above = absurd (omega arith)
 frames_in-long m (b ∷ bytes) there above =
     ap (λ w. read_on w (b ∷ bytes) (frames_in m)) (whole_frame-long (MAX_FRAMES - suc m) (b ∷ bytes) there above)
 
-pub frames_in-over : (bytes : List ℕ) → 0 < length bytes → frames_in 0 bytes ≡ record { frames = []; rest = bytes; failure = Some Frames }
+pub frames_in-over : (bytes : List ℕ) → 0 < length bytes
+    → frames_in 0 bytes ≡ record { frames = []; rest = bytes; failure = Some Frames }
 unfolding frames_in
 frames_in-over [] some = absurd (omega arith)
 frames_in-over (b ∷ bytes) some = refl
 
-pub frames_in-whole : (m : ℕ) (bytes : List ℕ) → length_in bytes ≤ MAX_LENGTH → length bytes ≡ 4 + length_in bytes → frames_in (suc m) bytes ≡ record { frames = drop 4 bytes ∷ []; rest = []; failure = None }
+pub frames_in-whole : (m : ℕ) (bytes : List ℕ) → length_in bytes ≤ MAX_LENGTH → length bytes ≡ 4 + length_in bytes
+    → frames_in (suc m) bytes ≡ record { frames = drop 4 bytes ∷ []; rest = []; failure = None }
 unfolding frames_in
 frames_in-whole m [] fits there = absurd (omega arith)
 frames_in-whole m (b ∷ bytes) fits there =
@@ -100,7 +111,8 @@ frames_in-whole m (b ∷ bytes) fits there =
     ap (λ w. read_on w all (frames_in m)) (whole_frame-whole (MAX_FRAMES - suc m) all len whole)
     ∙ ap (λ left. in_front (take len (drop 4 all)) (frames_in m left)) (drop_all (4 + len) all (omega arith))
     ∙ ap (in_front (take len (drop 4 all))) (frames_in-nil m)
-    ∙ ap (λ front. in_front front (record { frames = []; rest = []; failure = None })) (take_all len (drop 4 all) (omega (arith, length-drop 4 all)))
+    ∙ ap (λ front. in_front front (record { frames = []; rest = []; failure = None }))
+    (take_all len (drop 4 all) (omega (arith, length-drop 4 all)))
 
 -- these frames are read, and then this is wrong
 pub record FailsAt (frames : List (List ℕ)) (why : FrameNo) (r : Reading) : Type 0 where
@@ -122,8 +134,10 @@ refused-front m b bytes more why (Ok len) e stays refused =
     let tail = drop (4 + len) (b ∷ bytes) in
     let frame = take len (drop 4 (b ∷ bytes)) in
     let on : frames_in (suc m) (b ∷ (bytes ++ more)) ≡ in_front frame (frames_in m (tail ++ more)) =
-    ap (λ w. read_on w (b ∷ (bytes ++ more)) (frames_in m)) (whole_frame-whole (MAX_FRAMES - suc m) (b ∷ (bytes ++ more)) len (IsWhole-append (b ∷ bytes) more len whole))
-    ∙ ap (λ front. in_front front (frames_in m (drop (4 + len) (b ∷ (bytes ++ more))))) (frame-append (b ∷ bytes) more len there)
+    ap (λ w. read_on w (b ∷ (bytes ++ more)) (frames_in m))
+    (whole_frame-whole (MAX_FRAMES - suc m) (b ∷ (bytes ++ more)) len (IsWhole-append (b ∷ bytes) more len whole))
+    ∙ ap (λ front. in_front front (frames_in m (drop (4 + len) (b ∷ (bytes ++ more)))))
+    (frame-append (b ∷ bytes) more len there)
     ∙ ap (λ left. in_front frame (frames_in m left)) (drop-append-le (4 + len) (b ∷ bytes) more there) in
     let later = stays tail refused in
     record {
@@ -135,14 +149,18 @@ refused-front m b bytes more why (Err (Length k)) e stays refused =
     let number = MAX_FRAMES - suc m in
     let long = IsLong-from_err number (b ∷ bytes) k e in
     let there = long.there in
-    let above : MAX_LENGTH < length_in (b ∷ (bytes ++ more)) = subst (λ len. MAX_LENGTH < len) (sym (length_in-append (b ∷ bytes) more there)) long.above in
-    let on = ap (λ w. read_on w (b ∷ (bytes ++ more)) (frames_in m)) (whole_frame-long number (b ∷ (bytes ++ more)) (omega (arith, length-append (b ∷ bytes) more)) above) in
+    let above : MAX_LENGTH < length_in (b ∷ (bytes ++ more)) =
+    subst (λ len. MAX_LENGTH < len) (sym (length_in-append (b ∷ bytes) more there)) long.above in
+    let on = ap (λ w. read_on w (b ∷ (bytes ++ more)) (frames_in m))
+    (whole_frame-long number (b ∷ (bytes ++ more)) (omega (arith, length-append (b ∷ bytes) more)) above) in
     record {
       frames_are = ap (λ (r : Reading). r.frames) on;
       failure_is = ap (λ (r : Reading). r.failure) on ∙ (ap (λ k. Some (Length k)) (sym long.number_is) ∙ refused);
     }
-refused-front m b bytes more why (Err Frames) e stays refused = absurd (whole_frame-not_frames (MAX_FRAMES - suc m) (b ∷ bytes) e)
-refused-front m b bytes more why (Err Stream) e stays refused = absurd (whole_frame-not_stream (MAX_FRAMES - suc m) (b ∷ bytes) e)
+refused-front m b bytes more why (Err Frames) e stays refused =
+    absurd (whole_frame-not_frames (MAX_FRAMES - suc m) (b ∷ bytes) e)
+refused-front m b bytes more why (Err Stream) e stays refused =
+    absurd (whole_frame-not_stream (MAX_FRAMES - suc m) (b ∷ bytes) e)
 
 pub frames_in-refused : (n : ℕ) (bytes more : List ℕ) (why : FrameNo) → Stays n (frames_in n bytes) bytes more why
 unfolding frames_in
@@ -150,23 +168,29 @@ frames_in-refused zero [] more why refused = absurd cc
 frames_in-refused zero (b ∷ bytes) more why refused = record { frames_are = refl; failure_is = refused }
 frames_in-refused (suc m) [] more why refused = absurd cc
 frames_in-refused (suc m) (b ∷ bytes) more why refused =
-    refused-front m b bytes more why (whole_frame (MAX_FRAMES - suc m) (b ∷ bytes)) refl (λ tail r. frames_in-refused m tail more why r) refused
+    refused-front m b bytes more why (whole_frame (MAX_FRAMES - suc m) (b ∷ bytes)) refl
+    (λ tail r. frames_in-refused m tail more why r) refused
 
 -- the place behind frames of which the first begins at a place
 abbrev pub end_of : ℕ → List (List ℕ) → ℕ
 end_of place [] = place
 end_of place (frame ∷ frames) = end_of (place + 4 + length frame) frames
 
-pub cuts_at-push : (place : ℕ) (frames : List (List ℕ)) (frame : List ℕ) → cuts_at place (frames ++ frame ∷ []) ≡ cuts_at place frames ++ record { start = end_of place frames + 4; len = length frame } ∷ []
+pub cuts_at-push : (place : ℕ) (frames : List (List ℕ)) (frame : List ℕ)
+    → cuts_at place (frames ++ frame ∷ []) ≡ cuts_at place frames ++
+    record { start = end_of place frames + 4; len = length frame } ∷ []
 cuts_at-push place [] frame = refl
 cuts_at-push place (first ∷ frames) frame =
-    ap (λ cuts. record { start = place + 4; len = length first } ∷ cuts) (cuts_at-push (place + 4 + length first) frames frame)
+    ap (λ cuts. record { start = place + 4; len = length first } ∷ cuts)
+    (cuts_at-push (place + 4 + length first) frames frame)
 
 rest-begins_front :
     (m place b : ℕ) (bytes : List ℕ) (w : Result ℕ FrameNo)
     → whole_frame (MAX_FRAMES - suc m) (b ∷ bytes) ≡ w
-    → ((later : ℕ) (tail : List ℕ) → end_of later (frames_in m tail).frames + length (frames_in m tail).rest ≡ later + length tail)
-    → end_of place (read_on w (b ∷ bytes) (frames_in m)).frames + length (read_on w (b ∷ bytes) (frames_in m)).rest ≡ place + length (b ∷ bytes)
+    → ((later : ℕ) (tail : List ℕ)
+    → end_of later (frames_in m tail).frames + length (frames_in m tail).rest ≡ later + length tail)
+    → end_of place (read_on w (b ∷ bytes) (frames_in m)).frames + length
+    (read_on w (b ∷ bytes) (frames_in m)).rest ≡ place + length (b ∷ bytes)
 rest-begins_front m place b bytes (Ok len) e alike =
     let whole = IsWhole-from_ok (MAX_FRAMES - suc m) (b ∷ bytes) len e in
     let there = whole.there in
@@ -180,10 +204,12 @@ rest-begins_front m place b bytes (Ok len) e alike =
 rest-begins_front m place b bytes (Err why) e alike = refl
 
 -- the rest begins behind the frames
-pub rest-begins : (n place : ℕ) (bytes : List ℕ) → end_of place (frames_in n bytes).frames + length (frames_in n bytes).rest ≡ place + length bytes
+pub rest-begins : (n place : ℕ) (bytes : List ℕ)
+    → end_of place (frames_in n bytes).frames + length (frames_in n bytes).rest ≡ place + length bytes
 unfolding frames_in
 rest-begins zero place [] = refl
 rest-begins zero place (b ∷ bytes) = refl
 rest-begins (suc m) place [] = refl
 rest-begins (suc m) place (b ∷ bytes) =
-    rest-begins_front m place b bytes (whole_frame (MAX_FRAMES - suc m) (b ∷ bytes)) refl (λ later tail. rest-begins m later tail)
+    rest-begins_front m place b bytes (whole_frame (MAX_FRAMES - suc m) (b ∷ bytes)) refl
+    (λ later tail. rest-begins m later tail)

@@ -31,9 +31,15 @@ whole_frame-whole number bytes len h =
     let there = h.there in
     let fits = h.fits in
     let gives = h.gives in
-    rw (lt-false (length bytes) 4 (omega arith), lt-false MAX_LENGTH (length_in bytes) (omega arith), lt-false (length bytes) (4 + length_in bytes) (omega arith)) (ap Ok gives)
+    rw (
+      lt-false (length bytes) 4 (omega arith),
+      lt-false MAX_LENGTH (length_in bytes) (omega arith),
+      lt-false
+          (length bytes) (4 + length_in bytes) (omega arith),
+    ) (ap Ok gives)
 
-pub whole_frame-partial : (number : ℕ) (bytes : List ℕ) → IsPartial bytes → whole_frame number bytes ≡ Err (Inside number)
+pub whole_frame-partial : (number : ℕ) (bytes : List ℕ) → IsPartial bytes
+    → whole_frame number bytes ≡ Err (Inside number)
 unfolding whole_frame
 whole_frame-partial number bytes h =
     ⊎_elim
@@ -41,10 +47,16 @@ whole_frame-partial number bytes h =
     (λ (long : 4 ≤ length bytes).
     let fits = (h long).0 in
     let part = (h long).1 in
-    rw (lt-false (length bytes) 4 long, lt-false MAX_LENGTH (length_in bytes) fits, lt-true (length bytes) (4 + length_in bytes) part) refl)
+    rw (
+      lt-false (length bytes) 4 long,
+      lt-false MAX_LENGTH (length_in bytes) fits,
+      lt-true (length bytes)
+          (4 + length_in bytes) part,
+    ) refl)
     (cases_lt (length bytes) 4)
 
-pub whole_frame-long : (number : ℕ) (bytes : List ℕ) → 4 ≤ length bytes → MAX_LENGTH < length_in bytes → whole_frame number bytes ≡ Err (Length number)
+pub whole_frame-long : (number : ℕ) (bytes : List ℕ) → 4 ≤ length bytes → MAX_LENGTH < length_in bytes
+    → whole_frame number bytes ≡ Err (Length number)
 unfolding whole_frame
 whole_frame-long number bytes there above =
     rw (lt-false (length bytes) 4 there, lt-true MAX_LENGTH (length_in bytes) above) refl
@@ -68,9 +80,11 @@ IsWhole-append bytes more len h =
     }
 
 -- the frame in front stays when more bytes come
-pub frame-append : (bytes more : List ℕ) (len : ℕ) → 4 + len ≤ length bytes → take len (drop 4 (bytes ++ more)) ≡ take len (drop 4 bytes)
+pub frame-append : (bytes more : List ℕ) (len : ℕ) → 4 + len ≤ length bytes
+    → take len (drop 4 (bytes ++ more)) ≡ take len (drop 4 bytes)
 frame-append bytes more len h =
-    ap (take len) (drop-append-le 4 bytes more (omega arith)) ∙ take-append-le len (drop 4 bytes) more (omega (arith, length-drop 4 bytes))
+    ap (take len) (drop-append-le 4 bytes more (omega arith))
+    ∙ take-append-le len (drop 4 bytes) more (omega (arith, length-drop 4 bytes))
 
 -- these bytes, of a frame of this number, begin with a length above the limit
 pub record IsLong (number : ℕ) (bytes : List ℕ) (k : ℕ) : Type 0 where
@@ -78,7 +92,8 @@ pub record IsLong (number : ℕ) (bytes : List ℕ) (k : ℕ) : Type 0 where
   pub above : MAX_LENGTH < length_in bytes
   pub number_is : k ≡ number
 
-pub IsLong-from_err : (number : ℕ) (bytes : List ℕ) (k : ℕ) → whole_frame number bytes ≡ Err (Length k) → IsLong number bytes k
+pub IsLong-from_err : (number : ℕ) (bytes : List ℕ) (k : ℕ) → whole_frame number bytes ≡ Err (Length k)
+    → IsLong number bytes k
 unfolding whole_frame
 IsLong-from_err number bytes k e =
     record {

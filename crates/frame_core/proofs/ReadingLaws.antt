@@ -29,12 +29,14 @@ eq0-true n h = grind (arith, nat_tests)
 pub eq0-false : (n : ℕ) → 0 < n → (n == 0) ≡ false
 eq0-false n h = grind (arith, nat_tests)
 
-pub take-append-past : (n : ℕ) (bytes more : List ℕ) → length bytes ≤ n → take n (bytes ++ more) ≡ bytes ++ take (n - length bytes) more
+pub take-append-past : (n : ℕ) (bytes more : List ℕ) → length bytes ≤ n
+    → take n (bytes ++ more) ≡ bytes ++ take (n - length bytes) more
 take-append-past n bytes more h =
     let e : n ≡ length bytes + (n - length bytes) = omega arith in
     ap (λ k. take k (bytes ++ more)) e ∙ take-append-add bytes more (n - length bytes)
 
-pub reading-first : (bytes : List ℕ) → reading bytes ≡ either (nat_lt MAX_STREAM (length bytes)) (frames_in MAX_FRAMES (take MAX_STREAM bytes))
+pub reading-first : (bytes : List ℕ)
+    → reading bytes ≡ either (nat_lt MAX_STREAM (length bytes)) (frames_in MAX_FRAMES (take MAX_STREAM bytes))
 unfolding reading
 reading-first bytes = refl
 
@@ -56,12 +58,16 @@ pub is_open : (s : Standing) (bytes : List ℕ) → IsAt s bytes → refusal (re
 is_open s bytes at = ap refusal at.failure ∙ open-refusal (s.within == 0) s.frames
 
 -- further bytes go on where the rest ends
-pub resumed : (s : Standing) (bytes more : List ℕ) → IsAt s bytes → frames_in MAX_FRAMES (bytes ++ more) ≡ behind (reading bytes).frames (frames_in (MAX_FRAMES - s.frames) ((reading bytes).rest ++ more))
+pub resumed : (s : Standing) (bytes more : List ℕ) → IsAt s bytes
+    → frames_in MAX_FRAMES (bytes ++ more) ≡ behind (reading bytes).frames
+    (frames_in (MAX_FRAMES - s.frames) ((reading bytes).rest ++ more))
 resumed s bytes more at =
     let e = reading-fits bytes at.fits in
-    let law = subst (λ (r : Reading). Resumes MAX_FRAMES r bytes more) (sym e) (frames_in-append MAX_FRAMES bytes more) in
+    let law = subst (λ (r : Reading). Resumes MAX_FRAMES r bytes more) (sym e)
+    (frames_in-append MAX_FRAMES bytes more) in
     law (is_open s bytes at)
-    ∙ ap (λ k. behind (reading bytes).frames (frames_in (MAX_FRAMES - k) ((reading bytes).rest ++ more))) (sym at.frames)
+    ∙ ap (λ k. behind (reading bytes).frames (frames_in (MAX_FRAMES - k) ((reading bytes).rest ++ more)))
+    (sym at.frames)
 
 -- one frame more may come
 resumed-next : (s : Standing) (bytes more : List ℕ) (r : Reading) → IsAt s bytes → s.frames < MAX_FRAMES
@@ -80,14 +86,16 @@ pub in_partial :
     (s : Standing) (bytes more : List ℕ) → IsAt s bytes
     → IsPartial ((reading bytes).rest ++ more)
     → (0 < length ((reading bytes).rest ++ more) → s.frames < MAX_FRAMES)
-    → frames_in MAX_FRAMES (bytes ++ more) ≡ made (reading bytes).frames ((reading bytes).rest ++ more) (open_failure (length ((reading bytes).rest ++ more) == 0) s.frames)
+    → frames_in MAX_FRAMES (bytes ++ more) ≡ made (reading bytes).frames ((reading bytes).rest ++ more)
+    (open_failure (length ((reading bytes).rest ++ more) == 0) s.frames)
 in_partial s bytes more at part number =
     let frames = (reading bytes).frames in
     let rest = (reading bytes).rest ++ more in
     ⊎_elim
     (λ (some : 0 < length rest).
     let m = MAX_FRAMES - 1 - s.frames in
-    resumed-next s bytes more (made [] rest (Some (Inside (MAX_FRAMES - suc m)))) at (number some) (frames_in-partial m rest some part)
+    resumed-next s bytes more (made [] rest (Some (Inside (MAX_FRAMES - suc m)))) at (number some)
+    (frames_in-partial m rest some part)
     ∙ ap (λ all. made all rest (Some (Inside (MAX_FRAMES - suc m)))) (append-nil frames)
     ∙ ap (λ k. made frames rest (Some (Inside k))) (number_is s.frames (number some))
     ∙ ap (λ none. made frames rest (open_failure none s.frames)) (sym (eq0-false (length rest) some)))
@@ -106,21 +114,25 @@ pub in_whole :
     (s : Standing) (bytes more : List ℕ) → IsAt s bytes → s.frames < MAX_FRAMES
     → length_in ((reading bytes).rest ++ more) ≤ MAX_LENGTH
     → length ((reading bytes).rest ++ more) ≡ 4 + length_in ((reading bytes).rest ++ more)
-    → frames_in MAX_FRAMES (bytes ++ more) ≡ made ((reading bytes).frames ++ drop 4 ((reading bytes).rest ++ more) ∷ []) [] None
+    → frames_in MAX_FRAMES (bytes ++ more) ≡ made
+    ((reading bytes).frames ++ drop 4 ((reading bytes).rest ++ more) ∷ []) [] None
 in_whole s bytes more at below fits there =
     let rest = (reading bytes).rest ++ more in
-    resumed-next s bytes more (made (drop 4 rest ∷ []) [] None) at below (frames_in-whole (MAX_FRAMES - 1 - s.frames) rest fits there)
+    resumed-next s bytes more (made (drop 4 rest ∷ []) [] None) at below
+    (frames_in-whole (MAX_FRAMES - 1 - s.frames) rest fits there)
 
 pub in_long :
     (s : Standing) (bytes more : List ℕ) → IsAt s bytes → s.frames < MAX_FRAMES
     → 4 ≤ length ((reading bytes).rest ++ more)
     → MAX_LENGTH < length_in ((reading bytes).rest ++ more)
-    → frames_in MAX_FRAMES (bytes ++ more) ≡ made (reading bytes).frames ((reading bytes).rest ++ more) (Some (Length s.frames))
+    → frames_in MAX_FRAMES (bytes ++ more) ≡ made (reading bytes).frames ((reading bytes).rest ++ more)
+    (Some (Length s.frames))
 in_long s bytes more at below there above =
     let frames = (reading bytes).frames in
     let rest = (reading bytes).rest ++ more in
     let m = MAX_FRAMES - 1 - s.frames in
-    resumed-next s bytes more (made [] rest (Some (Length (MAX_FRAMES - suc m)))) at below (frames_in-long m rest there above)
+    resumed-next s bytes more (made [] rest (Some (Length (MAX_FRAMES - suc m)))) at below
+    (frames_in-long m rest there above)
     ∙ ap (λ all. made all rest (Some (Length (MAX_FRAMES - suc m)))) (append-nil frames)
     ∙ ap (λ k. made frames rest (Some (Length k))) (number_is s.frames below)
 
@@ -152,7 +164,8 @@ pub record EndsAt (frames : List (List ℕ)) (why : FrameNo) (r : Reading) : Typ
   pub frames_are : r.frames ≡ frames
   pub refusal_is : refusal r.failure ≡ Some why
 
-either-refused : (over : Bool) (frames : List (List ℕ)) (rest : List ℕ) (why : FrameNo) → overrun (Some why) ≡ why → refusal (Some why) ≡ Some why → EndsAt frames why (either over (made frames rest (Some why)))
+either-refused : (over : Bool) (frames : List (List ℕ)) (rest : List ℕ) (why : FrameNo) → overrun (Some why) ≡ why
+    → refusal (Some why) ≡ Some why → EndsAt frames why (either over (made frames rest (Some why)))
 either-refused true frames rest why o r =
     record { frames_are = refl; refusal_is = ap (λ w. refusal (Some w)) o ∙ r }
 either-refused false frames rest why o r = record { frames_are = refl; refusal_is = r }
@@ -160,12 +173,14 @@ either-refused false frames rest why o r = record { frames_are = refl; refusal_i
 pub refused-append :
     (s : Standing) (bytes more rest : List ℕ) (why : FrameNo) → IsAt s bytes
     → overrun (Some why) ≡ why → refusal (Some why) ≡ Some why
-    → frames_in MAX_FRAMES (bytes ++ take (MAX_STREAM - length bytes) more) ≡ made (reading bytes).frames rest (Some why)
+    → frames_in MAX_FRAMES (bytes ++ take (MAX_STREAM - length bytes) more) ≡ made (reading bytes).frames rest
+    (Some why)
     → EndsAt (reading bytes).frames why (reading (bytes ++ more))
 refused-append s bytes more rest why at o r e =
     let over = nat_lt MAX_STREAM (length (bytes ++ more)) in
     let frames = (reading bytes).frames in
-    subst (EndsAt frames why) (sym (first-append s bytes more (made frames rest (Some why)) at e)) (either-refused over frames rest why o r)
+    subst (EndsAt frames why) (sym (first-append s bytes more (made frames rest (Some why)) at e))
+    (either-refused over frames rest why o r)
 
 pub stream-append :
     (s : Standing) (bytes more : List ℕ) → IsAt s bytes
@@ -183,5 +198,6 @@ stream-append s bytes more at above part number =
     ∙ ap (λ over. either over r) (lt-true MAX_STREAM (length (bytes ++ more)) above) in
     record {
       frames_are = ap (λ (read : Reading). read.frames) e;
-      refusal_is = ap (λ (read : Reading). refusal read.failure) e ∙ ap (λ why. refusal (Some why)) (open-overrun none s.frames);
+      refusal_is = ap (λ (read : Reading). refusal read.failure) e
+          ∙ ap (λ why. refusal (Some why)) (open-overrun none s.frames);
     }

@@ -4,7 +4,7 @@ use Rattle.frame_core.specs.declared.frame.FrameNo.{FrameNo}
 use Rattle.frame_core.specs.declared.frame.Cut.{Cut}
 use Rattle.frame_core.specs.Frames.{frames_of, cuts_of, failure_of, refusal}
 
--- just one frame more is whole, the bytes from the start of the cut to the end, and nothing is behind it
+-- one frame more is whole: the bytes from the start of the cut to the end, with none behind them
 pub record EndsFrame (before after : List ℕ) (cut : Cut) : Type 0 where
   pub frames : frames_of after ≡ frames_of before ++ drop cut.start after ∷ []
   pub cuts : cuts_of after ≡ cuts_of before ++ cut ∷ []

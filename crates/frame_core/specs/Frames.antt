@@ -16,7 +16,7 @@ pub record Reading : Type 0 where
 unfoldable pub length_in : List ℕ → ℕ
 length_in bytes = from_be_bytes w32 (take 4 bytes)
 
--- the length of the frame that these bytes begin with, if it is whole; its number is for the failure
+-- the length of the frame that these bytes begin with, if it is whole, or what is wrong
 unfoldable pub whole_frame : ℕ → List ℕ → Result ℕ FrameNo
 whole_frame number bytes =
     if nat_lt (length bytes) 4
@@ -24,7 +24,10 @@ whole_frame number bytes =
     else (
     if nat_lt MAX_LENGTH (length_in bytes)
     then Err (Length number)
-    else (if nat_lt (length bytes) (4 + length_in bytes) then Err (Inside number) else Ok (length_in bytes)))
+    else (
+    if nat_lt (length bytes) (4 + length_in bytes)
+    then Err (Inside number)
+    else Ok (length_in bytes)))
 
 -- one frame more, in front
 abbrev pub in_front : List ℕ → Reading → Reading
@@ -55,13 +58,15 @@ overrun (Some (Inside number)) = Stream
 unfoldable pub reading : List ℕ → Reading
 reading bytes =
     let first = frames_in MAX_FRAMES (take MAX_STREAM bytes) in
-    if nat_lt MAX_STREAM (length bytes) then record first { failure = Some (overrun first.failure) } else first
+    if nat_lt MAX_STREAM (length bytes)
+    then record first { failure = Some (overrun first.failure) }
+    else first
 
 -- the frames of a stream that are whole, the first in front
 unfoldable pub frames_of : List ℕ → List (List ℕ)
 frames_of bytes = (reading bytes).frames
 
--- where frames lie of which the first begins at this place: each behind the four bytes of its length
+-- where frames lie from this place on, each behind the four bytes of its length
 abbrev pub cuts_at : ℕ → List (List ℕ) → List Cut
 cuts_at place [] = []
 cuts_at place (frame ∷ frames) =

@@ -12,9 +12,10 @@ pub record Standing : Type 0 where
   pub head : List ℕ  -- those of them that give its length
   pub refusal : Option FrameNo
 
--- a frame's beginning: its length has not all come, or is within the limit and more than what has come
+-- a beginning of a frame: its length has not all come, or may be and is more than what has come
 abbrev pub IsPartial : List ℕ → Type 0
-IsPartial bytes = 4 ≤ length bytes → (length_in bytes ≤ MAX_LENGTH) × (length bytes < 4 + length_in bytes)
+IsPartial bytes =
+    4 ≤ length bytes → (length_in bytes ≤ MAX_LENGTH) × (length bytes < 4 + length_in bytes)
 
 -- no refusal came so far, and this is kept
 pub record IsAt (s : Standing) (bytes : List ℕ) : Type 0 where

@@ -1,6 +1,6 @@
 //! A cutter and its calls.
 
-ghost use Rattle.std.specs.Prelude.{◌≡◌, ℕ, ◌+◌, ◌-◌, ◌<◌, ◌≤◌, ◌⊎◌, List, [], ◌++◌, length, drop, take, min, slice_range, Some, IfOk, IfErr, IfSome, IfNone};
+ghost use Rattle.std.specs.Prelude.{◌≡◌, ℕ, ◌+◌, ◌-◌, ◌<◌, ◌≤◌, List, [], ◌++◌, length, drop, take, min, slice_range, Some, IfOk, IfErr, IfSome, IfNone};
 ghost use Rattle.frame_core.specs.Frames.{frames_of, failure_of, refusal, count_or};
 ghost use Rattle.frame_core.specs.Standing.{HasRead, IsAt, Advances, MeetsLimit};
 ghost use Rattle.frame_core.specs.Feeding.{EndsFrame, GoesOn, IsRefused};
@@ -12,12 +12,14 @@ use std::marker::Model;
 /// The bytes that give a frame's length.
 const HEAD: u32 = 4;
 
-/// Cuts a stream into its frames as its bytes come. It stands for the bytes that it has gone through
-/// since it was made, and keeps a few numbers of them.
+/// Cuts a stream into its frames as its bytes come. It stands for the bytes that it has gone
+/// through since it was made, and keeps a few numbers of them.
 #[derive(Debug, Drop)]
 pub struct Cutter {
+    // The bytes gone through, and the frames that have ended.
     place: u32,
     frames: u32,
+    // The bytes of the present frame, those of its length with them, and these.
     within: u32,
     head: [u8; 4],
     refusal: Option<FrameNo>,
@@ -30,9 +32,16 @@ impl Model for Cutter {
 
     ghost Value = { Standing };
 
-    ghost view = { λ c. record { place = c.place; frames = c.frames; within = c.within; head = take c.within c.head; refusal = c.refusal } };
+    ghost view = { λ c. record {
+      place = c.place;
+      frames = c.frames;
+      within = c.within;
+      head = take c.within c.head;
+      refusal = c.refusal;
+    } };
 
-    ghost invariant = { λ c. (c.place ≤ MAX_STREAM) × (c.within ≤ c.place) × (c.frames ≤ MAX_FRAMES) × (0 < c.within → c.frames < MAX_FRAMES) };
+    ghost invariant = { λ c. (c.place ≤ MAX_STREAM) × (c.within ≤ c.place)
+        × (c.frames ≤ MAX_FRAMES) × (0 < c.within → c.frames < MAX_FRAMES) };
 }
 
 impl Cutter {

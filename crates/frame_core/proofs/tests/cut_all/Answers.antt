@@ -2,11 +2,12 @@ use Rattle.std.proofs.Common.{◌≡◌, ℕ, ◌+◌, ◌-◌, ◌≤◌, List,
 use Rattle.std.specs.List.{flat_map}
 use Rattle.frame_core.specs.Frames.{cuts_at, cuts_of}
 use Rattle.frame_core.specs.Standing.{HasRead}
-use Rattle.frame_core.proofs.StandingLaws.{take-split}
+use Rattle.frame_core.proofs.ListLaws.{take-split}
 use Rattle.frame_core.proofs.tests.cut_all.Goals as goal
 
 -- the bytes of a piece up to a place, and on to another
-take-range : (before piece : List ℕ) (used place : ℕ) → used ≤ place → before ++ take used piece ++ slice_range piece used place ≡ before ++ take place piece
+take-range : (before piece : List ℕ) (used place : ℕ) → used ≤ place
+    → before ++ take used piece ++ slice_range piece used place ≡ before ++ take place piece
 take-range before piece used place h =
     let e : used + (place - used) ≡ place = omega arith in
     append_assoc before (take used piece) (take (place - used) (drop used piece))

@@ -25,12 +25,15 @@ returns-clause-ok c =
           let end = c.requires (omega arith) in
           let short : old.within + n ≤ 4 = omega arith in
           advanced old new n bytes c.args.self.now c.self.view_is len
-          (ap (λ (x : Inside). x.place) at) (ap (λ (x : Inside). x.frames) at) (ap (λ (x : Inside). x.within) at) (ap (λ (x : Inside). x.refusal) at)
-          (ap (λ (x : Inside). take (old.within + n) x.head) at ∙ known_more old.within n old.head w.keep.new.head bytes len short w.keep.ensures)
+          (ap (λ (x : Inside). x.place) at) (ap (λ (x : Inside). x.frames) at) (ap (λ (x : Inside). x.within) at)
+          (ap (λ (x : Inside). x.refusal) at)
+          (ap (λ (x : Inside). take (old.within + n) x.head) at
+          ∙ known_more old.within n old.head w.keep.new.head bytes len short w.keep.ensures)
       | else-self-lt-HEAD w ↦
           let at = w.self-inside-is in
           let all = w.if-self-lt-HEAD.false in
           advanced old new n bytes c.args.self.now c.self.view_is len
-          (ap (λ (x : Inside). x.place) at) (ap (λ (x : Inside). x.frames) at) (ap (λ (x : Inside). x.within) at) (ap (λ (x : Inside). x.refusal) at)
+          (ap (λ (x : Inside). x.place) at) (ap (λ (x : Inside). x.frames) at) (ap (λ (x : Inside). x.within) at)
+          (ap (λ (x : Inside). x.refusal) at)
           (ap (λ (x : Inside). take (old.within + n) x.head) at ∙ known_all old.within n old.head bytes c.self.told all)
     ]

@@ -1,11 +1,11 @@
-use Rattle.std.proofs.Common.{◌+◌, ◌-◌, [], ◌++◌, length, refl, sym, ap, ◌∙◌, subst, arith}
+use Rattle.std.proofs.Common.{◌+◌, ◌-◌, [], ◌++◌, refl, sym, ap, subst, arith}
 use Rattle.std.proofs.lemmas.List.{take_all}
 use Rattle.std.proofs.lemmas.Result.{err_from_is_err_and}
 use Rattle.frame_core.specs.declared.frame.FrameNo.TheVariants.{Length}
 use Rattle.frame_core.specs.Standing.{Standing}
 use Rattle.frame_core.specs.Feeding.{GoesOn, IsRefused}
-use Rattle.frame_core.proofs.InsideLaws.{within-is, frames-is, place-is, head-is, len_at-is}
-use Rattle.frame_core.proofs.PhaseLaws.{HasHead, HasMore, refuses_first, goes_first, all_first, refuses_head, refuses_second, goes_second, all_second, ends_second}
+use Rattle.frame_core.proofs.InsideLaws.{within-is, frames-is, place-is}
+use Rattle.frame_core.proofs.PhaseLaws.{HasHead-from, HasMore, refuses_first, goes_first, all_first, refuses_head, refuses_second, goes_second, all_second, ends_second}
 use Rattle.frame_core.proofs.cutter.Cutter.go_through.Goals as goal
 
 pub returns-in_err-head-clause-refused : goal.returns-in_err-head-clause-refused
@@ -20,7 +20,8 @@ returns-then-self-lt-HEAD-clause-read c = λ bytes at.
     let w = within-is c.self.inside mid c.self.view_is in
     let below = c.if-self-lt-HEAD.true in
     let told = c.in_ok-head.ensures in
-    (goes_first c.args.self.now mid bytes c.args.rest.now c.in_ok-head.head at told.ok told.fits told.number (omega arith)).0
+    (goes_first c.args.self.now mid bytes c.args.rest.now c.in_ok-head.head at told.ok told.fits told.number
+    (omega arith)).0
 
 pub returns-then-self-lt-HEAD-clause-no_cut : goal.returns-then-self-lt-HEAD-clause-no_cut
 returns-then-self-lt-HEAD-clause-no_cut c =
@@ -34,7 +35,8 @@ returns-then-self-lt-HEAD-clause-no_cut c =
     let all = all_first s mid rest n told.gone told.ok (omega arith) in (
       all,
       λ bytes at.
-          subst (λ more. GoesOn bytes (bytes ++ more)) (take_all n rest (omega arith)) (goes_first s mid bytes rest n at told.ok told.fits told.number (omega arith)).1,
+          subst (λ more. GoesOn bytes (bytes ++ more)) (take_all n rest (omega arith))
+          (goes_first s mid bytes rest n at told.ok told.fits told.number (omega arith)).1,
     )
 
 pub returns-then-len-gt-MAX_LENGTH-clause-refused :
@@ -44,20 +46,11 @@ returns-then-len-gt-MAX_LENGTH-clause-refused c = λ bytes at.
     let mid = c.go_on.new.self in
     let rest = c.args.rest.now in
     let e = c.self.view_is in
-    let w = within-is c.self.inside mid e in
-    let all = c.if-self-lt-HEAD.false in
     let told = c.in_ok-head.ensures in
-    let known = head-is c.self.inside mid e c.self.told all in
-    let head : HasHead s mid rest c.in_ok-head.head c.from_be_bytes-len.result =
-    record {
-      gone = told.gone;
-      first = told.ok;
-      fits = told.fits;
-      number = told.number;
-      known = ap length known ∙ c.self.told;
-      four = omega arith;
-      gives = len_at-is c.self.inside mid e c.self.told all ∙ sym c.from_be_bytes-len.ensures;
-    } in
+    let head =
+    HasHead-from c.self.inside s mid rest c.in_ok-head.head c.from_be_bytes-len.result e c.self.told
+    c.if-self-lt-HEAD.false
+    c.from_be_bytes-len.ensures told.gone told.ok told.fits told.number in
     subst (λ k. IsRefused bytes (bytes ++ rest) (Length k)) (frames-is c.self.inside mid e)
     (refuses_head s mid bytes rest c.in_ok-head.head c.from_be_bytes-len.result at head c.if-len-gt-MAX_LENGTH.true)
 
@@ -69,21 +62,13 @@ returns-in_err-body-clause-refused c =
     let mid = c.go_on.new.self in
     let rest = c.args.rest.now in
     let e = c.self.view_is in
-    let w = within-is c.self.inside mid e in
-    let all = c.if-self-lt-HEAD.false in
     let told = c.in_ok-head.ensures in
-    let known = head-is c.self.inside mid e c.self.told all in
-    let head : HasHead s mid rest c.in_ok-head.head c.from_be_bytes-len.result =
-    record {
-      gone = told.gone;
-      first = told.ok;
-      fits = told.fits;
-      number = told.number;
-      known = ap length known ∙ c.self.told;
-      four = omega arith;
-      gives = len_at-is c.self.inside mid e c.self.told all ∙ sym c.from_be_bytes-len.ensures;
-    } in
-    rw (p.1, p.2) (λ bytes at. refuses_second s mid bytes rest c.in_ok-head.head c.from_be_bytes-len.result _ at head c.if-len-gt-MAX_LENGTH.false met)
+    let head =
+    HasHead-from c.self.inside s mid rest c.in_ok-head.head c.from_be_bytes-len.result e c.self.told
+    c.if-self-lt-HEAD.false
+    c.from_be_bytes-len.ensures told.gone told.ok told.fits told.number in
+    rw (p.1, p.2) (λ bytes at. refuses_second s mid bytes rest c.in_ok-head.head c.from_be_bytes-len.result _ at
+    head c.if-len-gt-MAX_LENGTH.false met)
 
 pub returns-then-self-len-clause-read : goal.returns-then-self-len-clause-read
 returns-then-self-len-clause-read c = λ bytes at.
@@ -95,22 +80,13 @@ returns-then-self-len-clause-read c = λ bytes at.
     let m = c.in_ok-body.body in
     let len = c.from_be_bytes-len.result in
     let e = c.self.view_is in
-    let w = within-is c.self.inside mid e in
-    let all = c.if-self-lt-HEAD.false in
     let told = c.in_ok-head.ensures in
-    let known = head-is c.self.inside mid e c.self.told all in
-    let head : HasHead s mid rest n len =
-    record {
-      gone = told.gone;
-      first = told.ok;
-      fits = told.fits;
-      number = told.number;
-      known = ap length known ∙ c.self.told;
-      four = omega arith;
-      gives = len_at-is c.self.inside mid e c.self.told all ∙ sym c.from_be_bytes-len.ensures;
-    } in
+    let head =
+    HasHead-from c.self.inside s mid rest n len e c.self.told c.if-self-lt-HEAD.false
+    c.from_be_bytes-len.ensures told.gone told.ok told.fits told.number in
     let later = c.in_ok-body.ensures in
-    let more : HasMore mid new rest n m len = record { gone = later.gone; second = later.ok; fits = later.fits; number = later.number } in
+    let more : HasMore mid new rest n m len =
+    record { gone = later.gone; second = later.ok; fits = later.fits; number = later.number } in
     let below = c.if-self-len.true in
     let w2 = within-is c.self-2.inside new c.self-2.view_is in
     (goes_second s mid new bytes rest n m len at head c.if-len-gt-MAX_LENGTH.false more (omega arith)).0
@@ -125,22 +101,13 @@ returns-then-self-len-clause-no_cut c =
     let m = c.in_ok-body.body in
     let len = c.from_be_bytes-len.result in
     let e = c.self.view_is in
-    let w = within-is c.self.inside mid e in
-    let all = c.if-self-lt-HEAD.false in
     let told = c.in_ok-head.ensures in
-    let known = head-is c.self.inside mid e c.self.told all in
-    let head : HasHead s mid rest n len =
-    record {
-      gone = told.gone;
-      first = told.ok;
-      fits = told.fits;
-      number = told.number;
-      known = ap length known ∙ c.self.told;
-      four = omega arith;
-      gives = len_at-is c.self.inside mid e c.self.told all ∙ sym c.from_be_bytes-len.ensures;
-    } in
+    let head =
+    HasHead-from c.self.inside s mid rest n len e c.self.told c.if-self-lt-HEAD.false
+    c.from_be_bytes-len.ensures told.gone told.ok told.fits told.number in
     let later = c.in_ok-body.ensures in
-    let more : HasMore mid new rest n m len = record { gone = later.gone; second = later.ok; fits = later.fits; number = later.number } in
+    let more : HasMore mid new rest n m len =
+    record { gone = later.gone; second = later.ok; fits = later.fits; number = later.number } in
     let below = c.if-self-len.true in
     let w2 = within-is c.self-2.inside new c.self-2.view_is in
     let whole = all_second s mid new rest n m len head more (omega arith) in (
@@ -160,29 +127,22 @@ returns-clause-read c = λ bytes at.
     let m = c.in_ok-body.body in
     let len = c.from_be_bytes-len.result in
     let e = c.self.view_is in
-    let w = within-is c.self.inside mid e in
-    let all = c.if-self-lt-HEAD.false in
     let told = c.in_ok-head.ensures in
-    let known = head-is c.self.inside mid e c.self.told all in
-    let head : HasHead s mid rest n len =
-    record {
-      gone = told.gone;
-      first = told.ok;
-      fits = told.fits;
-      number = told.number;
-      known = ap length known ∙ c.self.told;
-      four = omega arith;
-      gives = len_at-is c.self.inside mid e c.self.told all ∙ sym c.from_be_bytes-len.ensures;
-    } in
+    let head =
+    HasHead-from c.self.inside s mid rest n len e c.self.told c.if-self-lt-HEAD.false
+    c.from_be_bytes-len.ensures told.gone told.ok told.fits told.number in
     let later = c.in_ok-body.ensures in
-    let more : HasMore mid new rest n m len = record { gone = later.gone; second = later.ok; fits = later.fits; number = later.number } in
+    let more : HasMore mid new rest n m len =
+    record { gone = later.gone; second = later.ok; fits = later.fits; number = later.number } in
     let long = c.if-self-len.false in
     let e2 = c.self-2.view_is in
     let w2 = within-is c.self-2.inside new e2 in
     let p2 = place-is c.self-2.inside new e2 in
     let f2 = frames-is c.self-2.inside new e2 in
     let inside = c.self-2.invariant.1 in
-    (ends_second s mid new _ bytes rest n m len (record { start = c.self-2.inside.place - len; len = len }) at head c.if-len-gt-MAX_LENGTH.false more (omega arith)
+    (ends_second s mid new _ bytes rest n m len
+    (record { start = c.self-2.inside.place - len; len = len }) at head c.if-len-gt-MAX_LENGTH.false more
+    (omega arith)
     (sym p2) (ap (λ k. k + 1) (sym f2)) refl refl refl (omega arith)).0
 
 pub returns-clause-cut : goal.returns-clause-cut
@@ -195,28 +155,26 @@ returns-clause-cut c = λ bytes at.
     let m = c.in_ok-body.body in
     let len = c.from_be_bytes-len.result in
     let e = c.self.view_is in
-    let w = within-is c.self.inside mid e in
-    let all = c.if-self-lt-HEAD.false in
     let told = c.in_ok-head.ensures in
-    let known = head-is c.self.inside mid e c.self.told all in
-    let head : HasHead s mid rest n len =
-    record {
-      gone = told.gone;
-      first = told.ok;
-      fits = told.fits;
-      number = told.number;
-      known = ap length known ∙ c.self.told;
-      four = omega arith;
-      gives = len_at-is c.self.inside mid e c.self.told all ∙ sym c.from_be_bytes-len.ensures;
-    } in
+    let head =
+    HasHead-from c.self.inside s mid rest n len e c.self.told c.if-self-lt-HEAD.false
+    c.from_be_bytes-len.ensures told.gone told.ok told.fits told.number in
     let later = c.in_ok-body.ensures in
-    let more : HasMore mid new rest n m len = record { gone = later.gone; second = later.ok; fits = later.fits; number = later.number } in
+    let more : HasMore mid new rest n m len =
+    record { gone = later.gone; second = later.ok; fits = later.fits; number = later.number } in
     let long = c.if-self-len.false in
     let e2 = c.self-2.view_is in
     let w2 = within-is c.self-2.inside new e2 in
     let p2 = place-is c.self-2.inside new e2 in
     let f2 = frames-is c.self-2.inside new e2 in
     let inside = c.self-2.invariant.1 in
-    let after : Standing = record { place = new.place; frames = new.frames + 1; within = 0; head = []; refusal = new.refusal } in
+    let after : Standing = record {
+      place = new.place;
+      frames = new.frames + 1;
+      within = 0;
+      head = [];
+      refusal =
+          new.refusal;
+    } in
     (ends_second s mid new after bytes rest n m len _ at head c.if-len-gt-MAX_LENGTH.false more (omega arith)
     refl refl refl refl refl (omega arith)).1
