@@ -2,7 +2,7 @@
 
 ghost use Rattle.std.specs.Prelude.{◌≡◌, ◌≤◌, [], map, vec_len, vec_capacity, IfOk, IfErr};
 
-use crate::runner::Runner;
+use crate::runner::{Apart, Runner};
 use pool_law::{Note, RootId};
 use shared_pool::PoolSeat;
 use std::alloc::{AllocError, Global};
@@ -49,7 +49,12 @@ pub fn runners_of(
     for _made in 0..count {
         let seat = seats.remove(0);
         let Room { roots, log } = rooms.remove(0);
-        runners.push_reserved(Runner { seat, roots, log });
+        runners.push_reserved(Runner {
+            seat,
+            roots,
+            log,
+            apart: Apart::new(),
+        });
     }
     Ok((runners, seats))
 }
@@ -65,6 +70,7 @@ pub fn seats_of(mut runners: Vec<Runner>, mut seats: Vec<PoolSeat>) -> Vec<PoolS
             seat,
             roots: _,
             log: _,
+            apart: _,
         } = runners.remove(0);
         seats.push_reserved(seat);
     }
