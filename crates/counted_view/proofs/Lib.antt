@@ -1,0 +1,6 @@
+pub mod RowLaws
+pub mod ClimbLaws
+pub mod LiveLaws
+pub mod TreeLaws
+pub mod SeatLaws
+pub mod NestLaws

@@ -1,0 +1,4 @@
+pub mod Nests
+pub mod Rows
+pub mod Trees
+pub mod NestSeats

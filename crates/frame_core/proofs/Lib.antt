@@ -1,0 +1,11 @@
+pub mod ListLaws
+pub mod FrontLaws
+pub mod FramesLaws
+pub mod ReadingLaws
+pub mod StandingLaws
+pub mod EndLaws
+pub mod RefusalLaws
+pub mod CountLaws
+pub mod InsideLaws
+pub mod PhaseLaws
+pub mod FeedLaws

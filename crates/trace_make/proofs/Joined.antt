@@ -1,0 +1,98 @@
+-- Lists that are joined, and places in them.
+use Rattle.std.proofs.Common.{◌≡◌, ℕ, zero, suc, ◌+◌, ◌<◌, List, [], ◌∷◌, ◌++◌, length, map, take, refl, sym, ◌∙◌, ap, subst, arith, inl, inr, zero-add, append_assoc, append-nil, length-append}
+use Rattle.std.specs.Prelude.{Some, option_map, slice_get, All}
+use Rattle.std.proofs.lemmas.Bool.{cases_lt}
+use Rattle.std.proofs.lemmas.List.{map-append}
+use Rattle.std.proofs.lemmas.List.Elements.{All-nil, All-append, All-push}
+use Rattle.std.proofs.lemmas.Option.{slice_get-map}
+use Rattle.std.proofs.Math.Seq.{take-append-add}
+use Rattle.size_classes.specs.Sizes.{below}
+use Rattle.trace_make.specs.Generated.{joined}
+
+-- ---- Places in lists.
+
+pub slice_get-front : {X : Type 0} (xs ys : List X) (i : ℕ) → i < length xs → slice_get (xs ++ ys) i ≡ slice_get xs i
+slice_get-front [] ys i less = absurd (omega arith)
+slice_get-front (x ∷ xs) ys zero less = refl
+slice_get-front (x ∷ xs) ys (suc i) less = slice_get-front xs ys i (omega arith)
+
+pub slice_get-behind : {X : Type 0} (xs ys : List X) (i : ℕ) → slice_get (xs ++ ys) (length xs + i) ≡ slice_get ys i
+slice_get-behind [] ys i = ap (λ k. slice_get ys k) (zero-add i)
+slice_get-behind (x ∷ xs) ys i =
+    let e : length (x ∷ xs) + i ≡ suc (length xs + i) = omega arith in
+    ap (λ k. slice_get (x ∷ (xs ++ ys)) k) e ∙ slice_get-behind xs ys i
+
+-- a place behind a front of n elements
+pub slice_get-at : {X : Type 0} (all front back : List X) (n r : ℕ) → all ≡ front ++ back → length front ≡ n
+    → slice_get all (n + r) ≡ slice_get back r
+slice_get-at all front back n r is long =
+    ap (λ xs. slice_get xs (n + r)) is
+    ∙ subst (λ (k : ℕ). slice_get (front ++ back) (k + r) ≡ slice_get back r) long (slice_get-behind front back r)
+
+pub take-at : {X : Type 0} (all front back : List X) (n r : ℕ) → all ≡ front ++ back → length front ≡ n
+    → take (n + r) all ≡ front ++ take r back
+take-at all front back n r is long =
+    ap (λ xs. take (n + r) xs) is
+    ∙ subst (λ (k : ℕ). take (k + r) (front ++ back) ≡ front ++ take r back) long (take-append-add front back r)
+
+-- ---- Lists that are joined.
+
+-- list j stands behind those before it, and something behind it
+pub joined-split : {X : Type 0} (list : ℕ → List X) (n j : ℕ) → j < n
+    → (rest : List X) × (joined list n ≡ joined list j ++ (list j ++ rest))
+joined-split list zero j less = absurd (omega arith)
+joined-split list (suc n) j less = elim (cases_lt j n) [
+  | inl before ↦
+      let (rest, is) = joined-split list n j before in (
+        rest ++ list n,
+        ap (λ xs. xs ++ list n) is
+            ∙ (append_assoc (joined list j) (list j ++ rest) (list n)
+            ∙ ap (λ xs. joined list j ++ xs) (append_assoc (list j) rest (list n))),
+      )
+  | inr last ↦
+      let same : n ≡ j = omega arith in (
+        [],
+        subst (λ (k : ℕ). joined list n ++ list n ≡ joined list k ++ (list k ++ [])) same
+            (ap (λ xs. joined list n ++ xs) (sym (append-nil (list n)))),
+      )
+]
+
+pub All-joined : {X : Type 0} (P : X → Type 0) (list : ℕ → List X) (n : ℕ) → ((j : ℕ) → All P (list j))
+    → All P (joined list n)
+All-joined P list zero each = All-nil P
+All-joined P list (suc n) each = All-append P (joined list n) (list n) (All-joined P list n each) (each n)
+
+-- ---- What is given for each number below n.
+
+pub length-below : (n : ℕ) → length (below n) ≡ n
+length-below zero = refl
+length-below (suc n) = let shorter = length-below n in omega (arith, shorter, length-append (below n) (n ∷ []))
+
+pub slice_get-below : (n i : ℕ) → i < n → slice_get (below n) i ≡ Some i
+slice_get-below zero i less = absurd (omega arith)
+slice_get-below (suc n) i less = elim (cases_lt i n) [
+  | inl before ↦
+      let short : i < length (below n) = omega (arith, length-below n) in
+      slice_get-front (below n) (n ∷ []) i short ∙ slice_get-below n i before
+  | inr last ↦
+      let same : n ≡ i = omega arith in
+      let end : length (below n) + 0 ≡ n = omega (arith, length-below n) in
+      subst (λ (k : ℕ). slice_get (below n ++ n ∷ []) k ≡ Some k) same
+      (subst (λ (k : ℕ). slice_get (below n ++ n ∷ []) k ≡ Some n) end (slice_get-behind (below n) (n ∷ []) 0))
+]
+
+pub slice_get-given : {X : Type 0} (f : ℕ → X) (n i : ℕ) → i < n → slice_get (map f (below n)) i ≡ Some (f i)
+slice_get-given f n i less = slice_get-map f (below n) i ∙ ap (option_map f) (slice_get-below n i less)
+
+pub All-given : {X : Type 0} (P : X → Type 0) (f : ℕ → X) (n : ℕ) → ((i : ℕ) → i < n → P (f i))
+    → All P (map f (below n))
+All-given P f zero each = All-nil P
+All-given {X = X} P f (suc n) each =
+    subst (λ (xs : List X). All P xs) (sym (map-append f (below n) (n ∷ [])))
+    (All-push P (map f (below n)) (f n) (All-given P f n (λ i less. each i (omega arith))) (each n (omega arith)))
+
+pub length-given : {X : Type 0} (f : ℕ → X) (n : ℕ) → length (map f (below n)) ≡ n
+length-given f zero = refl
+length-given f (suc n) =
+    let shorter = length-given f n in
+    ap length (map-append f (below n) (n ∷ [])) ∙ omega (arith, shorter, length-append (map f (below n)) (f n ∷ []))
