@@ -96,7 +96,16 @@ module _ (shape : Shape) (root : RootId) where
 freed : (names : Names) (r : Reader (Unit {0})) (log : Log) → (r >> give Reply.Freed >>= (λ reply. give (answer reply names))) log ≡ (r >> give (answer Reply.Freed names)) log
 freed names r log = last (r log)
   where
-    last : (o : Option (Unit {0} × Log)) → option_and_then (λ got. Some (answer got.0 names, got.1)) (option_and_then (λ got. Some (Reply.Freed, got.1)) o) ≡ option_and_then (λ got. Some (answer Reply.Freed names, got.1)) o
+    abbrev then_answer : Reply × Log → Option (Answer × Log)
+    then_answer got = Some (answer got.0 names, got.1)
+
+    abbrev then_freed : Unit {0} × Log → Option (Reply × Log)
+    then_freed got = Some (Reply.Freed, got.1)
+
+    abbrev then_both : Unit {0} × Log → Option (Answer × Log)
+    then_both got = Some (answer Reply.Freed names, got.1)
+
+    last : (o : Option (Unit {0} × Log)) → option_and_then then_answer (option_and_then then_freed o) ≡ option_and_then then_both o
     last None = refl
     last (Some got) = refl
 

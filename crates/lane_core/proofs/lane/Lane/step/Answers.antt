@@ -2,8 +2,8 @@ use Rattle.std.proofs.Common.{◌≡◌, sym, ap, ◌∙◌, subst, Ok}
 use Rattle.pool_law.specs.declared.command.Command.{Command}
 use Rattle.lane_core.specs.declared.desk.Stage.{Stage}
 use Rattle.lane_core.specs.declared.desk.Stage.TheVariants.{Closing}
-use Rattle.lane_core.specs.declared.closing.Closing.TheVariants.{Done}
-use Rattle.pool_law.specs.Lanes.{LaneState}
+use Rattle.lane_core.specs.declared.draining.Draining.TheVariants.{Done}
+use Rattle.pool_law.specs.LaneStates.{LaneState}
 use Rattle.lane_core.specs.Named.{NamesAre}
 use Rattle.lane_core.specs.declared.lane.Stepped.{Stepped}
 use Rattle.lane_core.specs.Desks.{HasTurned, HasRoomFor, left_at}
