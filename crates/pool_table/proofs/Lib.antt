@@ -34,4 +34,5 @@ pub mod LaneCounts
 pub mod Places
 pub mod Presence
 pub mod RootCalls
+pub mod Turns
 mod Trials

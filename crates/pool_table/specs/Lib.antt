@@ -16,5 +16,6 @@ pub mod Opened
 pub mod Homing
 pub mod Closed
 pub mod Holders
+pub mod Turns
 pub mod Dropping
 pub mod LaneLogs

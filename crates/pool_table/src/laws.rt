@@ -9,6 +9,7 @@ ghost use Rattle.pool_table.specs.Holders.{
   TakingsInOneHand,
   TakingsInOneHold,
 };
+ghost use Rattle.pool_table.specs.Turns.{RootsInTurn, WordsTellCounts};
 
 use pool_law::Noted;
 use step_law::Told;
@@ -32,4 +33,17 @@ pub fn takings_have_one_holder<H: Told<Note = Noted>>()
 pub fn roots_have_one_name<H: Told<Note = Noted>>()
     ensures named { (l : Layout) → RootsBornAsNamed H.stands l }
     ensures alone { (l : Layout) → RootsBornAlone H.stands l }
+{}
+
+/// Between any two steps the word of each root place is the generation of the last root there and,
+/// in its raw half, twice all counts and unfetched parcels of that root, with one more while the
+/// place is vacant.
+pub fn words_tell_counts<H: Told<Note = Noted>>()
+    ensures tells { (l : Layout) → WordsTellCounts H.stands l }
+{}
+
+/// Between any two steps the roots of each root place have come in turn: each is born once, then
+/// ends, where nothing counts it any more, then is vacated, and only then the next one is born.
+pub fn roots_come_in_turn<H: Told<Note = Noted>>()
+    ensures in_turn { (l : Layout) → RootsInTurn H.stands l }
 {}

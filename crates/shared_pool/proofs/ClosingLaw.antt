@@ -12,8 +12,9 @@ use Rattle.shared_pool.proofs.ClosingWhole.{histories_hold}
 use Rattle.shared_pool.proofs.ClosingEntries.{entries_hold}
 use Rattle.shared_pool.proofs.ClosingOrder.{order_holds}
 use Rattle.shared_pool.proofs.ClosingBusy.{busy_holds}
-use Rattle.shared_pool.proofs.ClosingLooks.{looks_hold}
+use Rattle.shared_pool.proofs.ClosingLooks.{looks_right}
 use Rattle.shared_pool.proofs.ClosingTotals.{totals_hold}
+use Rattle.shared_pool.proofs.ClosingNames.{named_born}
 
 -- only histories, entries and busy marks need the lanes to be in order, and only totals that no place is in hand
 pub parts-whole : {H : Type 0} (stands : List ℕ → Setting → List Noted → H → Type 0) (l : Layout) (v : SeatView) (homes : List (Option H)) (words : List ℕ) →
@@ -21,8 +22,9 @@ pub parts-whole : {H : Type 0} (stands : List ℕ → Setting → List Noted →
 parts-whole stands l v homes words closed lanes none = record {
   histories = histories_hold stands l v homes words closed lanes;
   entries = entries_hold stands l v homes words closed lanes;
+  born = named_born stands l v homes words closed;
   totals = totals_hold stands l v homes words closed none;
-  looks = looks_hold stands l v homes words closed;
+  looks = looks_right stands l v homes words closed;
   busy = busy_holds stands l v homes words closed lanes;
   order = order_holds stands l v homes words closed;
 }

@@ -1,21 +1,16 @@
--- What the lanes looked up of counts is in its bounds.
+-- What the lanes looked up of counts is right.
 use Rattle.step_law.specs.Settings.{Setting}
-use Rattle.std.proofs.Common.{◌≡◌, ℕ, zero, suc, ◌+◌, ◌-◌, ◌<◌, ◌≤◌, List, [], ◌∷◌, ◌++◌, length, map, Bool, true, false, sym, refl, ap, ◌∙◌, subst, arith, ⊎_elim, eq-eqb, ne_eqb, Some, append_assoc}
-use Rattle.std.specs.Prelude.{◌==◌, ◌&&◌, ◌||◌, if◌then◌else◌, Option, All, IsTrue, sum_by, slice_get}
+use Rattle.std.proofs.Common.{◌≡◌, ℕ, zero, suc, ◌+◌, ◌<◌, ◌≤◌, List, [], ◌∷◌, ◌++◌, length, map, Bool, sym, refl, ap, ◌∙◌, subst, arith, ⊎_elim, eq-eqb, ne_eqb, Some}
+use Rattle.std.specs.Prelude.{◌==◌, if◌then◌else◌, Option, All, sum_by, slice_get}
 use Rattle.std.proofs.lemmas.List.Elements.{All-head, All-weaker}
-use Rattle.std.proofs.lemmas.List.Sums.{sum_by-cons, sum_by_push}
+use Rattle.std.proofs.lemmas.List.Sums.{sum_by-cons}
 use Rattle.pool_law.specs.declared.id.RootId.{RootId}
-use Rattle.pool_law.specs.declared.note.Did.{Did}
-use Rattle.pool_law.specs.declared.note.Did.TheVariants.{Post, Fetch}
-use Rattle.pool_law.specs.declared.note.RefDid.{RefDid}
-use Rattle.pool_law.specs.declared.note.RefDid.TheVariants.{Born, Retain, Kept, Ended, Vacated, Look}
+use Rattle.pool_law.specs.declared.note.RefDid.TheVariants.{Look}
 use Rattle.pool_law.specs.declared.note.Note.{Note}
 use Rattle.pool_law.specs.declared.note.Noted.{Noted}
-use Rattle.pool_law.specs.Same.{same_root}
-use Rattle.pool_law.specs.Logs.{of_lane}
-use Rattle.pool_law.specs.Counts.{view_is_of, root_is, note_gains, note_loses, ref_gains, ref_loses, ref_needs, needs_count, count_step, CountsHold, is_retain, is_release, count_in}
-use Rattle.pool_law.specs.Legal.{LooksHold, LookAt, one_if, others_retains}
-use Rattle.table_law.proofs.Names.{same_root-is}
+use Rattle.pool_law.specs.Logs.{Entry as LawEntry, of_lane}
+use Rattle.pool_law.specs.Counts.{note_gains, note_loses, is_retain, is_release, count_in}
+use Rattle.pool_law.specs.Legal.{others_retains}
 use Rattle.pool_table.specs.declared.views.Entry.{Entry}
 use Rattle.pool_table.specs.declared.views.Entry.TheVariants.{At, Ref, Busy}
 use Rattle.pool_table.specs.declared.views.Layout.{Layout}
@@ -24,92 +19,40 @@ use Rattle.pool_table.specs.declared.views.SeatView.{SeatView}
 use Rattle.pool_table.specs.Views.{parts_of}
 use Rattle.pool_table.specs.Counts.{on_root, at_gain, at_loss, weigh, weigh_in, ref_gain, ref_loss, ref_retain}
 use Rattle.pool_table.specs.Births.{IsBorn, NamesBorn}
-use Rattle.pool_table.specs.Looks.{LooksRight, retains_in}
+use Rattle.pool_table.specs.Looks.{LooksRight as AreRight, retains_in}
 use Rattle.pool_table.specs.Closed.{IsClosed}
 use Rattle.pool_table.proofs.Ledgers.{sum_add}
-use Rattle.pool_table.proofs.Lists.{at_cut}
+use Rattle.pool_table.proofs.Lists.{at_cut, none_cut}
+use Rattle.shared_pool.specs.Looks.{LookRight, LooksRight}
 use Rattle.shared_pool.specs.Closing.{note_of, entry_of, entries_in}
 use Rattle.shared_pool.proofs.ClosingWhole.{at, there_or}
 use Rattle.shared_pool.proofs.ClosingSums.{law, note_is, count_in-is, sums_same, weigh_same, Alone, retains_alike, releases_alike, gains_alike, losses_alike}
 
--- ---- A lane's count.
-
--- an entry adds what its note gains and takes what it loses, where the lane counts the root
-module _ (r : RootId) (k : ℕ) where
-  ref_by : (b : Bool) (d : RefDid) → (((b && ref_needs d) || false) ≡ true → 0 < k) →
-      (if b && ref_gains d then k + 1 else if b && ref_loses d then k - 1 else k) + (if b && ref_loses d then 1 else 0) ≡ k + (if b && ref_gains d then 1 else 0)
-  ref_by false d needs = refl
-  ref_by true Born needs = omega arith
-  ref_by true Retain needs = omega arith
-  ref_by true Kept needs = let a = needs refl in omega (arith, a)
-  ref_by true Ended needs = let a = needs refl in omega (arith, a)
-  ref_by true Vacated needs = refl
-  ref_by true (Look j) needs = refl
-
-  fetch_by : (b : Bool) → (if b then k + 1 else k) + 0 ≡ k + (if b then 1 else 0)
-  fetch_by true = omega arith
-  fetch_by false = refl
-
-  post_by : (b c : Bool) → ((b || c) ≡ true → 0 < k) → (if b then k - 1 else k) + (if b then 1 else 0) ≡ k + 0
-  post_by true c needs = let a = needs refl in omega (arith, a)
-  post_by false c needs = refl
-
-  step_counts : (e : Entry) → (needs_count r (entry_of e) ≡ true → 0 < k) → count_step r k (entry_of e) + law (note_loses r) e ≡ k + law (note_gains r) e
-  step_counts (At o j n) needs = by n.did needs
-    where
-      by : (d : Did) → (needs_count r (record { note = Note.At o j d; root = n.root; region = n.region }) ≡ true → 0 < k) →
-          count_step r k (record { note = Note.At o j d; root = n.root; region = n.region }) + (if note_loses r (Note.At o j d) then 1 else 0) ≡ k + (if note_gains r (Note.At o j d) then 1 else 0)
-      by (Fetch x) needs = fetch_by (view_is_of r x.view)
-      by (Post x) needs = post_by (view_is_of r x.view) (root_is r n.root) needs
-      by d needs = refl
-  step_counts (Ref q d) needs = ref_by (same_root q r) d needs
-  step_counts (Busy b) needs = refl
-
 -- ---- Looks.
 
--- the bounds of a look, by the law's sums over the entries before it
-record Bounds (r : RootId) (before : List Entry) (k others : ℕ) : Type 0 where
-  pub least : sum_by (law (note_gains r)) before ≤ k + sum_by (law (note_loses r)) before
-  pub most : k + sum_by (law (is_release r)) before ≤ 1 + (sum_by (law (is_retain r)) before + others)
-
--- each look of a part is in its bounds
+-- each look of a part is right
 abbrev AllBound : RootId → ℕ → List Entry → Type 0
-AllBound r others own = (before after : List Entry) (k : ℕ) → own ≡ before ++ Ref r (Look k) ∷ after → Bounds r before k others
+AllBound r others own = (before after : List Entry) (k : ℕ) → own ≡ before ++ Ref r (Look k) ∷ after → LookRight r others (map entry_of before) k
 
--- what a lane knows after these entries
-record Reached (r : RootId) (before : List Entry) (retains releases count : ℕ) : Type 0 where
-  pub retained : retains ≡ sum_by (law (is_retain r)) before
-  pub released : releases ≡ sum_by (law (is_release r)) before
-  pub counted : count + sum_by (law (note_loses r)) before ≡ sum_by (law (note_gains r)) before
+-- where a mapped list is cut, the list is cut
+cut_map : {A B : Type 0} (f : A → B) (xs : List A) (before after : List B) (y : B) → map f xs ≡ before ++ y ∷ after →
+    (front : List A) × (x : A) × (back : List A) × (xs ≡ front ++ x ∷ back) × (map f front ≡ before) × (f x ≡ y)
+cut_map f [] before after y is = none_cut before after y is
+cut_map f (x ∷ xs) [] after y is = let e : f x ≡ y = cc is in ([], x, xs, refl, refl, e)
+cut_map {A} f (x ∷ xs) (b ∷ bs) after y is =
+    let e : f x ≡ b = cc is in let g : map f xs ≡ bs ++ y ∷ after = cc is in
+    let c = cut_map f xs bs after y g in (x ∷ c.0, c.1, c.2, ap (λ (zs : List A). x ∷ zs) c.3, (λ i. e i ∷ c.4 i), c.5)
 
-look_at : (r : RootId) (others : ℕ) (own before after : List Entry) (retains releases count : ℕ) (e : Entry) → own ≡ before ++ e ∷ after → Reached r before retains releases count → AllBound r others own →
-    LookAt r retains releases count others (note_of e)
-look_at r others own before after retains releases count (At o k n) is reached all = tt
-look_at r others own before after retains releases count (Busy b) is reached all = tt
-look_at r others own before after retains releases count (Ref q Born) is reached all = tt
-look_at r others own before after retains releases count (Ref q Retain) is reached all = tt
-look_at r others own before after retains releases count (Ref q Kept) is reached all = tt
-look_at r others own before after retains releases count (Ref q Ended) is reached all = tt
-look_at r others own before after retains releases count (Ref q Vacated) is reached all = tt
-look_at r others own before after retains releases count (Ref q (Look k)) is reached all = λ (same : IsTrue (same_root q r)).
-    let b = all before after k (subst (λ (x : RootId). own ≡ before ++ Ref x (Look k) ∷ after) (same_root-is q r same) is) in
-    let x = reached.retained in let y = reached.released in let z = reached.counted in let s = b.least in let t = b.most in
-    record { least = omega (arith, z, s); most = omega (arith, x, y, t) }
+look_is : (r : RootId) (k : ℕ) (e : Entry) → note_of e ≡ Note.Ref r (Look k) → e ≡ Ref r (Look k)
+look_is r k (At o j n) is = absurd (cc is)
+look_is r k (Ref q d) is = let a : q ≡ r = cc is in let b : d ≡ Look k = cc is in λ i. Ref (a i) (b i)
+look_is r k (Busy b) is = absurd (cc is)
 
-looks_from : (r : RootId) (others : ℕ) (own before rest : List Entry) (retains releases count : ℕ) → own ≡ before ++ rest → Reached r before retains releases count → AllBound r others own →
-    CountsHold r count (map entry_of rest) → LooksHold r others retains releases count (map entry_of rest)
-looks_from r others own before [] retains releases count is reached all holds = tt
-looks_from r others own before (e ∷ rest) retains releases count is reached all holds = (
-  subst (LookAt r retains releases count others) (sym (note_is e)) (look_at r others own before rest retains releases count e is reached all),
-  looks_from r others own (before ++ e ∷ []) rest (retains + one_if (is_retain r (entry_of e).note)) (releases + one_if (is_release r (entry_of e).note)) (count_step r count (entry_of e))
-      (is ∙ sym (append_assoc before (e ∷ []) rest))
-      (record {
-        retained = (let a = sum_by_push (law (is_retain r)) before e in let b = ap {B = ℕ} (λ (n : Note). one_if (is_retain r n)) (note_is e) in let c = reached.retained in omega (arith, a, b, c));
-        released = (let a = sum_by_push (law (is_release r)) before e in let b = ap {B = ℕ} (λ (n : Note). one_if (is_release r n)) (note_is e) in let c = reached.released in omega (arith, a, b, c));
-        counted = (let a = sum_by_push (law (note_loses r)) before e in let b = sum_by_push (law (note_gains r)) before e in let c = reached.counted in let d = step_counts r count e holds.0 in omega (arith, a, b, c, d));
-      })
-      all holds.1.1,
-)
+right_in : (r : RootId) (others : ℕ) (own : List Entry) → AllBound r others own → LooksRight r others (map entry_of own)
+right_in r others own all before after e found is note =
+    let c = cut_map entry_of own before after e is in
+    let look = look_is r found c.1 (sym (note_is c.1) ∙ (ap (λ (x : LawEntry). x.note) c.5 ∙ note)) in
+    subst (λ (es : List LawEntry). LookRight r others es found) c.4 (all c.0 c.2 found (subst (λ (x : Entry). own ≡ c.0 ++ x ∷ c.2) look c.3))
 
 -- ---- The retains of others.
 
@@ -150,10 +93,10 @@ entries_past (q ∷ ps) (suc lane) le = entries_past ps lane (let n : ℕ = leng
 
 module _ {H : Type 0} (stands : List ℕ → Setting → List Noted → H → Type 0) (l : Layout) (v : SeatView) (homes : List (Option H)) (words : List ℕ)
     (closed : IsClosed stands l v homes words) where
-  abbrev Names : Part → Type 0
+  abbrev pub Names : Part → Type 0
   Names p = All (NamesBorn (v ∷ [])) p.notes
 
-  names : All Names (parts_of v)
+  pub names : All Names (parts_of v)
   names = All-head (λ (u : SeatView). All Names (parts_of u)) v [] closed.born
 
   -- of a root that was born, no other of its place and generation is named
@@ -166,7 +109,7 @@ module _ {H : Type 0} (stands : List ℕ → Setting → List Noted → H → Ty
       let born : IsBorn (v ∷ []) r = (at_cut (NamesBorn (v ∷ [])) before after (Ref r (Look k)) (subst (All (NamesBorn (v ∷ []))) is (at Names (parts_of v) lane p names there))).0 r refl in
       let one = alone r born in let here : All (Alone r) p.notes = at (λ (q : Part). All (Alone r) q.notes) (parts_of v) lane p one there in
       let front : All (Alone r) before = (at_cut (Alone r) before after (Ref r (Look k)) (subst (All (Alone r)) is here)).1 in
-      let right = at (LooksRight (retains_in (v ∷ []))) (parts_of v) lane p (All-head (λ (u : SeatView). All (LooksRight (retains_in (v ∷ []))) (parts_of u)) v [] closed.looks) there before after r k is in
+      let right = at (AreRight (retains_in (v ∷ []))) (parts_of v) lane p (All-head (λ (u : SeatView). All (AreRight (retains_in (v ∷ []))) (parts_of u)) v [] closed.looks) there before after r k is in
       let pl : ℕ = r.place in let g : ℕ = r.generation in
       let gains = sums_same (law (note_gains r)) (λ (e : Entry). on_root ref_gain pl g e + at_gain pl g e) before (All-weaker (Alone r) _ (gains_alike r) before front) in
       let losses = sums_same (law (note_loses r)) (λ (e : Entry). on_root ref_loss pl g e + at_loss pl g e) before (All-weaker (Alone r) _ (losses_alike r) before front) in
@@ -180,14 +123,15 @@ module _ {H : Type 0} (stands : List ℕ → Setting → List Noted → H → Ty
       let next : 0 + lane ≡ lane = omega arith in
       let others = subst (λ (n : ℕ). others_retains r n 0 (entries_in (parts_of v)) + sum_by (law (is_retain r)) p.notes ≡ weigh_in (law (is_retain r)) (parts_of v)) next (beside r 0 lane (parts_of v) p there) in
       let s = right.least in let t = right.most in
-      record { least = omega (arith, gains, losses, both, both', s); most = omega (arith, released, retained, own, all, views, others, t) }
+      let ga = count_in-is (note_gains r) before in let lo = count_in-is (note_loses r) before in let re = count_in-is (is_release r) before in let ta = count_in-is (is_retain r) before in
+      record { least = omega (arith, ga, lo, gains, losses, both, both', s); most = omega (arith, re, ta, released, retained, own, all, views, others, t) }
 
-  pub looks_hold : (r : RootId) (lane : ℕ) → CountsHold r 0 (of_lane (entries_in (parts_of v)) lane) →
-      LooksHold r (others_retains r lane 0 (entries_in (parts_of v))) 0 0 0 (of_lane (entries_in (parts_of v)) lane)
-  looks_hold r lane holds = ⊎_elim
+  pub looks_right : (r : RootId) (lane : ℕ) → LooksRight r (others_retains r lane 0 (entries_in (parts_of v))) (of_lane (entries_in (parts_of v)) lane)
+  looks_right r lane = ⊎_elim
       (λ (t : (p : Part) × (slice_get (parts_of v) lane ≡ Some p)).
-      let e = entries_at (parts_of v) lane t.0 t.1 in
-      subst (LooksHold r (others_retains r lane 0 (entries_in (parts_of v))) 0 0 0) (sym e)
-      (looks_from r (others_retains r lane 0 (entries_in (parts_of v))) t.0.notes [] t.0.notes 0 0 0 refl (record { retained = refl; released = refl; counted = refl }) (all_bound r lane t.0 t.1) (subst (CountsHold r 0) e holds)))
-      (λ (past : length (parts_of v) ≤ lane). subst (LooksHold r (others_retains r lane 0 (entries_in (parts_of v))) 0 0 0) (sym (entries_past (parts_of v) lane past)) tt)
+      subst (LooksRight r (others_retains r lane 0 (entries_in (parts_of v)))) (sym (entries_at (parts_of v) lane t.0 t.1))
+      (right_in r (others_retains r lane 0 (entries_in (parts_of v))) t.0.notes (all_bound r lane t.0 t.1)))
+      (λ (past : length (parts_of v) ≤ lane).
+      subst (LooksRight r (others_retains r lane 0 (entries_in (parts_of v)))) (sym (entries_past (parts_of v) lane past))
+      (λ before after e found is note. none_cut before after e is))
       (there_or (parts_of v) lane)

@@ -23,8 +23,10 @@ pub mod ClosingOrder
 pub mod ClosingBusy
 pub mod ClosingSums
 pub mod ClosingLooks
+pub mod LooksHeld
 pub mod ClosingBirths
 pub mod ClosingTotals
+pub mod ClosingNames
 pub mod ClosingLaw
 pub mod PlaceBirths
 pub mod PlaceCalls

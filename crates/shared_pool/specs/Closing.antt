@@ -7,14 +7,15 @@ use Rattle.pool_law.specs.declared.note.Note.{Note}
 use Rattle.pool_law.specs.declared.run.Shape.{Shape}
 use Rattle.pool_law.specs.NotedHistories.{entry_of_noted}
 use Rattle.pool_law.specs.Logs.{Logs, Entry, of_lane, history_of, entries_of}
-use Rattle.pool_law.specs.Counts.{CountsHold, TotalHolds, count_over, is_birth}
+use Rattle.pool_law.specs.Counts.{TotalHolds, count_over, names_root, is_birth}
 use Rattle.pool_law.specs.Busy.{BusyHolds}
-use Rattle.pool_law.specs.Legal.{HistoriesHold, LooksHold, others_retains}
+use Rattle.pool_law.specs.Legal.{HistoriesHold, others_retains}
 use Rattle.pool_table.specs.declared.views.Entry.{Entry as SeatEntry}
 use Rattle.pool_table.specs.declared.views.Entry.TheVariants.{At, Ref, Busy}
 use Rattle.pool_table.specs.declared.views.Part.{Part}
 use Rattle.pool_table.specs.declared.views.SeatView.{SeatView}
 use Rattle.pool_table.specs.Hands.{InHand}
+use Rattle.shared_pool.specs.Looks.{LooksRight}
 
 -- an entry of a part as a note of a log, and as an entry that knows its root and region
 abbrev pub note_of : SeatEntry → Note
@@ -55,16 +56,17 @@ pub record AreLanes (shape : Shape) (parts : List Part) : Type 0 where
 abbrev pub HasNoPlace : SeatView → Type 0
 HasNoPlace v = (place : ℕ) → InHand place v → ⊥
 
--- the logs are whole, and what the law says of logs alone holds. What a lane looked up is in its
--- bounds where the lane's own count of the root holds.
+-- the logs are whole, and what the law says of logs alone holds. What a lane looked up is right
+-- whether or not the lane's own counts hold.
 pub record AreWhole (shape : Shape) (parts : List Part) : Type 0 where
   pub histories : HistoriesHold shape (logs_in parts)
   pub entries : entries_of (logs_in parts) ≡ entries_in parts
+  pub born : (root : RootId) → 0 < count_over (names_root root) (entries_in parts) →
+      0 < count_over (is_birth root) (entries_in parts)
   pub totals : (root : RootId) → 0 < count_over (is_birth root) (entries_in parts) →
       TotalHolds root (entries_in parts)
   pub looks : (root : RootId) (lane : ℕ) →
-      CountsHold root 0 (of_lane (entries_in parts) lane) →
-      LooksHold root (others_retains root lane 0 (entries_in parts)) 0 0 0
+      LooksRight root (others_retains root lane 0 (entries_in parts))
       (of_lane (entries_in parts) lane)
   pub busy : (lane : ℕ) →
       BusyHolds lane (λ object. history_of object (logs_in parts)) (of_lane (logs_in parts) lane)

@@ -12,6 +12,7 @@ pub mod CacheAnswers
 pub mod MailAnswers
 pub mod Holding
 pub mod RootNotes
+pub mod Looks
 pub mod Closing
 pub mod Live
 pub mod Seated

@@ -11,8 +11,8 @@ ghost use Rattle.shared_pool.specs.Closing.{AreLanes, AreWhole, HasNoPlace};
 
 /// Once the table is closed with the seat that has the parts of all lanes, in order, and no root
 /// place in hand, its parts are whole logs: each object's history is in them, with what their
-/// entries know of it, and the sentences on totals, busy marks and the order of notes hold, as
-/// does that on looks for each lane whose own counts hold.
+/// entries know of it, each root that they name was born, what was looked up of a count is right,
+/// and the sentences on totals, busy marks and the order of notes hold.
 pub fn parts_are_whole_logs()
     ensures whole { (l : Layout) (v : SeatView) (homes : List (Option Home)) (words : List ℕ) →
         IsClosed HomeStands l v homes words →
