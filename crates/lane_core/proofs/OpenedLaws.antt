@@ -215,7 +215,7 @@ module _ (pool : SharedPool) (shape : Shape) (l : Lane) (p : Parts)
     room =
         (let no_notes = ap length first.notes in let is = left_is in let few = bound_few in
         let capacity = parts.notes.1 in let turns = first.turns in let moves = first.moves in
-        let rest_moves = (rest_ready l.commands v).2.0 in
+        let rest_moves = (rest_ready l.commands v).2 in
         record {
           notes = omega (arith, no_notes, is, capacity);
           few = omega (arith, no_notes, is, few);
@@ -223,7 +223,7 @@ module _ (pool : SharedPool) (shape : Shape) (l : Lane) (p : Parts)
           moves = omega (arith, moves, rest_moves);
           mails =
               λ to lt. IfSome_then (view_of l.desk.seat).setting (first.mails to lt)
-              (λ setting mail. (mail.0, mail.1, (let none = ap (posts (lane_of l.desk.seat) to) first.notes in let enough = mail.2 in let rest_sends = (rest_ready l.commands v).2.1 to in omega (arith, none, enough, rest_sends))));
+              (λ setting mail. (mail.0, mail.1, (let none = ap (posts (lane_of l.desk.seat) to) first.notes in let enough = mail.2 in let rest_sends = (rest_ready l.commands v).3 to in omega (arith, none, enough, rest_sends))));
         })
 
     pub IsLane-first : IsLane pool new

@@ -47,7 +47,7 @@ pieces-length (n ∷ ns) xs = let a = pieces-length ns (drop n xs) in omega (ari
 never-stopped : (lane n : ℕ) (cs : List Command) (gs : List Entries) (rs : List Reply) → length cs ≤ n → length gs ≤ n → length rs ≤ n →
     stopped_run lane (drop n cs) (drop n gs) ≡ Some (drop n rs)
 never-stopped lane n cs gs rs a b c =
-    (λ i. stopped_run lane (drop_whole n cs a i) (drop_whole n gs b i)) ∙ ap (λ xs. Some xs) (sym (drop_whole n rs c))
+    (λ i. stopped_run lane (drop_whole n cs a i) (drop_whole n gs b i)) ∙ ap (λ (xs : List Reply). Some xs) (sym (drop_whole n rs c))
 
 -- none of its commands is left
 no-more : (n : ℕ) (cs : List Command) → drop n cs ≡ [] → length cs ≤ n
