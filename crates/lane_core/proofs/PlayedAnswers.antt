@@ -25,18 +25,19 @@ use Rattle.lane_core.proofs.LaneLogs.{take_whole, drop_whole}
 use Rattle.lane_core.proofs.LaneTurns.{close_had}
 use Rattle.lane_core.proofs.PlayedLists.{take-all, pieces-within, behind-is, length-map}
 
+-- what is read to its end
+abbrev to_end : Unit {0} × Log → Option (Unit {0} × Log)
+to_end p = option_and_then {U = Unit {0} × Log} (λ (q : Unit {0} × Log). Some (p.0, q.1)) (ended_with p.1 p.1.left)
+
+abbrev ended : Option (Unit {0} × Log) → Option (Unit {0})
+ended o = option_map (λ got. tt) (option_and_then to_end o)
+
 -- the closing of a lane is read to its end
 closes-whole : (pool : SharedPool) (l : Lane) → IsLane pool l → l.stage ≡ Closing Done → closes (number_of l) (entries_since l) ≡ Some tt
 closes-whole pool l lane done =
     let es = entries_since l in
     let had : ReadsOn (closing (number_of l)) es none_asked (draining.rest_of Close (number_of l) Done) = close_had pool l lane Done done in
     ap ended (ap (λ (xs : Entries). closing (number_of l) (log_at new_lane xs)) (sym (append-nil es)) ∙ had (log_at new_lane []))
-  where
-    abbrev to_end : Unit {0} × Log → Option (Unit {0} × Log)
-    to_end p = option_and_then {U = Unit {0} × Log} (λ (q : Unit {0} × Log). Some (p.0, q.1)) (ended_with p.1 p.1.left)
-
-    abbrev ended : Option (Unit {0} × Log) → Option (Unit {0})
-    ended o = option_map (λ got. tt) (option_and_then to_end o)
 
 -- as many pieces are cut as there are numbers
 pieces-length : {X : Type 0} (ns : List ℕ) (xs : List X) → length (pieces ns xs) ≡ length ns
@@ -53,54 +54,54 @@ never-stopped lane n cs gs rs a b c =
 no-more : (n : ℕ) (cs : List Command) → drop n cs ≡ [] → length cs ≤ n
 no-more n cs e = let a : length (drop n cs) ≡ 0 = ap length e in let b = length-drop n cs in omega (arith, a, b)
 
-pub lane-log : (pool : SharedPool) (k : ℕ) (l : Lane) → IsFinishedLane pool k l → IsLaneLog l.desk.shape k l.commands l.desk.replies.items (entries_of l.desk)
-lane-log pool k l f =
-    subst (λ n. IsLaneLog l.desk.shape n l.commands l.desk.replies.items (entries_of l.desk)) f.number_is own_log
-  where
-    abbrev rs : List Answered
-    rs = l.desk.replies.items
+module _ (pool : SharedPool) (k : ℕ) (l : Lane) (f : IsFinishedLane pool k l) where
+  abbrev rs : List Answered
+  rs = l.desk.replies.items
 
-    abbrev counts : List ℕ
-    counts = note_counts rs
+  abbrev counts : List ℕ
+  counts = note_counts rs
 
-    abbrev es : Entries
-    es = entries_of l.desk
+  abbrev es : Entries
+  es = entries_of l.desk
 
-    counted : sum counts ≡ l.desk.begun
-    counted = f.lane.answered.counted
+  counted : sum counts ≡ l.desk.begun
+  counted = f.lane.answered.counted
 
-    none : drop (length rs) l.commands ≡ []
-    none = f.lane.all_answered (subst IsClosing (sym f.finished) tt)
+  none : drop (length rs) l.commands ≡ []
+  none = f.lane.all_answered (subst IsClosing (sym f.finished) tt)
 
-    all : take (length rs) l.commands ≡ l.commands
-    all = take-all (length rs) l.commands none
+  all : take (length rs) l.commands ≡ l.commands
+  all = take-all (length rs) l.commands none
 
-    cut : pieces counts (take l.desk.begun es) ≡ pieces counts es
-    cut = ap (λ n. pieces counts (take n es)) (sym counted) ∙ pieces-within counts es
+  cut : pieces counts (take l.desk.begun es) ≡ pieces counts es
+  cut = ap (λ n. pieces counts (take n es)) (sym counted) ∙ pieces-within counts es
 
-    -- none of its replies says that it was stopped
-    reply_count : length (replies_in rs) ≡ length rs
-    reply_count = length-map (λ (a : Answered). a.reply) rs
+  -- none of its replies says that it was stopped
+  reply_count : length (replies_in rs) ≡ length rs
+  reply_count = length-map (λ (a : Answered). a.reply) rs
 
-    group_count : length (pieces counts es) ≡ length rs
-    group_count = pieces-length counts es ∙ length-map (λ (a : Answered). a.notes) rs
+  group_count : length (pieces counts es) ≡ length rs
+  group_count = pieces-length counts es ∙ length-map (λ (a : Answered). a.notes) rs
 
-    own_log : IsLaneLog l.desk.shape (number_of l) l.commands rs es
-    own_log =
-        let unstopped = f.lane.answered.unstopped in let few = no-more (length rs) l.commands none in
-        let count = reply_count in let groups = group_count in
-        record {
-          counted = (let a = counted in let b = f.lane.desk.begun in let c = length-map entry_of (notes_of l.desk) in omega (arith, a, b, c));
-          last = f.lane.state;
-          answered =
-              subst (λ (n : ℕ). lane_run sweep_period l.desk.shape (number_of l) new_lane (take n l.commands) (take n (pieces counts es)) ≡ Some (take n (replies_in rs), f.lane.state)) (sym unstopped)
-              ((λ i. lane_run sweep_period l.desk.shape (number_of l) new_lane (take (length rs) l.commands) ((take_whole (length rs) (pieces counts es) (omega (arith, groups)) ∙ sym cut) i))
-              ∙ f.lane.answered.run
-              ∙ ap (λ (xs : List Reply). Some (xs, f.lane.state)) (sym (take_whole (length rs) (replies_in rs) (omega (arith, count)))));
-          stopped =
-              subst (λ (n : ℕ). stopped_run (number_of l) (drop n l.commands) (drop n (pieces counts es)) ≡ Some (drop n (replies_in rs))) (sym unstopped)
-              (never-stopped (number_of l) (length rs) l.commands (pieces counts es) (replies_in rs) few (omega (arith, groups)) (omega (arith, count)));
-          closed =
-              ap (closes (number_of l)) (behind-is counts es ∙ ap (λ n. drop n es) counted)
-              ∙ closes-whole pool l f.lane f.finished;
-        }
+  own_log : IsLaneLog l.desk.shape (number_of l) l.commands rs es
+  own_log =
+      let unstopped = f.lane.answered.unstopped in let few = no-more (length rs) l.commands none in
+      let count = reply_count in let groups = group_count in
+      record {
+        counted = (let a = counted in let b = f.lane.desk.begun in let c = length-map entry_of (notes_of l.desk) in omega (arith, a, b, c));
+        last = f.lane.state;
+        answered =
+            subst (λ (n : ℕ). lane_run sweep_period l.desk.shape (number_of l) new_lane (take n l.commands) (take n (pieces counts es)) ≡ Some (take n (replies_in rs), f.lane.state)) (sym unstopped)
+            ((λ i. lane_run sweep_period l.desk.shape (number_of l) new_lane (take (length rs) l.commands) ((take_whole (length rs) (pieces counts es) (omega (arith, groups)) ∙ sym cut) i))
+            ∙ f.lane.answered.run
+            ∙ ap (λ (xs : List Reply). Some (xs, f.lane.state)) (sym (take_whole (length rs) (replies_in rs) (omega (arith, count)))));
+        stopped =
+            subst (λ (n : ℕ). stopped_run (number_of l) (drop n l.commands) (drop n (pieces counts es)) ≡ Some (drop n (replies_in rs))) (sym unstopped)
+            (never-stopped (number_of l) (length rs) l.commands (pieces counts es) (replies_in rs) few (omega (arith, groups)) (omega (arith, count)));
+        closed =
+            ap (closes (number_of l)) (behind-is counts es ∙ ap (λ n. drop n es) counted)
+            ∙ closes-whole pool l f.lane f.finished;
+      }
+
+  pub lane-log : IsLaneLog l.desk.shape k l.commands l.desk.replies.items (entries_of l.desk)
+  lane-log = subst (λ n. IsLaneLog l.desk.shape n l.commands l.desk.replies.items (entries_of l.desk)) f.number_is own_log
