@@ -1,5 +1,5 @@
 -- The log of a lane that has finished is its commands' and the closing's.
-use Rattle.std.proofs.Common.{◌≡◌, ℕ, ◌-◌, ◌≤◌, List, [], ◌++◌, length, map, take, drop, refl, sym, ap, subst, arith, Some, ◌∙◌}
+use Rattle.std.proofs.Common.{◌≡◌, ℕ, ◌-◌, ◌≤◌, List, [], ◌∷◌, ◌++◌, length, map, take, drop, refl, sym, ap, subst, arith, Some, ◌∙◌}
 use Rattle.std.specs.Prelude.{sum, Option, option_map, option_and_then}
 use Rattle.std.proofs.lemmas.List.{length-drop}
 use Rattle.pool_law.specs.declared.command.Command.{Command}
