@@ -43,20 +43,31 @@ module _ (root : RootId) (offset : ℕ) (names : Names) where
   abbrev part : ℕ → List Part
   part len = record { root = root; offset = offset; len = len } ∷ []
 
+  abbrev then_ok : Unit {0} × Log → Option (Answer × Log)
+  then_ok got = Some (answer Reply.Ok names, got.1)
+
+  abbrev then_none : Unit {0} × Log → Option (Unit {0} × Log)
+  then_none got = Some (tt, got.1)
+
+  abbrev then_bytes : List ℕ × Log → Option (Answer × Log)
+  then_bytes got = Some (answer (Reply.OkBytes got.0) names, got.1)
+
+  abbrev then_rest : List ℕ × Log → Option (List ℕ × Log)
+  then_rest got = Some (got.0 ++ [], got.1)
+
   one_set : (bytes : List ℕ) (log : Log) → (set_parts (part (length bytes)) bytes >> give (answer Reply.Ok names)) log ≡ set_with root offset bytes names log
   one_set bytes log =
       ap (λ (xs : List ℕ). (access root (says.set offset xs) >> nothing >> give (answer Reply.Ok names)) log) (take_whole (length bytes) bytes (omega arith))
       ∙ last (access root (says.set offset bytes) log)
     where
-      last : (o : Option (Unit {0} × Log)) → option_and_then (λ got. Some (answer Reply.Ok names, got.1)) (option_and_then (λ got. Some (tt, got.1)) o) ≡ option_and_then (λ got. Some (answer Reply.Ok names, got.1)) o
+      last : (o : Option (Unit {0} × Log)) → option_and_then then_ok (option_and_then then_none o) ≡ option_and_then then_ok o
       last None = refl
       last (Some got) = refl
 
   one_get : (len : ℕ) (log : Log) → (get_parts (part len) >>= (λ bytes. give (answer (Reply.OkBytes bytes) names))) log ≡ get_with root offset len names log
   one_get len log = last (access root (says.get offset len) log)
     where
-      last : (o : Option (List ℕ × Log)) →
-          option_and_then (λ got. Some (answer (Reply.OkBytes got.0) names, got.1)) (option_and_then (λ got. Some (got.0 ++ [], got.1)) o) ≡ option_and_then (λ got. Some (answer (Reply.OkBytes got.0) names, got.1)) o
+      last : (o : Option (List ℕ × Log)) → option_and_then then_bytes (option_and_then then_rest o) ≡ option_and_then then_bytes o
       last None = refl
       last (Some got) = ap (λ (xs : List ℕ). Some (answer (Reply.OkBytes xs) names, got.1)) (append-nil got.0)
 

@@ -92,11 +92,20 @@ module _ (shape : Shape) (root : RootId) where
       (λ log. none_then (step root says.count_kept) (λ _. give Reply.Kept) (before_left log (e ∷ [])) (step_off e root says.count_kept Ended refl refl log))
       (then_on (end_of shape root) (e ∷ []) none_asked (λ _. give Reply.Freed) (retired shape root) (given_on (step root says.ended) (e ∷ []) none_asked (λ _. retired shape root) tt (step_on e root says.ended Ended refl tt refl)))
 
+abbrev then_answer : Names → Reply × Log → Option (Answer × Log)
+then_answer names got = Some (answer got.0 names, got.1)
+
+abbrev then_freed : Unit {0} × Log → Option (Reply × Log)
+then_freed got = Some (Reply.Freed, got.1)
+
+abbrev then_both : Names → Unit {0} × Log → Option (Answer × Log)
+then_both names got = Some (answer Reply.Freed names, got.1)
+
 -- the end of a root, and its answer
 freed : (names : Names) (r : Reader (Unit {0})) (log : Log) → (r >> give Reply.Freed >>= (λ reply. give (answer reply names))) log ≡ (r >> give (answer Reply.Freed names)) log
 freed names r log = last (r log)
   where
-    last : (o : Option (Unit {0} × Log)) → option_and_then (λ got. Some (answer got.0 names, got.1)) (option_and_then (λ got. Some (Reply.Freed, got.1)) o) ≡ option_and_then (λ got. Some (answer Reply.Freed names, got.1)) o
+    last : (o : Option (Unit {0} × Log)) → option_and_then (then_answer names) (option_and_then then_freed o) ≡ option_and_then (then_both names) o
     last None = refl
     last (Some got) = refl
 

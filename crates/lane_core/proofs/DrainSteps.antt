@@ -29,8 +29,8 @@ use Rattle.shared_pool.specs.Notes.{plain}
 use Rattle.shared_pool.specs.SeatLanes.{lane_of}
 use Rattle.shared_pool.specs.Seats.{IsPoolSeat, IsNoted, FoundBusy}
 use Rattle.lane_core.specs.Logs.{HasWritten}
-use Rattle.lane_core.specs.declared.draining.Drain.{Drain}
-use Rattle.lane_core.specs.declared.draining.Drain.TheVariants.{Trim, Close}
+use Rattle.lane_core.specs.declared.draining.DrainKind.{DrainKind}
+use Rattle.lane_core.specs.declared.draining.DrainKind.TheVariants.{Trim, Close}
 use Rattle.lane_core.specs.declared.draining.Draining.{Draining}
 use Rattle.lane_core.specs.declared.draining.Draining.TheVariants.{Ask, Shed, Give, Done}
 use Rattle.lane_core.specs.declared.draining.Drains.TheVariants.{More, Held as HeldBack}
@@ -66,20 +66,22 @@ drain_left pool seat (Give class left region) fits more =
 drain_left pool seat Done fits more = absurd (more refl)
 
 -- what is known of the note of a cache that was asked
-record IsQuota (kind : Drain) (lane class number quota : ℕ) (own : Option ℕ) (e : Entry) : Type 0 where
+record IsQuota (kind : DrainKind) (lane class number quota : ℕ) (own : Option ℕ) (e : Entry) : Type 0 where
   still : IsStill (note_of e)
   sampled : (s : Sampling) → AreSampled s (e ∷ []) s
   takes_none : sum_by takes (e ∷ []) ≡ 0
   class_none : (c : ℕ) → sum_by (takes_of c) (e ∷ []) ≡ 0
+  gives_none : (from c : ℕ) → sum_by (gives_of from c) (e ∷ []) ≡ 0
   posts_none : (from to : ℕ) → posts from to (e ∷ []) ≡ 0
   carries : Carries lane (hand_of kind (Ask class)) (hand_of kind (Shed class quota)) (e ∷ [])
 
-is_quota : (kind : Drain) (lane class number quota : ℕ) (own : Option ℕ) → IsQuota kind lane class number quota own (At (Cache lane class) number (noted_by own (plain (quota_note kind quota))))
+is_quota : (kind : DrainKind) (lane class number quota : ℕ) (own : Option ℕ) → IsQuota kind lane class number quota own (At (Cache lane class) number (noted_by own (plain (quota_note kind quota))))
 is_quota Trim lane class number quota own = record {
   still = record { gains = λ q. refl; loses = λ q. refl; needs = λ q. refl; ends = λ q. refl };
   sampled = λ s. (tt, refl);
   takes_none = refl;
   class_none = λ c. refl;
+  gives_none = λ giver c. refl;
   posts_none = λ sender to. refl;
   carries = cache_trimmed lane number own empty_hand class quota;
 }
@@ -88,17 +90,18 @@ is_quota Close lane class number quota own = record {
   sampled = λ s. (tt, refl);
   takes_none = refl;
   class_none = λ c. refl;
+  gives_none = λ giver c. refl;
   posts_none = λ sender to. refl;
   carries = cache_closed lane number own empty_hand class quota;
 }
 
 -- a region of the lane and class that was given is one of them
-gave_own : (a b : Bool) → a ≡ true → b ≡ true → one_if_so (a && b) + 0 ≡ 1
+gave_own : (a b : Bool) → a ≡ true → b ≡ true → 0 + one_if_so (a && b) ≡ 1
 gave_own true true x y = omega arith
 gave_own true false x y = absurd (cc y)
 gave_own false b x y = absurd (cc x)
 
-module _ {G : Ghosts HomeValue Noted} (pool : SharedPool) (old new : PoolSeat HomeValue G) (is : IsPoolSeat pool new) (same : SameSeat old new) (kind : Drain) where
+module _ {G : Ghosts HomeValue Noted} (pool : SharedPool) (old new : PoolSeat HomeValue G) (is : IsPoolSeat pool new) (same : SameSeat old new) (kind : DrainKind) where
   abbrev lane : ℕ
   lane = lane_of old
 
@@ -148,7 +151,7 @@ module _ {G : Ghosts HomeValue Noted} (pool : SharedPool) (old new : PoolSeat Ho
           wrote = λ sampler. wrote_note pool old new may.seat_is is same sampler (rest_of kind lane (Ask class)) none_asked (rest_of kind lane next) o number n note noted it (known.sampled sampler)
               (λ log. read_asked kind lane class number (entry_of e) quota less refl log ∙ ap (λ r. r (after_log log (entry_of e ∷ []) none_asked)) (behind lane));
           hand = subst (λ (h : Hand). IsHeld h w) (sym hand) (held_on v w (e ∷ []) 0 (hand_of kind (Ask class)) (hand_of kind (Shed class quota)) grows known.carries may.hand);
-          fits = next_fits class quota next comes less (still_out (e ∷ []) grows class quota (known.class_none class) refl few);
+          fits = next_fits class quota next comes less (still_out (e ∷ []) grows class quota (known.class_none class) (known.gives_none lane class) few);
           again = omega arith;
           counts = λ sampler. still_added (entry_of e) known.still refl;
           spends = spends v w (e ∷ []) 0 grows (left_of (Ask class) v) (left_of next w) (omega (arith, taken, all, a0, less)) (omega (arith, a1, taken)) (omega (arith, a2)) (λ to. let a3 = after.3 to in let a4 = known.posts_none (lane_in v) to in omega (arith, a3, a4));

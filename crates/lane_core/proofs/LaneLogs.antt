@@ -58,6 +58,13 @@ counts_more rs a =
     let both = sum_by-append (λ (k : ℕ). k) (note_counts rs) (a.notes ∷ []) in
     let cut = ap (λ (ns : List ℕ). sum ns) (map-append (λ (x : Answered). x.notes) rs (a ∷ [])) in omega (arith, one, both, cut)
 
+-- the state behind a turn, whose log is read to its end
+abbrev state_of : Answer × Log → Option (Reply × LaneState)
+state_of p = Some (p.0.reply, state_at p.0.names p.1)
+
+abbrev to_end : Answer × Log → Option (Answer × Log)
+to_end p = option_and_then {U = Answer × Log} (λ (q : Unit {0} × Log). Some (p.0, q.1)) (ended_with p.1 p.1.left)
+
 -- a command whose notes are these is answered
 pub step_is : (period : ℕ) (shape : Shape) (lane : ℕ) (s : LaneState) (c : Command) (es seen : Entries) (asked : ℕ) (reply : Reply) (names : Names) →
     ((rest : Entries) → turn period shape lane s c (log_at s (es ++ rest)) ≡ Some (answer reply names, record { seen = seen; asked = asked; left = rest })) →
@@ -66,9 +73,8 @@ step_is period shape lane s c es seen asked reply names reads =
     ended (turn period shape lane s c (log_at s es)) (ap (λ (xs : Entries). turn period shape lane s c (log_at s xs)) (sym (append-nil es)) ∙ reads [])
   where
     ended : (o : Option (Answer × Log)) → o ≡ Some (answer reply names, record { seen = seen; asked = asked; left = [] }) →
-        option_and_then (λ (p : Answer × Log). Some (p.0.reply, state_at p.0.names p.1)) (option_and_then (λ (p : Answer × Log). option_and_then (λ (q : Unit {0} × Log). Some (p.0, q.1)) (ended_with p.1 p.1.left)) o)
-        ≡ Some (reply, record { names = names; seen = seen; asked = asked })
-    ended o is = ap (λ (x : Option (Answer × Log)). option_and_then (λ (p : Answer × Log). Some (p.0.reply, state_at p.0.names p.1)) (option_and_then (λ (p : Answer × Log). option_and_then (λ (q : Unit {0} × Log). Some (p.0, q.1)) (ended_with p.1 p.1.left)) x)) is
+        option_and_then state_of (option_and_then to_end o) ≡ Some (reply, record { names = names; seen = seen; asked = asked })
+    ended o is = ap (λ (x : Option (Answer × Log)). option_and_then state_of (option_and_then to_end x)) is
 
 -- none of these replies says that the lane was stopped, and nor does one more
 pub unstopped_more : (rs : List Reply) (r : Reply) → before_stop rs ≡ length rs → before_stop (r ∷ []) ≡ 1 → before_stop (rs ++ r ∷ []) ≡ length (rs ++ r ∷ [])

@@ -1,10 +1,9 @@
 -- A lane that has done nothing is a lane of its pool.
-use Rattle.std.proofs.Common.{◌≡◌, ℕ, zero, suc, ◌+◌, Bool, true, false, List, [], ◌∷◌, ◌++◌, length, map, take, drop, replicate, sum, refl, sym, ap, ◌∙◌, subst, arith, Option, Some, None, ltb-true, le-ltb}
-use Rattle.std.specs.Prelude.{◌==◌, nat_lt, if◌then◌else◌, All, option_map, sum_by}
+use Rattle.std.proofs.Common.{◌≡◌, ℕ, zero, suc, ◌+◌, ◌*◌, ◌/◌, ◌≤◌, Bool, true, false, List, [], ◌∷◌, ◌++◌, length, map, take, drop, replicate, refl, sym, ap, ◌∙◌, subst, arith, Option, Some, None, ltb-true, le-ltb}
+use Rattle.std.specs.Prelude.{◌==◌, nat_lt, if◌then◌else◌, All, option_map, sum}
 use Rattle.std.proofs.lemmas.Bool.{and_parts}
 use Rattle.std.proofs.lemmas.List.Elements.{All-cons, All-head, All-tail}
 use Rattle.std.proofs.lemmas.Option.{IfSome_then}
-use Rattle.size_classes.specs.Sizes.{below}
 use Rattle.pool_law.specs.declared.command.Command.{Command}
 use Rattle.pool_law.specs.declared.id.RootId.{RootId}
 use Rattle.pool_law.specs.declared.id.ViewData.{ViewData}
@@ -12,8 +11,12 @@ use Rattle.pool_law.specs.declared.run.Answered.{Answered}
 use Rattle.pool_law.specs.declared.run.Shape.{Shape}
 use Rattle.pool_law.specs.Legal.{all_fit, fits_after}
 use Rattle.pool_law.specs.Limits.{cached_classes}
-use Rattle.pool_law.specs.LaneLaw.{lane_run, pieces, note_counts, replies_in, close_caches}
-use Rattle.pool_law.specs.Lanes.{Plain, new_lane, answer_of}
+use Rattle.pool_law.specs.Bounds.{note_bound}
+use Rattle.pool_law.specs.LaneLaw.{sweep_period, lane_run, before_stop, pieces, note_counts, replies_in}
+use Rattle.pool_law.specs.LaneStates.{new_lane}
+use Rattle.pool_law.specs.Lanes.{turn}
+use Rattle.pool_law.specs.Names.{Plain}
+use Rattle.pool_law.specs.Patterns.{closing}
 use Rattle.pool_law.specs.Readers.{Entries}
 use Rattle.pool_table.specs.declared.views.Entry.{Entry}
 use Rattle.pool_table.specs.declared.views.SeatView.{SeatView}
@@ -28,15 +31,19 @@ use Rattle.lane_core.specs.declared.desk.Desk.{Desk}
 use Rattle.lane_core.specs.declared.desk.Stage.TheVariants.{Ready}
 use Rattle.lane_core.specs.declared.lane.Lane.{Lane}
 use Rattle.lane_core.specs.declared.lane.Parts.{Parts}
-use Rattle.lane_core.specs.Budgets.{Left, takes, all_takes}
+use Rattle.lane_core.specs.Budgets.{Left, all_out}
 use Rattle.lane_core.specs.Hands.{empty_hand, IsHeld}
 use Rattle.lane_core.specs.Sampled.{AreSampled}
 use Rattle.lane_core.specs.Named.{bound_at, NamesAre, ChangesBelow}
 use Rattle.lane_core.specs.Counting.{counted, CountsAre}
 use Rattle.lane_core.specs.Desks.{IsDesk, entries_of, FitsDesk, HasRoomFor}
-use Rattle.lane_core.specs.Lanes.{IsLane, HasAnswered, IsBegun, left_for_all, left_for_rest, left_for_closing, left_of, commands_left, answered_entries, entries_since, both}
+use Rattle.lane_core.specs.Lanes.{IsLane, HasAnswered, IsBegun, left_for_all, left_for_rest, left_to_ask, commands_left, answered_entries, entries_since, both}
+use Rattle.lane_core.specs.Readings.{ReadsOn, none_asked}
 use Rattle.lane_core.specs.Opened.{IsPlain, AreFirst, IsFirstSeat, AreParts}
-use Rattle.lane_core.proofs.RoomLaws.{all_few, all_takes_few}
+use Rattle.lane_core.proofs.LaneRooms.{rest_ready}
+use Rattle.lane_core.proofs.Outs.{none_out}
+use Rattle.lane_core.proofs.ReadLaws.{still_on}
+use Rattle.lane_core.proofs.RoomLaws.{all_few, all_asks_few, all_takes, bound_is}
 
 -- ---- A seat that has noted nothing has nothing in hand.
 zero_either : (b : Bool) → ◌≡◌ {A = ℕ} 0 (if b then 0 else 0)
@@ -106,15 +113,6 @@ all_fit_desk d earlier (c ∷ cs) fit plain below =
     (fits_desk d earlier c (All-head IsPlain c cs plain) (All-head (ChangesBelow (length d.names)) c cs below) parts.0)
     (all_fit_desk d (earlier ++ c ∷ []) cs parts.1 (All-tail IsPlain c cs plain) (All-tail (ChangesBelow (length d.names)) c cs below))
 
--- ---- What is left is what the bound is of.
-left_ready : (cs : List Command) → left_for_rest cs Ready ≡ left_for_all cs
-left_ready [] = refl
-left_ready (c ∷ cs) = refl
-
-IsBegun-none : (shape : Shape) (lane : ℕ) (cs : List Command) (es : Entries) → es ≡ [] → IsBegun shape lane new_lane cs Ready es
-IsBegun-none shape lane [] es e = λ rest. ap (λ (xs : Entries). close_caches lane (below cached_classes) (xs ++ rest)) e
-IsBegun-none shape lane (c ∷ cs) es e = λ rest. ap (λ (xs : Entries). answer_of shape lane new_lane c (xs ++ rest)) e
-
 -- a lane that is made of these parts
 abbrev made : Shape → Lane → Parts → Lane
 made shape l p =
@@ -129,6 +127,7 @@ made shape l p =
             replies = p.log.0;
             notes = p.log.1;
             begun = 0;
+            asked = 0;
           };
       stage = Ready;
       asked = 0;
@@ -162,61 +161,89 @@ module _ (pool : SharedPool) (shape : Shape) (l : Lane) (p : Parts)
     answered = record {
       counted = ap (λ (rs : List Answered). sum (note_counts rs)) parts.replies.0;
       run =
-          subst (λ (rs : List Answered). lane_run shape (lane_of l.desk.seat) new_lane (take (length rs) l.commands) (pieces (note_counts rs) (answered_entries new)) ≡ Some (replies_in rs, new_lane))
+          subst (λ (rs : List Answered). lane_run sweep_period shape (lane_of l.desk.seat) new_lane (take (length rs) l.commands) (pieces (note_counts rs) (answered_entries new)) ≡ Some (replies_in rs, new_lane))
           (sym parts.replies.0) refl;
-      names = NamesAre-none p.names parts.names;
+      unstopped = subst (λ (rs : List Answered). before_stop (replies_in rs) ≡ length rs) (sym parts.replies.0) refl;
       seen = refl;
     }
 
     commands : commands_left new ≡ l.commands
     commands = ap (λ (rs : List Answered). drop (length rs) l.commands) parts.replies.0
 
+    none_yet : entries_of new.desk ≡ []
+    none_yet = ap (map entry_of) first.notes
+
+    begins : (cs : List Command) → IsBegun new new_lane [] cs (entries_of new.desk)
+    begins [] =
+        let reads = closing (lane_of l.desk.seat) in
+        subst (λ (es : Entries). ReadsOn reads es none_asked reads) (sym none_yet) (still_on reads)
+    begins (c ∷ cs) =
+        λ rest i. turn sweep_period shape (lane_of l.desk.seat) new_lane c (record { seen = sym none_yet i; asked = 0; left = none_yet i ++ rest })
+
+    -- ---- What is left is what the bound is of.
     abbrev R : Left
     R = left_for_all l.commands
 
-    left_is : left_of new ≡ both R (left_for_closing Ready new.desk R.takes)
-    left_is =
-        ap (λ (r : Left). both r (left_for_closing Ready new.desk r.takes))
-        (ap (λ (cs : List Command). left_for_rest cs Ready) commands ∙ left_ready l.commands)
+    abbrev v : SeatView
+    v = view_of l.desk.seat
 
-    room : HasRoomFor new.desk (both R (left_for_closing Ready new.desk R.takes))
+    abbrev rest_for : List Command → Left
+    rest_for cs = left_for_rest cs Ready v
+
+    abbrev left_for_these : List Command → Left
+    left_for_these cs = both (rest_for cs) (left_to_ask Ready (0 + (rest_for cs).asks))
+
+    rest_asks : (rest_for l.commands).asks ≡ R.asks
+    rest_asks = let a = (rest_ready l.commands v).1 in omega (arith, a)
+
+    left_is : (left_for_these l.commands).notes ≡ note_bound l.commands
+    left_is =
+        let a = (rest_ready l.commands v).0 in let none : all_out v ≡ 0 = none_out v first.notes in
+        let takes = all_takes l.commands in let bound = bound_is l.commands are.plain in
+        let asked : 0 + (rest_for l.commands).asks ≡ R.asks = (let b = rest_asks in omega (arith, b)) in
+        let asks : cached_classes * (1 + (0 + (rest_for l.commands).asks) / sweep_period) ≡ cached_classes * (1 + R.asks / sweep_period) =
+        ap (λ (k : ℕ). cached_classes * (1 + k / sweep_period)) asked in
+        omega (arith, a, none, takes, bound, asks)
+
+    bound_few : note_bound l.commands ≤ 1048576
+    bound_few =
+        let bound = bound_is l.commands are.plain in let few_notes = all_few l.commands are.plain in
+        let few_asks = all_asks_few l.commands in let few = are.commands_are.few in
+        omega (arith, bound, few_notes, few_asks, few)
+
+    room : HasRoomFor new.desk (left_for_these l.commands)
     room =
-        (let no_notes = ap length first.notes in
-        let no_takes : all_takes (view_of l.desk.seat) ≡ 0 = ap (sum_by takes) first.notes in
-        let capacity = parts.notes.1 in
-        let few_notes = all_few l.commands in
-        let few_takes = all_takes_few l.commands in
-        let few = are.commands_are.few in
-        let turns = first.turns in
-        let moves = first.moves in
+        (let no_notes = ap length first.notes in let is = left_is in let few = bound_few in
+        let capacity = parts.notes.1 in let turns = first.turns in let moves = first.moves in
+        let rest_moves = (rest_ready l.commands v).2 in
         record {
-          notes = omega (arith, no_notes, no_takes, capacity);
-          few = omega (arith, no_notes, no_takes, few_notes, few_takes, few);
-          turns = omega (arith, no_takes, turns);
-          moves = omega (arith, moves);
+          notes = omega (arith, no_notes, is, capacity);
+          few = omega (arith, no_notes, is, few);
+          turns = omega (arith, is, turns);
+          moves = omega (arith, moves, rest_moves);
           mails =
               λ to lt. IfSome_then (view_of l.desk.seat).setting (first.mails to lt)
-              (λ setting mail. (mail.0, mail.1, (let none = ap (posts (lane_of l.desk.seat) to) first.notes in let enough = mail.2 in omega (arith, none, enough))));
+              (λ setting mail. (mail.0, mail.1, (let none = ap (posts (lane_of l.desk.seat) to) first.notes in let enough = mail.2 in let rest_sends = (rest_ready l.commands v).3 to in omega (arith, none, enough, rest_sends))));
         })
 
     pub IsLane-first : IsLane pool new
     IsLane-first = record {
       desk = is_desk;
-      fits = tt;
+      fits = omega arith;
       shape = first.limits;
       commands = are.commands_are;
       plain = all_fit_desk new.desk [] l.commands are.commands_are.fit are.plain parts.below;
       few = (let none = ap length parts.replies.0 in omega (arith, none));
       state = new_lane;
       answered = answered;
-      begun =
-          subst (λ (cs : List Command). IsBegun shape (lane_of l.desk.seat) new_lane cs Ready (entries_since new)) (sym commands)
-          (IsBegun-none shape (lane_of l.desk.seat) l.commands (entries_since new) (ap (map entry_of) first.notes));
+      bound = [];
+      bound_are = NamesAre-none p.names parts.names;
+      begun = begins (commands_left new);
       all_answered = λ closing. absurd closing;
-      rest = λ ready. (let none = ap length first.notes in omega (arith, none));
+      rest = λ ready. record { begun = (let none = ap length first.notes in omega (arith, none)); names_are = refl; asked = refl };
       underway = λ begun. absurd begun;
       names = tt;
-      room = subst (HasRoomFor new.desk) (sym left_is) room;
+      room = subst (λ (cs : List Command). HasRoomFor new.desk (left_for_these cs)) (sym commands) room;
       replies = parts.replies.1;
       asked = omega arith;
       spare = parts.spare;

@@ -11,7 +11,7 @@ use Rattle.pool_law.specs.Busy.{BusyHolds}
 use Rattle.pool_law.specs.Counts.{CountsHold}
 use Rattle.pool_law.specs.LaneLaw.{IsLaneLog}
 use Rattle.pool_law.specs.Leaks.{leaks_of}
-use Rattle.pool_law.specs.Legal.{AreCommands, CountsAgree, HistoriesHold, ends_from, logs_of, replies_of}
+use Rattle.pool_law.specs.Legal.{AreCommands, CountsAgree, HistoriesHold, ends_from, logs_of, others_retains, replies_of}
 use Rattle.pool_law.specs.Limits.{IsShape}
 use Rattle.pool_law.specs.Logs.{Entry, of_lane, entries_of, history_of}
 use Rattle.leak_records.specs.declared.live.LiveRoot.{LiveRoot}
@@ -21,6 +21,7 @@ use Rattle.pool_table.specs.declared.views.Part.{Part}
 use Rattle.shared_pool.specs.declared.pool.SharedPool.{SharedPool}
 use Rattle.shared_pool.specs.Closing.{AreWhole, IsOrdered, logs_in, entries_in, entry_of as entry_in}
 use Rattle.shared_pool.specs.Live.{AreLiveRoots}
+use Rattle.shared_pool.proofs.LooksHeld.{looks-held}
 use Rattle.lane_core.specs.declared.lane.Lane.{Lane}
 use Rattle.lane_core.specs.Sampled.{AreSampled}
 use Rattle.lane_core.specs.Desks as desks
@@ -81,7 +82,12 @@ module _ (pool : SharedPool) (lanes : List Lane) (run : Run) (fin : AreFinished 
   counts : CountsAgree (entries_of (logs_of run))
   counts =
       subst CountsAgree entries-same
-      (record { lanes = own-counts; totals = whole.totals; looks = λ root k. whole.looks root k (own-counts root k) })
+      (record {
+        lanes = own-counts;
+        born = whole.born;
+        totals = whole.totals;
+        looks = λ root k. looks-held root (others_retains root k 0 (entries_in parts)) (of_lane (entries_in parts) k) (own-counts root k) (whole.looks root k);
+      })
 
   answers : (k : ℕ) → k < shape.lanes → IsLaneLog shape k (of_lane run.trace.lanes k) (replies_of run k) (of_lane (entries_of (logs_of run)) k)
   answers k lt =

@@ -6,7 +6,7 @@ use Rattle.pool_table.specs.Seats.{view_of}
 use Rattle.shared_pool.specs.declared.pool.SharedPool.{SharedPool}
 use Rattle.shared_pool.specs.Seated.{HasNothing, IsDone, AreDone}
 use Rattle.lane_core.specs.declared.desk.Stage.TheVariants.{Closing}
-use Rattle.lane_core.specs.declared.closing.Closing.TheVariants.{Done}
+use Rattle.lane_core.specs.declared.draining.Draining.TheVariants.{Done}
 use Rattle.lane_core.specs.declared.lane.Lane.{Lane}
 use Rattle.lane_core.specs.Hands.{IsHeld}
 use Rattle.lane_core.specs.Desks.{hand_of}

@@ -19,8 +19,8 @@ use Rattle.pool_law.specs.Logs.{Entry}
 use Rattle.pool_law.specs.Patterns.{New, allot, with_handle, obtain, ask_cache, ask_arena, bear, one_more, put_away, offer, not_kept, give_back, sheds, drain}
 use Rattle.pool_law.specs.Readers.{Log, Reader, ◌>>=◌, ◌>>◌, ◌or◌, give, nothing, given, unless_there, found, not_found, note, step, busy, ending, ask}
 use Rattle.pool_law.proofs.PatternLemmas.{same_number, same_root-refl, same_region-refl, allot-handle, allot-no_handle}
-use Rattle.lane_core.specs.declared.draining.Drain.{Drain}
-use Rattle.lane_core.specs.declared.draining.Drain.TheVariants.{Trim, Close}
+use Rattle.lane_core.specs.declared.draining.DrainKind.{DrainKind}
+use Rattle.lane_core.specs.declared.draining.DrainKind.TheVariants.{Trim, Close}
 use Rattle.lane_core.specs.Drainings.{classes_from, classes_at, quota_note, quota_in, sheds_then}
 use Rattle.lane_core.specs.Endings.{goes_home, retired}
 use Rattle.lane_core.specs.Readings.{before_left, behind, ReadsOn, none_asked, one_asked}
@@ -101,14 +101,14 @@ module _ (shape : Shape) (lane size class place n : ℕ) (e : Entry) where
   pub read_taken : (r : RegionId) → e.note ≡ Note.At (Arena (lane % shape.arenas)) n (Did.Take class r) → ReadsOn (ask_arena shape lane class >>= born) (e ∷ []) none_asked (born (Some r))
   read_taken r is =
       let o = Arena (lane % shape.arenas) in
-      let so : says.take class (Did.Take class r) ≡ Some r = rw same_number class refl in
+      let so : says.take class (Did.Take class r) ≡ Some r = rw (same_number class) refl in
       given_on (takes or fulls) (e ∷ []) none_asked born (Some r)
       (first_on takes fulls (e ∷ []) none_asked (Some r) (given_on (note o (says.take class)) (e ∷ []) none_asked (λ a. give (Some a)) r (note_on e o (says.take class) n (Did.Take class r) is r so)))
 
   pub read_full : e.note ≡ Note.At (Arena (lane % shape.arenas)) n (Did.Full class) → ReadsOn (ask_arena shape lane class >>= born) (e ∷ []) none_asked (born None)
   read_full is =
       let o = Arena (lane % shape.arenas) in
-      let so : says.full class (Did.Full class) ≡ Some tt = rw same_number class refl in
+      let so : says.full class (Did.Full class) ≡ Some tt = rw (same_number class) refl in
       given_on (takes or fulls) (e ∷ []) none_asked born None
       (second_on takes fulls (e ∷ []) none_asked (give None) (λ log. none_then (note o (says.take class)) (λ a. give (Some a)) (before_left log (e ∷ [])) (note_off e o (says.take class) n (Did.Full class) is refl log))
       (given_on (note o (says.full class)) (e ∷ []) none_asked (λ _. give None) tt (note_on e o (says.full class) n (Did.Full class) is tt so)))
@@ -126,7 +126,7 @@ module _ (shape : Shape) (lane size class place n : ℕ) (e : Entry) where
 
   pub read_home : (b : ℕ) → b ≡ lane → e.note ≡ Note.At (Bin b) n (Did.Home place) → ReadsOn (born None) (e ∷ []) none_asked (give (Err Reply.Full))
   read_home b own is =
-      let so : says.home place (Did.Home place) ≡ Some tt = rw same_number place refl in
+      let so : says.home place (Did.Home place) ≡ Some tt = rw (same_number place) refl in
       given_on (note (Bin lane) (says.home place)) (e ∷ []) none_asked (λ _. give (Err Reply.Full)) tt
       (note_on e (Bin lane) (says.home place) n (Did.Home place) (is ∙ ap (λ (x : ℕ). Note.At (Bin x) n (Did.Home place)) own) tt so)
 
@@ -166,7 +166,7 @@ module _ (shape : Shape) (place n : ℕ) (e : Entry) where
 
     pub read_kept : r.class < cached_classes → e.note ≡ Note.At (Cache r.owner r.class) n (Did.Kept r) → ReadsOn (put_away r >> home) (e ∷ []) none_asked home
     read_kept less is =
-        let so : says.kept r (Did.Kept r) ≡ Some tt = rw same_region-refl r refl in
+        let so : says.kept r (Did.Kept r) ≡ Some tt = rw (same_region-refl r) refl in
         offered home (e ∷ []) less
         (given_on (offer r) (e ∷ []) none_asked (λ _. home) tt (first_on keeps (refuses >> give_back r) (e ∷ []) none_asked tt (note_on e (Cache r.owner r.class) (says.kept r) n (Did.Kept r) is tt so)))
 
@@ -180,7 +180,7 @@ module _ (shape : Shape) (place n : ℕ) (e : Entry) where
     pub read_back : r.class < cached_classes → (why : CacheNo) → e.note ≡ Note.At (Cache r.owner r.class) n (Did.Back r why) → ReadsOn (put_away r >> home) (e ∷ []) none_asked (give_back r >> home)
     read_back less why is =
         let o = Cache r.owner r.class in
-        let so : says.back r (Did.Back r why) ≡ Some tt = rw same_region-refl r refl in
+        let so : says.back r (Did.Back r why) ≡ Some tt = rw (same_region-refl r) refl in
         not_kept_on less (note_off e o (says.kept r) n (Did.Back r why) is refl)
         (first_on (note o (says.back r)) (busy o >> nothing) (e ∷ []) none_asked tt (note_on e o (says.back r) n (Did.Back r why) is tt so))
 
@@ -193,7 +193,7 @@ module _ (shape : Shape) (place n : ℕ) (e : Entry) where
 
     given_back_on : e.note ≡ Note.At (Arena r.place.arena) n (Did.Give r) → ReadsOn (give_back r) (e ∷ []) none_asked nothing
     given_back_on is =
-        let so : says.give r (Did.Give r) ≡ Some tt = rw same_region-refl r refl in
+        let so : says.give r (Did.Give r) ≡ Some tt = rw (same_region-refl r) refl in
         note_on e (Arena r.place.arena) (says.give r) n (Did.Give r) is tt so
 
     pub read_given : e.note ≡ Note.At (Arena r.place.arena) n (Did.Give r) → ReadsOn (give_back r >> home) (e ∷ []) none_asked home
@@ -201,7 +201,7 @@ module _ (shape : Shape) (place n : ℕ) (e : Entry) where
 
   pub read_gone : (b : ℕ) → b ≡ place / shape.handles → e.note ≡ Note.At (Bin b) n (Did.Home place) → ReadsOn home (e ∷ []) none_asked nothing
   read_gone b own is =
-      let so : says.home place (Did.Home place) ≡ Some tt = rw same_number place refl in
+      let so : says.home place (Did.Home place) ≡ Some tt = rw (same_number place) refl in
       note_on e (Bin (place / shape.handles)) (says.home place) n (Did.Home place) (is ∙ ap (λ (x : ℕ). Note.At (Bin x) n (Did.Home place)) own) tt so
 
 -- ---- The draining of caches.
@@ -216,11 +216,11 @@ classes_next class less =
     let one : cached_classes - class ≡ suc (cached_classes - (class + 1)) = omega (arith, less) in ap (λ (many : ℕ). classes_at class many) one
 
 -- a cache that was asked notes its quota
-quota_said : (kind : Drain) (quota : ℕ) → quota_in kind (quota_note kind quota) ≡ Some quota
+quota_said : (kind : DrainKind) (quota : ℕ) → quota_in kind (quota_note kind quota) ≡ Some quota
 quota_said Trim quota = refl
 quota_said Close quota = refl
 
-module _ (kind : Drain) (lane class n : ℕ) (e : Entry) where
+module _ (kind : DrainKind) (lane class n : ℕ) (e : Entry) where
   abbrev classes : List ℕ
   classes = classes_from (class + 1)
 
@@ -244,5 +244,5 @@ module _ (kind : Drain) (lane class n : ℕ) (e : Entry) where
   pub read_shed_given : (left : ℕ) (r : RegionId) → e.note ≡ Note.At (Arena r.place.arena) n (Did.Give r) →
       ReadsOn (give_back r >> sheds_then kind lane class left classes) (e ∷ []) none_asked (sheds_then kind lane class left classes)
   read_shed_given left r is =
-      let so : says.give r (Did.Give r) ≡ Some tt = rw same_region-refl r refl in
+      let so : says.give r (Did.Give r) ≡ Some tt = rw (same_region-refl r) refl in
       given_on (give_back r) (e ∷ []) none_asked (λ _. sheds_then kind lane class left classes) tt (note_on e (Arena r.place.arena) (says.give r) n (Did.Give r) is tt so)

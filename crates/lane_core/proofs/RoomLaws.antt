@@ -38,7 +38,22 @@ few_notes (Command.Compose fresh names) plain = absurd plain
 few_notes (Command.Add whole name) plain = absurd plain
 
 pub one_ask : (c : Command) → may_ask c ≤ 1
-one_ask _ = omega arith
+one_ask (Command.Alloc name size) = omega arith
+one_ask (Command.Set name at bytes tries) = omega arith
+one_ask (Command.Get name at len tries) = omega arith
+one_ask (Command.Write name bytes) = omega arith
+one_ask (Command.Read name len) = omega arith
+one_ask (Command.Slice fresh name at len retained) = omega arith
+one_ask (Command.Dup fresh name) = omega arith
+one_ask (Command.Retain name) = omega arith
+one_ask (Command.Release name) = omega arith
+one_ask (Command.Refcnt name) = omega arith
+one_ask (Command.Touch name) = omega arith
+one_ask (Command.Forget name) = omega arith
+one_ask (Command.Send name lane) = omega arith
+one_ask (Command.Recv fresh lane) = omega arith
+one_ask (Command.Compose fresh names) = omega arith
+one_ask (Command.Add whole name) = omega arith
 
 pub all_few : (cs : List Command) → All IsPlain cs → (left_for_all cs).notes ≤ 6 * length cs
 all_few [] plain = omega arith

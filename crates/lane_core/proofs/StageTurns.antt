@@ -45,8 +45,8 @@ use Rattle.lane_core.specs.declared.retirement.Ending.{Ending as EndStage}
 use Rattle.lane_core.specs.declared.retirement.Ending.TheVariants.{Root as EndRoot, Cache as EndCache, Arena as EndArena, Home as EndHome}
 use Rattle.lane_core.specs.declared.retirement.Ends.{Ends}
 use Rattle.lane_core.specs.declared.retirement.Ends.TheVariants.{More as EndMore, Held as EndHeld, Done}
-use Rattle.lane_core.specs.declared.draining.Drain.{Drain}
-use Rattle.lane_core.specs.declared.draining.Drain.TheVariants.{Trim, Close}
+use Rattle.lane_core.specs.declared.draining.DrainKind.{DrainKind}
+use Rattle.lane_core.specs.declared.draining.DrainKind.TheVariants.{Trim, Close}
 use Rattle.lane_core.specs.declared.draining.Draining.{Draining}
 use Rattle.lane_core.specs.declared.draining.Draining.TheVariants.{Ask, Shed, Give, Done as AllDrained}
 use Rattle.lane_core.specs.declared.draining.Drains.{Drains}
@@ -326,7 +326,7 @@ module _ (pool : SharedPool) (old mid : Desk) (name size class : ℕ) (stage : A
           (given_on (allotment.rest_of old.shape (lane_of old.seat) size class stage) (map entry_of did.wrote.added) asks (λ got. give (law_allotted s name got)) (Ok (record { root = root; region = region })) (read_on (New root region) did))
           turn concludes
 
-      module _ (new : Desk) (allots : Allots) (reply : Reply) (unstopped : before_stop (reply ∷ []) ≡ 1) (empty : allotment.hand_after allots ≡ empty_hand) (none : (root : RootId) → allotment.born_in allots root ≡ 0) (left : allotment.left_after allots ≡ notes_alone 0) (some : {log : List Note} → allotment.IsTriedAgain pool old.seat mid.seat stage allots log → 0 < length log)
+      module _ (new : Desk) (allots : Allots) (reply : Reply) (unstopped : before_stop (reply ∷ []) ≡ 1) (empty : allotment.hand_after allots ≡ empty_hand) (none : (root : RootId) → allotment.born_in allots root ≡ 0) (left : allotment.left_after allots ≡ notes_alone 0) (some : (log : List Note) → allotment.IsTriedAgain pool old.seat mid.seat stage allots log → 0 < length log)
           (rest_is : allotment.rest_after old.shape (lane_of old.seat) size class allots ≡ give (Err reply)) (did : allotment.HasAllotted pool old.seat mid.seat old.sampler mid.sampler old.notes mid.notes size class stage allots) where
         -- it was refused
         pub allot_refused : (turn : Turn) → Concludes mid new reply turn → HasTurned pool old new s command (Allotting name size class stage) turn
@@ -338,7 +338,7 @@ module _ (pool : SharedPool) (old mid : Desk) (name size class : ℕ) (stage : A
             staged_concludes pool (allotment.hand_of stage) after old allot_start mid did.wrote.added gain st empty new mid.names mid.counts reply unstopped
             (λ root. (let a = none root in let b = ap (λ (cs : List Counted). counted cs root) counts_are in omega (arith, a, b)))
             (ap (λ (cs : List Counted). length cs) counts_are) (ap (λ (names : List (Option ViewData)). length names) names_are) s command (Allotting name size class stage) s.names (subst (NamesAre s.names) (sym names_are) are)
-            (some_of did.wrote.added did.written did.wrote.noted (some did.again)) (allotment.left_of stage) refl
+            (some_of did.wrote.added did.written did.wrote.noted (some did.written did.again)) (allotment.left_of stage) refl
             (subst (λ (l : Left). Spends (view_of old.seat) (view_of allot_start.seat) (allotment.left_of stage) l) left did.spends) (omega (arith, few)) asks refl
             (body_of (allotment.rest_of old.shape (lane_of old.seat) size class stage)) (λ log. refl)
             (given_on (allotment.rest_of old.shape (lane_of old.seat) size class stage) (map entry_of did.wrote.added) asks (λ got. give (law_allotted s name got)) (Err reply)
@@ -440,7 +440,7 @@ module _ (pool : SharedPool) (old mid : Desk) (stage : EndStage) (d : IsDesk poo
 
 -- ---- The draining of caches.
 
-module _ (pool : SharedPool) (old mid : Desk) (kind : Drain) (stage : Draining) (d : IsDesk pool (draining.hand_of kind stage) old) (mid_so : mid ≡ record old { seat = mid.seat; notes = mid.notes }) where
+module _ (pool : SharedPool) (old mid : Desk) (kind : DrainKind) (stage : Draining) (d : IsDesk pool (draining.hand_of kind stage) old) (mid_so : mid ≡ record old { seat = mid.seat; notes = mid.notes }) where
   abbrev drain_start : Desk
   drain_start = record old { seat = mid.seat }
 
@@ -495,7 +495,7 @@ module _ (pool : SharedPool) (old mid : Desk) (kind : Drain) (stage : Draining) 
         after = next;
         added = es;
         comes = (refl, some_of es did.written (did.wrote old.sampler).noted did.again);
-        grew = subst (λ (k : Drain). DeskGrew pool (draining.hand_of k next) old mid es) is (drained_grew (DrainMore next) did);
+        grew = subst (λ (k : DrainKind). DeskGrew pool (draining.hand_of k next) old mid es) is (drained_grew (DrainMore next) did);
         fits = did.fits;
         spends = did.spends;
         replies = ap (λ (x : Desk). x.replies.items) mid_so;
@@ -503,7 +503,7 @@ module _ (pool : SharedPool) (old mid : Desk) (kind : Drain) (stage : Draining) 
         begun = ap (λ (x : Desk). x.begun) mid_so;
         asked = ap (λ (x : Desk). x.asked) mid_so;
         held = tt;
-        reads = subst (λ (k : Drain). ReadsOn (draining.rest_of k (lane_of old.seat) stage) (map entry_of es) none_asked (draining.rest_of k (lane_of old.seat) next)) is (did.wrote old.sampler).read;
+        reads = subst (λ (k : DrainKind). ReadsOn (draining.rest_of k (lane_of old.seat) stage) (map entry_of es) none_asked (draining.rest_of k (lane_of old.seat) next)) is (did.wrote old.sampler).read;
       }
 
   pub close_waits : kind ≡ Close → (held : Held) (next : Draining) → draining.HasDrained pool old.seat mid.seat old.notes mid.notes kind stage (DrainHeld held next) → HasTurnedClosing pool old mid stage (Pending held (Closing next))
@@ -513,7 +513,7 @@ module _ (pool : SharedPool) (old mid : Desk) (kind : Drain) (stage : Draining) 
         after = next;
         added = es;
         comes = (did.again.0, did.again.0, none_of es ((did.wrote old.sampler).noted ∙ did.again.1));
-        grew = subst (λ (k : Drain). DeskGrew pool (draining.hand_of k next) old mid es) is (drained_grew (DrainHeld held next) did);
+        grew = subst (λ (k : DrainKind). DeskGrew pool (draining.hand_of k next) old mid es) is (drained_grew (DrainHeld held next) did);
         fits = did.fits;
         spends = did.spends;
         replies = ap (λ (x : Desk). x.replies.items) mid_so;
@@ -521,7 +521,7 @@ module _ (pool : SharedPool) (old mid : Desk) (kind : Drain) (stage : Draining) 
         begun = ap (λ (x : Desk). x.begun) mid_so;
         asked = ap (λ (x : Desk). x.asked) mid_so;
         held = did.again.2;
-        reads = subst (λ (k : Drain). ReadsOn (draining.rest_of k (lane_of old.seat) stage) (map entry_of es) none_asked (draining.rest_of k (lane_of old.seat) next)) is (did.wrote old.sampler).read;
+        reads = subst (λ (k : DrainKind). ReadsOn (draining.rest_of k (lane_of old.seat) stage) (map entry_of es) none_asked (draining.rest_of k (lane_of old.seat) next)) is (did.wrote old.sampler).read;
       }
 
 -- ---- A sweep.
@@ -637,11 +637,11 @@ end_can pool old mid stage d mid_so ends did room replies =
     let start : Desk = record old { seat = mid.seat } in let wrote = did.wrote old.sampler in
     answers_behind pool (ending.hand_of stage) old d (ending.left_of stage) (ending.left_after ends) room (view_of mid.seat) wrote.added did.written wrote.more wrote.noted did.spends start mid refl (noted_so start mid did.written did.log mid_so) replies
 
-pub may_drain : (pool : SharedPool) (old : Desk) (kind : Drain) (stage : Draining) → IsDesk pool (draining.hand_of kind stage) old → HasRoomFor old (draining.left_of stage (view_of old.seat)) → draining.Fits pool old.seat stage → (stage ≡ AllDrained → ⊥) → draining.MayDrain pool old.seat kind stage
+pub may_drain : (pool : SharedPool) (old : Desk) (kind : DrainKind) (stage : Draining) → IsDesk pool (draining.hand_of kind stage) old → HasRoomFor old (draining.left_of stage (view_of old.seat)) → draining.Fits pool old.seat stage → (stage ≡ AllDrained → ⊥) → draining.MayDrain pool old.seat kind stage
 may_drain pool old kind stage d room fits more = record { seat_is = d.seat; turn = (let a = room.turns in let b = drain_left pool old.seat stage fits more in omega (arith, a, b)); hand = d.held; fits = fits }
 
 -- a desk behind a step of a sweep can be answered
-pub drain_can : (pool : SharedPool) (old mid : Desk) (kind : Drain) (stage : Draining) (d : IsDesk pool (draining.hand_of kind stage) old) → mid ≡ record old { seat = mid.seat; notes = mid.notes } → (drains : Drains) → draining.HasDrained pool old.seat mid.seat old.notes mid.notes kind stage drains →
+pub drain_can : (pool : SharedPool) (old mid : Desk) (kind : DrainKind) (stage : Draining) (d : IsDesk pool (draining.hand_of kind stage) old) → mid ≡ record old { seat = mid.seat; notes = mid.notes } → (drains : Drains) → draining.HasDrained pool old.seat mid.seat old.notes mid.notes kind stage drains →
     HasRoomFor old (draining.left_of stage (view_of old.seat)) → length old.replies.items < vec_capacity old.replies → CanAnswer mid
 drain_can pool old mid kind stage d mid_so drains did room replies =
     let start : Desk = record old { seat = mid.seat } in let wrote = did.wrote old.sampler in

@@ -30,7 +30,7 @@ use Rattle.lane_core.specs.declared.desk.Stage.{Stage}
 use Rattle.lane_core.specs.declared.desk.Stage.TheVariants.{Ready, Allotting, Ending, Sweeping, Closing}
 use Rattle.lane_core.specs.declared.desk.Turn.{Turn}
 use Rattle.lane_core.specs.declared.desk.Turn.TheVariants.{Went, Pending, Waiting}
-use Rattle.lane_core.specs.declared.draining.Drain.TheVariants.{Trim, Close}
+use Rattle.lane_core.specs.declared.draining.DrainKind.TheVariants.{Trim, Close}
 use Rattle.lane_core.specs.declared.draining.Draining.{Draining}
 use Rattle.lane_core.specs.declared.draining.Draining.TheVariants.{Done as AllDrained}
 use Rattle.lane_core.specs.Hands.{Hand, empty_hand, IsHeld}
@@ -259,7 +259,7 @@ pub record HasTurned (pool : SharedPool) (old new : Desk) (s : LaneState) (comma
       SpendsAt old new
       (left_now command stage (view_of old.seat)) (left_after command stage turn (view_of new.seat))
   pub comes :
-      let reads = λ state. reads_from old.shape (lane_of old.seat) state command in
+      let reads = λ (state : LaneState). reads_from old.shape (lane_of old.seat) state command in
       ComesTo reads s old new added stage turn
   pub waits : IfWaiting turn (λ sender.
       ReceivesFrom command sender × IsDrained pool sender old.seat)

@@ -19,8 +19,8 @@ use Rattle.shared_pool.specs.declared.home.Home.{Home as HomeValue}
 use Rattle.shared_pool.specs.declared.pool.SharedPool.{SharedPool}
 use Rattle.shared_pool.specs.SeatLanes.{lane_of}
 use Rattle.shared_pool.specs.Seats.{IsPoolSeat, FoundBusy}
-use Rattle.lane_core.specs.declared.draining.Drain.{Drain}
-use Rattle.lane_core.specs.declared.draining.Drain.TheVariants.{Trim, Close}
+use Rattle.lane_core.specs.declared.draining.DrainKind.{DrainKind}
+use Rattle.lane_core.specs.declared.draining.DrainKind.TheVariants.{Trim, Close}
 use Rattle.lane_core.specs.declared.draining.Draining.{Draining}
 use Rattle.lane_core.specs.declared.draining.Draining.TheVariants.{Ask, Shed, Give, Done}
 use Rattle.lane_core.specs.declared.draining.Drains.{Drains}
@@ -34,35 +34,35 @@ use Rattle.lane_core.specs.Counting.{AddCounts}
 use Rattle.shared_pool.specs.Closing.{entry_of}
 
 -- what a cache notes that is asked for a quota
-abbrev pub quota_note : Drain → ℕ → Did
+abbrev pub quota_note : DrainKind → ℕ → Did
 quota_note Trim quota = Did.Trim quota
 quota_note Close quota = Did.Close quota
 
 -- the quota of such a note
-abbrev pub quota_in : Drain → Did → Option ℕ
+abbrev pub quota_in : DrainKind → Did → Option ℕ
 quota_in Trim did = says.trim did
 quota_in Close did = says.close did
 
 -- how many caches are closed, once so many were asked
-abbrev pub closed_by : Drain → ℕ → ℕ
+abbrev pub closed_by : DrainKind → ℕ → ℕ
 closed_by Trim asked = 0
 closed_by Close asked = asked
 
 -- ---- What is in hand.
 
 -- once so many caches were asked, with so many regions of the last of these to be shed
-abbrev pub asked_hand : Drain → ℕ → ℕ → Hand
+abbrev pub asked_hand : DrainKind → ℕ → ℕ → Hand
 asked_hand kind asked quota =
     record empty_hand { closed = closed_by kind asked; drained = asked; quota = quota }
 
-abbrev pub hand_of : Drain → Draining → Hand
+abbrev pub hand_of : DrainKind → Draining → Hand
 hand_of kind (Ask class) = asked_hand kind class 0
 hand_of kind (Shed class left) = asked_hand kind (class + 1) left
 hand_of kind (Give class left region) =
     record (asked_hand kind (class + 1) left) { region = Some region.id }
 hand_of kind Done = asked_hand kind cached_classes 0
 
-abbrev pub hand_after : Drain → Drains → Hand
+abbrev pub hand_after : DrainKind → Drains → Hand
 hand_after kind (More stage) = hand_of kind stage
 hand_after kind (Held held stage) = hand_of kind stage
 
@@ -99,12 +99,12 @@ abbrev pub classes_from : ℕ → List ℕ
 classes_from class = classes_at class (cached_classes - class)
 
 -- so many regions of the class are shed, and the caches of these classes drained
-abbrev pub sheds_then : Drain → ℕ → ℕ → ℕ → List ℕ → Reader (Unit {0})
+abbrev pub sheds_then : DrainKind → ℕ → ℕ → ℕ → List ℕ → Reader (Unit {0})
 sheds_then kind lane class left classes =
     sheds lane class left >> drain lane (quota_in kind) classes
 
 -- from this stage on
-abbrev pub rest_of : Drain → ℕ → Draining → Reader (Unit {0})
+abbrev pub rest_of : DrainKind → ℕ → Draining → Reader (Unit {0})
 rest_of kind lane (Ask class) = drain lane (quota_in kind) (classes_from class)
 rest_of kind lane (Shed class left) = sheds_then kind lane class left (classes_from (class + 1))
 rest_of kind lane (Give class left region) =
@@ -112,12 +112,12 @@ rest_of kind lane (Give class left region) =
 rest_of kind lane Done = nothing
 
 -- and behind a step
-abbrev pub rest_after : Drain → ℕ → Drains → Reader (Unit {0})
+abbrev pub rest_after : DrainKind → ℕ → Drains → Reader (Unit {0})
 rest_after kind lane (More stage) = rest_of kind lane stage
 rest_after kind lane (Held held stage) = rest_of kind lane stage
 
 -- with so many regions left to shed, the rest is what this stage reads
-abbrev pub IsReadNext : Drain → ℕ → ℕ → Draining → Type 0
+abbrev pub IsReadNext : DrainKind → ℕ → ℕ → Draining → Type 0
 IsReadNext kind class left next =
     (lane : ℕ) → sheds_then kind lane class left (classes_from (class + 1)) ≡ rest_of kind lane next
 
@@ -152,7 +152,7 @@ module _ {G : Ghosts HomeValue Noted} where
 
   -- a seat of the pool with a turn left, and just what the stage has in hand
   pub record MayDrain
-      (pool : SharedPool) (seat : PoolSeat HomeValue G) (kind : Drain) (stage : Draining) : Type 0
+      (pool : SharedPool) (seat : PoolSeat HomeValue G) (kind : DrainKind) (stage : Draining) : Type 0
     where
       pub seat_is : IsPoolSeat pool seat
       pub turn : 0 < (view_of seat).turns
@@ -161,7 +161,7 @@ module _ {G : Ghosts HomeValue Noted} where
 
   -- what a step of the draining came to, and the notes that it wrote into the log
   pub record HasDrained (pool : SharedPool) (old new : PoolSeat HomeValue G)
-      (before after : Vec Note) (kind : Drain) (stage : Draining) (result : Drains) : Type 0
+      (before after : Vec Note) (kind : DrainKind) (stage : Draining) (result : Drains) : Type 0
     where
       pub written : List Note
       pub log : HasWritten before after written

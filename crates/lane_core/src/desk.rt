@@ -19,7 +19,7 @@ ghost use Rattle.lane_core.specs.Allotments as allotment;
 ghost use Rattle.lane_core.specs.Endings as ending;
 ghost use Rattle.lane_core.specs.Desks.{IsDesk, hand_of, Fits, FitsDesk, HasRoomFor, left_for, left_at, IsUnderway, NameFits, AccessFits, HasTurned, HasTurnedClosing};
 ghost use Rattle.lane_core.specs.declared.desk.Stage.{Stage};
-ghost use Rattle.lane_core.specs.declared.draining.Drain.TheVariants.{Close};
+ghost use Rattle.lane_core.specs.declared.draining.DrainKind.TheVariants.{Close};
 ghost use Rattle.lane_core.specs.declared.draining.Draining.{Draining};
 ghost use Rattle.lane_core.specs.Budgets.{notes_alone};
 ghost use Rattle.pool_table.specs.Seats.{view_of};
@@ -27,7 +27,7 @@ ghost use Rattle.pool_table.specs.Seats.{view_of};
 use crate::access::{Access, Reach, Refusal, counted, derived};
 use crate::allotment::{Allots, Allotting, allot};
 use crate::counts::OwnCounts;
-use crate::draining::{Drain, Draining, Drains, drain};
+use crate::draining::{DrainKind, Draining, Drains, drain};
 use crate::names::Names;
 use crate::notes::{at, lane_of, to, write};
 use crate::retirement::{Ending, Ends, end};
@@ -479,9 +479,11 @@ impl Desk {
         ensures { (s : LaneState) (command : Command) → NamesAre s.names self.old.names →
             HasTurned pool.now self.old self.new s command (Stage.Sweeping reply stage) result }
     {
-        match drain(pool, &mut self.seat, &mut self.notes, Drain::Trim, stage) {
-            Drains::More(Draining::Done) => self.answer(reply),
-            Drains::More(stage) => Turn::Went(Stage::Sweeping { reply, stage }),
+        match drain(pool, &mut self.seat, &mut self.notes, DrainKind::Trim, stage) {
+            Drains::More(stage) => match stage {
+                Draining::Done => self.answer(reply),
+                stage => Turn::Went(Stage::Sweeping { reply, stage }),
+            },
             Drains::Held(held, stage) => Turn::Pending(held, Stage::Sweeping { reply, stage }),
         }
     }
@@ -609,7 +611,7 @@ impl Desk {
         requires more { stage ≢ Draining.Done }
         ensures { HasTurnedClosing pool.now self.old self.new stage result }
     {
-        match drain(pool, &mut self.seat, &mut self.notes, Drain::Close, stage) {
+        match drain(pool, &mut self.seat, &mut self.notes, DrainKind::Close, stage) {
             Drains::More(stage) => Turn::Went(Stage::Closing(stage)),
             Drains::Held(held, stage) => Turn::Pending(held, Stage::Closing(stage)),
         }

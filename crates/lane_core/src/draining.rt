@@ -21,7 +21,7 @@ use shared_pool::{PoolSeat, SharedPool, Went};
 
 /// What each cache is asked for: what it doesn't need, or all that it has.
 #[derive(Clone, Copy)]
-pub(crate) enum Drain {
+pub(crate) enum DrainKind {
     Trim,
     Close,
 }
@@ -59,7 +59,7 @@ pub(crate) fn drain(
     pool: &SharedPool,
     seat: &mut PoolSeat,
     log: &mut Vec<Note>,
-    kind: Drain,
+    kind: DrainKind,
     stage: Draining,
 ) -> Drains
     requires may { MayDrain pool.now seat.old kind stage }
@@ -81,7 +81,7 @@ pub(crate) fn drain(
 }
 
 // What comes when so many regions are left to shed.
-fn after(kind: Drain, class: u32, left: u32) -> Draining
+fn after(kind: DrainKind, class: u32, left: u32) -> Draining
     requires { class < cached_classes }
     ensures next { IsNext class left result }
     ensures hand { hand_of kind result ≡ hand_of kind (Shed class left) }
@@ -97,12 +97,12 @@ fn after(kind: Drain, class: u32, left: u32) -> Draining
 }
 
 // Asks the cache of a class how many regions are to be shed.
-fn quota(pool: &SharedPool, seat: &mut PoolSeat, kind: Drain, class: u32) -> Went<u32, ()>
+fn quota(pool: &SharedPool, seat: &mut PoolSeat, kind: DrainKind, class: u32) -> Went<u32, ()>
     requires seat { IsPoolSeat pool.now seat.old }
     requires turn { 0 < (view_of seat.old).turns }
     requires class { class < cached_classes }
     requires no_quota { quota_left (lane_of seat.old) class (view_of seat.old).own.notes ≡ 0 }
-    requires not_closed { kind ≡ Drain.Close →
+    requires not_closed { kind ≡ DrainKind.Close →
         has_closed (lane_of seat.old) class (view_of seat.old).own.notes ≡ false }
     ensures same { SameSeat seat.old seat.new }
     ensures seat { IsPoolSeat pool.now seat.new }
@@ -115,18 +115,18 @@ fn quota(pool: &SharedPool, seat: &mut PoolSeat, kind: Drain, class: u32) -> Wen
         FoundBusy pool.now (Cache (lane_of seat.old) class) false seat.old seat.new held) }
 {
     match kind {
-        Drain::Trim => pool.trim_cached(seat, class),
-        Drain::Close => pool.close_cached(seat, class),
+        DrainKind::Trim => pool.trim_cached(seat, class),
+        DrainKind::Close => pool.close_cached(seat, class),
     }
 }
 
 // What a cache notes that was asked.
-fn noted(kind: Drain, quota: u32) -> Did
+fn noted(kind: DrainKind, quota: u32) -> Did
     ensures { result ≡ quota_note kind quota }
 {
     match kind {
-        Drain::Trim => Did::Trim(quota),
-        Drain::Close => Did::Close(quota),
+        DrainKind::Trim => Did::Trim(quota),
+        DrainKind::Close => Did::Close(quota),
     }
 }
 
@@ -134,7 +134,7 @@ fn ask(
     pool: &SharedPool,
     seat: &mut PoolSeat,
     log: &mut Vec<Note>,
-    kind: Drain,
+    kind: DrainKind,
     class: u32,
 ) -> Drains
     requires may { MayDrain pool.now seat.old kind (Ask class) }
@@ -158,7 +158,7 @@ fn shed(
     pool: &SharedPool,
     seat: &mut PoolSeat,
     log: &mut Vec<Note>,
-    kind: Drain,
+    kind: DrainKind,
     class: u32,
     left: u32,
 ) -> Drains
@@ -188,7 +188,7 @@ fn give(
     pool: &SharedPool,
     seat: &mut PoolSeat,
     log: &mut Vec<Note>,
-    kind: Drain,
+    kind: DrainKind,
     class: u32,
     left: u32,
     region: Region,

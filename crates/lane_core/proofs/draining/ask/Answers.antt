@@ -4,8 +4,8 @@ use Rattle.pool_law.specs.declared.note.Object.TheVariants.{Cache}
 use Rattle.pool_table.specs.Seats.{view_of}
 use Rattle.shared_pool.specs.SeatLanes.{lane_of}
 use Rattle.lane_core.specs.declared.draining.Draining.TheVariants.{Ask}
-use Rattle.lane_core.specs.declared.draining.Drain.{Drain}
-use Rattle.lane_core.specs.declared.draining.Drain.TheVariants.{Close}
+use Rattle.lane_core.specs.declared.draining.DrainKind.{DrainKind}
+use Rattle.lane_core.specs.declared.draining.DrainKind.TheVariants.{Close}
 use Rattle.lane_core.specs.Hands.{IsHeld}
 use Rattle.lane_core.specs.Drainings.{hand_of, quota_note}
 use Rattle.lane_core.proofs.DrainSteps.{gave_quota, found_held}
@@ -17,7 +17,7 @@ quota-requires-clause-no_quota c = none_left (view_of c.args.seat.now) (hand_of 
 
 pub quota-requires-clause-not_closed : goal.quota-requires-clause-not_closed
 quota-requires-clause-not_closed c = λ closes.
-    let hand : IsHeld (hand_of Close (Ask c.args.class)) (view_of c.args.seat.now) = subst (λ (k : Drain). IsHeld (hand_of k (Ask c.args.class)) (view_of c.args.seat.now)) closes c.requires.may.hand in
+    let hand : IsHeld (hand_of Close (Ask c.args.class)) (view_of c.args.seat.now) = subst (λ (k : DrainKind). IsHeld (hand_of k (Ask c.args.class)) (view_of c.args.seat.now)) closes c.requires.may.hand in
     not_closed_yet (view_of c.args.seat.now) (hand_of Close (Ask c.args.class)) c.args.class hand
 
 pub returns-in-Did : goal.returns-in-Did

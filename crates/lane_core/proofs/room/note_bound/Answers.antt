@@ -20,3 +20,12 @@ loop-command-preserved c =
       asks = (let n = asks.asks in omega (arith, more, n, a));
       few = (let n = asks.few in omega (arith, n, f));
     }
+
+pub returns-clause-bound : goal.returns-clause-bound
+returns-clause-bound c =
+    let cs = c.args.commands.now in let i = c.loop-command.command-index in let inv = c.loop-command.invariant in
+    let all : take i cs ≡ cs = take_all i cs (omega arith) in
+    let notes = ap (λ (xs : List Command). (left_for_all xs).notes) all in
+    let asks = ap (λ (xs : List Command). (left_for_all xs).asks) all in
+    let bound = bound_is cs c.requires.plain in let b = inv.bound in let a = inv.asks in
+    omega (arith, notes, asks, bound, b, a)

@@ -2,7 +2,8 @@ use Rattle.std.proofs.Common.{◌≡◌, ◌≤◌, List, [], ◌∷◌, false, 
 use Rattle.std.proofs.lemmas.List.Elements.{All-cons, All-nil}
 use Rattle.pool_law.specs.declared.command.Command.{Command}
 use Rattle.lane_core.specs.declared.tests.TheConstants.{LAYOUT}
-use Rattle.lane_core.specs.Lanes.{left_for_all, note_bound}
+use Rattle.pool_law.specs.Bounds.{note_bound}
+use Rattle.lane_core.specs.Lanes.{left_for_all}
 use Rattle.lane_core.specs.Opened.{AreFirst, IsPlain}
 use Rattle.lane_core.proofs.tests.a_root_lives_and_ends.Goals as goal
 

@@ -13,7 +13,8 @@ use Rattle.shared_pool.specs.declared.pool.SharedPool.{SharedPool}
 use Rattle.shared_pool.specs.Opening.{IsOpened}
 use Rattle.shared_pool.specs.SeatLanes.{lane_of}
 use Rattle.lane_core.specs.declared.tests.TheConstants.{LAYOUT}
-use Rattle.lane_core.specs.Lanes.{left_for_all, note_bound}
+use Rattle.pool_law.specs.Bounds.{note_bound}
+use Rattle.lane_core.specs.Lanes.{left_for_all}
 use Rattle.lane_core.specs.Opened.{IsFirstSeat}
 use Rattle.lane_core.proofs.tests.begin.Goals as goal
 

@@ -1,7 +1,7 @@
 use Rattle.std.proofs.Common.{refl, subst}
 use Rattle.pool_table.specs.Seats.{view_of}
 use Rattle.lane_core.specs.declared.desk.Desk.{Desk}
-use Rattle.lane_core.specs.declared.draining.Drain.TheVariants.{Close}
+use Rattle.lane_core.specs.declared.draining.DrainKind.TheVariants.{Close}
 use Rattle.lane_core.specs.declared.draining.Drains.{Drains}
 use Rattle.lane_core.specs.Drainings as draining
 use Rattle.lane_core.proofs.StageTurns.{may_drain, log_room, close_goes, close_waits}

@@ -1,20 +1,22 @@
-use Rattle.std.proofs.Common.{refl, sym, subst}
+use Rattle.std.proofs.Common.{refl, sym, ap, ◌∙◌, subst}
 use Rattle.pool_table.specs.Seats.{view_of}
 use Rattle.lane_core.specs.declared.desk.Desk.{Desk}
 use Rattle.lane_core.specs.declared.desk.Stage.TheVariants.{Sweeping}
 use Rattle.lane_core.specs.declared.desk.Turn.{Turn}
-use Rattle.lane_core.specs.declared.draining.Drain.TheVariants.{Trim}
+use Rattle.lane_core.specs.declared.draining.DrainKind.TheVariants.{Trim}
+use Rattle.lane_core.specs.declared.draining.Draining.{Draining}
 use Rattle.lane_core.specs.declared.draining.Drains.{Drains}
+use Rattle.lane_core.specs.declared.draining.Drains.TheVariants.{More as DrainMore}
 use Rattle.lane_core.specs.Desks.{HasTurned}
 use Rattle.lane_core.specs.Drainings as draining
 use Rattle.lane_core.proofs.StageTurns.{may_drain, drain_can, log_room, sweep_goes, sweep_waits, sweep_done}
 use Rattle.lane_core.proofs.desk.Desk.sweep.Goals as goal
 
 pub drain-requires-clause-may : goal.drain-requires-clause-may
-drain-requires-clause-may c = may_drain c.args.pool.now c.args.self.now Trim c.args.stage c.requires.desk c.requires.room c.requires.fits.0 c.requires.fits.1.1.1
+drain-requires-clause-may c = may_drain c.args.pool.now c.args.self.now Trim c.args.stage c.requires.desk c.requires.room c.requires.fits.0 c.requires.fits.3
 
 pub drain-requires-clause-more : goal.drain-requires-clause-more
-drain-requires-clause-more c = c.requires.fits.1.1.1
+drain-requires-clause-more c = c.requires.fits.3
 
 pub drain-requires-clause-room : goal.drain-requires-clause-room
 drain-requires-clause-room c =
@@ -25,21 +27,21 @@ answer-requires c =
     let old = c.args.self.now in let mid : Desk = record old { seat = c.drain.new.seat; notes = c.drain.new.log } in
     drain_can c.args.pool.now old mid Trim c.args.stage c.requires.desk refl c.drain.result c.drain.ensures c.requires.room c.requires.replies
 
-pub returns-in-More-Done : goal.returns-in-More-Done
-returns-in-More-Done c = λ s command are.
+pub returns-in-Done : goal.returns-in-Done
+returns-in-Done c = λ s command are.
     let old = c.args.self.now in let mid : Desk = record old { seat = c.drain.new.seat; notes = c.drain.new.log } in
     subst (λ (t : Turn). HasTurned c.args.pool.now old c.answer.new.self s command (Sweeping c.args.reply c.args.stage) t) (sym c.answer.ensures.ready)
-    (sweep_done c.args.pool.now old mid c.args.reply c.args.stage c.requires.desk c.requires.fits.1.0 c.requires.fits.1.1.0 c.requires.fits.1.1.1 refl s command are c.answer.new.self
-    (subst (λ (x : Drains). draining.HasDrained c.args.pool.now old.seat mid.seat old.notes mid.notes Trim c.args.stage x) c.in-More-Done.is c.drain.ensures) c.answer.ensures.replied)
+    (sweep_done c.args.pool.now old mid c.args.reply c.args.stage c.requires.desk c.requires.fits.1 c.requires.fits.2 c.requires.fits.3 refl s command are c.answer.new.self
+    (subst (λ (x : Drains). draining.HasDrained c.args.pool.now old.seat mid.seat old.notes mid.notes Trim c.args.stage x) (c.in-More.is ∙ ap (λ (x : Draining). DrainMore x) c.in-Done.is) c.drain.ensures) c.answer.ensures.replied)
 
-pub returns-in-More : goal.returns-in-More
-returns-in-More c = λ s command are.
+pub returns-in_default : goal.returns-in_default
+returns-in_default c = λ s command are.
     let old = c.args.self.now in let mid : Desk = record old { seat = c.drain.new.seat; notes = c.drain.new.log } in
-    sweep_goes c.args.pool.now old mid c.args.reply c.args.stage c.requires.desk c.requires.fits.1.0 c.requires.fits.1.1.0 c.requires.fits.1.1.1 refl s command are c.in-More.stage (λ is. ?)
+    sweep_goes c.args.pool.now old mid c.args.reply c.args.stage c.requires.desk c.requires.fits.1 c.requires.fits.2 c.requires.fits.3 refl s command are c.in-More.stage c.in_default.not-Done
     (subst (λ (x : Drains). draining.HasDrained c.args.pool.now old.seat mid.seat old.notes mid.notes Trim c.args.stage x) c.in-More.is c.drain.ensures)
 
 pub returns-in-Held : goal.returns-in-Held
 returns-in-Held c = λ s command are.
     let old = c.args.self.now in let mid : Desk = record old { seat = c.drain.new.seat; notes = c.drain.new.log } in
-    sweep_waits c.args.pool.now old mid c.args.reply c.args.stage c.requires.desk c.requires.fits.1.0 c.requires.fits.1.1.0 c.requires.fits.1.1.1 refl s command are c.in-Held.held c.in-Held.stage
+    sweep_waits c.args.pool.now old mid c.args.reply c.args.stage c.requires.desk c.requires.fits.1 c.requires.fits.2 c.requires.fits.3 refl s command are c.in-Held.held c.in-Held.stage
     (subst (λ (x : Drains). draining.HasDrained c.args.pool.now old.seat mid.seat old.notes mid.notes Trim c.args.stage x) c.in-Held.is c.drain.ensures)

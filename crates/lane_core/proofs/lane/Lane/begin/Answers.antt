@@ -1,19 +1,21 @@
-use Rattle.std.proofs.Common.{◌+◌, List, length, drop, ap, subst, arith, Option}
+use Rattle.std.proofs.Common.{◌+◌, true, false, List, length, drop, ap, subst, arith, Option}
 use Rattle.std.specs.Prelude.{IfSome}
 use Rattle.pool_law.specs.declared.command.Command.{Command}
-use Rattle.pool_law.specs.Lanes.{LaneState}
+use Rattle.pool_law.specs.LaneStates.{LaneState}
 use Rattle.lane_core.specs.declared.access.Access.{Access}
 use Rattle.lane_core.specs.declared.desk.Desk.{Desk}
 use Rattle.lane_core.specs.Accesses.{IsAccess, IsState, IsPrepared}
 use Rattle.lane_core.specs.Budgets.{notes_alone}
 use Rattle.lane_core.specs.Desks.{left_for, HasRoomFor}
-use Rattle.lane_core.proofs.LaneTurns.{first_room, front_is, none_left, begin_state, begin_room, begun_lane, begun_same, begun_so, closes_lane, closes_same, closes_so}
+use Rattle.lane_core.proofs.LaneTurns.{first_desk, first_room, front_is, none_left, begin_state, begin_room, begin_asked, begun_lane, begun_same, begun_so, closes_lane, closes_same, closes_so}
 use Rattle.lane_core.proofs.lane.Lane.begin.Goals as goal
 
 -- an access makes one note
 access_room : (d : Desk) (command : Command) → IsAccess command → HasRoomFor d (left_for command) → HasRoomFor d (notes_alone 1)
-access_room d (Command.Set name at bytes tries) is room = room
-access_room d (Command.Get name at len tries) is room = room
+access_room d (Command.Set name at bytes true) is room = room
+access_room d (Command.Set name at bytes false) is room = room
+access_room d (Command.Get name at len true) is room = room
+access_room d (Command.Get name at len false) is room = room
 access_room d (Command.Write name bytes) is room = room
 access_room d (Command.Read name len) is room = room
 access_room d (Command.Alloc name size) is room = absurd is
@@ -28,6 +30,11 @@ access_room d (Command.Send name lane) is room = absurd is
 access_room d (Command.Recv fresh lane) is room = absurd is
 access_room d (Command.Compose fresh names) is room = absurd is
 access_room d (Command.Add whole name) is room = absurd is
+
+pub close-turn-requires-clause-desk : goal.close-turn-requires-clause-desk
+close-turn-requires-clause-desk g c =
+    let l = c.args.self.now in
+    first_desk c.args.pool.now l c.requires.lane c.requires.ready (none_left l c.len-line.result c.items.result.now (omega (arith, c.len-line.ensures, l.desk.replies.ok.0)) c.items.ensures c.in_default.ensures.lookup.3)
 
 pub close-turn-requires-clause-room : goal.close-turn-requires-clause-room
 close-turn-requires-clause-room g c =
@@ -53,6 +60,12 @@ access-turn-requires-clause-room g c =
     (begin_room c.args.pool.now l c.requires.lane c.requires.ready command (drop (c.len-line.result + 1) l.commands)
     (front_is l c.len-line.result c.items.result.now command (omega (arith, c.len-line.ensures, l.desk.replies.ok.0)) c.items.ensures c.in-Some.ensures.lookup.3.0 c.in-Some.ensures.lookup.1))
 
+pub access-turn-requires-clause-asked : goal.access-turn-requires-clause-asked
+access-turn-requires-clause-asked g c =
+    let l = c.args.self.now in let command = c.in-Some.command.now in
+    begin_asked c.args.pool.now l c.requires.lane c.requires.ready command (drop (c.len-line.result + 1) l.commands)
+    (front_is l c.len-line.result c.items.result.now command (omega (arith, c.len-line.ensures, l.desk.replies.ok.0)) c.items.ensures c.in-Some.ensures.lookup.3.0 c.in-Some.ensures.lookup.1)
+
 pub access-turn-requires-clause-ready : goal.access-turn-requires-clause-ready
 access-turn-requires-clause-ready g c =
     let l = c.args.self.now in let command = c.in-Some.command.now in let lane = c.requires.lane in
@@ -66,6 +79,12 @@ pub obey-turn-requires-clause-room : goal.obey-turn-requires-clause-room
 obey-turn-requires-clause-room g c =
     let l = c.args.self.now in let command = c.in-Some.command.now in
     begin_room c.args.pool.now l c.requires.lane c.requires.ready command (drop (c.len-line.result + 1) l.commands)
+    (front_is l c.len-line.result c.items.result.now command (omega (arith, c.len-line.ensures, l.desk.replies.ok.0)) c.items.ensures c.in-Some.ensures.lookup.3.0 c.in-Some.ensures.lookup.1)
+
+pub obey-turn-requires-clause-asked : goal.obey-turn-requires-clause-asked
+obey-turn-requires-clause-asked g c =
+    let l = c.args.self.now in let command = c.in-Some.command.now in
+    begin_asked c.args.pool.now l c.requires.lane c.requires.ready command (drop (c.len-line.result + 1) l.commands)
     (front_is l c.len-line.result c.items.result.now command (omega (arith, c.len-line.ensures, l.desk.replies.ok.0)) c.items.ensures c.in-Some.ensures.lookup.3.0 c.in-Some.ensures.lookup.1)
 
 pub returns-in-Some-access : goal.returns-in-Some-access

@@ -19,6 +19,7 @@ returns-clause-lane c = λ pool first.
             replies = p.log.0;
             notes = p.log.1;
             begun = 0;
+            asked = 0;
           };
       stage = Ready;
       asked = 0;

@@ -1,9 +1,10 @@
 use Rattle.std.proofs.Common.{◌≡◌, sym, ap, ◌∙◌, subst, Ok}
 use Rattle.pool_law.specs.declared.command.Command.{Command}
+use Rattle.pool_table.specs.Seats.{view_of}
 use Rattle.lane_core.specs.declared.desk.Stage.{Stage}
 use Rattle.lane_core.specs.declared.desk.Stage.TheVariants.{Closing}
-use Rattle.lane_core.specs.declared.closing.Closing.TheVariants.{Done}
-use Rattle.pool_law.specs.Lanes.{LaneState}
+use Rattle.lane_core.specs.declared.draining.Draining.TheVariants.{Done}
+use Rattle.pool_law.specs.LaneStates.{LaneState}
 use Rattle.lane_core.specs.Named.{NamesAre}
 use Rattle.lane_core.specs.declared.lane.Stepped.{Stepped}
 use Rattle.lane_core.specs.Desks.{HasTurned, HasRoomFor, left_at}
@@ -28,7 +29,7 @@ returns-in-Closing g c =
 
 pub go_on-turn-requires-clause-room : goal.go_on-turn-requires-clause-room
 go_on-turn-requires-clause-room g c =
-    λ command. subst (λ (x : Stage). HasRoomFor c.args.self.now.desk (left_at command x)) (sym c.replace.ensures.value)
+    λ command. subst (λ (x : Stage). HasRoomFor c.args.self.now.desk (left_at command x (view_of c.args.self.now.desk.seat))) (sym c.replace.ensures.value)
     (underway_room c.args.pool.now c.args.self.now c.requires.lane (underway c.args.self.now.stage (λ e. c.in_default.not-Ready (c.replace.ensures.value ∙ e)) (λ x e. c.in_default.not-Closing x (c.replace.ensures.value ∙ e))) command)
 
 pub go_on-turn-requires-clause-replies : goal.go_on-turn-requires-clause-replies
