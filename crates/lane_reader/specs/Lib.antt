@@ -6,3 +6,7 @@ pub mod Parting
 pub mod Counting
 pub mod Consolidating
 pub mod Standing
+pub mod Bounding
+pub mod Candidates
+pub mod Replying
+pub mod Turning

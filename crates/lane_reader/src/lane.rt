@@ -1,6 +1,6 @@
 //! A lane between two commands: its names, its counts, and how many allocations asked a cache.
 
-ghost use Rattle.std.specs.Prelude.{◌≡◌, ◌-◌, ◌^◌, length, map, option_map, OnOk};
+ghost use Rattle.std.specs.Prelude.{◌≡◌, ◌+◌, ◌-◌, ◌^◌, ℕ, length, map, option_map, IfSome, OnOk};
 ghost use Rattle.std.specs.Option.{option_copied};
 ghost use Rattle.pool_law.specs.declared.id.RootId.{RootId};
 ghost use Rattle.pool_law.specs.Counts.{count_from};
@@ -10,6 +10,7 @@ ghost use Rattle.lane_reader.specs.Reading.{entries};
 ghost use Rattle.lane_reader.specs.Viewing.{part_of, bound_of};
 ghost use Rattle.std.specs.List.{list_all};
 ghost use Rattle.lane_reader.specs.Counting.{count_in, AreWithin};
+ghost use Rattle.lane_reader.specs.Bounding.{AreBounded, IsBounded, ChangeIsBounded, UpdateIsBounded};
 ghost use Rattle.lane_reader.specs.Standing.{IsLane, AreNames, rebound, changed};
 
 use crate::bound::{Bound, Change, Update};
@@ -43,8 +44,10 @@ impl Lane {
 
     /// What a name is bound to.
     pub(crate) fn named(&self, name: u32) -> Option<&Bound>
-        ensures { (s : LaneState) → IsLane self.now s
+        ensures is { (s : LaneState) → IsLane self.now s
             → named s name ≡ option_map bound_of (option_copied result) }
+        ensures bounded { (most : ℕ) → AreBounded most self.now
+            → IfSome (option_copied result) (IsBounded most) }
     {
         self.names.get(&name)
     }
@@ -97,6 +100,8 @@ impl Lane {
     fn update(&mut self, name: u32, update: Update) -> Result<(), AllocError>
         ensures names { (s : LaneState) → IsLane self.old s
             → OnOk result (AreNames self.new (rebound name update s.names)) }
+        ensures bounded { (most : ℕ) → AreBounded most self.old → UpdateIsBounded most update
+            → OnOk result (AreBounded most self.new) }
         ensures counts { self.new.counts ≡ self.old.counts }
         ensures asked { self.new.asked ≡ self.old.asked }
     {
@@ -110,6 +115,8 @@ impl Lane {
     pub(crate) fn change(&mut self, change: Change) -> Result<(), AllocError>
         ensures names { (s : LaneState) → IsLane self.old s
             → OnOk result (AreNames self.new (changed change s.names)) }
+        ensures bounded { (most : ℕ) → AreBounded most self.old → ChangeIsBounded most change
+            → OnOk result (AreBounded most self.new) }
         ensures counts { self.new.counts ≡ self.old.counts }
         ensures asked { self.new.asked ≡ self.old.asked }
     {
@@ -132,6 +139,8 @@ impl Lane {
         requires { AreWithin self.old.counts (2 ^ 64 - 1 - length log.now.notes.now) }
         ensures counts { (root : RootId) → OnOk result (count_in self.new.counts root
             ≡ count_from root (count_in self.old.counts root) (entries log.now)) }
+        ensures within { (most : ℕ) → AreWithin self.old.counts most
+            → OnOk result (AreWithin self.new.counts (most + length log.now.notes.now)) }
         ensures names { self.new.names ≡ self.old.names }
         ensures asked { self.new.asked ≡ self.old.asked }
     {

@@ -5,6 +5,8 @@
 //! name: it gives what they say and the place behind them, or nothing where the notes are others.
 
 mod bound;
+mod candidate;
+mod carrying;
 mod composite;
 mod counts;
 mod drains;
@@ -13,7 +15,13 @@ mod log;
 mod notes;
 mod parts;
 mod patterns;
+mod refusing;
+mod replies;
 mod same;
+mod setting;
+mod turns;
 mod view;
+mod whole;
 
 pub use log::{Log, Told};
+pub use whole::is_lane_log;
