@@ -5,11 +5,13 @@
 //! name: it gives what they say and the place behind them, or nothing where the notes are others.
 
 mod bound;
+mod byte_rows;
 mod candidate;
 mod carrying;
 mod composite;
 mod counts;
 mod drains;
+mod forgetting;
 mod lane;
 mod log;
 mod notes;
