@@ -4,6 +4,7 @@
 //! Each function reads some of a log's notes from a place on, as the reading of the law that has its
 //! name: it gives what they say and the place behind them, or nothing where the notes are others.
 
+mod alloc_row;
 mod bound;
 mod byte_rows;
 mod candidate;
@@ -11,9 +12,9 @@ mod carrying;
 mod composite;
 mod counts;
 mod drains;
-mod forgetting;
 mod lane;
 mod log;
+mod mail_rows;
 mod notes;
 mod parts;
 mod patterns;
@@ -23,6 +24,7 @@ mod same;
 mod setting;
 mod turns;
 mod view;
+mod view_rows;
 mod whole;
 
 pub use log::{Log, Told};
