@@ -5,4 +5,3 @@ pub mod DrainLemmas
 pub mod PartLemmas
 pub mod CountLemmas
 pub mod NameLemmas
-pub mod RowLemmas

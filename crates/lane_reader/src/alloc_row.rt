@@ -10,7 +10,7 @@ use crate::bound::{Bound, Change};
 use crate::lane::Lane;
 use crate::log::{At, Log};
 use crate::patterns::Allotted;
-use crate::replies::{says, Said};
+use crate::replies::{Said, says};
 use crate::setting::Setting;
 use crate::view::View;
 use pool_law::Reply;
@@ -38,8 +38,8 @@ impl Log<'_> {
             (Allotted::Full, behind) => says(reply, Said::Full).then_some((Change::Same, behind)),
             (Allotted::New { root, region }, behind) => {
                 let bound = Bound::Plain(View::whole(root));
-                says(reply, Said::OkPlace(region.place))
-                    .then_some((Change::Bind { name, bound }, behind))
+                let change = Change::Bind { name, bound };
+                says(reply, Said::OkPlace(region.place)).then_some((change, behind))
             }
         }
     }

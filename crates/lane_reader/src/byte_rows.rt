@@ -1,7 +1,7 @@
 //! Bytes that are set and got by a name.
 
-ghost use Rattle.std.specs.Prelude.{◌≡◌, ℕ, ◌+◌, ◌-◌, ◌<◌, ◌^◌, nat_le, if◌then◌else◌, Some, None, IfSome};
-ghost use Rattle.std.specs.Prelude.{true, false};
+ghost use Rattle.std.specs.Prelude.{◌≡◌, ℕ, ◌+◌, ◌-◌, ◌<◌, ◌^◌, nat_le, if◌then◌else◌, true, false};
+ghost use Rattle.std.specs.Prelude.{Some, None, IfSome};
 ghost use Rattle.pool_law.specs.declared.command.Command.{Command};
 ghost use Rattle.pool_law.specs.Lanes.{get_parts};
 ghost use Rattle.pool_law.specs.Names.{has_to_read, has_room, parts_at, reader_of, writer_of};
@@ -17,10 +17,10 @@ use crate::bound::{Bound, Change, Update};
 use crate::composite::size_of;
 use crate::lane::Lane;
 use crate::log::{At, Log};
-use crate::replies::{says, Said};
+use crate::replies::{Said, says};
 use pool_law::{Bytes, Object, Reply};
 
-// An index so much further, if it then is at most the end.
+// An index so much further, if there is so much between it and the end.
 fn further(index: u32, len: u32, end: u32) -> Option<u32>
     ensures { result ≡ (if nat_le len (end - index) then Some (index + len) else None) }
 {
@@ -31,8 +31,8 @@ fn further(index: u32, len: u32, end: u32) -> Option<u32>
     }
 }
 
-// An index so much further, if it then is at most the size.
-fn written(index: u32, len: usize, size: u64) -> Option<u32>
+// An index so much further, if it is then at most the size.
+fn further_within(index: u32, len: usize, size: u64) -> Option<u32>
     requires { size < 2 ^ 32 }
     ensures { result ≡ (if nat_le (index + len) size then Some (index + len) else None) }
 {
@@ -84,9 +84,9 @@ impl Bound {
             ≡ (if has_room len bound then Some (writer_of bound + len) else None) }
     {
         match self {
-            Bound::Plain(view) => written(view.writer, len, u64::from(view.len)),
+            Bound::Plain(view) => further_within(view.writer, len, u64::from(view.len)),
             Bound::Composed(composite) => {
-                written(composite.writer, len, size_of(&composite.parts))
+                further_within(composite.writer, len, size_of(&composite.parts))
             }
         }
     }
@@ -147,7 +147,6 @@ impl Log<'_> {
     }
 
     /// Bytes are got at an index.
-    #[tactic(auto, using(crate::proofs::RowLemmas::got_is_said))]
     pub(crate) fn get_row(
         &self,
         at: At,
@@ -167,7 +166,6 @@ impl Log<'_> {
     }
 
     /// Bytes are got at an index, unless another lane is at the root.
-    #[tactic(auto, using(crate::proofs::RowLemmas::got_is_said))]
     pub(crate) fn try_get_row(
         &self,
         at: At,
@@ -212,7 +210,6 @@ impl Log<'_> {
     }
 
     /// The next bytes are read.
-    #[tactic(auto, using(crate::proofs::RowLemmas::got_is_said))]
     pub(crate) fn read_row(
         &self,
         at: At,

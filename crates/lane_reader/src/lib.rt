@@ -10,6 +10,8 @@ mod byte_rows;
 mod candidate;
 mod carrying;
 mod composite;
+mod composite_rows;
+mod count_rows;
 mod counts;
 mod drains;
 mod lane;

@@ -13,7 +13,7 @@ ghost use Rattle.lane_reader.specs.Viewing.{data_of};
 use crate::bound::{Bound, Change};
 use crate::lane::Lane;
 use crate::log::{At, Log};
-use crate::replies::{says, Said};
+use crate::replies::{Said, says};
 use crate::setting::Setting;
 use crate::view::View;
 use pool_law::{Did, Object, Parcel, Reply};
@@ -41,7 +41,8 @@ impl Log<'_> {
         to: u32,
         reply: &Reply,
     ) -> Option<(Change, At)>
-        ensures row { Carries setting.now lane.now (Command.Send name to) reply.now self.now at result }
+        ensures row { Carries setting.now lane.now (Command.Send name to) reply.now self.now at
+            result }
         ensures bounded { (most : ℕ) → IfSome result (λ p. ChangeIsBounded most p.0) }
     {
         let view = lane.view_named(name)?;

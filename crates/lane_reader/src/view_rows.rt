@@ -16,7 +16,7 @@ ghost use Rattle.lane_reader.specs.Viewing.{data_of};
 use crate::bound::{Bound, Change};
 use crate::lane::Lane;
 use crate::log::{At, Log};
-use crate::replies::{says, Said};
+use crate::replies::{Said, says};
 use crate::view::View;
 use pool_law::{Reply, RootId};
 
