@@ -303,8 +303,10 @@ module _ (pool : SharedPool) (old mid : Desk) (name size class : ℕ) (stage : A
             spends = spends_at old mid (allotment.left_of stage) (allotment.left_of next)
                 (subst (λ x. Spends (view_of old.seat) (view_of x) (allotment.left_of stage) (allotment.left_of next)) (sym seat_is) did.spends) (omega (arith, few, is));
             name = name_fits (AllotHeld held next) did lt;
-            comes = (λ log. ap (λ (at : AllotStage). reads_at_stage at log) (sym did.again.0),
-              staged_still pool (allotment.hand_of stage) after old allot_start mid did.wrote.added (λ root. 0) st (none_of did.wrote.added (did.wrote.noted ∙ did.again.1)) (let a = few in let b = asks_least stage old.asked in let e = ap (λ (at : AllotStage). (allotment.left_of at).asks) did.again.0 in omega (arith, a, b, e)));
+            comes = (
+              λ log. ap (λ (at : AllotStage). reads_at_stage at log) (sym did.again.0),
+              staged_still pool (allotment.hand_of stage) after old allot_start mid did.wrote.added (λ root. 0) st (none_of did.wrote.added (did.wrote.noted ∙ did.again.1)) (let a = few in let b = asks_least stage old.asked in let e = ap (λ (at : AllotStage). (allotment.left_of at).asks) did.again.0 in omega (arith, a, b, e)),
+            );
             waits = tt;
             held = subst (λ x. FoundBusy pool held.object false old.seat x held) (sym seat_is) did.again.2;
           }
@@ -419,8 +421,10 @@ module _ (pool : SharedPool) (old mid : Desk) (stage : EndStage) (d : IsDesk poo
           fits = (subst (λ x. ending.Fits pool x next) (sym seat_is) did.fits, still_low);
           spends = spends_at old mid (ending.left_of stage) (ending.left_of next) (subst (λ x. Spends (view_of old.seat) (view_of x) (ending.left_of stage) (ending.left_of next)) (sym seat_is) did.spends) (none_left next);
           name = tt;
-          comes = (λ log. ap (λ (at : EndStage). (ends_at at >>= swept (lane_of old.seat)) log) (sym did.again.0),
-            staged_still pool (ending.hand_of stage) after old end_start mid es (λ root. 0) st (none_of es ((did.wrote old.sampler).noted ∙ did.again.1)) refl);
+          comes = (
+            λ log. ap (λ (at : EndStage). (ends_at at >>= swept (lane_of old.seat)) log) (sym did.again.0),
+            staged_still pool (ending.hand_of stage) after old end_start mid es (λ root. 0) st (none_of es ((did.wrote old.sampler).noted ∙ did.again.1)) refl,
+          );
           waits = tt;
           held = subst (λ x. FoundBusy pool held.object false old.seat x held) (sym seat_is) did.again.2;
         }
@@ -558,8 +562,10 @@ module _ (pool : SharedPool) (old mid : Desk) (reply : Reply) (stage : Draining)
         fits = (did.fits, low_still, unstopped, λ is. more_is (sym did.again.0 ∙ is));
         name = tt;
         spends = drained_spends pool old mid Trim stage d mid_so (DrainHeld held next) did (draining.left_of next (view_of mid.seat)) (no_asks pool old mid Trim stage d mid_so next (view_of mid.seat)) did.spends;
-        comes = (λ log. ap (λ (at : Draining). sweeps_at at log) (sym did.again.0),
-          staged_still pool (draining.hand_of Trim stage) (draining.hand_of Trim next) old (record old { seat = mid.seat }) mid es (λ root. 0) st (none_of es ((did.wrote old.sampler).noted ∙ did.again.1)) refl);
+        comes = (
+          λ log. ap (λ (at : Draining). sweeps_at at log) (sym did.again.0),
+          staged_still pool (draining.hand_of Trim stage) (draining.hand_of Trim next) old (record old { seat = mid.seat }) mid es (λ root. 0) st (none_of es ((did.wrote old.sampler).noted ∙ did.again.1)) refl,
+        );
         waits = tt;
         held = did.again.2;
       }

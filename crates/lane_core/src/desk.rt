@@ -479,7 +479,13 @@ impl Desk {
         ensures { (s : LaneState) (command : Command) → NamesAre s.names self.old.names →
             HasTurned pool.now self.old self.new s command (Stage.Sweeping reply stage) result }
     {
-        match drain(pool, &mut self.seat, &mut self.notes, DrainKind::Trim, stage) {
+        match drain(
+            pool,
+            &mut self.seat,
+            &mut self.notes,
+            DrainKind::Trim,
+            stage,
+        ) {
             Drains::More(stage) => match stage {
                 Draining::Done => self.answer(reply),
                 stage => Turn::Went(Stage::Sweeping { reply, stage }),
@@ -611,7 +617,13 @@ impl Desk {
         requires more { stage ≢ Draining.Done }
         ensures { HasTurnedClosing pool.now self.old self.new stage result }
     {
-        match drain(pool, &mut self.seat, &mut self.notes, DrainKind::Close, stage) {
+        match drain(
+            pool,
+            &mut self.seat,
+            &mut self.notes,
+            DrainKind::Close,
+            stage,
+        ) {
             Drains::More(stage) => Turn::Went(Stage::Closing(stage)),
             Drains::Held(held, stage) => Turn::Pending(held, Stage::Closing(stage)),
         }

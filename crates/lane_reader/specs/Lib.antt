@@ -9,4 +9,5 @@ pub mod Standing
 pub mod Bounding
 pub mod Candidates
 pub mod Replying
+pub mod Refusing
 pub mod Turning

@@ -9,7 +9,7 @@ ghost use Rattle.lane_reader.specs.Viewing.{bound_of, updated};
 ghost use Rattle.lane_reader.specs.Parting.{where_same};
 ghost use Rattle.pool_law.specs.Names.{has_range, has_to_read, has_room, reader_of, writer_of};
 
-use crate::composite::Composite;
+use crate::composite::{Composite, hold};
 use crate::log::{At, Log};
 use crate::same::same_bytes;
 use crate::view::View;
@@ -74,6 +74,38 @@ impl Bound {
                 composite.count = count;
                 Bound::Composed(composite)
             }
+        }
+    }
+
+    /// Whether so many bytes from an index on lie in it.
+    pub(crate) fn has_range(&self, index: u32, len: usize) -> bool
+        ensures { result ≡ has_range index len (bound_of self.now) }
+    {
+        match self {
+            Bound::Plain(view) => view.in_range(index, len),
+            Bound::Composed(composite) => hold(&composite.parts, index, len),
+        }
+    }
+
+    /// Whether so many bytes can be read.
+    pub(crate) fn has_to_read(&self, len: u32) -> bool
+        ensures { result ≡ has_to_read len (bound_of self.now) }
+    {
+        match self {
+            Bound::Plain(view) => view.can_read(len),
+            Bound::Composed(composite) => {
+                len <= composite.writer.saturating_sub(composite.reader)
+            }
+        }
+    }
+
+    /// Whether so many bytes can be written.
+    pub(crate) fn has_room(&self, len: usize) -> bool
+        ensures { result ≡ has_room len (bound_of self.now) }
+    {
+        match self {
+            Bound::Plain(view) => view.can_write(len),
+            Bound::Composed(composite) => hold(&composite.parts, composite.writer, len),
         }
     }
 }

@@ -1,6 +1,6 @@
 //! A composite as a lane keeps it.
 
-ghost use Rattle.std.specs.Prelude.{◌≡◌, ◌+◌, ◌-◌, ◌≤◌, ◌<◌, ◌^◌, length, map, vec_len};
+ghost use Rattle.std.specs.Prelude.{◌≡◌, ◌+◌, ◌-◌, ◌≤◌, ◌<◌, ◌^◌, nat_le, length, map, vec_len};
 ghost use Rattle.pool_law.specs.Limits.{geometry_of};
 ghost use Rattle.pool_law.specs.LaneLaw.{sweep_period};
 ghost use Rattle.pool_law.specs.Composites.{size_of, most_bytes};
@@ -45,6 +45,19 @@ pub(crate) fn size_of(parts: &[Range]) -> u64
         size += u64::from(part.len);
     }
     size
+}
+
+/// Whether so many bytes from an index on lie in the parts.
+pub(crate) fn hold(parts: &[Range], index: u32, len: usize) -> bool
+    ensures { result ≡ nat_le (index + len) (size_of (map part_of parts.now)) }
+{
+    let mut skip = index;
+    let mut left = len;
+    for part in parts {
+        left = left.saturating_sub(part.len.saturating_sub(skip) as usize);
+        skip = skip.saturating_sub(part.len);
+    }
+    skip == 0 && left == 0
 }
 
 /// What a composite comes to as it is bound.

@@ -3,7 +3,7 @@
 //! The words are a workload, how many threads work, how many blocks each, 1, how often all is
 //! repeated, and with which number the draws begin, if not 0. Each repetition writes one line: the
 //! first four words, the nanoseconds that it took, 0, the sum of what was read, and how many blocks
-//! were refused.
+//! were refused. Other words are told on standard error, with status 2; a failure has status 1.
 #![tactic(auto)]
 
 ghost use Rattle.std.specs.Prelude.{◌≡◌, ◌<◌, All};
@@ -17,6 +17,9 @@ use pool_law::Shape;
 use shared_pool::{PoolSeat, SharedPool};
 use size_classes::SizeClasses;
 use std::alloc::{AllocError, Global};
+use std::env::Env;
+use std::io::Write;
+use std::process::ExitCode;
 use std::rt::Clock;
 use std::sync::Wait;
 use std::sync::atomic::{AtomicU64, Ordering};
@@ -43,25 +46,49 @@ use runners::{rooms_for, runners_of, seats_of};
 use words::{Plan, layout_of, mail_for, plan_of};
 use work::{draws_of, run};
 
-fn main(rt: HostRuntime) -> anyhow::Result<()> {
-    let words: Vec<String> = env::args(&rt)?.skip(1).collect(rt.alloc())?;
+/// The status of words that ask for no measure.
+const WRONG_WORDS: u8 = 2;
+
+/// What the words may be.
+const USAGE: &str = "\
+usage: pool_bench WORKLOAD THREADS BLOCKS 1 REPEATS [START]
+WORKLOAD is w1, w2, w4, w5hit or w5batch, with @ and a size or without, or w3, checked, left or counted
+";
+
+fn main(rt: HostRuntime) -> ExitCode {
+    match measure_all(&rt) {
+        Ok(true) => ExitCode::SUCCESS,
+        Ok(false) => {
+            let _ = rt.stderr().write_all(USAGE.as_bytes());
+            ExitCode::from(WRONG_WORDS)
+        }
+        Err(error) => {
+            let _ = writeln!(rt.stderr(), "pool_bench: {error}");
+            ExitCode::FAILURE
+        }
+    }
+}
+
+// Measures what the words ask for. Answers whether they ask for something that can be measured.
+fn measure_all<R>(rt: &R) -> anyhow::Result<bool>
+where
+    R: Threads + Wait + Sync + Clock + Env + Print + AllocGlobal,
+{
+    let words: Vec<String> = env::args(rt)?.skip(1).collect(rt.alloc())?;
     if words.is_empty() {
-        return Ok(());
+        return Ok(true);
     }
     let Some(plan) = plan_of(&words) else {
-        println!(rt;
-            "words: w1 to w4, w5hit or w5batch, @ a size; threads; blocks; 1; repeats; start"
-        )?;
-        return Ok(());
+        return Ok(false);
     };
     for _ in 0..plan.repeats {
-        let Measured { took, sum, refused } = measure(&rt, &plan)?;
+        let Measured { took, sum, refused } = measure(rt, &plan)?;
         println!(rt;
             "{} {} {} 1 {} 0 {} {}",
             words[0], plan.threads, plan.asked, took, sum, refused
         )?;
     }
-    Ok(())
+    Ok(true)
 }
 
 // One repetition: its nanoseconds, what was read, and what was refused.

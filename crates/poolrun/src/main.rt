@@ -14,6 +14,8 @@ mod crews;
 #[cfg(test)]
 mod rows;
 #[cfg(test)]
+mod sweeps;
+#[cfg(test)]
 mod tests;
 
 fn main(rt: HostRuntime) -> ExitCode {

@@ -1,8 +1,11 @@
 //! The parts of which the runs are made.
 
+mod composites;
 mod kept;
 mod leaks;
 mod smallest;
+mod stops;
+mod sweeps;
 mod two_lanes;
 
 use pool_law::list::{CommandList, Items};

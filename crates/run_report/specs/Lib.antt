@@ -1,2 +1,3 @@
 pub mod Words
 pub mod Roots
+pub mod Summary

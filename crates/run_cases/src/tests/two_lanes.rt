@@ -13,7 +13,7 @@ use std::alloc::{AllocError, Global};
 use std::test::*;
 
 // The mail of the first lane to the second.
-const MAIL: Object = Object::Mail { from: 0, to: 1 };
+pub(crate) const MAIL: Object = Object::Mail { from: 0, to: 1 };
 
 // Where the second root's region is, its taking, and after how many notes of it the first lane finds
 // its cache busy.
@@ -25,7 +25,7 @@ struct Second {
 }
 
 // What the first lane sends.
-fn sent() -> Parcel {
+pub(crate) fn sent() -> Parcel {
     Parcel {
         view: Some(ViewData {
             root: root(0),
