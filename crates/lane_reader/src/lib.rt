@@ -19,6 +19,7 @@ mod refusing;
 mod replies;
 mod same;
 mod setting;
+mod stopped;
 mod turns;
 mod view;
 mod whole;
