@@ -42,7 +42,8 @@ impl Log<'_> {
         reply: &Reply,
     ) -> Option<(Change, At)>
         requires bounded { AreBounded (2 ^ 32) lane.now }
-        ensures row { Carries setting.now lane.now (Command.Retain name) reply.now self.now at result }
+        ensures row { Carries setting.now lane.now (Command.Retain name) reply.now self.now at
+            result }
         ensures bounded { (most : ℕ) → 1 ≤ most → AreBounded most lane.now
             → IfSome result (λ p. ChangeIsBounded (most + 1) p.0) }
     {
@@ -87,7 +88,8 @@ impl Log<'_> {
         reply: &Reply,
     ) -> Option<(Change, At)>
         requires room { AreWithin lane.now.counts (2 ^ 64 - 1 - length self.now.notes.now) }
-        ensures row { Carries setting.now lane.now (Command.Release name) reply.now self.now at result }
+        ensures row { Carries setting.now lane.now (Command.Release name) reply.now self.now at
+            result }
         ensures bounded { (most : ℕ) → 1 ≤ most → AreBounded most lane.now
             → IfSome result (λ p. ChangeIsBounded (most + 1) p.0) }
     {
@@ -119,7 +121,8 @@ impl Log<'_> {
         name: u32,
         reply: &Reply,
     ) -> Option<(Change, At)>
-        ensures row { Carries setting.now lane.now (Command.Refcnt name) reply.now self.now at result }
+        ensures row { Carries setting.now lane.now (Command.Refcnt name) reply.now self.now at
+            result }
         ensures bounded { (most : ℕ) → 1 ≤ most → AreBounded most lane.now
             → IfSome result (λ p. ChangeIsBounded (most + 1) p.0) }
     {

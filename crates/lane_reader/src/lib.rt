@@ -8,6 +8,7 @@ mod bound;
 mod candidate;
 mod carrying;
 mod composite;
+mod composite_rows;
 mod count_rows;
 mod counts;
 mod drains;
