@@ -5,7 +5,7 @@ use Rattle.pool_law.specs.declared.run.Shape.{Shape}
 use Rattle.pool_law.specs.Composites.{Composite, most_parts, moved_to}
 use Rattle.pool_law.specs.LaneStates.{LaneState}
 use Rattle.pool_law.specs.Lanes.{Answer, consolidate, composed}
-use Rattle.pool_law.specs.Readers.{Entries, Reader, ◌>>=◌, give}
+use Rattle.pool_law.specs.Readers.{Entries, Reader, ◌>>=◌, give, given}
 use Rattle.lane_reader.specs.declared.log.Log.{Log}
 use Rattle.lane_reader.specs.declared.log.At.{At}
 use Rattle.lane_reader.specs.declared.composite.Made.{Made}
@@ -32,3 +32,7 @@ IsShort parts _ = Unit {0}
 -- the answer as a composite is bound to a name
 abbrev pub composed_as : Shape → ℕ → LaneState → ℕ → Composite → Reader Answer
 composed_as shape lane s name c = consolidate shape lane c >>= (λ made. give (composed s name made))
+
+-- the same, where there is one
+abbrev pub composed_if : Shape → ℕ → LaneState → ℕ → Option Composite → Reader Answer
+composed_if shape lane s name o = given o >>= composed_as shape lane s name
