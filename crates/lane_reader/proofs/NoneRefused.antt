@@ -4,7 +4,8 @@ use Rattle.std.specs.Prelude.{if◌then◌else◌}
 use Rattle.pool_law.specs.Refusals.{Refusal, first_refusal}
 
 -- the first does not come, and none of the others
-none-split : (r : Refusal) (rs : List Refusal) → first_refusal (r ∷ rs) ≡ None → (r.comes ≡ false) × (first_refusal rs ≡ None)
+none-split : (r : Refusal) (rs : List Refusal) → first_refusal (r ∷ rs) ≡ None →
+    (r.comes ≡ false) × (first_refusal rs ≡ None)
 none-split r rs none = go r.comes refl
   where
     go : (b : Bool) → r.comes ≡ b → (r.comes ≡ false) × (first_refusal rs ≡ None)

@@ -134,8 +134,8 @@ impl Log<'_> {
         requires room { AreWithin counts.now (2 ^ 64 - 1 - length self.now.notes.now) }
         requires parts { vec_len composite.now.parts ≤ 32 }
         requires size { size_of (map part_of composite.now.parts.items) ≤ most_bytes }
-        ensures reads { (before : Entries) → AreCounts counts.now before → consolidate shape.now lane
-            (composite_in composite.now) (log_from before self.now at)
+        ensures reads { (before : Entries) → AreCounts counts.now before → consolidate shape.now
+            lane (composite_in composite.now) (log_from before self.now at)
             ≡ reads_made (composite_in composite.now) before self.now result }
         ensures short { IfSome result (λ p. IsShort (vec_len composite.now.parts) p.0) }
     {

@@ -1,9 +1,10 @@
 //! What a command that makes a composite comes to.
 
-ghost use Rattle.std.specs.Prelude.{◌≡◌, ◌+◌, ◌-◌, ◌<◌, ◌≤◌, ◌^◌, ℕ, [], ◌∷◌, length, map, vec_len};
+ghost use Rattle.std.specs.Prelude.{◌≡◌, ◌+◌, ◌-◌, ◌<◌, ◌≤◌, ◌^◌, ℕ, length, map, vec_len};
 ghost use Rattle.std.specs.Prelude.{◌↔◌, Option, false, IfOk, IfSome, IsTrue};
 ghost use Rattle.pool_law.specs.declared.command.Command.{Command};
-ghost use Rattle.pool_law.specs.Composites.{Composite as LawComposite, size_of, most_bytes, moved_to, whole_part};
+ghost use Rattle.pool_law.specs.Composites.{Composite as LawComposite};
+ghost use Rattle.pool_law.specs.Composites.{size_of, most_bytes, moved_to, whole_part};
 ghost use Rattle.pool_law.specs.LaneLaw.{sweep_period};
 ghost use Rattle.pool_law.specs.LaneStates.{LaneState};
 ghost use Rattle.pool_law.specs.Lanes.{answer, composed};
@@ -32,7 +33,8 @@ use std::alloc::{AllocError, Global};
 // The most parts of a candidate.
 const MOST_CANDIDATE_PARTS: usize = 24;
 
-// Whether a composite is no larger than a candidate may be, as each is.
+// Whether a composite is no larger than a candidate may be. Each candidate passes; but that is known
+// of it only beside a state of the law, and consolidation asks for it without one.
 fn is_small(composite: &Composite) -> bool
     ensures { IsTrue result
         ↔ (vec_len composite.now.parts ≤ 24)
