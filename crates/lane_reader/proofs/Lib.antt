@@ -5,4 +5,4 @@ pub mod DrainLemmas
 pub mod PartLemmas
 pub mod CountLemmas
 pub mod NameLemmas
-pub mod RefusalLemmas
+pub mod NoneRefused

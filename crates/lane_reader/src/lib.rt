@@ -24,6 +24,7 @@ mod refusing;
 mod replies;
 mod same;
 mod setting;
+mod stopped;
 mod turns;
 mod view;
 mod view_rows;
