@@ -6,3 +6,4 @@ pub mod PartLemmas
 pub mod CountLemmas
 pub mod NameLemmas
 pub mod NoneRefused
+pub mod RefusalLemmas
