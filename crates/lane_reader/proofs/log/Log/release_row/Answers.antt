@@ -1,5 +1,5 @@
 use Rattle.std.proofs.Common.{◌≡◌, ℕ, ◌-◌, Bool, true, false, Option, Some, None, refl, rules}
-use Rattle.std.specs.Prelude.{◌==◌, option_and_then, option_map}
+use Rattle.std.specs.Prelude.{◌==◌, option_map}
 use Rattle.pool_law.specs.declared.run.Shape.{Shape}
 use Rattle.pool_law.specs.declared.run.Reply.{Reply}
 use Rattle.pool_law.specs.Composites.{Composite}
