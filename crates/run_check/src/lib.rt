@@ -23,3 +23,5 @@ mod spots;
 mod stands;
 mod tally;
 mod totals;
+
+pub use checking::check_run;
