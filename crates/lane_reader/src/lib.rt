@@ -23,5 +23,5 @@ mod turns;
 mod view;
 mod whole;
 
-pub use log::{Log, Told};
+pub use log::Log;
 pub use whole::is_lane_log;
