@@ -30,5 +30,5 @@ mod view;
 mod view_rows;
 mod whole;
 
-pub use log::{Log, Told};
+pub use log::Log;
 pub use whole::is_lane_log;

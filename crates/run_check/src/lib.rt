@@ -17,7 +17,6 @@ mod histories;
 mod keys;
 mod lanes;
 mod leaks;
-mod log;
 mod merging;
 mod spots;
 mod stands;
