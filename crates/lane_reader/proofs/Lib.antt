@@ -5,3 +5,7 @@ pub mod DrainLemmas
 pub mod PartLemmas
 pub mod CountLemmas
 pub mod NameLemmas
+pub mod BoundLemmas
+pub mod PieceLemmas
+pub mod ReplyLemmas
+pub mod TurnLemmas

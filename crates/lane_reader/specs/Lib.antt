@@ -10,3 +10,4 @@ pub mod Bounding
 pub mod Candidates
 pub mod Replying
 pub mod Turning
+pub mod Running
