@@ -9,3 +9,5 @@ pub mod BoundLemmas
 pub mod PieceLemmas
 pub mod ReplyLemmas
 pub mod TurnLemmas
+pub mod RunLemmas
+pub mod WholeLemmas

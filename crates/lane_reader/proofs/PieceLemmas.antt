@@ -36,7 +36,7 @@ entries-behind : (notes : List Note) (told : List Told) (count k : ℕ) → k �
 entries-behind notes told count k is =
     ap (λ (ts : List Told). entries_in (drop count notes) ts) (drop-min told count k is) ∙ entries-dropped notes told count
 
-rest-whole : {X : Type 0} (xs : List X) (n : ℕ) → take (length xs - n) (drop n xs) ≡ drop n xs
+pub rest-whole : {X : Type 0} (xs : List X) (n : ℕ) → take (length xs - n) (drop n xs) ≡ drop n xs
 rest-whole xs n = take_all (length xs - n) (drop n xs) (omega (arith, length-drop n xs))
 
 -- the same, as the program cuts them

@@ -105,7 +105,7 @@ unswept period lane s log change at none =
     ap (λ (q : Option (Unit {0} × Log)). swept_state (changed change s.names) q) none
 
 module _ (period lane : ℕ) (s : LaneState) (log : Rattle.lane_reader.specs.declared.log.Log.Log) (change : Change) (at behind : At)
-  (swept : sweep_if_due period lane (log_from s.seen log at) ≡ passes s.seen log (Some behind)) where
+    (swept : sweep_if_due period lane (log_from s.seen log at) ≡ passes s.seen log (Some behind)) where
   -- some note is left
   pub unfinished : behind.place < length log.notes.now →
       behind_answer period lane (changes s log (Some (change, at))) ≡ None

@@ -18,6 +18,7 @@ mod patterns;
 mod pieces;
 mod refusing;
 mod replies;
+mod runs;
 mod same;
 mod setting;
 mod stopped;
