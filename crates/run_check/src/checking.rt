@@ -2,8 +2,8 @@
 
 ghost use Rattle.std.specs.Prelude.{◌≡◌, ◌≤◌, ◌^◌, ◌↔◌, ℕ, length, IsTrue, IfOk};
 ghost use Rattle.pool_law.specs.Limits.{IsShape, geometry_of};
-ghost use Rattle.pool_law.specs.Legal.{logs_of, AreCommands, IsLegal};
 ghost use Rattle.pool_law.specs.Logs.{of_lane};
+ghost use Rattle.pool_law.specs.Legal.{AreCommands, IsLegal, logs_of};
 ghost use Rattle.run_check.specs.Storing.{AreHistories};
 ghost use Rattle.run_check.specs.Entering.{AreTold};
 ghost use Rattle.run_check.specs.Checking.{CountsRight, NotesRight, AnswersRight};
