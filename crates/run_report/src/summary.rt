@@ -1,12 +1,12 @@
 //! The summary of a run of a generated trace.
 
-ghost use Rattle.std.specs.Prelude.{◌≡◌, ◌++◌, ◌∷◌, [], IfOk, OnOk, codes, decimal};
+ghost use Rattle.std.specs.Prelude.{◌≡◌, ◌++◌, ◌∷◌, ◌≤◌, [], All, IfOk, OnOk, codes, decimal, length};
 ghost use Rattle.pool_law.specs.Legal.{IsLegal};
 ghost use Rattle.pool_law.specs.Text.{line, named};
 ghost use Rattle.run_report.specs.Summary.{blocks_in, generated_line, summary_of};
 
-use crate::roots::{counts_of, RootCounts};
-use crate::told::{told_of, Told};
+use crate::roots::{RootCounts, counts_of};
+use crate::told::{Told, told_of};
 use crate::writer::Writer;
 use pool_law::{Bytes, CommandList, Run};
 use std::alloc::{AllocError, Global};
@@ -16,6 +16,15 @@ use std::alloc::{AllocError, Global};
 /// the length of the logs.
 pub fn summary_of(alloc: Global, run: &Run, start: u64) -> Result<Bytes, AllocError>
     requires legal { IsLegal run.now }
+    ensures { IfOk result (λ bytes. bytes ≡ summary_of run.now start) }
+{
+    summary_in(alloc, run, start)
+}
+
+/// The summary, where the lanes and the replies of each are as few as in any legal run.
+pub fn summary_in(alloc: Global, run: &Run, start: u64) -> Result<Bytes, AllocError>
+    requires lanes { length run.now.logs ≤ 16 }
+    requires few { All (λ log. length log.replies ≤ 65536) run.now.logs }
     ensures { IfOk result (λ bytes. bytes ≡ summary_of run.now start) }
 {
     let told = told_of(run);

@@ -1,7 +1,6 @@
 //! What the replies of a run tell: how many refuse, and the bytes that were read.
 
 ghost use Rattle.std.specs.Prelude.{◌≡◌, ◌*◌, ◌^◌, ◌≤◌, length, filter, sum, sum_by, All};
-ghost use Rattle.pool_law.specs.Legal.{IsLegal};
 ghost use Rattle.run_report.specs.Summary.{all_bytes, all_replies, bytes_in, is_refusal};
 ghost use Rattle.run_report.specs.Told.{read_by, read_in, refusals_by, refusals_in, total_by, total_in};
 
@@ -15,9 +14,11 @@ pub struct Told {
     pub total: u128,
 }
 
-/// What the replies of a run tell.
+/// What the replies of a run tell. No sum overflows where the lanes and the replies of each are as
+/// few as in any legal run.
 pub fn told_of(run: &Run) -> Told
-    requires legal { IsLegal run.now }
+    requires lanes { length run.now.logs ≤ 16 }
+    requires few { All (λ log. length log.replies ≤ 65536) run.now.logs }
     ensures refused { result.refused ≡ length (filter is_refusal (all_replies run.now)) }
     ensures read { result.read ≡ length (all_bytes run.now) }
     ensures total { result.total ≡ sum (all_bytes run.now) }
@@ -25,7 +26,7 @@ pub fn told_of(run: &Run) -> Told
     told_over(run.logs.items())
 }
 
-// What these logs tell, of which each lane has at most as many replies as a lane has commands.
+// What these logs tell.
 fn told_over(logs: &[LaneLog]) -> Told
     requires lanes { length logs.now ≤ 16 }
     requires few { All (λ log. length log.replies ≤ 65536) logs.now }

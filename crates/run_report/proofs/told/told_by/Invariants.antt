@@ -10,4 +10,5 @@ invariant-loop-answered l = record {
   total : l.total ≡ sum_by total_in (take l.answered-index l.answers);
   refused_most : l.refused ≤ l.answered-index;
   read_most : l.read ≤ 2 ^ 64 * l.answered-index;
-  total_most : l.total ≤ 2 ^ 72 * l.answered-index }
+  total_most : l.total ≤ 2 ^ 72 * l.answered-index;
+}

@@ -1,14 +1,13 @@
 use Rattle.std.proofs.Common.{◌≡◌, ◌≤◌, List, length, sum_by, All, subst, sym, ap, ◌∙◌}
 use Rattle.pool_law.specs.declared.run.LaneLog.{LaneLog}
 use Rattle.run_report.specs.Told.{read_by, refusals_by, total_by}
-use Rattle.run_report.proofs.ReplyCounts.{replies-few}
 use Rattle.run_report.proofs.ToldLaws.{refused_is, read_is, total_is}
 use Rattle.run_report.proofs.told.told_of.Goals as goal
 
 pub told_over-requires-clause-few : goal.told_over-requires-clause-few
 told_over-requires-clause-few c =
     let Few : List LaneLog → Type 0 = λ logs. All (λ log. length log.replies ≤ 65536) logs in
-    subst Few (sym c.items.ensures) (replies-few c.args.run.now c.requires.legal)
+    subst Few (sym c.items.ensures) c.requires.few
 
 pub returns-clause-refused : goal.returns-clause-refused
 returns-clause-refused c =

@@ -10,4 +10,5 @@ invariant-loop-log l = record {
   total : l.total ≡ sum_by total_by (take l.log-index l.logs);
   refused_most : l.refused ≤ 2 ^ 16 * l.log-index;
   read_most : l.read ≤ 2 ^ 80 * l.log-index;
-  total_most : l.total ≤ 2 ^ 88 * l.log-index }
+  total_most : l.total ≤ 2 ^ 88 * l.log-index;
+}
