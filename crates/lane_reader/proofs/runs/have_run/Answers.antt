@@ -1,8 +1,6 @@
-use Rattle.std.proofs.Common.{◌≡◌, ℕ, ◌+◌, ◌-◌, ◌^◌, ◌<◌, ◌≤◌, List, ◌∷◌, length, take, drop, get_or, Option, Some, true, false, refl, sym, ap, arith, subst, rules, ◌∙◌}
-use Rattle.std.specs.Prelude.{◌↔◌}
+use Rattle.std.proofs.Common.{◌≡◌, ◌+◌, ◌-◌, ◌^◌, ◌<◌, ◌≤◌, ◌∷◌, length, take, drop, Some, refl, sym, ap, arith, subst, ◌∙◌}
 use Rattle.std.proofs.lemmas.List.Sums.{sum-map}
 use Rattle.pool_law.specs.declared.command.Command.{Command}
-use Rattle.pool_law.specs.declared.run.Reply.{Reply}
 use Rattle.pool_law.specs.declared.run.Answered.{Answered}
 use Rattle.pool_law.specs.LaneStates.{LaneState, new_lane}
 use Rattle.pool_law.specs.LaneLaw.{sweep_period, lane_step}
