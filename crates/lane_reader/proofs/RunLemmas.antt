@@ -1,11 +1,11 @@
 -- The commands of a lane, one after another.
-use Rattle.std.proofs.Common.{◌≡◌, ℕ, zero, suc, ◌+◌, ◌-◌, ◌<◌, ◌≤◌, List, [], ◌∷◌, ◌++◌, length, map, take, drop, get_or, Bool, true, false, refl, sym, ap, arith, ◌∙◌, drop-cons, subst₂}
-use Rattle.std.specs.Prelude.{◌↔◌, ◌&&◌, nat_le, sum, Option, Some, None, option_map, option_and_then, is_some, IsTrue}
+use Rattle.std.proofs.Common.{◌≡◌, ℕ, zero, suc, ◌+◌, ◌-◌, ◌<◌, ◌≤◌, List, [], ◌∷◌, ◌++◌, length, take, drop, get_or, Bool, true, false, refl, sym, ap, arith, ◌∙◌, drop-cons, subst₂}
+use Rattle.std.specs.Prelude.{◌↔◌, nat_le, Option, Some, None, option_and_then, is_some, IsTrue}
 use Rattle.std.specs.List.{All, sum_by}
 use Rattle.std.proofs.lemmas.Bool.{leb-true}
-use Rattle.std.proofs.lemmas.List.{drop-drop, drop_all}
+use Rattle.std.proofs.lemmas.List.{drop_all}
 use Rattle.std.proofs.lemmas.List.Elements.{All-from_get_or}
-use Rattle.std.proofs.lemmas.List.Sums.{sum_by-cons, sum_by-drop_more}
+use Rattle.std.proofs.lemmas.List.Sums.{sum_by-drop_more}
 use Rattle.pool_law.specs.declared.command.Command.{Command}
 use Rattle.pool_law.specs.declared.run.Shape.{Shape}
 use Rattle.pool_law.specs.declared.run.Reply.{Reply}
@@ -13,15 +13,15 @@ use Rattle.pool_law.specs.declared.run.Answered.{Answered}
 use Rattle.pool_law.specs.Readers.{Entries, Log, read_all}
 use Rattle.pool_law.specs.LaneStates.{LaneState, new_lane, log_at}
 use Rattle.pool_law.specs.Lanes.{not_carried_out}
-use Rattle.pool_law.specs.LaneLaw.{sweep_period, lane_step, lane_run, stopped_run, before_stop, pieces, behind, note_counts, replies_in, closes, IsLaneLog}
+use Rattle.pool_law.specs.LaneLaw.{sweep_period, lane_step, lane_run, stopped_run, before_stop, pieces, note_counts, replies_in}
 use Rattle.pool_law.specs.Legal.{fits_after, all_fit}
 use Rattle.pool_law.proofs.SameLemmas.{and-first, and-second}
 use Rattle.lane_reader.specs.declared.lane.Lane.{Lane}
 use Rattle.lane_reader.specs.Candidates.{HasFewNames}
 use Rattle.lane_reader.specs.Replying.{same_reply}
 use Rattle.lane_reader.specs.Standing.{IsLane}
-use Rattle.lane_reader.specs.Running.{Runs, HasRun, HasStopped}
-use Rattle.lane_reader.proofs.ReplyLemmas.{same_reply-self, same_reply-is}
+use Rattle.lane_reader.specs.Running.{Runs, HasStopped}
+use Rattle.lane_reader.proofs.ReplyLemmas.{same_reply-is}
 
 -- ---- How many names a command has.
 

@@ -1,5 +1,5 @@
 -- The whole log of a lane, in its parts: up to a stop, behind it, and its closing.
-use Rattle.std.proofs.Common.{◌≡◌, ℕ, zero, suc, ◌+◌, ◌-◌, ◌<◌, ◌≤◌, List, [], ◌∷◌, length, map, take, drop, Bool, true, false, refl, sym, ap, arith, subst, ◌∙◌, length-drop}
+use Rattle.std.proofs.Common.{◌≡◌, ℕ, zero, suc, ◌+◌, ◌-◌, ◌≤◌, List, [], ◌∷◌, length, take, drop, true, refl, sym, ap, arith, subst, ◌∙◌, length-drop}
 use Rattle.std.proofs.Math.Path.{subst₃}
 use Rattle.std.specs.Prelude.{sum, Option, Some, None, option_and_then, is_some}
 use Rattle.std.specs.List.{sum_by}
@@ -13,7 +13,7 @@ use Rattle.pool_law.specs.Readers.{Entries, Log, read_all}
 use Rattle.pool_law.specs.LaneStates.{LaneState, new_lane, log_at}
 use Rattle.pool_law.specs.Lanes.{not_carried_out}
 use Rattle.pool_law.specs.LaneLaw.{sweep_period, lane_step, lane_run, stopped_run, before_stop, pieces, behind, note_counts, replies_in, closes, IsLaneLog}
-use Rattle.lane_reader.specs.Running.{Runs, HasRun, HasStopped}
+use Rattle.lane_reader.specs.Running.{HasRun, HasStopped}
 use Rattle.lane_reader.proofs.PieceLemmas.{rest-whole}
 use Rattle.lane_reader.proofs.RunLemmas.{stop-within}
 

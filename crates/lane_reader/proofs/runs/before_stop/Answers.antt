@@ -1,4 +1,4 @@
-use Rattle.std.proofs.Common.{◌≡◌, ◌<◌, length, sym, ap, arith, rules, ◌∙◌, true, false}
+use Rattle.std.proofs.Common.{◌≡◌, sym, ap, arith, ◌∙◌, true, false}
 use Rattle.pool_law.specs.declared.run.Reply.{Reply}
 use Rattle.pool_law.specs.declared.run.Answered.{Answered}
 use Rattle.lane_reader.specs.Replying.{same_reply}

@@ -1,8 +1,6 @@
-use Rattle.std.proofs.Common.{◌≡◌, ℕ, ◌+◌, ◌-◌, ◌^◌, ◌<◌, ◌≤◌, List, ◌∷◌, length, take, drop, get_or, Option, Some, true, false, refl, sym, ap, arith, subst, rules, ◌∙◌}
-use Rattle.std.specs.Prelude.{◌↔◌}
+use Rattle.std.proofs.Common.{◌≡◌, ◌+◌, ◌-◌, ◌^◌, ◌<◌, ◌≤◌, ◌∷◌, length, take, drop, Some, refl, sym, ap, arith, subst, ◌∙◌}
 use Rattle.std.proofs.lemmas.List.Sums.{sum-map}
 use Rattle.pool_law.specs.declared.command.Command.{Command}
-use Rattle.pool_law.specs.declared.run.Reply.{Reply}
 use Rattle.pool_law.specs.declared.run.Answered.{Answered}
 use Rattle.pool_law.specs.LaneStates.{LaneState, new_lane}
 use Rattle.pool_law.specs.LaneLaw.{sweep_period, lane_step}
@@ -125,7 +123,8 @@ loop-i-preserved c =
           turned.is,
           λ last.
               let goes =
-              run-goes-at setting.shape.now setting.lane s cs rs es i command r commands replies turned.next last step in (
+              run-goes-at setting.shape.now setting.lane s cs rs es i command r commands replies turned.next last
+              step in (
                 λ all. subst (left last) (sym behind) (goes.0 ((c.loop-i.invariant.goes.1.1 last).0 all)),
                 λ rest. (c.loop-i.invariant.goes.1.1 last).1 (goes.1 (subst (left last) behind rest)),
               ),

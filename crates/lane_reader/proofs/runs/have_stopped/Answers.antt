@@ -1,8 +1,6 @@
-use Rattle.std.proofs.Common.{◌≡◌, ℕ, ◌+◌, ◌<◌, ◌≤◌, List, ◌∷◌, length, take, drop, get_or, true, false, refl, sym, ap, arith, subst, rules, ◌∙◌}
-use Rattle.std.specs.Prelude.{◌↔◌, is_some}
-use Rattle.pool_law.specs.declared.command.Command.{Command}
+use Rattle.std.proofs.Common.{◌≡◌, ◌+◌, ◌<◌, ◌≤◌, ◌∷◌, length, take, drop, true, false, refl, sym, arith, subst, ◌∙◌}
+use Rattle.std.specs.Prelude.{is_some}
 use Rattle.pool_law.specs.declared.run.Reply.{Reply}
-use Rattle.pool_law.specs.declared.run.Answered.{Answered}
 use Rattle.pool_law.specs.LaneStates.{new_lane, log_at}
 use Rattle.pool_law.specs.Lanes.{not_carried_out}
 use Rattle.pool_law.specs.Readers.{Entries, read_all}

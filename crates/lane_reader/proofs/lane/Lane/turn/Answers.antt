@@ -1,12 +1,11 @@
-use Rattle.std.proofs.Common.{◌≡◌, ℕ, ◌+◌, ◌≤◌, ◌++◌, Option, Some, None, refl, sym, ap, arith, subst, ◌∙◌}
+use Rattle.std.proofs.Common.{ℕ, ◌+◌, Option, refl, sym, ap, arith, subst, ◌∙◌}
 use Rattle.std.specs.Prelude.{option_map, IfSome}
 use Rattle.std.specs.Ordering.{nat_cmp}
 use Rattle.std.specs.BTreeMap.{get}
 use Rattle.lane_reader.specs.declared.bound.Bound.{Bound}
-use Rattle.pool_law.specs.Counts.{count_of, count_from}
+use Rattle.pool_law.specs.Counts.{count_from}
 use Rattle.pool_law.specs.LaneLaw.{sweep_period, lane_step}
 use Rattle.lane_reader.specs.declared.bound.Change.{Change}
-use Rattle.lane_reader.specs.declared.lane.Lane.{Lane}
 use Rattle.lane_reader.specs.declared.counts.Counts.{Counts}
 use Rattle.lane_reader.specs.Bounding.{IsBounded, ChangeIsBounded}
 use Rattle.lane_reader.specs.Counting.{count_in}

@@ -1,5 +1,4 @@
-use Rattle.std.proofs.Common.{rules, ◌≡◌, length, drop, take, ◌-◌, List, ◌∙◌}
-use Rattle.pool_law.specs.declared.note.Note.{Note}
+use Rattle.std.proofs.Common.{rules, ◌-◌}
 use Rattle.lane_reader.proofs.PieceLemmas.{entries-rest}
 use Rattle.lane_reader.proofs.log.Log.behind.Goals as goal
 
