@@ -9,7 +9,7 @@ use Rattle.pool_law.specs.declared.id.Part.{Part}
 use Rattle.pool_law.specs.Composites.{size_of}
 use Rattle.composite_buf.specs.Ends.{ends_from, IsIn}
 use Rattle.composite_buf.specs.Maps.{byte_of, byte_at}
-use Rattle.composite_buf.proofs.MapLaws.{size_of-cons, byte_at-inside}
+use Rattle.composite_buf.proofs.MapLaws.{size_of_cons, byte_at-inside}
 
 pub length-ends_from : (n : ℕ) (ps : List Part) → length (ends_from n ps) ≡ length ps
 length-ends_from n [] = refl
@@ -20,7 +20,7 @@ pub ends_from-more : (n : ℕ) (ps : List Part) (p : Part) → ends_from n (ps +
 ends_from-more n [] p =
     let here : n + p.len ≡ n + 0 + p.len = omega arith in ap (λ (e : ℕ). e ∷ []) here
 ends_from-more n (q ∷ ps) p =
-    let here : n + q.len + size_of ps + p.len ≡ n + size_of (q ∷ ps) + p.len = omega (arith, size_of-cons q ps) in
+    let here : n + q.len + size_of ps + p.len ≡ n + size_of (q ∷ ps) + p.len = omega (arith, size_of_cons q ps) in
     ap (λ (es : List ℕ). (n + q.len) ∷ es)
     (ends_from-more (n + q.len) ps p ∙ ap (λ (e : ℕ). ends_from (n + q.len) ps ++ e ∷ []) here)
 
@@ -28,13 +28,13 @@ ends_from-more n (q ∷ ps) p =
 pub end_at : (n : ℕ) (ps : List Part) (k d : ℕ) → k < length ps →
     get_or (ends_from n ps) k d ≡ n + size_of (take (k + 1) ps)
 end_at n [] k d there = absurd (omega arith)
-end_at n (p ∷ ps) zero d there = let one : size_of (take (0 + 1) (p ∷ ps)) ≡ p.len = size_of-cons p [] ∙ omega arith in omega (arith, one)
+end_at n (p ∷ ps) zero d there = let one : size_of (take (0 + 1) (p ∷ ps)) ≡ p.len = size_of_cons p [] ∙ omega arith in omega (arith, one)
 end_at n (p ∷ ps) (suc k) d there =
     let later : get_or (ends_from (n + p.len) ps) k d ≡ n + p.len + size_of (take (k + 1) ps) =
     end_at (n + p.len) ps k d (omega arith) in
     let one : suc k + 1 ≡ suc (k + 1) = omega arith in
     let all : size_of (take (suc k + 1) (p ∷ ps)) ≡ p.len + size_of (take (k + 1) ps) =
-    ap (λ (j : ℕ). size_of (take j (p ∷ ps))) one ∙ size_of-cons p (take (k + 1) ps) in
+    ap (λ (j : ℕ). size_of (take j (p ∷ ps))) one ∙ size_of_cons p (take (k + 1) ps) in
     later ∙ omega (arith, all)
 
 -- the last end is the length of all parts
@@ -58,7 +58,7 @@ size_of-take-le ps (suc i) zero le = absurd (omega arith)
 size_of-take-le [] (suc i) (suc j) le = omega arith
 size_of-take-le (p ∷ ps) (suc i) (suc j) le =
     let rest : size_of (take i ps) ≤ size_of (take j ps) = size_of-take-le ps i j (omega arith) in
-    omega (arith, rest, size_of-cons p (take i ps), size_of-cons p (take j ps))
+    omega (arith, rest, size_of_cons p (take i ps), size_of_cons p (take j ps))
 
 -- with a part there are its bytes more
 pub size_of-take-more : (ps : List Part) (k : ℕ) (p : Part) → slice_get ps k ≡ Some p →
@@ -67,12 +67,12 @@ size_of-take-more [] k p there = absurd (cc there)
 size_of-take-more (q ∷ ps) zero p there =
     let same : q ≡ p = cc there in
     let long : q.len ≡ p.len = ap (λ (r : Part). r.len) same in
-    size_of-cons q [] ∙ omega (arith, long)
+    size_of_cons q [] ∙ omega (arith, long)
 size_of-take-more (q ∷ ps) (suc k) p there =
     let rest : size_of (take (k + 1) ps) ≡ size_of (take k ps) + p.len = size_of-take-more ps k p there in
     let one : suc k + 1 ≡ suc (k + 1) = omega arith in
     ap (λ (j : ℕ). size_of (take j (q ∷ ps))) one
-    ∙ omega (arith, rest, size_of-cons q (take (k + 1) ps), size_of-cons q (take k ps))
+    ∙ omega (arith, rest, size_of_cons q (take (k + 1) ps), size_of_cons q (take k ps))
 
 -- the ends rise
 pub ends_rise : (ps : List Part) → IsNonDecreasingBy (λ (e : ℕ). e) (ends_from 0 ps)
@@ -84,10 +84,10 @@ ends_rise ps i j d le there =
 pub next_within : (ps : List Part) (k : ℕ) (d : Part) → k < length ps →
     size_of (take k ps) + (get_or ps k d).len ≤ size_of ps
 next_within [] k d there = absurd (omega arith)
-next_within (p ∷ ps) zero d there = omega (arith, size_of-cons p ps)
+next_within (p ∷ ps) zero d there = omega (arith, size_of_cons p ps)
 next_within (p ∷ ps) (suc k) d there =
     let rest : size_of (take k ps) + (get_or ps k d).len ≤ size_of ps = next_within ps k d (omega arith) in
-    omega (arith, rest, size_of-cons p ps, size_of-cons p (take k ps))
+    omega (arith, rest, size_of_cons p ps, size_of_cons p (take k ps))
 
 -- parts whose ends are all within an index start within it
 starts_within : (ps : List Part) (i k : ℕ) → k ≤ length ps →

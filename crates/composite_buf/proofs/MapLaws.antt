@@ -7,12 +7,16 @@ use Rattle.pool_law.specs.declared.id.Part.{Part}
 use Rattle.pool_law.specs.Composites.{size_of}
 use Rattle.composite_buf.specs.Maps.{byte_of, byte_at}
 
-pub size_of-cons : (p : Part) (ps : List Part) → size_of (p ∷ ps) ≡ p.len + size_of ps
-size_of-cons p ps = sum_by-cons (λ (n : ℕ). n) p.len (map (λ (q : Part). q.len) ps)
+pub size_of_cons : (p : Part) (ps : List Part) → size_of (p ∷ ps) ≡ p.len + size_of ps
+size_of_cons p ps = sum_by-cons (λ (n : ℕ). n) p.len (map (λ (q : Part). q.len) ps)
 
 pub size_of-append : (xs ys : List Part) → size_of (xs ++ ys) ≡ size_of xs + size_of ys
 size_of-append [] ys = omega arith
-size_of-append (p ∷ xs) ys = let rest : size_of (xs ++ ys) ≡ size_of xs + size_of ys = size_of-append xs ys in omega (arith, rest, size_of-cons p xs, size_of-cons p (xs ++ ys))
+size_of-append (p ∷ xs) ys = let rest : size_of (xs ++ ys) ≡ size_of xs + size_of ys = size_of-append xs ys in omega (arith, rest, size_of_cons p xs, size_of_cons p (xs ++ ys))
+
+-- one part more has its bytes more
+pub size_of_more : (ps : List Part) (p : Part) → size_of (ps ++ p ∷ []) ≡ size_of ps + p.len
+size_of_more ps p = omega (arith, size_of-append ps (p ∷ []), size_of_cons p [])
 
 -- an index in the first part, and one behind it
 pub byte_at-first : (p : Part) (ps : List Part) (i : ℕ) → i < p.len → byte_at (p ∷ ps) i ≡ byte_of p i
@@ -27,13 +31,13 @@ byte_at-behind p ps i behind =
 pub byte_at-past : (ps : List Part) (i : ℕ) → size_of ps ≤ i → byte_at ps i ≡ None
 byte_at-past [] i past = refl
 byte_at-past (p ∷ ps) i past =
-    byte_at-behind p ps i (omega (arith, size_of-cons p ps)) ∙ byte_at-past ps (i - p.len) (omega (arith, size_of-cons p ps))
+    byte_at-behind p ps i (omega (arith, size_of_cons p ps)) ∙ byte_at-past ps (i - p.len) (omega (arith, size_of_cons p ps))
 
 -- the map of some parts before others
 pub byte_at-before : (xs ys : List Part) (i : ℕ) → i < size_of xs → byte_at (xs ++ ys) i ≡ byte_at xs i
 byte_at-before [] ys i before = absurd (omega arith)
 byte_at-before (p ∷ xs) ys i before =
-    let all : size_of (p ∷ xs) ≡ p.len + size_of xs = size_of-cons p xs in
+    let all : size_of (p ∷ xs) ≡ p.len + size_of xs = size_of_cons p xs in
     go (nat_lt i p.len) refl (λ behind. byte_at-before xs ys (i - p.len) (omega (arith, all)))
   where
     go : (b : Bool) → nat_lt i p.len ≡ b → (p.len ≤ i → byte_at (xs ++ ys) (i - p.len) ≡ byte_at xs (i - p.len)) →
@@ -50,7 +54,7 @@ pub byte_at-after : (xs ys : List Part) (i : ℕ) → size_of xs ≤ i → byte_
 byte_at-after [] ys i after =
     let none : i ≡ i - 0 = omega arith in ap (byte_at ys) none
 byte_at-after (p ∷ xs) ys i after =
-    let all : size_of (p ∷ xs) ≡ p.len + size_of xs = size_of-cons p xs in
+    let all : size_of (p ∷ xs) ≡ p.len + size_of xs = size_of_cons p xs in
     let same : i - p.len - size_of xs ≡ i - size_of (p ∷ xs) = omega (arith, all) in
     byte_at-behind p (xs ++ ys) i (omega (arith, all))
     ∙ byte_at-after xs ys (i - p.len) (omega (arith, all))
@@ -86,7 +90,7 @@ byte_at-inside (q ∷ ps) zero o p there inside =
     let none : 0 + o ≡ o = omega arith in
     ap (byte_at (q ∷ ps)) none ∙ ap (λ (r : Part). byte_at (r ∷ ps) o) same ∙ byte_at-first p ps o inside
 byte_at-inside (q ∷ ps) (suc k) o p there inside =
-    let all : size_of (take (suc k) (q ∷ ps)) ≡ q.len + size_of (take k ps) = size_of-cons q (take k ps) in
+    let all : size_of (take (suc k) (q ∷ ps)) ≡ q.len + size_of (take k ps) = size_of_cons q (take k ps) in
     let further : size_of (take (suc k) (q ∷ ps)) + o - q.len ≡ size_of (take k ps) + o = omega (arith, all) in
     byte_at-behind q ps (size_of (take (suc k) (q ∷ ps)) + o) (omega (arith, all))
     ∙ ap (byte_at ps) further

@@ -7,7 +7,7 @@ use Rattle.pool_law.specs.declared.id.RootId.{RootId}
 use Rattle.pool_law.specs.declared.id.Part.{Part}
 use Rattle.pool_law.specs.Composites.{size_of, filled, cut, cuts, ranges}
 use Rattle.composite_buf.specs.Maps.{Fits, byte_of, byte_at}
-use Rattle.composite_buf.proofs.MapLaws.{size_of-cons, byte_at-first, byte_at-behind}
+use Rattle.composite_buf.proofs.MapLaws.{size_of_cons, byte_at-first, byte_at-behind}
 
 -- an empty part is left out, and any other stays
 filled-empty : (p : Part) (ps : List Part) → (p.len == 0) ≡ true → filled (p ∷ ps) ≡ filled ps
@@ -41,9 +41,9 @@ size_of-filled (p ∷ ps) = go (p.len == 0) refl (size_of-filled ps)
     go : (b : Bool) → (p.len == 0) ≡ b → size_of (filled ps) ≡ size_of ps → size_of (filled (p ∷ ps)) ≡ size_of (p ∷ ps)
     go true is same =
         let none : p.len ≡ 0 = eqb-true p.len 0 is in
-        ap (λ (qs : List Part). size_of qs) (filled-empty p ps is) ∙ same ∙ omega (arith, none, size_of-cons p ps)
+        ap (λ (qs : List Part). size_of qs) (filled-empty p ps is) ∙ same ∙ omega (arith, none, size_of_cons p ps)
     go false is same =
-        ap (λ (qs : List Part). size_of qs) (filled-other p ps is) ∙ omega (arith, same, size_of-cons p (filled ps), size_of-cons p ps)
+        ap (λ (qs : List Part). size_of qs) (filled-other p ps is) ∙ omega (arith, same, size_of_cons p (filled ps), size_of_cons p ps)
 
 -- an index inside of a part means a byte of its root
 byte_of-inside : (p : Part) (i : ℕ) → i < p.len → byte_of p i ≡ Some (p.root, p.offset + i)
@@ -99,8 +99,8 @@ size_of-cuts [] i n there = omega arith
 size_of-cuts (p ∷ ps) i n there =
     let s : ℕ = min i p.len in
     let t : ℕ = min n (p.len - s) in
-    let rest : size_of (cuts ps (i - s) (n - t)) ≡ n - t = size_of-cuts ps (i - s) (n - t) (omega (arith, there, size_of-cons p ps)) in
-    size_of-cons (cut p s t) (cuts ps (i - s) (n - t)) ∙ omega (arith, rest)
+    let rest : size_of (cuts ps (i - s) (n - t)) ≡ n - t = size_of-cuts ps (i - s) (n - t) (omega (arith, there, size_of_cons p ps)) in
+    size_of_cons (cut p s t) (cuts ps (i - s) (n - t)) ∙ omega (arith, rest)
 
 -- what holds of each part, and then of what is cut of it, holds of each cut
 All-cuts : (P : Part → Type 0) → ((p : Part) (i n : ℕ) → i + n ≤ p.len → P p → P (cut p i n)) →

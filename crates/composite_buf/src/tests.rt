@@ -1,12 +1,18 @@
 //! Composites as a caller uses them.
 
+ghost use Rattle.std.specs.Prelude.{◌≡◌, length, IfOk};
+ghost use Rattle.pool_law.specs.Composites.{size_of};
+
 use crate::{Composite, Part, PartList};
 use pool_law::RootId;
 use std::alloc::{AllocError, Global};
 use std::test::*;
 
 // A part of the root at a place.
-fn part_of(place: u32, offset: u32, len: u32) -> Part {
+fn part_of(place: u32, offset: u32, len: u32) -> Part
+    ensures offset { result.offset ≡ offset }
+    ensures len { result.len ≡ len }
+{
     let root = RootId {
         place,
         generation: 1,
@@ -15,7 +21,11 @@ fn part_of(place: u32, offset: u32, len: u32) -> Part {
     Part { root, offset, len }
 }
 
-fn three_parts(alloc: Global) -> Result<Composite, AllocError> {
+#[tactic(auto, using(crate::proofs::MapLaws::size_of_cons))]
+fn three_parts(alloc: Global) -> Result<Composite, AllocError>
+    ensures count { IfOk result (λ c. length c ≡ 3) }
+    ensures size { IfOk result (λ c. size_of c ≡ 7) }
+{
     let parts = vec![in alloc; part_of(0, 5, 3), part_of(1, 9, 0), part_of(2, 20, 4)]?;
     Composite::new(alloc, &PartList::of(parts))
 }
@@ -38,6 +48,7 @@ fn three_parts_and_one_of_them_empty(rt: HostRuntime) -> Result<(), Fail> {
 }
 
 #[test]
+#[tactic(auto, using(crate::proofs::MapLaws::size_of_more, crate::proofs::MapLaws::size_of_cons))]
 fn one_more_part_and_then_one_for_all(rt: HostRuntime) -> Result<(), Fail> {
     let mut composite = three_parts(rt.alloc())?;
     composite.add(part_of(3, 1, 2));

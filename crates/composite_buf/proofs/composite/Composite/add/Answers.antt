@@ -4,7 +4,7 @@ use Rattle.pool_law.specs.declared.id.Part.{Part}
 use Rattle.pool_law.specs.Composites.{size_of}
 use Rattle.composite_buf.specs.Maps.{Fits, byte_at}
 use Rattle.composite_buf.specs.Ends.{ends_from}
-use Rattle.composite_buf.proofs.MapLaws.{byte_at-more, size_of-append, size_of-cons}
+use Rattle.composite_buf.proofs.MapLaws.{byte_at-more, size_of_more}
 use Rattle.composite_buf.proofs.EndLaws.{ends_from-more, length-ends_from}
 use Rattle.composite_buf.proofs.composite.Composite.add.Goals as goal
 
@@ -27,7 +27,7 @@ invariant_of-self c =
           ∙ sym (ends_from-more 0 old p)
           ∙ sym (ap (ends_from 0) now);
       count = omega (arith, ap length now, length-append old (p ∷ []), ap length same, c.requires.count);
-      size = omega (arith, ap (λ (ps : List Part). size_of ps) now, size_of-append old (p ∷ []), size_of-cons p [], size, c.requires.size);
+      size = omega (arith, ap (λ (ps : List Part). size_of ps) now, size_of_more old p, size, c.requires.size);
       fits = All-same Fits c.push_reserved-2.new.self.items (old ++ p ∷ []) now (All-push Fits old p c.self.invariant.fits c.requires.fits);
       parts_room = omega (arith, c.self.invariant.parts_room, c.push_reserved-2.ensures.capacity);
       ends_room = omega (arith, c.self.invariant.ends_room, c.push_reserved.ensures.capacity);
