@@ -158,7 +158,7 @@ impl SizeClasses {
     /// The other classes are normal, and their regions are runs of pages.
     pub fn is_small(&self, class: u32) -> bool
         requires { class < class_count self.now }
-        ensures small { result ≡ is_small self.now class }
+        ensures { result ≡ is_small self.now class }
     {
         self.size_of(class) < 4 * self.page
     }

@@ -77,11 +77,8 @@ fn normal_rows(rt: &impl Abort, classes: &SizeClasses) {
         assert!(rt; !classes.is_small(class), "class {class}");
         let size = classes.size_of(class);
         let pages = classes.pages_of(class);
-        assert_eq!(rt;
-            (size, pages),
-            (8192 * pages, PAGES[class as usize - 36]),
-            "class {class}"
-        );
+        assert_eq!(rt; pages, PAGES[class as usize - 36], "class {class}");
+        assert_eq!(rt; u64::from(size), 8192 * u64::from(pages), "class {class}");
     }
 }
 
