@@ -1,11 +1,11 @@
 //! The map of a chunk's free runs, and its calls.
 
-ghost use Rattle.std.specs.Prelude.{◌≡◌, ◌*◌, ◌^◌, ◌<◌, ◌≤◌, [], ◌∷◌, sum, None, MatchResult, IfSome, IfNone};
+ghost use Rattle.std.specs.Prelude.{◌≡◌, ◌*◌, ◌^◌, ◌<◌, ◌≤◌, [], ◌∷◌, sum, None, MatchResult, IfSome, IfNone, IsNone, ◌↔◌};
 ghost use Rattle.ground.specs.Ground.{IsWhole};
-ghost use Rattle.size_classes.specs.Sizes.{of_order};
+ghost use Rattle.size_classes.specs.Sizes.{IsPageClass};
 ghost use Rattle.size_classes.specs.Pages.{chosen};
-ghost use Rattle.size_classes.specs.Spans.{run_lengths, given_back, IsOut};
-ghost use Rattle.run_map.specs.FreeRuns.{IsChunk, all_free, with_runs, span_of, IsPages, IsTaken};
+ghost use Rattle.size_classes.specs.Spans.{run_lengths, given_back, IsOut, AreShorter};
+ghost use Rattle.run_map.specs.FreeRuns.{IsChunk, all_free, with_runs, span_of, geometry_in, IsPages, IsTaken, ArePagesOut, KeepsOut, KeepsOutBut};
 
 use crate::choice::{choose, page_table};
 use crate::runs::{FreeRun, Layout, free_pages, give_back, put, take_front};
@@ -81,12 +81,17 @@ impl RunMap {
     /// So many pages and the first of them: the front of the lowest run that stands under the least
     /// page class that serves. What is left of the run stays free.
     ///
-    /// None where no free run has so many pages, and then nothing changes.
+    /// `pages` is a page class. None exactly where every free run is shorter, and then nothing
+    /// changes.
     pub fn take(&mut self, pages: u32) -> Option<(Piece, u32)>
-        requires { 0 < pages }
+        requires { IsPageClass (geometry_in self.old) pages }
         ensures none { IfNone result ((self.new ≡ self.old)
-            × (chosen (of_order self.old.order) pages self.old.runs ≡ None)) }
+            × (chosen (geometry_in self.old) pages self.old.runs ≡ None)) }
+        ensures short { IsNone result ↔ AreShorter pages self.old.runs }
         ensures some { IfSome result (λ x. IsTaken self.old self.new pages x.0 x.1) }
+        // It may be given back, and what else is out stays out.
+        ensures out { IfSome result (λ x. ArePagesOut self.new x.0) }
+        ensures kept { KeepsOut self.old self.new }
     {
         match choose(&self.classes, &self.free, pages) {
             None => None,
@@ -99,8 +104,10 @@ impl RunMap {
     pub fn give(&mut self, piece: Piece)
         requires pages { IsPages self.old piece }
         requires out { IsOut (2 ^ self.old.order) self.old.runs (span_of self.old.page piece) }
-        ensures { self.new
+        ensures back { self.new
             ≡ with_runs self.old (given_back (span_of self.old.page piece) self.old.runs) }
+        // What else is out stays out.
+        ensures kept { KeepsOutBut (span_of self.old.page piece) self.old self.new }
     {
         let run = FreeRun {
             first: (piece.start() / self.layout.page) as u32,
