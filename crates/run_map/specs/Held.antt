@@ -1,7 +1,8 @@
 -- How a `RunMap` holds its free runs. No public clause cites this module.
-use Rattle.std.specs.Prelude.{◌≡◌, ◌*◌, ◌^◌, ◌≤◌, map}
+use Rattle.std.specs.Prelude.{◌≡◌, ◌*◌, ◌^◌, ◌≤◌, map, sum}
 use Rattle.size_classes.specs.Sizes.{IsPage}
 use Rattle.size_classes.specs.PageCounts.{page_counts}
+use Rattle.size_classes.specs.Spans.{run_lengths}
 use Rattle.run_map.specs.FreeRuns.{FreeRuns}
 use Rattle.run_map.specs.Spaced.{span_of_run, IsLayout, AreSpaced}
 use Rattle.run_map.specs.declared.map.RunMap.TheInside.{Inside}
@@ -23,3 +24,4 @@ pub record IsRunMap (m : Inside) : Type 0 where
   pub classes : m.classes.items ≡ page_counts m.order
   pub spaced : AreSpaced m.layout 0 m.free.items
   pub room : m.layout.pages ≤ m.free.cap
+  pub total : m.total ≡ sum (run_lengths (map span_of_run m.free.items))

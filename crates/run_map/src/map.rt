@@ -8,7 +8,7 @@ ghost use Rattle.size_classes.specs.Spans.{run_lengths, given_back, IsOut, AreSh
 ghost use Rattle.run_map.specs.FreeRuns.{IsChunk, all_free, with_runs, span_of, geometry_in, IsPages, IsTaken, ArePagesOut, KeepsOut, KeepsOutBut};
 
 use crate::choice::{choose, page_table};
-use crate::runs::{FreeRun, Layout, free_pages, give_back, put, take_front};
+use crate::runs::{FreeRun, Layout, give_back, put, take_front};
 use ground::{Piece, Site};
 use std::alloc::Global;
 use std::marker::Model;
@@ -24,6 +24,8 @@ pub struct RunMap {
     classes: Vec<u32>,
     order: u32,
     layout: Layout,
+    // The pages of all free runs.
+    total: u32,
 }
 
 impl Model for RunMap {
@@ -68,14 +70,15 @@ impl RunMap {
             classes,
             order,
             layout,
+            total: pages,
         })
     }
 
-    /// The bytes of all free runs.
+    /// The bytes of all free runs. It takes constant time.
     pub fn free_bytes(&self) -> u32
         ensures { result ≡ sum (run_lengths self.now.runs) * self.now.page }
     {
-        free_pages(&self.free) * self.layout.page as u32
+        self.total * self.layout.page as u32
     }
 
     /// So many pages and the first of them: the front of the lowest run that stands under the least
@@ -95,7 +98,11 @@ impl RunMap {
     {
         match choose(&self.classes, &self.free, pages) {
             None => None,
-            Some(i) => Some(take_front(&mut self.free, &self.layout, i, pages)),
+            Some(i) => {
+                let taken = take_front(&mut self.free, &self.layout, i, pages);
+                self.total -= pages;
+                Some(taken)
+            }
         }
     }
 
@@ -114,6 +121,7 @@ impl RunMap {
             pages: (piece.len() / self.layout.page) as u32,
             piece,
         };
+        self.total += run.pages;
         give_back(&mut self.free, &self.layout, run);
     }
 
@@ -127,6 +135,7 @@ impl RunMap {
             classes: _,
             order: _,
             layout: _,
+            total: _,
         } = self;
         let FreeRun {
             first: _,

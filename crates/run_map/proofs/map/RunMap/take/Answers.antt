@@ -20,10 +20,12 @@ use Rattle.ground.specs.Ground.{Segment}
 use Rattle.run_map.specs.FreeRuns.{FreeRuns, geometry_in, ArePagesOut, KeepsOut}
 use Rattle.run_map.specs.Held.{IsRunMap}
 use Rattle.run_map.proofs.MapLaws.{geometry-is, some-pages, taken-is-out, taken-keeps}
+use Rattle.std.proofs.Common.{◌-◌, ◌≤◌, arith}
+use Rattle.run_map.proofs.Totals.{pages_in, total-chosen}
 use Rattle.run_map.proofs.map.RunMap.take.Goals as goal
 
-pub take_front-requires-clause-run : goal.take_front-requires-clause-run
-take_front-requires-clause-run c =
+pub take_front-taken-requires-clause-run : goal.take_front-taken-requires-clause-run
+take_front-taken-requires-clause-run c =
     let items = c.self.inside.free.items in
     let by = c.deref-2.ensures.value in (
       search rules,
@@ -43,19 +45,19 @@ returns-in-Some-clause-some c =
     let i = c.in-Some.i in
     let p = c.args.pages in
     let spans : List Span = map span_of_run m.free.items in
-    let run : Span = (c.take_front.result.1, c.take_front.ensures.found.0) in
-    let here = at_place spans i run run c.take_front.ensures.found.1 in
+    let run : Span = (c.take_front-taken.result.1, c.take_front-taken.ensures.found.0) in
+    let here = at_place spans i run run c.take_front-taken.ensures.found.1 in
     let place = chosen_is c.deref.result.now m.classes.items _ c.deref-2.result.now m.free.items p c.choose.result c.choose.ensures.place c.deref.ensures.value (c.self.invariant.classes ∙ sym (page_classes_counted (of_pages m.order m.layout.page) (geometry-is m c.self.invariant))) c.deref-2.ensures.value in
     let taken = taken_at-from 0 p spans i run (spans_spaced m.layout 0 m.free.items c.self.invariant.spaced) here.0 in
     rw (← c.self.view_is) (record {
-      long = c.take_front.ensures.found.0;
+      long = c.take_front-taken.ensures.found.0;
       run = chosen-found (of_pages m.order m.layout.page) p spans i run (place ∙ c.in-Some.is) ∙ ap (λ (s : Span). Some s) here.1;
       piece = record {
-        origin = c.take_front.ensures.piece.origin;
-        start = c.take_front.ensures.piece.start;
-        size = c.take_front.ensures.piece.size;
+        origin = c.take_front-taken.ensures.piece.origin;
+        start = c.take_front-taken.ensures.piece.start;
+        size = c.take_front-taken.ensures.piece.size;
       };
-      rest = ap (with_runs (free_runs m)) (c.take_front.ensures.runs ∙ taken ∙ ap (λ (s : Span). taken_from s.0 p spans) here.1);
+      rest = ap (with_runs (free_runs m)) (c.take_front-taken.ensures.runs ∙ taken ∙ ap (λ (s : Span). taken_from s.0 p spans) here.1);
     })
 
 pub returns-in-None-clause-short : goal.returns-in-None-clause-short
@@ -84,3 +86,37 @@ pub returns-in-Some-clause-kept : goal.returns-in-Some-clause-kept
 returns-in-Some-clause-kept c =
     taken-keeps c.self.inside c.args.self.now _ c.args.pages _ _ c.self.invariant c.self.view_is
     (returns-in-Some-clause-some c)
+
+pub overflow_sub-self : goal.overflow_sub-self
+overflow_sub-self c =
+    let m = c.self.inside in
+    let left = total-chosen c.deref.result.now m.free.items c.args.pages c.in-Some.i
+    (ap (λ (l : List FreeRun). chosen_place c.deref.result.now c.args.pages (map (λ (r : FreeRun). r.pages) l)) (sym c.deref-2.ensures.value) ∙ sym c.choose.ensures.place ∙ c.in-Some.is) in
+    omega (
+      arith,
+      c.self.invariant.total,
+      left,
+    )
+
+pub invariant_of-self : goal.invariant_of-self
+invariant_of-self c =
+    let m = c.self.inside in
+    let h = c.self.invariant in
+    let left = total-chosen c.deref.result.now m.free.items c.args.pages c.in-Some.i
+    (ap (λ (l : List FreeRun). chosen_place c.deref.result.now c.args.pages (map (λ (r : FreeRun). r.pages) l)) (sym c.deref-2.ensures.value) ∙ sym c.choose.ensures.place ∙ c.in-Some.is) in
+    record {
+      order = h.order;
+      page = h.page;
+      pages = h.pages;
+      layout = h.layout;
+      size = h.size;
+      classes = h.classes;
+      spaced = c.take_front-taken.ensures.spaced;
+      room = omega (arith, h.room, c.take_front-taken.ensures.room);
+      total = omega (
+        arith,
+        h.total,
+        ap pages_in c.take_front-taken.ensures.runs,
+        left,
+      );
+    }
