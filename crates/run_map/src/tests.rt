@@ -34,7 +34,8 @@ fn crosses<T: Send>(x: T) -> T
 #[test]
 fn three_runs_of_five_leave_none_of_four(rt: HostRuntime) {
     let alloc = rt.alloc();
-    let ground = Ground::new(alloc, 131072).expect(&rt, "ample memory");
+    let (ground, deed) = Ground::new(alloc, 131072).expect(&rt, "ample memory");
+    deed.leave();
     match RunMap::new(alloc, 4, ground) {
         Err(ground) => {
             ground.leave();
@@ -61,7 +62,8 @@ fn three_runs_of_five_leave_none_of_four(rt: HostRuntime) {
 #[test]
 fn what_is_given_back_is_merged(rt: HostRuntime) {
     let alloc = rt.alloc();
-    let ground = Ground::new(alloc, 131072).expect(&rt, "ample memory");
+    let (ground, deed) = Ground::new(alloc, 131072).expect(&rt, "ample memory");
+    deed.leave();
     match RunMap::new(alloc, 4, ground) {
         Err(ground) => {
             ground.leave();

@@ -34,7 +34,8 @@ fn none_left(rt: &impl Abort, subpage: &mut Subpage)
 
 #[test]
 fn the_last_given_comes_first_and_then_the_lowest(rt: HostRuntime) {
-    let ground = Ground::new(rt.alloc(), 8192).expect(&rt, "ample memory");
+    let (ground, deed) = Ground::new(rt.alloc(), 8192).expect(&rt, "ample memory");
+    deed.leave();
     let mut subpage = Subpage::of(ground, 2048);
     assert!(rt; subpage.is_empty());
     taken(&rt, &mut subpage, 0).leave();
