@@ -1,10 +1,10 @@
 -- A rack less an element, and the element.
-use Rattle.std.proofs.Common.{◌≡◌, ℕ, zero, suc, ◌+◌, ◌*◌, ◌^◌, ◌<◌, ◌≤◌, List, [], ◌∷◌, length, Vec, refl, sym, ap, ◌∙◌, subst, arith, mul-le-mul_right}
+use Rattle.std.proofs.Common.{◌≡◌, ℕ, suc, ◌+◌, ◌*◌, ◌^◌, ◌<◌, ◌≤◌, List, length, Vec, refl, sym, ap, ◌∙◌, subst, arith, mul-le-mul_right}
 use Rattle.std.specs.Prelude.{Option, Some, None}
 use denote.RawPtr.{Ptr, block_ptr, null_ptr, count_of, ◌+ₚ◌}
 use Rattle.std_alloc.specs.declared.vec.lodged.Lodged.{Lodged}
 use Rattle.ground.specs.Ownership.{IsPlaced}
-use Rattle.ground.specs.Rack.{Cell, with_cell, HasCell}
+use Rattle.ground.specs.Rack.{with_cell, HasCell}
 use Rattle.ground.specs.Racks.{IsRack}
 use Rattle.ground.specs.Pieces.{IsPiece}
 use Rattle.ground.specs.declared.raw_rack.RawRack.{RawRack}

@@ -1,9 +1,9 @@
 -- A rack with an element put back.
-use Rattle.std.proofs.Common.{◌≡◌, ℕ, zero, suc, ◌+◌, ◌-◌, ◌*◌, ◌/◌, ◌<◌, List, [], ◌∷◌, length, refl, sym, ap, ap₂, ◌∙◌, subst, arith, mul-div_cancel}
+use Rattle.std.proofs.Common.{◌≡◌, ℕ, ◌+◌, ◌-◌, ◌*◌, ◌/◌, ◌<◌, List, length, sym, ap, ap₂, ◌∙◌, subst, arith, mul-div_cancel}
 use Rattle.std.specs.Prelude.{Option, Some, None}
 use denote.RawPtr.{Ptr, block_ptr, null_ptr, count_of, block_of, ◌+ₚ◌}
 use Rattle.ground.specs.Ownership.{IsPlaced}
-use Rattle.ground.specs.Rack.{Cell, with_cell, HasCell, with_element}
+use Rattle.ground.specs.Rack.{with_cell, HasCell, with_element}
 use Rattle.ground.specs.Racks.{rack_of, IsRack}
 use Rattle.ground.specs.declared.raw_rack.RawRack.{RawRack}
 use Rattle.ground.specs.declared.rack.Rack.TheInside.{Inside}

@@ -1,7 +1,6 @@
-use Rattle.std.proofs.Common.{◌≡◌, ◌+◌, ◌*◌, ◌^◌, ◌<◌, ◌≤◌, ℕ, length, Some, None, get_or, subst, sym, ◌∙◌, Fits-le, Fits-lit, arith, w64}
+use Rattle.std.proofs.Common.{◌+◌, ◌*◌, ◌^◌, ◌≤◌, get_or, sym, ◌∙◌, Fits-le, Fits-lit, arith, w64}
 use Rattle.std.proofs.Math.Facts.{Fits-lt-pow}
-use Rattle.std.specs.Int.{trailing_ones, trailing_zeros}
-use Rattle.bit_words.specs.Words.{IsLowestClear, IsLowestSet}
+use Rattle.std.specs.Int.{trailing_zeros}
 use Rattle.bit_words.proofs.WordLaws.{first-set, all-clear}
 use Rattle.bit_words.proofs.words.lowest_set.Goals as goal
 

@@ -1,4 +1,4 @@
-use Rattle.std.proofs.Common.{◌≡◌, ◌∙◌, ℕ, false, length, sym, ap, arith, eq-eqb}
+use Rattle.std.proofs.Common.{◌∙◌, length, sym, ap, arith, eq-eqb}
 use Rattle.std.specs.Prelude.{◌≢◌, not, position}
 use Rattle.size_classes.specs.Elements.{is_full}
 use Rattle.subpage_bits.specs.Elements.{SharedRun}

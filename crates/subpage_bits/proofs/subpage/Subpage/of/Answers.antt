@@ -1,5 +1,5 @@
 use Rattle.std.proofs.Common.{◌≡◌, ℕ, ◌/◌, ◌≤◌, Bool, List, length, get_or, refl, sym, ap, ◌∙◌, arith}
-use Rattle.std.specs.Prelude.{map, replicate, None, false}
+use Rattle.std.specs.Prelude.{map, None, false}
 use Rattle.ground.specs.Rack.{Cell, Racked}
 use Rattle.subpage_bits.specs.Kept.{cell_out, outs, bit}
 use Rattle.subpage_bits.proofs.Flags.{flags_new, length-cells, outs-new, zero-bits, clear-flags}
