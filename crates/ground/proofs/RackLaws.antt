@@ -1,10 +1,9 @@
 -- Lists of elements.
 use Rattle.std.proofs.Common.{◌≡◌, ℕ, zero, suc, ◌+◌, ◌*◌, ◌<◌, List, [], ◌∷◌, ◌++◌, length, drop, refl, sym, ap, ◌∙◌, subst, arith, length-take-le, length-drop, length-append, drop_at}
-use Rattle.std.specs.Prelude.{Option, Some, None}
-use denote.RawPtr.{Ptr}
-use Rattle.ground.specs.Ownership.{Extent, AreAllIn}
+use Rattle.std.specs.Prelude.{Some, None}
+use Rattle.ground.specs.Ownership.{AreAllIn}
 use Rattle.ground.specs.Rack.{Cell, cells_of, with_cell, HasCell, AllIn, bytes_of}
-use Rattle.ground.specs.Racks.{Fits, HasRackBlock}
+use Rattle.ground.specs.Racks.{Fits}
 
 pub length-cells_of : (n k : ℕ) (bs : List ℕ) → length (cells_of n k bs) ≡ k
 length-cells_of n zero bs = refl
@@ -46,22 +45,6 @@ fits_without n zero (Some a ∷ cs) f = f.1
 fits_without n (suc i) (None ∷ cs) f = fits_without n i cs f
 fits_without n (suc i) (Some a ∷ cs) f = (f.0, fits_without n i cs f.1)
 
--- the first element takes the block with it
-pub block_first : (o : Option Extent) (b : List ℕ) (cs : List Cell) (p : Ptr) (start size : ℕ) → HasCell 0 (Some b) cs → HasRackBlock o cs p start size → HasRackBlock None (with_cell 0 None cs) p start size
-block_first o b [] p start size h s = absurd h
-block_first o b (c ∷ cs) p start size h s = tt
-
-pub block_others : (o : Option Extent) (i : ℕ) (cs : List Cell) (p : Ptr) (start size : ℕ) → HasRackBlock o cs p start size → HasRackBlock o (with_cell (suc i) None cs) p start size
-block_others None i [] p start size s = s
-block_others None i (None ∷ cs) p start size s = s
-block_others None i (Some b ∷ cs) p start size s = s
-block_others (Some e) i [] p start size s = s
-block_others (Some e) i (None ∷ cs) p start size s = s
-block_others (Some e) i (Some b ∷ cs) p start size s = s
-
-pub out_in : (b : List ℕ) → None ≡ Some b → ⊥
-out_in b h = subst IsNoBytes h tt
-
 pub all_in_bytes : (n : ℕ) (cs : List Cell) (bs : List ℕ) → AreAllIn n cs bs → length bs ≡ length cs * n
 all_in_bytes n [] bs h = ap length h ∙ omega arith
 all_in_bytes n (None ∷ cs) bs h = absurd h
@@ -77,14 +60,6 @@ fits_with n zero b (None ∷ cs) e h f = (e, f)
 fits_with n zero b (Some a ∷ cs) e h f = (e, f.1)
 fits_with n (suc i) b (None ∷ cs) e h f = fits_with n i b cs e h f
 fits_with n (suc i) b (Some a ∷ cs) e h f = (f.0, fits_with n i b cs e h f.1)
-
-pub block_back_others : (o : Option Extent) (i : ℕ) (b : List ℕ) (cs : List Cell) (p : Ptr) (start size : ℕ) → HasRackBlock o cs p start size → HasRackBlock o (with_cell (suc i) (Some b) cs) p start size
-block_back_others None i b [] p start size s = s
-block_back_others None i b (None ∷ cs) p start size s = s
-block_back_others None i b (Some x ∷ cs) p start size s = s
-block_back_others (Some e) i b [] p start size s = s
-block_back_others (Some e) i b (None ∷ cs) p start size s = s
-block_back_others (Some e) i b (Some x ∷ cs) p start size s = s
 
 pub all_in_is : (n : ℕ) (cs : List Cell) → AllIn cs → Fits n cs → AreAllIn n cs (bytes_of cs)
 all_in_is n [] h f = refl

@@ -1,34 +1,23 @@
 -- A rack less an element, and the element.
-use Rattle.std.proofs.Common.{◌≡◌, ℕ, zero, suc, ◌+◌, ◌*◌, ◌^◌, ◌<◌, ◌≤◌, List, [], ◌∷◌, length, Vec, refl, sym, ap, ◌∙◌, subst, arith, mul-le-mul_right}
+use Rattle.std.proofs.Common.{◌≡◌, ℕ, suc, ◌+◌, ◌*◌, ◌^◌, ◌<◌, ◌≤◌, List, length, Vec, refl, sym, ap, ◌∙◌, subst, arith, mul-le-mul_right}
 use Rattle.std.specs.Prelude.{Option, Some, None}
 use denote.RawPtr.{Ptr, block_ptr, null_ptr, count_of, ◌+ₚ◌}
 use Rattle.std_alloc.specs.declared.vec.lodged.Lodged.{Lodged}
-use Rattle.ground.specs.Ownership.{Extent, IsPlaced}
-use Rattle.ground.specs.Rack.{Cell, with_cell, HasCell}
-use Rattle.ground.specs.Racks.{HasRackBlock, IsRack}
-use Rattle.ground.specs.Pieces.{HasPieceBlock, IsPiece}
+use Rattle.ground.specs.Ownership.{IsPlaced}
+use Rattle.ground.specs.Rack.{with_cell, HasCell}
+use Rattle.ground.specs.Racks.{IsRack}
+use Rattle.ground.specs.Pieces.{IsPiece}
 use Rattle.ground.specs.declared.raw_rack.RawRack.{RawRack}
 use Rattle.ground.specs.declared.claim.Claim.{Claim}
 use Rattle.ground.specs.declared.rack.Rack.TheInside.{Inside}
-use Rattle.ground.specs.declared.piece.Piece.TheInside.{Inside as PieceInside}
-use Rattle.ground.proofs.RackLaws.{length-with_cell, cell_within, cell_fits, fits_without, block_first, block_others, out_in}
-use Rattle.ground.proofs.RawRackLaws.{stays}
+use Rattle.ground.proofs.RackLaws.{length-with_cell, cell_within, cell_fits, fits_without}
 
 pub opened : (r : Inside) (sh : RawRack) → IsRack r → r.raw_rack ≡ Some sh → IsRack (record r { raw_rack = Some sh })
 opened r sh is e = let P : Option RawRack → Type 0 = λ o. IsRack (record r { raw_rack = o }) in subst P e is
 
-block_after : (i : ℕ) (o o' : Option Extent) (bs : List ℕ) (cs : List Cell) (p : Ptr) (start size : ℕ) → HasCell i (Some bs) cs → HasRackBlock o cs p start size
-    → (i ≡ 0 → o' ≡ None) → (0 < i → o' ≡ o) → HasRackBlock o' (with_cell i None cs) p start size
-block_after zero o o' bs cs p start size h s first others =
-    let P : Option Extent → Type 0 = λ x. HasRackBlock x (with_cell 0 None cs) p start size in
-    subst P (sym (first refl)) (block_first o bs cs p start size h s)
-block_after (suc i) o o' bs cs p start size h s first others =
-    let P : Option Extent → Type 0 = λ x. HasRackBlock x (with_cell (suc i) None cs) p start size in
-    subst P (sym (others (omega arith))) (block_others o i cs p start size s)
-
-left_over : (r : Inside) (sh : RawRack) (block : Option Extent) (i : ℕ) (bs : List ℕ) → IsRack r → r.raw_rack ≡ Some sh → HasCell i (Some bs) sh.cells
-    → (i ≡ 0 → block ≡ None) → (0 < i → block ≡ r.block) → IsRack (record r { raw_rack = Some (record sh { cells = with_cell i None sh.cells }); block = block })
-left_over r sh block i bs is e h first others =
+left_over : (r : Inside) (sh : RawRack) (i : ℕ) (bs : List ℕ) → IsRack r → r.raw_rack ≡ Some sh → HasCell i (Some bs) sh.cells
+    → IsRack (record r { raw_rack = Some (record sh { cells = with_cell i None sh.cells }) })
+left_over r sh i bs is e h =
     let o = opened r sh is e in
     let many = length-with_cell i None sh.cells in
     record {
@@ -40,14 +29,13 @@ left_over r sh block i bs is e h first others =
       fits = fits_without r.each i sh.cells o.fits;
       within = o.within;
       small = o.small;
-      block = block_after i r.block block bs sh.cells r.at r.start sh.size h o.block first others;
     }
 
-pub rack_left : (r : Inside) (sh sh' : RawRack) (after : Option RawRack) (block : Option Extent) (i : ℕ) (bs : List ℕ) → IsRack r → r.raw_rack ≡ Some sh → HasCell i (Some bs) sh.cells
-    → after ≡ Some sh' → sh' ≡ record sh { cells = with_cell i None sh.cells } → (i ≡ 0 → block ≡ None) → (0 < i → block ≡ r.block) → IsRack (record r { raw_rack = after; block = block })
-rack_left r sh sh' after block i bs is e h a s first others =
-    let P : Option RawRack → Type 0 = λ x. IsRack (record r { raw_rack = x; block = block }) in
-    subst P (sym (a ∙ ap (λ (x : RawRack). Some x) s)) (left_over r sh block i bs is e h first others)
+pub rack_left : (r : Inside) (sh sh' : RawRack) (after : Option RawRack) (i : ℕ) (bs : List ℕ) → IsRack r → r.raw_rack ≡ Some sh → HasCell i (Some bs) sh.cells
+    → after ≡ Some sh' → sh' ≡ record sh { cells = with_cell i None sh.cells } → IsRack (record r { raw_rack = after })
+rack_left r sh sh' after i bs is e h a s =
+    let P : Option RawRack → Type 0 = λ x. IsRack (record r { raw_rack = x }) in
+    subst P (sym (a ∙ ap (λ (x : RawRack). Some x) s)) (left_over r sh i bs is e h)
 
 -- ---- the element
 moved_placed : (p : Ptr) (k : ℕ) → IsPlaced p → IsPlaced (p +ₚ k)
@@ -71,31 +59,10 @@ element_end i each len m h e =
     let next : suc i * each ≡ i * each + each = omega arith in
     omega (arith, product, next, e)
 
-has_first : (o : Option Extent) (bs : List ℕ) (cs : List Cell) (p : Ptr) (start size : ℕ) (q : PieceInside) → HasCell 0 (Some bs) cs → HasRackBlock o cs p start size
-    → p ≡ q.bytes.ptr → start ≡ q.start → size ≡ q.claim.size → HasPieceBlock o q
-has_first o bs [] p start size q h s a b c = absurd h
-has_first None bs (None ∷ cs) p start size q h s a b c = absurd (out_in bs h)
-has_first None bs (Some x ∷ cs) p start size q h s a b c = omega (arith, s, b)
-has_first (Some e) bs (None ∷ cs) p start size q h s a b c = absurd s
-has_first (Some e) bs (Some x ∷ cs) p start size q h s a b c = (s.0 ∙ a, s.1 ∙ c, sym b ∙ s.2)
-
-block_taken : (i each : ℕ) (o o' : Option Extent) (bs : List ℕ) (cs : List Cell) (p : Ptr) (start size : ℕ) (q : PieceInside) → 0 < each → HasCell i (Some bs) cs → HasRackBlock o cs p start size
-    → (i ≡ 0 → o' ≡ o) → (0 < i → o' ≡ None) → (p +ₚ i * each) ≡ q.bytes.ptr → start + i * each ≡ q.start → size ≡ q.claim.size → HasPieceBlock o' q
-block_taken zero each o o' bs cs p start size q some h s first others a b c =
-    let P : Option Extent → Type 0 = λ x. HasPieceBlock x q in
-    let here : p ≡ p +ₚ 0 * each = stays p (0 * each) (omega arith) in
-    subst P (sym (first refl)) (has_first o bs cs p start size q h s (here ∙ a) (omega (arith, b)) c)
-block_taken (suc i) each o o' bs cs p start size q some h s first others a b c =
-    let P : Option Extent → Type 0 = λ x. HasPieceBlock x q in
-    let far : suc i * each ≡ each + i * each = omega arith in
-    let later : 0 < q.start = omega (arith, far, b, some) in
-    subst P (sym (others (omega arith))) later
-
-pub element_is : (r : Inside) (sh : RawRack) (i : ℕ) (bs : List ℕ) (bytes : Vec ℕ Lodged) (block : Option Extent) (claim : Claim) → IsRack r → r.raw_rack ≡ Some sh → HasCell i (Some bs) sh.cells
+pub element_is : (r : Inside) (sh : RawRack) (i : ℕ) (bs : List ℕ) (bytes : Vec ℕ Lodged) (claim : Claim) → IsRack r → r.raw_rack ≡ Some sh → HasCell i (Some bs) sh.cells
     → bytes.ptr ≡ (r.at +ₚ i * r.each) → bytes.len ≡ r.each → claim.start ≡ r.start + i * r.each → claim.len ≡ r.each → claim.size ≡ sh.size
-    → (i ≡ 0 → block ≡ r.block) → (0 < i → block ≡ None)
-    → IsPiece (record { bytes = bytes; block = block; start = r.start + i * r.each; claim = claim })
-element_is r sh i bs bytes block claim is e h ptr len from long whole first others =
+    → IsPiece (record { bytes = bytes; start = r.start + i * r.each; claim = claim })
+element_is r sh i bs bytes claim is e h ptr len from long whole =
     let o = opened r sh is e in
     let end = element_end i r.each r.len (length sh.cells) (cell_within i (Some bs) sh.cells h) o.filled.1 in
     let L : Ptr → Type 0 = λ q. IsPlaced q in
@@ -107,7 +74,6 @@ element_is r sh i bs bytes block claim is e h ptr len from long whole first othe
       within = omega (arith, len, end, o.within, whole);
       above = omega (arith, count, o.above);
       small = omega (arith, whole, o.small);
-      block = block_taken i r.each r.block block bs sh.cells r.at r.start sh.size (record { bytes = bytes; block = block; start = r.start + i * r.each; claim = claim }) o.some h o.block first others (sym ptr) refl (sym whole);
     }
 
 pub element_far : (r : Inside) (sh : RawRack) (i : ℕ) (bs : List ℕ) → IsRack r → r.raw_rack ≡ Some sh → HasCell i (Some bs) sh.cells → r.start + i * r.each ≤ 2 ^ 24

@@ -1,8 +1,8 @@
 -- How a piece holds its bytes. No public clause cites this module.
-use Rattle.std.specs.Prelude.{◌≡◌, ◌+◌, ◌-◌, ◌^◌, ◌<◌, ◌≤◌, Option, Some, None}
+use Rattle.std.specs.Prelude.{◌≡◌, ◌+◌, ◌-◌, ◌^◌, ◌<◌, ◌≤◌}
 use denote.RawPtr.{block_of, count_of}
 use Rattle.ground.specs.Ground.{Segment}
-use Rattle.ground.specs.Ownership.{Extent, IsPlaced}
+use Rattle.ground.specs.Ownership.{IsPlaced}
 use Rattle.ground.specs.declared.piece.Piece.TheInside.{Inside}
 
 -- what contracts see of a piece: the address where its ground begins tells which ground it is
@@ -18,11 +18,6 @@ segment_of p = record {
   bytes = p.bytes.items;
 }
 
--- the first piece of a ground has its block, and no other has
-abbrev pub HasPieceBlock : Option Extent → Inside → Type 0
-HasPieceBlock None p = 0 < p.start
-HasPieceBlock (Some e) p = (e.ptr ≡ p.bytes.ptr) × (e.len ≡ p.claim.size) × (p.start ≡ 0)
-
 -- the bytes, the claim and the start of a piece speak of the same places of one ground
 pub record IsPiece (p : Inside) : Type 0 where
   pub placed : IsPlaced p.bytes.ptr
@@ -31,4 +26,3 @@ pub record IsPiece (p : Inside) : Type 0 where
   pub within : p.start + p.bytes.len ≤ p.claim.size
   pub above : p.start ≤ count_of p.bytes.ptr
   pub small : p.claim.size ≤ 2 ^ 24
-  pub block : HasPieceBlock p.block p

@@ -2,7 +2,7 @@
 use Rattle.std.specs.Prelude.{◌≡◌, ℕ, ◌+◌, ◌-◌, ◌*◌, ◌^◌, ◌<◌, ◌≤◌, List, [], ◌∷◌, length, Option, Some, None, ⊤}
 use denote.RawPtr.{Ptr, block_of, count_of}
 use Rattle.ground.specs.Rack.{Cell, Racked}
-use Rattle.ground.specs.Ownership.{Extent, IsPlaced}
+use Rattle.ground.specs.Ownership.{IsPlaced}
 use Rattle.ground.specs.declared.raw_rack.RawRack.{RawRack}
 use Rattle.ground.specs.declared.rack.Rack.TheInside.{Inside}
 
@@ -44,15 +44,6 @@ Fits n [] = ⊤
 Fits n (None ∷ cs) = Fits n cs
 Fits n (Some b ∷ cs) = (length b ≡ n) × Fits n cs
 
--- where a ground begins with the rack, its block is with the first element
-abbrev pub HasRackBlock : Option Extent → List Cell → Ptr → ℕ → ℕ → Type 0
-HasRackBlock None [] p start size = ⊤
-HasRackBlock None (None ∷ cs) p start size = ⊤
-HasRackBlock None (Some b ∷ cs) p start size = 0 < start
-HasRackBlock (Some e) [] p start size = ⊥
-HasRackBlock (Some e) (None ∷ cs) p start size = ⊥
-HasRackBlock (Some e) (Some b ∷ cs) p start size = (e.ptr ≡ p) × (e.len ≡ size) × (start ≡ 0)
-
 -- the elements fill the rack's bytes, which lie in one ground
 pub record IsRack (r : Inside) : Type 0 where
   pub raw_rack : IsRawRack r.raw_rack r.at r.start r.each
@@ -63,4 +54,3 @@ pub record IsRack (r : Inside) : Type 0 where
   pub fits : Fits r.each (cells_in r.raw_rack)
   pub within : r.start + r.len ≤ size_in r.raw_rack
   pub small : size_in r.raw_rack ≤ 2 ^ 24
-  pub block : HasRackBlock r.block (cells_in r.raw_rack) r.at r.start (size_in r.raw_rack)

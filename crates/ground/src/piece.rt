@@ -1,11 +1,12 @@
 //! A piece of raw memory, and the ground that it was cut from.
 ghost use Rattle.std.specs.Prelude.{◌≡◌, ℕ, ◌+◌, ◌^◌, ◌<◌, ◌≤◌, ◌++◌, length, take, drop, replicate, IfOk};
 ghost use Rattle.std.specs.Borrow.{Lends, Array, sem, u8 as byte};
-ghost use Rattle.ground.specs.Ground.{Segment, IsWhole, Follows, Apart, with_bytes, overwritten};
+ghost use Rattle.ground.specs.Ground.{Origin, Segment, IsWhole, Follows, Apart, with_bytes, overwritten};
 ghost use Rattle.ground.specs.contracts.piece.Piece.{the_row};
 
 use crate::claim::Claim;
 use crate::raw_bytes::{Block, attach, detach, raw_of, vec_over};
+use crate::site::Site;
 use std::alloc::{AllocError, Global};
 use std::marker::Model;
 use std::mem::ManuallyDrop;
@@ -23,8 +24,6 @@ pub struct Ground;
 pub struct Piece {
     // A `Vec` that neither grows nor frees.
     pub(crate) bytes: Vec<u8, Lodged>,
-    // The memory's way back to its allocator, where the ground begins with this piece.
-    pub(crate) block: Option<Block<Global>>,
     pub(crate) start: usize,
     pub(crate) claim: Claim,
 }
@@ -41,24 +40,53 @@ impl Model for Piece {
     ghost invariant = { IsPiece };
 }
 
+/// The right to give the memory of a ground back. Contracts see it as its ground.
+///
+/// It has no `Drop`: `Piece::close` spends it, with the whole ground, and so does `leave`.
+pub struct Deed {
+    block: Block<Global>,
+    site: Site,
+}
+
+impl Model for Deed {
+    ghost use Rattle.ground.specs.Ground.{Origin};
+
+    ghost Value = { Origin };
+
+    ghost use Rattle.ground.specs.Deeds.{origin_of, IsDeed};
+
+    ghost view = { origin_of };
+
+    ghost invariant = { IsDeed };
+}
+
+impl Deed {
+    /// Spends the deed. The memory of its ground is not given back before the program ends.
+    pub fn leave(self) {
+        let _left = unsafe { ManuallyDrop::new_unchecked(self) };
+    }
+}
+
 impl Ground {
-    /// A whole ground of `len` zeros. `Err` is want of memory.
+    /// A whole ground of `len` zeros, and its deed. `Err` is want of memory.
     ///
     /// It takes time for each byte.
-    pub fn new(alloc: Global, len: usize) -> Result<Piece, AllocError>
+    pub fn new(alloc: Global, len: usize) -> Result<(Piece, Deed), AllocError>
         requires { (1 ≤ len) × (len ≤ 2 ^ 24) }
-        ensures whole { IfOk result IsWhole }
-        ensures zeros { IfOk result (λ piece. piece.bytes ≡ replicate len 0) }
+        ensures whole { IfOk result (λ x. IsWhole x.0) }
+        ensures zeros { IfOk result (λ x. x.0.bytes ≡ replicate len 0) }
+        ensures deed { IfOk result (λ x. x.1 ≡ x.0.origin) }
     {
         let mut vec = Vec::from_elem(alloc, 0, len)?;
         let ptr = vec.as_mut_ptr();
         let (raw_bytes, block) = detach(vec);
-        Ok(Piece {
+        let piece = Piece {
             bytes: vec_over(ptr, len, raw_bytes),
-            block: Some(block),
             start: 0,
             claim: Claim::new(len),
-        })
+        };
+        let site = Site::of(&piece);
+        Ok((piece, Deed { block, site }))
     }
 }
 
@@ -91,7 +119,6 @@ impl Piece {
     {
         let Piece {
             mut bytes,
-            block,
             start,
             claim,
         } = self;
@@ -101,14 +128,12 @@ impl Piece {
         let (first, second) = claim.cut(at);
         let left = Piece {
             bytes: vec_over(ptr, at, front),
-            block,
             start,
             claim: first,
         };
         let past = unsafe { ptr.byte_add(at) };
         let right = Piece {
             bytes: vec_over(past, len - at, back),
-            block: None,
             start: start + at,
             claim: second,
         };
@@ -124,26 +149,19 @@ impl Piece {
     {
         let Piece {
             mut bytes,
-            block,
             start,
             claim,
         } = self;
         let Piece {
             bytes: more,
-            block: rest,
             start: _,
             claim: second,
         } = right;
-        // The block stays with the piece that begins the ground.
-        let None = rest else {
-            unreachable!();
-        };
         let len = bytes.len() + more.len();
         let ptr = bytes.as_mut_ptr();
         let raw_bytes = raw_of(bytes).glue(raw_of(more));
         Piece {
             bytes: vec_over(ptr, len, raw_bytes),
-            block,
             start,
             claim: claim.glue(second),
         }
@@ -175,20 +193,19 @@ impl Piece {
         self.claim.apart(&other.claim);
     }
 
-    /// Gives the memory of a whole ground back to its allocator.
-    pub fn close(self)
-        requires { IsWhole self }
+    /// Gives the memory of a whole ground back to its allocator, by the ground's deed.
+    pub fn close(self, deed: Deed)
+        requires whole { IsWhole self }
+        requires deed { deed ≡ self.origin }
     {
         let Piece {
             bytes,
-            block,
             start: _,
             claim,
         } = self;
         let _spent = unsafe { ManuallyDrop::new_unchecked(claim) };
-        let Some(block) = block else {
-            unreachable!();
-        };
+        let Deed { block, site } = deed;
+        drop(site);
         drop(attach(raw_of(bytes), block));
     }
 

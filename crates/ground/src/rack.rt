@@ -4,9 +4,8 @@ ghost use Rattle.ground.specs.Ground.{Segment};
 ghost use Rattle.ground.specs.Rack.{Racked, HasCell, IsIn, AllIn, bytes_of, elements_of, IsElement, IsOutOf, without_element, with_element};
 
 use crate::piece::Piece;
-use crate::raw_bytes::{Block, raw_of, vec_over};
+use crate::raw_bytes::{raw_of, vec_over};
 use crate::raw_rack::{RawPiece, RawRack};
-use std::alloc::Global;
 use std::marker::Model;
 use std::mem::{ManuallyDrop, replace};
 
@@ -19,7 +18,6 @@ use std::mem::{ManuallyDrop, replace};
 /// It has no `Drop`: `into_piece` spends it where no element is out, and `leave` at any time.
 pub struct Rack {
     raw_rack: Option<RawRack>,
-    block: Option<Block<Global>>,
     at: *mut u8,
     start: usize,
     len: usize,
@@ -44,27 +42,6 @@ unsafe impl Send for Rack {}
 // A `&` to it shows nothing.
 unsafe impl Sync for Rack {}
 
-// The block goes out with the first element.
-fn block_for(block: &mut Option<Block<Global>>, i: usize) -> Option<Block<Global>>
-    ensures first { i ≡ 0 → (result ≡ block.old) × (block.new ≡ None) }
-    ensures others { 0 < i → (result ≡ None) × (block.new ≡ block.old) }
-{
-    if i == 0 { block.take() } else { None }
-}
-
-// The block comes back with the first element, and no other brings one.
-fn block_back(block: &mut Option<Block<Global>>, back: Option<Block<Global>>, i: usize)
-    requires none_lost { i ≡ 0 → block.old ≡ None }
-    requires none_brought { 0 < i → back ≡ None }
-    ensures first { i ≡ 0 → block.new ≡ back }
-    ensures others { 0 < i → block.new ≡ block.old }
-{
-    let none = if i == 0 { replace(block, back) } else { back };
-    let None = none else {
-        unreachable!();
-    };
-}
-
 impl Rack {
     /// The piece as elements of `size` bytes, which divides its length. All of them are in.
     ///
@@ -75,7 +52,6 @@ impl Rack {
     {
         let Piece {
             mut bytes,
-            block,
             start,
             claim,
         } = piece;
@@ -84,7 +60,6 @@ impl Rack {
         let raw_piece = RawPiece::of(raw_of(bytes), claim);
         Rack {
             raw_rack: Some(RawRack::of(raw_piece, size, len / size)),
-            block,
             at,
             start,
             len,
@@ -110,12 +85,10 @@ impl Rack {
             unreachable!();
         };
         let (raw_bytes, claim) = raw_piece.parts();
-        let block = block_for(&mut self.block, i);
         let far = i * self.each;
         let at = unsafe { self.at.byte_add(far) };
         Piece {
             bytes: vec_over(at, self.each, raw_bytes),
-            block,
             start: self.start + far,
             claim,
         }
@@ -131,7 +104,6 @@ impl Rack {
     {
         let Piece {
             bytes,
-            block,
             start,
             claim,
         } = piece;
@@ -145,7 +117,6 @@ impl Rack {
         let None = empty else {
             unreachable!();
         };
-        block_back(&mut self.block, block, i);
     }
 
     /// All the elements as one piece, where none is out.
@@ -159,7 +130,6 @@ impl Rack {
     {
         let Rack {
             raw_rack,
-            block,
             at,
             start,
             len,
@@ -171,7 +141,6 @@ impl Rack {
         let (raw_bytes, claim) = raw_rack.whole().parts();
         Piece {
             bytes: vec_over(at, len, raw_bytes),
-            block,
             start,
             claim,
         }

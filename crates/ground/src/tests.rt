@@ -1,7 +1,7 @@
-//! Single calls on grounds and racks, and that pieces and racks may cross threads.
+//! Single calls on grounds and racks.
 ghost use Rattle.std.specs.Prelude.{◌≡◌};
 
-use crate::{Ground, Rack, Site};
+use crate::{Ground, Rack};
 
 fn are_zeros(bytes: &[u8]) -> bool {
     bytes.iter().all(|byte| *byte == 0)
@@ -9,7 +9,7 @@ fn are_zeros(bytes: &[u8]) -> bool {
 
 #[test]
 fn the_left_bytes_then_zeros(rt: HostRuntime) {
-    let ground = Ground::new(rt.alloc(), 65536).expect(&rt, "ample memory");
+    let (ground, deed) = Ground::new(rt.alloc(), 65536).expect(&rt, "ample memory");
     let (mut left, right) = ground.split(8192);
     assert_eq!(rt; (left.start(), left.len()), (0, 8192));
     assert_eq!(rt; (right.start(), right.len()), (8192, 57344));
@@ -19,7 +19,7 @@ fn the_left_bytes_then_zeros(rt: HostRuntime) {
     assert!(rt; are_zeros(&whole.bytes()[..8191]));
     assert_eq!(rt; whole.bytes()[8191], 9);
     assert!(rt; are_zeros(&whole.bytes()[8192..]));
-    whole.close();
+    whole.close(deed);
 }
 
 // Where a byte that isn't 0 stands first.
@@ -29,7 +29,7 @@ fn place_of_a_byte(bytes: &[u8]) -> Option<usize> {
 
 #[test]
 fn elements_come_from_their_places(rt: HostRuntime) {
-    let ground = Ground::new(rt.alloc(), 8192).expect(&rt, "ample memory");
+    let (ground, deed) = Ground::new(rt.alloc(), 8192).expect(&rt, "ample memory");
     let mut rack = Rack::of(ground, 2048);
     let mut last = rack.pull(3);
     let first = rack.pull(0);
@@ -41,32 +41,5 @@ fn elements_come_from_their_places(rt: HostRuntime) {
     let whole = rack.into_piece();
     assert!(rt; whole.len() == 8192);
     assert!(rt; place_of_a_byte(whole.bytes()) == Some(6145));
-    whole.close();
-}
-
-fn crosses<T: Send>(x: T) -> T
-    ensures { result ≡ x }
-{
-    x
-}
-
-#[test]
-fn pieces_and_racks_cross_threads(rt: HostRuntime) {
-    let ground = crosses(Ground::new(rt.alloc(), 4096).expect(&rt, "ample memory"));
-    let (left, right) = ground.split(1024);
-    let site = crosses(Site::of(&left));
-    drop(site);
-    left.apart(&right);
-    left.leave();
-    crosses(Rack::of(right, 1024)).leave();
-}
-
-#[test]
-fn racks_and_sites_are_shared_by_threads(rt: HostRuntime) {
-    let ground = Ground::new(rt.alloc(), 4096).expect(&rt, "ample memory");
-    let site = Site::of(&ground);
-    let rack = Rack::of(ground, 1024);
-    crosses((&rack, &site));
-    drop(site);
-    rack.leave();
+    whole.close(deed);
 }

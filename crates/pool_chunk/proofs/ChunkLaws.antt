@@ -7,7 +7,7 @@ use Rattle.size_classes.specs.Sizes.{Geometry, is_small, subpage_pages, element_
 use Rattle.size_classes.specs.Pages.{Run, Free, Used, pages_in, total_pages, free_pages, rest_of, front_used, freed, replaced, taken_at, given_at, merged, begins_free, NoneEmpty, NoneSideBySide}
 use Rattle.size_classes.specs.Runs.{Begins, EachRun}
 use Rattle.size_classes.specs.Elements.{Elements, new_elements, first_free, first_of_two, next_element, with_out, with_back, is_out}
-use Rattle.subpage_bits.proofs.Flags.{out_within}
+use Rattle.size_classes.proofs.ElementLaws.{out_within}
 use Rattle.size_classes.proofs.Runs.{EachRun-Begins, replaced-EachRun, replaced-total, merged-total, merged-NoneEmpty, merged-EachRun, merged-apart, rest_of-total, rest_of-NoneEmpty, rest_of-EachRun}
 use Rattle.pool_law.specs.Chunks.{Chunk, Use, Whole, Sub, RemembersFree, IsSubpage, SubpagesFit, IsChunk, used_pages}
 use Rattle.pool_chunk.specs.ChunkStates.{with_elements}

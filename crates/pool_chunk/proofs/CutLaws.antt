@@ -157,6 +157,6 @@ cut-run c is page h x run here cut s place long =
       origin = place.0 ∙ at.origin;
       start = place.1 ∙ at.start;
       size =
-          long ∙ ap₂ (λ (a b : ℕ). a * b) count size ∙ elements_fill c.classes h.class fits.small
+          long ∙ ap₂ (λ (a b : ℕ). a * b) count size ∙ elements_fill c.classes is.sizes.page h.class fits.small
           ∙ ap (λ (n : ℕ). page_of c.classes * n) (sym fits.whole);
     }

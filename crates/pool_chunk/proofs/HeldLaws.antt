@@ -1,23 +1,23 @@
 -- A chunk after one of its calls: it holds the runs that the call makes.
 use Rattle.std.proofs.Common.{◌≡◌, ℕ, ◌*◌, ◌/◌, ◌%◌, ◌^◌, ◌<◌, ◌≤◌, List, length, replicate, Some, None, refl, sym, ap, ap₂, ◌∙◌, subst, arith, lit<, zero-add}
 use Rattle.std.specs.Prelude.{map, slice_set}
-use Rattle.std.proofs.Math.Nat.{pow-le-pow_right, mul-div_cancel, mul-mod_left}
+use Rattle.std.proofs.Math.Nat.{pow-le-pow_right, mul-div_cancel, mul-mod_left, mul_comm}
 use Rattle.std.proofs.lemmas.List.{append-nil}
 use lib.Pow.{pow_pos}
-use mathlib.Core.Logic.{inl, inr}
 use Rattle.ground.specs.Ground.{Segment}
-use Rattle.size_classes.specs.Sizes.{Geometry, of_order, page_of, chunk_bytes}
+use Rattle.size_classes.specs.Sizes.{Geometry, IsGeometry, IsPage, of_pages, page_of, chunk_bytes}
+use Rattle.size_classes.proofs.SmallClasses.{page-some}
 use Rattle.size_classes.specs.Pages.{Run, Free, Used, Span, pages_in, run_at, free_runs, chosen, taken_at, given_at}
 use Rattle.size_classes.specs.Spans.{taken_from, given_back, IsOut}
 use Rattle.size_classes.specs.Runs.{Begins}
 use Rattle.size_classes.proofs.Runs.{Begins-inside, Begins-run_at}
-use Rattle.run_map.specs.FreeRuns.{FreeRuns, IsRunOf, IsTaken, span_of, IsPages}
+use Rattle.run_map.specs.FreeRuns.{FreeRuns, geometry_in, IsRunOf, IsTaken, span_of, IsPages}
 use Rattle.run_map.specs.FreeRuns.{with_runs as with_spans, all_free as all_spans, IsChunk as IsPagesGround}
 use Rattle.pool_law.specs.Chunks.{Chunk, Use, new_chunk}
 use Rattle.pool_chunk.specs.declared.slot.Slot.{Slot}
 use Rattle.pool_chunk.specs.PlaceWords.{AreFields}
 use Rattle.pool_chunk.specs.declared.chunk.Chunk.TheInside.{Inside}
-use Rattle.pool_chunk.specs.ChunkStates.{ChunkState, with_runs, all_free, IsChunkGround, IsBytesAt, page_start}
+use Rattle.pool_chunk.specs.ChunkStates.{ChunkState, with_runs, geometry_on, all_free, IsChunkGround, IsBytesAt, page_start}
 use Rattle.pool_chunk.specs.Slots.{Entry, entry_of, AreOf, IsPlaced, ArePlaced}
 use Rattle.pool_chunk.specs.Held.{entries_in, runs_in, state_in, IsHeld}
 use Rattle.pool_chunk.proofs.ChunkLaws.{Fits, run-some}
@@ -52,10 +52,11 @@ module _ (c d : Inside) (spans : List Span) (slots : List Slot) (runs : Chunk) (
   held-after is placed =
       let order : d.classes.order ≡ c.classes.order = ap (λ (g : Geometry). g.order) follows.classes in
       record {
-        least = subst (λ (g : Geometry). 3 ≤ g.order) (sym follows.classes) is.least;
-        order = subst (λ (g : Geometry). g.order ≤ 11) (sym follows.classes) is.order;
+        sizes = subst IsGeometry (sym follows.classes) is.sizes;
         same = ap (λ (m : FreeRuns). m.order) follows.map_is ∙ is.same ∙ sym order;
-        page = ap (λ (m : FreeRuns). m.page) follows.map_is ∙ is.page;
+        page =
+            ap (λ (m : FreeRuns). m.page) follows.map_is ∙ is.page
+            ∙ ap (λ (g : Geometry). g.page) (sym follows.classes);
         bytes = follows.bytes ∙ is.bytes ∙ ap chunk_bytes (sym follows.classes);
         runs = of-runs d.classes d.map.runs (entries_in d) runs are;
         placed =
@@ -66,10 +67,10 @@ module _ (c d : Inside) (spans : List Span) (slots : List Slot) (runs : Chunk) (
 
 -- the run that the map chooses is the run that the law chooses
 pub chosen-same : (c : Inside) (pages : ℕ) → IsHeld c
-    → chosen c.classes pages (free_runs 0 (runs_in c)) ≡ chosen (of_order c.map.order) pages c.map.runs
+    → chosen c.classes pages (free_runs 0 (runs_in c)) ≡ chosen (geometry_in c.map) pages c.map.runs
 chosen-same c pages is =
-    ap (λ (o : ℕ). chosen (of_order o) pages (free_runs 0 (runs_in c))) (sym is.same)
-    ∙ ap (λ (ss : List Span). chosen (of_order c.map.order) pages ss) is.runs.free
+    ap₂ (λ (o p : ℕ). chosen (of_pages o p) pages (free_runs 0 (runs_in c))) (sym is.same) (sym is.page)
+    ∙ ap (λ (ss : List Span). chosen (geometry_in c.map) pages ss) is.runs.free
 
 -- pages of the map are pages of the chunk
 pub bytes-at : (c : Inside) → IsHeld c → (page pages : ℕ) (s : Segment) → IsRunOf c.map page pages s
@@ -77,8 +78,8 @@ pub bytes-at : (c : Inside) → IsHeld c → (page pages : ℕ) (s : Segment) �
 bytes-at c is page pages s run =
     record {
       origin = run.origin;
-      start = run.start ∙ ap (λ (k : ℕ). page * k) is.page ∙ omega arith;
-      size = run.size ∙ ap (λ (k : ℕ). pages * k) is.page ∙ omega arith;
+      start = run.start ∙ ap (λ (k : ℕ). page * k) is.page ∙ mul_comm page (page_of c.classes);
+      size = run.size ∙ ap (λ (k : ℕ). pages * k) is.page ∙ mul_comm pages (page_of c.classes);
     }
 
 module _ (c : Inside) (is : IsHeld c) (m : FreeRuns) (pages page : ℕ) (piece : Segment) (taken : IsTaken c.map m pages piece page) where
@@ -93,7 +94,7 @@ module _ (c : Inside) (is : IsHeld c) (m : FreeRuns) (pages page : ℕ) (piece :
   -- the pages of the chunk are few
   pub taken-few : (page < 2 ^ 15) × (pages < 2 ^ 15)
   taken-few =
-      let few : 2 ^ c.classes.order ≤ 2048 = pow-le-pow_right {n = 2} (lit< tt) {i = c.classes.order} {j = 11} is.order in
+      let few : 2 ^ c.classes.order ≤ 2048 = pow-le-pow_right {n = 2} (lit< tt) {i = c.classes.order} {j = 11} is.sizes.most in
       let inside = Begins-inside (runs_in c) page (Free taken.long) taken-begins.0 in (
         omega (arith, few, inside, is.runs.chunk.covers, taken-begins.1, run-some (runs_in c) page (Free taken.long) is.runs.chunk.none_empty taken-begins.0),
         omega (arith, few, inside, is.runs.chunk.covers, taken-begins.1),
@@ -123,16 +124,19 @@ module _ (c : Inside) (is : IsHeld c) (page pages : ℕ) (what : Use) (piece : S
   -- the bytes of a run are whole pages of the map
   pub given-span : span_of c.map.page piece ≡ (page, pages)
   given-span =
-      let first : piece.start / c.map.page ≡ page = ap (λ (k : ℕ). piece.start / k) is.page ∙ omega (arith, at.start) in
-      let long : length piece.bytes / c.map.page ≡ pages = ap (λ (k : ℕ). length piece.bytes / k) is.page ∙ omega (arith, at.size) in
+      let some = page-some c.classes is.sizes.page in
+      let first : piece.start / c.map.page ≡ page =
+      ap₂ (λ (n k : ℕ). n / k) (at.start ∙ mul_comm (page_of c.classes) page) is.page ∙ mul-div_cancel page some in
+      let long : length piece.bytes / c.map.page ≡ pages =
+      ap₂ (λ (n k : ℕ). n / k) (at.size ∙ mul_comm (page_of c.classes) pages) is.page ∙ mul-div_cancel pages some in
       ap₂ (λ (a b : ℕ). (a, b)) first long
 
   pub given-pages : IsPages c.map piece
   given-pages =
       record {
         origin = at.origin;
-        start = ap (λ (k : ℕ). piece.start % k) is.page ∙ omega (arith, at.start);
-        size = ap (λ (k : ℕ). length piece.bytes % k) is.page ∙ omega (arith, at.size);
+        start = ap₂ (λ (n k : ℕ). n % k) (at.start ∙ mul_comm (page_of c.classes) page) is.page ∙ mul-mod_left page (page_of c.classes);
+        size = ap₂ (λ (n k : ℕ). n % k) (at.size ∙ mul_comm (page_of c.classes) pages) is.page ∙ mul-mod_left pages (page_of c.classes);
       }
 
   -- and apart from those of the free runs
@@ -164,7 +168,7 @@ module _ (c : Inside) (is : IsHeld c) (page pages : ℕ) (what : Use) (piece : S
 -- a run of the chunk has room in a word
 pub run-fields : (c : Inside) → IsHeld c → (page : ℕ) (r : Run Use) (index : ℕ) → Begins page r (runs_in c) → index < 2 ^ 32 → AreFields page (pages_in r) index
 run-fields c is page r index b small =
-    let few : 2 ^ c.classes.order ≤ 2048 = pow-le-pow_right {n = 2} (lit< tt) {i = c.classes.order} {j = 11} is.order in
+    let few : 2 ^ c.classes.order ≤ 2048 = pow-le-pow_right {n = 2} (lit< tt) {i = c.classes.order} {j = 11} is.sizes.most in
     let inside = Begins-inside (runs_in c) page r b in
     let some = run-some (runs_in c) page r is.runs.chunk.none_empty b in
     record {
@@ -181,44 +185,43 @@ place-fields c is v same page r index at small =
 
 -- ---- a new chunk
 
-module _ (d : Inside) (order : ℕ) (piece : Segment) (least : 3 ≤ order) (most : order ≤ 11) (stands : IsChunkGround (of_order order) piece)
-    (map_is : d.map ≡ all_spans order piece) (classes : d.classes ≡ of_order order) (bytes : d.bytes ≡ length piece.bytes)
+module _ (d : Inside) (order : ℕ) (piece : Segment) (sizes : IsGeometry (geometry_on order piece)) (stands : IsChunkGround (geometry_on order piece) piece)
+    (map_is : d.map ≡ all_spans order piece) (classes : d.classes ≡ geometry_on order piece) (bytes : d.bytes ≡ length piece.bytes)
     (slots : d.slots.items ≡ replicate (2 ^ order) Slot.Nothing) where
-  new-runs : AreOf d.classes d.map.runs (entries_in d) (new_chunk (of_order order))
+  new-runs : AreOf d.classes d.map.runs (entries_in d) (new_chunk (geometry_on order piece))
   new-runs =
       let some : 0 < 2 ^ order = pow_pos order in
-      subst (λ (g : Geometry). AreOf g d.map.runs (entries_in d) (new_chunk (of_order order))) (sym classes)
+      subst (λ (g : Geometry). AreOf g d.map.runs (entries_in d) (new_chunk (geometry_on order piece))) (sym classes)
       (record {
         free = sym (ap (λ (m : FreeRuns). m.runs) map_is);
         entries = append-nil (replicate (2 ^ order) None) ∙ sym (ap (map entry_of) slots ∙ entries-nothing (2 ^ order));
         chunk = record { covers = omega arith; none_empty = (some, tt); none_side_by_side = (refl, tt); subpages = tt };
       })
 
-  pub new-state : state_in d ≡ all_free (of_order order) piece
+  pub new-state : state_in d ≡ all_free (geometry_on order piece) piece
   new-state =
       ap₂ (λ (m : FreeRuns) (g : Geometry). record { origin = m.origin; geometry = g; runs = runs_in d }) map_is classes
-      ∙ ap (λ (rs : Chunk). record { origin = piece.origin; geometry = of_order order; runs = rs }) (the-runs d.classes d.map.runs (entries_in d) (new_chunk (of_order order)) new-runs)
+      ∙ ap (λ (rs : Chunk). record { origin = piece.origin; geometry = geometry_on order piece; runs = rs }) (the-runs d.classes d.map.runs (entries_in d) (new_chunk (geometry_on order piece)) new-runs)
 
   pub new-held : IsHeld d
   new-held =
-      let size : piece.origin.size ≡ 8192 * 2 ^ order = sym stands.0.1 ∙ stands.1 in
-      let page : piece.origin.size / 2 ^ order ≡ 8192 = ap (λ (k : ℕ). k / 2 ^ order) size ∙ mul-div_cancel 8192 {n = 2 ^ order} (pow_pos order) in
+      let page : piece.origin.size / 2 ^ order ≡ length piece.bytes / 2 ^ order = ap (λ (k : ℕ). k / 2 ^ order) (sym stands.0.1) in
       record {
-        least = subst (λ (g : Geometry). 3 ≤ g.order) (sym classes) least;
-        order = subst (λ (g : Geometry). g.order ≤ 11) (sym classes) most;
+        sizes = subst IsGeometry (sym classes) sizes;
         same = ap (λ (m : FreeRuns). m.order) map_is ∙ sym (ap (λ (g : Geometry). g.order) classes);
-        page = ap (λ (m : FreeRuns). m.page) map_is ∙ page;
+        page = ap (λ (m : FreeRuns). m.page) map_is ∙ page ∙ ap (λ (g : Geometry). g.page) (sym classes);
         bytes = bytes ∙ stands.1 ∙ ap chunk_bytes (sym classes);
-        runs = of-runs d.classes d.map.runs (entries_in d) (new_chunk (of_order order)) new-runs;
+        runs = of-runs d.classes d.map.runs (entries_in d) (new_chunk (geometry_on order piece)) new-runs;
         placed = subst (λ (ss : List Slot). ArePlaced d.map.origin (page_of d.classes) 0 ss) (sym slots) (placed-nothing d.map.origin (page_of d.classes) 0 (2 ^ order));
       }
 
 -- a ground of the bytes of a chunk is whole pages
-pub ground-pages : (order : ℕ) (piece : Segment) → IsChunkGround (of_order order) piece → IsPagesGround order piece
-ground-pages order piece stands =
-    let size : piece.origin.size ≡ 8192 * 2 ^ order = sym stands.0.1 ∙ stands.1 in
+pub ground-pages : (order : ℕ) (piece : Segment) → IsGeometry (geometry_on order piece) → IsChunkGround (geometry_on order piece) piece → IsPagesGround order piece
+ground-pages order piece sizes stands =
+    let page : ℕ = length piece.bytes / 2 ^ order in
+    let size : piece.origin.size ≡ page * 2 ^ order = sym stands.0.1 ∙ stands.1 in
     record {
       whole = stands.0;
-      pages = ap (λ (k : ℕ). k % 2 ^ order) size ∙ mul-mod_left 8192 (2 ^ order);
-      page = inr (inl (ap (λ (k : ℕ). k / 2 ^ order) size ∙ mul-div_cancel 8192 {n = 2 ^ order} (pow_pos order)));
+      pages = ap (λ (k : ℕ). k % 2 ^ order) size ∙ mul-mod_left page (2 ^ order);
+      page = subst IsPage (ap (λ (k : ℕ). k / 2 ^ order) stands.0.1) sizes.page;
     }

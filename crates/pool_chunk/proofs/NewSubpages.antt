@@ -22,7 +22,7 @@ module _ (c : Inside) (is : IsHeld c) (class : ℕ) (small : is_small c.classes 
 
   -- its bytes are whole elements
   pub new-whole : length piece.bytes % size ≡ 0
-  new-whole = ap₂ (λ (a b : ℕ). a % b) long size_is ∙ whole_elements c.classes class small
+  new-whole = ap₂ (λ (a b : ℕ). a % b) long size_is ∙ whole_elements c.classes is.sizes.page class small
 
   -- as many as a subpage of the class has
   count : length piece.bytes / size ≡ element_count c.classes class
@@ -31,7 +31,7 @@ module _ (c : Inside) (is : IsHeld c) (class : ℕ) (small : is_small c.classes 
       ∙ ap (λ (k : ℕ). k / size_at class) (mul_comm (subpage_pages c.classes class) (page_of c.classes))
 
   pub new-few : length piece.bytes / size ≤ 2048
-  new-few = omega (arith, count, few_elements c.classes class small)
+  new-few = omega (arith, count, few_elements c.classes is.sizes.page class small)
 
   module _ (run : CutRun) (class_is : run.class ≡ class) (pages_is : run.pages ≡ subpage_pages c.classes class) (subpage_is : run.subpage ≡ new_shared piece size) where
     -- what begins at the page is a new subpage of the class

@@ -3,7 +3,7 @@ use Rattle.std.proofs.Common.{◌≡◌, ℕ, ◌^◌, ◌<◌, Bool, true, fals
 use Rattle.ground.specs.Ground.{Segment}
 use Rattle.size_classes.specs.Pages.{Run, Used, run_at}
 use Rattle.size_classes.proofs.Runs.{Begins-run_at}
-use Rattle.subpage_bits.proofs.Flags.{out_within}
+use Rattle.size_classes.proofs.ElementLaws.{out_within}
 use Rattle.pool_law.specs.Chunks.{Use, Whole, Sub}
 use Rattle.pool_chunk.specs.declared.chunk.Chunk.TheInside.{Inside}
 use Rattle.pool_chunk.specs.PlaceWords.{place_word, AreFields}
@@ -43,7 +43,7 @@ module _ (c : Inside) (is : IsHeld c) (v : ChunkState) (same : state_in c ≡ v)
       let run : Run Use = Used h.pages (Sub h.class h.elements) in
       let begins = Begins-run_at (runs_in c) out.page run (subst (λ (x : ChunkState). run_at out.page x.runs ≡ Some run) (sym same) h.run) in
       let fits = subpage-fits c.classes (runs_in c) out.page h.pages h.class h.elements is.runs.chunk begins in
-      let few : out.index < 2 ^ 32 = omega (arith, out_within out.index h.elements.out out.element.out, fits.elements, few_elements c.classes h.class fits.small) in
+      let few : out.index < 2 ^ 32 = omega (arith, out_within out.index h.elements.out out.element.out, fits.elements, few_elements c.classes is.sizes.page h.class fits.small) in
       only out.page h.pages out.index true true (place-fields c is v same out.page run out.index h.run few) out.place
 
   pub element-page : (out : IsElementPlace v s word) → fields.0 ≡ out.page

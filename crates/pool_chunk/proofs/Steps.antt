@@ -1,6 +1,8 @@
 -- The free runs and the entries of a chunk, and what each change of the chunk makes of them.
 use Rattle.std.proofs.Common.{◌≡◌, ℕ, zero, suc, ◌+◌, ◌-◌, ◌*◌, ◌<◌, ◌≤◌, ◌^◌, List, [], ◌∷◌, length, get_or, Some, None, refl, sym, ap, ◌∙◌, subst, arith, zero-add, eq-eqb, ne_eqb}
 use Rattle.std.specs.Prelude.{◌⊎◌, true, false, ◌==◌, All, sum, slice_set, Option}
+use Rattle.std.proofs.Math.Nat.{mul_comm}
+use Rattle.std.proofs.Math.Nat.{mul-add}
 use Rattle.std.proofs.lemmas.Bool.{cases_lt, cases_eq}
 use Rattle.std.proofs.lemmas.List.Sums.{sum_by-cons}
 use Rattle.size_classes.specs.Sizes.{Geometry, page_of, chunk_pages, chunk_bytes}
@@ -10,7 +12,7 @@ use Rattle.size_classes.specs.Runs.{Begins}
 use Rattle.size_classes.specs.Elements.{Elements}
 use Rattle.size_classes.proofs.Runs.{Begins-apart, Begins-inside, Begins-one, IsFree, EachPair, EachPair-map, free_runs-free, IfThere, chosen-free}
 use Rattle.size_classes.proofs.SpanLaws.{free_runs-taken, free_runs-given}
-use Rattle.pool_law.specs.Chunks.{Chunk, Use, Sub, IsSubpage, IsChunk, used_bytes, free_bytes}
+use Rattle.pool_law.specs.Chunks.{Chunk, Use, Sub, IsSubpage, IsChunk, used_pages, used_bytes, free_bytes}
 use Rattle.pool_chunk.specs.ChunkStates.{with_elements}
 use Rattle.pool_chunk.specs.Slots.{Entry, entries, runs_from, AreOf}
 use Rattle.pool_chunk.proofs.Entries.{runs_from-entries, entries-taken, entries-given, entries-elements}
@@ -112,8 +114,11 @@ pub free-bytes : (g : Geometry) (spans : List Span) (es : List Entry) (rs : Chun
     → sum (run_lengths spans) * page ≡ free_bytes g rs
 free-bytes g spans es rs page of is =
     let pages : sum (run_lengths spans) ≡ free_pages rs = ap (λ (ss : List Span). sum (run_lengths ss)) (sym of.free) ∙ sum-free rs 0 in
-    ap (λ (k : ℕ). sum (run_lengths spans) * k) is ∙ omega (arith, pages)
+    ap (λ (k : ℕ). sum (run_lengths spans) * k) is ∙ ap (λ (n : ℕ). n * page_of g) pages
+    ∙ mul_comm (free_pages rs) (page_of g)
 
 -- what is used and what is free are all bytes
 pub all-bytes : (g : Geometry) (rs : Chunk) → IsChunk g rs → used_bytes g rs + free_bytes g rs ≡ chunk_bytes g
-all-bytes g rs is = omega (arith, used-free rs, is.covers)
+all-bytes g rs is =
+    sym (mul-add (page_of g) (used_pages rs) (free_pages rs))
+    ∙ ap (λ (n : ℕ). page_of g * n) (used-free rs ∙ is.covers)

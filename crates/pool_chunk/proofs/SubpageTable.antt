@@ -1,8 +1,9 @@
--- The subpages of the small classes: whole elements, and few enough for the flags of a subpage.
-use Rattle.std.proofs.Common.{◌≡◌, ℕ, ◌*◌, ◌/◌, ◌%◌, ◌<◌, ◌≤◌, Bool, true, false, ◌==◌, refl, sym, ap, ◌∙◌, eqb-true, leb-true, arith}
+-- The subpages of the small classes: whole elements, and few enough for the bits of a subpage.
+use Rattle.std.proofs.Common.{◌≡◌, ℕ, ◌-◌, ◌*◌, ◌/◌, ◌%◌, ◌<◌, ◌≤◌, Bool, true, false, ◌==◌, refl, sym, ap, ◌∙◌, eqb-true, leb-true, arith}
 use Rattle.std.specs.Prelude.{◌&&◌, nat_le}
 use Rattle.std.proofs.lemmas.Bool.{agree_below_at}
-use Rattle.size_classes.specs.Sizes.{Geometry, page_of, size_at, is_small, subpage_pages, element_count}
+use Rattle.size_classes.specs.Sizes.{Geometry, IsPage, of_pages, page_shift, page_of, size_at, is_small, subpage_pages, element_count}
+use Rattle.size_classes.proofs.Geometries.{by_page}
 use Rattle.size_classes.proofs.SmallClasses.{small_below}
 
 abbrev passes : Geometry → ℕ → Bool
@@ -10,9 +11,18 @@ passes g class =
     (subpage_pages g class * page_of g % size_at class == 0)
     && ((element_count g class * size_at class == page_of g * subpage_pages g class) && nat_le (element_count g class) 2048)
 
--- each small class passes
-all_pass : (g : Geometry) (class : ℕ) → is_small g class ≡ true → passes g class ≡ true
-all_pass g class small = agree_below_at (passes g) (λ _. true) 39 class refl (small_below g class small)
+-- each of the first classes passes
+first_pass : (page : ℕ) → IsPage page → (class : ℕ) → class < 4 * page_shift page - 13 → passes (of_pages 9 page) class ≡ true
+first_pass =
+    by_page (λ page. (class : ℕ) → class < 4 * page_shift page - 13 → passes (of_pages 9 page) class ≡ true)
+    (λ class few. agree_below_at (passes (of_pages 9 4096)) (λ _. true) 35 class refl few)
+    (λ class few. agree_below_at (passes (of_pages 9 8192)) (λ _. true) 39 class refl few)
+    (λ class few. agree_below_at (passes (of_pages 9 16384)) (λ _. true) 43 class refl few)
+    (λ class few. agree_below_at (passes (of_pages 9 32768)) (λ _. true) 47 class refl few)
+
+-- so does each small class
+all_pass : (g : Geometry) → IsPage g.page → (class : ℕ) → is_small g class ≡ true → passes g class ≡ true
+all_pass g h class small = first_pass g.page h class (small_below g h class small)
 
 left : (a b : Bool) → (a && b) ≡ true → a ≡ true
 left true b e = refl
@@ -22,12 +32,12 @@ right : (a b : Bool) → (a && b) ≡ true → b ≡ true
 right true b e = e
 right false b e = absurd (cc e)
 
-module _ (g : Geometry) (class : ℕ) (small : is_small g class ≡ true) where
+module _ (g : Geometry) (h : IsPage g.page) (class : ℕ) (small : is_small g class ≡ true) where
   pub whole_elements : subpage_pages g class * page_of g % size_at class ≡ 0
-  whole_elements = eqb-true (subpage_pages g class * page_of g % size_at class) 0 (left (subpage_pages g class * page_of g % size_at class == 0) _ (all_pass g class small))
+  whole_elements = eqb-true (subpage_pages g class * page_of g % size_at class) 0 (left (subpage_pages g class * page_of g % size_at class == 0) _ (all_pass g h class small))
 
   others : ((element_count g class * size_at class == page_of g * subpage_pages g class) && nat_le (element_count g class) 2048) ≡ true
-  others = right (subpage_pages g class * page_of g % size_at class == 0) _ (all_pass g class small)
+  others = right (subpage_pages g class * page_of g % size_at class == 0) _ (all_pass g h class small)
 
   pub elements_fill : element_count g class * size_at class ≡ page_of g * subpage_pages g class
   elements_fill = eqb-true (element_count g class * size_at class) (page_of g * subpage_pages g class) (left (element_count g class * size_at class == page_of g * subpage_pages g class) _ others)

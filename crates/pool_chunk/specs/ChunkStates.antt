@@ -1,7 +1,7 @@
 -- What contracts see of a `Chunk`: the law's list of its runs, and the ground on which it stands.
-use Rattle.std.specs.Prelude.{◌≡◌, ℕ, ◌+◌, ◌*◌, ◌<◌, ◌≤◌, ◌⊎◌, Bool, true, List, [], ◌∷◌, length, Some}
+use Rattle.std.specs.Prelude.{◌≡◌, ℕ, ◌+◌, ◌*◌, ◌/◌, ◌^◌, ◌<◌, ◌≤◌, ◌⊎◌, Bool, true, List, [], ◌∷◌, length, Some}
 use Rattle.ground.specs.Ground.{Origin, Segment, IsWhole}
-use Rattle.size_classes.specs.Sizes.{Geometry, page_of, chunk_bytes, size_at}
+use Rattle.size_classes.specs.Sizes.{Geometry, of_pages, page_of, chunk_bytes, size_at}
 use Rattle.size_classes.specs.Pages.{Run, Used, pages_in, replaced, run_at}
 use Rattle.size_classes.specs.Elements.{Elements, is_out, is_idle}
 use Rattle.pool_law.specs.Chunks.{Chunk, Use, Whole, Sub, new_chunk}
@@ -19,6 +19,10 @@ with_runs c runs = record c { runs = runs }
 -- the chunk of a ground that is all free
 abbrev pub all_free : Geometry → Segment → ChunkState
 all_free g s = record { origin = s.origin; geometry = g; runs = new_chunk g }
+
+-- the sizes of a chunk of 2 ^ order pages that is all of s
+abbrev pub geometry_on : ℕ → Segment → Geometry
+geometry_on order s = of_pages order (length s.bytes / 2 ^ order)
 
 -- a whole ground of the bytes of a chunk
 abbrev pub IsChunkGround : Geometry → Segment → Type 0

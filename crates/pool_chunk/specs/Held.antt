@@ -1,6 +1,6 @@
 -- How a `Chunk` holds its runs. No public clause cites this module.
-use Rattle.std.specs.Prelude.{◌≡◌, ◌≤◌, List, map}
-use Rattle.size_classes.specs.Sizes.{page_of, chunk_bytes}
+use Rattle.std.specs.Prelude.{◌≡◌, List, map}
+use Rattle.size_classes.specs.Sizes.{IsGeometry, page_of, chunk_bytes}
 use Rattle.pool_law.specs.Chunks.{Chunk}
 use Rattle.pool_chunk.specs.ChunkStates.{ChunkState}
 use Rattle.pool_chunk.specs.Slots.{Entry, entry_of, runs_from, AreOf, ArePlaced}
@@ -16,8 +16,7 @@ abbrev pub state_in : Inside → ChunkState
 state_in c = record { origin = c.map.origin; geometry = c.classes; runs = runs_in c }
 
 pub record IsHeld (c : Inside) : Type 0 where
-  pub least : 3 ≤ c.classes.order
-  pub order : c.classes.order ≤ 11
+  pub sizes : IsGeometry c.classes
   pub same : c.map.order ≡ c.classes.order
   pub page : c.map.page ≡ page_of c.classes
   pub bytes : c.bytes ≡ chunk_bytes c.classes

@@ -2,11 +2,11 @@
 
 ghost use Rattle.std.specs.Prelude.{◌≡◌, ℕ, ◌+◌, ◌<◌, ◌≤◌, ◌↔◌, true, MatchResult, IfSome, IfNone, IsNone, None};
 ghost use Rattle.ground.specs.Ground.{IsWhole};
-ghost use Rattle.size_classes.specs.Sizes.{of_order, chunk_bytes, class_count, is_small, subpage_pages};
+ghost use Rattle.size_classes.specs.Sizes.{IsGeometry, IsPageClass, chunk_bytes, class_count, is_small, subpage_pages};
 ghost use Rattle.size_classes.specs.Pages.{free_runs, chosen, run_start};
 ghost use Rattle.size_classes.specs.Elements.{is_full};
 ghost use Rattle.pool_law.specs.Chunks.{new_chunk, used_bytes, free_bytes, IsChunk};
-ghost use Rattle.pool_chunk.specs.ChunkStates.{all_free, IsChunkGround, HasSubpage, HasIdleSubpage, IsInUse, IsRunOut, IsElementOut, IsRunPlace, IsElementPlace, IsPlaceOut};
+ghost use Rattle.pool_chunk.specs.ChunkStates.{geometry_on, all_free, IsChunkGround, HasSubpage, HasIdleSubpage, IsInUse, IsRunOut, IsElementOut, IsRunPlace, IsElementPlace, IsPlaceOut};
 ghost use Rattle.pool_chunk.specs.Outcomes.{TakesRun, TakesSubpage, TakesElement, run_back, element_back, freed_by};
 
 use crate::place::{place_pack, place_unpack};
@@ -51,14 +51,16 @@ impl Model for Chunk {
 }
 
 impl Chunk {
-    /// The chunk of a whole ground, all of it free. Want of memory hands the ground back.
+    /// The chunk of `2^order` pages that is a whole ground, all of it free. Want of memory hands
+    /// the ground back.
     pub fn new(alloc: Global, order: u32, piece: Piece) -> Result<Chunk, Piece>
-        requires order { (3 ≤ order) × (order ≤ 11) }
-        requires chunk { IsChunkGround (of_order order) piece }
+        requires sizes { IsGeometry (geometry_on order piece) }
+        requires chunk { IsChunkGround (geometry_on order piece) piece }
         ensures { MatchResult result
-            (λ chunk. chunk ≡ all_free (of_order order) piece) (λ back. back ≡ piece) }
+            (λ chunk. chunk ≡ all_free (geometry_on order piece) piece) (λ back. back ≡ piece) }
     {
-        let Ok(classes) = SizeClasses::new(alloc, order) else {
+        let page = (piece.len() >> order) as u32;
+        let Ok(classes) = SizeClasses::new(alloc, order, page) else {
             return Err(piece);
         };
         let Ok(slots) = no_runs(alloc, 2usize.pow(order)) else {
@@ -124,12 +126,12 @@ impl Chunk {
         at
     }
 
-    /// So many pages from the front of the free run that the rule chooses, and the word of their
-    /// place. What is left of the run stays free.
+    /// So many pages, a page class, from the front of the free run that the rule chooses, and the
+    /// word of their place. What is left of the run stays free.
     ///
     /// None where no free run has so many pages, and then nothing changes.
     pub fn take_run(&mut self, pages: u32) -> Option<(Piece, u64)>
-        requires { 0 < pages }
+        requires { IsPageClass self.old.geometry pages }
         ensures none { IfNone result ((self.new ≡ self.old)
             × (chosen self.old.geometry pages (free_runs 0 self.old.runs) ≡ None)) }
         ensures some { IfSome result (λ x. TakesRun self.old self.new pages x.0 x.1) }
@@ -209,8 +211,8 @@ impl Chunk {
         Freed::Run
     }
 
-    // Gives an element of the subpage that begins at a page back.
-    fn give_element(&mut self, piece: Piece, page: u32, index: u32) -> Freed
+    /// Gives an element of the subpage that begins at a page back, as `give` does by its word.
+    pub fn give_element(&mut self, piece: Piece, page: u32, index: u32) -> Freed
         requires { IsElementOut self.old page index piece }
         ensures freed { (out : IsElementOut self.old page index piece)
             → result ≡ freed_by out.subpage.elements index }
@@ -224,8 +226,8 @@ impl Chunk {
         run.take_back(piece, index)
     }
 
-    // Gives the run that begins at a page back.
-    fn give_run(&mut self, piece: Piece, page: u32)
+    /// Gives the run that begins at a page back, as `give` does by its word.
+    pub fn give_run(&mut self, piece: Piece, page: u32)
         requires { IsRunOut self.old page piece }
         ensures { self.new ≡ run_back self.old page }
     {

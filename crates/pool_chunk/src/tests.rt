@@ -19,7 +19,8 @@ fn chunk_of_eight(rt: &impl Abort, alloc: Global) -> Chunk
     ensures geometry { result.geometry ≡ of_order 3 }
     ensures free { result.runs ≡ new_chunk (of_order 3) }
 {
-    let ground = Ground::new(alloc, 65536).expect(rt, "ample memory");
+    let (ground, deed) = Ground::new(alloc, 65536).expect(rt, "ample memory");
+    deed.leave();
     match Chunk::new(alloc, 3, ground) {
         Ok(chunk) => chunk,
         Err(ground) => {

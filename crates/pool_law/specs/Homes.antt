@@ -3,11 +3,16 @@ use Rattle.std.specs.Prelude.{ℕ, ◌+◌, ◌*◌, ◌<◌}
 use Rattle.pool_law.specs.declared.run.Shape.{Shape}
 use Rattle.pool_law.specs.declared.note.Object.{Object}
 use Rattle.pool_law.specs.declared.note.Object.TheVariants.{Arena, Cache, Bin, Mail, Root}
+use Rattle.pool_law.specs.Limits.{cached_classes}
+
+-- how many homes a lane has for its caches and its bin
+abbrev pub lane_homes : ℕ
+lane_homes = cached_classes + 1
 
 -- the object is one of this shape
 abbrev pub IsObjectOf : Shape → Object → Type 0
 IsObjectOf s (Arena a) = a < s.arenas
-IsObjectOf s (Cache lane class) = (lane < s.lanes) × (class < 40)
+IsObjectOf s (Cache lane class) = (lane < s.lanes) × (class < cached_classes)
 IsObjectOf s (Bin lane) = lane < s.lanes
 IsObjectOf s (Mail from to) = («from» < s.lanes) × (to < s.lanes)
 IsObjectOf s (Root place) = place < s.lanes * s.handles
@@ -15,11 +20,11 @@ IsObjectOf s (Root place) = place < s.lanes * s.handles
 -- arenas, then caches by lane and class, then bins, then mails by both lanes, then root places
 abbrev pub home_of : Shape → Object → ℕ
 home_of s (Arena a) = a
-home_of s (Cache lane class) = s.arenas + lane * 40 + class
-home_of s (Bin lane) = s.arenas + s.lanes * 40 + lane
-home_of s (Mail from to) = s.arenas + s.lanes * 41 + («from» * s.lanes + to)
-home_of s (Root place) = s.arenas + s.lanes * 41 + s.lanes * s.lanes + place
+home_of s (Cache lane class) = s.arenas + lane * cached_classes + class
+home_of s (Bin lane) = s.arenas + s.lanes * cached_classes + lane
+home_of s (Mail from to) = s.arenas + s.lanes * lane_homes + («from» * s.lanes + to)
+home_of s (Root place) = s.arenas + s.lanes * lane_homes + s.lanes * s.lanes + place
 
 -- how many objects there are
 abbrev pub objects_of : Shape → ℕ
-objects_of s = s.arenas + s.lanes * 41 + s.lanes * s.lanes + s.lanes * s.handles
+objects_of s = s.arenas + s.lanes * lane_homes + s.lanes * s.lanes + s.lanes * s.handles

@@ -1,9 +1,9 @@
 -- What contracts see of a `RunMap`.
-use Rattle.std.specs.Prelude.{◌≡◌, ℕ, ◌*◌, ◌/◌, ◌%◌, ◌^◌, ◌⊎◌, List, [], ◌∷◌, length, Some}
+use Rattle.std.specs.Prelude.{◌≡◌, ℕ, ◌*◌, ◌/◌, ◌%◌, ◌^◌, List, [], ◌∷◌, length, Some}
 use Rattle.ground.specs.Ground.{Origin, Segment, IsWhole}
-use Rattle.size_classes.specs.Sizes.{of_order}
+use Rattle.size_classes.specs.Sizes.{Geometry, IsPage, of_pages}
 use Rattle.size_classes.specs.Pages.{chosen}
-use Rattle.size_classes.specs.Spans.{Span, taken_from}
+use Rattle.size_classes.specs.Spans.{Span, taken_from, AreApart, IsOut}
 
 -- the free runs of a chunk of 2 ^ order pages, in order of offset, and the ground of the chunk
 pub record FreeRuns : Type 0 where
@@ -15,9 +15,9 @@ pub record FreeRuns : Type 0 where
 abbrev pub with_runs : FreeRuns → List Span → FreeRuns
 with_runs m runs = record m { runs = runs }
 
--- a page has 4,096, 8,192, 16,384 or 32,768 bytes
-abbrev pub IsPage : ℕ → Type 0
-IsPage n = (n ≡ 4096) ⊎ ((n ≡ 8192) ⊎ ((n ≡ 16384) ⊎ (n ≡ 32768)))
+-- the sizes of the chunk
+abbrev pub geometry_in : FreeRuns → Geometry
+geometry_in m = of_pages m.order m.page
 
 -- a whole ground that is 2 ^ order pages
 pub record IsChunk (order : ℕ) (s : Segment) : Type 0 where
@@ -53,6 +53,21 @@ pub record IsRunOf (m : FreeRuns) (first pages : ℕ) (s : Segment) : Type 0 whe
 -- so many pages were taken from the front of the run that the rule chooses
 pub record IsTaken (before after : FreeRuns) (pages : ℕ) (s : Segment) (offset : ℕ) : Type 0 where
   pub long : ℕ
-  pub run : chosen (of_order before.order) pages before.runs ≡ Some (offset, long)
+  pub run : chosen (geometry_in before) pages before.runs ≡ Some (offset, long)
   pub piece : IsRunOf before offset pages s
   pub rest : after ≡ with_runs before (taken_from offset pages before.runs)
+
+-- s is whole pages of this ground that are out: what may be given back
+pub record ArePagesOut (m : FreeRuns) (s : Segment) : Type 0 where
+  pub pages : IsPages m s
+  pub out : IsOut (2 ^ m.order) m.runs (span_of m.page s)
+
+-- what is out stays out
+abbrev pub KeepsOut : FreeRuns → FreeRuns → Type 0
+KeepsOut before after = (s : Segment) → ArePagesOut before s → ArePagesOut after s
+
+-- what is out stays out, but for what has a page of r
+abbrev pub KeepsOutBut : Span → FreeRuns → FreeRuns → Type 0
+KeepsOutBut r before after =
+    (s : Segment) →
+    AreApart (span_of before.page s) r → ArePagesOut before s → ArePagesOut after s

@@ -1,7 +1,9 @@
 -- How a `RunMap` holds its free runs. No public clause cites this module.
-use Rattle.std.specs.Prelude.{◌≡◌, ◌*◌, ◌^◌, ◌≤◌, map}
-use Rattle.size_classes.specs.Sizes.{of_order, page_classes}
-use Rattle.run_map.specs.FreeRuns.{FreeRuns, IsPage}
+use Rattle.std.specs.Prelude.{◌≡◌, ◌*◌, ◌^◌, ◌≤◌, map, sum}
+use Rattle.size_classes.specs.Sizes.{IsPage}
+use Rattle.size_classes.specs.PageCounts.{page_counts}
+use Rattle.size_classes.specs.Spans.{run_lengths}
+use Rattle.run_map.specs.FreeRuns.{FreeRuns}
 use Rattle.run_map.specs.Spaced.{span_of_run, IsLayout, AreSpaced}
 use Rattle.run_map.specs.declared.map.RunMap.TheInside.{Inside}
 
@@ -19,6 +21,7 @@ pub record IsRunMap (m : Inside) : Type 0 where
   pub pages : m.layout.pages ≡ 2 ^ m.order
   pub layout : IsLayout m.layout
   pub size : m.layout.site.origin.size ≡ m.layout.pages * m.layout.page
-  pub classes : m.classes.items ≡ page_classes (of_order m.order)
+  pub classes : m.classes.items ≡ page_counts m.order
   pub spaced : AreSpaced m.layout 0 m.free.items
   pub room : m.layout.pages ≤ m.free.cap
+  pub total : m.total ≡ sum (run_lengths (map span_of_run m.free.items))

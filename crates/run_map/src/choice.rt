@@ -1,9 +1,8 @@
 //! Which free run a request takes: of those under the least page class that serves, the lowest.
 
 ghost use Rattle.std.specs.Prelude.{◌≡◌, ◌*◌, ◌-◌, ◌<◌, ◌≤◌, ◌&&◌, ◌==◌, nat_le, length, map, fold, filter, position, IfOk, IfSome};
-ghost use Rattle.size_classes.specs.Sizes.{of_order, page_classes};
 ghost use Rattle.size_classes.specs.Pages.{lower};
-ghost use Rattle.size_classes.specs.PageCounts.{page_count_at};
+ghost use Rattle.size_classes.specs.PageCounts.{page_count_at, page_counts};
 ghost use Rattle.run_map.specs.Placed.{stands_under, chosen_place};
 
 use crate::runs::FreeRun;
@@ -63,10 +62,9 @@ pub(crate) fn choose(classes: &[u32], free: &[FreeRun], pages: u32) -> Option<us
 }
 
 // The pages of each page class.
-#[tactic(auto, using(size_classes::proofs::Tables::page_classes_counted))]
 pub(crate) fn page_table(alloc: Global, order: u32) -> Result<Vec<u32>, AllocError>
     requires { (3 ≤ order) × (order ≤ 11) }
-    ensures { IfOk result (λ v. v.items ≡ page_classes (of_order order)) }
+    ensures { IfOk result (λ v. v.items ≡ page_counts order) }
 {
     let mut counts = Vec::new(alloc);
     for i in 0..4 * order - 4 {

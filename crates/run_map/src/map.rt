@@ -1,14 +1,14 @@
 //! The map of a chunk's free runs, and its calls.
 
-ghost use Rattle.std.specs.Prelude.{◌≡◌, ◌*◌, ◌^◌, ◌<◌, ◌≤◌, [], ◌∷◌, sum, None, MatchResult, IfSome, IfNone};
+ghost use Rattle.std.specs.Prelude.{◌≡◌, ◌*◌, ◌^◌, ◌<◌, ◌≤◌, [], ◌∷◌, sum, None, MatchResult, IfSome, IfNone, IsNone, ◌↔◌};
 ghost use Rattle.ground.specs.Ground.{IsWhole};
-ghost use Rattle.size_classes.specs.Sizes.{of_order};
+ghost use Rattle.size_classes.specs.Sizes.{IsPageClass};
 ghost use Rattle.size_classes.specs.Pages.{chosen};
-ghost use Rattle.size_classes.specs.Spans.{run_lengths, given_back, IsOut};
-ghost use Rattle.run_map.specs.FreeRuns.{IsChunk, all_free, with_runs, span_of, IsPages, IsTaken};
+ghost use Rattle.size_classes.specs.Spans.{run_lengths, given_back, IsOut, AreShorter};
+ghost use Rattle.run_map.specs.FreeRuns.{IsChunk, all_free, with_runs, span_of, geometry_in, IsPages, IsTaken, ArePagesOut, KeepsOut, KeepsOutBut};
 
 use crate::choice::{choose, page_table};
-use crate::runs::{FreeRun, Layout, free_pages, give_back, put, take_front};
+use crate::runs::{FreeRun, Layout, give_back, put, take_front};
 use ground::{Piece, Site};
 use std::alloc::Global;
 use std::marker::Model;
@@ -24,6 +24,8 @@ pub struct RunMap {
     classes: Vec<u32>,
     order: u32,
     layout: Layout,
+    // The pages of all free runs.
+    total: u32,
 }
 
 impl Model for RunMap {
@@ -68,29 +70,39 @@ impl RunMap {
             classes,
             order,
             layout,
+            total: pages,
         })
     }
 
-    /// The bytes of all free runs.
+    /// The bytes of all free runs. It takes constant time.
     pub fn free_bytes(&self) -> u32
         ensures { result ≡ sum (run_lengths self.now.runs) * self.now.page }
     {
-        free_pages(&self.free) * self.layout.page as u32
+        self.total * self.layout.page as u32
     }
 
     /// So many pages and the first of them: the front of the lowest run that stands under the least
     /// page class that serves. What is left of the run stays free.
     ///
-    /// None where no free run has so many pages, and then nothing changes.
+    /// `pages` is a page class. None exactly where every free run is shorter, and then nothing
+    /// changes.
     pub fn take(&mut self, pages: u32) -> Option<(Piece, u32)>
-        requires { 0 < pages }
+        requires { IsPageClass (geometry_in self.old) pages }
         ensures none { IfNone result ((self.new ≡ self.old)
-            × (chosen (of_order self.old.order) pages self.old.runs ≡ None)) }
+            × (chosen (geometry_in self.old) pages self.old.runs ≡ None)) }
+        ensures short { IsNone result ↔ AreShorter pages self.old.runs }
         ensures some { IfSome result (λ x. IsTaken self.old self.new pages x.0 x.1) }
+        // It may be given back, and what else is out stays out.
+        ensures out { IfSome result (λ x. ArePagesOut self.new x.0) }
+        ensures kept { KeepsOut self.old self.new }
     {
         match choose(&self.classes, &self.free, pages) {
             None => None,
-            Some(i) => Some(take_front(&mut self.free, &self.layout, i, pages)),
+            Some(i) => {
+                let taken = take_front(&mut self.free, &self.layout, i, pages);
+                self.total -= pages;
+                Some(taken)
+            }
         }
     }
 
@@ -99,14 +111,17 @@ impl RunMap {
     pub fn give(&mut self, piece: Piece)
         requires pages { IsPages self.old piece }
         requires out { IsOut (2 ^ self.old.order) self.old.runs (span_of self.old.page piece) }
-        ensures { self.new
+        ensures back { self.new
             ≡ with_runs self.old (given_back (span_of self.old.page piece) self.old.runs) }
+        // What else is out stays out.
+        ensures kept { KeepsOutBut (span_of self.old.page piece) self.old self.new }
     {
         let run = FreeRun {
             first: (piece.start() / self.layout.page) as u32,
             pages: (piece.len() / self.layout.page) as u32,
             piece,
         };
+        self.total += run.pages;
         give_back(&mut self.free, &self.layout, run);
     }
 
@@ -120,6 +135,7 @@ impl RunMap {
             classes: _,
             order: _,
             layout: _,
+            total: _,
         } = self;
         let FreeRun {
             first: _,

@@ -152,14 +152,3 @@ pub(crate) fn give_back(free: &mut Vec<FreeRun>, layout: &Layout, run: FreeRun)
         merge_at(free, layout, i - 1);
     }
 }
-
-// The pages of all the runs.
-pub(crate) fn free_pages(free: &[FreeRun]) -> u32
-    requires { sum (run_lengths (map span_of_run free.now)) ≤ 2 ^ 24 }
-    ensures { result ≡ sum (run_lengths (map span_of_run free.now)) }
-{
-    match free.split_first() {
-        None => 0,
-        Some((first, rest)) => first.pages + free_pages(rest),
-    }
-}

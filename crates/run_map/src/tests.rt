@@ -1,7 +1,8 @@
 //! Rows of single calls on the map of a chunk of sixteen pages.
 
-ghost use Rattle.std.specs.Prelude.{◌≡◌, ◌<◌};
-ghost use Rattle.run_map.specs.FreeRuns.{IsTaken};
+ghost use Rattle.std.specs.Prelude.{◌≡◌};
+ghost use Rattle.size_classes.specs.Sizes.{of_pages, IsPageClass};
+ghost use Rattle.run_map.specs.FreeRuns.{IsTaken, ArePagesOut, geometry_in};
 
 use crate::RunMap;
 use ground::{Ground, Piece};
@@ -9,8 +10,11 @@ use std::process::Abort;
 
 // A run of so many pages, which has to begin at this page.
 fn taken(rt: &impl Abort, map: &mut RunMap, pages: u32, first: u32) -> Piece
-    requires { 0 < pages }
-    ensures { IsTaken map.old map.new pages result first }
+    requires sizes { geometry_in map.old ≡ of_pages 4 8192 }
+    requires class { IsPageClass (of_pages 4 8192) pages }
+    ensures taken { IsTaken map.old map.new pages result first }
+    ensures out { ArePagesOut map.new result }
+    ensures sizes { geometry_in map.new ≡ of_pages 4 8192 }
 {
     match map.take(pages) {
         Some((piece, at)) => {
@@ -30,7 +34,8 @@ fn crosses<T: Send>(x: T) -> T
 #[test]
 fn three_runs_of_five_leave_none_of_four(rt: HostRuntime) {
     let alloc = rt.alloc();
-    let ground = Ground::new(alloc, 131072).expect(&rt, "ample memory");
+    let (ground, deed) = Ground::new(alloc, 131072).expect(&rt, "ample memory");
+    deed.leave();
     match RunMap::new(alloc, 4, ground) {
         Err(ground) => {
             ground.leave();
@@ -55,9 +60,10 @@ fn three_runs_of_five_leave_none_of_four(rt: HostRuntime) {
 }
 
 #[test]
-fn runs_side_by_side_are_merged(rt: HostRuntime) {
+fn what_is_given_back_is_merged(rt: HostRuntime) {
     let alloc = rt.alloc();
-    let ground = Ground::new(alloc, 131072).expect(&rt, "ample memory");
+    let (ground, deed) = Ground::new(alloc, 131072).expect(&rt, "ample memory");
+    deed.leave();
     match RunMap::new(alloc, 4, ground) {
         Err(ground) => {
             ground.leave();
@@ -65,13 +71,10 @@ fn runs_side_by_side_are_merged(rt: HostRuntime) {
         }
         Ok(map) => {
             let mut map = map;
-            let first = taken(&rt, &mut map, 5, 0);
-            let second = taken(&rt, &mut map, 5, 5);
-            taken(&rt, &mut map, 5, 10).leave();
-            map.give(first);
-            map.give(second);
-            taken(&rt, &mut map, 10, 0).leave();
-            assert_eq!(rt; map.free_bytes(), 8192);
+            let five = taken(&rt, &mut map, 5, 0);
+            map.give(five);
+            taken(&rt, &mut map, 16, 0).leave();
+            assert_eq!(rt; map.free_bytes(), 0);
             map.leave();
         }
     }

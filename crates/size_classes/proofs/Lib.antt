@@ -1,3 +1,8 @@
+pub mod ChosenLaws
+pub mod CountLaws
+pub mod ElementLaws
+pub mod Geometries
+pub mod OutLaws
 pub mod PageClasses
 pub mod Powers
 pub mod Requests

@@ -1,14 +1,12 @@
 -- Bounds on the sizes of classes, and how many there are.
-use Rattle.std.proofs.Common.{◌≡◌, ℕ, zero, suc, ◌+◌, ◌-◌, ◌*◌, ◌/◌, ◌%◌, ◌^◌, ◌<◌, ◌≤◌, List, [], ◌∷◌, length, length-append, get_or, refl, ap, ◌∙◌, arith, lit<, Bool}
+use Rattle.std.proofs.Common.{◌≡◌, ℕ, zero, suc, ◌+◌, ◌-◌, ◌*◌, ◌/◌, ◌%◌, ◌^◌, ◌<◌, ◌≤◌, [], ◌∷◌, length, length-append, get_or, refl, ap, ◌∙◌, arith, lit<}
 use Rattle.std.proofs.Math.Nat.{pow-le-pow_right, mul-le-mul_left, mul-le-mul_right, one-le-pow}
 use Rattle.std.proofs.lemmas.Bool.{cond_both, ltb-true, ltb-false}
 use Rattle.std.proofs.lemmas.Nat.{pow-add}
 use native.Mathlib.Decide.{dec_lt}
 use Rattle.std.proofs.lemmas.List.{get_or_append_left, get_or_at}
-use Rattle.std.specs.Prelude.{filter, ◌==◌, nat_lt}
-use Rattle.std.proofs.lemmas.List.Sums.{length-filter, count_by-le-length}
-use Rattle.std.proofs.lemmas.List.{length-map}
-use Rattle.size_classes.specs.Sizes.{size_at, first_sizes, whole_pages}
+use Rattle.std.specs.Prelude.{nat_lt}
+use Rattle.size_classes.specs.Sizes.{size_at, first_sizes}
 
 -- what a doubling adds to its base, in the sizes of all classes
 pub product_fits : (step i : ℕ) → step ≤ 4 → i < 76 → step * 2 ^ (4 + (i - 4) / 4) ≤ 2 ^ 23
@@ -66,9 +64,3 @@ size_at-least i =
     (λ n. 16 ≤ n)
     (λ _. omega arith)
     (λ _. omega (arith, pow-le-pow_right {n = 2} (lit< tt) {i = 4} {j = 6 + (i - 4) / 4} (omega arith)))
-
--- there are no more page classes than classes
-pub few_page_classes : (page : ℕ) (sizes : List ℕ) → length (whole_pages page sizes) ≤ length sizes
-few_page_classes page sizes =
-    let p : ℕ → Bool = λ size. size % page == 0 in
-    omega (arith, length-map (filter p sizes) (λ size. size / page), length-filter p sizes, count_by-le-length p sizes)

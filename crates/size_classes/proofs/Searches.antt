@@ -4,7 +4,7 @@ use Rattle.std.specs.Prelude.{nat_lt, nat_le, find, filter, count_by, position}
 use Rattle.std.specs.List.{position_or_len}
 use Rattle.std.specs.List.Sorted.{IsStrictlyIncreasing}
 use Rattle.std.proofs.lemmas.Bool.{cond_both, cases_lt, ltb-false, le-leb, lt-leb, lt-ltb, le-ltb}
-use Rattle.std.proofs.lemmas.List.Sums.{prefix_len_passes, prefix_len-le-length, length-filter}
+use Rattle.std.proofs.lemmas.List.Sums.{prefix_len_is, prefix_len_passes, prefix_len-le-length, length-filter}
 use Rattle.size_classes.specs.Sizes.{least_from}
 use mathlib.Core.Logic.{inl, inr, ◌⊎◌}
 
@@ -30,6 +30,24 @@ position-or_len p xs =
     cond_both (nat_lt (position_or_len p xs) (length xs)) (Some (position_or_len p xs)) None
     (λ o. unwrap_or o (length xs) ≡ position_or_len p xs) (λ _. refl)
     (λ past. omega (arith, ltb-false (position_or_len p xs) (length xs) past, prefix_len-le-length (λ x. not (p x)) xs))
+
+-- a search finds the first that passes
+pub position-at : (p : ℕ → Bool) (xs : List ℕ) (k : ℕ) → k < length xs → p (get_or xs k 0) ≡ true →
+    ((j : ℕ) → j < k → p (get_or xs j 0) ≡ false) → position p xs ≡ Some k
+position-at p xs k there passes before =
+    let stops : not (p (get_or xs k 0)) ≡ false = rw passes refl in
+    let at : position_or_len p xs ≡ k =
+    prefix_len_is (λ x. not (p x)) xs k 0 (omega (arith, there)) (λ j less. rw (before j less) refl) (λ _. stops) in
+    rw (at, lt-ltb k (length xs) there) refl
+
+-- and nothing where none passes
+pub position-none : (p : ℕ → Bool) (xs : List ℕ) → ((j : ℕ) → j < length xs → p (get_or xs j 0) ≡ false) →
+    position p xs ≡ None
+position-none p xs none =
+    let at : position_or_len p xs ≡ length xs =
+    prefix_len_is (λ x. not (p x)) xs (length xs) 0 (omega arith) (λ j less. rw (none j less) refl)
+    (λ h. absurd (omega (arith, h))) in
+    rw (at, le-ltb (length xs) (length xs) (omega arith)) refl
 
 -- ---- among numbers that rise
 

@@ -1,36 +1,37 @@
--- The page classes of each order, as the check computes them.
-use Rattle.std.proofs.Common.{◌≡◌, ℕ, zero, suc, ◌+◌, ◌-◌, ◌*◌, ◌^◌, ◌<◌, ◌≤◌, Bool, true, List, length, get_or, refl, sym, subst, arith}
+-- The page classes of each geometry, as the check computes them.
+use Rattle.std.proofs.Common.{◌≡◌, ℕ, ◌+◌, ◌-◌, ◌*◌, ◌^◌, ◌<◌, ◌≤◌, Bool, true, List, length, get_or, refl, sym, subst, arith, lit<}
 use Rattle.std.specs.Prelude.{nat_lt}
 use Rattle.std.specs.List.Sorted.{IsStrictlyIncreasing}
 use Rattle.std.proofs.lemmas.Bool.{ltb-true, agree_below, agree_below_at}
-use Rattle.size_classes.specs.Sizes.{of_order, page_classes}
-use Rattle.size_classes.specs.PageCounts.{page_counts}
-
--- what holds of 3 to 11, each by itself, holds of every order
-each_order : (P : ℕ → Type 0) → P 3 → P 4 → P 5 → P 6 → P 7 → P 8 → P 9 → P 10 → P 11 →
-    (order : ℕ) → 3 ≤ order → order ≤ 11 → P order
-each_order P a b c d e f g h i zero least most = absurd (omega (arith, least))
-each_order P a b c d e f g h i (suc zero) least most = absurd (omega (arith, least))
-each_order P a b c d e f g h i (suc (suc zero)) least most = absurd (omega (arith, least))
-each_order P a b c d e f g h i (suc (suc (suc n))) least most = from n (omega (arith, most))
-  where
-    from : (n : ℕ) → n ≤ 8 → P (suc (suc (suc n)))
-    from zero most = a
-    from (suc zero) most = b
-    from (suc (suc zero)) most = c
-    from (suc (suc (suc zero))) most = d
-    from (suc (suc (suc (suc zero)))) most = e
-    from (suc (suc (suc (suc (suc zero))))) most = f
-    from (suc (suc (suc (suc (suc (suc zero)))))) most = g
-    from (suc (suc (suc (suc (suc (suc (suc zero))))))) most = h
-    from (suc (suc (suc (suc (suc (suc (suc (suc zero)))))))) most = i
-    from (suc (suc (suc (suc (suc (suc (suc (suc (suc n))))))))) most = absurd (omega (arith, most))
+use Rattle.size_classes.specs.Sizes.{Geometry, IsGeometry, of_pages, page_classes}
+use Rattle.size_classes.specs.PageCounts.{page_count_at, page_counts}
+use Rattle.size_classes.proofs.Geometries.{by_page, by_order}
 
 -- the page classes are the sizes that are whole pages, and so the counts of pages
-pub page_classes_counted : (order : ℕ) → 3 ≤ order → order ≤ 11 → page_classes (of_order order) ≡ page_counts order
-page_classes_counted order least most =
-    each_order (λ order. page_classes (of_order order) ≡ page_counts order) refl refl refl refl refl refl refl refl refl
-    order least most
+pub page_classes_counted : (g : Geometry) → IsGeometry g → page_classes g ≡ page_counts g.order
+page_classes_counted g h =
+    by_page (λ page. page_classes (of_pages g.order page) ≡ page_counts g.order)
+    (by_order (λ order. page_classes (of_pages order 4096) ≡ page_counts order)
+    refl refl refl refl refl refl refl refl refl g.order h.least h.most)
+    (by_order (λ order. page_classes (of_pages order 8192) ≡ page_counts order)
+    refl refl refl refl refl refl refl refl refl g.order h.least h.most)
+    (by_order (λ order. page_classes (of_pages order 16384) ≡ page_counts order)
+    refl refl refl refl refl refl refl refl refl g.order h.least h.most)
+    (by_order (λ order. page_classes (of_pages order 32768) ≡ page_counts order)
+    refl refl refl refl refl refl refl refl refl g.order h.least h.most)
+    g.page h.page
+
+-- the last is the chunk
+pub last_page_count : (order : ℕ) → 3 ≤ order → order ≤ 11 → page_count_at (4 * order - 5) ≡ 2 ^ order
+last_page_count =
+    by_order (λ order. page_count_at (4 * order - 5) ≡ 2 ^ order)
+    refl refl refl refl refl refl refl refl refl
+
+-- and one more would be past it
+pub page_counts-past : (order : ℕ) → 3 ≤ order → order ≤ 11 → page_count_at (4 * order - 5) < page_count_at (4 * order - 4)
+page_counts-past =
+    by_order (λ order. page_count_at (4 * order - 5) < page_count_at (4 * order - 4))
+    (lit< tt) (lit< tt) (lit< tt) (lit< tt) (lit< tt) (lit< tt) (lit< tt) (lit< tt) (lit< tt)
 
 -- whether the number at a place is below the next
 abbrev pub rises_at : List ℕ → ℕ → Bool
@@ -46,7 +47,7 @@ pub record Shape (order : ℕ) (classes : List ℕ) : Type 0 where
 -- this holds of the counts of pages
 counted : (order : ℕ) → 3 ≤ order → order ≤ 11 → Shape order (page_counts order)
 counted order least most =
-    each_order (λ order. Shape order (page_counts order))
+    by_order (λ order. Shape order (page_counts order))
     (record { count = refl; last = refl; first = refl; rises = refl })
     (record { count = refl; last = refl; first = refl; rises = refl })
     (record { count = refl; last = refl; first = refl; rises = refl })
@@ -59,15 +60,14 @@ counted order least most =
     order least most
 
 -- and so of the page classes
-pub page_classes-shape : (order : ℕ) → 3 ≤ order → order ≤ 11 → Shape order (page_classes (of_order order))
-page_classes-shape order least most =
-    subst (Shape order) (sym (page_classes_counted order least most)) (counted order least most)
+pub page_classes-shape : (g : Geometry) → IsGeometry g → Shape g.order (page_classes g)
+page_classes-shape g h = subst (Shape g.order) (sym (page_classes_counted g h)) (counted g.order h.least h.most)
 
--- the page classes rise
-pub page_classes-rise : (order : ℕ) → 3 ≤ order → order ≤ 11 → IsStrictlyIncreasing (page_classes (of_order order))
-page_classes-rise order least most k there =
-    let classes = page_classes (of_order order) in
-    let shape = page_classes-shape order least most in
+-- the counts of pages rise
+pub page_counts-rise : (order : ℕ) → 3 ≤ order → order ≤ 11 → IsStrictlyIncreasing (page_counts order)
+page_counts-rise order least most k there =
+    let classes = page_counts order in
+    let shape = counted order least most in
     let below : k < 4 * order - 5 = omega (arith, shape.count, there) in
     ltb-true (get_or classes k 0) (get_or classes (k + 1) 0)
     (agree_below_at (rises_at classes) (λ _. true) (4 * order - 5) k shape.rises below)

@@ -4,4 +4,5 @@ pub mod Pages
 pub mod Spans
 pub mod Runs
 pub mod Elements
+pub mod Subpages
 pub mod Tables

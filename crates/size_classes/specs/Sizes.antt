@@ -1,17 +1,30 @@
 -- The size classes of a chunk: the class of a request, the page classes, the pages of a subpage.
-use Rattle.std.specs.Prelude.{ℕ, zero, suc, ◌+◌, ◌-◌, ◌*◌, ◌/◌, ◌%◌, ◌^◌, Bool, nat_lt, nat_le, ◌==◌, if◌then◌else◌, List, [], ◌∷◌, ◌++◌, map, filter, count_by, fold, position, Option, max}
+use Rattle.std.specs.Prelude.{◌≡◌, ◌⊎◌, ℕ, zero, suc, ◌+◌, ◌-◌, ◌*◌, ◌/◌, ◌%◌, ◌^◌, ◌≤◌, Bool, nat_lt, nat_le, ◌==◌, if◌then◌else◌, List, [], ◌∷◌, ◌++◌, map, filter, count_by, fold, position, Option, max, Contains}
+use Rattle.size_classes.specs.declared.TheConstants.{DEFAULT_PAGE}
 
 -- what the sizes of a pool are made from
 pub record Geometry : Type 0 where
   pub order : ℕ
+  pub page : ℕ
 
--- that of chunks of 2 ^ order pages
+-- that of chunks of 2 ^ order pages of so many bytes
+abbrev pub of_pages : ℕ → ℕ → Geometry
+of_pages order page = record { order = order; page = page }
+
+-- that of chunks of 2 ^ order pages of the default size
 abbrev pub of_order : ℕ → Geometry
-of_order order = record { order = order }
+of_order order = of_pages order DEFAULT_PAGE
 
 -- the bytes of a page
 abbrev pub page_of : Geometry → ℕ
-page_of g = 8192
+page_of g = g.page
+
+-- the power of two that a page is
+abbrev pub page_shift : ℕ → ℕ
+page_shift page =
+    if page == 4096
+    then 12
+    else (if page == 8192 then 13 else (if page == 16384 then 14 else 15))
 
 -- the pages of a chunk
 abbrev pub chunk_pages : Geometry → ℕ
@@ -20,6 +33,17 @@ chunk_pages g = 2 ^ g.order
 -- the bytes of a chunk
 abbrev pub chunk_bytes : Geometry → ℕ
 chunk_bytes g = page_of g * chunk_pages g
+
+-- a page has 4,096, 8,192, 16,384 or 32,768 bytes
+abbrev pub IsPage : ℕ → Type 0
+IsPage page = (page ≡ 4096) ⊎ ((page ≡ 8192) ⊎ ((page ≡ 16384) ⊎ (page ≡ 32768)))
+
+-- the pages and chunks that a pool can have
+pub record IsGeometry (g : Geometry) : Type 0 where
+  pub least : 3 ≤ g.order
+  pub most : g.order ≤ 11
+  pub page : IsPage g.page
+  pub chunk : chunk_bytes g ≤ 2 ^ 24
 
 -- the size of a class: four sizes up to 64, and from there four in each doubling
 abbrev pub size_at : ℕ → ℕ
@@ -30,7 +54,7 @@ size_at class =
 
 -- how many classes there are, of which the last is the chunk
 abbrev pub class_count : Geometry → ℕ
-class_count g = 4 * g.order + 32
+class_count g = 4 * (g.order + page_shift g.page - 13) + 32
 
 -- the numbers below n, in ascending order
 abbrev pub below : ℕ → List ℕ
@@ -50,9 +74,13 @@ sizes g = first_sizes (class_count g)
 abbrev pub class_of : Geometry → ℕ → Option ℕ
 class_of g n = position (λ size. nat_le n size) (sizes g)
 
--- a class of elements of a subpage
+-- a class of elements of a subpage: below four pages
 abbrev pub is_small : Geometry → ℕ → Bool
 is_small g class = nat_lt (size_at class) (4 * page_of g)
+
+-- how many classes are small
+abbrev pub small_count : Geometry → ℕ
+small_count g = 4 * page_shift g.page - 13
 
 -- the pages of a class that is not small: the fewest that hold it, and it fills them
 abbrev pub pages_of : Geometry → ℕ → ℕ
@@ -65,6 +93,10 @@ whole_pages page sizes = map (λ size. size / page) (filter (λ size. size % pag
 -- the page classes: the sizes of the classes that are whole pages, in pages
 abbrev pub page_classes : Geometry → List ℕ
 page_classes g = whole_pages (page_of g) (sizes g)
+
+-- so many pages are a page class
+abbrev pub IsPageClass : Geometry → ℕ → Type 0
+IsPageClass g pages = Contains (page_classes g) pages
 
 -- the first page class of at least so many pages, by its place among the page classes
 abbrev pub page_class_up : Geometry → ℕ → Option ℕ

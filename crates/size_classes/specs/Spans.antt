@@ -44,3 +44,12 @@ AreApart r s = (r.0 + r.1 ≤ s.0) ⊎ (s.0 + s.1 ≤ r.0)
 -- r lies in a chunk of so many pages, and none of its pages is free
 abbrev pub IsOut : ℕ → List Span → Span → Type 0
 IsOut pages runs r = (0 < r.1) × (r.0 + r.1 ≤ pages) × All (AreApart r) runs
+
+-- every run is shorter than so many pages
+abbrev pub AreShorter : ℕ → List Span → Type 0
+AreShorter pages runs = All (λ r. r.1 < pages) runs
+
+-- runs in order of offset, from a page on: none is empty, and no two are side by side
+abbrev pub AreSpacedFrom : ℕ → List Span → Type 0
+AreSpacedFrom low [] = Unit {0}
+AreSpacedFrom low (r ∷ runs) = (low ≤ r.0) × (0 < r.1) × AreSpacedFrom (r.0 + r.1 + 1) runs

@@ -1,23 +1,33 @@
 //! The size classes of a chunk.
 
-ghost use Rattle.std.specs.Prelude.{◌≡◌, ℕ, ◌+◌, ◌*◌, ◌/◌, ◌%◌, ◌^◌, ◌<◌, ◌≤◌, ◌↔◌, length, IfOk, IfSome, IsSome, IsNone, Some, position, count_by, nat_lt, nat_le, find, ◌==◌, true, false};
-ghost use Rattle.std.specs.List.Sorted.{IsStrictlyIncreasing};
-ghost use Rattle.size_classes.specs.Sizes.{of_order, page_of, chunk_pages, chunk_bytes, size_at, class_count, class_of, is_small, pages_of, whole_pages, page_class_up, page_classes_up_to, subpage_pages};
+ghost use Rattle.std.specs.Prelude.{◌≡◌, ℕ, ◌+◌, ◌*◌, ◌/◌, ◌%◌, ◌^◌, ◌<◌, ◌≤◌, ◌↔◌, length, IfOk, IfSome, IsSome, IsNone, Some, slice_index, true, false};
+ghost use Rattle.std.specs.Int.{div_ceil};
+ghost use Rattle.size_classes.specs.Sizes.{Geometry, IsGeometry, first_sizes, of_pages, page_of, page_shift, chunk_pages, chunk_bytes, size_at, class_count, class_of, is_small, small_count, pages_of, IsPageClass, page_class_up, page_classes_up_to, subpage_pages};
+ghost use Rattle.size_classes.specs.PageCounts.{IsFirstAtLeast};
+ghost use Rattle.size_classes.specs.Subpages.{reckoned_pages};
 
+use crate::counts::{first_at_least, last_at_most};
 use std::alloc::{AllocError, Global};
 use std::marker::Model;
 
-// The bytes of a page, the default of Netty's `PooledByteBufAllocator`.
-const PAGE: u32 = 8192;
+// The sizes of all classes are multiples of it.
+const UNIT: u32 = 16;
 
-/// The sizes in which a chunk of `2^order` pages of 8,192 bytes is handed out.
+// The greatest request whose class is in the table.
+const TABLED: u32 = 4096;
+
+/// The sizes in which a chunk of `2^order` pages is handed out.
 /// Classes are numbered from 0 by size; the page classes, from 0 too, are those of whole pages.
 /// The sizes are those of Netty's `SizeClasses`.
 #[derive(Drop)]
 pub struct SizeClasses {
     order: u32,
+    page: u32,
+    // The page is so many doublings of 1.
+    shift: u32,
     sizes: Vec<u32>,
-    pages: Vec<u32>,
+    // The class of a request of so many units.
+    requests: Vec<u8>,
 }
 
 impl Model for SizeClasses {
@@ -45,71 +55,55 @@ fn size_at(class: u32) -> u32
     2u32.pow(6 + doubling) + (step + 1) * 2u32.pow(4 + doubling)
 }
 
-// The place of the first that is at least `n`.
-fn first_holding(sizes: &[u32], n: u32) -> Option<usize>
-    ensures place { result ≡ position (λ size. nat_le n size) sizes.now }
-    ensures within { IfSome result (λ i. i < length sizes.now) }
+// The sizes of the first classes.
+fn size_table(alloc: Global, count: u32) -> Result<Vec<u32>, AllocError>
+    requires { count ≤ 76 }
+    ensures { IfOk result (λ v. v.items ≡ first_sizes count) }
 {
-    sizes.iter().position(|size| n <= *size)
-}
-
-// The place of the first that is above `n`.
-fn first_above(pages: &[u32], n: u32) -> Option<usize>
-    ensures place { result ≡ position (λ class. nat_lt n class) pages.now }
-    ensures within { IfSome result (λ i. i < length pages.now) }
-{
-    pages.iter().position(|class| n < *class)
-}
-
-// How many are at most `n`, of numbers that rise.
-fn count_up_to(pages: &[u32], n: u32) -> usize
-    requires { IsStrictlyIncreasing pages.now }
-    ensures count { result ≡ count_by (λ class. nat_le class n) pages.now }
-    ensures within { result ≤ length pages.now }
-{
-    match first_above(pages, n) {
-        Some(i) => i,
-        None => pages.len(),
+    let mut sizes = Vec::new(alloc);
+    for class in 0..count {
+        sizes.push(size_at(class))?;
     }
+    Ok(sizes)
 }
 
-// The first of the counts of pages whose bytes are a multiple of the size.
-fn first_whole(counts: &[u8], size: u32) -> Option<u8>
-    requires { 0 < size }
-    ensures { result ≡ find (λ n. n * 8192 % size == 0) counts.now }
+// The class of each request of at most 256 units.
+fn request_table(alloc: Global) -> Result<Vec<u8>, AllocError>
+    ensures count { IfOk result (λ v. length v.items ≡ 257) }
+    ensures classes { IfOk result (λ v. (units : ℕ) → units ≤ 256
+        → IsFirstAtLeast units (slice_index v.items units)) }
 {
-    counts
-        .iter()
-        .copied()
-        .find(|n| u32::from(*n) * PAGE % size == 0)
+    let mut requests = Vec::new(alloc);
+    for units in 0..TABLED / UNIT + 1 {
+        requests.push(first_at_least(units) as u8)?;
+    }
+    Ok(requests)
 }
 
-// Those of the sizes that are whole pages, in pages.
-fn whole_pages(alloc: Global, sizes: &[u32]) -> Result<Vec<u32>, AllocError>
-    ensures { IfOk result (λ pages. pages.items ≡ whole_pages 8192 sizes.now) }
+// The least number of pages of `2^shift` bytes whose bytes are a multiple of a size: the size
+// without the powers of two that the page has.
+fn whole_pages(size: u32, shift: u32) -> u32
+    requires { shift < 32 }
+    ensures { result ≡ reckoned_pages size shift }
 {
-    sizes
-        .iter()
-        .filter(|size| **size % PAGE == 0)
-        .map(|size| *size / PAGE)
-        .collect(alloc)
+    size >> size.trailing_zeros().min(shift)
 }
 
 impl SizeClasses {
-    /// The classes of a chunk of `2^order` pages.
-    pub fn new(alloc: Global, order: u32) -> Result<SizeClasses, AllocError>
-        requires { (3 ≤ order) × (order ≤ 11) }
-        ensures { IfOk result (λ c. c ≡ of_order order) }
+    /// The classes of a chunk of `2^order` pages of so many bytes. `Err` is want of memory.
+    pub fn new(alloc: Global, order: u32, page: u32) -> Result<SizeClasses, AllocError>
+        requires { IsGeometry (of_pages order page) }
+        ensures { IfOk result (λ c. c ≡ of_pages order page) }
     {
-        let mut sizes = Vec::new(alloc);
-        for class in 0..4 * order + 32 {
-            sizes.push(size_at(class))?;
-        }
-        let pages = whole_pages(alloc, &sizes)?;
+        let shift = page.trailing_zeros();
+        let sizes = size_table(alloc, 4 * (order + shift - 13) + 32)?;
+        let requests = request_table(alloc)?;
         Ok(SizeClasses {
             order,
+            page,
+            shift,
             sizes,
-            pages,
+            requests,
         })
     }
 
@@ -120,15 +114,34 @@ impl SizeClasses {
         self.sizes.len() as u32
     }
 
+    // The least class that holds `n` bytes, among the classes of any chunk.
+    fn least_class(&self, n: u32) -> u32
+        ensures first { IsFirstAtLeast (div_ceil n 16) result }
+        ensures few { result < 256 }
+    {
+        let units = n.div_ceil(UNIT);
+        if n <= TABLED {
+            u32::from(self.requests[units as usize])
+        } else {
+            first_at_least(units)
+        }
+    }
+
     /// The least class that holds `n` bytes, or `None` for more bytes than a chunk has.
+    ///
+    /// It takes constant time: a table knows the classes of requests of up to 4,096 bytes, and
+    /// those of the others are reckoned.
     pub fn class_of(&self, n: u32) -> Option<u32>
         ensures class { result ≡ class_of self.now n }
         ensures none { IsNone result ↔ (chunk_bytes self.now < n) }
         ensures within { IfSome result (λ class. class < class_count self.now) }
     {
-        match first_holding(&self.sizes, n) {
-            Some(i) => Some(i as u32),
-            None => None,
+        let _ = &self.order;
+        let class = self.least_class(n);
+        if class < self.count() {
+            Some(class)
+        } else {
+            None
         }
     }
 
@@ -147,7 +160,15 @@ impl SizeClasses {
         requires { class < class_count self.now }
         ensures { result ≡ is_small self.now class }
     {
-        self.size_of(class) < 4 * PAGE
+        self.size_of(class) < 4 * self.page
+    }
+
+    /// How many classes are small: those below it.
+    pub fn small_count(&self) -> u32
+        ensures count { result ≡ small_count self.now }
+        ensures within { result < class_count self.now }
+    {
+        4 * self.shift - 13
     }
 
     /// The pages of a normal class, which fills them.
@@ -155,8 +176,9 @@ impl SizeClasses {
         requires normal { (class < class_count self.now) × (is_small self.now class ≡ false) }
         ensures pages { result ≡ pages_of self.now class }
         ensures whole { result * page_of self.now ≡ size_at class }
+        ensures page_class { IsPageClass self.now result }
     {
-        (self.size_of(class) + (PAGE - 1)) / PAGE
+        self.size_of(class) >> self.shift
     }
 
     /// The least page class of at least `pages` pages.
@@ -164,10 +186,8 @@ impl SizeClasses {
         requires { (1 ≤ pages) × (pages ≤ chunk_pages self.now) }
         ensures { page_class_up self.now pages ≡ Some result }
     {
-        match first_holding(&self.pages, pages) {
-            Some(i) => i as u32,
-            None => unreachable!(),
-        }
+        let _ = &self.order;
+        first_at_least(pages)
     }
 
     /// The greatest page class of at most `pages` pages.
@@ -176,7 +196,8 @@ impl SizeClasses {
         // The page classes up to it are all those of at most so many pages.
         ensures { result + 1 ≡ page_classes_up_to self.now pages }
     {
-        count_up_to(&self.pages, pages) as u32 - 1
+        let _ = &self.order;
+        last_at_most(pages)
     }
 
     /// The least number of pages whose bytes are a multiple of a small class's size:
@@ -185,10 +206,8 @@ impl SizeClasses {
         requires small { (class < class_count self.now) × (is_small self.now class ≡ true) }
         ensures pages { result ≡ subpage_pages self.now class }
         ensures within { (1 ≤ result) × (result ≤ 7) }
+        ensures page_class { IsPageClass self.now result }
     {
-        match first_whole(&[1, 2, 3, 4, 5, 6, 7], self.size_of(class)) {
-            Some(pages) => u32::from(pages),
-            None => unreachable!(),
-        }
+        whole_pages(self.size_of(class), self.shift)
     }
 }

@@ -1,9 +1,9 @@
 //! The tables of sizes, row by row, through the public calls.
 
 ghost use Rattle.std.specs.Prelude.{◌≡◌, ◌≤◌};
-ghost use Rattle.size_classes.specs.Sizes.{of_order};
+ghost use Rattle.size_classes.specs.Sizes.{of_pages, IsGeometry};
 
-use crate::SizeClasses;
+use crate::{DEFAULT_PAGE, SizeClasses};
 use std::alloc::Global;
 use std::process::Abort;
 
@@ -77,16 +77,13 @@ fn normal_rows(rt: &impl Abort, classes: &SizeClasses) {
         assert!(rt; !classes.is_small(class), "class {class}");
         let size = classes.size_of(class);
         let pages = classes.pages_of(class);
-        assert_eq!(rt;
-            (size, pages),
-            (8192 * pages, PAGES[class as usize - 36]),
-            "class {class}"
-        );
+        assert_eq!(rt; pages, PAGES[class as usize - 36], "class {class}");
+        assert_eq!(rt; u64::from(size), 8192 * u64::from(pages), "class {class}");
     }
 }
 
-fn page_class_rows(rt: &impl Abort, classes: &SizeClasses, order: u32)
-    requires geometry { classes.now ≡ of_order order }
+fn page_class_rows(rt: &impl Abort, classes: &SizeClasses, order: u32, page: u32)
+    requires geometry { classes.now ≡ of_pages order page }
     requires order { (3 ≤ order) × (order ≤ 11) }
 {
     for index in 0..4 * order - 4 {
@@ -97,15 +94,15 @@ fn page_class_rows(rt: &impl Abort, classes: &SizeClasses, order: u32)
     }
 }
 
-// All rows of a chunk of `2^order` pages, of which the last are the chunk.
+// All rows of a chunk of `2^order` pages of the default size, of which the last are the chunk.
 fn rows(rt: &impl Abort, alloc: Global, order: u32)
-    requires { (3 ≤ order) × (order ≤ 11) }
+    requires { IsGeometry (of_pages order 8192) }
 {
-    let classes = SizeClasses::new(alloc, order).expect(rt, "ample memory");
+    let classes = SizeClasses::new(alloc, order, DEFAULT_PAGE).expect(rt, "ample memory");
     assert_eq!(rt; classes.count(), 4 * order + 32);
     small_rows(rt, &classes);
     normal_rows(rt, &classes);
-    page_class_rows(rt, &classes, order);
+    page_class_rows(rt, &classes, order, DEFAULT_PAGE);
     assert_eq!(rt; classes.size_of(4 * order + 31), 8192 * 2u32.pow(order));
 }
 
@@ -118,12 +115,36 @@ fn the_tables_of_three_orders(rt: HostRuntime) {
 
 #[test]
 fn single_calls(rt: HostRuntime) {
-    let classes = SizeClasses::new(rt.alloc(), 9).expect(&rt, "ample memory");
+    let classes = SizeClasses::new(rt.alloc(), 9, DEFAULT_PAGE).expect(&rt, "ample memory");
     assert_eq!(rt; classes.count(), 68);
     assert_eq!(rt; classes.class_of(0), Some(0));
+    assert_eq!(rt; classes.class_of(4096), Some(27));
+    assert_eq!(rt; classes.class_of(4097), Some(28));
     assert_eq!(rt; classes.class_of(28673), Some(39));
     assert_eq!(rt; classes.class_of(4194305), None);
     assert_eq!(rt; classes.size_of(67), 4194304);
     assert_eq!(rt; classes.page_class_up(9), 8);
     assert_eq!(rt; classes.page_class_down(9), 7);
+}
+
+// The classes of a chunk of 4 MiB: how many are small, the pages of the last small one's subpage,
+// and the pages of the first normal one.
+fn last_small(rt: &impl Abort, classes: &SizeClasses, small: u32) {
+    assert_eq!(rt; classes.count(), 68);
+    assert_eq!(rt; classes.small_count(), small);
+    assert!(rt; 0 < small && small < classes.count());
+    assert!(rt; classes.is_small(small - 1));
+    assert_eq!(rt; classes.subpage_pages(small - 1), 7);
+    assert!(rt; !classes.is_small(small));
+    assert_eq!(rt; classes.pages_of(small), 4);
+    assert_eq!(rt; classes.class_of(4194304), Some(67));
+    assert_eq!(rt; classes.class_of(4194305), None);
+}
+
+#[test]
+fn other_pages(rt: HostRuntime) {
+    let least = SizeClasses::new(rt.alloc(), 10, 4096).expect(&rt, "ample memory");
+    last_small(&rt, &least, 35);
+    let most = SizeClasses::new(rt.alloc(), 7, 32768).expect(&rt, "ample memory");
+    last_small(&rt, &most, 47);
 }

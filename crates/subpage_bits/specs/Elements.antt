@@ -1,7 +1,7 @@
 -- What contracts see of a subpage: its run, and its elements.
-use Rattle.std.specs.Prelude.{◌≡◌, ℕ, ◌+◌, ◌*◌, ◌/◌, length, Some}
+use Rattle.std.specs.Prelude.{◌≡◌, ◌≢◌, ℕ, ◌+◌, ◌*◌, ◌/◌, length, true, Some}
 use Rattle.ground.specs.Ground.{Origin, Segment}
-use Rattle.size_classes.specs.Elements.{Elements, new_elements, next_element, with_out, with_back}
+use Rattle.size_classes.specs.Elements.{Elements, new_elements, next_element, is_out, with_out, with_back}
 
 -- a run that is cut into elements of one size
 pub record SharedRun : Type 0 where
@@ -37,3 +37,17 @@ pub record HandsOut (before after : SharedRun) (s : Segment) (i : ℕ) : Type 0 
   pub next : next_element before.elements ≡ Some i
   pub piece : IsElementOf before i s
   pub rest : after ≡ taken before i
+
+-- s is element i, which is out: what may be given back
+pub record IsElementOut (r : SharedRun) (i : ℕ) (s : Segment) : Type 0 where
+  pub element : IsElementOf r i s
+  pub out : is_out r.elements i ≡ true
+
+-- what is out stays out
+abbrev pub KeepsOut : SharedRun → SharedRun → Type 0
+KeepsOut before after = (k : ℕ) (s : Segment) → IsElementOut before k s → IsElementOut after k s
+
+-- what is out stays out, but for element i
+abbrev pub KeepsOutBut : ℕ → SharedRun → SharedRun → Type 0
+KeepsOutBut i before after =
+    (k : ℕ) (s : Segment) → k ≢ i → IsElementOut before k s → IsElementOut after k s

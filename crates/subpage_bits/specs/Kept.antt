@@ -1,8 +1,9 @@
 -- How a subpage keeps its elements. No public clause cites this module.
-use Rattle.std.specs.Prelude.{◌≡◌, ℕ, zero, suc, ◌≤◌, Bool, true, false, List, [], ◌∷◌, length, take, map, Option, Some, None, ⊤}
+use Rattle.std.specs.Prelude.{◌≡◌, ℕ, zero, suc, ◌+◌, ◌<◌, ◌≤◌, Bool, true, false, List, [], ◌∷◌, length, map, slice_index_or, Option, Some, None, ⊤}
 use Rattle.ground.specs.Rack.{Cell}
 use Rattle.size_classes.specs.Elements.{Elements}
 use Rattle.subpage_bits.specs.Elements.{SharedRun}
+use Rattle.bit_words.specs.Words.{bit_of}
 use Rattle.subpage_bits.specs.declared.subpage.Subpage.TheInside.{Inside}
 
 -- the flag of a place of the rack: out where the element is not there
@@ -33,8 +34,26 @@ abbrev pub RemembersIn : Option ℕ → List Cell → Type 0
 RemembersIn None cs = ⊤
 RemembersIn (Some i) cs = IsIn i cs
 
--- the first flags are those of the rack, and what is remembered is in
+-- how many elements are out
+abbrev pub outs : List Cell → ℕ
+outs [] = 0
+outs (None ∷ cs) = outs cs + 1
+outs (Some b ∷ cs) = outs cs
+
+-- the bit of a flag
+abbrev pub bit : Bool → ℕ
+bit true = 1
+bit false = 0
+
+-- the bits are those of flags
+abbrev pub AreBits : List ℕ → List Bool → Type 0
+AreBits words flags =
+    (i : ℕ) → i < length flags → bit_of words i ≡ bit (slice_index_or flags i false)
+
+-- the bits tell which elements are out, so many are, and what is remembered is in
 pub record IsSubpage (s : Inside) : Type 0 where
-  pub flags : take s.count s.out ≡ map cell_out s.rack.cells
+  pub words : length s.out ≡ 32
+  pub bits : AreBits s.out (map cell_out s.rack.cells)
   pub count : (s.count ≡ length s.rack.cells) × (s.count ≤ 2048)
+  pub out_count : s.out_count ≡ outs s.rack.cells
   pub remembered : RemembersIn s.remembered s.rack.cells

@@ -1,22 +1,28 @@
 //! A run cut into elements of one size, of which the one given back last is handed out first.
 
-ghost use Rattle.std.specs.Prelude.{◌≡◌, ℕ, ◌*◌, ◌/◌, ◌%◌, ◌<◌, ◌≤◌, ◌↔◌, true, false, not, length, None, IfSome, IfNone, IsNone, position, replicate, slice_set, take};
-ghost use Rattle.std.specs.List.{list_all};
-ghost use Rattle.size_classes.specs.Elements.{next_element, is_out, is_full, is_idle};
-ghost use Rattle.subpage_bits.specs.Elements.{SharedRun, new_shared, given, IsElementOf, HandsOut};
+ghost use Rattle.std.specs.Prelude.{◌≡◌, ◌*◌, ◌/◌, ◌%◌, ◌≤◌, ◌↔◌, true, length, None, IfSome, IfNone, IsNone};
+ghost use Rattle.size_classes.specs.Elements.{first_free, next_element, is_out, is_full, is_idle};
+ghost use Rattle.subpage_bits.specs.Elements.{SharedRun, new_shared, given, IsElementOf, IsElementOut, HandsOut, KeepsOut, KeepsOutBut};
 
+use bit_words::{clear, lowest_clear, set};
 use ground::{Piece, Rack};
 use std::marker::Model;
 use std::mem::ManuallyDrop;
 
+// As many bits as a run has elements at the most.
+const WORDS: usize = 32;
+
 /// A run of pages that is handed out by elements of one size.
 ///
-/// No call takes memory. A subpage has no `Drop`: it ends by `into_run` or by `leave`. The rule of
-/// the next element is that of Netty's `PoolSubpage`.
+/// No call takes memory, and each takes constant time. A subpage has no `Drop`: it ends by
+/// `into_run` or by `leave`. The rule of the next element is that of Netty's `PoolSubpage`.
 pub struct Subpage {
     rack: Rack,
-    out: [bool; 2048],
-    count: usize,
+    // A bit for each element, which tells that it is out.
+    out: [u64; WORDS],
+    count: u32,
+    // How many are out.
+    out_count: u32,
     remembered: Option<u32>,
 }
 
@@ -32,39 +38,6 @@ impl Model for Subpage {
     ghost invariant = { IsSubpage };
 }
 
-// The lowest element that is in.
-fn first_in(out: &[bool]) -> Option<usize>
-    ensures place { result ≡ position not out.now }
-    ensures within { IfSome result (λ i. i < length out.now) }
-{
-    out.iter().position(|out| !*out)
-}
-
-fn none_out(out: &[bool]) -> bool
-    ensures { result ≡ list_all not out.now }
-{
-    out.iter().all(|out| !*out)
-}
-
-fn all_out(out: &[bool]) -> bool
-    ensures { result ≡ list_all (λ out. out) out.now }
-{
-    out.iter().all(|out| *out)
-}
-
-fn no_flags() -> [bool; 2048]
-    ensures { (k : ℕ) → k ≤ 2048 → take k result ≡ replicate k false }
-{
-    [false; 2048]
-}
-
-fn mark(out: &mut [bool], count: usize, i: usize, flag: bool)
-    requires { (i < count) × (count ≤ length out.old) }
-    ensures { take count out.new ≡ slice_set (take count out.old) i flag }
-{
-    out[i] = flag;
-}
-
 impl Subpage {
     /// The run as elements of `size` bytes, all of them in.
     pub fn of(run: Piece, size: u32) -> Subpage
@@ -76,8 +49,9 @@ impl Subpage {
         let count = run.len() / size as usize;
         Subpage {
             rack: Rack::of(run, size as usize),
-            out: no_flags(),
-            count,
+            out: [0; WORDS],
+            count: count as u32,
+            out_count: 0,
             remembered: None,
         }
     }
@@ -86,26 +60,34 @@ impl Subpage {
     pub fn is_full(&self) -> bool
         ensures { result ≡ is_full self.now.elements }
     {
-        all_out(&self.out[..self.count])
+        self.out_count == self.count
     }
 
     /// Whether none is out.
     pub fn is_empty(&self) -> bool
         ensures { result ≡ is_idle self.now.elements }
     {
-        none_out(&self.out[..self.count])
+        self.out_count == 0
+    }
+
+    // The lowest element that is in.
+    fn lowest_in(&self) -> Option<u32>
+        ensures { result ≡ first_free self.now.elements.out }
+    {
+        if self.is_full() {
+            None
+        } else {
+            lowest_clear(&self.out)
+        }
     }
 
     // The element that is handed out next.
     fn choose(&self) -> Option<u32>
         ensures { result ≡ next_element self.now.elements }
     {
-        if let Some(i) = self.remembered {
-            return Some(i);
-        }
-        match first_in(&self.out[..self.count]) {
-            Some(i) => Some(i as u32),
-            None => None,
+        match self.remembered {
+            Some(i) => Some(i),
+            None => self.lowest_in(),
         }
     }
 
@@ -118,12 +100,16 @@ impl Subpage {
         ensures none { IfNone result
             ((next_element self.old.elements ≡ None) × (self.new ≡ self.old)) }
         ensures some { IfSome result (λ x. HandsOut self.old self.new x.0 x.1) }
+        // It may be given back, and what else is out stays out.
+        ensures out { IfSome result (λ x. IsElementOut self.new x.1 x.0) }
+        ensures kept { KeepsOut self.old self.new }
     {
         match self.choose() {
             None => None,
             Some(i) => {
                 let piece = self.rack.pull(i as usize);
-                mark(&mut self.out, self.count, i as usize, true);
+                set(&mut self.out, i);
+                self.out_count += 1;
                 self.remembered = None;
                 Some((piece, i))
             }
@@ -134,10 +120,13 @@ impl Subpage {
     pub fn give(&mut self, piece: Piece, i: u32)
         requires element { IsElementOf self.old i piece }
         requires out { is_out self.old.elements i ≡ true }
-        ensures { self.new ≡ given self.old i }
+        ensures back { self.new ≡ given self.old i }
+        // What else is out stays out.
+        ensures kept { KeepsOutBut i self.old self.new }
     {
         self.rack.push(piece);
-        mark(&mut self.out, self.count, i as usize, false);
+        clear(&mut self.out, i);
+        self.out_count -= 1;
         self.remembered = Some(i);
     }
 
@@ -151,6 +140,7 @@ impl Subpage {
             rack,
             out: _,
             count: _,
+            out_count: _,
             remembered: _,
         } = self;
         rack.into_piece()

@@ -32,16 +32,11 @@ fn none_left(rt: &impl Abort, subpage: &mut Subpage)
     }
 }
 
-fn crosses<T: Send>(x: T) -> T
-    ensures { result ≡ x }
-{
-    x
-}
-
 #[test]
 fn the_last_given_comes_first_and_then_the_lowest(rt: HostRuntime) {
-    let ground = Ground::new(rt.alloc(), 8192).expect(&rt, "ample memory");
-    let mut subpage = crosses(Subpage::of(ground, 2048));
+    let (ground, deed) = Ground::new(rt.alloc(), 8192).expect(&rt, "ample memory");
+    deed.leave();
+    let mut subpage = Subpage::of(ground, 2048);
     assert!(rt; subpage.is_empty());
     taken(&rt, &mut subpage, 0).leave();
     let first = taken(&rt, &mut subpage, 1);
@@ -55,4 +50,9 @@ fn the_last_given_comes_first_and_then_the_lowest(rt: HostRuntime) {
     taken(&rt, &mut subpage, 1).leave();
     none_left(&rt, &mut subpage);
     subpage.leave();
+}
+
+#[test]
+fn a_subpage_is_small(rt: HostRuntime) {
+    assert!(rt; std::mem::size_of::<Subpage>() <= 1024);
 }

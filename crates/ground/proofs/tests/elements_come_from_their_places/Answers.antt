@@ -23,11 +23,12 @@ record IsNew (s : Segment) : Type 0 where
   whole : IsWhole s
   long : length s.bytes ≡ 8192
 
-is_new : {E : Type 0} (r : Result Segment E) (s : Segment) → r ≡ Ok s → IfOk r IsWhole
-    → IfOk r (λ p. p.bytes ≡ replicate 8192 0) → IsNew s
-is_new r s e whole zeros =
-    let all : s.bytes ≡ replicate 8192 0 = IfOk-at_ok (λ p. p.bytes ≡ replicate 8192 0) e zeros in
-    record { whole = IfOk-at_ok IsWhole e whole; long = ap length all ∙ length-replicate {A = ℕ} 8192 0 }
+is_new : {E : Type 0} (r : Result (Segment × Origin) E) (x : Segment × Origin) → r ≡ Ok x
+    → IfOk r (λ y. IsWhole y.0) → IfOk r (λ y. y.0.bytes ≡ replicate 8192 0) → IsNew x.0
+is_new r x e whole zeros =
+    let s : Segment = x.0 in
+    let all : s.bytes ≡ replicate 8192 0 = IfOk-at_ok (λ y. y.0.bytes ≡ replicate 8192 0) e zeros in
+    record { whole = IfOk-at_ok (λ y. IsWhole y.0) e whole; long = ap length all ∙ length-replicate {A = ℕ} 8192 0 }
 
 made : (s : Segment) (r : Racked) → IsNew s → r ≡ elements_of s 2048 → r ≡ four s
 made s r new e = e ∙ ap (λ (n : ℕ). record (four s) { cells = cells_of 2048 (n / 2048) s.bytes }) new.long
@@ -70,17 +71,19 @@ both_in s p q xs r r' r'' out pushes pushes' =
 
 pub pull-last-requires : goal.pull-last-requires
 pull-last-requires g c =
-    let s = c.expect-ground.result in
-    let new = is_new c.new.result s c.expect-ground.ensures c.new.ensures.whole c.new.ensures.zeros in
+    let x = c.expect-ground.result in
+    let s = x.0 in
+    let new = is_new c.new.result x c.expect-ground.ensures c.new.ensures.whole c.new.ensures.zeros in
     let P : Racked → Type 0 = λ x. IsIn 3 x.cells in
     subst P (sym (made s c.of-rack.result new c.of-rack.ensures)) (_, refl)
 
 pub push-requires : goal.push-requires
 push-requires g c =
-    let s = c.expect-ground.result in
+    let x = c.expect-ground.result in
+    let s = x.0 in
     let p = c.pull-last.result in
     let xs = slice_set c.bytes_mut.result.now 1 9 in
-    let new = is_new c.new.result s c.expect-ground.ensures c.new.ensures.whole c.new.ensures.zeros in
+    let new = is_new c.new.result x c.expect-ground.ensures c.new.ensures.whole c.new.ensures.zeros in
     let out = both_out s p c.pull-first.result c.of-rack.result c.pull-last.new.self c.pull-first.new.self new c.of-rack.ensures
     c.pull-last.ensures.place c.pull-last.ensures.rack c.pull-first.ensures.place c.pull-first.ensures.rack in
     let P : Racked → Type 0 = λ x. IsOutOf x (overwritten p xs) in
@@ -88,11 +91,12 @@ push-requires g c =
 
 pub push-requires-2 : goal.push-requires-2
 push-requires-2 g c =
-    let s = c.expect-ground.result in
+    let x = c.expect-ground.result in
+    let s = x.0 in
     let p = c.pull-last.result in
     let q = c.pull-first.result in
     let xs = slice_set c.bytes_mut.result.now 1 9 in
-    let new = is_new c.new.result s c.expect-ground.ensures c.new.ensures.whole c.new.ensures.zeros in
+    let new = is_new c.new.result x c.expect-ground.ensures c.new.ensures.whole c.new.ensures.zeros in
     let out = both_out s p q c.of-rack.result c.pull-last.new.self c.pull-first.new.self new c.of-rack.ensures
     c.pull-last.ensures.place c.pull-last.ensures.rack c.pull-first.ensures.place c.pull-first.ensures.rack in
     let P : Racked → Type 0 = λ x. IsOutOf x q in
@@ -101,23 +105,25 @@ push-requires-2 g c =
 
 pub into_piece-whole-requires : goal.into_piece-whole-requires
 into_piece-whole-requires g c =
-    let s = c.expect-ground.result in
+    let x = c.expect-ground.result in
+    let s = x.0 in
     let p = c.pull-last.result in
     let q = c.pull-first.result in
     let xs = slice_set c.bytes_mut.result.now 1 9 in
-    let new = is_new c.new.result s c.expect-ground.ensures c.new.ensures.whole c.new.ensures.zeros in
+    let new = is_new c.new.result x c.expect-ground.ensures c.new.ensures.whole c.new.ensures.zeros in
     let out = both_out s p q c.of-rack.result c.pull-last.new.self c.pull-first.new.self new c.of-rack.ensures
     c.pull-last.ensures.place c.pull-last.ensures.rack c.pull-first.ensures.place c.pull-first.ensures.rack in
     let P : Racked → Type 0 = λ x. AllIn x.cells in
     subst P (sym (both_in s p q xs c.pull-first.new.self c.push.new.self c.push-2.new.self out c.push.ensures c.push-2.ensures)) tt
 
-pub close-requires : goal.close-requires
-close-requires g c =
-    let s = c.expect-ground.result in
+pub close-requires-clause-whole : goal.close-requires-clause-whole
+close-requires-clause-whole g c =
+    let x = c.expect-ground.result in
+    let s = x.0 in
     let p = c.pull-last.result in
     let q = c.pull-first.result in
     let xs = slice_set c.bytes_mut.result.now 1 9 in
-    let new = is_new c.new.result s c.expect-ground.ensures c.new.ensures.whole c.new.ensures.zeros in
+    let new = is_new c.new.result x c.expect-ground.ensures c.new.ensures.whole c.new.ensures.zeros in
     let out = both_out s p q c.of-rack.result c.pull-last.new.self c.pull-first.new.self new c.of-rack.ensures
     c.pull-last.ensures.place c.pull-last.ensures.rack c.pull-first.ensures.place c.pull-first.ensures.rack in
     let e = both_in s p q xs c.pull-first.new.self c.push.new.self c.push-2.new.self out c.push.ensures c.push-2.ensures in
@@ -126,3 +132,17 @@ close-requires g c =
       piece.len ∙ ap (λ (x : Racked). length x.cells * x.each) e ∙ sym new.long ∙ new.whole.1
           ∙ sym (ap (λ (o : Origin). o.size) (piece.place.0 ∙ ap (λ (x : Racked). x.origin) e)),
     )
+
+pub close-requires-clause-deed : goal.close-requires-clause-deed
+close-requires-clause-deed g c =
+    let x = c.expect-ground.result in
+    let s = x.0 in
+    let p = c.pull-last.result in
+    let q = c.pull-first.result in
+    let xs = slice_set c.bytes_mut.result.now 1 9 in
+    let new = is_new c.new.result x c.expect-ground.ensures c.new.ensures.whole c.new.ensures.zeros in
+    let out = both_out s p q c.of-rack.result c.pull-last.new.self c.pull-first.new.self new c.of-rack.ensures
+    c.pull-last.ensures.place c.pull-last.ensures.rack c.pull-first.ensures.place c.pull-first.ensures.rack in
+    let e = both_in s p q xs c.pull-first.new.self c.push.new.self c.push-2.new.self out c.push.ensures c.push-2.ensures in
+    let same = IfOk-at_ok (λ y. y.1 ≡ y.0.origin) c.expect-ground.ensures c.new.ensures.deed in
+    same ∙ sym (c.into_piece-whole.ensures.place.0 ∙ ap (λ (z : Racked). z.origin) e)

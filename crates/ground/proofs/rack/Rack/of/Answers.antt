@@ -22,4 +22,4 @@ invariant_of-result c =
     rack_made c.of.result p c.as_mut_ptr-at.result n len (len / n) c.of-raw_piece.result.items
     (c.of.ensures.0 ∙ c.of-raw_piece.ensures.0 ∙ c.raw_of.ensures.0 ∙ ap (λ v. v.ptr) same ∙ sym at)
     (c.of.ensures.3 ∙ c.of-raw_piece.ensures.3 ∙ c.piece.invariant.claimed.0)
-    c.of.ensures.4 (c.of.ensures.5 ∙ c.of-raw_piece.ensures.5) c.of.ensures.1 long all (omega (arith, c.len-len.ensures, c.piece.invariant.some)) c.requires.0 at (subst L (sym at) c.piece.invariant.placed) (subst C (sym at) c.piece.invariant.above) (omega (arith, c.len-len.ensures, c.piece.invariant.within)) c.piece.invariant.small c.piece.invariant.block
+    c.of.ensures.4 (c.of.ensures.5 ∙ c.of-raw_piece.ensures.5) c.of.ensures.1 long all (omega (arith, c.len-len.ensures, c.piece.invariant.some)) c.requires.0 at (subst L (sym at) c.piece.invariant.placed) (subst C (sym at) c.piece.invariant.above) (omega (arith, c.len-len.ensures, c.piece.invariant.within)) c.piece.invariant.small

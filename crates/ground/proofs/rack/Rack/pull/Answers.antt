@@ -53,8 +53,8 @@ invariant_of-self c =
     let r = c.self.inside in
     let sh = c.in-Some.raw_rack in
     let e = sym c.take.ensures.value ∙ c.in-Some.is in
-    rack_left r sh c.pull-raw_piece.result.1 c.replace-empty.new.dest c.block_for-block.new.block c.args.i c.pull-raw_piece.result.0.items c.self.invariant e c.pull-raw_piece.ensures.1
-    c.replace-empty.ensures.after c.pull-raw_piece.ensures.6 (λ z. (c.block_for-block.ensures.first z).1) (λ z. (c.block_for-block.ensures.others z).1)
+    rack_left r sh c.pull-raw_piece.result.1 c.replace-empty.new.dest c.args.i c.pull-raw_piece.result.0.items c.self.invariant e c.pull-raw_piece.ensures.1
+    c.replace-empty.ensures.after c.pull-raw_piece.ensures.6
 
 pub invariant_of-result : goal.invariant_of-result
 invariant_of-result c =
@@ -64,6 +64,5 @@ invariant_of-result c =
     let bs = c.pull-raw_piece.result.0.items in
     let is = element_bytes r sh c.args.i bs c.self.invariant e c.pull-raw_piece.ensures.1 in
     let start : c.parts-raw_bytes.result.1.start ≡ r.start + c.args.i * r.each = c.parts-raw_bytes.ensures.3 ∙ c.pull-raw_piece.ensures.3 ∙ ap₂ (λ (x k : ℕ). x + c.args.i * k) is.4 is.5 in
-    element_is r sh c.args.i bs c.vec_over.result c.block_for-block.result c.parts-raw_bytes.result.1 c.self.invariant e c.pull-raw_piece.ensures.1
+    element_is r sh c.args.i bs c.vec_over.result c.parts-raw_bytes.result.1 c.self.invariant e c.pull-raw_piece.ensures.1
     (c.vec_over.ensures.3 ∙ c.byte_add-at.ensures.value) c.vec_over.ensures.1 start (c.parts-raw_bytes.ensures.4 ∙ c.pull-raw_piece.ensures.4 ∙ is.5) (c.parts-raw_bytes.ensures.5 ∙ c.pull-raw_piece.ensures.5)
-    (λ z. (c.block_for-block.ensures.first z).0) (λ z. (c.block_for-block.ensures.others z).0)

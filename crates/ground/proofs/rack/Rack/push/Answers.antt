@@ -1,4 +1,4 @@
--- The start of a piece tells which element it is, and no block is lost as it comes back.
+-- The start of a piece tells which element it is.
 use Rattle.std.proofs.Common.{◌≡◌, ℕ, ◌+◌, ◌-◌, ◌*◌, ◌/◌, length, sym, ap, ap₂, ◌∙◌, arith, subst}
 use Rattle.std.specs.Prelude.{Option, Some, None}
 use denote.RawPtr.{Ptr, ◌+ₚ◌}
@@ -10,7 +10,7 @@ use Rattle.ground.specs.declared.raw_rack.RawRack.{RawRack}
 use Rattle.ground.specs.declared.rack.Rack.TheInside.{Inside}
 use Rattle.ground.specs.declared.piece.Piece.TheInside.{Inside as PieceInside}
 use Rattle.ground.proofs.RackPulled.{opened}
-use Rattle.ground.proofs.RackPushed.{index_of, at_pointer, rack_with, view_with, without_block, later_without_block, starts_with, starts_at}
+use Rattle.ground.proofs.RackPushed.{index_of, at_pointer, rack_with, view_with}
 use Rattle.ground.proofs.rack.Rack.push.Goals as goal
 
 -- the element's place
@@ -58,21 +58,6 @@ push-raw_rack-requires c =
       c.of-raw_piece.ensures.4 ∙ c.piece.invariant.claimed.1 ∙ p.bytes.ok.0 ∙ w.long ∙ sym o.raw_rack.2,
     )
 
-pub block_back-requires : goal.block_back-requires
-block_back-requires c =
-    let r = c.self.inside in
-    let p = c.piece.inside in
-    let sh = c.in-Some.raw_rack in
-    let e = sym c.take.ensures.value ∙ c.in-Some.is in
-    let i = c.requires.0 in
-    let w = place r sh p c.args.self.now c.args.piece i c.self.invariant c.piece.invariant e c.self.view_is c.piece.view_is c.requires.1 c.requires.2 in
-    let o = opened r sh c.self.invariant e in
-    let K : ℕ → Type 0 = λ k. HasCell k None sh.cells in
-    record {
-      none_lost = λ z. without_block r.block sh.cells r.at r.start sh.size (subst K (sym w.index ∙ z) w.cell) o.block;
-      none_brought = λ positive. later_without_block p.block p i r.each r.start c.piece.invariant.block (omega (arith, w.index, positive)) o.some w.start;
-    }
-
 pub invariant_of-self : goal.invariant_of-self
 invariant_of-self c =
     let r = c.self.inside in
@@ -83,9 +68,8 @@ invariant_of-self c =
     let j = (p.start - r.start) / r.each in
     let w = place r sh p c.args.self.now c.args.piece i c.self.invariant c.piece.invariant e c.self.view_is c.piece.view_is c.requires.1 c.requires.2 in
     let K : ℕ → Type 0 = λ k. HasCell k None sh.cells in
-    rack_with r sh c.push-raw_rack.result c.replace-empty.new.dest p.block c.block_back.new.block j c.of-raw_piece.result.items p c.self.invariant e (subst K (sym w.index) w.cell)
-    c.replace-empty.ensures.after c.push-raw_rack.ensures (ap length (c.of-raw_piece.ensures.1 ∙ c.raw_of.ensures.1) ∙ w.long) c.piece.invariant.block c.block_back.ensures.first c.block_back.ensures.others
-    (λ z. starts_with i r.each p.bytes.ptr r.at (sym w.index ∙ z) w.pointer) (λ z. starts_at i r.each p.start r.start (sym w.index ∙ z) w.start) (sym w.size)
+    rack_with r sh c.push-raw_rack.result c.replace-empty.new.dest j c.of-raw_piece.result.items c.self.invariant e (subst K (sym w.index) w.cell)
+    c.replace-empty.ensures.after c.push-raw_rack.ensures (ap length (c.of-raw_piece.ensures.1 ∙ c.raw_of.ensures.1) ∙ w.long)
 
 pub returns : goal.returns
 returns c = λ k is.
@@ -96,5 +80,5 @@ returns c = λ k is.
     let j = (p.start - r.start) / r.each in
     let here : p.start ≡ r.start + k * r.each = ap (λ (s : Segment). s.start) c.piece.view_is ∙ is.1 ∙ sym (ap (λ (v : Racked). v.start + k * v.each) c.self.view_is) in
     let bytes : c.of-raw_piece.result.items ≡ c.args.piece.bytes = c.of-raw_piece.ensures.1 ∙ c.raw_of.ensures.1 ∙ ap (λ (s : Segment). s.bytes) c.piece.view_is in
-    view_with r sh c.push-raw_rack.result c.replace-empty.new.dest c.block_back.new.block j k c.of-raw_piece.result.items c.args.piece.bytes e c.replace-empty.ensures.after c.push-raw_rack.ensures (index_of p.start r.start k r.each here c.self.invariant.some) bytes
+    view_with r sh c.push-raw_rack.result c.replace-empty.new.dest j k c.of-raw_piece.result.items c.args.piece.bytes e c.replace-empty.ensures.after c.push-raw_rack.ensures (index_of p.start r.start k r.each here c.self.invariant.some) bytes
     ∙ ap (λ (v : Racked). with_element v k c.args.piece.bytes) c.self.view_is

@@ -66,7 +66,7 @@ follows : (c : goal.After-give) → Follows c.self.inside (after c) (given_back 
 follows c =
     let s = c.self.inside in
     record {
-      map_is = c.give.ensures;
+      map_is = c.give.ensures.back;
       classes = refl;
       bytes = refl;
       slots_are = written s.slots c.deref_mut.result.now c.take_cut-subpage.new.slots c.args.page Slot.Nothing c.deref_mut.ensures.value c.take_cut-subpage.ensures.slots;

@@ -1,16 +1,31 @@
-use Rattle.std.proofs.Common.{◌≡◌, ◌<◌, ◌≤◌, List, length, get_or, refl, sym, ap, ◌∙◌, subst, arith}
+use Rattle.std.proofs.Common.{◌≡◌, ◌<◌, ◌≤◌, ℕ, List, length, get_or, refl, sym, ap, ap₂, ◌∙◌, subst, arith}
 use Rattle.std.specs.Vec.{with_items}
 use Rattle.std.specs.Prelude.{slice_set}
+use Rattle.size_classes.specs.Sizes.{Geometry, IsPageClass, of_pages}
+use Rattle.size_classes.proofs.PageClasses.{page_class-within}
 use Rattle.size_classes.specs.Pages.{Free}
 use Rattle.size_classes.specs.Spans.{taken_from}
 use Rattle.pool_law.specs.Chunks.{Whole}
 use Rattle.run_map.specs.FreeRuns.{FreeRuns}
 use Rattle.pool_chunk.specs.declared.slot.Slot.{Slot}
 use Rattle.pool_chunk.specs.declared.chunk.Chunk.TheInside.{Inside}
-use Rattle.pool_chunk.specs.Held.{runs_in, state_in}
+use Rattle.pool_chunk.specs.Held.{IsHeld, runs_in, state_in}
+use Rattle.pool_chunk.specs.ChunkStates.{ChunkState}
 use Rattle.pool_chunk.proofs.SlotLaws.{slot-within, slot-nothing, written}
 use Rattle.pool_chunk.proofs.HeldLaws.{Follows, chosen-same, bytes-at, taken-chosen, taken-begins, taken-few, taken-held, taken-state}
 use Rattle.pool_chunk.proofs.chunk.Chunk.take_run.Goals as goal
+
+-- a page class has a page
+some : (s : Inside) (v : ChunkState) (pages : ℕ) → IsHeld s → state_in s ≡ v → IsPageClass v.geometry pages → 0 < pages
+some s v pages is same class =
+    let G : ChunkState → Type 0 = λ x. IsPageClass x.geometry pages in
+    (page_class-within s.classes is.sizes pages (subst G (sym same) class)).0
+
+pub take-requires : goal.take-requires
+take-requires c =
+    let G : ChunkState → Type 0 = λ x. IsPageClass x.geometry c.args.pages in
+    let P : Geometry → Type 0 = λ g. IsPageClass g c.args.pages in
+    subst P (ap₂ of_pages (sym c.self.invariant.same) (sym c.self.invariant.page)) (subst G (sym c.self.view_is) c.requires)
 
 pub fill-requires-clause-within : goal.fill-requires-clause-within
 fill-requires-clause-within c =
@@ -48,7 +63,7 @@ follows c =
 pub invariant_of-self-in-Some : goal.invariant_of-self-in-Some
 invariant_of-self-in-Some c =
     taken-held c.self.inside c.self.invariant c.take.new.self c.args.pages c.in-Some.page c.in-Some.piece (c.in-Some.ensures {u = tt}).some
-    (after c) Whole (Slot.Run c.args.pages) c.requires refl tt (follows c) tt
+    (after c) Whole (Slot.Run c.args.pages) (some c.self.inside c.args.self.now c.args.pages c.self.invariant c.self.view_is c.requires) refl tt (follows c) tt
 
 pub returns-in-None-clause-none : goal.returns-in-None-clause-none
 returns-in-None-clause-none c =
@@ -67,5 +82,5 @@ returns-in-Some-clause-some c =
       run = taken-chosen s is c.take.new.self c.args.pages c.in-Some.page c.in-Some.piece taken;
       piece = bytes-at s is c.in-Some.page c.args.pages c.in-Some.piece taken.piece;
       place = c.place_pack.ensures;
-      rest = taken-state s is c.take.new.self c.args.pages c.in-Some.page c.in-Some.piece taken (after c) Whole (Slot.Run c.args.pages) c.requires refl tt (follows c);
+      rest = taken-state s is c.take.new.self c.args.pages c.in-Some.page c.in-Some.piece taken (after c) Whole (Slot.Run c.args.pages) (some c.self.inside c.args.self.now c.args.pages c.self.invariant c.self.view_is c.requires) refl tt (follows c);
     })

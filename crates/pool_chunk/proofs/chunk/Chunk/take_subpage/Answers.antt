@@ -1,8 +1,8 @@
-use Rattle.std.proofs.Common.{◌≡◌, ℕ, ◌<◌, true, List, length, get_or, refl, sym, ap, ◌∙◌, subst, arith}
+use Rattle.std.proofs.Common.{◌≡◌, ℕ, ◌<◌, true, List, length, get_or, refl, sym, ap, ap₂, ◌∙◌, subst, arith}
 use Rattle.std.specs.Prelude.{slice_set}
 use Rattle.std.specs.Vec.{with_items}
 use Rattle.ground.specs.Ground.{Segment}
-use Rattle.size_classes.specs.Sizes.{is_small, subpage_pages}
+use Rattle.size_classes.specs.Sizes.{Geometry, IsPageClass, of_pages, is_small, subpage_pages}
 use Rattle.size_classes.specs.Pages.{Free, free_runs, chosen}
 use Rattle.size_classes.specs.Spans.{taken_from}
 use Rattle.size_classes.proofs.Powers.{size_at-least}
@@ -28,6 +28,12 @@ small s v class same is = subst (λ (x : ChunkState). is_small x.geometry class 
 its : (s : Inside) (m : FreeRuns) (class pages page : ℕ) (piece : Segment) → pages ≡ subpage_pages s.classes class → IsTaken s.map m pages piece page
     → IsTaken s.map m (subpage_pages s.classes class) piece page
 its s m class pages page piece same taken = subst (λ (p : ℕ). IsTaken s.map m p piece page) same taken
+
+pub take-requires : goal.take-requires
+take-requires c =
+    let s = c.self.inside in
+    let G : Geometry → Type 0 = λ g. IsPageClass g c.subpage_pages-pages.result in
+    subst G (ap₂ of_pages (sym c.self.invariant.same) (sym c.self.invariant.page)) c.subpage_pages-pages.ensures.page_class
 
 pub of-subpage-requires-clause-size : goal.of-subpage-requires-clause-size
 of-subpage-requires-clause-size c = omega (arith, c.size_of-size.ensures.value, size_at-least c.args.class)
@@ -86,7 +92,7 @@ invariant_of-self-in-Some c =
     let is_small = small s c.args.self.now class c.self.view_is c.requires.1 in
     let taken = its s c.take.new.self class c.subpage_pages-pages.result c.in-Some.page c.in-Some.piece c.subpage_pages-pages.ensures.pages (c.in-Some.ensures {u = tt}).some in
     taken-held s c.self.invariant c.take.new.self (subpage_pages s.classes class) c.in-Some.page c.in-Some.piece taken (after c) (new_subpage s.classes class) (Slot.Cut (run c))
-    (subpage_pages_within s.classes class is_small).0
+    (subpage_pages_within s.classes c.self.invariant.sizes.page class is_small).0
     (new-entry s c.self.invariant class is_small c.take.new.self c.in-Some.page c.in-Some.piece taken c.size_of-size.result c.size_of-size.ensures.value (run c) refl c.subpage_pages-pages.ensures.pages c.of-subpage.ensures)
     (new-fits s.classes class is_small) (follows c)
     (new-placed s c.self.invariant class is_small c.take.new.self c.in-Some.page c.in-Some.piece taken c.size_of-size.result c.size_of-size.ensures.value (run c) refl c.subpage_pages-pages.ensures.pages c.of-subpage.ensures)
@@ -112,7 +118,7 @@ returns-in-Some-clause-some c =
       run = taken-chosen s c.self.invariant c.take.new.self (subpage_pages s.classes class) c.in-Some.page c.in-Some.piece taken;
       rest =
           taken-state s c.self.invariant c.take.new.self (subpage_pages s.classes class) c.in-Some.page c.in-Some.piece taken (after c) (new_subpage s.classes class) (Slot.Cut (run c))
-          (subpage_pages_within s.classes class is_small).0
+          (subpage_pages_within s.classes c.self.invariant.sizes.page class is_small).0
           (new-entry s c.self.invariant class is_small c.take.new.self c.in-Some.page c.in-Some.piece taken c.size_of-size.result c.size_of-size.ensures.value (run c) refl c.subpage_pages-pages.ensures.pages c.of-subpage.ensures)
           (new-fits s.classes class is_small) (follows c);
     })

@@ -1,8 +1,8 @@
-use Rattle.std.proofs.Common.{◌≡◌, ℕ, ◌/◌, ◌≤◌, Bool, List, length, sym, ap, ◌∙◌, arith}
-use Rattle.std.specs.Prelude.{map, replicate, None, false}
-use Rattle.ground.specs.Rack.{Racked}
-use Rattle.subpage_bits.specs.Kept.{cell_out}
-use Rattle.subpage_bits.proofs.Flags.{flags_new, length-cells}
+use Rattle.std.proofs.Common.{◌≡◌, ℕ, ◌/◌, ◌≤◌, Bool, List, length, get_or, refl, sym, ap, ◌∙◌, arith}
+use Rattle.std.specs.Prelude.{map, None, false}
+use Rattle.ground.specs.Rack.{Cell, Racked}
+use Rattle.subpage_bits.specs.Kept.{cell_out, outs, bit}
+use Rattle.subpage_bits.proofs.Flags.{flags_new, length-cells, outs-new, zero-bits, clear-flags}
 use Rattle.subpage_bits.proofs.subpage.Subpage.of.Goals as goal
 
 pub invariant_of-result : goal.invariant_of-result
@@ -13,8 +13,12 @@ invariant_of-result c =
     let cells = ap (λ (r : Racked). r.cells) c.of.ensures in
     let few : c.len.result / n ≤ 2048 = omega (arith, counted, c.requires.few) in
     record {
-      flags = c.no_flags.ensures (c.len.result / n) few ∙ ap (λ (m : ℕ). replicate m false) counted ∙ sym (ap (map cell_out) cells ∙ flags_new n k c.args.run.bytes);
+      words = refl;
+      bits = λ i less. zero-bits 32 i
+          ∙ sym (ap bit (ap (λ (cs : List Cell). get_or (map cell_out cs) i false) cells
+          ∙ ap (λ (l : List Bool). get_or l i false) (flags_new n k c.args.run.bytes) ∙ clear-flags k i));
       count = (counted ∙ sym (ap length cells ∙ length-cells n k c.args.run.bytes), few);
+      out_count = sym (ap outs cells ∙ outs-new n k c.args.run.bytes);
       remembered = tt;
     }
 
