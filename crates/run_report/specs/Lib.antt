@@ -1,3 +1,4 @@
 pub mod Words
 pub mod Roots
 pub mod Summary
+pub mod Told

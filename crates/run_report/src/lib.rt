@@ -1,14 +1,18 @@
 #![tactic(auto)]
-//! The text of a run: its replies, its notes if they are wanted, its chunks, leaks, and the end.
+//! The text of a run: its replies, its notes if they are wanted, its chunks, leaks, and the end. And
+//! the summary of a run of a generated trace.
 
 mod ends;
 mod notes;
 mod replies;
 mod roots;
+mod summary;
 #[cfg(test)]
 mod tests;
 mod text;
+mod told;
 mod words;
 mod writer;
 
+pub use summary::summary_of;
 pub use text::text_of;

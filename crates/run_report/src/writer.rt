@@ -75,6 +75,13 @@ impl Writer {
         write!(self.text, " {number}")
     }
 
+    /// Appends a number that may pass 64 bits, after a space.
+    pub fn wide(&mut self, number: u128) -> Result<(), AllocError>
+        ensures { OnOk result (self.new ≡ self.old ++ after_spaces (decimal number ∷ [])) }
+    {
+        write!(self.text, " {number}")
+    }
+
     /// Appends a word and its number, each after a space.
     pub fn named(&mut self, word: &str, number: u64) -> Result<(), AllocError>
         ensures { OnOk result
