@@ -7,7 +7,7 @@ use Rattle.std.proofs.lemmas.Option.{slice_get-get_or, slice_get_past}
 use Rattle.size_classes.specs.Sizes.{below}
 use Rattle.pool_law.specs.declared.command.Command.{Command}
 use Rattle.pool_law.specs.Legal.{AreCommands}
-use Rattle.pool_law.specs.Logs.{log_of}
+use Rattle.pool_law.specs.Logs.{of_lane}
 use Rattle.trace_make.specs.Draws.{first_state, state_after, draw_after}
 use Rattle.trace_make.specs.Generated.{drawn_size, drawn_byte, block_of, drawn_block, blocks_in, generated}
 use Rattle.trace_make.specs.Accepted.{AreLanes, IsPlain, IsAccepted}
@@ -33,7 +33,7 @@ lanes_long start lanes commands trace is =
     )
 
 -- what each lane has, and what a lane that isn't there has too
-log_has : (P : List Command → Type 0) (trace : List (List Command)) (k : ℕ) → All P trace → P [] → P (log_of trace k)
+log_has : (P : List Command → Type 0) (trace : List (List Command)) (k : ℕ) → All P trace → P [] → P (of_lane trace k)
 log_has P trace k each none = elim (cases_lt k (length trace)) [
   | inl below ↦ subst (λ (o : Option (List Command)). P (unwrap_or o [])) (sym (slice_get-get_or trace k [] below))
       (each k [] below)

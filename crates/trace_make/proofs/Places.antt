@@ -4,7 +4,8 @@ use Rattle.std.specs.Prelude.{Option, slice_get, slice_index, unwrap_or, replica
 use Rattle.std.proofs.lemmas.List.{get_or-replicate}
 use Rattle.size_classes.specs.Sizes.{below}
 use Rattle.pool_law.specs.declared.command.Command.{Command}
-use Rattle.pool_law.specs.Stuck.{how_many, commands_of, passed, next_of}
+use Rattle.pool_law.specs.Logs.{of_lane}
+use Rattle.pool_law.specs.Stuck.{how_many, passed, next_of}
 use Rattle.trace_make.specs.Generated.{drawn_block, joined}
 use Rattle.trace_make.proofs.Joined.{slice_get-at, take-at, joined-split, slice_get-given}
 use Rattle.trace_make.proofs.Totals.{length-lane}
@@ -16,9 +17,9 @@ ring_lane lanes n state i = joined (drawn_block lanes i (state i)) n
 abbrev pub ring : ℕ → ℕ → (ℕ → ℕ) → List (List Command)
 ring lanes n state = map (ring_lane lanes n state) (below lanes)
 
-pub commands_of-ring : (lanes n : ℕ) (state : ℕ → ℕ) (i : ℕ) → i < lanes
-    → commands_of (ring lanes n state) i ≡ ring_lane lanes n state i
-commands_of-ring lanes n state i less = ap (λ (o : Option (List Command)). unwrap_or o [])
+pub of_lane-ring : (lanes n : ℕ) (state : ℕ → ℕ) (i : ℕ) → i < lanes
+    → of_lane (ring lanes n state) i ≡ ring_lane lanes n state i
+of_lane-ring lanes n state i less = ap (λ (o : Option (List Command)). unwrap_or o [])
     (slice_get-given (ring_lane lanes n state) lanes i less)
 
 -- ---- How many commands pass a test.
@@ -48,9 +49,9 @@ pub next_of-ring : (lanes n : ℕ) (state : ℕ → ℕ) (i j r : ℕ) → i < l
 next_of-ring lanes n state i j r less within =
     let (rest, split) = joined-split (drawn_block lanes i (state i)) n j within in
     let here : slice_index (replicate lanes (8 * j + r)) i ≡ 8 * j + r = get_or-replicate lanes i (8 * j + r) 0 less in
-    let own = commands_of-ring lanes n state i less in (
+    let own = of_lane-ring lanes n state i less in (
       rest,
-      ap (λ k. slice_get (commands_of (ring lanes n state) i) k) here
+      ap (λ k. slice_get (of_lane (ring lanes n state) i) k) here
           ∙ (ap (λ cs. slice_get cs (8 * j + r)) own
           ∙ slice_get-at (ring_lane lanes n state i) (joined (drawn_block lanes i (state i)) j)
           (drawn_block lanes i (state i) j ++ rest) (8 * j) r split (length-lane lanes i (state i) j)),
@@ -65,11 +66,11 @@ pub passed-ring : (lanes n : ℕ) (state : ℕ → ℕ) (i j r : ℕ) (test : Co
 passed-ring lanes n state i j r test less within each =
     let (rest, split) = joined-split (drawn_block lanes i (state i)) n j within in
     let here : slice_index (replicate lanes (8 * j + r)) i ≡ 8 * j + r = get_or-replicate lanes i (8 * j + r) 0 less in
-    let own = commands_of-ring lanes n state i less in
+    let own = of_lane-ring lanes n state i less in
     let front = joined (drawn_block lanes i (state i)) j in
     let back = drawn_block lanes i (state i) j ++ rest in
     let cut : passed (ring lanes n state) (replicate lanes (8 * j + r)) i ≡ front ++ take r back =
-    ap (λ k. take k (commands_of (ring lanes n state) i)) here
+    ap (λ k. take k (of_lane (ring lanes n state) i)) here
     ∙ (ap (λ cs. take (8 * j + r) cs) own
     ∙ take-at (ring_lane lanes n state i) front back (8 * j) r split (length-lane lanes i (state i) j)) in (
       rest,

@@ -6,12 +6,13 @@ use Rattle.std.proofs.lemmas.List.{get_or-replicate}
 use Rattle.std.proofs.lemmas.Option.{slice_get_past}
 use Rattle.std.proofs.Math.Nat.{mod-add-mod, add-mod_right, mod-eq_of_lt}
 use Rattle.pool_law.specs.declared.command.Command.{Command}
-use Rattle.pool_law.specs.Stuck.{sends_to, receives_from, how_many, commands_of, passed, may_pass, next_of}
+use Rattle.pool_law.specs.Logs.{of_lane}
+use Rattle.pool_law.specs.Stuck.{sends_to, receives_from, how_many, passed, may_pass, next_of}
 use Rattle.trace_make.specs.Draws.{draw_after}
 use Rattle.trace_make.specs.Generated.{lane_after, lane_before, drawn_size, drawn_byte, block_of}
 use Rattle.trace_make.proofs.LaneFits.{before_within}
 use Rattle.trace_make.proofs.Totals.{length-lane}
-use Rattle.trace_make.proofs.Places.{ring_lane, ring, commands_of-ring, next_of-ring, passed-ring}
+use Rattle.trace_make.proofs.Places.{ring_lane, ring, of_lane-ring, next_of-ring, passed-ring}
 
 -- ---- The ring.
 
@@ -99,10 +100,10 @@ pub ring_ends : (lanes n : ℕ) (state : ℕ → ℕ) (i : ℕ) → i < lanes
     (next_of (ring lanes n state) (replicate lanes (8 * n)) i) ≡ false
 ring_ends lanes n state i less =
     let here : slice_index (replicate lanes (8 * n)) i ≡ 8 * n = get_or-replicate lanes i (8 * n) 0 less in
-    let own = commands_of-ring lanes n state i less in
+    let own = of_lane-ring lanes n state i less in
     let long = length-lane lanes i (state i) n in
     let next : next_of (ring lanes n state) (replicate lanes (8 * n)) i ≡ None =
-    ap (λ k. slice_get (commands_of (ring lanes n state) i) k) here
+    ap (λ k. slice_get (of_lane (ring lanes n state) i) k) here
     ∙ (ap (λ cs. slice_get cs (8 * n)) own
     ∙ slice_get_past (ring_lane lanes n state i) (8 * n) (omega (arith, long))) in
     ap (may_pass (ring lanes n state) (replicate lanes (8 * n)) i) next

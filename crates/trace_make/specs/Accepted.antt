@@ -5,14 +5,14 @@ use Rattle.pool_law.specs.declared.command.Command.{Command}
 use Rattle.pool_law.specs.declared.command.Command.TheVariants.{Get, Read, Compose, Add}
 use Rattle.pool_law.specs.declared.run.Shape.{Shape}
 use Rattle.pool_law.specs.Legal.{AreCommands}
-use Rattle.pool_law.specs.Logs.{log_of}
+use Rattle.pool_law.specs.Logs.{of_lane}
 use Rattle.pool_law.specs.Stuck.{command_count, stuck_at}
 
 -- in a run of so many lanes, the commands of each may be given to it
 abbrev pub AreLanes : List (List Command) → Type 0
 AreLanes lanes =
     (shape : Shape) → shape.lanes ≡ length lanes →
-    (lane : ℕ) → AreCommands shape (log_of lanes lane)
+    (lane : ℕ) → AreCommands shape (of_lane lanes lane)
 
 -- a command makes no composite
 abbrev pub IsPlain : Command → Type 0
