@@ -12,7 +12,7 @@ use Rattle.pool_law.proofs.SameLemmas.{same_root-is}
 use Rattle.pool_law.specs.declared.note.Note.{Note}
 use Rattle.pool_law.specs.Counts.{count_from, count_step, note_gains, note_loses}
 use Rattle.pool_law.specs.Readers.{Entries}
-use Rattle.lane_reader.specs.declared.log.Told.{Told}
+use Rattle.object_steps.specs.declared.told.Told.{Told}
 use Rattle.lane_reader.specs.Reading.{entry, untold, entries_in}
 use Rattle.lane_reader.specs.Counting.{key_cmp, key_of, count_after}
 use Rattle.lane_reader.proofs.ReadingLemmas.{entries-from, take-next}

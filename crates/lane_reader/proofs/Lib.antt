@@ -5,4 +5,5 @@ pub mod DrainLemmas
 pub mod PartLemmas
 pub mod CountLemmas
 pub mod NameLemmas
+pub mod NoneRefused
 pub mod RefusalLemmas

@@ -11,7 +11,7 @@ use Rattle.pool_law.specs.Logs.{Entry}
 use Rattle.pool_law.specs.Readers.{Entries, behind_entry, first_of_left, next, done_at, done_to, note, step, access}
 use Rattle.pool_law.specs.Counts.{root_is}
 use Rattle.lane_reader.specs.declared.log.Log.{Log}
-use Rattle.lane_reader.specs.declared.log.Told.{Told}
+use Rattle.object_steps.specs.declared.told.Told.{Told}
 use Rattle.lane_reader.specs.declared.log.At.{At}
 use Rattle.lane_reader.specs.Reading.{entry, untold, entries_in, entries, log_from}
 

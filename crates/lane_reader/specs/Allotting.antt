@@ -1,9 +1,12 @@
 -- What an allocation and a release come to, as the program reads them.
-use Rattle.std.specs.Prelude.{Option, option_map, Result, Ok, Err}
+use Rattle.std.specs.Prelude.{◌==◌, if◌then◌else◌, Option, option_map, Result, Ok, Err}
 use Rattle.pool_law.specs.declared.id.RootId.{RootId}
 use Rattle.pool_law.specs.declared.id.RegionId.{RegionId}
+use Rattle.pool_law.specs.declared.run.Shape.{Shape}
 use Rattle.pool_law.specs.declared.run.Reply.{Reply}
-use Rattle.pool_law.specs.Readers.{Entries}
+use Rattle.pool_law.specs.Composites.{Composite}
+use Rattle.pool_law.specs.Lanes.{release_parts}
+use Rattle.pool_law.specs.Readers.{Entries, Reader, ◌>>◌, give}
 use Rattle.pool_law.specs.Patterns.{New}
 use Rattle.lane_reader.specs.declared.log.Log.{Log}
 use Rattle.lane_reader.specs.declared.log.At.{At}
@@ -39,3 +42,8 @@ abbrev pub reads_release :
     Entries → Log → Option (Released × At) →
     Option (Reply × Rattle.pool_law.specs.Readers.Log)
 reads_release before log o = option_map (λ p. (reply_to p.0, log_from before log p.1)) o
+
+-- a count of a composite is taken away, and its last one releases its parts
+abbrev pub release_whole : Shape → Composite → Reader Reply
+release_whole shape c =
+    if c.count == 1 then release_parts shape c.parts >> give Reply.Freed else give Reply.Kept

@@ -6,7 +6,7 @@ use Rattle.pool_law.specs.declared.note.Did.{Did}
 use Rattle.pool_law.specs.Logs.{Entry}
 use Rattle.pool_law.specs.Readers.{Entries, behind_entry}
 use Rattle.lane_reader.specs.declared.log.Log.{Log}
-use Rattle.lane_reader.specs.declared.log.Told.{Told}
+use Rattle.object_steps.specs.declared.told.Told.{Told}
 use Rattle.lane_reader.specs.declared.log.At.{At}
 use Rattle.lane_reader.specs.declared.log.Next.{Next}
 

@@ -1,5 +1,5 @@
 -- What is answered, as tests that compute.
-use Rattle.std.specs.Prelude.{ℕ, Bool, true, false, ◌==◌, ◌&&◌, if◌then◌else◌, Option, Some, None, option_map}
+use Rattle.std.specs.Prelude.{ℕ, List, Bool, true, false, ◌==◌, ◌&&◌, if◌then◌else◌, Option, Some, None, option_map}
 use Rattle.pool_law.specs.declared.run.Reply.{Reply}
 use Rattle.pool_law.specs.Same.{same_place, same_bytes}
 use Rattle.pool_law.specs.Names.{Names}
@@ -66,6 +66,13 @@ abbrev pub where_said :
     Option (Names × Rattle.pool_law.specs.Readers.Log)
 where_said reply None = None
 where_said reply (Some p) = if same_reply p.0.reply reply then Some (p.0.names, p.1) else None
+
+-- the log behind bytes that are got, where these are answered
+abbrev pub where_got :
+    Reply → Option (List ℕ × Rattle.pool_law.specs.Readers.Log) →
+    Option (Unit {0} × Rattle.pool_law.specs.Readers.Log)
+where_got reply None = None
+where_got reply (Some p) = if same_reply (Reply.OkBytes p.0) reply then Some (tt, p.1) else None
 
 -- what becomes of the names of a lane, and the log behind
 abbrev pub changes :

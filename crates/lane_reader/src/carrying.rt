@@ -37,6 +37,61 @@ impl Log<'_> {
             → CandidateIsBounded most candidate
             → IfOk result (λ got. IfSome got (λ p. ChangeIsBounded (most + 1) p.0)) }
     {
-        unreachable!()
+        match command {
+            Command::Alloc { name, size } => {
+                Ok(self.alloc_row(at, setting, lane, *name, *size, reply))
+            }
+            Command::Set {
+                name,
+                at: index,
+                bytes,
+                tries: false,
+            } => Ok(self.set_row(at, lane, *name, *index, bytes, reply)),
+            Command::Set {
+                name,
+                at: index,
+                bytes,
+                tries: true,
+            } => Ok(self.try_set_row(at, lane, *name, *index, bytes, reply)),
+            Command::Get {
+                name,
+                at: index,
+                len,
+                tries: false,
+            } => Ok(self.get_row(at, lane, *name, *index, *len, reply)),
+            Command::Get {
+                name,
+                at: index,
+                len,
+                tries: true,
+            } => Ok(self.try_get_row(at, lane, *name, *index, *len, reply)),
+            Command::Write { name, bytes } => Ok(self.write_row(at, lane, *name, bytes, reply)),
+            Command::Read { name, len } => Ok(self.read_row(at, lane, *name, *len, reply)),
+            Command::Slice {
+                fresh,
+                name,
+                at: index,
+                len,
+                retained,
+            } => Ok(self.slice_row(at, lane, *fresh, *name, *index, *len, *retained, reply)),
+            Command::Dup { fresh, name } => Ok(self.dup_row(at, lane, *fresh, *name, reply)),
+            Command::Retain { name } => Ok(self.retain_row(at, setting, lane, *name, reply)),
+            Command::Release { name } => Ok(self.release_row(at, setting, lane, *name, reply)),
+            Command::Refcnt { name } => Ok(self.refcnt_row(at, setting, lane, *name, reply)),
+            Command::Touch { name } => Ok(self.touch_row(at, lane, *name, reply)),
+            Command::Forget { name } => Ok(self.forget_row(at, lane, *name, reply)),
+            Command::Send { name, lane: to } => {
+                Ok(self.send_row(at, setting, lane, *name, *to, reply))
+            }
+            Command::Recv { fresh, lane: from } => {
+                Ok(self.recv_row(at, setting, lane, *fresh, *from, reply))
+            }
+            Command::Compose { fresh, names } => {
+                self.compose_row(alloc, at, setting, lane, *fresh, names, candidate, reply)
+            }
+            Command::Add { whole, name } => {
+                self.add_row(alloc, at, setting, lane, *whole, *name, candidate, reply)
+            }
+        }
     }
 }

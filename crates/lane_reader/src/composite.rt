@@ -1,6 +1,7 @@
 //! A composite as a lane keeps it.
 
 ghost use Rattle.std.specs.Prelude.{◌≡◌, ◌+◌, ◌-◌, ◌≤◌, ◌<◌, ◌^◌, nat_le, length, map, vec_len};
+ghost use Rattle.std.specs.Prelude.{IfSome};
 ghost use Rattle.pool_law.specs.Limits.{geometry_of};
 ghost use Rattle.pool_law.specs.LaneLaw.{sweep_period};
 ghost use Rattle.pool_law.specs.Composites.{size_of, most_bytes};
@@ -10,7 +11,7 @@ ghost use Rattle.lane_reader.specs.Reading.{log_from, passes};
 ghost use Rattle.lane_reader.specs.Viewing.{part_of, composite_in};
 ghost use Rattle.lane_reader.specs.Counting.{AreCounts, AreWithin};
 ghost use Rattle.lane_reader.specs.Parting.{moved_parts};
-ghost use Rattle.lane_reader.specs.Consolidating.{reads_made};
+ghost use Rattle.lane_reader.specs.Consolidating.{reads_made, IsShort};
 
 use crate::counts::Counts;
 use crate::log::{At, Log};
@@ -147,9 +148,10 @@ impl Log<'_> {
         requires room { AreWithin counts.now (2 ^ 64 - 1 - length self.now.notes.now) }
         requires parts { vec_len composite.now.parts ≤ 32 }
         requires size { size_of (map part_of composite.now.parts.items) ≤ most_bytes }
-        ensures { (before : Entries) → AreCounts counts.now before → consolidate shape.now lane
-            (composite_in composite.now) (log_from before self.now at)
+        ensures reads { (before : Entries) → AreCounts counts.now before → consolidate shape.now
+            lane (composite_in composite.now) (log_from before self.now at)
             ≡ reads_made (composite_in composite.now) before self.now result }
+        ensures short { IfSome result (λ p. IsShort (vec_len composite.now.parts) p.0) }
     {
         if composite.parts.len() <= MOST_PARTS {
             return Some((Made::AsItIs, at));

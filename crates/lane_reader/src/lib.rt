@@ -4,14 +4,19 @@
 //! Each function reads some of a log's notes from a place on, as the reading of the law that has its
 //! name: it gives what they say and the place behind them, or nothing where the notes are others.
 
+mod alloc_row;
 mod bound;
+mod byte_rows;
 mod candidate;
 mod carrying;
 mod composite;
+mod composite_rows;
+mod count_rows;
 mod counts;
 mod drains;
 mod lane;
 mod log;
+mod mail_rows;
 mod notes;
 mod parts;
 mod patterns;
@@ -19,9 +24,11 @@ mod refusing;
 mod replies;
 mod same;
 mod setting;
+mod stopped;
 mod turns;
 mod view;
+mod view_rows;
 mod whole;
 
-pub use log::{Log, Told};
+pub use log::Log;
 pub use whole::is_lane_log;

@@ -6,16 +6,8 @@ ghost use Rattle.pool_law.specs.Readers.{Entries, done_at, done_to, marked, note
 ghost use Rattle.pool_law.specs.Counts.{root_is};
 ghost use Rattle.lane_reader.specs.Reading.{entries, told_at, log_from, reads, reads_did, IsNext};
 
+use object_steps::Told;
 use pool_law::{Did, Note, Object, RefDid, RegionId, RootId};
-
-/// What only its place's history tells of a note.
-#[derive(Clone, Copy, Drop)]
-pub struct Told {
-    /// The root that is present as it is read, written or touched.
-    pub root: Option<RootId>,
-    /// The region that an end takes out.
-    pub region: Option<RegionId>,
-}
 
 /// Notes of a lane, oldest first, each with what is told of it.
 #[derive(Clone, Copy, Drop)]

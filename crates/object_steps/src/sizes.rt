@@ -67,6 +67,13 @@ impl Sizes {
         })
     }
 
+    /// The classes alone.
+    pub fn classes(&self) -> &SizeClasses
+        ensures { result.now ≡ self.now }
+    {
+        &self.classes
+    }
+
     /// The pages of a chunk.
     pub fn chunk_pages(&self) -> u32
         ensures pages { result ≡ chunk_pages self.now }

@@ -16,7 +16,7 @@ use Rattle.pool_law.specs.Logs.{Logs, History, Entry, dids, of_lane, own, own_no
 use Rattle.pool_law.proofs.HistoryLemmas.{history_of-is}
 use Rattle.object_steps.specs.declared.told.Told.{Told}
 use Rattle.run_check.specs.declared.histories.Histories.{Histories}
-use Rattle.run_check.specs.Reading.{untold, entry, entries_in}
+use Rattle.lane_reader.specs.Reading.{untold, entry, entries_in}
 use Rattle.object_steps.specs.Telling.{told_by, told_of_each}
 use Rattle.run_check.specs.Storing.{history_in, told_in, AreHistories}
 use Rattle.run_check.specs.Entering.{IsNotedIn, IsToldOf, AreTold}

@@ -3,7 +3,7 @@ use Rattle.std.proofs.Common.{◌≡◌, ℕ, zero, suc, ◌+◌, ◌<◌, ◌�
 use Rattle.std.specs.Prelude.{slice_get, unwrap_or}
 use Rattle.pool_law.specs.declared.note.Note.{Note}
 use Rattle.object_steps.specs.declared.told.Told.{Told}
-use Rattle.run_check.specs.Reading.{entry, untold, entries_in}
+use Rattle.lane_reader.specs.Reading.{entry, untold, entries_in}
 
 pub entries-past : (notes : List Note) (told : List Told) (at : ℕ) → length notes ≤ at →
     drop at (entries_in notes told) ≡ []

@@ -6,7 +6,7 @@ use Rattle.pool_law.specs.declared.note.Note.{Note}
 use Rattle.pool_law.specs.declared.run.LaneLog.{LaneLog}
 use Rattle.pool_law.specs.Logs.{Logs, of_lane, entry_of}
 use Rattle.object_steps.specs.declared.told.Told.{Told}
-use Rattle.run_check.specs.Reading.{entries_in}
+use Rattle.lane_reader.specs.Reading.{entries_in}
 
 -- the note stands in a lane's log
 abbrev pub IsNotedIn : Logs → Note → Type 0

@@ -8,7 +8,6 @@ pub mod Storing
 pub mod Marking
 pub mod Reporting
 pub mod Tallying
-pub mod Reading
 pub mod Entering
 pub mod Needing
 pub mod Checking

@@ -2,18 +2,20 @@
 
 ghost use Rattle.std.specs.Prelude.{◌≡◌, ◌≤◌, ◌^◌, ◌↔◌, length, IsTrue, IfOk};
 ghost use Rattle.pool_law.specs.Limits.{IsShape, geometry_of};
-ghost use Rattle.pool_law.specs.Legal.{logs_of};
+ghost use Rattle.pool_law.specs.Legal.{logs_of, IsLegal};
 ghost use Rattle.run_check.specs.Storing.{AreHistories};
 ghost use Rattle.run_check.specs.Entering.{AreTold};
-ghost use Rattle.run_check.specs.Checking.{CountsRight, NotesRight};
+ghost use Rattle.run_check.specs.Checking.{CountsRight, NotesRight, AnswersRight};
 
 use crate::ending::{ends_of, same_ends};
+use crate::entries::told_of_lanes;
+use crate::fitting::all_are_commands;
 use crate::histories::Histories;
-use crate::lanes::{all_busy, all_count, all_look, all_stand};
+use crate::lanes::{all_answer, all_busy, all_count, all_look, all_stand};
 use crate::leaks::{Report, is_report};
 use crate::tally::tallies_of;
 use crate::totals::{all_born, all_total};
-use object_steps::{Sizes, Told};
+use object_steps::{Sizes, Told, is_shape};
 use pool_law::Run;
 use std::alloc::{AllocError, Global};
 
@@ -84,4 +86,53 @@ fn notes_right(
     }
     let ends = ends_of(alloc, &run.shape, sizes, histories)?;
     Ok(same_ends(run.chunks.items(), &ends))
+}
+
+// Whether the replies and notes of each lane are those of its commands.
+fn answers_right(
+    alloc: Global,
+    run: &Run,
+    sizes: &Sizes,
+    told: &[Vec<Told>],
+) -> Result<bool, AllocError>
+    requires shape { IsShape run.now.shape }
+    requires lanes { length run.now.trace.lanes ≡ run.now.shape.lanes }
+    requires logs { length run.now.logs ≡ run.now.shape.lanes }
+    requires sizes { sizes.now ≡ geometry_of run.now.shape }
+    requires told { AreTold (logs_of run.now) told.now run.now.logs }
+    ensures { IfOk result (λ good. IsTrue good ↔ AnswersRight run.now) }
+{
+    let lanes = run.trace.lanes.items();
+    let good = all_answer(alloc, &run.shape, sizes, lanes, run.logs.items(), told)?;
+    Ok(good)
+}
+
+/// Whether the pool can make a run: its measures and commands are within bounds, and its logs,
+/// replies and reports are those that the law of the pool gives.
+pub fn check_run(alloc: Global, run: &Run) -> Result<bool, AllocError>
+    ensures { IfOk result (λ good. IsTrue good ↔ IsLegal run.now) }
+{
+    if !is_shape(&run.shape) {
+        return Ok(false);
+    }
+    if !has_lanes(run) {
+        return Ok(false);
+    }
+    if !all_are_commands(alloc, &run.shape, run.trace.lanes.items())? {
+        return Ok(false);
+    }
+    let sizes = Sizes::new(alloc, run.shape.order)?;
+    let logs = run.logs.items();
+    let Some(histories) = Histories::in_logs(alloc, &run.shape, &sizes, logs)? else {
+        return Ok(false);
+    };
+    if !notes_right(alloc, run, &sizes, &histories)? {
+        return Ok(false);
+    }
+    let told = told_of_lanes(alloc, &histories, logs)?;
+    if !answers_right(alloc, run, &sizes, &told)? {
+        return Ok(false);
+    }
+    let good = counts_right(alloc, run, &histories, &told)?;
+    Ok(good)
 }

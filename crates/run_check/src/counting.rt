@@ -6,11 +6,11 @@ ghost use Rattle.pool_law.specs.Counts.{root_is, note_needs, CountsHold, LookHol
 ghost use Rattle.pool_law.specs.Legal.{LookAt, LooksHold};
 ghost use Rattle.run_check.specs.Counting.{count_in};
 ghost use Rattle.run_check.specs.Needing.{EndHolds, NeedsHold};
-ghost use Rattle.run_check.specs.Reading.{entry, entries};
+ghost use Rattle.lane_reader.specs.Reading.{entry, entries};
 ghost use Rattle.run_check.specs.Tallying.{sums_in, others_sum};
 
 use crate::counts::Counts;
-use crate::log::Log;
+use lane_reader::Log;
 use crate::tally::{Sums, Tally, others_of, sum};
 use object_steps::Told;
 use pool_law::{Did, Note, RefDid, RootId};

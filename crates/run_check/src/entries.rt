@@ -3,7 +3,7 @@
 ghost use Rattle.std.specs.Prelude.{◌≡◌, ◌-◌, ℕ, length, map, slice_get, unwrap_or, IfOk};
 ghost use Rattle.pool_law.specs.declared.run.Shape.{Shape};
 ghost use Rattle.pool_law.specs.Logs.{Logs, of_lane, entry_of};
-ghost use Rattle.run_check.specs.Reading.{untold, entry, entries_in};
+ghost use Rattle.lane_reader.specs.Reading.{untold, entry, entries_in};
 ghost use Rattle.run_check.specs.Spotting.{notes_in};
 ghost use Rattle.run_check.specs.Storing.{AreHistories};
 ghost use Rattle.run_check.specs.Entering.{IsNotedIn, AreTold};

@@ -3,12 +3,14 @@
 ghost use Rattle.std.specs.Prelude.{◌≡◌, ◌<◌, ◌≤◌, ◌^◌, ◌↔◌, ℕ, length, IsTrue, IfOk};
 ghost use Rattle.std.specs.List.{AllZip, list_all};
 ghost use Rattle.pool_law.specs.declared.id.RootId.{RootId};
+ghost use Rattle.pool_law.specs.Limits.{geometry_of};
+ghost use Rattle.pool_law.specs.LaneLaw.{IsLaneLog};
 ghost use Rattle.pool_law.specs.Logs.{of_lane, note_stands, entries_of};
 ghost use Rattle.pool_law.specs.Busy.{BusyHolds};
 ghost use Rattle.pool_law.specs.Counts.{CountsHold};
 ghost use Rattle.pool_law.specs.Legal.{LooksHold, others_retains};
-ghost use Rattle.run_check.specs.Reading.{entries};
-ghost use Rattle.run_check.specs.Spotting.{notes_in};
+ghost use Rattle.lane_reader.specs.Reading.{entries};
+ghost use Rattle.run_check.specs.Spotting.{notes_in, replies_in};
 ghost use Rattle.run_check.specs.Storing.{history_in};
 ghost use Rattle.run_check.specs.Tallying.{IsTally};
 ghost use Rattle.run_check.specs.Entering.{AreTold};
@@ -16,11 +18,12 @@ ghost use Rattle.run_check.specs.Entering.{AreTold};
 use crate::busy::{all_fit, marks_hold};
 use crate::counting::{counts_hold, looks_hold};
 use crate::histories::Histories;
-use crate::log::Log;
+use lane_reader::Log;
 use crate::stands::notes_stand;
 use crate::tally::Tally;
-use object_steps::Told;
-use pool_law::{LaneLog, Shape};
+use lane_reader::is_lane_log;
+use object_steps::{Sizes, Told};
+use pool_law::{CommandList, LaneLog, Shape};
 use std::alloc::{AllocError, Global};
 
 // The log of a lane, with what is told of its notes.
@@ -97,6 +100,36 @@ pub fn all_look(
 {
     for lane in 0..logs.len() {
         if !looks_hold(alloc, tallies, lane, &log_at(logs, told, lane))? {
+            return Ok(false);
+        }
+    }
+    Ok(true)
+}
+
+/// Whether the replies and notes of each lane are those of its commands.
+pub fn all_answer(
+    alloc: Global,
+    shape: &Shape,
+    sizes: &Sizes,
+    lanes: &[CommandList],
+    logs: &[LaneLog],
+    told: &[Vec<Told>],
+) -> Result<bool, AllocError>
+    requires arenas { 1 ≤ shape.now.arenas }
+    requires handles { 1 ≤ shape.now.handles }
+    requires few { length logs.now ≤ 2 ^ 16 }
+    requires as_many { length lanes.now ≡ length logs.now }
+    requires sizes { sizes.now ≡ geometry_of shape.now }
+    requires told { AreTold (notes_in logs.now) told.now logs.now }
+    ensures { IfOk result (λ good. IsTrue good ↔ ((lane : ℕ) → lane < length logs.now
+        → IsLaneLog shape.now lane (of_lane lanes.now lane) (of_lane (replies_in logs.now) lane)
+        (of_lane (entries_of (notes_in logs.now)) lane))) }
+{
+    for lane in 0..logs.len() {
+        let log = log_at(logs, told, lane);
+        let commands = lanes[lane].items();
+        let replies = logs[lane].replies.items();
+        if !is_lane_log(alloc, shape, sizes, lane as u32, commands, replies, &log)? {
             return Ok(false);
         }
     }

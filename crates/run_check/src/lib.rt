@@ -17,9 +17,10 @@ mod histories;
 mod keys;
 mod lanes;
 mod leaks;
-mod log;
 mod merging;
 mod spots;
 mod stands;
 mod tally;
 mod totals;
+
+pub use checking::check_run;

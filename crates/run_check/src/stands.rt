@@ -59,7 +59,21 @@ fn may_stand(shape: &Shape, lane: u32, object: &Object, did: &Did) -> bool
         | Did::NoHandle => owns(shape, lane, object),
         Did::Post(_) => is_sender(lane, object),
         Did::Fetch(_) => is_receiver(lane, object),
-        _ => true,
+        Did::Give(_)
+        | Did::Kept(_)
+        | Did::Back { region: _, no: _ }
+        | Did::Home(_)
+        | Did::Birth { root: _, region: _ }
+        | Did::Set {
+            offset: _,
+            bytes: _,
+        }
+        | Did::Get {
+            offset: _,
+            bytes: _,
+        }
+        | Did::Touch
+        | Did::End(_) => true,
     }
 }
 

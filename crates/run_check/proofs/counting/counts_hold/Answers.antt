@@ -7,7 +7,7 @@ use Rattle.pool_law.specs.Counts.{CountsHold}
 use Rattle.object_steps.specs.declared.told.Told.{Told}
 use Rattle.run_check.specs.Counting.{count_in, count_after}
 use Rattle.run_check.specs.Needing.{NeedsHold}
-use Rattle.run_check.specs.Reading.{untold, entry, entries}
+use Rattle.lane_reader.specs.Reading.{untold, entry, entries}
 use Rattle.run_check.proofs.ReadingLemmas.{entries-at, entries-past, told-or}
 use Rattle.run_check.proofs.NeedingLemmas.{counts-front, counts-back}
 use Rattle.run_check.proofs.StepwiseLemmas.{stepwise-asks, stepwise-on, stepwise-back}

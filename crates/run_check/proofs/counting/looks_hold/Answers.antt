@@ -6,7 +6,7 @@ use Rattle.pool_law.specs.Logs.{Entry}
 use Rattle.run_check.specs.declared.counts.Counts.{Counts}
 use Rattle.run_check.specs.declared.tally.Tally.{Tally}
 use Rattle.run_check.specs.Counting.{count_in}
-use Rattle.run_check.specs.Reading.{untold, entry, entries}
+use Rattle.lane_reader.specs.Reading.{untold, entry, entries}
 use Rattle.run_check.specs.Tallying.{sums_in, others_sum}
 use Rattle.run_check.proofs.ReadingLemmas.{entries-at, entries-past}
 use Rattle.run_check.proofs.NeedingLemmas.{Passed, passed_on, LookAsks, LookRest, looks-front, looks-back}

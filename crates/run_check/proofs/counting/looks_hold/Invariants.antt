@@ -2,7 +2,7 @@ use Rattle.std.proofs.Common.{drop}
 use Rattle.pool_law.specs.declared.id.RootId.{RootId}
 use Rattle.pool_law.specs.Legal.{LooksHold}
 use Rattle.run_check.specs.Counting.{count_in}
-use Rattle.run_check.specs.Reading.{entries}
+use Rattle.lane_reader.specs.Reading.{entries}
 use Rattle.run_check.specs.Tallying.{sums_in, others_sum}
 use Rattle.run_check.proofs.counting.looks_hold.Given as goal
 

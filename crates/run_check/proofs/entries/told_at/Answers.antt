@@ -4,7 +4,7 @@ use Rattle.pool_law.specs.declared.note.Note.{Note}
 use Rattle.pool_law.specs.declared.note.Object.{Object}
 use Rattle.pool_law.specs.Logs.{entry_of}
 use Rattle.object_steps.specs.declared.told.Told.{Told}
-use Rattle.run_check.specs.Reading.{untold, entry}
+use Rattle.lane_reader.specs.Reading.{untold, entry}
 use Rattle.run_check.specs.Entering.{IsNotedIn}
 use Rattle.run_check.proofs.EnteringLemmas.{told-root}
 use Rattle.run_check.proofs.entries.told_at.Goals as goal

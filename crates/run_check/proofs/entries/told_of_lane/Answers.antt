@@ -4,7 +4,7 @@ use Rattle.std.proofs.lemmas.List.{take_more, length_push, length-take-le, map-a
 use Rattle.std.proofs.lemmas.Option.{slice_get_read}
 use Rattle.pool_law.specs.declared.note.Note.{Note}
 use Rattle.pool_law.specs.Logs.{entry_of}
-use Rattle.run_check.specs.Reading.{entry, entries_in}
+use Rattle.lane_reader.specs.Reading.{entry, entries_in}
 use Rattle.run_check.specs.Entering.{IsNotedIn}
 use Rattle.run_check.proofs.EnteringLemmas.{entries-push}
 use Rattle.run_check.proofs.entries.told_of_lane.Goals as goal

@@ -1,7 +1,7 @@
 use Rattle.std.proofs.Common.{◌≡◌, ℕ, length, take, map}
 use Rattle.pool_law.specs.declared.run.Shape.{Shape}
 use Rattle.pool_law.specs.Logs.{Logs, of_lane, entry_of}
-use Rattle.run_check.specs.Reading.{entries_in}
+use Rattle.lane_reader.specs.Reading.{entries_in}
 use Rattle.run_check.specs.Storing.{AreHistories}
 use Rattle.run_check.proofs.entries.told_of_lane.Given as goal
 

@@ -1,7 +1,7 @@
 use Rattle.std.proofs.Common.{rules, ◌≡◌, ◌<◌, List, length, map, sym, ap, subst, ◌∙◌}
 use Rattle.pool_law.specs.declared.note.Note.{Note}
 use Rattle.pool_law.specs.Logs.{of_lane, entry_of}
-use Rattle.run_check.specs.Reading.{entries_in}
+use Rattle.lane_reader.specs.Reading.{entries_in}
 use Rattle.run_check.specs.Spotting.{notes_in}
 use Rattle.run_check.specs.Entering.{IsToldOf}
 use Rattle.run_check.proofs.LaneLemmas.{notes-at, zip-push}

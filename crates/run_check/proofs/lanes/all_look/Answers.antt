@@ -3,7 +3,7 @@ use Rattle.std.proofs.lemmas.Bool.{false≢true}
 use Rattle.pool_law.specs.declared.id.RootId.{RootId}
 use Rattle.pool_law.specs.Logs.{Entry, of_lane, entry_of, entries_of}
 use Rattle.pool_law.specs.Legal.{LooksHold, others_retains}
-use Rattle.run_check.specs.Reading.{entries}
+use Rattle.lane_reader.specs.Reading.{entries}
 use Rattle.run_check.specs.Spotting.{notes_in}
 use Rattle.run_check.proofs.LaneLemmas.{each-lane, length-entries}
 use Rattle.run_check.proofs.LeakLemmas.{entry-bare}

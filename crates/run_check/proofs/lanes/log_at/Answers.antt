@@ -1,5 +1,5 @@
 use Rattle.std.proofs.Common.{◌≡◌, length, get_or, sym, ap, arith, ◌∙◌}
-use Rattle.run_check.specs.Reading.{entries_in}
+use Rattle.lane_reader.specs.Reading.{entries_in}
 use Rattle.run_check.specs.Spotting.{notes_in}
 use Rattle.run_check.specs.Entering.{IsToldOf}
 use Rattle.run_check.proofs.EnteringLemmas.{told-length, told-get, entries-get}

@@ -12,8 +12,8 @@ use Rattle.lane_reader.specs.Reading.{log_from}
 use Rattle.lane_reader.specs.Viewing.{part_of, composite_in}
 use Rattle.lane_reader.proofs.log.Log.consolidate.Goals as goal
 
-pub returns-in_err-behind : goal.returns-in_err-behind
-returns-in_err-behind c before are =
+pub returns-in_err-behind-clause-reads : goal.returns-in_err-behind-clause-reads
+returns-in_err-behind-clause-reads c before are =
     let parts = c.args.composite.now.parts.items in
     let long = length-map parts part_of in
     let crowded : is_crowded (composite_in c.args.composite.now) ≡ true = grind (arith, nat_tests, long) in
@@ -23,8 +23,8 @@ returns-in_err-behind c before are =
     ∙ c.in_err-behind.ensures before in
     rw (c.from_residual.ensures, crowded, none) refl
 
-pub returns-in_err-behind-in-New-default : goal.returns-in_err-behind-in-New-default
-returns-in_err-behind-in-New-default c before are =
+pub returns-in_err-behind-in-New-default-clause-reads : goal.returns-in_err-behind-in-New-default-clause-reads
+returns-in_err-behind-in-New-default-clause-reads c before are =
     let composite = composite_in c.args.composite.now in
     let parts = c.args.composite.now.parts.items in
     let long = length-map parts part_of in

@@ -1,0 +1,61 @@
+use Rattle.std.proofs.Common.{rules, ◌≡◌, ℕ, ◌<◌, ◌≤◌, List, length, get_or, refl, sym, ap, subst, below_more, arith, ◌∙◌}
+use Rattle.std.proofs.lemmas.Bool.{false≢true}
+use Rattle.pool_law.specs.declared.command.Command.{Command}
+use Rattle.pool_law.specs.declared.run.Answered.{Answered}
+use Rattle.pool_law.specs.declared.run.Shape.{Shape}
+use Rattle.pool_law.specs.Logs.{Entry, of_lane, entries_of}
+use Rattle.pool_law.specs.LaneLaw.{IsLaneLog}
+use Rattle.run_check.specs.Spotting.{notes_in}
+use Rattle.run_check.specs.Spotting.{replies_in}
+use Rattle.run_check.proofs.LaneLemmas.{lane-at, replies-get}
+use Rattle.run_check.proofs.lanes.all_answer.Goals as goal
+
+-- the law of the same commands, replies and entries
+same-log : (shape : Shape) (lane : ℕ) (cs ds : List Command) (rs qs : List Answered) (es fs : List Entry) →
+    cs ≡ ds → rs ≡ qs → es ≡ fs → IsLaneLog shape lane cs rs es → IsLaneLog shape lane ds qs fs
+same-log shape lane cs ds rs qs es fs c r e h =
+    subst (λ (xs : List Command). IsLaneLog shape lane xs qs fs) c
+    (subst (λ (xs : List Answered). IsLaneLog shape lane cs xs fs) r
+    (subst (λ (xs : List Entry). IsLaneLog shape lane cs rs xs) e h))
+
+pub returns-then-not-branch : goal.returns-then-not-branch
+returns-then-not-branch c =
+    let lanes = c.args.lanes.now in
+    let logs = c.args.logs.now in
+    let lane = c.loop-lane.lane in
+    let there : lane < length logs = search rules in
+    let asked : lane < length lanes = omega (arith, there, c.requires.as_many) in
+    let first : List Command = get_or lanes lane c.index-lanes-lane.result in
+    let commands : of_lane lanes lane ≡ c.items-commands.result.now =
+    lane-at lanes lane first asked (ap (get_or lanes lane) c.index-lanes-lane.is) ∙ sym c.index-lanes-lane.is ∙ sym c.items-commands.ensures in
+    let replies : of_lane (replies_in logs) lane ≡ c.items-replies.result.now =
+    replies-get logs lane c.index-logs-lane.result there ∙ sym c.items-replies.ensures in (
+      λ e. absurd (cc e),
+      λ all.
+          absurd (false≢true (sym c.if-not-branch.true ∙ c.in_ok-is_lane_log.ensures.1
+          (same-log _ _ _ _ _ _ _ _ commands replies (sym c.log_at-log.ensures.entries) (all lane there)))),
+    )
+
+pub loop-lane-preserved : goal.loop-lane-preserved
+loop-lane-preserved c =
+    let shape = c.args.shape.now in
+    let lanes = c.args.lanes.now in
+    let logs = c.args.logs.now in
+    let lane = c.loop-lane.lane in
+    let there : lane < length logs = search rules in
+    let asked : lane < length lanes = omega (arith, there, c.requires.as_many) in
+    let first : List Command = get_or lanes lane c.index-lanes-lane.result in
+    let commands : of_lane lanes lane ≡ c.items-commands.result.now =
+    lane-at lanes lane first asked (ap (get_or lanes lane) c.index-lanes-lane.is) ∙ sym c.index-lanes-lane.is ∙ sym c.items-commands.ensures in
+    let replies : of_lane (replies_in logs) lane ≡ c.items-replies.result.now =
+    replies-get logs lane c.index-logs-lane.result there ∙ sym c.items-replies.ensures in
+    below_more
+    (λ (k : ℕ). IsLaneLog shape k (of_lane lanes k) (of_lane (replies_in logs) k) (of_lane (entries_of (notes_in logs)) k))
+    lane c.loop-lane.invariant
+    (same-log _ _ _ _ _ _ _ _ (sym commands) (sym replies) c.log_at-log.ensures.entries
+    (c.in_ok-is_lane_log.ensures.0 c.if-not-branch.false))
+
+pub returns : goal.returns
+returns c =
+    let past : length c.args.logs.now ≤ c.loop-lane.lane = search rules in
+    (λ _ lane there. c.loop-lane.invariant lane (omega (arith, there, past)), λ _. refl)
