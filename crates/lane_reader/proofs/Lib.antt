@@ -7,3 +7,9 @@ pub mod CountLemmas
 pub mod NameLemmas
 pub mod NoneRefused
 pub mod RefusalLemmas
+pub mod BoundLemmas
+pub mod PieceLemmas
+pub mod ReplyLemmas
+pub mod TurnLemmas
+pub mod RunLemmas
+pub mod WholeLemmas

@@ -11,3 +11,4 @@ pub mod Candidates
 pub mod Replying
 pub mod Refusing
 pub mod Turning
+pub mod Running

@@ -6,13 +6,16 @@ ghost use Rattle.pool_law.specs.LaneLaw.{sweep_period};
 ghost use Rattle.lane_reader.specs.Bounding.{AreBounded, ChangeIsBounded};
 ghost use Rattle.lane_reader.specs.Candidates.{HasFewNames};
 ghost use Rattle.lane_reader.specs.Counting.{AreWithin};
-ghost use Rattle.lane_reader.specs.Reading.{entries};
+ghost use Rattle.lane_reader.specs.Reading.{entries, log_from};
+ghost use Rattle.lane_reader.specs.Replying.{reply_of, where_said, changes};
+ghost use Rattle.lane_reader.specs.Running.{refused_by, Turns};
 ghost use Rattle.lane_reader.specs.Standing.{IsLane};
 ghost use Rattle.lane_reader.specs.Turning.{Answers, HasTurned, HasNotTurned};
 
 use crate::bound::Change;
 use crate::lane::Lane;
 use crate::log::{At, Log};
+use crate::replies::{Refused, Said, says};
 use crate::setting::Setting;
 use pool_law::{Command, Reply};
 use std::alloc::{AllocError, Global};
@@ -37,7 +40,67 @@ impl Log<'_> {
         ensures bounded { (most : ℕ) → 1 ≤ most → AreBounded most lane.now
             → IfOk result (λ got. IfSome got (λ p. ChangeIsBounded (most + 1) p.0)) }
     {
-        unreachable!()
+        let candidate = lane.candidate(alloc, command)?;
+        if let Some(refused) = lane.refused(setting, command, &candidate) {
+            return Ok(self.refused_by(at, setting.lane, command, refused, reply));
+        }
+        self.carried_out(alloc, at, setting, lane, command, candidate, reply)
+    }
+
+    // The same of a command that is refused: the names stay.
+    fn refused_by(
+        &self,
+        at: At,
+        lane: u32,
+        command: &Command,
+        refused: Refused,
+        reply: &Reply,
+    ) -> Option<(Change, At)>
+        ensures row { (s : LaneState) → where_said reply.now
+            (refused_by lane s command.now (reply_of refused) (log_from s.seen self.now at))
+            ≡ changes s self.now result }
+        ensures bounded { (most : ℕ) → IfSome result (λ p. ChangeIsBounded most p.0) }
+    {
+        if !says(reply, Said::Refused(refused)) {
+            return None;
+        }
+        let behind = self.not_carried_out(at, lane, command)?;
+        Some((Change::Same, behind))
+    }
+
+    // What becomes of the names by a command, and how many allocations have asked a cache behind
+    // it, where exactly the log's notes are its own, the sweep that is then due among them.
+    fn turned(
+        &self,
+        alloc: Global,
+        setting: &Setting,
+        lane: &Lane,
+        command: &Command,
+        reply: &Reply,
+    ) -> Result<Option<(Change, u32)>, AllocError>
+        requires asked { lane.now.asked < sweep_period }
+        requires names { HasFewNames command.now }
+        requires bounded { AreBounded (2 ^ 32) lane.now }
+        requires room { AreWithin lane.now.counts (2 ^ 64 - 1 - length self.now.notes.now) }
+        ensures row { IfOk result (Turns setting.now lane.now command.now reply.now self.now) }
+        ensures asked { IfOk result (λ got. IfSome got (λ p. p.1 < sweep_period)) }
+        ensures bounded { (most : ℕ) → 1 ≤ most → AreBounded most lane.now
+            → IfOk result (λ got. IfSome got (λ p. ChangeIsBounded (most + 1) p.0)) }
+    {
+        let first = At {
+            place: 0,
+            asked: lane.asked,
+        };
+        let Some((change, at)) = self.answered(alloc, first, setting, lane, command, reply)? else {
+            return Ok(None);
+        };
+        let Some(behind) = self.sweep_if_due(at, setting.lane) else {
+            return Ok(None);
+        };
+        if behind.place < self.notes.len() {
+            return Ok(None);
+        }
+        Ok(Some((change, behind.asked)))
     }
 }
 
@@ -67,6 +130,12 @@ impl Lane {
             → IfOk result (λ good. good ≡ true
             → AreWithin self.new.counts (most + length log.now.notes.now)) }
     {
-        unreachable!()
+        let Some((change, asked)) = log.turned(alloc, setting, self, command, reply)? else {
+            return Ok(false);
+        };
+        self.change(change)?;
+        self.pass(log)?;
+        self.asked = asked;
+        Ok(true)
     }
 }

@@ -7,6 +7,8 @@ ghost use Rattle.pool_law.specs.Limits.{geometry_of};
 ghost use Rattle.lane_reader.specs.Reading.{entries};
 
 use crate::log::Log;
+use crate::runs::{before_stop, have_run, have_stopped, notes_of};
+use crate::setting::Setting;
 use pool_law::{Answered, Command, Shape};
 use size_classes::SizeClasses;
 use std::alloc::{AllocError, Global};
@@ -29,5 +31,27 @@ pub fn is_lane_log(
     ensures { IfOk result (λ good. IsTrue good
         ↔ IsLaneLog shape.now lane commands.now replies.now (entries log.now)) }
 {
-    unreachable!()
+    if commands.len() != replies.len() {
+        return Ok(false);
+    }
+    let stop = before_stop(replies);
+    let Some(first) = notes_of(&replies[..stop], log.notes.len()) else {
+        return Ok(false);
+    };
+    let behind = log.behind(first);
+    let Some(second) = notes_of(&replies[stop..], behind.notes.len()) else {
+        return Ok(false);
+    };
+    let setting = Setting {
+        shape,
+        classes,
+        lane,
+    };
+    if !have_run(alloc, &setting, &commands[..stop], &replies[..stop], log)? {
+        return Ok(false);
+    }
+    if !have_stopped(lane, &commands[stop..], &replies[stop..], &behind) {
+        return Ok(false);
+    }
+    Ok(behind.behind(second).closes(lane))
 }

@@ -1,8 +1,9 @@
 //! Whether a run is legal.
 
-ghost use Rattle.std.specs.Prelude.{◌≡◌, ◌≤◌, ◌^◌, ◌↔◌, length, IsTrue, IfOk};
+ghost use Rattle.std.specs.Prelude.{◌≡◌, ◌≤◌, ◌^◌, ◌↔◌, ℕ, length, IsTrue, IfOk};
 ghost use Rattle.pool_law.specs.Limits.{IsShape, geometry_of};
-ghost use Rattle.pool_law.specs.Legal.{logs_of, IsLegal};
+ghost use Rattle.pool_law.specs.Logs.{of_lane};
+ghost use Rattle.pool_law.specs.Legal.{AreCommands, IsLegal, logs_of};
 ghost use Rattle.run_check.specs.Storing.{AreHistories};
 ghost use Rattle.run_check.specs.Entering.{AreTold};
 ghost use Rattle.run_check.specs.Checking.{CountsRight, NotesRight, AnswersRight};
@@ -99,6 +100,7 @@ fn answers_right(
     requires lanes { length run.now.trace.lanes ≡ run.now.shape.lanes }
     requires logs { length run.now.logs ≡ run.now.shape.lanes }
     requires sizes { sizes.now ≡ geometry_of run.now.shape }
+    requires commands { (lane : ℕ) → AreCommands run.now.shape (of_lane run.now.trace.lanes lane) }
     requires told { AreTold (logs_of run.now) told.now run.now.logs }
     ensures { IfOk result (λ good. IsTrue good ↔ AnswersRight run.now) }
 {

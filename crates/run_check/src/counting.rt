@@ -10,8 +10,8 @@ ghost use Rattle.lane_reader.specs.Reading.{entry, entries};
 ghost use Rattle.run_check.specs.Tallying.{sums_in, others_sum};
 
 use crate::counts::Counts;
-use lane_reader::Log;
 use crate::tally::{Sums, Tally, others_of, sum};
+use lane_reader::Log;
 use object_steps::Told;
 use pool_law::{Did, Note, RefDid, RootId};
 use std::alloc::{AllocError, Global};

@@ -8,7 +8,7 @@ ghost use Rattle.pool_law.specs.LaneLaw.{IsLaneLog};
 ghost use Rattle.pool_law.specs.Logs.{of_lane, note_stands, entries_of};
 ghost use Rattle.pool_law.specs.Busy.{BusyHolds};
 ghost use Rattle.pool_law.specs.Counts.{CountsHold};
-ghost use Rattle.pool_law.specs.Legal.{LooksHold, others_retains};
+ghost use Rattle.pool_law.specs.Legal.{AreCommands, LooksHold, others_retains};
 ghost use Rattle.lane_reader.specs.Reading.{entries};
 ghost use Rattle.run_check.specs.Spotting.{notes_in, replies_in};
 ghost use Rattle.run_check.specs.Storing.{history_in};
@@ -18,10 +18,9 @@ ghost use Rattle.run_check.specs.Entering.{AreTold};
 use crate::busy::{all_fit, marks_hold};
 use crate::counting::{counts_hold, looks_hold};
 use crate::histories::Histories;
-use lane_reader::Log;
 use crate::stands::notes_stand;
 use crate::tally::Tally;
-use lane_reader::is_lane_log;
+use lane_reader::{Log, is_lane_log};
 use object_steps::{Sizes, Told};
 use pool_law::{CommandList, LaneLog, Shape};
 use std::alloc::{AllocError, Global};
@@ -120,6 +119,7 @@ pub fn all_answer(
     requires few { length logs.now ≤ 2 ^ 16 }
     requires as_many { length lanes.now ≡ length logs.now }
     requires sizes { sizes.now ≡ geometry_of shape.now }
+    requires commands { (lane : ℕ) → AreCommands shape.now (of_lane lanes.now lane) }
     requires told { AreTold (notes_in logs.now) told.now logs.now }
     ensures { IfOk result (λ good. IsTrue good ↔ ((lane : ℕ) → lane < length logs.now
         → IsLaneLog shape.now lane (of_lane lanes.now lane) (of_lane (replies_in logs.now) lane)
@@ -129,7 +129,8 @@ pub fn all_answer(
         let log = log_at(logs, told, lane);
         let commands = lanes[lane].items();
         let replies = logs[lane].replies.items();
-        if !is_lane_log(alloc, shape, sizes, lane as u32, commands, replies, &log)? {
+        let classes = sizes.classes();
+        if !is_lane_log(alloc, shape, classes, lane as u32, commands, replies, &log)? {
             return Ok(false);
         }
     }

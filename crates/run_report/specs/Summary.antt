@@ -1,5 +1,5 @@
 -- The summary of a run of a generated trace: four lines.
-use Rattle.std.specs.Prelude.{ℕ, ◌/◌, Bool, true, false, List, [], ◌∷◌, ◌++◌, length, map, filter, sum, decimal, codes}
+use Rattle.std.specs.Prelude.{ℕ, ◌/◌, Bool, true, false, List, [], ◌∷◌, ◌++◌, length, filter, sum, decimal, codes}
 use Rattle.std.specs.List.{flat_map}
 use Rattle.pool_law.specs.declared.command.Command.{Command}
 use Rattle.pool_law.specs.declared.run.Reply.{Reply}

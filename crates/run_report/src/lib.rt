@@ -1,6 +1,6 @@
 #![tactic(auto)]
-//! The text of a run: its replies, its notes if they are wanted, its chunks, leaks, and the end. And
-//! the summary of a run of a generated trace.
+//! The text of a run: its replies, its notes if they are wanted, its chunks, leaks, and the end.
+//! And the summary of a run of a generated trace.
 
 mod ends;
 mod notes;

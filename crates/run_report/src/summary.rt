@@ -12,8 +12,8 @@ use pool_law::{Bytes, CommandList, Run};
 use std::alloc::{AllocError, Global};
 
 /// The summary of a run of a generated trace, in four lines: what was run, the roots, what was
-/// read, the leaks. `start` is the number that the trace was generated from. Takes time linear in
-/// the length of the logs.
+/// read, the leaks. `start` is the number that the trace was generated from. A legal run has so few
+/// replies that no sum overflows. Takes time linear in the length of the logs.
 pub fn summary_of(alloc: Global, run: &Run, start: u64) -> Result<Bytes, AllocError>
     requires legal { IsLegal run.now }
     ensures { IfOk result (λ bytes. bytes ≡ summary_of run.now start) }

@@ -128,7 +128,8 @@ fn notes_of(alloc: Global, change: Change) -> Result<Vec<Note>, AllocError> {
 // The commands.
 fn commands(alloc: Global) -> Result<Vec<Command>, AllocError> {
     let mut commands = Vec::new(alloc);
-    for (name, list) in [(0, &[1, 2] as &[u8]), (1, &[3])] {
+    let lists: [(u32, &[u8]); 2] = [(0, &[1, 2]), (1, &[3])];
+    for (name, list) in lists {
         commands.push(Command::Alloc { name, size: 24 })?;
         commands.push(Command::Write {
             name,

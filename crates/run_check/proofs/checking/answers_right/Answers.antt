@@ -1,12 +1,18 @@
-use Rattle.std.proofs.Common.{ℕ, ◌<◌, List, length, subst, arith}
+use Rattle.std.proofs.Common.{ℕ, ◌<◌, List, length, subst, sym, arith}
 use Rattle.std.specs.Prelude.{◌↔◌, IsTrue}
 use Rattle.pool_law.specs.declared.command.Command.{Command}
 use Rattle.pool_law.specs.declared.run.LaneLog.{LaneLog}
 use Rattle.pool_law.specs.Logs.{of_lane, entries_of}
 use Rattle.pool_law.specs.LaneLaw.{IsLaneLog}
+use Rattle.pool_law.specs.Legal.{AreCommands}
 use Rattle.run_check.specs.Spotting.{notes_in}
 use Rattle.run_check.specs.Spotting.{replies_in}
 use Rattle.run_check.proofs.checking.answers_right.Goals as goal
+
+pub all_answer-requires-clause-commands : goal.all_answer-requires-clause-commands
+all_answer-requires-clause-commands c lane =
+    subst (λ (cs : List (List Command)). AreCommands c.args.run.now.shape (of_lane cs lane)) (sym c.items-lanes.ensures)
+    (c.requires.commands lane)
 
 pub returns : goal.returns
 returns c =

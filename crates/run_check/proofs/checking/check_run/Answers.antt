@@ -10,6 +10,12 @@ use Rattle.run_check.specs.Storing.{AreHistories}
 use Rattle.run_check.proofs.CheckingLemmas.{legal-is, legal-counts}
 use Rattle.run_check.proofs.checking.check_run.Goals as goal
 
+pub answers_right-requires-clause-commands : goal.answers_right-requires-clause-commands
+answers_right-requires-clause-commands c =
+    let run = c.args.run.now in
+    subst (λ (cs : List (List Command)). (lane : ℕ) → AreCommands run.shape (of_lane cs lane)) c.items.ensures
+    (c.in_ok-all_are_commands.ensures.0 c.if-not-branch.false)
+
 pub returns : goal.returns
 returns c =
     let run = c.args.run.now in

@@ -5,6 +5,7 @@ use Rattle.pool_law.specs.declared.run.Answered.{Answered}
 use Rattle.pool_law.specs.declared.run.Shape.{Shape}
 use Rattle.pool_law.specs.Logs.{Entry, of_lane, entries_of}
 use Rattle.pool_law.specs.LaneLaw.{IsLaneLog}
+use Rattle.pool_law.specs.Legal.{AreCommands}
 use Rattle.run_check.specs.Spotting.{notes_in}
 use Rattle.run_check.specs.Spotting.{replies_in}
 use Rattle.run_check.proofs.LaneLemmas.{lane-at, replies-get}
@@ -17,6 +18,19 @@ same-log shape lane cs ds rs qs es fs c r e h =
     subst (λ (xs : List Command). IsLaneLog shape lane xs qs fs) c
     (subst (λ (xs : List Answered). IsLaneLog shape lane cs xs fs) r
     (subst (λ (xs : List Entry). IsLaneLog shape lane cs rs xs) e h))
+
+pub is_lane_log-requires-clause-commands : goal.is_lane_log-requires-clause-commands
+is_lane_log-requires-clause-commands c =
+    let lanes = c.args.lanes.now in
+    let lane = c.loop-lane.lane in
+    let there : lane < length c.args.logs.now = search rules in
+    let asked : lane < length lanes = omega (arith, there, c.requires.as_many) in
+    let first : List Command = get_or lanes lane c.index-lanes-lane.result in
+    let commands : of_lane lanes lane ≡ c.items-commands.result.now =
+    lane-at lanes lane first asked (ap (get_or lanes lane) c.index-lanes-lane.is)
+    ∙ sym c.index-lanes-lane.is
+    ∙ sym c.items-commands.ensures in
+    subst (λ (cs : List Command). AreCommands c.args.shape.now cs) commands (c.requires.commands lane)
 
 pub returns-then-not-branch : goal.returns-then-not-branch
 returns-then-not-branch c =
