@@ -16,7 +16,7 @@ use crate::playable::read_playable;
 use crate::words::{Generation, Options, Origin, read_words, shape};
 use crate::{Sink, Source};
 use lane_core::{Gate, Played};
-use pool_law::{Bytes, Run, Trace};
+use pool_law::{Bytes, Trace};
 use run_report::{summary_of, text_of};
 use std::alloc::{AllocError, Global};
 use std::sync::Wait;
@@ -222,7 +222,7 @@ fn with_run<K: Sink>(alloc: Global, options: &Options, played: Played, out: &mut
     ensures { ExplainsRun result.status result options.now played.trace.lanes
         (sink_span K.got K.faults K.empty_takes out.old out.new) }
 {
-    let Ok(text) = text_for(alloc, options, played.run()) else {
+    let Ok(text) = text_for(alloc, options, &played) else {
         return bare(Status::Memory);
     };
     match write_all(out, text.items()) {
@@ -233,9 +233,10 @@ fn with_run<K: Sink>(alloc: Global, options: &Options, played: Played, out: &mut
 }
 
 // What is to be written of a run: its text, or its summary where its trace is generated.
-fn text_for(alloc: Global, options: &Options, run: &Run) -> Result<Bytes, AllocError>
-    ensures { IfOk result (λ bytes. bytes ≡ text_for options.now run.now) }
+fn text_for(alloc: Global, options: &Options, played: &Played) -> Result<Bytes, AllocError>
+    ensures { IfOk result (λ bytes. bytes ≡ text_for options.now played.now) }
 {
+    let run = played.run();
     match options.origin {
         Origin::Source => text_of(alloc, run, options.history),
         Origin::Generated(generation) => summary_of(alloc, run, generation.start),

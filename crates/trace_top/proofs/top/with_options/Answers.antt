@@ -1,7 +1,8 @@
-use Rattle.trace_top.proofs.Explain.{of_text}
+use Rattle.trace_top.proofs.Explain.{of_generated, of_source}
 use Rattle.trace_top.proofs.top.with_options.Goals as goal
 
-pub returns-in-Text : goal.returns-in-Text
-returns-in-Text g c =
-    let explained = rw c.deref.ensures.value at c.with_text.ensures in
-    of_text _ _ _ c.in-Text.text.items _ _ c.in-Text.ensures.0 c.in-Text.ensures.1 explained
+pub returns-in-Source : goal.returns-in-Source
+returns-in-Source g c = ?
+
+pub returns-in-Generated : goal.returns-in-Generated
+returns-in-Generated g c = ?
