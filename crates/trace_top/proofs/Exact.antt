@@ -66,6 +66,7 @@ at_origin words options origin h e =
 for_origin : (words : List (List ℕ)) (s : Status) (o : Outcome) (options : Options) (src : SourceSpan) (out : SinkSpan)
     (origin : Origin) → HaveOrigin words origin → options_of words ≡ Some options → ExplainsOptions s o options src out
     → ExplainsOrigin origin s o options src out
+unfolding ExplainsOptions
 for_origin words s o options src out origin h formed e =
     subst (λ (place : Origin). ExplainsOrigin place s o options src out) (at_origin words options origin h formed) e
 

@@ -11,7 +11,7 @@ use Rattle.trace_top.specs.declared.answer.Outcome.{Outcome}
 use Rattle.trace_top.specs.declared.words.Options.{Options}
 use Rattle.trace_top.specs.declared.words.Origin.{Origin}
 use Rattle.trace_top.specs.declared.words.Origin.TheVariants.{Source, Generated}
-use Rattle.trace_top.specs.Outcomes.{SourceSpan, SinkSpan, HasRun, Explains, ExplainsOrigin, ExplainsSource, ExplainsText, ExplainsRun}
+use Rattle.trace_top.specs.Outcomes.{SourceSpan, SinkSpan, HasRun, Explains, ExplainsOptions, ExplainsOrigin, ExplainsSource, ExplainsText, ExplainsRun}
 
 none_is : (run : Option Run) → run ≡ None → IfSome run Headline
 none_is run is = subst (λ (r : Option Run). IfSome r Headline) (sym is) tt
@@ -50,7 +50,7 @@ by_origin (Generated g) s o options src out (unread, e) = by_run s o options _ o
 
 pub headlined : (s : Status) (o : Outcome) (words : List (List ℕ)) (src : SourceSpan) (out : SinkSpan)
     → Explains s o words src out → IfSome o.run Headline
-unfolding Explains
+unfolding Explains ExplainsOptions
 headlined Words o words src out e = none_is o.run e.0.run
 headlined ReadFault o words src out (options, (formed, e)) = by_origin options.origin ReadFault o options src out e
 headlined Memory o words src out (options, (formed, e)) = by_origin options.origin Memory o options src out e

@@ -152,7 +152,8 @@ abbrev pub ExplainsOrigin :
 ExplainsOrigin Source s o options src out = ExplainsSource s o options src out
 ExplainsOrigin (Generated g) s o options src out = ExplainsGenerated s o options g src out
 
-abbrev pub ExplainsOptions : Status → Outcome → Options → SourceSpan → SinkSpan → Type 0
+-- the trace comes from where the options say
+unfoldable pub ExplainsOptions : Status → Outcome → Options → SourceSpan → SinkSpan → Type 0
 ExplainsOptions s o options src out = ExplainsOrigin options.origin s o options src out
 
 -- the words have no form, or they are options
