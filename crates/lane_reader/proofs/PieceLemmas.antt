@@ -1,5 +1,5 @@
 -- Pieces of a log, and readings of the whole of it.
-use Rattle.std.proofs.Common.{◌≡◌, ℕ, zero, suc, ◌+◌, ◌-◌, ◌<◌, ◌≤◌, List, [], ◌∷◌, length, take, drop, Bool, true, false, refl, sym, ap, arith, ◌∙◌, length-drop}
+use Rattle.std.proofs.Common.{◌≡◌, ℕ, zero, suc, ◌-◌, ◌<◌, ◌≤◌, List, [], ◌∷◌, length, take, drop, Bool, true, false, refl, sym, ap, arith, ◌∙◌, length-drop}
 use Rattle.std.proofs.lemmas.Bool.{leb-true, leb-false}
 use Rattle.std.proofs.lemmas.List.{take_all}
 use Rattle.std.specs.Prelude.{Option, Some, None, option_map, option_and_then, is_some, min, nat_le}
@@ -34,7 +34,8 @@ entries-dropped (n ∷ ns) (t ∷ ts) (suc count) = entries-dropped ns ts count
 entries-behind : (notes : List Note) (told : List Told) (count k : ℕ) → k ≡ min (length told) count →
     entries_in (drop count notes) (drop k told) ≡ drop count (entries_in notes told)
 entries-behind notes told count k is =
-    ap (λ (ts : List Told). entries_in (drop count notes) ts) (drop-min told count k is) ∙ entries-dropped notes told count
+    ap (λ (ts : List Told). entries_in (drop count notes) ts) (drop-min told count k is)
+    ∙ entries-dropped notes told count
 
 pub rest-whole : {X : Type 0} (xs : List X) (n : ℕ) → take (length xs - n) (drop n xs) ≡ drop n xs
 rest-whole xs n = take_all (length xs - n) (drop n xs) (omega (arith, length-drop n xs))
@@ -64,7 +65,8 @@ abbrev ends : Log → Entries → Bool
 ends log left = is_some (option_and_then (λ got. give got.0 got.1) (ended_with log left))
 
 module _ (log : Rattle.lane_reader.specs.declared.log.Log.Log) (r : Reader (Unit {0})) where
-  pub read-none : r (log_at new_lane (entries log)) ≡ None → is_some (read_all r (log_at new_lane (entries log))) ≡ false
+  pub read-none : r (log_at new_lane (entries log)) ≡ None →
+      is_some (read_all r (log_at new_lane (entries log))) ≡ false
   read-none none = ap (λ (q : Option (Unit {0} × Log)). is_some (ended q)) none
 
   module _ (at : At) (read : r (log_at new_lane (entries log)) ≡ passes [] log (Some at)) where
@@ -76,7 +78,8 @@ module _ (log : Rattle.lane_reader.specs.declared.log.Log.Log) (r : Reader (Unit
     pub read-some : at.place < length log.notes.now → is_some (read_all r (log_at new_lane (entries log))) ≡ false
     read-some there =
         ap (λ (q : Option (Unit {0} × Log)). is_some (ended q)) read
-        ∙ where-left (λ es. ends (log_from [] log at) es) false (λ e rest. refl) log.notes.now log.told.now at.place there
+        ∙ where-left (λ es. ends (log_from [] log at) es) false (λ e rest. refl) log.notes.now log.told.now at.place
+        there
 
     -- whether the reading took all
     pub read-whole : is_some (read_all r (log_at new_lane (entries log))) ≡ nat_le (length log.notes.now) at.place

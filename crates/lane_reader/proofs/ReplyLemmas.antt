@@ -1,5 +1,5 @@
 -- Replies that are the same.
-use Rattle.std.proofs.Common.{◌≡◌, ℕ, List, [], ◌∷◌, Bool, true, false, refl, sym, ap, eqb-true, eq-eqb, ◌∙◌}
+use Rattle.std.proofs.Common.{◌≡◌, ℕ, List, [], ◌∷◌, Bool, true, false, refl, ap, eqb-true, eq-eqb}
 use Rattle.std.specs.Prelude.{◌==◌, ◌&&◌, if◌then◌else◌, Option, Some, None}
 use Rattle.pool_law.specs.declared.id.Place.{Place}
 use Rattle.pool_law.specs.declared.run.Reply.{Reply}
@@ -88,7 +88,8 @@ pub answered-this : (reply : Reply) (o : Option (Reply × LaneState)) (next : La
 answered-this reply None next e = absurd (cc e)
 answered-this reply (Some p) next e = go (same_reply p.0 reply) refl e
   where
-    go : (b : Bool) → same_reply p.0 reply ≡ b → (if b then Some p.1 else None) ≡ Some next → Some p ≡ Some (reply, next)
+    go : (b : Bool) → same_reply p.0 reply ≡ b → (if b then Some p.1 else None) ≡ Some next →
+        Some p ≡ Some (reply, next)
     go true same is =
         let first : p.0 ≡ reply = same_reply-is p.0 reply same in
         let rest : p.1 ≡ next = cc is in

@@ -1,11 +1,11 @@
 -- The commands of a lane, one after another.
-use Rattle.std.proofs.Common.{◌≡◌, ℕ, zero, suc, ◌+◌, ◌-◌, ◌<◌, ◌≤◌, List, [], ◌∷◌, ◌++◌, length, map, take, drop, get_or, Bool, true, false, refl, sym, ap, arith, ◌∙◌, drop-cons, subst₂}
-use Rattle.std.specs.Prelude.{◌↔◌, ◌&&◌, nat_le, sum, Option, Some, None, option_map, option_and_then, is_some, IsTrue}
+use Rattle.std.proofs.Common.{◌≡◌, ℕ, zero, suc, ◌+◌, ◌-◌, ◌<◌, ◌≤◌, List, [], ◌∷◌, ◌++◌, length, take, drop, get_or, Bool, true, false, refl, sym, ap, arith, ◌∙◌, drop-cons, subst₂}
+use Rattle.std.specs.Prelude.{◌↔◌, nat_le, Option, Some, None, option_and_then, is_some, IsTrue}
 use Rattle.std.specs.List.{All, sum_by}
 use Rattle.std.proofs.lemmas.Bool.{leb-true}
-use Rattle.std.proofs.lemmas.List.{drop-drop, drop_all}
+use Rattle.std.proofs.lemmas.List.{drop_all}
 use Rattle.std.proofs.lemmas.List.Elements.{All-from_get_or}
-use Rattle.std.proofs.lemmas.List.Sums.{sum_by-cons, sum_by-drop_more}
+use Rattle.std.proofs.lemmas.List.Sums.{sum_by-drop_more}
 use Rattle.pool_law.specs.declared.command.Command.{Command}
 use Rattle.pool_law.specs.declared.run.Shape.{Shape}
 use Rattle.pool_law.specs.declared.run.Reply.{Reply}
@@ -13,15 +13,15 @@ use Rattle.pool_law.specs.declared.run.Answered.{Answered}
 use Rattle.pool_law.specs.Readers.{Entries, Log, read_all}
 use Rattle.pool_law.specs.LaneStates.{LaneState, new_lane, log_at}
 use Rattle.pool_law.specs.Lanes.{not_carried_out}
-use Rattle.pool_law.specs.LaneLaw.{sweep_period, lane_step, lane_run, stopped_run, before_stop, pieces, behind, note_counts, replies_in, closes, IsLaneLog}
+use Rattle.pool_law.specs.LaneLaw.{sweep_period, lane_step, lane_run, stopped_run, before_stop, pieces, note_counts, replies_in}
 use Rattle.pool_law.specs.Legal.{fits_after, all_fit}
 use Rattle.pool_law.proofs.SameLemmas.{and-first, and-second}
 use Rattle.lane_reader.specs.declared.lane.Lane.{Lane}
 use Rattle.lane_reader.specs.Candidates.{HasFewNames}
 use Rattle.lane_reader.specs.Replying.{same_reply}
 use Rattle.lane_reader.specs.Standing.{IsLane}
-use Rattle.lane_reader.specs.Running.{Runs, HasRun, HasStopped}
-use Rattle.lane_reader.proofs.ReplyLemmas.{same_reply-self, same_reply-is}
+use Rattle.lane_reader.specs.Running.{Runs, HasStopped}
+use Rattle.lane_reader.proofs.ReplyLemmas.{same_reply-is}
 
 -- ---- How many names a command has.
 
@@ -30,7 +30,8 @@ few-of shape earlier (Command.Compose fresh names) fits =
     leb-true (length names) 24 (and-second (nat_le 1 (length names)) (nat_le (length names) 24) fits)
 few-of shape earlier _ fits = tt
 
-few-at : (shape : Shape) (earlier cs : List Command) (i : ℕ) (d : Command) → all_fit shape earlier cs ≡ true → i < length cs →
+few-at : (shape : Shape) (earlier cs : List Command) (i : ℕ) (d : Command) → all_fit shape earlier cs ≡ true →
+    i < length cs →
     HasFewNames (get_or cs i d)
 few-at shape earlier [] i d fit there = absurd (omega (arith, there))
 few-at shape earlier (c ∷ cs) zero d fit there =
@@ -59,7 +60,8 @@ longer-is reply first (Some q) replies last e =
     let rest : q.0 ≡ replies = cc all in
     (one, λ i. Some (rest i, end i))
 
-module _ (shape : Shape) (lane : ℕ) (s : LaneState) (c : Command) (cs : List Command) (r : Answered) (rs : List Answered) (es : Entries) where
+module _ (shape : Shape) (lane : ℕ) (s : LaneState) (c : Command) (cs : List Command) (r : Answered)
+    (rs : List Answered) (es : Entries) where
   abbrev step : Option (Reply × LaneState)
   step = lane_step sweep_period shape lane s c (take r.notes es)
 
@@ -74,19 +76,23 @@ module _ (shape : Shape) (lane : ℕ) (s : LaneState) (c : Command) (cs : List C
       Runs shape lane s (c ∷ cs) (r ∷ rs) es last ↔ Runs shape lane next cs rs (drop r.notes es) last
   run-goes next last is =
       let goes : then step ≡ then (Some (r.reply, next)) = ap (λ (o : Option (Reply × LaneState)). then o) is in (
-        λ all. (longer-is r.reply r.reply (lane_run sweep_period shape lane next cs groups) (replies_in rs) last (sym goes ∙ all)).1,
+        λ all.
+            (longer-is r.reply r.reply (lane_run sweep_period shape lane next cs groups) (replies_in rs) last
+            (sym goes ∙ all)).1,
         λ rest. goes ∙ ap (λ (o : Option (List Reply × LaneState)). longer r.reply o) rest,
       )
 
   -- the next command is one of them
-  pub run-first : (last : LaneState) → Runs shape lane s (c ∷ cs) (r ∷ rs) es last → (next : LaneState) × (step ≡ Some (r.reply, next))
+  pub run-first : (last : LaneState) → Runs shape lane s (c ∷ cs) (r ∷ rs) es last →
+      (next : LaneState) × (step ≡ Some (r.reply, next))
   run-first last all = go step refl all
     where
       go : (o : Option (Reply × LaneState)) → step ≡ o → then o ≡ Some (r.reply ∷ replies_in rs, last) →
           (next : LaneState) × (step ≡ Some (r.reply, next))
       go None is e = absurd (cc e)
       go (Some p) is e =
-          let same : p.0 ≡ r.reply = (longer-is r.reply p.0 (lane_run sweep_period shape lane p.1 cs groups) (replies_in rs) last e).0 in
+          let same : p.0 ≡ r.reply =
+          (longer-is r.reply p.0 (lane_run sweep_period shape lane p.1 cs groups) (replies_in rs) last e).0 in
           (p.1, is ∙ (λ i. Some (same i, p.1)))
 
 -- ---- One command more behind a stop.
@@ -115,7 +121,8 @@ module _ (lane : ℕ) (c : Command) (cs : List Command) (r : Answered) (rs : Lis
   pub stop-reply : HasStopped lane (c ∷ cs) (r ∷ rs) es → same_reply Reply.Stopped r.reply ≡ true
   stop-reply all = go noted all
     where
-      go : (o : Option (Unit {0} × Log)) → after o ≡ Some (r.reply ∷ replies_in rs) → same_reply Reply.Stopped r.reply ≡ true
+      go : (o : Option (Unit {0} × Log)) → after o ≡ Some (r.reply ∷ replies_in rs) →
+          same_reply Reply.Stopped r.reply ≡ true
       go None e = absurd (cc e)
       go (Some p) e =
           ap (λ (reply : Reply). same_reply Reply.Stopped reply) (sym (stopped-is r.reply stopped (replies_in rs) e).0)
@@ -145,7 +152,8 @@ module _ (lane : ℕ) (c : Command) (cs : List Command) (r : Answered) (rs : Lis
 -- ---- Where the stop is.
 
 -- the next reply is the stop, or it is not
-pub stop-here : (reply : Reply) (replies : List Reply) → same_reply Reply.Stopped reply ≡ true → before_stop (reply ∷ replies) ≡ 0
+pub stop-here : (reply : Reply) (replies : List Reply) → same_reply Reply.Stopped reply ≡ true →
+    before_stop (reply ∷ replies) ≡ 0
 stop-here reply replies same =
     ap (λ (r : Reply). before_stop (r ∷ replies)) (sym (same_reply-is Reply.Stopped reply same))
 
@@ -217,7 +225,8 @@ module _ (lane : ℕ) (cs : List Command) (rs : List Answered) (es : Entries) (i
       subst₂ StopsFrom (sym (drop_all i cs none-left)) (sym (drop_all i rs none-answered)) refl
 
   module _ (r : Answered) (replies : drop i rs ≡ r ∷ drop (i + 1) rs) where
-    pub stop-reply-at : i < length cs → HasStopped lane (drop i cs) (drop i rs) es → same_reply Reply.Stopped r.reply ≡ true
+    pub stop-reply-at : i < length cs → HasStopped lane (drop i cs) (drop i rs) es →
+        same_reply Reply.Stopped r.reply ≡ true
     stop-reply-at there all =
         let d = Command.Forget 0 in
         stop-reply lane (get_or cs i d) (drop (suc i) cs) r (drop (i + 1) rs) es
@@ -231,7 +240,8 @@ module _ (lane : ℕ) (cs : List Command) (rs : List Answered) (es : Entries) (i
 
       pub stop-goes-at : same_reply Reply.Stopped r.reply ≡ true →
           is_some (read_all (not_carried_out lane c) (log_at new_lane (take r.notes es))) ≡ true →
-          HasStopped lane (drop i cs) (drop i rs) es ↔ HasStopped lane (drop (i + 1) cs) (drop (i + 1) rs) (drop r.notes es)
+          HasStopped lane (drop i cs) (drop i rs) es
+          ↔ HasStopped lane (drop (i + 1) cs) (drop (i + 1) rs) (drop r.notes es)
       stop-goes-at same read =
           let goes = stop-goes lane c (drop (i + 1) cs) r (drop (i + 1) rs) es same read in (
             λ all. goes.0 (subst₂ StopsFrom commands replies all),
@@ -240,26 +250,30 @@ module _ (lane : ℕ) (cs : List Command) (rs : List Answered) (es : Entries) (i
 
 -- ---- Commands of a lane, from one on.
 
-module _ (shape : Shape) (lane : ℕ) (s : LaneState) (cs : List Command) (rs : List Answered) (es : Entries) (i : ℕ) where
-  abbrev RunsFrom : LaneState → List Command → List Answered → Type 0
-  RunsFrom last cs' rs' = Runs shape lane s cs' rs' es last
+module _ (shape : Shape) (lane : ℕ) (s : LaneState) (cs : List Command) (rs : List Answered) (es : Entries) (i : ℕ)
+  where
+    abbrev RunsFrom : LaneState → List Command → List Answered → Type 0
+    RunsFrom last cs' rs' = Runs shape lane s cs' rs' es last
 
-  -- the end
-  pub run-end : length cs ≤ i → length rs ≤ i → Runs shape lane s (drop i cs) (drop i rs) es s
-  run-end none-left none-answered =
-      subst₂ (RunsFrom s) (sym (drop_all i cs none-left)) (sym (drop_all i rs none-answered)) refl
+    -- the end
+    pub run-end : length cs ≤ i → length rs ≤ i → Runs shape lane s (drop i cs) (drop i rs) es s
+    run-end none-left none-answered =
+        subst₂ (RunsFrom s) (sym (drop_all i cs none-left)) (sym (drop_all i rs none-answered)) refl
 
-  module _ (c : Command) (r : Answered) (commands : drop i cs ≡ c ∷ drop (i + 1) cs) (replies : drop i rs ≡ r ∷ drop (i + 1) rs) where
-    pub run-first-at : (last : LaneState) → Runs shape lane s (drop i cs) (drop i rs) es last →
-        (next : LaneState) × (lane_step sweep_period shape lane s c (take r.notes es) ≡ Some (r.reply, next))
-    run-first-at last all =
-        run-first shape lane s c (drop (i + 1) cs) r (drop (i + 1) rs) es last (subst₂ (RunsFrom last) commands replies all)
+    module _ (c : Command) (r : Answered) (commands : drop i cs ≡ c ∷ drop (i + 1) cs)
+        (replies : drop i rs ≡ r ∷ drop (i + 1) rs) where
+      pub run-first-at : (last : LaneState) → Runs shape lane s (drop i cs) (drop i rs) es last →
+          (next : LaneState) × (lane_step sweep_period shape lane s c (take r.notes es) ≡ Some (r.reply, next))
+      run-first-at last all =
+          run-first shape lane s c (drop (i + 1) cs) r (drop (i + 1) rs) es last
+          (subst₂ (RunsFrom last) commands replies all)
 
-    pub run-goes-at : (next last : LaneState) → lane_step sweep_period shape lane s c (take r.notes es) ≡ Some (r.reply, next) →
-        Runs shape lane s (drop i cs) (drop i rs) es last
-        ↔ Runs shape lane next (drop (i + 1) cs) (drop (i + 1) rs) (drop r.notes es) last
-    run-goes-at next last step =
-        let goes = run-goes shape lane s c (drop (i + 1) cs) r (drop (i + 1) rs) es next last step in (
-          λ all. goes.0 (subst₂ (RunsFrom last) commands replies all),
-          λ rest. subst₂ (RunsFrom last) (sym commands) (sym replies) (goes.1 rest),
-        )
+      pub run-goes-at : (next last : LaneState) →
+          lane_step sweep_period shape lane s c (take r.notes es) ≡ Some (r.reply, next) →
+          Runs shape lane s (drop i cs) (drop i rs) es last
+          ↔ Runs shape lane next (drop (i + 1) cs) (drop (i + 1) rs) (drop r.notes es) last
+      run-goes-at next last step =
+          let goes = run-goes shape lane s c (drop (i + 1) cs) r (drop (i + 1) rs) es next last step in (
+            λ all. goes.0 (subst₂ (RunsFrom last) commands replies all),
+            λ rest. subst₂ (RunsFrom last) (sym commands) (sym replies) (goes.1 rest),
+          )

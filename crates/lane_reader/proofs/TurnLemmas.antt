@@ -1,5 +1,5 @@
 -- One command of a lane: its answer, the sweep that is then due, and the end of its notes.
-use Rattle.std.proofs.Common.{◌≡◌, ℕ, ◌<◌, ◌≤◌, List, [], ◌∷◌, ◌++◌, length, take, drop, Bool, true, false, refl, sym, ap, arith, ◌∙◌}
+use Rattle.std.proofs.Common.{◌≡◌, ℕ, ◌<◌, ◌≤◌, [], ◌∷◌, ◌++◌, length, take, Bool, true, false, refl, sym, ap, arith, ◌∙◌}
 use Rattle.std.proofs.lemmas.List.{take_all, append-nil}
 use Rattle.std.specs.Prelude.{if◌then◌else◌, Option, Some, None, option_and_then}
 use Rattle.pool_law.specs.declared.command.Command.{Command}
@@ -90,7 +90,8 @@ log-first s log asked same =
 -- a step, by what the program found of its answer
 pub step-found : (period : ℕ) (shape : Shape) (lane : ℕ) (s : LaneState) (c : Command) (reply : Reply)
     (log : Rattle.lane_reader.specs.declared.log.Log.Log) (asked : ℕ) (got : Option (Change × At)) → s.asked ≡ asked →
-    where_said reply (answer_of shape lane s c (log_from s.seen log (record { place = 0; asked = asked }))) ≡ changes s log got →
+    where_said reply (answer_of shape lane s c (log_from s.seen log (record { place = 0; asked = asked })))
+    ≡ changes s log got →
     where_answered reply (lane_step period shape lane s c (entries log)) ≡ behind_answer period lane (changes s log got)
 step-found period shape lane s c reply log asked got same found =
     step-is period shape lane s c (entries log) reply
@@ -98,13 +99,15 @@ step-found period shape lane s c reply log asked got same found =
     (ap (λ (l : Log). where_said reply (answer_of shape lane s c l)) (log-first s log asked same) ∙ found)
 
 -- no sweep is found that is due
-pub unswept : (period lane : ℕ) (s : LaneState) (log : Rattle.lane_reader.specs.declared.log.Log.Log) (change : Change) (at : At) →
+pub unswept : (period lane : ℕ) (s : LaneState) (log : Rattle.lane_reader.specs.declared.log.Log.Log) (change : Change)
+    (at : At) →
     sweep_if_due period lane (log_from s.seen log at) ≡ None →
     behind_answer period lane (changes s log (Some (change, at))) ≡ None
 unswept period lane s log change at none =
     ap (λ (q : Option (Unit {0} × Log)). swept_state (changed change s.names) q) none
 
-module _ (period lane : ℕ) (s : LaneState) (log : Rattle.lane_reader.specs.declared.log.Log.Log) (change : Change) (at behind : At)
+module _ (period lane : ℕ) (s : LaneState) (log : Rattle.lane_reader.specs.declared.log.Log.Log) (change : Change)
+    (at behind : At)
     (swept : sweep_if_due period lane (log_from s.seen log at) ≡ passes s.seen log (Some behind)) where
   -- some note is left
   pub unfinished : behind.place < length log.notes.now →
@@ -118,7 +121,8 @@ module _ (period lane : ℕ) (s : LaneState) (log : Rattle.lane_reader.specs.dec
   pub all-read : length log.notes.now ≤ behind.place →
       behind_answer period lane (changes s log (Some (change, at))) ≡ Some (next_state s log (change, behind.asked))
   all-read past =
-      let all : take behind.place (entries log) ≡ entries log = take_all behind.place (entries log) (omega (arith, past, length-entries log.notes.now log.told.now)) in
+      let all : take behind.place (entries log) ≡ entries log =
+      take_all behind.place (entries log) (omega (arith, past, length-entries log.notes.now log.told.now)) in
       ap (λ (q : Option (Unit {0} × Log)). swept_state (changed change s.names) q) swept
       ∙ ap (λ (es : Entries). finished (changed change s.names) (log_from s.seen log behind) es)
       (entries-past log.notes.now log.told.now behind.place past)

@@ -1,5 +1,5 @@
 -- The whole log of a lane, in its parts: up to a stop, behind it, and its closing.
-use Rattle.std.proofs.Common.{◌≡◌, ℕ, zero, suc, ◌+◌, ◌-◌, ◌<◌, ◌≤◌, List, [], ◌∷◌, length, map, take, drop, Bool, true, false, refl, sym, ap, arith, subst, ◌∙◌, length-drop}
+use Rattle.std.proofs.Common.{◌≡◌, ℕ, zero, suc, ◌+◌, ◌-◌, ◌≤◌, List, [], ◌∷◌, length, take, drop, true, refl, sym, ap, arith, subst, ◌∙◌, length-drop}
 use Rattle.std.proofs.Math.Path.{subst₃}
 use Rattle.std.specs.Prelude.{sum, Option, Some, None, option_and_then, is_some}
 use Rattle.std.specs.List.{sum_by}
@@ -13,7 +13,7 @@ use Rattle.pool_law.specs.Readers.{Entries, Log, read_all}
 use Rattle.pool_law.specs.LaneStates.{LaneState, new_lane, log_at}
 use Rattle.pool_law.specs.Lanes.{not_carried_out}
 use Rattle.pool_law.specs.LaneLaw.{sweep_period, lane_step, lane_run, stopped_run, before_stop, pieces, behind, note_counts, replies_in, closes, IsLaneLog}
-use Rattle.lane_reader.specs.Running.{Runs, HasRun, HasStopped}
+use Rattle.lane_reader.specs.Running.{HasRun, HasStopped}
 use Rattle.lane_reader.proofs.PieceLemmas.{rest-whole}
 use Rattle.lane_reader.proofs.RunLemmas.{stop-within}
 
@@ -35,9 +35,11 @@ take-pieces : (rs : List Answered) (n : ℕ) (es : Entries) →
     pieces (note_counts (take n rs)) es ≡ take n (pieces (note_counts rs) es)
 take-pieces rs zero es = refl
 take-pieces [] (suc n) es = refl
-take-pieces (r ∷ rs) (suc n) es = ap (λ (groups : List Entries). take r.notes es ∷ groups) (take-pieces rs n (drop r.notes es))
+take-pieces (r ∷ rs) (suc n) es =
+    ap (λ (groups : List Entries). take r.notes es ∷ groups) (take-pieces rs n (drop r.notes es))
 
-drop-noted : (r : Answered) (rs : List Answered) (es : Entries) → drop (noted (r ∷ rs)) es ≡ drop (noted rs) (drop r.notes es)
+drop-noted : (r : Answered) (rs : List Answered) (es : Entries) →
+    drop (noted (r ∷ rs)) es ≡ drop (noted rs) (drop r.notes es)
 drop-noted r rs es =
     ap (λ (n : ℕ). drop n es) (sum_by-cons (λ a. a.notes) r rs) ∙ sym (drop-drop (noted rs) r.notes es)
 
@@ -59,10 +61,12 @@ length-pieces (r ∷ rs) es = ap (λ n. suc n) (length-pieces rs (drop r.notes e
 
 abbrev more_run : Shape → ℕ → List Command → List Entries → Option (Reply × LaneState) → Option (List Reply × LaneState)
 more_run shape lane cs groups o =
-    option_and_then (λ p. option_and_then (λ q. Some (p.0 ∷ q.0, q.1)) (lane_run sweep_period shape lane p.1 cs groups)) o
+    option_and_then
+    (λ p. option_and_then (λ q. Some (p.0 ∷ q.0, q.1)) (lane_run sweep_period shape lane p.1 cs groups)) o
 
 -- as many commands have run as there are pieces
-lane-lengths : (shape : Shape) (lane : ℕ) (s : LaneState) (cs : List Command) (groups : List Entries) (p : List Reply × LaneState) →
+lane-lengths : (shape : Shape) (lane : ℕ) (s : LaneState) (cs : List Command) (groups : List Entries)
+    (p : List Reply × LaneState) →
     lane_run sweep_period shape lane s cs groups ≡ Some p → length cs ≡ length groups
 lane-lengths shape lane s [] [] p e = refl
 lane-lengths shape lane s [] (es ∷ groups) p e = absurd (cc e)
@@ -77,7 +81,8 @@ lane-lengths shape lane s (c ∷ cs) (es ∷ groups) p e =
     next first (Some q) e = (q, refl)
 
     go : (o : Option (Reply × LaneState)) → more_run shape lane cs groups o ≡ Some p →
-        ((next : LaneState) (q : List Reply × LaneState) → lane_run sweep_period shape lane next cs groups ≡ Some q → length cs ≡ length groups) →
+        ((next : LaneState) (q : List Reply × LaneState) →
+        lane_run sweep_period shape lane next cs groups ≡ Some q → length cs ≡ length groups) →
         suc (length cs) ≡ suc (length groups)
     go None e rest = absurd (cc e)
     go (Some first) e rest =
@@ -90,7 +95,8 @@ stopped-lengths lane [] [] replies e = refl
 stopped-lengths lane [] (es ∷ groups) replies e = absurd (cc e)
 stopped-lengths lane (c ∷ cs) [] replies e = absurd (cc e)
 stopped-lengths lane (c ∷ cs) (es ∷ groups) replies e =
-    go (read_all (not_carried_out lane c) (log_at new_lane es)) (stopped_run lane cs groups) e (stopped-lengths lane cs groups)
+    go (read_all (not_carried_out lane c) (log_at new_lane es)) (stopped_run lane cs groups) e
+    (stopped-lengths lane cs groups)
   where
     go : (o : Option (Unit {0} × Log)) (rest : Option (List Reply)) →
         option_and_then (λ _. option_and_then (λ q. Some (Reply.Stopped ∷ q)) rest) o ≡ Some replies →
@@ -104,11 +110,13 @@ some-unit None e = absurd (cc e)
 some-unit (Some u) e = refl
 
 -- a log in its parts, the first so many commands being answered
-pub record InParts (shape : Shape) (lane : ℕ) (cs : List Command) (rs : List Answered) (es : Entries) (n : ℕ) : Type 0 where
-  pub counted : noted rs ≤ length es
-  pub answered : HasRun shape lane (take n cs) (take n rs) es
-  pub stopped : HasStopped lane (drop n cs) (drop n rs) (drop (noted (take n rs)) es)
-  pub closed : is_some (closes lane (drop (noted rs) es)) ≡ true
+pub record InParts
+    (shape : Shape) (lane : ℕ) (cs : List Command) (rs : List Answered) (es : Entries) (n : ℕ) : Type 0
+  where
+    pub counted : noted rs ≤ length es
+    pub answered : HasRun shape lane (take n cs) (take n rs) es
+    pub stopped : HasStopped lane (drop n cs) (drop n rs) (drop (noted (take n rs)) es)
+    pub closed : is_some (closes lane (drop (noted rs) es)) ≡ true
 
 module _ (shape : Shape) (lane : ℕ) (cs : List Command) (rs : List Answered) (es : Entries) where
   -- there are as many commands as replies
@@ -133,7 +141,8 @@ module _ (shape : Shape) (lane : ℕ) (cs : List Command) (rs : List Answered) (
         length-map rs (λ (a : Answered). a.reply),
       )
 
-  pub log-parts : (n : ℕ) → n ≡ before_stop (replies_in rs) → IsLaneLog shape lane cs rs es → InParts shape lane cs rs es n
+  pub log-parts : (n : ℕ) → n ≡ before_stop (replies_in rs) → IsLaneLog shape lane cs rs es →
+      InParts shape lane cs rs es n
   log-parts n is log = subst (InParts shape lane cs rs es) (sym is) (record {
     counted = omega (arith, log.counted, sum-map (λ a. a.notes) rs);
     answered = (
@@ -146,13 +155,16 @@ module _ (shape : Shape) (lane : ℕ) (cs : List Command) (rs : List Answered) (
         (λ i. stopped_run lane (drop stop cs) (drop-pieces rs stop es i))
         ∙ log.stopped
         ∙ (λ i. Some (sym (drop-replies rs stop) i));
-    closed = ap (λ (left : Entries). is_some (closes lane left)) (sym (behind-is rs es)) ∙ ap (λ (o : Option (Unit {0})). is_some o) log.closed;
+    closed =
+        ap (λ (left : Entries). is_some (closes lane left)) (sym (behind-is rs es))
+        ∙ ap (λ (o : Option (Unit {0})). is_some o) log.closed;
   })
     where
       stop : ℕ
       stop = before_stop (replies_in rs)
 
-  pub parts-log : (n : ℕ) → n ≡ before_stop (replies_in rs) → InParts shape lane cs rs es n → IsLaneLog shape lane cs rs es
+  pub parts-log : (n : ℕ) → n ≡ before_stop (replies_in rs) → InParts shape lane cs rs es n →
+      IsLaneLog shape lane cs rs es
   parts-log n is parts = go (subst (InParts shape lane cs rs es) is parts)
     where
       go : InParts shape lane cs rs es (before_stop (replies_in rs)) → IsLaneLog shape lane cs rs es
@@ -169,7 +181,9 @@ module _ (shape : Shape) (lane : ℕ) (cs : List Command) (rs : List Answered) (
                 (λ i. stopped_run lane (drop stop cs) (sym (drop-pieces rs stop es) i))
                 ∙ all.stopped
                 ∙ (λ i. Some (drop-replies rs stop i));
-            closed = ap (λ (left : Entries). closes lane left) (behind-is rs es) ∙ some-unit (closes lane (drop (noted rs) es)) all.closed;
+            closed =
+                ap (λ (left : Entries). closes lane left) (behind-is rs es)
+                ∙ some-unit (closes lane (drop (noted rs) es)) all.closed;
           }
 
 -- ---- The parts as the program cuts them.
@@ -186,11 +200,13 @@ module _ (rs : List Answered) (stop : ℕ) where
   pub noted-all : noted (take stop rs) + noted (drop stop rs) ≡ noted rs
   noted-all = sum_by-take-drop (λ a. a.notes) rs stop
 
-  module _ (first : ℕ) (first-is : first ≡ sum (note_counts (take stop rs))) (es left : Entries) (left-is : left ≡ drop first es) where
+  module _ (first : ℕ) (first-is : first ≡ sum (note_counts (take stop rs))) (es left : Entries)
+      (left-is : left ≡ drop first es) where
     pub left-first : left ≡ drop (noted (take stop rs)) es
     left-first = left-is ∙ ap (λ (n : ℕ). drop n es) (first-is ∙ noted-first)
 
-    pub left-rest : (second : ℕ) → second ≡ sum (note_counts (take (length rs - stop) (drop stop rs))) → (end : Entries) →
+    pub left-rest : (second : ℕ) → second ≡ sum (note_counts (take (length rs - stop) (drop stop rs))) →
+        (end : Entries) →
         end ≡ drop second left → end ≡ drop (noted rs) es
     left-rest second second-is end end-is =
         let all : first + second ≡ noted rs = omega (arith, first-is, second-is, noted-first, noted-rest, noted-all) in

@@ -83,8 +83,8 @@ pub(crate) fn have_run(
 impl Log<'_> {
     // Whether exactly these are the notes of a command of a stopped lane.
     fn is_stopped(&self, lane: u32, command: &Command) -> bool
-        ensures { result
-            ≡ is_some (read_all (not_carried_out lane command.now) (log_at new_lane (entries self.now))) }
+        ensures { result ≡ is_some (read_all
+            (not_carried_out lane command.now) (log_at new_lane (entries self.now))) }
     {
         self.is_all_read(self.not_carried_out(FIRST, lane, command))
     }

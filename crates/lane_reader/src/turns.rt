@@ -1,6 +1,6 @@
 //! One command of a lane, with its notes and its reply.
 
-ghost use Rattle.std.specs.Prelude.{◌≡◌, ◌+◌, ◌-◌, ◌<◌, ◌≤◌, ◌^◌, ℕ, length, IfOk, IfSome, OnOk, true, false};
+ghost use Rattle.std.specs.Prelude.{◌≡◌, ◌+◌, ◌-◌, ◌<◌, ◌≤◌, ◌^◌, ℕ, length, IfOk, IfSome, true, false};
 ghost use Rattle.pool_law.specs.LaneStates.{LaneState};
 ghost use Rattle.pool_law.specs.LaneLaw.{sweep_period};
 ghost use Rattle.lane_reader.specs.Bounding.{AreBounded, ChangeIsBounded};

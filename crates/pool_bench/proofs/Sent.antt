@@ -44,7 +44,7 @@ sends_spent v w es before after more spent none = record {
 -- entries of which no more than so many are posts
 pub sends_grown : (v w : SeatView) (es : List Entry) (spent : ℕ) → Grows v w es spent → (count : ℕ) → ((to : ℕ) → posts (lane_in v) to es ≤ count) → Sends count v w
 sends_grown v w es spent grows count few =
-    let before : Left = record { notes = length es; takes = sum_by takes es; moves = spent; sends = λ to. count } in
+    let before : Left = record { notes = length es; asks = 0; takes = sum_by takes es; moves = spent; sends = λ to. count } in
     let costs : Spends v w before (notes_alone 0) = spends v w es spent grows before (notes_alone 0) (omega arith) (omega arith) (omega arith) (λ to. (let a = few to in omega (arith, a))) in
     record {
       number = grows.more.number;

@@ -1,6 +1,6 @@
 -- Marks that fit, one note further.
-use Rattle.std.proofs.Common.{◌≡◌, ℕ, ◌+◌, ◌<◌, ◌≤◌, Bool, true, false, List, [], ◌∷◌, Option, Some, None, refl, sym, ap, subst, arith, ◌∙◌}
-use Rattle.std.specs.Prelude.{◌↔◌, max, nat_lt, nat_le, if◌then◌else◌, slice_get, unwrap_or, MatchBool, IsTrue}
+use Rattle.std.proofs.Common.{◌≡◌, ℕ, ◌+◌, ◌≤◌, Bool, true, false, List, [], ◌∷◌, Option, Some, refl, sym, ap, subst, arith, ◌∙◌}
+use Rattle.std.specs.Prelude.{◌↔◌, max, nat_le, if◌then◌else◌, slice_get, unwrap_or, MatchBool, IsTrue}
 use Rattle.std.proofs.lemmas.Bool.{leb-true}
 use Rattle.pool_law.specs.declared.note.Object.{Object}
 use Rattle.pool_law.specs.declared.note.Did.{Did}

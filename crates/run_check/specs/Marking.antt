@@ -1,5 +1,5 @@
 -- What a lane has of objects, as the program keeps it.
-use Rattle.std.specs.Prelude.{◌≡◌, ℕ, ◌+◌, ◌≤◌, max, if◌then◌else◌, List, Option, Some, None, unwrap_or, IsTrue}
+use Rattle.std.specs.Prelude.{ℕ, ◌+◌, ◌≤◌, max, if◌then◌else◌, List, Option, Some, None, unwrap_or, IsTrue}
 use Rattle.std.specs.BTreeMap.{get}
 use Rattle.pool_law.specs.declared.note.Object.{Object}
 use Rattle.pool_law.specs.declared.note.Note.{Note}

@@ -36,7 +36,8 @@ over_all : (f : Reply → ℕ) (logs : List LaneLog)
 over_all f [] = refl
 over_all f (log ∷ logs) =
     sum_by-append f (replies_in log.replies) (flat_map (λ (l : LaneLog). replies_in l.replies) logs)
-    ∙ ap (λ (k : ℕ). k + sum_by f (flat_map (λ (l : LaneLog). replies_in l.replies) logs)) (sum_by-replies f log.replies)
+    ∙ ap (λ (k : ℕ). k + sum_by f (flat_map (λ (l : LaneLog). replies_in l.replies) logs))
+    (sum_by-replies f log.replies)
     ∙ ap (λ (k : ℕ). sum_by (λ (a : Answered). f a.reply) log.replies + k) (over_all f logs)
     ∙ sym (sum_by-cons (λ (l : LaneLog). sum_by (λ (a : Answered). f a.reply) l.replies) log logs)
 

@@ -6,6 +6,7 @@ use Rattle.step_law.specs.declared.Told.{Ghosts}
 use Rattle.pool_law.specs.declared.command.Command.{Command}
 use Rattle.pool_law.specs.declared.note.Noted.{Noted}
 use Rattle.pool_law.specs.declared.run.Shape.{Shape}
+use Rattle.pool_law.specs.Bounds.{note_bound}
 use Rattle.pool_law.specs.Legal.{AreCommands}
 use Rattle.pool_law.specs.Limits.{IsShape}
 use Rattle.pool_law.specs.Logs.{of_lane}
@@ -17,7 +18,7 @@ use Rattle.shared_pool.specs.declared.pool.SharedPool.{SharedPool}
 use Rattle.shared_pool.specs.Opening.{AreOpened, IsOpened}
 use Rattle.shared_pool.specs.SeatLanes.{lane_of}
 use Rattle.lane_core.specs.declared.lane.Lane.{Lane}
-use Rattle.lane_core.specs.Lanes.{IsLane, SameLane, left_for_all, note_bound}
+use Rattle.lane_core.specs.Lanes.{IsLane, SameLane, left_for_all}
 use Rattle.lane_core.specs.Opened.{IsFirstSeat, IsPlain}
 use Rattle.lane_core.specs.Played.{AreFinished}
 use Rattle.trace_top.specs.Needs.{AreSent, HasRoomFor}

@@ -1,11 +1,16 @@
 -- What the commands of a lane add up to.
-use Rattle.std.proofs.Common.{◌≡◌, ℕ, ◌+◌, ◌*◌, Bool, true, false, List, [], ◌∷◌, cond, refl, sym, ap, ◌∙◌, arith}
-use Rattle.std.specs.Prelude.{count_by, if◌then◌else◌}
+use Rattle.std.proofs.Common.{◌≡◌, ℕ, ◌+◌, ◌<◌, ◌≤◌, inl, inr, subst, Bool, true, false, List, [], ◌∷◌, ◌++◌, length, map, take, get_or, cond, refl, sym, ap, ◌∙◌, arith}
+use Rattle.std.specs.Prelude.{count_by, sum, if◌then◌else◌}
+use Rattle.std.proofs.lemmas.Bool.{cases_lt}
+use Rattle.std.proofs.lemmas.List.{map_more}
+use Rattle.std.proofs.lemmas.List.Sums.{sum_by_push}
 use Rattle.std.proofs.lemmas.List.Recursion.{is_count_by}
 use Rattle.pool_law.specs.declared.command.Command.{Command}
+use Rattle.pool_law.specs.Logs.{of_lane}
 use Rattle.lane_core.specs.Desks.{left_for}
 use Rattle.lane_core.specs.Lanes.{left_for_all}
-use Rattle.trace_top.specs.Needs.{is_alloc, is_move, is_release, is_send, is_single}
+use Rattle.trace_top.specs.Needs.{is_move, is_send}
+use Rattle.trace_top.proofs.Places.{log_read}
 
 abbrev pub one : Bool → ℕ
 one b = if b then 1 else 0
@@ -24,44 +29,6 @@ count_more p x xs = sym (counted_is p (x ∷ xs)) ∙ by_case (p x) (counted p x
     by_case : (b : Bool) (n : ℕ) → cond b (1 + n) n ≡ one b + n
     by_case true n = refl
     by_case false n = omega arith
-
-notes_of_one : (c : Command) → (left_for c).notes ≡ 5 * one (is_alloc c) + (6 * one (is_release c) + one (is_single c))
-notes_of_one (Command.Alloc name size) = refl
-notes_of_one (Command.Set name at bytes tries) = refl
-notes_of_one (Command.Get name at len tries) = refl
-notes_of_one (Command.Write name bytes) = refl
-notes_of_one (Command.Read name len) = refl
-notes_of_one (Command.Slice fresh name at len true) = refl
-notes_of_one (Command.Slice fresh name at len false) = refl
-notes_of_one (Command.Dup fresh name) = refl
-notes_of_one (Command.Retain name) = refl
-notes_of_one (Command.Release name) = refl
-notes_of_one (Command.Refcnt name) = refl
-notes_of_one (Command.Touch name) = refl
-notes_of_one (Command.Forget name) = refl
-notes_of_one (Command.Send name lane) = refl
-notes_of_one (Command.Recv fresh lane) = refl
-notes_of_one (Command.Compose fresh names) = refl
-notes_of_one (Command.Add whole name) = refl
-
-takes_of_one : (c : Command) → (left_for c).takes ≡ one (is_alloc c)
-takes_of_one (Command.Alloc name size) = refl
-takes_of_one (Command.Set name at bytes tries) = refl
-takes_of_one (Command.Get name at len tries) = refl
-takes_of_one (Command.Write name bytes) = refl
-takes_of_one (Command.Read name len) = refl
-takes_of_one (Command.Slice fresh name at len true) = refl
-takes_of_one (Command.Slice fresh name at len false) = refl
-takes_of_one (Command.Dup fresh name) = refl
-takes_of_one (Command.Retain name) = refl
-takes_of_one (Command.Release name) = refl
-takes_of_one (Command.Refcnt name) = refl
-takes_of_one (Command.Touch name) = refl
-takes_of_one (Command.Forget name) = refl
-takes_of_one (Command.Send name lane) = refl
-takes_of_one (Command.Recv fresh lane) = refl
-takes_of_one (Command.Compose fresh names) = refl
-takes_of_one (Command.Add whole name) = refl
 
 moves_of_one : (c : Command) → (left_for c).moves ≡ one (is_move c)
 moves_of_one (Command.Alloc name size) = refl
@@ -101,16 +68,6 @@ sends_of_one to (Command.Recv fresh lane) = refl
 sends_of_one to (Command.Compose fresh names) = refl
 sends_of_one to (Command.Add whole name) = refl
 
-pub notes_of_all : (cs : List Command)
-    → (left_for_all cs).notes ≡ 5 * count_by is_alloc cs + (6 * count_by is_release cs + count_by is_single cs)
-notes_of_all [] = refl
-notes_of_all (c ∷ cs) =
-    omega (arith, notes_of_one c, notes_of_all cs, count_more is_alloc c cs, count_more is_release c cs, count_more is_single c cs)
-
-pub takes_of_all : (cs : List Command) → (left_for_all cs).takes ≡ count_by is_alloc cs
-takes_of_all [] = refl
-takes_of_all (c ∷ cs) = omega (arith, takes_of_one c, takes_of_all cs, count_more is_alloc c cs)
-
 pub moves_of_all : (cs : List Command) → (left_for_all cs).moves ≡ count_by is_move cs
 moves_of_all [] = refl
 moves_of_all (c ∷ cs) = omega (arith, moves_of_one c, moves_of_all cs, count_more is_move c cs)
@@ -118,3 +75,26 @@ moves_of_all (c ∷ cs) = omega (arith, moves_of_one c, moves_of_all cs, count_m
 pub sends_of_all : (to : ℕ) (cs : List Command) → (left_for_all cs).sends to ≡ count_by (is_send to) cs
 sends_of_all to [] = refl
 sends_of_all to (c ∷ cs) = omega (arith, sends_of_one to c, sends_of_all to cs, count_more (is_send to) c cs)
+
+-- ---- The notes.
+
+-- a sum over the first commands, with one more
+pub sum_more : (f : Command → ℕ) (cs : List Command) (i : ℕ) (c : Command) → i < length cs → c ≡ get_or cs i c
+    → sum (map f (take (i + 1) cs)) ≡ sum (map f (take i cs)) + f c
+sum_more f cs i c below at =
+    ap sum (map_more f cs i c below ∙ ap (λ x. map f (take i cs) ++ f x ∷ []) (sym at))
+    ∙ sum_by_push (λ (n : ℕ). n) (map f (take i cs)) (f c)
+
+-- ---- The most of all lanes.
+
+-- what each lane before this one has no more of, and then this one too
+pub each_more : (f : List Command → ℕ) (lanes : List (List Command)) (i : ℕ) (cs : List Command) (most more : ℕ)
+    → i < length lanes → cs ≡ get_or lanes i cs → most ≤ more → f cs ≤ more
+    → ((k : ℕ) → k < i → f (of_lane lanes k) ≤ most) → (k : ℕ) → k < i + 1 → f (of_lane lanes k) ≤ more
+each_more f lanes i cs most more here at kept now before k below = elim (cases_lt k i) [
+  | inl less ↦ (let a = before k less in omega (arith, a, kept))
+  | inr past ↦
+      let same : i ≡ k = omega (arith, below, past) in
+      subst (λ j. f (of_lane lanes j) ≤ more) same
+      (subst (λ (xs : List Command). f xs ≤ more) (sym (log_read lanes i cs here at)) now)
+]

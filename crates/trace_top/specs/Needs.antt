@@ -1,28 +1,10 @@
 -- What the lanes of a trace need of their pool.
 use Rattle.std.specs.Prelude.{◌≡◌, ℕ, ◌+◌, ◌*◌, ◌<◌, ◌≤◌, Bool, true, false, ◌==◌, List, length, Some, slice_get}
 use Rattle.pool_law.specs.declared.command.Command.{Command}
+use Rattle.pool_law.specs.Bounds.{note_bound}
 use Rattle.pool_law.specs.Logs.{of_lane}
 use Rattle.pool_table.specs.declared.views.Layout.{Layout}
-use Rattle.lane_core.specs.Lanes.{left_for_all, note_bound}
-
--- the command allocates
-abbrev pub is_alloc : Command → Bool
-is_alloc (Command.Alloc name size) = true
-is_alloc _ = false
-
--- the command releases
-abbrev pub is_release : Command → Bool
-is_release (Command.Release name) = true
-is_release _ = false
-
--- the command makes one note at most
-abbrev pub is_single : Command → Bool
-is_single (Command.Alloc name size) = false
-is_single (Command.Release name) = false
-is_single (Command.Slice fresh name at len retained) = retained
-is_single (Command.Dup fresh name) = false
-is_single (Command.Forget name) = false
-is_single _ = true
+use Rattle.lane_core.specs.Lanes.{left_for_all}
 
 -- the command makes a root, or retains one
 abbrev pub is_move : Command → Bool

@@ -1,8 +1,10 @@
 //! What the lanes of a trace need of their pool: room for notes, for roots and for parcels.
-ghost use Rattle.std.specs.Prelude.{◌≡◌, ℕ, ◌*◌, ◌<◌, ◌≤◌, count_by, length, IfOk};
+ghost use Rattle.std.specs.Prelude.{◌≡◌, ℕ, ◌*◌, ◌^◌, ◌<◌, ◌≤◌, if◌then◌else◌, count_by, length, IfOk};
+ghost use Rattle.std.specs.List.{list_any};
+ghost use Rattle.pool_law.specs.Bounds.{composes, may_ask, most_notes, note_bound};
 ghost use Rattle.pool_law.specs.Logs.{of_lane};
-ghost use Rattle.lane_core.specs.Lanes.{left_for_all, note_bound};
-ghost use Rattle.trace_top.specs.Needs.{AreSent, HasRoomFor, is_alloc, is_move, is_release, is_send, is_single};
+ghost use Rattle.lane_core.specs.Lanes.{left_for_all};
+ghost use Rattle.trace_top.specs.Needs.{AreSent, HasRoomFor, is_move, is_send};
 
 use pool_law::{Command, CommandList, Shape};
 use pool_table::Layout;
@@ -15,7 +17,7 @@ pub fn layout_for(lanes: &[CommandList], shape: &Shape) -> Layout
     ensures room { (lane : ℕ) → lane < length lanes.now →
         HasRoomFor result (of_lane lanes.now lane) }
     ensures moves { result.moves ≤ 65536 }
-    ensures turns { result.turns ≤ 1000000 }
+    ensures turns { result.turns ≤ 2 ^ 24 }
 {
     let mut moves = 0u32;
     let mut turns = 0u64;
@@ -63,39 +65,75 @@ fn sends_to(commands: &[Command], to: u32) -> u32
     sends(commands, to) as u32
 }
 
-// The most notes of a lane with these commands, its closing among them.
+// The most notes of a lane with these commands, its sweeps and its closing among them.
 fn turns_of(commands: &[Command]) -> u64
     requires { length commands.now ≤ 65536 }
     ensures turns { result ≡ note_bound commands.now }
-    ensures most { result ≤ 1000000 }
+    ensures most { result ≤ 2 ^ 24 }
 {
-    let allocs = allocs(commands);
-    let closing = 40 * (1 + allocs / 8192) + 2 * allocs;
-    (5 * allocs + 6 * releases(commands) + singles(commands) + closing) as u64
+    let composites = any_composes(commands);
+    let mut notes = 0;
+    let mut asks = 0;
+    for command in commands {
+        notes += notes_of(command, composites);
+        asks += asks_of(command);
+    }
+    notes + 40 * (1 + asks / 8192) + 2 * asks
 }
 
-fn allocs(commands: &[Command]) -> usize
-    ensures count { result ≡ count_by is_alloc commands.now }
-    ensures most { result ≤ length commands.now }
+// Whether one of the commands makes a composite.
+fn any_composes(commands: &[Command]) -> bool
+    ensures { result ≡ list_any composes commands.now }
 {
-    commands.iter().filter(|command| is_alloc(command)).count()
+    commands.iter().any(|command| composes(command))
 }
 
-fn releases(commands: &[Command]) -> usize
-    ensures count { result ≡ count_by is_release commands.now }
-    ensures most { result ≤ length commands.now }
+// The most notes of a command, in a lane that makes composites or in one that makes none.
+fn notes_of(command: &Command, composites: bool) -> u64
+    ensures notes { result ≡ most_notes composites command.now }
+    ensures few { result ≤ 197 }
 {
-    commands
-        .iter()
-        .filter(|command| is_release(command))
-        .count()
+    match command {
+        Command::Alloc { .. } => 5,
+        Command::Set { tries: false, .. } | Command::Get { tries: false, .. } => {
+            notes_of_access(composites)
+        }
+        Command::Write { .. } | Command::Read { .. } => notes_of_access(composites),
+        Command::Slice {
+            retained: false,
+            ..
+        } => 0,
+        Command::Dup { .. } | Command::Forget { .. } => 0,
+        Command::Release { .. } => notes_of_release(composites),
+        Command::Compose { .. } => 197,
+        Command::Add { .. } => 141,
+        _ => 1,
+    }
 }
 
-fn singles(commands: &[Command]) -> usize
-    ensures count { result ≡ count_by is_single commands.now }
-    ensures most { result ≤ length commands.now }
+// The most notes of an access that is made whether or not another lane is at the root.
+fn notes_of_access(composites: bool) -> u64
+    ensures { result ≡ if composites then 16 else 1 }
 {
-    commands.iter().filter(|command| is_single(command)).count()
+    if composites { 16 } else { 1 }
+}
+
+// The most notes of a release.
+fn notes_of_release(composites: bool) -> u64
+    ensures { result ≡ if composites then 96 else 6 }
+{
+    if composites { 96 } else { 6 }
+}
+
+// How many caches a command may ask.
+fn asks_of(command: &Command) -> u64
+    ensures asks { result ≡ may_ask command.now }
+    ensures few { result ≤ 1 }
+{
+    match command {
+        Command::Alloc { .. } | Command::Compose { .. } | Command::Add { .. } => 1,
+        _ => 0,
+    }
 }
 
 fn moves(commands: &[Command]) -> usize
@@ -115,28 +153,11 @@ fn sends(commands: &[Command], to: u32) -> usize
         .count()
 }
 
-fn is_alloc(command: &Command) -> bool
-    ensures { result ≡ is_alloc command.now }
+// Whether it makes a composite.
+fn composes(command: &Command) -> bool
+    ensures { result ≡ composes command.now }
 {
-    matches!(command, Command::Alloc { .. })
-}
-
-fn is_release(command: &Command) -> bool
-    ensures { result ≡ is_release command.now }
-{
-    matches!(command, Command::Release { .. })
-}
-
-// Whether it makes one note at most.
-fn is_single(command: &Command) -> bool
-    ensures { result ≡ is_single command.now }
-{
-    match command {
-        Command::Alloc { .. } | Command::Release { .. } => false,
-        Command::Dup { .. } | Command::Forget { .. } => false,
-        Command::Slice { retained, .. } => *retained,
-        _ => true,
-    }
+    matches!(command, Command::Compose { .. })
 }
 
 // Whether it makes a root, or retains one.

@@ -1,8 +1,6 @@
-use Rattle.std.proofs.Common.{◌≡◌, ℕ, ◌+◌, ◌-◌, ◌^◌, ◌<◌, ◌≤◌, List, ◌∷◌, length, take, drop, get_or, Option, Some, true, false, refl, sym, ap, arith, subst, rules, ◌∙◌}
-use Rattle.std.specs.Prelude.{◌↔◌}
+use Rattle.std.proofs.Common.{◌≡◌, ◌+◌, ◌-◌, ◌^◌, ◌<◌, ◌≤◌, ◌∷◌, length, take, drop, Some, refl, sym, ap, arith, subst, ◌∙◌}
 use Rattle.std.proofs.lemmas.List.Sums.{sum-map}
 use Rattle.pool_law.specs.declared.command.Command.{Command}
-use Rattle.pool_law.specs.declared.run.Reply.{Reply}
 use Rattle.pool_law.specs.declared.run.Answered.{Answered}
 use Rattle.pool_law.specs.LaneStates.{LaneState, new_lane}
 use Rattle.pool_law.specs.LaneLaw.{sweep_period, lane_step}
@@ -61,7 +59,8 @@ returns-then-not-branch c =
     let r = c.index-replies-i.result in
     let there : i < length rs = omega (arith, c.loop-i-test.true, c.requires.as_many) in
     let replies : drop i rs ≡ r ∷ drop (i + 1) rs = next-item rs i r there c.index-replies-i.is in
-    let commands : drop i cs ≡ command ∷ drop (i + 1) cs = next-item cs i command c.loop-i-test.true c.index-commands-i.is in
+    let commands : drop i cs ≡ command ∷ drop (i + 1) cs =
+    next-item cs i command c.loop-i-test.true c.index-commands-i.is in
     let s : LaneState = c.loop-i.invariant.goes.0 in
     let is = c.loop-i.invariant.goes.1.0 in (
       λ good. absurd (cc good),
@@ -86,13 +85,15 @@ loop-i-preserved c =
     let r = c.index-replies-i.result in
     let there : i < length rs = omega (arith, c.loop-i-test.true, c.requires.as_many) in
     let replies : drop i rs ≡ r ∷ drop (i + 1) rs = next-item rs i r there c.index-replies-i.is in
-    let commands : drop i cs ≡ command ∷ drop (i + 1) cs = next-item cs i command c.loop-i-test.true c.index-commands-i.is in
+    let commands : drop i cs ≡ command ∷ drop (i + 1) cs =
+    next-item cs i command c.loop-i-test.true c.index-commands-i.is in
     let notes = notes-next rs i r there c.index-replies-i.is in
     let s : LaneState = c.loop-i.invariant.goes.0 in
     let is = c.loop-i.invariant.goes.1.0 in
     let turned = c.in_ok-turn.ensures.good s is c.if-not-branch.false in
     let behind : entries c.behind-rest.result ≡ drop r.notes es = c.behind-rest.ensures.entries in
-    let step : lane_step sweep_period setting.shape.now setting.lane s command (take r.notes es) ≡ Some (r.reply, turned.next) =
+    let step :
+    lane_step sweep_period setting.shape.now setting.lane s command (take r.notes es) ≡ Some (r.reply, turned.next) =
     ap (λ (left : Entries). lane_step sweep_period setting.shape.now setting.lane s command left)
     (sym c.first-piece.ensures.entries)
     ∙ turned.step in
@@ -122,7 +123,8 @@ loop-i-preserved c =
           turned.is,
           λ last.
               let goes =
-              run-goes-at setting.shape.now setting.lane s cs rs es i command r commands replies turned.next last step in (
+              run-goes-at setting.shape.now setting.lane s cs rs es i command r commands replies turned.next last
+              step in (
                 λ all. subst (left last) (sym behind) (goes.0 ((c.loop-i.invariant.goes.1.1 last).0 all)),
                 λ rest. (c.loop-i.invariant.goes.1.1 last).1 (goes.1 (subst (left last) behind rest)),
               ),
@@ -140,7 +142,8 @@ returns c =
       λ good. (
         s,
         (c.loop-i.invariant.goes.1.1 s).1
-            (run-end setting.shape.now setting.lane s cs rs (entries c.loop-i.rest) c.loop-i.i c.loop-i-test.false past),
+            (run-end setting.shape.now setting.lane s cs rs (entries c.loop-i.rest) c.loop-i.i c.loop-i-test.false
+            past),
       ),
       λ all. refl,
     )

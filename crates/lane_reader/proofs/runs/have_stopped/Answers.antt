@@ -1,8 +1,6 @@
-use Rattle.std.proofs.Common.{◌≡◌, ℕ, ◌+◌, ◌<◌, ◌≤◌, List, ◌∷◌, length, take, drop, get_or, true, false, refl, sym, ap, arith, subst, rules, ◌∙◌}
-use Rattle.std.specs.Prelude.{◌↔◌, is_some}
-use Rattle.pool_law.specs.declared.command.Command.{Command}
+use Rattle.std.proofs.Common.{◌≡◌, ◌+◌, ◌<◌, ◌≤◌, ◌∷◌, length, take, drop, true, false, refl, sym, arith, subst, ◌∙◌}
+use Rattle.std.specs.Prelude.{is_some}
 use Rattle.pool_law.specs.declared.run.Reply.{Reply}
-use Rattle.pool_law.specs.declared.run.Answered.{Answered}
 use Rattle.pool_law.specs.LaneStates.{new_lane, log_at}
 use Rattle.pool_law.specs.Lanes.{not_carried_out}
 use Rattle.pool_law.specs.Readers.{Entries, read_all}
@@ -41,8 +39,10 @@ returns-then-not-is_stopped c =
     let r = c.index-replies-i.result in
     let there : i < length rs = omega (arith, c.loop-i-test.true, c.requires.as_many) in
     let replies : drop i rs ≡ r ∷ drop (i + 1) rs = next-item rs i r there c.index-replies-i.is in
-    let commands : drop i cs ≡ command ∷ drop (i + 1) cs = next-item cs i command c.loop-i-test.true c.index-commands-i.is in
-    let read : c.is_stopped.result ≡ is_some (read_all (not_carried_out lane command) (log_at new_lane (take r.notes es))) =
+    let commands : drop i cs ≡ command ∷ drop (i + 1) cs =
+    next-item cs i command c.loop-i-test.true c.index-commands-i.is in
+    let read :
+    c.is_stopped.result ≡ is_some (read_all (not_carried_out lane command) (log_at new_lane (take r.notes es))) =
     c.is_stopped.ensures
     ∙ (λ j. is_some (read_all (not_carried_out lane command) (log_at new_lane (c.first-piece.ensures.entries j)))) in (
       λ good. absurd (cc good),
@@ -55,7 +55,8 @@ pub first-piece-requires : goal.first-piece-requires
 first-piece-requires c =
     let rs = c.args.replies.now in
     let there : c.loop-i.i < length rs = omega (arith, c.loop-i-test.true, c.requires.as_many) in
-    omega (arith, c.loop-i.invariant.counted, notes-next rs c.loop-i.i c.index-replies-i.result there c.index-replies-i.is)
+    let notes = notes-next rs c.loop-i.i c.index-replies-i.result there c.index-replies-i.is in
+    omega (arith, c.loop-i.invariant.counted, notes)
 
 pub loop-i-preserved : goal.loop-i-preserved
 loop-i-preserved c =
@@ -68,8 +69,10 @@ loop-i-preserved c =
     let r = c.index-replies-i.result in
     let there : i < length rs = omega (arith, c.loop-i-test.true, c.requires.as_many) in
     let replies : drop i rs ≡ r ∷ drop (i + 1) rs = next-item rs i r there c.index-replies-i.is in
-    let commands : drop i cs ≡ command ∷ drop (i + 1) cs = next-item cs i command c.loop-i-test.true c.index-commands-i.is in
-    let read : c.is_stopped.result ≡ is_some (read_all (not_carried_out lane command) (log_at new_lane (take r.notes es))) =
+    let commands : drop i cs ≡ command ∷ drop (i + 1) cs =
+    next-item cs i command c.loop-i-test.true c.index-commands-i.is in
+    let read :
+    c.is_stopped.result ≡ is_some (read_all (not_carried_out lane command) (log_at new_lane (take r.notes es))) =
     c.is_stopped.ensures
     ∙ (λ j. is_some (read_all (not_carried_out lane command) (log_at new_lane (c.first-piece.ensures.entries j)))) in
     let same : same_reply Reply.Stopped r.reply ≡ true =
@@ -77,7 +80,13 @@ loop-i-preserved c =
     let goes = stop-goes-at lane cs rs es i r replies command commands same (sym read ∙ c.if-not-is_stopped.false) in
     let behind : entries c.behind-rest.result ≡ drop r.notes es = c.behind-rest.ensures.entries in
     record {
-      counted = omega (arith, c.loop-i.invariant.counted, c.behind-rest.ensures.count, notes-next rs i r there c.index-replies-i.is);
+      counted =
+          omega (
+            arith,
+            c.loop-i.invariant.counted,
+            c.behind-rest.ensures.count,
+            notes-next rs i r there c.index-replies-i.is,
+          );
       goes = (
         λ all.
             subst (λ (left : Entries). HasStopped lane (drop (i + 1) cs) (drop (i + 1) rs) left) (sym behind)

@@ -1,4 +1,4 @@
-use Rattle.std.proofs.Common.{◌≡◌, ◌≤◌, List, length, take, drop, true, false, refl, sym, ap, arith, ◌∙◌}
+use Rattle.std.proofs.Common.{◌≡◌, drop, refl, sym, ap, arith, ◌∙◌}
 use Rattle.std.specs.Prelude.{is_some}
 use Rattle.std.proofs.lemmas.List.Elements.{All-take}
 use Rattle.std.proofs.lemmas.List.Sums.{sum-map}
@@ -9,7 +9,7 @@ use Rattle.lane_reader.specs.Candidates.{HasFewNames}
 use Rattle.lane_reader.specs.Reading.{entries}
 use Rattle.lane_reader.proofs.ReadingLemmas.{length-entries}
 use Rattle.lane_reader.proofs.RunLemmas.{few-names}
-use Rattle.lane_reader.proofs.WholeLemmas.{noted, log-lengths, log-parts, parts-log, noted-first, noted-rest, noted-all, left-first, left-rest, stopped-cut, stopped-whole}
+use Rattle.lane_reader.proofs.WholeLemmas.{noted, log-lengths, log-parts, parts-log, noted-first, noted-rest, noted-all, left-rest, stopped-cut, stopped-whole}
 use Rattle.lane_reader.proofs.whole.is_lane_log.Goals as goal
 
 pub returns-then-commands-replies : goal.returns-then-commands-replies

@@ -1,12 +1,11 @@
-use Rattle.std.proofs.Common.{◌≡◌, ℕ, ◌+◌, ◌≤◌, ◌++◌, Option, Some, None, refl, sym, ap, arith, subst, ◌∙◌}
+use Rattle.std.proofs.Common.{ℕ, ◌+◌, Option, refl, sym, ap, arith, subst, ◌∙◌}
 use Rattle.std.specs.Prelude.{option_map, IfSome}
 use Rattle.std.specs.Ordering.{nat_cmp}
 use Rattle.std.specs.BTreeMap.{get}
 use Rattle.lane_reader.specs.declared.bound.Bound.{Bound}
-use Rattle.pool_law.specs.Counts.{count_of, count_from}
+use Rattle.pool_law.specs.Counts.{count_from}
 use Rattle.pool_law.specs.LaneLaw.{sweep_period, lane_step}
 use Rattle.lane_reader.specs.declared.bound.Change.{Change}
-use Rattle.lane_reader.specs.declared.lane.Lane.{Lane}
 use Rattle.lane_reader.specs.declared.counts.Counts.{Counts}
 use Rattle.lane_reader.specs.Bounding.{IsBounded, ChangeIsBounded}
 use Rattle.lane_reader.specs.Counting.{count_in}
@@ -24,7 +23,8 @@ returns-in_default-clause-bad c s is bad next step =
     let log = c.args.log.now in
     answered-other c.args.reply.now
     (lane_step sweep_period setting.shape.now setting.lane s c.args.command.now (entries log)) next
-    (c.in_ok-change.ensures.row s is ∙ ap (λ (o : Option (Change × ℕ)). option_map (next_state s log) o) c.in_default.is)
+    (c.in_ok-change.ensures.row s is
+    ∙ ap (λ (o : Option (Change × ℕ)). option_map (next_state s log) o) c.in_default.is)
     step
 
 pub returns-clause-good : goal.returns-clause-good
@@ -59,7 +59,8 @@ returns-clause-bounded c most some bounded good name =
     subst (λ (o : Option (Change × ℕ)). IfSome o (λ p. ChangeIsBounded (most + 1) p.0)) c.in-Some.is
     (c.in_ok-change.ensures.bounded most some bounded) in
     subst (λ (o : Option Bound). IfSome o (IsBounded (most + 1)))
-    (sym (λ i. get nat_cmp (c.in_ok-pass.ensures.names i) name)) (c.in_ok-change-2.ensures.bounded (most + 1) old change name)
+    (sym (λ i. get nat_cmp (c.in_ok-pass.ensures.names i) name))
+    (c.in_ok-change-2.ensures.bounded (most + 1) old change name)
 
 pub returns-clause-counted : goal.returns-clause-counted
 returns-clause-counted c most within good =

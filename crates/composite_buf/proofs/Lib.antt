@@ -1,0 +1,3 @@
+pub mod MapLaws
+pub mod EndLaws
+pub mod RangeLaws
