@@ -1,6 +1,6 @@
 -- What each status says, turned round: when a run must succeed, and when it must refuse.
 use Rattle.std.proofs.Common.{◌≡◌, ℕ, ◌+◌, ◌<◌, List, ◌++◌, length, refl, ap, sym, subst, ◌∙◌, arith, Some, None, true, inl, inr, append-nil, length-append}
-use Rattle.std.specs.Prelude.{Option, Result, Ok, Err, nat_lt}
+use Rattle.std.specs.Prelude.{◌⊎◌, Option, Result, Ok, Err, nat_lt}
 use Rattle.std.proofs.lemmas.Bool.{cases_lt}
 use Rattle.std.proofs.lemmas.Bool.Decides.{nat_tests}
 use Rattle.pool_law.specs.declared.command.Command.{Command}
@@ -14,6 +14,7 @@ use Rattle.trace_top.specs.declared.words.Generation.{Generation}
 use Rattle.trace_top.specs.declared.words.Options.{Options}
 use Rattle.trace_top.specs.declared.words.Origin.{Origin}
 use Rattle.trace_top.specs.declared.words.Origin.TheVariants.{Source, Generated}
+use Rattle.trace_top.specs.Ends.{Rose}
 use Rattle.trace_top.specs.Transfer.{ReadsText}
 use Rattle.trace_top.specs.Words.{options_of}
 use Rattle.trace_top.specs.Outcomes.{SourceSpan, SinkSpan, Explains, ExplainsOptions, ExplainsOrigin, ExplainsSource, ExplainsText, ExplainsRun, HaveOrigin, IsDone, IsRead, IsTaken, Completes, Refuses}

@@ -1,16 +1,15 @@
 -- What the words give and ask for, from the first word on.
 use Rattle.std.proofs.Common.{◌≡◌, ℕ, ◌<◌, ◌≤◌, List, [], ◌∷◌, length, refl, true, false, Bool, arith, Some, None, sym, ap, subst}
 use Rattle.std.specs.Prelude.{Option, IfSome, if◌then◌else◌, ◌&&◌, option_map, option_and_then}
-use Rattle.std.specs.Option.{option_map_or}
 use Rattle.std.proofs.lemmas.Bool.Decides.{nat_tests}
 use Rattle.trace_top.specs.declared.settings.Setting.{Setting}
 use Rattle.trace_top.specs.declared.settings.Setting.TheVariants.{Order, Arenas, Chunks, Handles, Workers, Interval, Generate, Lanes, Commands}
 use Rattle.trace_top.specs.declared.words.Given.{Given}
 use Rattle.trace_top.specs.declared.words.Asked.{Asked}
+use Rattle.trace_top.specs.declared.words.Options.{Options}
 use Rattle.trace_top.specs.declared.words.Origin.{Origin}
-use Rattle.trace_top.specs.declared.words.Origin.TheVariants.{Source, Generated}
 use Rattle.trace_top.specs.Settings.{RowData, is_within, number_for, row_of}
-use Rattle.trace_top.specs.Words.{AreSound, AreWithin, IsGeneration, IsInRange, IsOrigin, all_chunk_bytes, asked_from, asked_with, before, first_given, generated_from, generation_from, given_alone, given_by, givens_in, has_blocks, is_for_generated, is_for_source, is_whole, options_for, options_from, or_default, origin_for, with_given}
+use Rattle.trace_top.specs.Words.{AreSound, AreWithin, IsInRange, all_chunk_bytes, asked_from, asked_with, before, first_given, given_alone, given_by, givens_in, is_whole, options_for, options_from, or_default, origin_for, with_given}
 
 -- what is asked for with all words that are left
 abbrev pub asked_in : Asked → List (List ℕ) → Option Asked
@@ -141,24 +140,12 @@ default_in_range Lanes = record { least = omega arith; greatest = omega arith }
 default_in_range Commands = record { least = omega arith; greatest = omega arith }
 
 -- and so is what stands in the options
-pub or_in_range : (s : Setting) (asked : Option ℕ) → IfSome asked (IsInRange s) → IsInRange s (or_default s asked)
+or_in_range : (s : Setting) (asked : Option ℕ) → IfSome asked (IsInRange s) → IsInRange s (or_default s asked)
 or_in_range s None h = default_in_range s
 or_in_range s (Some n) h = h
 
--- no number is greater than the greatest start
-pub greatest_of_all : (s : Setting) → (row_of s).greatest ≤ 18446744073709551615
-greatest_of_all Order = omega arith
-greatest_of_all Arenas = omega arith
-greatest_of_all Chunks = omega arith
-greatest_of_all Handles = omega arith
-greatest_of_all Workers = omega arith
-greatest_of_all Interval = omega arith
-greatest_of_all Generate = omega arith
-greatest_of_all Lanes = omega arith
-greatest_of_all Commands = omega arith
-
 -- options with all numbers in their ranges, and all chunks within their bound
-pub sound : (a : Asked) (origin : Origin) → AreWithin a → all_chunk_bytes (options_from a origin) ≤ 536870912
+sound : (a : Asked) (origin : Origin) → AreWithin a → all_chunk_bytes (options_from a origin) ≤ 536870912
     → AreSound (options_from a origin)
 sound a origin h memory lanes some few =
     let order = or_in_range Order a.order h.order in
@@ -182,37 +169,13 @@ sound a origin h memory lanes some few =
       interval_most = interval.greatest;
     }
 
--- ---- where the trace comes from
-
--- what a trace is generated from, where the commands are enough for a block for each lane
-pub generation_is : (a : Asked) (start : ℕ) → AreWithin a → has_blocks (generation_from a start) ≡ true
-    → IsGeneration (generation_from a start)
-generation_is a start h blocks =
-    let lanes = or_in_range Lanes a.lanes h.lanes in
-    let commands = or_in_range Commands a.commands h.commands in
-    record {
-      lanes_least = lanes.least;
-      lanes_most = lanes.greatest;
-      commands_least = grind (arith, nat_tests);
-      commands_most = commands.greatest;
-    }
-
-generated_is : (a : Asked) (start : ℕ) (o : Origin) → AreWithin a → generated_from a start ≡ Some o → IsOrigin o
-generated_is a start o h e =
-    let k = kept (is_for_generated a) (has_blocks (generation_from a start)) (Generated (generation_from a start)) o e in
-    subst IsOrigin k.2 (generation_is a start h k.1)
-
-source_is : (b : Bool) (o : Origin) → (if b then Some Source else None) ≡ Some o → IsOrigin o
-source_is true o e =
-    let same : Source ≡ o = cc in
-    subst IsOrigin same tt
-source_is false o e = absurd (some_none o e)
-
--- where the trace comes from it can come from
-pub origin_is : (a : Asked) (o : Origin) → AreWithin a → origin_for a ≡ Some o → IsOrigin o
-origin_is a o h e =
-    elim a.generate as (λ (g : Option ℕ). option_map_or (generated_from a) g (if is_for_source a then Some Source else None) ≡ Some o
-    → IsOrigin o) [
-      | None ↦ λ f. source_is (is_for_source a) o f
-      | Some start ↦ λ f. generated_is a start o h f
+-- options that are asked for, with all chunks within their bound
+pub sound_options : (a : Asked) (o : Options) → AreWithin a → Some o ≡ options_for a → all_chunk_bytes o ≤ 536870912
+    → AreSound o
+sound_options a o h e memory =
+    elim (origin_for a) as (λ (origin : Option Origin). Some o ≡ option_map (options_from a) origin → AreSound o) [
+      | None ↦ λ f. absurd (some_none o (sym f))
+      | Some origin ↦ λ f.
+          let same : o ≡ options_from a origin = cc in
+          subst AreSound (sym same) (sound a origin h (subst (λ (p : Options). all_chunk_bytes p ≤ 536870912) same memory))
     ] e
