@@ -1,5 +1,6 @@
 //! Runs a trace from standard input over the pool, and writes the text of the run to standard
-//! output. The words of the command line say how large the pool is.
+//! output; or runs a generated trace, and writes the summary of the run. The words of the command
+//! line say which, and how large the pool is.
 #![tactic(auto)]
 
 ghost use Rattle.std.specs.Prelude.{◌≡◌, None};
@@ -11,6 +12,8 @@ use trace_top::{OpenGate, Outcome, Status, StdSink, StdSource, line_of, run};
 
 #[cfg(test)]
 mod crews;
+#[cfg(test)]
+mod generated;
 #[cfg(test)]
 mod rows;
 #[cfg(test)]

@@ -159,7 +159,6 @@ no --history=1
 no --history simple
 no --history --history
 no --order --history
-no --generate 0
 no --lanes 4
 no --commands 65536
 ";

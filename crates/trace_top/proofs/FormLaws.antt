@@ -11,7 +11,7 @@ use Rattle.std.proofs.lemmas.List.Sums.{passes_at_first, split_at_first}
 use Rattle.pool_law.specs.declared.run.Level.{Level}
 use Rattle.pool_law.specs.declared.run.Level.TheVariants.{Disabled, Simple, Advanced, Paranoid}
 use Rattle.trace_top.specs.declared.settings.Setting.{Setting}
-use Rattle.trace_top.specs.declared.settings.Setting.TheVariants.{Order, Arenas, Chunks, Handles, Workers, Interval}
+use Rattle.trace_top.specs.declared.settings.Setting.TheVariants.{Order, Arenas, Chunks, Handles, Workers, Interval, Generate, Lanes, Commands}
 use Rattle.trace_top.specs.declared.words.Given.{Given}
 use Rattle.trace_top.specs.declared.words.Given.TheVariants as givens
 use Rattle.trace_top.specs.declared.words.Options.{Options}
@@ -39,6 +39,9 @@ named_name Chunks = refl
 named_name Handles = refl
 named_name Workers = refl
 named_name Interval = refl
+named_name Generate = refl
+named_name Lanes = refl
+named_name Commands = refl
 
 no_level : (s : Setting) → bytes_eq (row_of s).name level_name ≡ false
 no_level Order = refl
@@ -47,6 +50,9 @@ no_level Chunks = refl
 no_level Handles = refl
 no_level Workers = refl
 no_level Interval = refl
+no_level Generate = refl
+no_level Lanes = refl
+no_level Commands = refl
 
 not_whole : (o : Option Setting) → is_whole (name o) ≡ false
 unfolding is_whole
@@ -57,6 +63,9 @@ not_whole (Some Chunks) = refl
 not_whole (Some Handles) = refl
 not_whole (Some Workers) = refl
 not_whole (Some Interval) = refl
+not_whole (Some Generate) = refl
+not_whole (Some Lanes) = refl
+not_whole (Some Commands) = refl
 
 no_flag : (o : Option Setting) (value : List ℕ) → is_flag (joined o value) ≡ false
 no_flag None value = refl
@@ -66,6 +75,9 @@ no_flag (Some Chunks) value = refl
 no_flag (Some Handles) value = refl
 no_flag (Some Workers) value = refl
 no_flag (Some Interval) value = refl
+no_flag (Some Generate) value = refl
+no_flag (Some Lanes) value = refl
+no_flag (Some Commands) value = refl
 
 sign_at : (o : Option Setting) (value : List ℕ) → position_or_len is_sign (joined o value) ≡ length (name o)
 sign_at None value = refl
@@ -75,6 +87,9 @@ sign_at (Some Chunks) value = refl
 sign_at (Some Handles) value = refl
 sign_at (Some Workers) value = refl
 sign_at (Some Interval) value = refl
+sign_at (Some Generate) value = refl
+sign_at (Some Lanes) value = refl
+sign_at (Some Commands) value = refl
 
 split_at : (o : Option Setting) (value : List ℕ)
     → given_by (before_first is_sign (joined o value)) (after_first is_sign (joined o value)) ≡ given_by (name o) value
@@ -85,6 +100,9 @@ split_at (Some Chunks) value = refl
 split_at (Some Handles) value = refl
 split_at (Some Workers) value = refl
 split_at (Some Interval) value = refl
+split_at (Some Generate) value = refl
+split_at (Some Lanes) value = refl
+split_at (Some Commands) value = refl
 
 parts : (o : Option Setting) (value : List ℕ) → given_alone (joined o value) ≡ given_by (name o) value
 unfolding given_alone

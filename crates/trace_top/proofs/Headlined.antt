@@ -9,7 +9,9 @@ use Rattle.trace_top.specs.declared.answer.Status.{Status}
 use Rattle.trace_top.specs.declared.answer.Status.TheVariants.{Whole, Leaks, Words, Trace, ReadFault, WriteFault, Memory}
 use Rattle.trace_top.specs.declared.answer.Outcome.{Outcome}
 use Rattle.trace_top.specs.declared.words.Options.{Options}
-use Rattle.trace_top.specs.Outcomes.{SourceSpan, SinkSpan, HasRun, Explains, ExplainsOptions, ExplainsText, ExplainsRun}
+use Rattle.trace_top.specs.declared.words.Origin.{Origin}
+use Rattle.trace_top.specs.declared.words.Origin.TheVariants.{Source, Generated}
+use Rattle.trace_top.specs.Outcomes.{SourceSpan, SinkSpan, HasRun, Explains, ExplainsOptions, ExplainsOrigin, ExplainsSource, ExplainsText, ExplainsRun}
 
 none_is : (run : Option Run) → run ≡ None → IfSome run Headline
 none_is run is = subst (λ (r : Option Run). IfSome r Headline) (sym is) tt
@@ -17,13 +19,42 @@ none_is run is = subst (λ (r : Option Run). IfSome r Headline) (sym is) tt
 played : (o : Outcome) (options : Options) (lanes : List (List Command)) (run : Run) → HasRun o options lanes run → IfSome o.run Headline
 played o options lanes run has = subst (λ (r : Option Run). IfSome r Headline) (sym has.run) (headline-holds run has.played_is.legal)
 
+-- of a trace that is run
+by_run : (s : Status) (o : Outcome) (options : Options) (lanes : List (List Command)) (out : SinkSpan)
+    → ExplainsRun s o options lanes out → IfSome o.run Headline
+unfolding ExplainsRun
+by_run Words o options lanes out e = absurd e
+by_run ReadFault o options lanes out e = absurd e
+by_run Trace o options lanes out e = absurd e
+by_run Memory o options lanes out (bare, unwritten) = none_is o.run bare.run
+by_run WriteFault o options lanes out (run, (has, cut)) = played o options lanes run has
+by_run Whole o options lanes out (run, (has, written, leaks)) = played o options lanes run has
+by_run Leaks o options lanes out (run, (has, written, leaks)) = played o options lanes run has
+
+-- of a source that is to be read
+by_source : (s : Status) (o : Outcome) (options : Options) (src : SourceSpan) (out : SinkSpan)
+    → ExplainsSource s o options src out → IfSome o.run Headline
+unfolding ExplainsSource ExplainsText
+by_source ReadFault o options src out (bare, unwritten, rose) = none_is o.run bare.run
+by_source Memory o options src out (bare, unwritten, same) = none_is o.run bare.run
+by_source Trace o options src out (text, (reads, same, (why, (refused, is, unwritten)))) = none_is o.run is.run
+by_source Words o options src out (text, (reads, same, (lanes, (accepted, e)))) = by_run Words o options lanes out e
+by_source WriteFault o options src out (text, (reads, same, (lanes, (accepted, e)))) = by_run WriteFault o options lanes out e
+by_source Whole o options src out (text, (reads, same, (lanes, (accepted, e)))) = by_run Whole o options lanes out e
+by_source Leaks o options src out (text, (reads, same, (lanes, (accepted, e)))) = by_run Leaks o options lanes out e
+
+by_origin : (origin : Origin) (s : Status) (o : Outcome) (options : Options) (src : SourceSpan) (out : SinkSpan)
+    → ExplainsOrigin origin s o options src out → IfSome o.run Headline
+by_origin Source s o options src out e = by_source s o options src out e
+by_origin (Generated g) s o options src out (unread, e) = by_run s o options _ out e
+
 pub headlined : (s : Status) (o : Outcome) (words : List (List ℕ)) (src : SourceSpan) (out : SinkSpan)
     → Explains s o words src out → IfSome o.run Headline
-unfolding Explains ExplainsOptions ExplainsText ExplainsRun
+unfolding Explains ExplainsOptions
 headlined Words o words src out e = none_is o.run e.0.run
-headlined ReadFault o words src out e = none_is o.run e.1.1.0.run
-headlined Memory o words src out e = none_is o.run e.1.1.0.run
-headlined Trace o words src out (options, (formed, (was, (reads, same, (why, (refused, is, unwritten)))))) = none_is o.run is.run
-headlined WriteFault o words src out (options, (formed, (was, (reads, same, (lanes, (accepted, (run, (has, cut)))))))) = played o options lanes run has
-headlined Whole o words src out (options, (formed, (was, (reads, same, (lanes, (accepted, (run, (has, written, leaks)))))))) = played o options lanes run has
-headlined Leaks o words src out (options, (formed, (was, (reads, same, (lanes, (accepted, (run, (has, written, leaks)))))))) = played o options lanes run has
+headlined ReadFault o words src out (options, (formed, e)) = by_origin options.origin ReadFault o options src out e
+headlined Memory o words src out (options, (formed, e)) = by_origin options.origin Memory o options src out e
+headlined Trace o words src out (options, (formed, e)) = by_origin options.origin Trace o options src out e
+headlined WriteFault o words src out (options, (formed, e)) = by_origin options.origin WriteFault o options src out e
+headlined Whole o words src out (options, (formed, e)) = by_origin options.origin Whole o options src out e
+headlined Leaks o words src out (options, (formed, e)) = by_origin options.origin Leaks o options src out e

@@ -1,13 +1,15 @@
 -- What the words give and ask for, from the first word on.
-use Rattle.std.proofs.Common.{◌≡◌, ℕ, ◌<◌, ◌≤◌, List, [], ◌∷◌, length, refl, true, false, Bool, arith, Some, None, sym, ap}
+use Rattle.std.proofs.Common.{◌≡◌, ℕ, ◌<◌, ◌≤◌, List, [], ◌∷◌, length, refl, true, false, Bool, arith, Some, None, sym, ap, subst}
 use Rattle.std.specs.Prelude.{Option, IfSome, if◌then◌else◌, ◌&&◌, option_map, option_and_then}
 use Rattle.std.proofs.lemmas.Bool.Decides.{nat_tests}
 use Rattle.trace_top.specs.declared.settings.Setting.{Setting}
-use Rattle.trace_top.specs.declared.settings.Setting.TheVariants.{Order, Arenas, Chunks, Handles, Workers, Interval}
+use Rattle.trace_top.specs.declared.settings.Setting.TheVariants.{Order, Arenas, Chunks, Handles, Workers, Interval, Generate, Lanes, Commands}
 use Rattle.trace_top.specs.declared.words.Given.{Given}
 use Rattle.trace_top.specs.declared.words.Asked.{Asked}
+use Rattle.trace_top.specs.declared.words.Options.{Options}
+use Rattle.trace_top.specs.declared.words.Origin.{Origin}
 use Rattle.trace_top.specs.Settings.{RowData, is_within, number_for, row_of}
-use Rattle.trace_top.specs.Words.{AreSound, AreWithin, IsInRange, all_chunk_bytes, asked_from, asked_with, before, first_given, given_alone, given_by, givens_in, is_whole, options_for, or_default, with_given}
+use Rattle.trace_top.specs.Words.{AreSound, AreWithin, IsInRange, all_chunk_bytes, asked_from, asked_with, before, first_given, given_alone, given_by, givens_in, is_whole, options_for, options_from, or_default, origin_for, with_given}
 
 -- what is asked for with all words that are left
 abbrev pub asked_in : Asked → List (List ℕ) → Option Asked
@@ -104,11 +106,12 @@ asked_next asked words g rest first =
 
 -- ---- numbers in their range
 
-pub some_none : (n : ℕ) → None ≡ Some n → ⊥
+some_none : {X : Type 0} (n : X) → None ≡ Some n → ⊥
 some_none n e = cc
 
 -- what passed two tests
-pub kept : (a b : Bool) (m n : ℕ) → (if a && b then Some m else None) ≡ Some n → (a ≡ true) × (b ≡ true) × (m ≡ n)
+pub kept : {X : Type 0} (a b : Bool) (m n : X) → (if a && b then Some m else None) ≡ Some n
+    → (a ≡ true) × (b ≡ true) × (m ≡ n)
 kept true true m n e = (refl, refl, cc)
 kept true false m n e = absurd (some_none n e)
 kept false b m n e = absurd (some_none n e)
@@ -132,24 +135,19 @@ default_in_range Chunks = record { least = omega arith; greatest = omega arith }
 default_in_range Handles = record { least = omega arith; greatest = omega arith }
 default_in_range Workers = record { least = omega arith; greatest = omega arith }
 default_in_range Interval = record { least = omega arith; greatest = omega arith }
+default_in_range Generate = record { least = omega arith; greatest = omega arith }
+default_in_range Lanes = record { least = omega arith; greatest = omega arith }
+default_in_range Commands = record { least = omega arith; greatest = omega arith }
 
 -- and so is what stands in the options
-pub or_in_range : (s : Setting) (asked : Option ℕ) → IfSome asked (IsInRange s) → IsInRange s (or_default s asked)
+or_in_range : (s : Setting) (asked : Option ℕ) → IfSome asked (IsInRange s) → IsInRange s (or_default s asked)
 or_in_range s None h = default_in_range s
 or_in_range s (Some n) h = h
 
--- no number is greater than the greatest interval
-pub greatest_of_all : (s : Setting) → (row_of s).greatest ≤ 65536
-greatest_of_all Order = omega arith
-greatest_of_all Arenas = omega arith
-greatest_of_all Chunks = omega arith
-greatest_of_all Handles = omega arith
-greatest_of_all Workers = omega arith
-greatest_of_all Interval = omega arith
-
 -- options with all numbers in their ranges, and all chunks within their bound
-pub sound : (a : Asked) → AreWithin a → all_chunk_bytes (options_for a) ≤ 536870912 → AreSound (options_for a)
-sound a h memory lanes some few =
+sound : (a : Asked) (origin : Origin) → AreWithin a → all_chunk_bytes (options_from a origin) ≤ 536870912
+    → AreSound (options_from a origin)
+sound a origin h memory lanes some few =
     let order = or_in_range Order a.order h.order in
     let arenas = or_in_range Arenas a.arenas h.arenas in
     let chunks = or_in_range Chunks a.chunks h.chunks in
@@ -170,3 +168,14 @@ sound a h memory lanes some few =
       interval_least = interval.least;
       interval_most = interval.greatest;
     }
+
+-- options that are asked for, with all chunks within their bound
+pub sound_options : (a : Asked) (o : Options) → AreWithin a → Some o ≡ options_for a → all_chunk_bytes o ≤ 536870912
+    → AreSound o
+sound_options a o h e memory =
+    elim (origin_for a) as (λ (origin : Option Origin). Some o ≡ option_map (options_from a) origin → AreSound o) [
+      | None ↦ λ f. absurd (some_none o (sym f))
+      | Some origin ↦ λ f.
+          let same : o ≡ options_from a origin = cc in
+          subst AreSound (sym same) (sound a origin h (subst (λ (p : Options). all_chunk_bytes p ≤ 536870912) same memory))
+    ] e

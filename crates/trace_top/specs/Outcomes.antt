@@ -4,10 +4,15 @@ use Rattle.std.specs.Io.KnownBytes.{Appends, Keeps}
 use Rattle.pool_law.specs.declared.command.Command.{Command}
 use Rattle.pool_law.specs.declared.run.Run.{Run}
 use Rattle.pool_law.specs.Text.{text_of}
+use Rattle.run_report.specs.Summary.{summary_of}
 use Rattle.lane_core.specs.Played.{IsPlayed}
+use Rattle.trace_make.specs.Generated.{generated}
 use Rattle.trace_top.specs.Playable.{reading_of}
 use Rattle.trace_text.specs.declared.TraceNo.{TraceNo}
+use Rattle.trace_top.specs.declared.words.Generation.{Generation}
 use Rattle.trace_top.specs.declared.words.Options.{Options}
+use Rattle.trace_top.specs.declared.words.Origin.{Origin}
+use Rattle.trace_top.specs.declared.words.Origin.TheVariants.{Source, Generated}
 use Rattle.trace_top.specs.declared.answer.Status.{Status}
 use Rattle.trace_top.specs.declared.answer.Status.TheVariants.{Whole, Leaks, Words, Trace, ReadFault, WriteFault, Memory}
 use Rattle.trace_top.specs.declared.answer.Outcome.{Outcome}
@@ -79,28 +84,40 @@ pub record HasRun (o : Outcome) (options : Options)
   pub shape : played.shape ≡ shape_of options (length lanes)
   pub played_is : IsPlayed played
 
--- what was written is the run's text, with its history or without
-pub record IsWritten (run : Run) (history : Bool) (out : SinkSpan) : Type 0 where
-  pub text : Appends out.got out.got_then (text_of run history)
+-- what is to be written of a run: its text, with its history or without; of a generated trace the
+-- run's summary
+abbrev pub text_from : Origin → Bool → Run → List ℕ
+text_from Source history run = text_of run history
+text_from (Generated g) history run = summary_of run g.start
+
+-- what is to be written of a run with these options
+abbrev pub text_for : Options → Run → List ℕ
+text_for options run = text_from options.origin options.history run
+
+-- what was written is all that is to be written of the run
+pub record IsWritten (options : Options) (run : Run) (out : SinkSpan) : Type 0 where
+  pub text : Appends out.got out.got_then (text_for options run)
   pub faults : out.faults_then ≡ out.faults
 
--- the sink failed, or took nothing of a piece that isn't empty, and got a front of the run's text
-pub record IsCutOff (run : Run) (history : Bool) (out : SinkSpan) : Type 0 where
-  pub front : TakesSome out.got out.got_then (text_of run history)
+-- the sink failed, or took nothing of a piece that isn't empty, and got a front of what is to be
+-- written of the run
+pub record IsCutOff (options : Options) (run : Run) (out : SinkSpan) : Type 0 where
+  pub front : TakesSome out.got out.got_then (text_for options run)
   pub cause : Rose out.faults out.faults_then ⊎ Rose out.empty out.empty_then
 
--- ---- What each status says: of an accepted trace, of a text, of words with a form, of all words.
+-- ---- What each status says: of an accepted trace, of a text, of a source that is to be read, of
+-- words with a form, of all words.
 
 -- an accepted trace was run and written, or cut off, or there was no memory
 unfoldable pub ExplainsRun : Status → Outcome → Options → List (List Command) → SinkSpan → Type 0
 ExplainsRun Whole o options lanes out =
     (run : Run)
-    × (HasRun o options lanes run × IsWritten run options.history out × (run.leaks ≡ []))
+    × (HasRun o options lanes run × IsWritten options run out × (run.leaks ≡ []))
 ExplainsRun Leaks o options lanes out =
     (run : Run)
-    × (HasRun o options lanes run × IsWritten run options.history out × (run.leaks ≢ []))
+    × (HasRun o options lanes run × IsWritten options run out × (run.leaks ≢ []))
 ExplainsRun WriteFault o options lanes out =
-    (run : Run) × (HasRun o options lanes run × IsCutOff run options.history out)
+    (run : Run) × (HasRun o options lanes run × IsCutOff options run out)
 ExplainsRun Memory o options lanes out = IsBare o × IsUnwritten out
 ExplainsRun _ o options lanes out = ⊥
 
@@ -114,14 +131,30 @@ ExplainsText s o options text out =
     × ((reading_of text ≡ Ok lanes) × ExplainsRun s o options lanes out)
 
 -- the source failed, or a text was read
-unfoldable pub ExplainsOptions : Status → Outcome → Options → SourceSpan → SinkSpan → Type 0
-ExplainsOptions ReadFault o options src out =
+unfoldable pub ExplainsSource : Status → Outcome → Options → SourceSpan → SinkSpan → Type 0
+ExplainsSource ReadFault o options src out =
     IsBare o × IsUnwritten out × Rose src.faults src.faults_then
-ExplainsOptions Memory o options src out =
+ExplainsSource Memory o options src out =
     IsBare o × IsUnwritten out × (src.faults_then ≡ src.faults)
-ExplainsOptions s o options src out =
+ExplainsSource s o options src out =
     (text : List ℕ) × (ReadsText src.left src.left_then text
     × (src.faults_then ≡ src.faults) × ExplainsText s o options text out)
+
+-- nothing was read, and the trace that is generated was run
+abbrev pub ExplainsGenerated :
+    Status → Outcome → Options → Generation → SourceSpan → SinkSpan → Type 0
+ExplainsGenerated s o options g src out =
+    IsUnread src × ExplainsRun s o options (generated g.start g.lanes g.commands) out
+
+-- the trace is that of the source, or is generated
+abbrev pub ExplainsOrigin :
+    Origin → Status → Outcome → Options → SourceSpan → SinkSpan → Type 0
+ExplainsOrigin Source s o options src out = ExplainsSource s o options src out
+ExplainsOrigin (Generated g) s o options src out = ExplainsGenerated s o options g src out
+
+-- the trace comes from where the options say
+unfoldable pub ExplainsOptions : Status → Outcome → Options → SourceSpan → SinkSpan → Type 0
+ExplainsOptions s o options src out = ExplainsOrigin options.origin s o options src out
 
 -- the words have no form, or they are options
 unfoldable pub Explains : Status → Outcome → List (List ℕ) → SourceSpan → SinkSpan → Type 0
@@ -132,9 +165,16 @@ Explains s o words src out =
 
 -- ---- When the run must succeed, and when it must refuse.
 
--- the words have a form, and the source told all of this text and had no fault
+-- the words are options, and the trace comes from here
+pub record HaveOrigin (words : List (List ℕ)) (origin : Origin) : Type 0 where
+  pub options : Options
+  pub formed : options_of words ≡ Some options
+  pub origin_is : options.origin ≡ origin
+
+-- the words have a form without a generated trace, and the source told all of this text and had no
+-- fault
 pub record IsRead (words : List (List ℕ)) (src : SourceSpan) (text : List ℕ) : Type 0 where
-  pub formed : options_of words ≡ None → ⊥
+  pub words_are : HaveOrigin words Source
   pub told : src.left ≡ Some text
   pub faults : Rose src.faults src.faults_then → ⊥
 
@@ -143,12 +183,17 @@ pub record IsTaken (out : SinkSpan) : Type 0 where
   pub faults : Rose out.faults out.faults_then → ⊥
   pub empty : Rose out.empty out.empty_then → ⊥
 
--- an accepted trace is run and written, or there was no memory
-unfoldable pub Completes : Status → List (List ℕ) → SourceSpan → SinkSpan → Type 0
-Completes s words src out =
-    (text : List ℕ) (lanes : List (List Command))
-    → IsRead words src text → reading_of text ≡ Ok lanes
-    → IsTaken out → (s ≡ Whole) ⊎ ((s ≡ Leaks) ⊎ (s ≡ Memory))
+-- a run was written, or there was no memory
+abbrev pub IsDone : Status → Type 0
+IsDone s = (s ≡ Whole) ⊎ ((s ≡ Leaks) ⊎ (s ≡ Memory))
+
+-- an accepted trace is run and written, and so is a generated one, or there was no memory
+pub record Completes (s : Status) (words : List (List ℕ)) (src : SourceSpan) (out : SinkSpan) :
+    Type 0 where
+  pub read : (text : List ℕ) (lanes : List (List Command)) →
+      IsRead words src text → reading_of text ≡ Ok lanes → IsTaken out → IsDone s
+  pub generated : (g : Generation) →
+      HaveOrigin words (Generated g) → IsTaken out → IsDone s
 
 -- a text that is no trace is refused as such, or there was no memory
 unfoldable pub Refuses : Status → Option TraceNo → List (List ℕ) → SourceSpan → Type 0

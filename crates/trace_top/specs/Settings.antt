@@ -7,7 +7,7 @@ use Rattle.std.specs.Str.Parse.{digits_value}
 use Rattle.trace_top.specs.declared.settings.Setting.{Setting}
 use Rattle.pool_law.specs.declared.run.Level.{Level}
 use Rattle.pool_law.specs.declared.run.Level.TheVariants.{Disabled, Simple, Advanced, Paranoid}
-use Rattle.trace_top.specs.declared.settings.Setting.TheVariants.{Order, Arenas, Chunks, Handles, Workers, Interval}
+use Rattle.trace_top.specs.declared.settings.Setting.TheVariants.{Order, Arenas, Chunks, Handles, Workers, Interval, Generate, Lanes, Commands}
 
 -- a row: the word of an option with a number, the least and the greatest number for it, and the
 -- number without it
@@ -21,7 +21,7 @@ abbrev pub row : List ℕ → ℕ → ℕ → ℕ → RowData
 row name least greatest default =
     record { name = name; least = least; greatest = greatest; default = default }
 
--- the table
+-- the table; without `--generate` nothing is generated, so its default is never used
 abbrev pub row_of : Setting → RowData
 row_of Order = row (codes "--order") 3 11 9
 row_of Arenas = row (codes "--arenas") 1 8 2
@@ -29,10 +29,23 @@ row_of Chunks = row (codes "--chunks") 1 8 4
 row_of Handles = row (codes "--handles") 1 4096 1024
 row_of Workers = row (codes "--workers") 1 16 4
 row_of Interval = row (codes "--interval") 1 65536 128
+row_of Generate = row (codes "--generate") 0 18446744073709551615 0
+row_of Lanes = row (codes "--lanes") 1 16 4
+row_of Commands = row (codes "--commands") 8 65536 65536
 
 -- all options with a number, in the order of the table
 abbrev pub settings : List Setting
-settings = Order ∷ Arenas ∷ Chunks ∷ Handles ∷ Workers ∷ Interval ∷ []
+settings =
+    Order
+    ∷ Arenas
+    ∷ Chunks
+    ∷ Handles
+    ∷ Workers
+    ∷ Interval
+    ∷ Generate
+    ∷ Lanes
+    ∷ Commands
+    ∷ []
 
 -- the option with a number that a word names
 unfoldable pub named : List ℕ → Option Setting

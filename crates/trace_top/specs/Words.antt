@@ -1,17 +1,21 @@
 -- The words of the command line.
-use Rattle.std.specs.Prelude.{⊤, ℕ, ◌*◌, ◌≤◌, nat_le, nat_lt, ◌==◌, ◌||◌, Bool, true, false, if◌then◌else◌, List, [], ◌∷◌, length, Option, Some, None, IfSome, is_some, unwrap_or, option_map, option_and_then}
+use Rattle.std.specs.Prelude.{⊤, ℕ, ◌*◌, ◌≤◌, nat_le, nat_lt, ◌==◌, ◌||◌, ◌&&◌, Bool, true, false, not, if◌then◌else◌, List, [], ◌∷◌, length, Option, Some, None, IfSome, is_some, is_none, unwrap_or, option_map, option_and_then}
 use Rattle.std.specs.List.{position_or_len, before_first, after_first}
+use Rattle.std.specs.Option.{option_map_or}
 use Rattle.std.specs.Str.{bytes_eq}
 use Rattle.size_classes.specs.Sizes.{chunk_bytes, of_order}
 use Rattle.pool_law.specs.Limits.{IsShape}
 use Rattle.pool_law.specs.declared.run.Shape.{Shape}
 use Rattle.pool_law.specs.declared.run.Level.TheVariants as levels
 use Rattle.trace_top.specs.declared.settings.Setting.{Setting}
-use Rattle.trace_top.specs.declared.settings.Setting.TheVariants.{Order, Arenas, Chunks, Handles, Workers, Interval}
+use Rattle.trace_top.specs.declared.settings.Setting.TheVariants.{Order, Arenas, Chunks, Handles, Workers, Interval, Generate, Lanes, Commands}
 use Rattle.trace_top.specs.declared.words.Given.{Given}
 use Rattle.trace_top.specs.declared.words.Given.TheVariants as givens
 use Rattle.trace_top.specs.declared.words.Asked.{Asked}
+use Rattle.trace_top.specs.declared.words.Generation.{Generation}
 use Rattle.trace_top.specs.declared.words.Options.{Options}
+use Rattle.trace_top.specs.declared.words.Origin.{Origin}
+use Rattle.trace_top.specs.declared.words.Origin.TheVariants.{Source, Generated}
 use Rattle.trace_top.specs.Settings.{history_name, level_name, level_named, named, number_for, row_of}
 
 -- ---- What the words give.
@@ -77,6 +81,9 @@ nothing = record {
   handles = None;
   workers = None;
   interval = None;
+  generate = None;
+  lanes = None;
+  commands = None;
   level = None;
   history = false;
 }
@@ -93,6 +100,9 @@ with_number a Chunks n = unless_before (is_some a.chunks) (record a { chunks = S
 with_number a Handles n = unless_before (is_some a.handles) (record a { handles = Some n })
 with_number a Workers n = unless_before (is_some a.workers) (record a { workers = Some n })
 with_number a Interval n = unless_before (is_some a.interval) (record a { interval = Some n })
+with_number a Generate n = unless_before (is_some a.generate) (record a { generate = Some n })
+with_number a Lanes n = unless_before (is_some a.lanes) (record a { lanes = Some n })
+with_number a Commands n = unless_before (is_some a.commands) (record a { commands = Some n })
 
 -- with one more option
 unfoldable pub asked_with : Asked → Given → Option Asked
@@ -115,9 +125,43 @@ asked_by words = option_and_then (asked_from nothing) (givens_in words)
 abbrev pub or_default : Setting → Option ℕ → ℕ
 or_default s asked = unwrap_or asked (row_of s).default
 
--- the options that are asked for, the others at their defaults
-abbrev pub options_for : Asked → Options
-options_for a = record {
+-- nothing is asked for that speaks of a generated trace alone
+abbrev pub is_for_source : Asked → Bool
+is_for_source a = is_none a.lanes && is_none a.commands
+
+-- nothing is asked for that has no form beside a generated trace
+abbrev pub is_for_generated : Asked → Bool
+is_for_generated a =
+    is_none a.order && is_none a.arenas && is_none a.chunks && is_none a.handles && not a.history
+
+-- what the trace is generated from, where it is from this start
+abbrev pub generation_from : Asked → ℕ → Generation
+generation_from a start = record {
+  start = start;
+  lanes = or_default Lanes a.lanes;
+  commands = or_default Commands a.commands;
+}
+
+-- the commands are enough for a block of eight for each lane
+abbrev pub has_blocks : Generation → Bool
+has_blocks g = nat_le (8 * g.lanes) g.commands
+
+-- the trace is generated from this start
+abbrev pub generated_from : Asked → ℕ → Option Origin
+generated_from a start =
+    if is_for_generated a && has_blocks (generation_from a start)
+    then Some (Generated (generation_from a start))
+    else None
+
+-- where the trace comes from
+abbrev pub origin_for : Asked → Option Origin
+origin_for a =
+    option_map_or (generated_from a) a.generate (if is_for_source a then Some Source else None)
+
+-- the options that are asked for, the others at their defaults, with this origin
+abbrev pub options_from : Asked → Origin → Options
+options_from a origin = record {
+  origin = origin;
   order = or_default Order a.order;
   arenas = or_default Arenas a.arenas;
   chunks = or_default Chunks a.chunks;
@@ -127,6 +171,10 @@ options_for a = record {
   interval = or_default Interval a.interval;
   history = a.history;
 }
+
+-- the options that are asked for, where the trace comes from somewhere
+abbrev pub options_for : Asked → Option Options
+options_for a = option_map (options_from a) (origin_for a)
 
 -- the bytes of all chunks of all arenas
 abbrev pub all_chunk_bytes : Options → ℕ
@@ -139,7 +187,8 @@ within_memory o = if nat_le (all_chunk_bytes o) 536870912 then Some o else None
 -- the options that are given, each at most once
 abbrev pub options_given : List Given → Option Options
 options_given givens =
-    option_and_then (λ asked. within_memory (options_for asked)) (asked_from nothing givens)
+    option_and_then (λ asked. option_and_then within_memory (options_for asked))
+    (asked_from nothing givens)
 
 -- the options that the words are, where they have a form
 unfoldable pub options_of : List (List ℕ) → Option Options
@@ -162,6 +211,18 @@ shape_of o lanes = record {
 -- they ask for a pool that can be made, for each number of lanes
 abbrev pub AreSound : Options → Type 0
 AreSound o = (lanes : ℕ) → 1 ≤ lanes → lanes ≤ 16 → IsShape (shape_of o lanes)
+
+-- a trace can be generated from this
+pub record IsGeneration (g : Generation) : Type 0 where
+  pub lanes_least : 1 ≤ g.lanes
+  pub lanes_most : g.lanes ≤ 16
+  pub commands_least : 8 * g.lanes ≤ g.commands
+  pub commands_most : g.commands ≤ 65536
+
+-- a trace can come from there
+abbrev pub IsOrigin : Origin → Type 0
+IsOrigin Source = ⊤
+IsOrigin (Generated g) = IsGeneration g
 
 -- ---- The same from word to word, for the loop that reads them.
 
@@ -196,3 +257,6 @@ pub record AreWithin (a : Asked) : Type 0 where
   pub handles : IfSome a.handles (IsInRange Handles)
   pub workers : IfSome a.workers (IsInRange Workers)
   pub interval : IfSome a.interval (IsInRange Interval)
+  pub generate : IfSome a.generate (IsInRange Generate)
+  pub lanes : IfSome a.lanes (IsInRange Lanes)
+  pub commands : IfSome a.commands (IsInRange Commands)

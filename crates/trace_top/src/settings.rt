@@ -23,16 +23,25 @@ pub enum Setting {
     Workers,
     /// One root in so many is sampled.
     Interval,
+    /// The trace is generated from this number.
+    Generate,
+    /// The lanes of a generated trace.
+    Lanes,
+    /// The commands that the blocks of a generated trace may have.
+    Commands,
 }
 
 /// All options with a number, in the order of the table.
-const SETTINGS: [Setting; 6] = [
+const SETTINGS: [Setting; 9] = [
     Setting::Order,
     Setting::Arenas,
     Setting::Chunks,
     Setting::Handles,
     Setting::Workers,
     Setting::Interval,
+    Setting::Generate,
+    Setting::Lanes,
+    Setting::Commands,
 ];
 
 /// All levels, in their order.
@@ -115,6 +124,10 @@ impl Setting {
             Setting::Handles => Row::of("--handles", 1, 4096, 1024),
             Setting::Workers => Row::of("--workers", 1, 16, 4),
             Setting::Interval => Row::of("--interval", 1, 65_536, 128),
+            // Without the word nothing is generated, so this default is never used.
+            Setting::Generate => Row::of("--generate", 0, 18_446_744_073_709_551_615, 0),
+            Setting::Lanes => Row::of("--lanes", 1, 16, 4),
+            Setting::Commands => Row::of("--commands", 8, 65_536, 65_536),
         }
     }
 

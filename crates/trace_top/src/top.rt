@@ -1,28 +1,32 @@
-//! The top call, part by part: words, source, trace, run, sink.
-ghost use Rattle.std.specs.Prelude.{◌≡◌, ◌≤◌, ℕ, All, None, Some, false, map, string_bytes, length, IfSome};
+//! The top call, part by part: words, source or generated trace, run, sink.
+ghost use Rattle.std.specs.Prelude.{◌≡◌, ◌≤◌, ℕ, All, None, Some, false, map, string_bytes, length, IfOk, IfSome};
 ghost use Rattle.lane_core.specs.Opened.{IsPlain};
 ghost use Rattle.lane_core.specs.Played.{IsPlayed};
 ghost use Rattle.run_laws.specs.Headline.{Headline};
+ghost use Rattle.trace_make.specs.Generated.{generated};
 ghost use Rattle.trace_text.specs.Lanes.{AreLanes};
-ghost use Rattle.trace_top.specs.Outcomes.{Completes, Explains, ExplainsOptions, ExplainsRun, ExplainsText, Refuses, sink_span, source_span};
-ghost use Rattle.trace_top.specs.Words.{AreSound, options_of, shape_of};
+ghost use Rattle.trace_top.specs.Outcomes.{Completes, Explains, ExplainsOptions, ExplainsRun, ExplainsSource, ExplainsText, Refuses, sink_span, source_span, text_for};
+ghost use Rattle.trace_top.specs.Words.{AreSound, IsGeneration, IsOrigin, options_of, shape_of};
 
 use crate::answer::{Outcome, Status, bare};
 use crate::input::{Input, read_all};
 use crate::output::{Output, write_all};
 use crate::play::play;
 use crate::playable::read_playable;
-use crate::words::{Options, read_words, shape};
+use crate::words::{Generation, Options, Origin, read_words, shape};
 use crate::{Sink, Source};
 use lane_core::{Gate, Played};
-use pool_law::Trace;
-use run_report::text_of;
-use std::alloc::Global;
+use pool_law::{Bytes, Trace};
+use run_report::{summary_of, text_of};
+use std::alloc::{AllocError, Global};
 use std::sync::Wait;
 use std::thread::Threads;
+use trace_make::make;
 use trace_text::TraceNo;
 
-/// Reads the words and then the trace, runs it, and writes the text of the run.
+/// Reads the words and then the trace, runs it, and writes the text of the run. Where the words ask
+/// for a generated trace, it makes that one in place of reading the source, of which it then reads
+/// nothing, and writes the summary of the run.
 ///
 /// The source is read to its end, or to one byte past the longest text and then no further.
 /// The whole text is made before the first write. `Memory` may come in place of any other status
@@ -56,7 +60,7 @@ pub fn run<R: Threads + Wait + Sync, S: Source, K: Sink, G: Gate>(
     ensures refuses { Refuses result.status result.refusal (map string_bytes words.now)
         (source_span S.left S.faults src.old src.new) }
 
-    // A trace is run and written.
+    // A trace is run and written: one that is read, and one that is generated.
     ensures completes { Completes result.status (map string_bytes words.now)
         (source_span S.left S.faults src.old src.new)
         (sink_span K.got K.faults K.empty_takes out.old out.new) }
@@ -85,7 +89,6 @@ fn answer<R: Threads + Wait + Sync, S: Source, K: Sink, G: Gate>(
     }
 }
 
-#[tactic(auto, unfolding(crate::specs::Outcomes::ExplainsOptions))]
 fn with_options<R: Threads + Wait + Sync, S: Source, K: Sink, G: Gate>(
     rt: &R,
     alloc: Global,
@@ -95,8 +98,37 @@ fn with_options<R: Threads + Wait + Sync, S: Source, K: Sink, G: Gate>(
     gate: &G,
 ) -> Outcome
     requires sound { AreSound options.now }
+    requires origin { IsOrigin options.now.origin }
     requires open { (lane line : ℕ) → G.stops gate.now lane line ≡ false }
     ensures { ExplainsOptions result.status result options.now
+        (source_span S.left S.faults src.old src.new)
+        (sink_span K.got K.faults K.empty_takes out.old out.new) }
+{
+    match options.origin {
+        Origin::Source => with_source(rt, alloc, options, src, out, gate),
+        Origin::Generated(generation) => with_generation(
+            rt,
+            alloc,
+            options,
+            &generation,
+            out,
+            gate,
+        ),
+    }
+}
+
+#[tactic(auto, unfolding(crate::specs::Outcomes::ExplainsSource))]
+fn with_source<R: Threads + Wait + Sync, S: Source, K: Sink, G: Gate>(
+    rt: &R,
+    alloc: Global,
+    options: &Options,
+    src: &mut S,
+    out: &mut K,
+    gate: &G,
+) -> Outcome
+    requires sound { AreSound options.now }
+    requires open { (lane line : ℕ) → G.stops gate.now lane line ≡ false }
+    ensures { ExplainsSource result.status result options.now
         (source_span S.left S.faults src.old src.new)
         (sink_span K.got K.faults K.empty_takes out.old out.new) }
 {
@@ -133,6 +165,33 @@ fn with_text<R: Threads + Wait + Sync, K: Sink, G: Gate>(
 }
 
 #[tactic(auto, unfolding(crate::specs::Outcomes::ExplainsRun))]
+fn with_generation<R: Threads + Wait + Sync, K: Sink, G: Gate>(
+    rt: &R,
+    alloc: Global,
+    options: &Options,
+    generation: &Generation,
+    out: &mut K,
+    gate: &G,
+) -> Outcome
+    requires sound { AreSound options.now }
+    requires generation { IsGeneration generation.now }
+    requires open { (lane line : ℕ) → G.stops gate.now lane line ≡ false }
+    ensures { ExplainsRun result.status result options.now
+        (generated generation.now.start generation.now.lanes generation.now.commands)
+        (sink_span K.got K.faults K.empty_takes out.old out.new) }
+{
+    let Generation {
+        start,
+        lanes,
+        commands,
+    } = *generation;
+    match make(alloc, start, lanes, commands) {
+        Ok(trace) => with_trace(rt, alloc, options, trace, out, gate),
+        Err(AllocError) => bare(Status::Memory),
+    }
+}
+
+#[tactic(auto, unfolding(crate::specs::Outcomes::ExplainsRun))]
 fn with_trace<R: Threads + Wait + Sync, K: Sink, G: Gate>(
     rt: &R,
     alloc: Global,
@@ -163,13 +222,24 @@ fn with_run<K: Sink>(alloc: Global, options: &Options, played: Played, out: &mut
     ensures { ExplainsRun result.status result options.now played.trace.lanes
         (sink_span K.got K.faults K.empty_takes out.old out.new) }
 {
-    let Ok(text) = text_of(alloc, played.run(), options.history) else {
+    let Ok(text) = text_for(alloc, options, &played) else {
         return bare(Status::Memory);
     };
     match write_all(out, text.items()) {
         Output::Fault => ended(Status::WriteFault, played),
         Output::Whole if played.run().leaks.items().is_empty() => ended(Status::Whole, played),
         Output::Whole => ended(Status::Leaks, played),
+    }
+}
+
+// What is to be written of a run: its text, or its summary where its trace is generated.
+fn text_for(alloc: Global, options: &Options, played: &Played) -> Result<Bytes, AllocError>
+    ensures { IfOk result (λ bytes. bytes ≡ text_for options.now played.now) }
+{
+    let run = played.run();
+    match options.origin {
+        Origin::Source => text_of(alloc, run, options.history),
+        Origin::Generated(generation) => summary_of(alloc, run, generation.start),
     }
 }
 

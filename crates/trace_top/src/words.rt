@@ -1,7 +1,8 @@
 //! The words of the command line.
 ghost use Rattle.std.specs.Prelude.{◌≡◌, ◌≤◌, ◌<◌, true, length, map, string_bytes, IfSome, option_map};
 ghost use Rattle.pool_law.specs.Limits.{IsShape};
-ghost use Rattle.trace_top.specs.Words.{AreSound, AreWithin, IsInRange, IsWithin, all_chunk_bytes, asked_by, first_given, given_alone, given_by, is_whole, level_given, number_given, options_of, or_default, shape_of};
+ghost use Rattle.trace_top.specs.Settings.{row_of};
+ghost use Rattle.trace_top.specs.Words.{AreSound, AreWithin, IsInRange, IsOrigin, IsWithin, all_chunk_bytes, asked_by, first_given, given_alone, given_by, is_whole, level_given, number_given, options_of, or_default, shape_of};
 
 use crate::settings::{Setting, level_named, named};
 use pool_law::{Level, Shape};
@@ -12,9 +13,31 @@ const ALL_CHUNKS_MOST: u64 = 536_870_912;
 // The bytes of a page.
 const PAGE_BYTES: u64 = 8192;
 
+// The commands of a block of a generated trace, of which each lane has one at least.
+const BLOCK_LEN: u32 = 8;
+
+/// Where the trace comes from.
+#[derive(Clone, Copy)]
+pub enum Origin {
+    /// It is read from the source.
+    Source,
+    /// It is made from a number, and the source isn't read.
+    Generated(Generation),
+}
+
+/// What a generated trace is made from.
+#[derive(Clone, Copy)]
+pub struct Generation {
+    pub start: u64,
+    pub lanes: u32,
+    /// The most commands of all lanes together.
+    pub commands: u32,
+}
+
 /// What the words ask for.
 #[derive(Clone, Copy)]
 pub struct Options {
+    pub origin: Origin,
     /// A chunk has `2^order` pages.
     pub order: u32,
     pub arenas: u32,
@@ -52,13 +75,16 @@ pub struct Asked {
     pub handles: Option<u64>,
     pub workers: Option<u64>,
     pub interval: Option<u64>,
+    pub generate: Option<u64>,
+    pub lanes: Option<u64>,
+    pub commands: Option<u64>,
     pub level: Option<Level>,
     pub history: bool,
 }
 
 impl Asked {
     ghost use Rattle.std.specs.Prelude.{◌≡◌, IfSome};
-    ghost use Rattle.trace_top.specs.Words.{AreWithin, IsInRange, IsWithin, asked_with, nothing, options_for, with_number};
+    ghost use Rattle.trace_top.specs.Words.{AreWithin, IsInRange, IsWithin, asked_with, generated_from, is_for_generated, is_for_source, nothing, options_for, options_from, origin_for, with_number};
 
     // Nothing is asked for.
     fn nothing() -> Asked
@@ -71,6 +97,9 @@ impl Asked {
             handles: None,
             workers: None,
             interval: None,
+            generate: None,
+            lanes: None,
+            commands: None,
             level: None,
             history: false,
         }
@@ -130,16 +159,39 @@ impl Asked {
                 interval: Some(number),
                 ..self
             }),
+            Setting::Generate if self.generate.is_none() => Some(Asked {
+                generate: Some(number),
+                ..self
+            }),
+            Setting::Lanes if self.lanes.is_none() => Some(Asked {
+                lanes: Some(number),
+                ..self
+            }),
+            Setting::Commands if self.commands.is_none() => Some(Asked {
+                commands: Some(number),
+                ..self
+            }),
             _ => None,
         }
     }
 
-    // The options that are asked for, the others at their defaults.
-    fn options(self) -> Options
+    // The options that are asked for, the others at their defaults; None where two of them have no
+    // form together.
+    fn options(self) -> Option<Options>
         requires { AreWithin self }
         ensures { result ≡ options_for self }
     {
+        let origin = self.origin()?;
+        Some(self.options_from(origin))
+    }
+
+    // The options that are asked for, the others at their defaults, with this origin.
+    fn options_from(self, origin: Origin) -> Options
+        requires { AreWithin self }
+        ensures { result ≡ options_from self origin }
+    {
         Options {
+            origin,
             order: or_default(Setting::Order, self.order),
             arenas: or_default(Setting::Arenas, self.arenas),
             chunks: or_default(Setting::Chunks, self.chunks),
@@ -150,11 +202,59 @@ impl Asked {
             history: self.history,
         }
     }
+
+    // Where the trace comes from; None where two options have no form together.
+    fn origin(self) -> Option<Origin>
+        requires { AreWithin self }
+        ensures { result ≡ origin_for self }
+    {
+        match self.generate {
+            Some(start) => self.generated_from(start),
+            None if self.is_for_source() => Some(Origin::Source),
+            None => None,
+        }
+    }
+
+    // The trace is generated from this start, where all else that is asked for has a form beside it.
+    fn generated_from(self, start: u64) -> Option<Origin>
+        requires { AreWithin self }
+        ensures { result ≡ generated_from self start }
+    {
+        let generation = Generation {
+            start,
+            lanes: or_default(Setting::Lanes, self.lanes),
+            commands: or_default(Setting::Commands, self.commands),
+        };
+        if self.is_for_generated() && BLOCK_LEN * generation.lanes <= generation.commands {
+            Some(Origin::Generated(generation))
+        } else {
+            None
+        }
+    }
+
+    // Whether nothing is asked for that speaks of a generated trace alone.
+    fn is_for_source(self) -> bool
+        ensures { result ≡ is_for_source self }
+    {
+        self.lanes.is_none() && self.commands.is_none()
+    }
+
+    // Whether nothing is asked for that has no form beside a generated trace.
+    fn is_for_generated(self) -> bool
+        ensures { result ≡ is_for_generated self }
+    {
+        self.order.is_none()
+            && self.arenas.is_none()
+            && self.chunks.is_none()
+            && self.handles.is_none()
+            && !self.history
+    }
 }
 
 // The number that is asked for, or the option's default.
 fn or_default(setting: Setting, asked: Option<u64>) -> u32
-    requires { IfSome asked (IsInRange setting) }
+    requires small { (row_of setting).greatest ≤ 65536 }
+    requires range { IfSome asked (IsInRange setting) }
     ensures { result ≡ or_default setting asked }
 {
     asked.unwrap_or(setting.row().default()) as u32
@@ -250,8 +350,9 @@ fn asked_by(words: &[String]) -> Option<Asked>
 pub fn read_words(words: &[String]) -> Option<Options>
     ensures value { result ≡ options_of (map string_bytes words.now) }
     ensures sound { IfSome result AreSound }
+    ensures origin { IfSome result (λ options. IsOrigin options.origin) }
 {
-    let options = asked_by(words)?.options();
+    let options = asked_by(words)?.options()?;
     if all_chunk_bytes(&options) <= ALL_CHUNKS_MOST {
         Some(options)
     } else {

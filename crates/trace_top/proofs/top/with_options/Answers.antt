@@ -1,7 +1,9 @@
-use Rattle.trace_top.proofs.Explain.{of_text}
+use Rattle.trace_top.proofs.Explain.{of_generated, of_source, unread}
 use Rattle.trace_top.proofs.top.with_options.Goals as goal
 
-pub returns-in-Text : goal.returns-in-Text
-returns-in-Text g c =
-    let explained = rw c.deref.ensures.value at c.with_text.ensures in
-    of_text _ _ _ c.in-Text.text.items _ _ c.in-Text.ensures.0 c.in-Text.ensures.1 explained
+pub returns-in-Source : goal.returns-in-Source
+returns-in-Source g c = of_source _ _ _ _ _ c.in-Source.is c.with_source.ensures
+
+pub returns-in-Generated : goal.returns-in-Generated
+returns-in-Generated g c =
+    of_generated _ _ _ _ _ _ c.in-Generated.is (unread _ _, c.with_generation.ensures)

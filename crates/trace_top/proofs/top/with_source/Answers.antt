@@ -1,0 +1,7 @@
+use Rattle.trace_top.proofs.Explain.{of_text}
+use Rattle.trace_top.proofs.top.with_source.Goals as goal
+
+pub returns-in-Text : goal.returns-in-Text
+returns-in-Text g c =
+    let explained = rw c.deref.ensures.value at c.with_text.ensures in
+    of_text _ _ _ c.in-Text.text.items _ _ c.in-Text.ensures.0 c.in-Text.ensures.1 explained
