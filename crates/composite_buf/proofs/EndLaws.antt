@@ -15,8 +15,13 @@ pub length-ends_from : (n : ℕ) (ps : List Part) → length (ends_from n ps) �
 length-ends_from n [] = refl
 length-ends_from n (p ∷ ps) = ap suc (length-ends_from (n + p.len) ps)
 
+-- there is an end for each part
+pub same_count : (ends : List ℕ) (ps qs : List Part) → ends ≡ ends_from 0 ps → ps ≡ qs → length ends ≡ length qs
+same_count ends ps qs are same = ap length are ∙ length-ends_from 0 ps ∙ ap length same
+
 -- where one more part ends
-pub ends_from-more : (n : ℕ) (ps : List Part) (p : Part) → ends_from n (ps ++ p ∷ []) ≡ ends_from n ps ++ (n + size_of ps + p.len) ∷ []
+pub ends_from-more : (n : ℕ) (ps : List Part) (p : Part) →
+    ends_from n (ps ++ p ∷ []) ≡ ends_from n ps ++ (n + size_of ps + p.len) ∷ []
 ends_from-more n [] p =
     let here : n + p.len ≡ n + 0 + p.len = omega arith in ap (λ (e : ℕ). e ∷ []) here
 ends_from-more n (q ∷ ps) p =
@@ -28,7 +33,9 @@ ends_from-more n (q ∷ ps) p =
 pub end_at : (n : ℕ) (ps : List Part) (k d : ℕ) → k < length ps →
     get_or (ends_from n ps) k d ≡ n + size_of (take (k + 1) ps)
 end_at n [] k d there = absurd (omega arith)
-end_at n (p ∷ ps) zero d there = let one : size_of (take (0 + 1) (p ∷ ps)) ≡ p.len = size_of_cons p [] ∙ omega arith in omega (arith, one)
+end_at n (p ∷ ps) zero d there =
+    let one : size_of (take (0 + 1) (p ∷ ps)) ≡ p.len = size_of_cons p [] ∙ omega arith in
+    omega (arith, one)
 end_at n (p ∷ ps) (suc k) d there =
     let later : get_or (ends_from (n + p.len) ps) k d ≡ n + p.len + size_of (take (k + 1) ps) =
     end_at (n + p.len) ps k d (omega arith) in
@@ -44,7 +51,8 @@ last_end (p ∷ ps) =
     let es : List ℕ = ends_from 0 (p ∷ ps) in
     let long : length es ≡ length (p ∷ ps) = length-ends_from 0 (p ∷ ps) in
     let all : length es - 1 + 1 ≡ length (p ∷ ps) = omega (arith, long) in
-    let none : 0 + size_of (take (length es - 1 + 1) (p ∷ ps)) ≡ size_of (take (length es - 1 + 1) (p ∷ ps)) = omega arith in
+    let most : ℕ = size_of (take (length es - 1 + 1) (p ∷ ps)) in
+    let none : 0 + most ≡ most = omega arith in
     ap (λ (o : Option ℕ). unwrap_or o 0) (slice_get-get_or es (length es - 1) 0 (omega (arith, long)))
     ∙ end_at 0 (p ∷ ps) (length es - 1) 0 (omega (arith, long))
     ∙ none
@@ -78,7 +86,9 @@ size_of-take-more (q ∷ ps) (suc k) p there =
 pub ends_rise : (ps : List Part) → IsNonDecreasingBy (λ (e : ℕ). e) (ends_from 0 ps)
 ends_rise ps i j d le there =
     let within : j < length ps = omega (arith, length-ends_from 0 ps) in
-    omega (arith, end_at 0 ps i d (omega arith), end_at 0 ps j d within, size_of-take-le ps (i + 1) (j + 1) (omega arith))
+    let rise : size_of (take (i + 1) ps) ≤ size_of (take (j + 1) ps) =
+    size_of-take-le ps (i + 1) (j + 1) (omega arith) in
+    omega (arith, end_at 0 ps i d (omega arith), end_at 0 ps j d within, rise)
 
 -- the next part is within all
 pub next_within : (ps : List Part) (k : ℕ) (d : Part) → k < length ps →
@@ -104,8 +114,9 @@ pub found_at : (ps : List Part) (i k : ℕ) → i < size_of ps → k ≤ length 
 found_at ps i k below most point =
     let starts : size_of (take k ps) ≤ i = starts_within ps i k most (λ j lt. point.0 j 0 (omega arith) lt) in
     let there : k < length ps = fewer starts in
+    let within : k < length (ends_from 0 ps) = omega (arith, there, length-ends_from 0 ps) in
     let end : i < get_or (ends_from 0 ps) k 0 =
-    leb-false (get_or (ends_from 0 ps) k 0) i (point.1 k 0 (omega arith) (omega (arith, there, length-ends_from 0 ps))) in
+    leb-false (get_or (ends_from 0 ps) k 0) i (point.1 k 0 (omega arith) within) in
     record { there = there; starts = starts; ends = omega (arith, end, end_at 0 ps k 0 there) }
   where
     fewer : size_of (take k ps) ≤ i → k < length ps

@@ -10,9 +10,14 @@ use Rattle.composite_buf.specs.Maps.{byte_of, byte_at}
 pub size_of_cons : (p : Part) (ps : List Part) → size_of (p ∷ ps) ≡ p.len + size_of ps
 size_of_cons p ps = sum_by-cons (λ (n : ℕ). n) p.len (map (λ (q : Part). q.len) ps)
 
+pub same_size : (ps qs : List Part) → ps ≡ qs → size_of ps ≡ size_of qs
+same_size ps qs same = ap (λ (rs : List Part). size_of rs) same
+
 pub size_of-append : (xs ys : List Part) → size_of (xs ++ ys) ≡ size_of xs + size_of ys
 size_of-append [] ys = omega arith
-size_of-append (p ∷ xs) ys = let rest : size_of (xs ++ ys) ≡ size_of xs + size_of ys = size_of-append xs ys in omega (arith, rest, size_of_cons p xs, size_of_cons p (xs ++ ys))
+size_of-append (p ∷ xs) ys =
+    let rest : size_of (xs ++ ys) ≡ size_of xs + size_of ys = size_of-append xs ys in
+    omega (arith, rest, size_of_cons p xs, size_of_cons p (xs ++ ys))
 
 -- one part more has its bytes more
 pub size_of_more : (ps : List Part) (p : Part) → size_of (ps ++ p ∷ []) ≡ size_of ps + p.len
@@ -31,7 +36,8 @@ byte_at-behind p ps i behind =
 pub byte_at-past : (ps : List Part) (i : ℕ) → size_of ps ≤ i → byte_at ps i ≡ None
 byte_at-past [] i past = refl
 byte_at-past (p ∷ ps) i past =
-    byte_at-behind p ps i (omega (arith, size_of_cons p ps)) ∙ byte_at-past ps (i - p.len) (omega (arith, size_of_cons p ps))
+    byte_at-behind p ps i (omega (arith, size_of_cons p ps))
+    ∙ byte_at-past ps (i - p.len) (omega (arith, size_of_cons p ps))
 
 -- the map of some parts before others
 pub byte_at-before : (xs ys : List Part) (i : ℕ) → i < size_of xs → byte_at (xs ++ ys) i ≡ byte_at xs i

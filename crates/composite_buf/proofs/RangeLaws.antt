@@ -7,7 +7,7 @@ use Rattle.pool_law.specs.declared.id.RootId.{RootId}
 use Rattle.pool_law.specs.declared.id.Part.{Part}
 use Rattle.pool_law.specs.Composites.{size_of, filled, cut, cuts, ranges}
 use Rattle.composite_buf.specs.Maps.{Fits, byte_of, byte_at}
-use Rattle.composite_buf.proofs.MapLaws.{size_of_cons, byte_at-first, byte_at-behind}
+use Rattle.composite_buf.proofs.MapLaws.{size_of_cons, same_size, byte_at-first, byte_at-behind}
 
 -- an empty part is left out, and any other stays
 filled-empty : (p : Part) (ps : List Part) → (p.len == 0) ≡ true → filled (p ∷ ps) ≡ filled ps
@@ -21,7 +21,8 @@ byte_at-filled : (ps : List Part) (i : ℕ) → byte_at (filled ps) i ≡ byte_a
 byte_at-filled [] i = refl
 byte_at-filled (p ∷ ps) i = go (p.len == 0) refl (byte_at-filled ps i) (byte_at-filled ps (i - p.len))
   where
-    go : (b : Bool) → (p.len == 0) ≡ b → byte_at (filled ps) i ≡ byte_at ps i → byte_at (filled ps) (i - p.len) ≡ byte_at ps (i - p.len) →
+    go : (b : Bool) → (p.len == 0) ≡ b → byte_at (filled ps) i ≡ byte_at ps i →
+        byte_at (filled ps) (i - p.len) ≡ byte_at ps (i - p.len) →
         byte_at (filled (p ∷ ps)) i ≡ byte_at (p ∷ ps) i
     go true is same later =
         let none : p.len ≡ 0 = eqb-true p.len 0 is in
@@ -41,16 +42,18 @@ size_of-filled (p ∷ ps) = go (p.len == 0) refl (size_of-filled ps)
     go : (b : Bool) → (p.len == 0) ≡ b → size_of (filled ps) ≡ size_of ps → size_of (filled (p ∷ ps)) ≡ size_of (p ∷ ps)
     go true is same =
         let none : p.len ≡ 0 = eqb-true p.len 0 is in
-        ap (λ (qs : List Part). size_of qs) (filled-empty p ps is) ∙ same ∙ omega (arith, none, size_of_cons p ps)
+        same_size (filled (p ∷ ps)) (filled ps) (filled-empty p ps is) ∙ same ∙ omega (arith, none, size_of_cons p ps)
     go false is same =
-        ap (λ (qs : List Part). size_of qs) (filled-other p ps is) ∙ omega (arith, same, size_of_cons p (filled ps), size_of_cons p ps)
+        same_size (filled (p ∷ ps)) (p ∷ filled ps) (filled-other p ps is)
+        ∙ omega (arith, same, size_of_cons p (filled ps), size_of_cons p ps)
 
 -- an index inside of a part means a byte of its root
 byte_of-inside : (p : Part) (i : ℕ) → i < p.len → byte_of p i ≡ Some (p.root, p.offset + i)
 byte_of-inside p i inside = ap (λ (b : Bool). if b then Some (p.root, p.offset + i) else None) (lt-ltb i p.len inside)
 
 -- of a part and those behind it, s bytes are skipped and t taken
-module _ (p : Part) (ps rest : List Part) (i n j s t : ℕ) (below : j < n) (skipped : s ≡ min i p.len) (taken : t ≡ min n (p.len - s)) where
+module _ (p : Part) (ps rest : List Part) (i n j s t : ℕ)
+    (below : j < n) (skipped : s ≡ min i p.len) (taken : t ≡ min n (p.len - s)) where
   -- an index that is taken
   within : j < t → i + j < p.len
   within inside = omega (arith, skipped, taken, inside)
@@ -99,7 +102,8 @@ size_of-cuts [] i n there = omega arith
 size_of-cuts (p ∷ ps) i n there =
     let s : ℕ = min i p.len in
     let t : ℕ = min n (p.len - s) in
-    let rest : size_of (cuts ps (i - s) (n - t)) ≡ n - t = size_of-cuts ps (i - s) (n - t) (omega (arith, there, size_of_cons p ps)) in
+    let rest : size_of (cuts ps (i - s) (n - t)) ≡ n - t =
+    size_of-cuts ps (i - s) (n - t) (omega (arith, there, size_of_cons p ps)) in
     size_of_cons (cut p s t) (cuts ps (i - s) (n - t)) ∙ omega (arith, rest)
 
 -- what holds of each part, and then of what is cut of it, holds of each cut
@@ -122,7 +126,8 @@ size_of-ranges ps i n there = size_of-filled (cuts ps i n) ∙ size_of-cuts ps i
 -- none of them is empty
 pub filled-ranges : (ps : List Part) (i n : ℕ) → All (λ (p : Part). 0 < p.len) (ranges ps i n)
 filled-ranges ps i n =
-    All-weaker (λ (p : Part). not (p.len == 0) ≡ true) (λ (p : Part). 0 < p.len) (λ p passes. some p.len passes) (ranges ps i n)
+    All-weaker (λ (p : Part). not (p.len == 0) ≡ true) (λ (p : Part). 0 < p.len)
+    (λ p passes. some p.len passes) (ranges ps i n)
     (filter_passes (λ (p : Part). not (p.len == 0)) (cuts ps i n))
   where
     some : (n : ℕ) → not (n == 0) ≡ true → 0 < n

@@ -1,7 +1,8 @@
 #![tactic(auto)]
 //! Composites: buffers made of parts of several roots, one behind the other.
 //!
-//! A composite has no bytes: it tells of which part an index is, and where in their roots a range lies.
+//! A composite has no bytes: it tells in which part an index is, and where in the roots a range
+//! lies.
 
 pub mod composite;
 #[cfg(test)]

@@ -3,8 +3,9 @@ use Rattle.std.specs.Prelude.{All}
 use Rattle.std.proofs.lemmas.List.{drop_all}
 use Rattle.std.proofs.lemmas.List.Elements.{All-same}
 use Rattle.pool_law.specs.declared.id.Part.{Part}
-use Rattle.pool_law.specs.Composites.{size_of, ranges}
+use Rattle.pool_law.specs.Composites.{ranges}
 use Rattle.composite_buf.specs.Maps.{Fits, byte_at}
+use Rattle.composite_buf.proofs.MapLaws.{same_size}
 use Rattle.composite_buf.proofs.RangeLaws.{byte_at-ranges, size_of-ranges, filled-ranges, Fits-ranges}
 use Rattle.composite_buf.proofs.composite.Composite.ranges.Goals as goal
 
@@ -25,7 +26,8 @@ returns-clause-bytes c = λ j below.
 
 pub returns-clause-size : goal.returns-clause-size
 returns-clause-size c =
-    ap (λ (ps : List Part). size_of ps) (law c) ∙ size_of-ranges c.args.self.now c.args.start c.args.len c.requires
+    same_size c.of.result (ranges c.args.self.now c.args.start c.args.len) (law c)
+    ∙ size_of-ranges c.args.self.now c.args.start c.args.len c.requires
 
 pub returns-clause-filled : goal.returns-clause-filled
 returns-clause-filled c =
@@ -34,6 +36,7 @@ returns-clause-filled c =
 
 pub returns-clause-fits : goal.returns-clause-fits
 returns-clause-fits c =
-    let fits : All Fits c.args.self.now = All-same Fits c.args.self.now c.self.inside.parts.items (sym c.self.view_is) c.self.invariant.fits in
+    let fits : All Fits c.args.self.now =
+    All-same Fits c.args.self.now c.self.inside.parts.items (sym c.self.view_is) c.self.invariant.fits in
     All-same Fits c.of.result (ranges c.args.self.now c.args.start c.args.len) (law c)
     (Fits-ranges c.args.self.now c.args.start c.args.len fits)

@@ -1,12 +1,15 @@
 use Rattle.std.proofs.Common.{◌≡◌, ◌+◌, ◌-◌, List, ℕ, length, take, get_or, arith, ap, ◌∙◌}
 use Rattle.pool_law.specs.declared.id.Part.{Part}
 use Rattle.pool_law.specs.Composites.{size_of}
-use Rattle.composite_buf.proofs.EndLaws.{end_at, length-ends_from}
+use Rattle.composite_buf.proofs.EndLaws.{end_at, same_count}
 use Rattle.composite_buf.proofs.composite.Composite.start_of.Goals as goal
 
 pub index-requires : goal.index-requires
 index-requires c =
-    omega (arith, c.if-k-eq0.false, c.self.inside.ends.ok.0, ap length c.self.invariant.ends, length-ends_from 0 c.self.inside.parts.items, ap length c.self.view_is, c.requires)
+    let count : length c.self.inside.ends.items ≡ length c.args.self.now =
+    same_count c.self.inside.ends.items c.self.inside.parts.items c.args.self.now
+    c.self.invariant.ends c.self.view_is in
+    omega (arith, c.if-k-eq0.false, c.self.inside.ends.ok.0, count, c.requires)
 
 pub returns-else-k-eq0 : goal.returns-else-k-eq0
 returns-else-k-eq0 c =
