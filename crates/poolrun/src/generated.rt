@@ -30,7 +30,7 @@ fn expect<R: Threads + Wait + Sync + AllocGlobal + Abort>(
 
 /// Words, and what is written. The sums are six times the sum of the bytes that are drawn: of each
 /// buffer two of its bytes are read through the slice, and four where it was received.
-const ROWS: [(&str, &str); 3] = [
+const ROWS: [(&str, &str); 4] = [
     (
         "--generate 0 --lanes 1 --commands 8",
         "\
@@ -58,6 +58,15 @@ read 128 sum 13986
 leaks 0
 ",
     ),
+    (
+        "--generate 18446744073709551615 --lanes 16 --commands 1000",
+        "\
+generated 18446744073709551615 lanes 16 blocks 7
+roots 112 live 0 refused 0
+read 896 sum 86034
+leaks 0
+",
+    ),
 ];
 
 #[test]
@@ -80,17 +89,6 @@ leaks 0
         expect(&rt, words, want)?;
     }
     Ok(())
-}
-
-#[test]
-fn takes_the_greatest_start(rt: HostRuntime) -> Result<(), Fail> {
-    let want = "\
-generated 18446744073709551615 lanes 16 blocks 512
-roots 8192 live 0 refused 0
-read 65536 sum 6281088
-leaks 0
-";
-    expect(&rt, "--generate 18446744073709551615 --lanes 16", want)
 }
 
 /// Words without a form, one row each.
@@ -116,7 +114,7 @@ const NO_FORM: &str = "\
 ";
 
 #[test]
-fn refuses_words_that_ask_for_too_much(rt: HostRuntime) -> Result<(), Fail> {
+fn refuses_words_without_a_form(rt: HostRuntime) -> Result<(), Fail> {
     for words in NO_FORM.lines() {
         let mut source = SafeSource::new(rt.alloc(), SMALLEST.as_bytes())?;
         let mut sink = SafeSink::new(rt.alloc(), 1000, 1000)?;

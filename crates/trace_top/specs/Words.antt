@@ -146,14 +146,14 @@ generation_from a start = record {
 abbrev pub has_blocks : Generation → Bool
 has_blocks g = nat_le (8 * g.lanes) g.commands
 
--- the trace is generated from this start
+-- the trace is generated from this start; none where another option has no form beside that
 abbrev pub generated_from : Asked → ℕ → Option Origin
 generated_from a start =
     if is_for_generated a && has_blocks (generation_from a start)
     then Some (Generated (generation_from a start))
     else None
 
--- where the trace comes from
+-- where the trace comes from; none where two of the options have no form together
 abbrev pub origin_for : Asked → Option Origin
 origin_for a =
     option_map_or (generated_from a) a.generate (if is_for_source a then Some Source else None)
@@ -172,7 +172,7 @@ options_from a origin = record {
   history = a.history;
 }
 
--- the options that are asked for, where the trace comes from somewhere
+-- the options that are asked for; none where two of them have no form together
 abbrev pub options_for : Asked → Option Options
 options_for a = option_map (options_from a) (origin_for a)
 
