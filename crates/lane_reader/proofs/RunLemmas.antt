@@ -1,5 +1,5 @@
 -- The commands of a lane, one after another.
-use Rattle.std.proofs.Common.{◌≡◌, ℕ, zero, suc, ◌+◌, ◌-◌, ◌<◌, ◌≤◌, List, [], ◌∷◌, ◌++◌, length, take, drop, get_or, Bool, true, false, refl, sym, ap, arith, ◌∙◌, drop-cons, subst₂}
+use Rattle.std.proofs.Common.{◌≡◌, ℕ, zero, suc, ◌+◌, ◌<◌, ◌≤◌, List, [], ◌∷◌, ◌++◌, length, take, drop, get_or, Bool, true, false, refl, sym, ap, arith, ◌∙◌, drop-cons, subst₂}
 use Rattle.std.specs.Prelude.{◌↔◌, nat_le, Option, Some, None, option_and_then, is_some, IsTrue}
 use Rattle.std.specs.List.{All, sum_by}
 use Rattle.std.proofs.lemmas.Bool.{leb-true}

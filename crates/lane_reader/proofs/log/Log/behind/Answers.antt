@@ -1,4 +1,4 @@
-use Rattle.std.proofs.Common.{rules, ◌-◌}
+use Rattle.std.proofs.Common.{rules}
 use Rattle.lane_reader.proofs.PieceLemmas.{entries-rest}
 use Rattle.lane_reader.proofs.log.Log.behind.Goals as goal
 
