@@ -1,7 +1,7 @@
 -- An arena that gives an element.
 use Rattle.std.proofs.Common.{◌≡◌, ℕ, zero, suc, ◌+◌, ◌-◌, ◌*◌, ◌<◌, List, [], ◌∷◌, ◌++◌, length, lt-ltb, Option, Some, None, Bool, true, false, replicate, refl, sym, ap, subst, arith, eqb-true, eq-eqb, ◌∙◌}
 use Rattle.std.specs.Prelude.{slice_get, option_map, option_and_then, if◌then◌else◌, ◌==◌, nat_lt}
-use Rattle.size_classes.specs.Sizes.{Geometry, is_small, pages_of}
+use Rattle.size_classes.specs.Sizes.{Geometry, page_of, is_small, pages_of}
 use Rattle.size_classes.specs.Pages.{Run, Free, Used, pages_in, replaced, run_at}
 use Rattle.size_classes.specs.Elements.{Elements, new_elements, next_element}
 use Rattle.pool_law.specs.declared.id.RegionId.{RegionId}
@@ -146,19 +146,19 @@ module _ (g : Geometry) (number : ℕ) (a b : Arena) (class : ℕ) (region : Reg
 
 module _ (g : Geometry) (a b : Arena) (class : ℕ) (normal : is_small g class ≡ false) where
   pub gives-normal : (place page : ℕ) → GivesSpot (take_run g a (pages_of g class) Whole) a b (Some (place, page)) →
-      GivesSpot (take_class g a class) a b (Some (place, 8192 * page))
+      GivesSpot (take_class g a class) a b (Some (place, page_of g * page))
   gives-normal place page h = rw normal (go (take_run g a (pages_of g class) Whole) h)
     where
       go : (o : Option Spotted) → GivesSpot o a b (Some (place, page)) →
-          GivesSpot (option_map (λ (t : Spotted). (t.0, 8192 * t.1, t.2)) o) a b (Some (place, 8192 * page))
+          GivesSpot (option_map (λ (t : Spotted). (t.0, page_of g * t.1, t.2)) o) a b (Some (place, page_of g * page))
       go None h = absurd (cc h.0)
-      go (Some t) h = (ap (option_map (λ (s : ℕ × ℕ). (s.0, 8192 * s.1))) h.0, h.1)
+      go (Some t) h = (ap (option_map (λ (s : ℕ × ℕ). (s.0, page_of g * s.1))) h.0, h.1)
 
   pub gives-no_normal : GivesSpot (take_run g a (pages_of g class) Whole) a b None → GivesSpot (take_class g a class) a b None
   gives-no_normal h = rw normal (go (take_run g a (pages_of g class) Whole) h)
     where
       go : (o : Option Spotted) → GivesSpot o a b None →
-          GivesSpot (option_map (λ (t : Spotted). (t.0, 8192 * t.1, t.2)) o) a b None
+          GivesSpot (option_map (λ (t : Spotted). (t.0, page_of g * t.1, t.2)) o) a b None
       go None h = h
       go (Some t) h = absurd (cc h.0)
 

@@ -1,9 +1,10 @@
 -- Sizes of classes that are no classes of a chunk.
-use Rattle.std.proofs.Common.{◌≡◌, ◌⊎◌, ℕ, ◌+◌, ◌-◌, ◌*◌, ◌/◌, ◌^◌, ◌<◌, ◌≤◌, Bool, true, false, refl, sym, arith, lit<, inl, inr, ◌∙◌}
+use Rattle.std.proofs.Common.{◌≡◌, ◌⊎◌, ℕ, ◌+◌, ◌-◌, ◌*◌, ◌/◌, ◌^◌, ◌<◌, ◌≤◌, Bool, true, false, refl, sym, arith, lit<, lit≤, inl, inr, ◌∙◌}
 use Rattle.std.specs.Prelude.{nat_lt}
 use Rattle.std.proofs.Math.Nat.{pow-le-pow_right, mul-le-mul_left, mul-le-mul_right}
 use Rattle.std.proofs.lemmas.Bool.{ltb-true, lt-ltb, le-ltb, cases_lt, agree_below_at}
-use Rattle.size_classes.specs.Sizes.{Geometry, size_at, is_small, pages_of, element_count}
+use Rattle.size_classes.specs.Sizes.{Geometry, IsGeometry, IsPage, of_pages, page_shift, class_count, small_count, size_at, is_small, pages_of, element_count}
+use Rattle.size_classes.proofs.Geometries.{by_page, page_shift-is}
 use Rattle.size_classes.proofs.SmallClasses.{small_at, small_below}
 use Rattle.object_steps.specs.Runs.{IsCapped}
 
@@ -24,18 +25,67 @@ size_at-great class more =
     let base = pow-le-pow_right {n = 2} (lit< tt) {i = 33} {j = 6 + (class - 4) / 4} (omega (arith, more)) in
     rw (le-ltb class 4 (omega (arith, more))) (omega (arith, base))
 
-pub small-is : (g : Geometry) (class : ℕ) → nat_lt class 39 ≡ is_small g class
-small-is g class = go (cases_lt class 39) (is_small g class) refl
+-- the small classes are those below a number
+pub small-is : (g : Geometry) → IsPage g.page → (class : ℕ) → nat_lt class (small_count g) ≡ is_small g class
+small-is g h class = go (cases_lt class (small_count g)) (is_small g class) refl
   where
-    go : (class < 39) ⊎ (39 ≤ class) → (b : Bool) → is_small g class ≡ b → nat_lt class 39 ≡ is_small g class
-    go (inl few) b e = lt-ltb class 39 few ∙ sym (small_at g class few)
-    go (inr more) true e = absurd (omega (arith, small_below g class e, more))
-    go (inr more) false e = le-ltb class 39 more ∙ sym e
+    go : (class < small_count g) ⊎ (small_count g ≤ class) → (b : Bool) → is_small g class ≡ b →
+        nat_lt class (small_count g) ≡ is_small g class
+    go (inl few) b e = lt-ltb class (small_count g) few ∙ sym (small_at g h class few)
+    go (inr more) true e = absurd (omega (arith, small_below g h class e, more))
+    go (inr more) false e = le-ltb class (small_count g) more ∙ sym e
 
-pub pages-capped : (g : Geometry) (class : ℕ) → 112 ≤ class → IsCapped (pages_of g class) 131072
-pages-capped g class more = inr (omega (arith, size_at-great class more), lit< tt)
+-- which are at most 47
+pub small-few : (g : Geometry) → IsPage g.page → small_count g ≤ 47
+small-few g h = omega (arith, (page_shift-is g.page h).most)
 
-pub some-elements : (g : Geometry) (class : ℕ) → class < 39 → 0 < element_count g class
-some-elements g class few =
-    ltb-true 0 (element_count g class)
-    (agree_below_at (λ class. nat_lt 0 (element_count g class)) (λ _. true) 39 class refl few)
+-- each of them is a class
+pub small-class : (g : Geometry) → IsGeometry g → (class : ℕ) → is_small g class ≡ true → class < class_count g
+small-class g h class small =
+    omega (arith, small_below g h.page class small, h.least, (page_shift-is g.page h.page).least)
+
+-- a page has at most 2 ^ 15 bytes, and some
+pub page-most : (page : ℕ) → IsPage page → page ≤ 2 ^ 15
+page-most = by_page (λ page. page ≤ 2 ^ 15) (lit≤ tt) (lit≤ tt) (lit≤ tt) (lit≤ tt)
+
+pub page-least : (page : ℕ) → IsPage page → 0 < page
+page-least = by_page (λ page. 0 < page) (lit< tt) (lit< tt) (lit< tt) (lit< tt)
+
+-- the pages of a size are few where it is, and many where it is great
+pub pages-fit : (size page : ℕ) → IsPage page → size ≤ 2 ^ 33 → (size + (page - 1)) / page < 2 ^ 32
+pages-fit size page h few =
+    by_page (λ page. (size + (page - 1)) / page < 2 ^ 32)
+    (omega (arith, few)) (omega (arith, few)) (omega (arith, few)) (omega (arith, few)) page h
+
+pub pages-some : (size page : ℕ) → IsPage page → 0 < size → 0 < (size + (page - 1)) / page
+pages-some size page h some =
+    by_page (λ page. 0 < (size + (page - 1)) / page)
+    (omega (arith, some)) (omega (arith, some)) (omega (arith, some)) (omega (arith, some)) page h
+
+pages-many : (size page : ℕ) → IsPage page → 2 ^ 33 ≤ size → 2 ^ 16 < (size + (page - 1)) / page
+pages-many size page h more =
+    by_page (λ page. 2 ^ 16 < (size + (page - 1)) / page)
+    (omega (arith, more)) (omega (arith, more)) (omega (arith, more)) (omega (arith, more)) page h
+
+pub pages-capped : (g : Geometry) → IsPage g.page → (class : ℕ) → 112 ≤ class → IsCapped (pages_of g class) 131072
+pages-capped g h class more = inr (pages-many (size_at class) g.page h (size_at-great class more), lit< tt)
+
+-- a subpage has elements
+some-below : (order page : ℕ) → IsPage page → (class : ℕ) → class < 4 * page_shift page - 13 →
+    nat_lt 0 (element_count (of_pages order page) class) ≡ true
+some-below order =
+    by_page (λ page. (class : ℕ) → class < 4 * page_shift page - 13 → nat_lt 0 (element_count (of_pages order page) class) ≡ true)
+    (λ class few. agree_below_at (λ class. nat_lt 0 (element_count (of_pages order 4096) class)) (λ _. true) 35 class refl few)
+    (λ class few. agree_below_at (λ class. nat_lt 0 (element_count (of_pages order 8192) class)) (λ _. true) 39 class refl few)
+    (λ class few. agree_below_at (λ class. nat_lt 0 (element_count (of_pages order 16384) class)) (λ _. true) 43 class refl few)
+    (λ class few. agree_below_at (λ class. nat_lt 0 (element_count (of_pages order 32768) class)) (λ _. true) 47 class refl few)
+
+pub some-elements : (g : Geometry) → IsPage g.page → (class : ℕ) → class < small_count g → 0 < element_count g class
+some-elements g h class few = ltb-true 0 (element_count g class) (some-below g.order g.page h class few)
+
+-- few pages have few bytes
+pub bytes-fit : (page pages most : ℕ) → page ≤ 2 ^ 15 → pages ≤ most → page * pages ≤ 2 ^ 15 * most
+bytes-fit page pages most h few =
+    let first = mul-le-mul_right {m = page} {n = 2 ^ 15} pages h in
+    let second = mul-le-mul_left {m = pages} {n = most} (2 ^ 15) few in
+    omega (arith, first, second)

@@ -5,14 +5,13 @@ ghost use Rattle.std.specs.Prelude.{slice_get, slice_set, IfOk, OnOk};
 ghost use Rattle.pool_law.specs.Arenas.{new_arena, chunk_at, front_of, with_front};
 ghost use Rattle.pool_law.specs.Arenas.{without_spot, is_alone};
 ghost use Rattle.pool_law.specs.Arenas.{arena_step, chunk_end, chunk_ends};
-ghost use Rattle.size_classes.specs.Sizes.{Geometry};
 
 mod gives;
 mod takes;
 
 use crate::chunk::Chunk;
 use crate::lists::Lists;
-use crate::sizes::{PAGE, Sizes};
+use crate::sizes::Sizes;
 use crate::subpage_list::SubpageList;
 use crate::takings::Takings;
 use pool_law::{ChunkEnd, Did};
@@ -91,7 +90,7 @@ impl Arena {
         let _ = &self.lists;
         for place in 0..self.chunks.len() {
             if let Some(chunk) = &self.chunks[place] {
-                self.push_end(number, place as u32, chunk, ends)?;
+                self.push_end(sizes, number, place as u32, chunk, ends)?;
             }
         }
         Ok(())
@@ -100,21 +99,22 @@ impl Arena {
     // Puts a chunk behind others, if it is in a list.
     fn push_end(
         &self,
+        sizes: &Sizes,
         number: u32,
         place: u32,
         chunk: &Chunk,
         ends: &mut Vec<ChunkEnd>,
     ) -> Result<(), AllocError>
-        ensures { (g : Geometry) → OnOk result (ends.new.items
-            ≡ ends.old.items ++ chunk_end g number self.now place (Some chunk.now)) }
+        ensures { OnOk result (ends.new.items
+            ≡ ends.old.items ++ chunk_end sizes.now number self.now place (Some chunk.now)) }
     {
         if let Some(list) = self.lists.list_of(place) {
             ends.push(ChunkEnd {
                 arena: number,
                 chunk: place,
                 list,
-                used: PAGE * chunk.used_pages(),
-                free: PAGE * chunk.free_pages(),
+                used: sizes.page() * chunk.used_pages(),
+                free: sizes.page() * chunk.free_pages(),
             })?;
         }
         Ok(())

@@ -4,16 +4,11 @@ ghost use Rattle.std.specs.Prelude.{◌≡◌, ℕ, IfOk};
 ghost use Rattle.pool_law.specs.Limits.{cache_capacity};
 ghost use Rattle.pool_law.specs.Caches.{cache_step, lane_cache_step, is_own, new_cache, refusal_is, trim_quota};
 
-use crate::sizes::SMALL_CLASSES;
 use pool_law::{CacheNo, Did, RegionId};
+use size_classes::{CACHED_CLASSES, NORMAL_CACHE_CAPACITY, SMALL_CACHE_CAPACITY};
 use std::alloc::{AllocError, Global};
 use std::collections::VecDeque;
 use std::marker::Model;
-
-// How many regions a cache of a small class holds, and one of another class.
-const SMALL_CAPACITY: u32 = 256;
-
-const NORMAL_CAPACITY: u32 = 64;
 
 /// The regions of a cache, first in, first out, and what its notes count.
 #[derive(Drop)]
@@ -203,9 +198,9 @@ fn is_own(lane: u32, class: u32, did: &Did) -> bool
 fn capacity_of(class: u32) -> u32
     ensures { result ≡ cache_capacity class }
 {
-    if class < SMALL_CLASSES {
-        SMALL_CAPACITY
+    if class < CACHED_CLASSES - 1 {
+        SMALL_CACHE_CAPACITY
     } else {
-        NORMAL_CAPACITY
+        NORMAL_CACHE_CAPACITY
     }
 }

@@ -15,7 +15,7 @@ ghost use Rattle.object_steps.specs.Runs.{use_of, made_of, AreRuns, HasRoom, IsC
 use crate::elements::Elements;
 use crate::page_runs::{PageRuns, runs_at};
 use crate::run::{Kind, Purpose, Run};
-use crate::sizes::{PAGE, Sizes};
+use crate::sizes::Sizes;
 use std::alloc::{AllocError, Global};
 use std::collections::VecDeque;
 use std::marker::Model;
@@ -64,11 +64,11 @@ impl Chunk {
     pub fn usage(&self, sizes: &Sizes) -> u32
         ensures { result ≡ usage sizes.now self.now }
     {
-        let free = PAGE * self.free_pages();
+        let free = sizes.page() * self.free_pages();
         if free == 0 {
             return 100;
         }
-        let size = PAGE * sizes.chunk_pages();
+        let size = sizes.page() * sizes.chunk_pages();
         let percent = u64::from(free) * 100 / u64::from(size);
         if percent == 0 {
             99

@@ -1,11 +1,11 @@
 //! The size classes of a run, with its page classes as they stand.
 
-ghost use Rattle.std.specs.Prelude.{◌≡◌, ◌==◌, ◌*◌, ◌/◌, ◌^◌, ◌<◌, ◌≤◌, true, IfOk};
-ghost use Rattle.size_classes.specs.Sizes.{Geometry, size_at, is_small, pages_of};
+ghost use Rattle.std.specs.Prelude.{◌≡◌, ◌==◌, ◌*◌, ◌/◌, ◌^◌, ◌<◌, ◌≤◌, true, IfOk, IsTrue};
+ghost use Rattle.size_classes.specs.Sizes.{IsGeometry, size_at, is_small, pages_of};
 ghost use Rattle.size_classes.specs.Sizes.{class_of, page_of, chunk_pages, subpage_pages, element_count};
 ghost use Rattle.object_steps.specs.Runs.{IsCapped};
 ghost use Rattle.size_classes.specs.Sizes.{
-  of_order,
+  of_pages,
   class_count,
   first_sizes,
   whole_pages,
@@ -17,24 +17,17 @@ use size_classes::SizeClasses;
 use std::alloc::{AllocError, Global};
 use std::marker::Model;
 
-// The bytes of a page, and the same as a number of 64 bits.
-pub(crate) const PAGE: u32 = 8192;
-
-pub(crate) const WIDE_PAGE: u64 = 8192;
-
-// The classes whose regions are elements of a subpage: those below this number.
-pub(crate) const SMALL_CLASSES: u32 = 39;
-
 // The classes whose sizes are numbers of 33 bits: those below this number.
 const SIZED_CLASSES: u32 = 112;
 
 // More pages than a chunk has.
 const MORE_PAGES: u32 = 131_072;
 
-/// The size classes of chunks of `2^order` pages.
+/// The size classes of chunks of `2^order` pages of so many bytes.
 #[derive(Drop)]
 pub struct Sizes {
     order: u32,
+    page: u32,
     classes: SizeClasses,
     pages: Vec<u32>,
 }
@@ -52,16 +45,17 @@ impl Model for Sizes {
 }
 
 impl Sizes {
-    /// The classes of chunks of `2^order` pages.
-    pub fn new(alloc: Global, order: u32) -> Result<Sizes, AllocError>
-        requires { (3 ≤ order) × (order ≤ 11) }
-        ensures { IfOk result (λ sizes. sizes ≡ of_order order) }
+    /// The classes of chunks of `2^order` pages of so many bytes.
+    pub fn new(alloc: Global, order: u32, page: u32) -> Result<Sizes, AllocError>
+        requires { IsGeometry (of_pages order page) }
+        ensures { IfOk result (λ sizes. sizes ≡ of_pages order page) }
     {
-        let classes = SizeClasses::new(alloc, order)?;
+        let classes = SizeClasses::new(alloc, order, page)?;
         let sizes = all_sizes(alloc, &classes)?;
-        let pages = whole_pages(alloc, &sizes)?;
+        let pages = whole_pages(alloc, page, &sizes)?;
         Ok(Sizes {
             order,
+            page,
             classes,
             pages,
         })
@@ -72,6 +66,22 @@ impl Sizes {
         ensures { result.now ≡ self.now }
     {
         &self.classes
+    }
+
+    /// The bytes of a page.
+    pub fn page(&self) -> u32
+        ensures page { result ≡ page_of self.now }
+        ensures within { (0 < result) × (result ≤ 2 ^ 15) }
+    {
+        self.page
+    }
+
+    /// The bytes of a page, as a number of 64 bits.
+    pub fn wide_page(&self) -> u64
+        ensures page { result ≡ page_of self.now }
+        ensures within { (0 < result) × (result ≤ 2 ^ 15) }
+    {
+        u64::from(self.page)
     }
 
     /// The pages of a chunk.
@@ -97,7 +107,7 @@ impl Sizes {
         ensures count { result ≡ element_count self.now class }
         ensures within { (0 < result) × (result ≤ 2 ^ 16) }
     {
-        PAGE * self.subpage_pages(class) / self.classes.size_of(class)
+        self.page * self.subpage_pages(class) / self.classes.size_of(class)
     }
 
     /// The least class that holds so many bytes.
@@ -112,6 +122,27 @@ impl Sizes {
         ensures { result ≡ class_count self.now }
     {
         self.classes.count()
+    }
+
+    /// Whether regions of a class are elements of a subpage.
+    pub fn is_small(&self, class: u32) -> bool
+        ensures small { result ≡ is_small self.now class }
+        ensures few { IsTrue result → class < 47 }
+    {
+        class < self.classes.small_count()
+    }
+
+    /// The pages of a class that is not small, or so many that no chunk has either.
+    pub fn pages_of(&self, class: u32) -> u32
+        ensures capped { IsCapped (pages_of self.now class) result }
+        ensures some { 0 < result }
+    {
+        if class < SIZED_CLASSES {
+            let page = u64::from(self.page);
+            ((size_of(class) + (page - 1)) / page) as u32
+        } else {
+            MORE_PAGES
+        }
     }
 
     /// The pages of the greatest page class that a run of so many pages holds.
@@ -143,25 +174,6 @@ pub fn has_size(class: u32, len: u32) -> bool
     class < SIZED_CLASSES && u64::from(len) == size_of(class)
 }
 
-/// Whether regions of a class are elements of a subpage.
-pub fn is_small(class: u32) -> bool
-    ensures { (g : Geometry) → result ≡ is_small g class }
-{
-    class < SMALL_CLASSES
-}
-
-/// The pages of a class that is not small, or so many that no chunk has either.
-pub fn pages_of(class: u32) -> u32
-    ensures capped { (g : Geometry) → IsCapped (pages_of g class) result }
-    ensures some { 0 < result }
-{
-    if class < SIZED_CLASSES {
-        ((size_of(class) + WIDE_PAGE - 1) / WIDE_PAGE) as u32
-    } else {
-        MORE_PAGES
-    }
-}
-
 // The sizes of all classes.
 fn all_sizes(alloc: Global, classes: &SizeClasses) -> Result<Vec<u32>, AllocError>
     ensures { IfOk result (λ sizes. sizes.items ≡ first_sizes (class_count classes.now)) }
@@ -174,13 +186,14 @@ fn all_sizes(alloc: Global, classes: &SizeClasses) -> Result<Vec<u32>, AllocErro
 }
 
 // Those of the sizes that are whole pages, in pages.
-fn whole_pages(alloc: Global, sizes: &[u32]) -> Result<Vec<u32>, AllocError>
-    ensures { IfOk result (λ pages. pages.items ≡ whole_pages 8192 sizes.now) }
+fn whole_pages(alloc: Global, page: u32, sizes: &[u32]) -> Result<Vec<u32>, AllocError>
+    requires { 0 < page }
+    ensures { IfOk result (λ pages. pages.items ≡ whole_pages page sizes.now) }
 {
     sizes
         .iter()
-        .filter(|size| **size % PAGE == 0)
-        .map(|size| *size / PAGE)
+        .filter(|size| **size % page == 0)
+        .map(|size| *size / page)
         .collect(alloc)
 }
 

@@ -7,6 +7,7 @@ use crate::cache::Cache;
 use crate::place::RootPlace;
 use crate::sizes::Sizes;
 use pool_law::{Did, Place, RegionId, RootId};
+use size_classes::DEFAULT_PAGE;
 use std::alloc::{AllocError, Global};
 use std::test::*;
 
@@ -28,7 +29,7 @@ fn region(offset: u32, taking: u64) -> RegionId {
 
 // Whether an arena at first may give these regions of a class, one after another.
 fn may_take(alloc: Global, regions: &[RegionId]) -> Result<bool, AllocError> {
-    let sizes = Sizes::new(alloc, 9)?;
+    let sizes = Sizes::new(alloc, 9, DEFAULT_PAGE)?;
     let mut arena = Arena::new(alloc, &sizes, 8)?;
     for region in regions {
         let did = Did::Take {

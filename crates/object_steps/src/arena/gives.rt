@@ -13,7 +13,7 @@ use crate::arena::Arena;
 use crate::arena::takes::is_full_at;
 use crate::chunk::Chunk;
 use crate::lists::down_to;
-use crate::sizes::{PAGE, Sizes, WIDE_PAGE, is_small, size_of};
+use crate::sizes::{Sizes, size_of};
 use pool_law::{ListName, RegionId};
 use std::alloc::{AllocError, Global};
 
@@ -71,10 +71,10 @@ impl Arena {
             (self.new ≡ given_place sizes.now self.old class place offset) }
         ensures out { OnOk result (self.new.out ≡ self.old.out) }
     {
-        if is_small(class) {
+        if sizes.is_small(class) {
             self.give_small(alloc, sizes, class, place, offset)
         } else {
-            self.give_back(alloc, sizes, place, offset / PAGE)
+            self.give_back(alloc, sizes, place, offset / sizes.page())
         }
     }
 
@@ -87,13 +87,13 @@ impl Arena {
         place: u32,
         offset: u32,
     ) -> Result<(), AllocError>
-        requires { class < 39 }
+        requires { class < 47 }
         ensures arena { OnOk result
             (self.new ≡ small_given sizes.now self.old class place offset) }
         ensures out { OnOk result (self.new.out ≡ self.old.out) }
     {
-        let page = self.start_of(place, offset / PAGE);
-        let begin = WIDE_PAGE * u64::from(page);
+        let page = self.start_of(place, offset / sizes.page());
+        let begin = sizes.wide_page() * u64::from(page);
         let element = (u64::from(offset).saturating_sub(begin) / size_of(class)) as u32;
         if self.has_elements(class, place, page) {
             self.give_element(alloc, sizes, class, place, page, element)?;

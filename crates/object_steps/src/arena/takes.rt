@@ -1,8 +1,8 @@
 //! What an arena gives.
 
-ghost use Rattle.std.specs.Prelude.{◌≡◌, ◌+◌, ◌≤◌, ◌<◌, ℕ, Some, length, option_map};
+ghost use Rattle.std.specs.Prelude.{◌≡◌, ◌+◌, ◌≤◌, ◌<◌, ℕ, Some, length, option_map, true};
 ghost use Rattle.std.specs.Prelude.{option_and_then, IsTrue, IfOk, IfSome, OnOk};
-ghost use Rattle.size_classes.specs.Sizes.{Geometry};
+ghost use Rattle.size_classes.specs.Sizes.{is_small};
 ghost use Rattle.size_classes.specs.Pages.{Used, free_runs, chosen, run_at};
 ghost use Rattle.size_classes.specs.Elements.{Elements, next_element, with_out, is_full};
 ghost use Rattle.pool_law.specs.declared.note.Did.{Did};
@@ -18,7 +18,7 @@ use crate::arena::Arena;
 use crate::chunk::Chunk;
 use crate::elements::Elements;
 use crate::run::Purpose;
-use crate::sizes::{Sizes, WIDE_PAGE, has_size, is_small, pages_of, size_of};
+use crate::sizes::{Sizes, has_size, size_of};
 use pool_law::{ListName, RegionId};
 use std::alloc::{AllocError, Global};
 
@@ -74,14 +74,14 @@ impl Arena {
     ) -> Result<Option<(u32, u64)>, AllocError>
         ensures { IfOk result (GivesSpot (take_class sizes.now self.old class) self.old self.new) }
     {
-        if is_small(class) {
+        if sizes.is_small(class) {
             return self.take_small(alloc, sizes, class);
         }
-        let pages = pages_of(class);
+        let pages = sizes.pages_of(class);
         let Some((place, page)) = self.take_run(alloc, sizes, pages, Purpose::Whole)? else {
             return Ok(None);
         };
-        Ok(Some((place, WIDE_PAGE * u64::from(page))))
+        Ok(Some((place, sizes.wide_page() * u64::from(page))))
     }
 
     // An element of the front subpage, or of a new one where there is none.
@@ -91,12 +91,13 @@ impl Arena {
         sizes: &Sizes,
         class: u32,
     ) -> Result<Option<(u32, u64)>, AllocError>
-        requires { class < 39 }
+        requires small { is_small sizes.now class ≡ true }
+        requires few { class < 47 }
         ensures { IfOk result (GivesSpot
             (take_small sizes.now self.old class (front_of self.old class)) self.old self.new) }
     {
         if let Some((place, page)) = self.first_subpage(class) {
-            return self.take_element(alloc, class, place, page);
+            return self.take_element(alloc, sizes, class, place, page);
         }
         let elements = Elements::new(alloc, sizes.element_count(class))?;
         let pages = sizes.subpage_pages(class);
@@ -105,20 +106,21 @@ impl Arena {
             return Ok(None);
         };
         self.push_subpage(class, place, page)?;
-        self.take_element(alloc, class, place, page)
+        self.take_element(alloc, sizes, class, place, page)
     }
 
     // The next element of a subpage, where it has one.
     fn take_element(
         &mut self,
         alloc: Global,
+        sizes: &Sizes,
         class: u32,
         place: u32,
         page: u32,
     ) -> Result<Option<(u32, u64)>, AllocError>
-        requires { class < 39 }
-        ensures { (g : Geometry) → IfOk result (GivesSpot
-            (take_element g self.old class (place, page)) self.old self.new) }
+        requires { class < 47 }
+        ensures { IfOk result (GivesSpot
+            (take_element sizes.now self.old class (place, page)) self.old self.new) }
     {
         let Some(element) = self.next_element(class, place, page) else {
             return Ok(None);
@@ -127,7 +129,7 @@ impl Arena {
         if is_full {
             self.drop_subpage(class, place, page);
         }
-        let offset = WIDE_PAGE * u64::from(page) + u64::from(element) * size_of(class);
+        let offset = sizes.wide_page() * u64::from(page) + u64::from(element) * size_of(class);
         Ok(Some((place, offset)))
     }
 

@@ -3,7 +3,6 @@ use Rattle.std.proofs.lemmas.Result.{IfOk-weaker}
 use Rattle.size_classes.specs.Sizes.{subpage_pages, element_count}
 use Rattle.size_classes.specs.Elements.{new_elements}
 use Rattle.size_classes.specs.Pages.{Used, run_at}
-use Rattle.size_classes.proofs.SmallClasses.{small_at}
 use Rattle.pool_law.specs.Chunks.{Use, Sub}
 use Rattle.pool_law.specs.Arenas.{Arena, Spotted, front_of, take_run, chunk_at}
 use Rattle.object_steps.specs.Moves.{GivesSpot}
@@ -11,10 +10,10 @@ use Rattle.object_steps.proofs.ElementLemmas.{gives-new, front-empty}
 use Rattle.object_steps.proofs.arena.Arena.take_small.Goals as goal
 
 pub element_count-requires : goal.element_count-requires
-element_count-requires c = small_at c.args.sizes.now c.args.class c.requires
+element_count-requires c = c.requires.small
 
 pub subpage_pages-pages-requires : goal.subpage_pages-pages-requires
-subpage_pages-pages-requires c = small_at c.args.sizes.now c.args.class c.requires
+subpage_pages-pages-requires c = c.requires.small
 
 pub returns : goal.returns
 returns c =
@@ -44,4 +43,4 @@ returns c =
     (gives-new g old class (subpage_pages g class) (element_count g class) place page c.take_run.new.self c.push_subpage.new.self
     c.take_element-2.new.self r empty some same_run (begins ∙ (λ i. Some (Used (pages_is i) (what_is i))))
     c.in_ok-push_subpage.ensures h))
-    (c.take_element-2.ensures g)
+    c.take_element-2.ensures

@@ -1,9 +1,11 @@
-use Rattle.std.proofs.Common.{◌<◌, arith}
-use Rattle.size_classes.specs.Sizes.{of_order}
-use Rattle.size_classes.proofs.SmallClasses.{small_at, small_below}
+use Rattle.std.proofs.Common.{◌≡◌, ◌∙◌, subst}
+use Rattle.size_classes.specs.Sizes.{IsGeometry}
+use Rattle.object_steps.proofs.SizeLemmas.{small-class}
 use Rattle.object_steps.proofs.sizes.Sizes.subpage_pages.Goals as goal
 
 pub subpage_pages-requires : goal.subpage_pages-requires
 subpage_pages-requires c =
-    let few : c.args.class < 39 = small_below c.args.self.now c.args.class c.requires in
-    rw c.self.invariant.classes (record { small = (omega (arith, few, c.self.invariant.least), small_at (of_order c.self.inside.order) c.args.class few) })
+    let g = c.args.self.now in
+    let h : IsGeometry g = subst IsGeometry c.self.view_is c.self.invariant.geometry in
+    let classes : c.self.inside.classes ≡ g = c.self.invariant.classes ∙ c.self.view_is in
+    rw classes (record { small = (small-class g h c.args.class c.requires, c.requires) })
