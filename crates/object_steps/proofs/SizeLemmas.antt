@@ -1,7 +1,7 @@
 -- Sizes of classes that are no classes of a chunk.
 use Rattle.std.proofs.Common.{◌≡◌, ◌⊎◌, ℕ, ◌+◌, ◌-◌, ◌*◌, ◌/◌, ◌^◌, ◌<◌, ◌≤◌, Bool, true, false, refl, sym, arith, lit<, lit≤, inl, inr, ◌∙◌}
 use Rattle.std.specs.Prelude.{nat_lt}
-use Rattle.std.proofs.Math.Nat.{pow-le-pow_right, mul-le-mul_left, mul-le-mul_right}
+use Rattle.std.proofs.Math.Nat.{pow-le-pow_right, mul-le-mul_left, mul-le-mul_right, div-le_of_le-mul}
 use Rattle.std.proofs.lemmas.Bool.{ltb-true, lt-ltb, le-ltb, cases_lt, agree_below_at}
 use Rattle.size_classes.specs.Sizes.{Geometry, IsGeometry, IsPage, of_pages, page_shift, class_count, small_count, size_at, is_small, pages_of, element_count}
 use Rattle.size_classes.proofs.Geometries.{by_page, page_shift-is}
@@ -89,3 +89,20 @@ bytes-fit page pages most h few =
     let first = mul-le-mul_right {m = page} {n = 2 ^ 15} pages h in
     let second = mul-le-mul_left {m = pages} {n = most} (2 ^ 15) few in
     omega (arith, first, second)
+
+-- so a subpage has few elements
+pub elements-fit : (page pages size : ℕ) → page ≤ 2 ^ 15 → pages ≤ 7 → 16 ≤ size → page * pages / size ≤ 2 ^ 16
+elements-fit page pages size most few more =
+    let bytes = bytes-fit page pages 7 most few in
+    div-le_of_le-mul (2 ^ 16) {m = page * pages} {n = size} (omega (arith, bytes, more))
+
+-- and a small size is small
+pub size-few : (class : ℕ) → class < 47 → size_at class < 2 ^ 18
+size-few class few =
+    ltb-true (size_at class) (2 ^ 18) (agree_below_at (λ class. nat_lt (size_at class) (2 ^ 18)) (λ _. true) 47 class refl few)
+
+-- the bytes of elements of such a size are few
+pub product-fits : (element size : ℕ) → element ≤ 2 ^ 32 → size ≤ 2 ^ 18 → element * size ≤ 2 ^ 50
+product-fits element size few small =
+    let first = mul-le-mul_right {m = element} {n = 2 ^ 32} size few in
+    omega (arith, first, small)
