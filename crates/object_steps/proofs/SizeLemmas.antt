@@ -94,7 +94,7 @@ bytes-fit page pages most h few =
 pub elements-fit : (page pages size : ℕ) → page ≤ 2 ^ 15 → pages ≤ 7 → 16 ≤ size → page * pages / size ≤ 2 ^ 16
 elements-fit page pages size most few more =
     let bytes = bytes-fit page pages 7 most few in
-    div-le_of_le-mul (2 ^ 16) {m = page * pages} {n = size} (omega (arith, bytes, more))
+    div-le_of_le-mul size {m = page * pages} {n = 2 ^ 16} (omega (arith, bytes, more))
 
 -- and a small size is small
 pub size-few : (class : ℕ) → class < 47 → size_at class < 2 ^ 18

@@ -7,4 +7,4 @@ pub returns-clause-within : goal.returns-clause-within
 returns-clause-within c =
     let order = c.args.shape.now.order in
     let power : 2 ^ order ≤ 2 ^ 11 = pow-le-pow_right {n = 2} (lit< tt) {i = order} {j = 11} c.requires.order in
-    rw c.pow.ensures (bytes-fit c.args.shape.now.page (2 ^ order) (2 ^ 11) c.requires.page power)
+    rw (c.from.ensures, c.pow.ensures) (bytes-fit c.args.shape.now.page (2 ^ order) (2 ^ 11) c.requires.page power)
