@@ -1,4 +1,4 @@
-use Rattle.std.proofs.Common.{◌^◌, ◌≤◌, lit<, arith}
+use Rattle.std.proofs.Common.{◌^◌, ◌≤◌, lit<}
 use Rattle.std.proofs.Math.Nat.{pow-le-pow_right}
 use Rattle.object_steps.proofs.SizeLemmas.{bytes-fit}
 use Rattle.object_steps.proofs.limits.chunk_bytes.Goals as goal

@@ -1,5 +1,4 @@
-use Rattle.std.proofs.Common.{◌≡◌, ◌*◌, ◌^◌, ◌≤◌, ◌<◌, arith, rules}
-use Rattle.size_classes.specs.Sizes.{size_at}
+use Rattle.std.proofs.Common.{◌^◌, ◌≤◌, ◌<◌, arith, rules}
 use Rattle.object_steps.proofs.SizeLemmas.{bytes-fit, size-few, product-fits}
 use Rattle.object_steps.proofs.arena.Arena.take_element.Goals as goal
 

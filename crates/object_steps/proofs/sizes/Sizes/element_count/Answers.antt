@@ -21,8 +21,7 @@ returns-clause-within c =
     let pages : c.subpage_pages.result ≡ subpage_pages g c.args.class = c.subpage_pages.ensures.pages in
     let size : c.size_of.result ≡ size_at c.args.class = c.size_of.ensures.value in
     let is : c.self.inside.page * c.subpage_pages.result / c.size_of.result ≡ element_count g c.args.class =
-    λ i. page i * pages i / size i in
-    (
+    λ i. page i * pages i / size i in (
       rw is (some-elements g h.page c.args.class (small_below g h.page c.args.class c.requires)),
       elements-fit c.self.inside.page c.subpage_pages.result c.size_of.result
           (page-most c.self.inside.page c.self.invariant.geometry.page)

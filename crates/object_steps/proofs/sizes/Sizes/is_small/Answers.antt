@@ -1,5 +1,5 @@
 use Rattle.std.proofs.Common.{◌≡◌, ◌∙◌, subst, sym, arith}
-use Rattle.size_classes.specs.Sizes.{Geometry, IsGeometry, small_count}
+use Rattle.size_classes.specs.Sizes.{IsGeometry}
 use Rattle.size_classes.proofs.SmallClasses.{small_below}
 use Rattle.object_steps.proofs.SizeLemmas.{small-is, small-few}
 use Rattle.object_steps.proofs.sizes.Sizes.is_small.Goals as goal
