@@ -70,15 +70,19 @@ pages-many size page h more =
 pub pages-capped : (g : Geometry) → IsPage g.page → (class : ℕ) → 112 ≤ class → IsCapped (pages_of g class) 131072
 pages-capped g h class more = inr (pages-many (size_at class) g.page h (size_at-great class more), lit< tt)
 
--- a subpage has elements
+-- whether a subpage has elements
+abbrev has_some : ℕ → ℕ → ℕ → Bool
+has_some order page class = nat_lt 0 (element_count (of_pages order page) class)
+
+-- those of the small classes have
 some-below : (order page : ℕ) → IsPage page → (class : ℕ) → class < 4 * page_shift page - 13 →
-    nat_lt 0 (element_count (of_pages order page) class) ≡ true
+    has_some order page class ≡ true
 some-below order =
-    by_page (λ page. (class : ℕ) → class < 4 * page_shift page - 13 → nat_lt 0 (element_count (of_pages order page) class) ≡ true)
-    (λ class few. agree_below_at (λ class. nat_lt 0 (element_count (of_pages order 4096) class)) (λ _. true) 35 class refl few)
-    (λ class few. agree_below_at (λ class. nat_lt 0 (element_count (of_pages order 8192) class)) (λ _. true) 39 class refl few)
-    (λ class few. agree_below_at (λ class. nat_lt 0 (element_count (of_pages order 16384) class)) (λ _. true) 43 class refl few)
-    (λ class few. agree_below_at (λ class. nat_lt 0 (element_count (of_pages order 32768) class)) (λ _. true) 47 class refl few)
+    by_page (λ page. (class : ℕ) → class < 4 * page_shift page - 13 → has_some order page class ≡ true)
+    (λ class few. agree_below_at (has_some order 4096) (λ _. true) 35 class refl few)
+    (λ class few. agree_below_at (has_some order 8192) (λ _. true) 39 class refl few)
+    (λ class few. agree_below_at (has_some order 16384) (λ _. true) 43 class refl few)
+    (λ class few. agree_below_at (has_some order 32768) (λ _. true) 47 class refl few)
 
 pub some-elements : (g : Geometry) → IsPage g.page → (class : ℕ) → class < small_count g → 0 < element_count g class
 some-elements g h class few = ltb-true 0 (element_count g class) (some-below g.order g.page h class few)
@@ -99,7 +103,8 @@ elements-fit page pages size most few more =
 -- and a small size is small
 pub size-few : (class : ℕ) → class < 47 → size_at class < 2 ^ 18
 size-few class few =
-    ltb-true (size_at class) (2 ^ 18) (agree_below_at (λ class. nat_lt (size_at class) (2 ^ 18)) (λ _. true) 47 class refl few)
+    ltb-true (size_at class) (2 ^ 18)
+    (agree_below_at (λ class. nat_lt (size_at class) (2 ^ 18)) (λ _. true) 47 class refl few)
 
 -- the bytes of elements of such a size are few
 pub product-fits : (element size : ℕ) → element ≤ 2 ^ 32 → size ≤ 2 ^ 18 → element * size ≤ 2 ^ 50

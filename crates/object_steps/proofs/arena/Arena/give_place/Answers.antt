@@ -8,4 +8,5 @@ pub returns-then-is_small-clause-arena : goal.returns-then-is_small-clause-arena
 returns-then-is_small-clause-arena c = rw (sym c.if-is_small.ensures.small) c.give_small.ensures.arena
 
 pub returns-else-is_small-clause-arena : goal.returns-else-is_small-clause-arena
-returns-else-is_small-clause-arena c = rw (sym c.if-is_small.ensures.small) (rw c.page.ensures.page at c.give_back.ensures.arena)
+returns-else-is_small-clause-arena c =
+    rw (sym c.if-is_small.ensures.small) (rw c.page.ensures.page at c.give_back.ensures.arena)
