@@ -4,7 +4,8 @@ use Rattle.object_steps.proofs.sizes.Sizes.chunk_pages.Goals as goal
 
 pub pow-requires : goal.pow-requires
 pow-requires c =
-    let within = pow-le-pow_right {n = 2} (lit< tt) {i = c.self.inside.order} {j = 11} c.self.invariant.geometry.most in omega (arith, within)
+    let within = pow-le-pow_right {n = 2} (lit< tt) {i = c.self.inside.order} {j = 11} c.self.invariant.geometry.most in
+    omega (arith, within)
 
 pub returns-clause-within : goal.returns-clause-within
 returns-clause-within c =
