@@ -1,7 +1,7 @@
 -- The takings of an arena are numbered in order.
 use Rattle.std.proofs.Common.{◌≡◌, ℕ, ◌+◌, List, [], ◌∷◌, refl, sym, ap, subst, true, Some, None, ◌∙◌}
 use Rattle.std.specs.Prelude.{nat_lt, Option, option_map, option_and_then}
-use Rattle.size_classes.specs.Sizes.{Geometry, class_count}
+use Rattle.size_classes.specs.Sizes.{Geometry, class_count, IsPage}
 use Rattle.pool_law.specs.declared.id.RegionId.{RegionId}
 use Rattle.pool_law.specs.declared.note.Did.{Did}
 use Rattle.pool_law.specs.declared.note.Did.TheVariants.{Take, Full, Give}
@@ -83,5 +83,5 @@ module _ (g : Geometry) (number : ℕ) where
       first None step is rest = absurd (cc is)
       first (Some m) step is rest = join d m (step m refl).1 (rest m (step m refl).0 is)
 
-pub takings-in_order : (shape : Shape) (number : ℕ) → TakingsInOrder shape number
-takings-in_order shape number ds a e = after-numbers (geometry_of shape) number ds (new_arena (geometry_of shape) shape.chunks) a (new-holds (geometry_of shape) number shape.chunks) e
+pub takings-in_order : (shape : Shape) (number : ℕ) → IsPage shape.page → TakingsInOrder shape number
+takings-in_order shape number page ds a e = after-numbers (geometry_of shape) number ds (new_arena (geometry_of shape) shape.chunks) a (new-holds (geometry_of shape) number page shape.chunks) e
