@@ -34,7 +34,8 @@ module _ (g : Geometry) (chunk : Chunk) (sound : IsSound g chunk) where
 
   -- slots in two runs, of which one begins before the other
   pub runs-apart : (p m q n : ℕ) (v w : Use) → Begins p (Used m v) chunk → Begins q (Used n w) chunk → p < q → page_of g * p + page_of g * m ≤ page_of g * q
-  runs-apart p m q n v w b c h = let le : p + m ≤ q = Begins-apart chunk p q (Used m v) (Used n w) b c h in pages-below (page_of g) p m q le
+  runs-apart p m q n v w b c h = let le : p + m ≤ q = Begins-apart chunk p q (Used m v) (Used n w) b c h in
+      pages-below (page_of g) p m q le
 
   -- one page, one run
   pub one-run : (p m n : ℕ) (v w : Use) → Begins p (Used m v) chunk → Begins p (Used n w) chunk → Used m v ≡ Used n w
