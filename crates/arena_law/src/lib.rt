@@ -1,6 +1,6 @@
 #![tactic(auto)]
 //! Laws of one arena's history: the takings that are out together lie apart, and come back before
-//! their bytes are taken again. They hold for each size that a page can have.
+//! their bytes are taken again. These two hold for each size that a page can have.
 //! Each law is the contract of a function that does nothing.
 
 ghost use Rattle.std.specs.Prelude.{◌≡◌, ℕ, List, Some};
@@ -28,6 +28,5 @@ pub fn takings_come_back()
 /// The takings of an arena are numbered from 1 in the order of its history, with no uses, and with
 /// their class's length.
 pub fn takings_in_order()
-    ensures order { (shape : Shape) (number : ℕ) → IsPage shape.page →
-        TakingsInOrder shape number }
+    ensures order { (shape : Shape) (number : ℕ) → TakingsInOrder shape number }
 {}
