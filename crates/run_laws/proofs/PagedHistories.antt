@@ -1,6 +1,7 @@
 -- What the laws need of the histories: they hold, and the page has a size that a page can have.
 use Rattle.std.proofs.Common.{ℕ}
-use Rattle.std.specs.Prelude.{IsTrue, list_all}
+use Rattle.std.specs.Prelude.{IsTrue}
+use Rattle.std.specs.List.{list_all}
 use Rattle.size_classes.specs.Sizes.{IsPage}
 use Rattle.pool_law.specs.declared.note.Object.{Object}
 use Rattle.pool_law.specs.declared.run.Run.{Run}
