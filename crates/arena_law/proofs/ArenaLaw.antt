@@ -1,7 +1,7 @@
 -- Takings of one arena that are out together have no byte in common, after every history.
 use Rattle.std.proofs.Common.{eqb-true, ◌≡◌, inl, ℕ, zero, suc, List, [], ◌∷◌, refl, sym, ap, subst, Bool, true, false, Some, None}
 use Rattle.std.specs.Prelude.{nat_lt, not, ◌&&◌, ◌==◌, slice_get, replicate, Option, unwrap_or, option_and_then}
-use Rattle.size_classes.specs.Sizes.{Geometry, class_count}
+use Rattle.size_classes.specs.Sizes.{Geometry, class_count, IsPage}
 use Rattle.pool_law.specs.declared.id.RegionId.{RegionId}
 use Rattle.pool_law.specs.declared.note.Did.{Did}
 use Rattle.pool_law.specs.declared.note.Did.TheVariants.{Take, Full, Give}
@@ -112,10 +112,10 @@ module _ (g : Geometry) (number : ℕ) where
   no_chunk (suc n) (suc c) = no_chunk n c
 
   -- a new arena has no chunks
-  pub new-holds : (chunks : ℕ) → ArenaHolds g number (new_arena g chunks)
-  new-holds chunks =
+  pub new-holds : IsPage g.page → (chunks : ℕ) → ArenaHolds g number (new_arena g chunks)
+  new-holds page chunks =
       record {
-        sound = λ c. subst (λ x. IsSound g x) (sym (no_chunk chunks c)) (record { none_empty = tt; elements_fit = tt });
+        sound = λ c. subst (λ x. IsSound g x) (sym (no_chunk chunks c)) (record { page = page; none_empty = tt; elements_fit = tt });
         whole = λ c. inl (no_chunk chunks c);
         located = tt;
         elsewhere = tt;
@@ -141,8 +141,8 @@ module _ (g : Geometry) (number : ℕ) where
   )
 
 -- after every history of an arena
-pub takings-apart : (shape : Shape) (number : ℕ) (ds : List Did) (a : Arena) → arena_after shape number ds ≡ Some a → OutApart a
-takings-apart shape number ds a e =
+pub takings-apart : (shape : Shape) (number : ℕ) → IsPage shape.page → (ds : List Did) (a : Arena) → arena_after shape number ds ≡ Some a → OutApart a
+takings-apart shape number page ds a e =
     let g : Geometry = geometry_of shape in
-    let holds : ArenaHolds g number a = after-holds g number ds (new_arena g shape.chunks) a (new-holds g number shape.chunks) e in
+    let holds : ArenaHolds g number a = after-holds g number ds (new_arena g shape.chunks) a (new-holds g number page shape.chunks) e in
     pairs-apart g number a holds.sound a.out holds.located holds.elsewhere

@@ -1,11 +1,12 @@
 -- What an arena keeps under takings.
 use Rattle.std.proofs.Common.{div-add-mod', eqb-true, ⊎_elim, ◌≡◌, ◌≢◌, inl, inr, ℕ, zero, suc, ◌+◌, ◌*◌, ◌/◌, ◌<◌, ◌≤◌, List, [], ◌∷◌, ◌++◌, length, refl, sym, ap, subst, arith, true, false, Some, None, ◌∙◌}
 use Rattle.std.specs.Prelude.{◌⊎◌, slice_get, slice_set, Option, unwrap_or, option_map, option_and_then, replicate, ◌==◌}
-use Rattle.size_classes.specs.Sizes.{Geometry, page_of, chunk_pages, size_at, is_small, pages_of, subpage_pages, element_count}
+use Rattle.size_classes.specs.Sizes.{Geometry, IsPage, page_of, chunk_pages, size_at, is_small, pages_of, subpage_pages, element_count}
 use Rattle.size_classes.specs.Pages.{Run, Free, Used, total_pages, taken_at, replaced, run_at, free_runs, chosen}
 use Rattle.size_classes.specs.Runs.{Begins}
 use Rattle.size_classes.specs.Elements.{Elements, new_elements, next_element, with_out, is_full}
-use Rattle.size_classes.proofs.SmallClasses.{pages_of-whole}
+use Rattle.size_classes.proofs.SmallClasses.{page-some, pages_of-whole}
+use Rattle.std.proofs.Math.Nat.{le-div_iff_mul-le, mul_comm}
 use Rattle.size_classes.proofs.Runs.{Begins-run_at, Begins-one, EachRun-Begins, chosen-free, IfThere, taken_at-new, subpage_pages-least}
 use Rattle.pool_law.specs.declared.id.RegionId.{RegionId}
 use Rattle.pool_law.specs.Chunks.{Chunk, Use, Whole, Sub, new_chunk, RemembersFree}
@@ -139,7 +140,7 @@ opened-holds g number a c holds unused =
     here = chunk_at-same a (opened g a c) c (new_chunk g) refl (slice_get-below a.chunks c None free)
 
     new_sound : IsSound g (new_chunk g)
-    new_sound = record { none_empty = (pow_pos g.order, tt); elements_fit = (tt, tt) }
+    new_sound = record { page = (holds.sound 0).page; none_empty = (pow_pos g.order, tt); elements_fit = (tt, tt) }
 
     sounds : (d : ℕ) → IsSound g (chunk_at (opened g a c) d)
     sounds d =
@@ -366,16 +367,18 @@ module _ (g : Geometry) (number class : ℕ) where
           let last : ClassTaken g number (with_subpage class u) t.2 t.0 t.1 class = take_element-is g number class small (with_subpage class u) mid (u.0, u.1) t is in
           record { holds = last.holds; out = last.out ∙ run.out; takings = last.takings ∙ run.takings; slot = last.slot; unused = subst (λ xs. EachOf (λ s. s.place.chunk ≡ t.0 → s.place.offset ≢ t.1) xs) run.out last.unused }
 
-  pub pages_of-pos : 0 < pages_of g class
-  pages_of-pos = omega (arith, size_at-pos class)
+  pub pages_of-pos : IsPage g.page → 0 < pages_of g class
+  pages_of-pos page =
+      let some : 0 < page_of g = page-some g page in
+      (le-div_iff_mul-le some).1 (omega (arith, some, size_at-pos class))
 
   -- a class that is not small fills its pages
-  pub pages_of-fills : is_small g class ≡ false → size_at class ≡ page_of g * pages_of g class
-  pages_of-fills large = omega (arith, pages_of-whole g class large)
+  pub pages_of-fills : IsPage g.page → is_small g class ≡ false → size_at class ≡ page_of g * pages_of g class
+  pages_of-fills page large = sym (pages_of-whole g page class large) ∙ mul_comm (pages_of g class) (page_of g)
 
   pub take_whole-is : is_small g class ≡ false → (a : Arena) → ArenaHolds g number a → (t : ℕ × ℕ × Arena) →
       option_map (λ u. (u.0, page_of g * u.1, u.2)) (take_run g a (pages_of g class) Whole) ≡ Some t → ClassTaken g number a t.2 t.0 t.1 class
-  take_whole-is large a holds t e = go (take_run g a (pages_of g class) Whole) (λ u. take_run-is g number (pages_of g class) Whole pages_of-pos tt a holds u) e
+  take_whole-is large a holds t e = go (take_run g a (pages_of g class) Whole) (λ u. take_run-is g number (pages_of g class) Whole (pages_of-pos (holds.sound 0).page) tt a holds u) e
     where
       made : (u : ℕ × ℕ × Arena) → RunTaken g number a u.2 u.0 u.1 (pages_of g class) Whole → ClassTaken g number a u.2 u.0 (page_of g * u.1) class
       made u run =
@@ -389,7 +392,7 @@ module _ (g : Geometry) (number class : ℕ) where
                   page = u.1;
                   pages = pages_of g class;
                   starts = starts;
-                  ends = ends ∙ pages_of-fills large;
+                  ends = ends ∙ pages_of-fills (holds.sound 0).page large;
                   kind = subst (λ d. is_small g d ≡ false) (sym classes) large;
                   begins = subst (λ d. Begins u.1 (Used (pages_of g class) Whole) (chunk_at u.2 d)) (sym in_chunk) run.begins;
                 });

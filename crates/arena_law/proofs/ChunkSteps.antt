@@ -1,17 +1,19 @@
 -- What a taking and a giving do to the slots of one chunk.
 use Rattle.std.proofs.Common.{⊎_elim, ◌≡◌, ◌≢◌, inl, inr, ℕ, zero, suc, ◌+◌, ◌-◌, ◌*◌, ◌<◌, ◌≤◌, List, [], ◌∷◌, length, refl, sym, ap, subst, arith, Bool, true, false, Some, None, ◌∙◌}
 use Rattle.std.proofs.lemmas.List.Quantifiers.{position-Some}
+use Rattle.std.proofs.Math.Nat.{mul-pos}
 use Rattle.std.specs.Prelude.{not, get_or, ◌/◌, ◌%◌, ◌^◌, nat_lt, ◌⊎◌, slice_get, Option, unwrap_or}
 use Rattle.size_classes.specs.Sizes.{Geometry, page_of, size_at}
 use Rattle.size_classes.specs.Pages.{Run, Free, Used, pages_in, total_pages, NoneEmpty, taken_at, given_at, replaced, front_used, freed, rest_of}
 use Rattle.size_classes.specs.Runs.{Begins, EachRun}
 use Rattle.size_classes.specs.Elements.{Elements, next_element, first_free, first_of_two}
+use Rattle.size_classes.proofs.SmallClasses.{page-some}
 use Rattle.size_classes.proofs.Runs.{Begins-apart, Begins-one, EachRun-Begins, replaced-keeps, replaced-new, replaced-EachRun, replaced-total, merged-keeps, merged-total, merged-NoneEmpty, merged-EachRun, rest_of-total, rest_of-EachRun, rest_of-NoneEmpty, taken_at-keeps, free-unused}
 use Rattle.pool_law.specs.declared.id.RegionId.{RegionId}
 use Rattle.pool_law.specs.Chunks.{Chunk, Use, Whole, Sub, RemembersFree}
 use Rattle.arena_law.specs.Slots.{IsElement, IsSlot, ElementsFit, IsSound}
 use Rattle.pool_law.proofs.ListLemmas.{slice_get-below}
-use Rattle.arena_law.proofs.SlotLemmas.{three, times-next, element-inside}
+use Rattle.arena_law.proofs.SlotLemmas.{three, times-next, element-inside, pages-below}
 use Rattle.std.proofs.lemmas.Bool.{cond_both}
 use lib.Pow.{pow_pos}
 
@@ -34,8 +36,10 @@ pub one-page : (g : Geometry) (chunk : Chunk) (p m q n x y : ℕ) (v w : Run Use
     page_of g * p + x ≡ page_of g * q + y → x < page_of g * m → y < page_of g * n → p ≡ q
 one-page g chunk p m q n x y v w b c pm pn e hx hy =
     ⊎_elim
-    (λ lt. let le : p + pages_in v ≤ q = Begins-apart chunk p q v w b c lt in absurd (omega (arith, pm)))
-    (λ rest. ⊎_elim (λ same. same) (λ gt. let le : q + pages_in w ≤ p = Begins-apart chunk q p w v c b gt in absurd (omega (arith, pn))) rest)
+    (λ lt. let before : page_of g * p + page_of g * m ≤ page_of g * q = pages-below (page_of g) p m q (subst (λ (k : ℕ). p + k ≤ q) pm (Begins-apart chunk p q v w b c lt)) in
+    absurd (omega (arith, before, e, hx)))
+    (λ rest. ⊎_elim (λ same. same) (λ gt. let before : page_of g * q + page_of g * n ≤ page_of g * p = pages-below (page_of g) q n p (subst (λ (k : ℕ). q + k ≤ p) pn (Begins-apart chunk q p w v c b gt)) in
+    absurd (omega (arith, before, e, hy))) rest)
     (three p q)
 
 -- where a slot begins in its run
@@ -60,7 +64,7 @@ module _ (g : Geometry) (chunk : Chunk) (sound : IsSound g chunk) where
         what = Whole;
         from = 0;
         starts = omega (arith, s.starts);
-        inside = omega (arith, pages-pos s.page (Used s.pages Whole) s.begins);
+        inside = mul-pos (page-some g sound.page) (pages-pos s.page (Used s.pages Whole) s.begins);
         begins = s.begins;
       }
   starts r (inr s) =
@@ -98,6 +102,7 @@ module _ (g : Geometry) (chunk : Chunk) (sound : IsSound g chunk) (at n pages : 
             (replaced-EachRun (λ r. 0 < pages_in r) chunk at (front_used pages what) (Free n) sound.none_empty here
             (some_pages, EachRun-NoneEmpty (rest_of (n - pages)) (rest_of-NoneEmpty Use (n - pages)))
             (EachRun-NoneEmpty chunk sound.none_empty));
+        page = sound.page;
         elements_fit =
             replaced-EachRun (ElementsFit g) chunk at (front_used pages what) (Free n) sound.none_empty here
             (good, rest_of-EachRun (ElementsFit g) (n - pages) (λ k. tt))
@@ -135,7 +140,7 @@ module _ (g : Geometry) (chunk : Chunk) (sound : IsSound g chunk) (at n pages : 
   run_taken-fresh r x e =
       let s : Starts g chunk r = starts g chunk sound r x in
       let free_pages : 0 < n = pages-pos g chunk sound at (Free n) here in
-      let same : s.page ≡ at = one-page g chunk s.page s.pages at n s.from 0 (Used s.pages s.what) (Free n) s.begins here refl refl (omega (arith, s.starts, e)) s.inside (omega (arith, free_pages)) in
+      let same : s.page ≡ at = one-page g chunk s.page s.pages at n s.from 0 (Used s.pages s.what) (Free n) s.begins here refl refl (omega (arith, s.starts, e)) s.inside (mul-pos (page-some g sound.page) free_pages) in
       free-unused chunk at n sound.none_empty here s.pages s.what (subst (λ p. Begins p (Used s.pages s.what) chunk) same s.begins)
 
 -- a run that is given back: all but its own slots stay
@@ -153,6 +158,7 @@ module _ (g : Geometry) (chunk : Chunk) (sound : IsSound g chunk) (page m : ℕ)
             (replaced-EachRun (λ r. 0 < pages_in r) chunk page freed (Used m what) sound.none_empty here
             (pages-pos g chunk sound page (Used m what) here, tt)
             (EachRun-NoneEmpty chunk sound.none_empty)));
+        page = sound.page;
         elements_fit =
             merged-EachRun (ElementsFit g) (replaced page freed chunk) (λ n. tt)
             (replaced-EachRun (ElementsFit g) chunk page freed (Used m what) sound.none_empty here (tt, tt) sound.elements_fit);
@@ -217,6 +223,7 @@ module _ (g : Geometry) (chunk : Chunk) (sound : IsSound g chunk) (page m class 
             (replaced-EachRun (λ r. 0 < pages_in r) chunk page (elements_to class f) (Used m (Sub class e)) sound.none_empty here
             (pages-pos g chunk sound page (Used m (Sub class e)) here, tt)
             (EachRun-NoneEmpty chunk sound.none_empty));
+        page = sound.page;
         elements_fit =
             replaced-EachRun (ElementsFit g) chunk page (elements_to class f) (Used m (Sub class e)) sound.none_empty here
             (elements-fit, tt)

@@ -6,6 +6,8 @@ use Rattle.size_classes.specs.Sizes.{Geometry, page_of, chunk_pages, size_at}
 use Rattle.size_classes.specs.Pages.{Used, total_pages}
 use Rattle.size_classes.specs.Elements.{Elements, with_back, is_full, is_idle}
 use Rattle.size_classes.proofs.Runs.{EachRun-Begins}
+use Rattle.std.proofs.Math.Nat.{eq_of_mul-eq-mul_left, mul-pos}
+use Rattle.size_classes.proofs.SmallClasses.{page-some}
 use Rattle.pool_law.specs.declared.id.RegionId.{RegionId}
 use Rattle.pool_law.specs.Same.{same_taking}
 use Rattle.pool_law.specs.Chunks.{Use, Whole, Sub}
@@ -53,8 +55,8 @@ module _ (g : Geometry) (a : Arena) (sound : Sounds g a) (whole : Wholes g a) wh
   pub whole_given-used : (P : ℕ → ℕ → Type 0) → EachUsed g a P → (c page m : ℕ) → UsedAt a c page m Whole → EachUsed g (run_given g a c page) (But P c (page_of g * page))
   whole_given-used P used c page m here =
       used-step g a (run_given g a c page) c page (run_given-same g a sound c page m Whole total here) P (But P c (page_of g * page)) used
-      (λ d p n apart u x. (x, λ h. apart (h.0, omega (arith, h.1))))
-      (λ d p n class at e apart u out x. (x, λ h. runs-differ c page m d p n 0 (at * size_at class) Whole (Sub class e) here u (omega (arith, pages-pos g (chunk_at a c) (sound c) page (Used m Whole) here)) (begins-inside d p n class at e u out) apart (h.0, omega (arith, h.1))))
+      (λ d p n apart u x. (x, λ h. apart (h.0, eq_of_mul-eq-mul_left (page_of g) (page-some g (sound c).page) p page h.1)))
+      (λ d p n class at e apart u out x. (x, λ h. runs-differ c page m d p n 0 (at * size_at class) Whole (Sub class e) here u (mul-pos (page-some g (sound c).page) (pages-pos g (chunk_at a c) (sound c) page (Used m Whole) here)) (begins-inside d p n class at e u out) apart (h.0, omega (arith, h.1))))
       (λ n u. absurd (run_given-unused g a sound c page m Whole total here n Whole u))
       (λ n class at e u _. absurd (run_given-unused g a sound c page m Whole total here n (Sub class e) u))
     where
@@ -66,7 +68,7 @@ module _ (g : Geometry) (a : Arena) (sound : Sounds g a) (whole : Wholes g a) wh
       EachUsed g (with_elements a c page class (with_back e k)) (But P c (page_of g * page + k * size_at class))
   with_back-used P used c page m class k e here was =
       used-step g a (with_elements a c page class (with_back e k)) c page (with_elements-same a c page m class e (with_back e k) (sound c).none_empty here) P (But P c (page_of g * page + k * size_at class)) used
-      (λ d p n apart u x. (x, λ h. runs-differ c page m d p n (k * size_at class) 0 (Sub class e) Whole here u (begins-inside c page m class k e here was) (omega (arith, pages-pos g (chunk_at a d) (sound d) p (Used n Whole) u)) apart (h.0, omega (arith, h.1))))
+      (λ d p n apart u x. (x, λ h. runs-differ c page m d p n (k * size_at class) 0 (Sub class e) Whole here u (begins-inside c page m class k e here was) (mul-pos (page-some g (sound d).page) (pages-pos g (chunk_at a d) (sound d) p (Used n Whole) u)) apart (h.0, omega (arith, h.1))))
       (λ d p n other at f apart u out x. (x, λ h. runs-differ c page m d p n (k * size_at class) (at * size_at other) (Sub class e) (Sub other f) here u (begins-inside c page m class k e here was) (begins-inside d p n other at f u out) apart (h.0, h.1)))
       (λ n u. absurd (cc (now n Whole u)))
       (λ n other at f u out.

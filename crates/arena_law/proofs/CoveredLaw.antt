@@ -2,7 +2,7 @@
 use Rattle.std.proofs.Common.{◌≡◌, inl, inr, ℕ, ◌+◌, ◌*◌, List, [], ◌∷◌, refl, sym, subst, true, Some, None}
 use Rattle.std.specs.Prelude.{nat_lt, slice_get, Option, option_and_then}
 use Rattle.std.proofs.lemmas.Bool.{cond_both}
-use Rattle.size_classes.specs.Sizes.{Geometry, class_count, page_of, size_at}
+use Rattle.size_classes.specs.Sizes.{Geometry, class_count, page_of, size_at, IsPage}
 use Rattle.size_classes.specs.Pages.{Run, Free, Used, pages_in}
 use Rattle.size_classes.specs.Runs.{Begins}
 use Rattle.size_classes.specs.Elements.{Elements}
@@ -62,10 +62,10 @@ module _ (g : Geometry) (number : ℕ) where
       go (Some t) found is rest = rest t (found t refl).0 (found t refl).1 is
 
 -- after every history of an arena
-pub arena-covered : (shape : Shape) (number : ℕ) (ds : List Did) (a : Arena) → arena_after shape number ds ≡ Some a → IsCovered (geometry_of shape) a
-arena-covered shape number ds a e =
+pub arena-covered : (shape : Shape) (number : ℕ) → IsPage shape.page → (ds : List Did) (a : Arena) → arena_after shape number ds ≡ Some a → IsCovered (geometry_of shape) a
+arena-covered shape number page ds a e =
     let g : Geometry = geometry_of shape in
-    after-covered g number ds (new_arena g shape.chunks) a (new-holds g number shape.chunks) (new-covered g shape.chunks) e
+    after-covered g number ds (new_arena g shape.chunks) a (new-holds g number page shape.chunks) (new-covered g shape.chunks) e
 
 -- nothing of a chunk is out that has no run in use as a whole, and no element that is out
 pub rest-where : (rs : Chunk) → ((p n : ℕ) → Begins p (Used n Whole) rs → ⊥) → ((p n class at : ℕ) (e : Elements) → Begins p (Used n (Sub class e)) rs → slice_get e.out at ≡ Some true → ⊥) → ChunkAtRest rs
@@ -90,5 +90,5 @@ covered-rests g a covered none c =
     no_taking : (c offset : ℕ) → IsTakenAt a.out c offset → ⊥
     no_taking c offset t = subst (λ xs. IsOne t.region xs) none t.there
 
-pub rests-when_all_is_back : (shape : Shape) (number : ℕ) → RestsWhenAllIsBack shape number
-rests-when_all_is_back shape number ds a e none c = covered-rests (geometry_of shape) a (arena-covered shape number ds a e) none c
+pub rests-when_all_is_back : (shape : Shape) (number : ℕ) → IsPage shape.page → RestsWhenAllIsBack shape number
+rests-when_all_is_back shape number page ds a e none c = covered-rests (geometry_of shape) a (arena-covered shape number page ds a e) none c

@@ -9,6 +9,8 @@ use Rattle.size_classes.specs.Runs.{Begins}
 use Rattle.size_classes.specs.Elements.{Elements, with_back, is_idle, is_full}
 use Rattle.std.specs.List.{list_all}
 use Rattle.size_classes.proofs.Runs.{Begins-one, run_at-Begins, run_start-Begins}
+use Rattle.std.proofs.Math.Nat.{div-lt_iff_lt-mul, le_of_mul-le-mul_left, mul-add-div, mul-div_cancel_left, mul-pos, mul_comm}
+use Rattle.size_classes.proofs.SmallClasses.{page-some}
 use Rattle.pool_law.specs.declared.id.RegionId.{RegionId}
 use Rattle.pool_law.specs.declared.report.ListName.{ListName}
 use Rattle.pool_law.specs.declared.report.ListName.TheVariants.{QInit, Q000, Q025, Q050, Q075, Q100}
@@ -83,8 +85,10 @@ no-slot-in_free g chunk sound total nothing s x =
     let at : Starts g chunk s = starts g chunk sound s x in
     let used : free_pages chunk + at.pages ≤ total_pages chunk = free-used chunk at.page at.pages at.what at.begins in
     let some : 0 < at.pages = pages-pos g chunk sound at.page (Used at.pages at.what) at.begins in
-    let all : page_of g * chunk_pages g ≤ page_of g * free_pages chunk = usage-nothing (page_of g * free_pages chunk) (page_of g * chunk_pages g) (omega (arith, pow_pos g.order)) nothing in
-    omega (arith, total)
+    let size : 0 < page_of g = page-some g sound.page in
+    let all : page_of g * chunk_pages g ≤ page_of g * free_pages chunk = usage-nothing (page_of g * free_pages chunk) (page_of g * chunk_pages g) (mul-pos size (pow_pos g.order)) nothing in
+    let most : chunk_pages g ≤ free_pages chunk = le_of_mul-le-mul_left all size in
+    omega (arith, total, used, some, most)
 
 module _ (g : Geometry) (a : Arena) (sound : (c : ℕ) → IsSound g (chunk_at a c)) (whole : (c : ℕ) → (chunk_at a c ≡ []) ⊎ (total_pages (chunk_at a c) ≡ chunk_pages g)) where
   pub total-here : (c p : ℕ) (r : Run Use) → Begins p r (chunk_at a c) → total_pages (chunk_at a c) ≡ chunk_pages g
@@ -130,7 +134,7 @@ module _ (g : Geometry) (a : Arena) (sound : (c : ℕ) → IsSound g (chunk_at a
       sounds : (d : ℕ) → IsSound g (chunk_at b d)
       sounds d =
           ⊎_elim
-          (λ e. subst (λ k. IsSound g (chunk_at b k)) (sym e) (subst (λ x. IsSound g x) (sym here) (record { none_empty = tt; elements_fit = tt })))
+          (λ e. subst (λ k. IsSound g (chunk_at b k)) (sym e) (subst (λ x. IsSound g x) (sym here) (record { page = (sound 0).page; none_empty = tt; elements_fit = tt })))
           (λ other. subst (λ x. IsSound g x) (sym (chunk_at-other a b c d None is other)) (sound d))
           (same_or-not d c)
 
@@ -276,8 +280,11 @@ module _ (g : Geometry) (a : Arena) (sound : (c : ℕ) → IsSound g (chunk_at a
       d_here = cond_both (is_full x.elements) (with_front b r.class ((r.place.chunk, x.page) ∷ front_of b r.class)) b (λ y. Begins x.page (Used x.pages (Sub r.class f)) (chunk_at y r.place.chunk)) (λ _. here) (λ _. here)
 
 -- the page in which an element lies, and its number there
-pub page-of : (page pages x : ℕ) → x < 8192 * pages → (page ≤ (8192 * page + x) / 8192) × ((8192 * page + x) / 8192 < page + pages)
-page-of page pages x h = (omega arith, omega arith)
+pub page-of : (size page pages x : ℕ) → 0 < size → x < size * pages → (page ≤ (size * page + x) / size) × ((size * page + x) / size < page + pages)
+page-of size page pages x some h =
+    let at : (size * page + x) / size ≡ page + x / size = mul-add-div some page x in
+    let less : x / size < pages = (div-lt_iff_lt-mul some).1 (subst (λ (n : ℕ). x < n) (mul_comm size pages) h) in
+    (omega (arith, at), omega (arith, at, less))
 
 pub number-of : (base at size : ℕ) → 0 < size → ((base + at * size) - base) / size ≡ at
 number-of base at size pos =
@@ -294,7 +301,7 @@ module _ (g : Geometry) (a : Arena) (sound : (c : ℕ) → IsSound g (chunk_at a
       chunk = chunk_at a r.place.chunk
 
       lies : (x.page ≤ r.place.offset / page_of g) × (r.place.offset / page_of g < x.page + x.pages)
-      lies = rw x.starts (page-of x.page x.pages (x.at * size_at r.class) (omega (arith, element-inside g chunk (sound r.place.chunk) r x, size_at-pos r.class)))
+      lies = rw x.starts (page-of (page_of g) x.page x.pages (x.at * size_at r.class) (page-some g (sound 0).page) (omega (arith, element-inside g chunk (sound r.place.chunk) r x, size_at-pos r.class)))
 
       page : run_start (r.place.offset / page_of g) chunk ≡ x.page
       page = run_start-Begins chunk x.page (r.place.offset / page_of g) (Used x.pages (Sub r.class x.elements)) x.begins lies.0 lies.1
@@ -329,7 +336,7 @@ module _ (g : Geometry) (a : Arena) (sound : (c : ℕ) → IsSound g (chunk_at a
 
   -- the first page of a whole run is found again
   pub whole-page : (r : RegionId) → (x : IsWholeRun g (chunk_at a r.place.chunk) r) → r.place.offset / page_of g ≡ x.page
-  whole-page r x = rw x.starts (omega arith)
+  whole-page r x = ap (λ (n : ℕ). n / page_of g) x.starts ∙ mul-div_cancel_left x.page (page-some g (sound 0).page)
 
   pub whole_given-is : (r : RegionId) → (x : IsWholeRun g (chunk_at a r.place.chunk) r) → Kept g a (run_given g a r.place.chunk (r.place.offset / page_of g)) (NotAt r)
   whole_given-is r x =

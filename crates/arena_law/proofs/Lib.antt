@@ -11,6 +11,7 @@ pub mod OrderlyParts
 pub mod OrderlySteps
 pub mod ArenaLaw
 pub mod ReturnLaw
+pub mod TakingsKept
 pub mod TakingLaw
 pub mod OrderlyTakes
 pub mod OrderlyGives

@@ -85,4 +85,4 @@ module _ (g : Geometry) (number : ℕ) where
 pub arena-orderly : (shape : Shape) (number : ℕ) (ds : List Did) (a : Arena) → IsShape shape → arena_after shape number ds ≡ Some a → IsOrderly (geometry_of shape) a
 arena-orderly shape number ds a limits e =
     let g : Geometry = geometry_of shape in
-    after-orderly g number ds (new_arena g shape.chunks) a (new-holds g number shape.chunks) (new-orderly g shape.chunks limits.order_least) e
+    after-orderly g number ds (new_arena g shape.chunks) a (new-holds g number limits.page shape.chunks) (new-orderly g shape.chunks limits.page limits.order_least) e

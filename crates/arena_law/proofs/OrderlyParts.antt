@@ -1,12 +1,13 @@
 -- The parts of what an arena keeps in order: chunks in lists, and subpages in the lists of their classes.
 use Rattle.std.proofs.Common.{⊎_elim, ◌≡◌, ◌≢◌, ℕ, ◌<◌, ◌≤◌, [], length, refl, sym, ap, subst, arith, true, false, Some, None, ◌∙◌, eq-eqb}
 use Rattle.std.specs.Prelude.{◌⊎◌, ◌↔◌, slice_set, Option, unwrap_or, if◌then◌else◌}
-use Rattle.size_classes.specs.Sizes.{Geometry, chunk_pages, class_count, is_small}
+use Rattle.size_classes.specs.Sizes.{Geometry, chunk_pages, class_count, is_small, IsPage}
 use Rattle.size_classes.specs.Pages.{Run, Used, total_pages, NoneEmpty}
 use Rattle.size_classes.specs.Runs.{Begins}
 use Rattle.size_classes.specs.Elements.{Elements, is_full}
 use Rattle.size_classes.proofs.Runs.{run_at-Begins}
 use Rattle.size_classes.proofs.SmallClasses.{small_below}
+use Rattle.size_classes.proofs.Geometries.{page_shift-is}
 use Rattle.pool_law.specs.Chunks.{Chunk, Use, Sub}
 use Rattle.pool_law.specs.ChunkLists.{list_of}
 use Rattle.pool_law.specs.Arenas.{Arena, chunk_at, front_of, elements_in, elements_at}
@@ -81,7 +82,10 @@ Spotted g a = (class c page : ℕ) → is_small g class ≡ true → (has_spot c
 
 -- a small class has a list
 pub small-below : (g : Geometry) (a : Arena) (class : ℕ) → IsOrderly g a → is_small g class ≡ true → class < length a.fronts
-small-below g a class o small = omega (arith, small_below g class small, o.fronts, o.order)
+small-below g a class o small =
+    let page : IsPage g.page = (o.sound 0).page in
+    let shift = page_shift-is g.page page in
+    omega (arith, small_below g page class small, shift.least, o.fronts, o.order)
 
 -- only a subpage of this class may be in use there
 abbrev pub OnlyOf : Arena → ℕ → ℕ → ℕ → Type 0

@@ -3,7 +3,7 @@ use Rattle.std.proofs.Common.{◌≡◌, ℕ, zero, suc, ◌*◌, ◌<◌, ◌�
 use Rattle.std.specs.Prelude.{slice_get, Option, option_map, option_and_then, replicate, unwrap_or}
 use Rattle.std.proofs.lemmas.Bool.{cond_both}
 use Rattle.std.proofs.lemmas.List.{length-replicate}
-use Rattle.size_classes.specs.Sizes.{Geometry, page_of, class_count, is_small, pages_of, subpage_pages, element_count}
+use Rattle.size_classes.specs.Sizes.{Geometry, page_of, class_count, is_small, pages_of, subpage_pages, element_count, IsPage}
 use Rattle.size_classes.specs.Pages.{Free, Used}
 use Rattle.size_classes.specs.Runs.{Begins}
 use Rattle.size_classes.specs.Elements.{Elements, new_elements, next_element}
@@ -33,8 +33,8 @@ no_front zero class = refl
 no_front (suc n) zero = refl
 no_front (suc n) (suc class) = no_front n class
 
-pub new-orderly : (g : Geometry) (chunks : ℕ) → 3 ≤ g.order → IsOrderly g (new_arena g chunks)
-new-orderly g chunks order =
+pub new-orderly : (g : Geometry) (chunks : ℕ) → IsPage g.page → 3 ≤ g.order → IsOrderly g (new_arena g chunks)
+new-orderly g chunks page order =
     orderly-from g (new_arena g chunks) order holds.sound holds.whole
     (λ c. ((λ _. no_place chunks c), λ _. refl))
     (length-replicate (class_count g) [])
@@ -45,7 +45,7 @@ new-orderly g chunks order =
     (λ class. subst SpotsDiffer (sym (no_front (class_count g) class)) tt)
   where
     holds : ArenaHolds g 0 (new_arena g chunks)
-    holds = new-holds g 0 chunks
+    holds = new-holds g 0 page chunks
 
 -- ---- a subpage that stands in a list
 
@@ -121,7 +121,7 @@ pub run_from-subpage : (g : Geometry) (a : Arena) (class : ℕ) (spot : ℕ × �
     IsOrderly g (with_subpage class (run_from g a (subpage_pages g class) (new_use g class) spot))
 run_from-subpage g a class spot n o small here fits =
     with_subpage-orderly g a o class spot.0 spot.1 n (subpage_pages g class) (new_elements (element_count g class)) small here fits
-    (subpage_pages-least g class) (new-subpage g class) (new-has_room g class small)
+    (subpage_pages-least g class) (new-subpage g class) (new-has_room g (o.sound 0).page class small)
 
 pub take_subpage-orderly : (g : Geometry) (a : Arena) (class : ℕ) → IsOrderly g a → is_small g class ≡ true → (t : Spotted) → take_run g a (subpage_pages g class) (new_use g class) ≡ Some t →
     IsOrderly g (with_subpage class t)
@@ -159,7 +159,7 @@ take_class-orderly g a class o t e =
     cond_both (is_small g class) (take_small g a class (front_of a class)) (option_map (λ u. (u.0, page_of g * u.1, u.2)) (take_run g a (pages_of g class) Whole))
     (λ x. x ≡ Some t → IsOrderly g t.2)
     (λ small is. take_small-orderly g a class o small (front_of a class) t is)
-    (λ _ is. go (take_run g a (pages_of g class) Whole) (λ u. take_run-orderly g a (pages_of g class) o (pages_of-pos g 0 class) u) is)
+    (λ _ is. go (take_run g a (pages_of g class) Whole) (λ u. take_run-orderly g a (pages_of g class) o (pages_of-pos g 0 class (o.sound 0).page) u) is)
     e
   where
     go : (x : Option Spotted) → ((u : Spotted) → x ≡ Some u → IsOrderly g u.2) → option_map (λ u. (u.0, page_of g * u.1, u.2)) x ≡ Some t → IsOrderly g t.2

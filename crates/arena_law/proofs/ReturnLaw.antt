@@ -2,7 +2,7 @@
 use Rattle.std.proofs.Common.{⊎_elim, ◌≡◌, inl, inr, ℕ, List, [], ◌∷◌, ◌++◌, refl, sym, ap, subst, arith, Bool, true, false, Some, None, ◌∙◌}
 use Rattle.std.specs.Prelude.{nat_lt, not, ◌||◌, filter, Option, option_map, option_and_then}
 use Rattle.std.specs.List.{list_any}
-use Rattle.size_classes.specs.Sizes.{Geometry, class_count}
+use Rattle.size_classes.specs.Sizes.{Geometry, class_count, IsPage}
 use Rattle.pool_law.specs.declared.id.RegionId.{RegionId}
 use Rattle.pool_law.specs.declared.note.Did.{Did}
 use Rattle.pool_law.specs.declared.note.Did.TheVariants.{Take, Full, Give}
@@ -144,8 +144,8 @@ module _ (g : Geometry) (number : ℕ) where
       let listed : EachTwo (λ x y. x.place.chunk ≡ y.place.chunk → AreApart x.place y.place) (third.0.out ++ s ∷ []) = subst (λ y. EachTwo (λ x y. x.place.chunk ≡ y.place.chunk → AreApart x.place y.place) (third.0.out ++ y ∷ [])) (sym s_is) (subst (EachTwo (λ x y. x.place.chunk ≡ y.place.chunk → AreApart x.place y.place)) last.2 apart) in
       EachTwo-last (λ x y. x.place.chunk ≡ y.place.chunk → AreApart x.place y.place) r s third.0.out listed still same
 
-pub comes-back : (shape : Shape) (number : ℕ) → ComesBackBetween shape number
-comes-back shape number before between c d r s a e over =
+pub comes-back : (shape : Shape) (number : ℕ) → IsPage shape.page → ComesBackBetween shape number
+comes-back shape number page before between c d r s a e over =
     true_from_ne_false (list_any (gives r) between)
     (λ kept. ⊎_elim (λ x. omega (arith, over.second, x)) (λ x. omega (arith, over.first, x))
-    (both-out (geometry_of shape) number before between c d r s (new_arena (geometry_of shape) shape.chunks) a (new-holds (geometry_of shape) number shape.chunks) e kept over.chunk))
+    (both-out (geometry_of shape) number before between c d r s (new_arena (geometry_of shape) shape.chunks) a (new-holds (geometry_of shape) number page shape.chunks) e kept over.chunk))

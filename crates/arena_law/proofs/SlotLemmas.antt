@@ -1,6 +1,7 @@
 -- Two slots of one chunk that begin at different bytes have no byte in common.
 use Rattle.std.proofs.Common.{⊎_elim, ◌≡◌, ◌≢◌, inl, inr, ℕ, ◌+◌, ◌*◌, ◌<◌, ◌≤◌, length, refl, subst, arith, true}
 use Rattle.std.specs.Prelude.{◌⊎◌}
+use Rattle.std.proofs.Math.Nat.{mul-add, mul-le-mul_left}
 use Rattle.size_classes.specs.Sizes.{Geometry, page_of, size_at}
 use Rattle.size_classes.specs.Pages.{Used}
 use Rattle.size_classes.specs.Runs.{Begins}
@@ -13,6 +14,10 @@ use Rattle.pool_law.proofs.ListLemmas.{slice_get-below}
 -- the end of one element is no later than the beginning of a later one
 pub times-next : (k n s : ℕ) → k < n → k * s + s ≤ n * s
 times-next k n s h = grind arith
+
+-- the bytes of pages that end before others do
+pub pages-below : (size p m q : ℕ) → p + m ≤ q → size * p + size * m ≤ size * q
+pages-below size p m q le = subst (λ (n : ℕ). n ≤ size * q) (mul-add size p m) (mul-le-mul_left size le)
 
 -- which of two different numbers is the lesser
 pub lesser : (a b : ℕ) → a ≢ b → (a < b) ⊎ (b < a)
@@ -29,7 +34,8 @@ module _ (g : Geometry) (chunk : Chunk) (sound : IsSound g chunk) where
 
   -- slots in two runs, of which one begins before the other
   pub runs-apart : (p m q n : ℕ) (v w : Use) → Begins p (Used m v) chunk → Begins q (Used n w) chunk → p < q → page_of g * p + page_of g * m ≤ page_of g * q
-  runs-apart p m q n v w b c h = let le : p + m ≤ q = Begins-apart chunk p q (Used m v) (Used n w) b c h in omega arith
+  runs-apart p m q n v w b c h = let le : p + m ≤ q = Begins-apart chunk p q (Used m v) (Used n w) b c h in
+      pages-below (page_of g) p m q le
 
   -- one page, one run
   pub one-run : (p m n : ℕ) (v w : Use) → Begins p (Used m v) chunk → Begins p (Used n w) chunk → Used m v ≡ Used n w

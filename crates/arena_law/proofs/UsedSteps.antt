@@ -6,6 +6,8 @@ use Rattle.size_classes.specs.Pages.{Free, Used, total_pages, free_pages, NoneEm
 use Rattle.size_classes.specs.Runs.{Begins}
 use Rattle.size_classes.specs.Elements.{Elements}
 use Rattle.size_classes.proofs.Runs.{replaced-keeps, replaced-new, taken_at-keeps, taken_at-new, free-unused}
+use Rattle.std.proofs.Math.Nat.{le_of_mul-le-mul_left, mul-pos}
+use Rattle.size_classes.proofs.SmallClasses.{page-some}
 use Rattle.pool_law.specs.declared.report.ListName.{ListName}
 use Rattle.pool_law.specs.Chunks.{Chunk, Use, Sub, new_chunk, usage}
 use Rattle.pool_law.specs.ChunkLists.{lists_below, sunk, down_to, list_of, walk}
@@ -98,8 +100,10 @@ pub none-used : (g : Geometry) (chunk : Chunk) → IsSound g chunk → total_pag
 none-used g chunk sound total nothing p n w b =
     let used : free_pages chunk + n ≤ total_pages chunk = free-used chunk p n w b in
     let some : 0 < n = pages-pos g chunk sound p (Used n w) b in
-    let all : page_of g * chunk_pages g ≤ page_of g * free_pages chunk = usage-nothing (page_of g * free_pages chunk) (page_of g * chunk_pages g) (omega (arith, pow_pos g.order)) nothing in
-    omega (arith, total)
+    let size : 0 < page_of g = page-some g sound.page in
+    let all : page_of g * chunk_pages g ≤ page_of g * free_pages chunk = usage-nothing (page_of g * free_pages chunk) (page_of g * chunk_pages g) (mul-pos size (pow_pos g.order)) nothing in
+    let most : chunk_pages g ≤ free_pages chunk = le_of_mul-le-mul_left all size in
+    omega (arith, total, used, some, most)
 
 -- what is left of a chunk to which a run came back: its other runs, or nothing where none was in use
 abbrev pub IsLeft : Geometry → Chunk → Chunk → Type 0

@@ -1,9 +1,10 @@
 #![tactic(auto)]
 //! Laws of one arena's history: the takings that are out together lie apart, and come back before
-//! their bytes are taken again.
+//! their bytes are taken again. These two hold for each size that a page can have.
 //! Each law is the contract of a function that does nothing.
 
 ghost use Rattle.std.specs.Prelude.{◌≡◌, ℕ, List, Some};
+ghost use Rattle.size_classes.specs.Sizes.{IsPage};
 ghost use Rattle.pool_law.specs.declared.note.Did.{Did};
 ghost use Rattle.pool_law.specs.declared.run.Shape.{Shape};
 ghost use Rattle.pool_law.specs.Arenas.{Arena};
@@ -14,13 +15,14 @@ ghost use Rattle.arena_law.specs.Takings.{TakingsInOrder};
 
 /// After every history of an arena, the takings that are out together have no byte in common.
 pub fn takings_lie_apart()
-    ensures apart { (shape : Shape) (number : ℕ) (ds : List Did) (a : Arena) →
-        arena_after shape number ds ≡ Some a → OutApart a }
+    ensures apart { (shape : Shape) (number : ℕ) → IsPage shape.page →
+        (ds : List Did) (a : Arena) → arena_after shape number ds ≡ Some a → OutApart a }
 {}
 
 /// Between two takings of one arena whose places overlap, the first came back.
 pub fn takings_come_back()
-    ensures between { (shape : Shape) (number : ℕ) → ComesBackBetween shape number }
+    ensures between { (shape : Shape) (number : ℕ) → IsPage shape.page →
+        ComesBackBetween shape number }
 {}
 
 /// The takings of an arena are numbered from 1 in the order of its history, with no uses, and with

@@ -1,9 +1,9 @@
 -- A run is legal where what the check computes of it is what the run says.
-use Rattle.std.proofs.Common.{◌≡◌, ℕ, ◌*◌, ◌^◌, ◌<◌, List, [], ◌∷◌, length, Bool, true, refl, sym, ap}
-use Rattle.std.specs.Prelude.{◌&&◌, nat_le, sum, map, take, drop, Option, Some, None, option_map, is_some}
+use Rattle.std.proofs.Common.{◌≡◌, inl, inr, ℕ, ◌*◌, ◌^◌, ◌<◌, List, [], ◌∷◌, length, Bool, true, false, refl, sym, ap}
+use Rattle.std.specs.Prelude.{◌⊎◌, ◌==◌, ◌||◌, ◌&&◌, nat_le, sum, map, take, drop, Option, Some, None, option_map, is_some}
 use Rattle.std.specs.List.{list_all}
-use Rattle.std.proofs.lemmas.Bool.{leb-true}
-use Rattle.size_classes.specs.Sizes.{below, chunk_bytes}
+use Rattle.std.proofs.lemmas.Bool.{eqb-true, leb-true}
+use Rattle.size_classes.specs.Sizes.{IsPage, below, chunk_bytes}
 use Rattle.pool_law.specs.declared.note.Object.{Object}
 use Rattle.pool_law.specs.declared.note.Did.{Did}
 use Rattle.pool_law.specs.declared.id.RootId.{RootId}
@@ -29,11 +29,17 @@ use Rattle.law_rows.proofs.MarksComputed.{object_marks, marks_pass, busy}
 
 -- ---- What the check computes.
 
+-- a page has one of the sizes
+abbrev pub page_passes : ℕ → Bool
+page_passes page = (page == 4096) || ((page == 8192) || ((page == 16384) || (page == 32768)))
+
 -- the measures are inside their limits
 abbrev pub measures_pass : Shape → List Bool
 measures_pass s =
-    nat_le 3 s.order
+    page_passes s.page
+    ∷ nat_le 3 s.order
     ∷ nat_le s.order 11
+    ∷ nat_le (chunk_bytes (geometry_of s)) (2 ^ 24)
     ∷ nat_le 1 s.arenas
     ∷ nat_le s.arenas 8
     ∷ nat_le 1 s.chunks
@@ -165,10 +171,32 @@ wanted run = wanted_in run (logs_of run) (objects_of (logs_of run) []) (roots_of
 
 -- ---- A run is legal where the two are the same.
 
+-- one of two tests that pass together
+either : (a b : Bool) → (a || b) ≡ true → (a ≡ true) ⊎ (b ≡ true)
+either true b e = inl refl
+either false b e = inr e
+
+page-passes : (page : ℕ) → page_passes page ≡ true → IsPage page
+page-passes page e = first (either (page == 4096) ((page == 8192) || ((page == 16384) || (page == 32768))) e)
+  where
+    last : ((page == 16384) ≡ true) ⊎ ((page == 32768) ≡ true) → IsPage page
+    last (inl is) = inr (inr (inl (eqb-true page 16384 is)))
+    last (inr is) = inr (inr (inr (eqb-true page 32768 is)))
+
+    second : ((page == 8192) ≡ true) ⊎ (((page == 16384) || (page == 32768)) ≡ true) → IsPage page
+    second (inl is) = inr (inl (eqb-true page 8192 is))
+    second (inr rest) = last (either (page == 16384) (page == 32768) rest)
+
+    first : ((page == 4096) ≡ true) ⊎ (((page == 8192) || ((page == 16384) || (page == 32768))) ≡ true) → IsPage page
+    first (inl is) = inl (eqb-true page 4096 is)
+    first (inr rest) = second (either (page == 8192) ((page == 16384) || (page == 32768)) rest)
+
 shape-passes : (s : Shape) → measures_pass s ≡ yes_to (measures_pass s) → IsShape s
 shape-passes s e = record {
+  page = page-passes s.page cc;
   order_least = leb-true 3 s.order cc;
   order_most = leb-true s.order 11 cc;
+  chunk = leb-true (chunk_bytes (geometry_of s)) (2 ^ 24) cc;
   arenas_least = leb-true 1 s.arenas cc;
   arenas_most = leb-true s.arenas 8 cc;
   chunks_least = leb-true 1 s.chunks cc;

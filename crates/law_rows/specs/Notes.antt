@@ -21,6 +21,7 @@ use Rattle.pool_law.specs.declared.run.Answered.{Answered}
 abbrev pub default_shape : ℕ → Shape
 default_shape lanes =
     record {
+      page = 8192;
       order = 9;
       arenas = 2;
       chunks = 4;

@@ -13,6 +13,7 @@ two_lanes = record (default_shape 2) { handles = 3 }
 abbrev pub least_shape : Shape
 least_shape =
     record {
+      page = 8192;
       order = 3;
       arenas = 1;
       chunks = 1;
@@ -26,6 +27,7 @@ least_shape =
 abbrev pub greatest_shape : Shape
 greatest_shape =
     record {
+      page = 8192;
       order = 11;
       arenas = 4;
       chunks = 8;

@@ -12,6 +12,13 @@ pub fn measures()
     ensures usual { IsShape (default_shape 1) }
     ensures least { IsShape least_shape }
     ensures greatest { IsShape greatest_shape }
+    ensures least_page { IsShape (record least_shape { page = 4096 }) }
+    ensures greatest_page { IsShape (record greatest_shape { page = 32768; order = 9 }) }
+    ensures no_smaller_page { ¬ IsShape (record least_shape { page = 2048 }) }
+    ensures no_page_between { ¬ IsShape (record least_shape { page = 12288 }) }
+    ensures no_greater_page { ¬ IsShape (record least_shape { page = 65536 }) }
+    // a chunk of 32 MiB
+    ensures too_long_a_chunk { ¬ IsShape (record least_shape { page = 16384; order = 11 }) }
     ensures no_order_two { ¬ IsShape (record least_shape { order = 2 }) }
     ensures no_order_twelve { ¬ IsShape (record least_shape { order = 12 }) }
     ensures no_arenas { ¬ IsShape (record least_shape { arenas = 0 }) }

@@ -14,7 +14,7 @@ use Rattle.pool_law.specs.Same.{same_taking}
 use Rattle.pool_law.specs.Arenas.{Arena, new_arena, arena_step}
 use Rattle.pool_law.specs.Histories.{after, arena_after}
 use Rattle.pool_law.specs.Logs.{Logs, dids, of_lane, history_of}
-use Rattle.pool_law.specs.Legal.{HistoriesHold}
+use Rattle.run_laws.proofs.PagedHistories.{HistoriesPaged}
 use Rattle.pool_law.specs.Lives.{Done, arena_of, with_uses}
 use Rattle.pool_law.specs.Apart.{Before, LieApart}
 use Rattle.arena_law.specs.Returns.{gives}
@@ -70,7 +70,7 @@ pub gives-it : (r : RegionId) (d : Did) → gives r d ≡ true → (x : RegionId
 gives-it r (Give x) e = (x, refl, e)
 gives-it r _ e = absurd (cc e)
 
-module _ (shape : Shape) (logs : Logs) (holds : HistoriesHold shape logs) (acts : LanesAct logs) where
+module _ (shape : Shape) (logs : Logs) (holds : HistoriesPaged shape logs) (acts : LanesAct logs) where
   -- a region that is used was taken
   pub taken-of : (n : ℕ) (r : RegionId) → 1 ≤ births_in logs (with_uses r n) → 1 ≤ takes_in logs (with_uses r 0)
   taken-of zero r h = absurd (omega (arith, unused-none shape logs holds acts (with_uses r 0) refl, h))
@@ -87,7 +87,7 @@ module _ (shape : Shape) (logs : Logs) (holds : HistoriesHold shape logs) (acts 
   taken-at r h =
       let f : (i : ℕ) × (d : Did) × (slice_get (dids (history_of (arena_of r) logs)) i ≡ Some d) × (1 ≤ takes (with_uses r 0) d) = total-found (takes (with_uses r 0)) (dids (history_of (arena_of r) logs)) h in
       let t : (c : ℕ) × (f.1 ≡ Take c (with_uses r 0)) = taken f.1 f.3 in
-      let p : (arena_of r ≡ arena_of r) × ((0 ≡ 0) × (r.class ≡ t.0)) = placed shape (arena_of r) (dids (history_of (arena_of r) logs)) f.0 (Take t.0 (with_uses r 0)) (holds.accepted (arena_of r)) (f.2 ∙ ap (λ x. Some x) t.1) in
+      let p : (arena_of r ≡ arena_of r) × ((0 ≡ 0) × (r.class ≡ t.0)) = placed shape holds.page (arena_of r) (dids (history_of (arena_of r) logs)) f.0 (Take t.0 (with_uses r 0)) (holds.accepted (arena_of r)) (f.2 ∙ ap (λ x. Some x) t.1) in
       (f.0, f.2 ∙ ap (λ x. Some x) t.1 ∙ ap (λ c. Some (Take c (with_uses r 0))) (sym p.1.1))
     where
       taken : (d : Did) → 1 ≤ takes (with_uses r 0) d → (c : ℕ) × (d ≡ Take c (with_uses r 0))
@@ -111,7 +111,7 @@ module _ (shape : Shape) (logs : Logs) (holds : HistoriesHold shape logs) (acts 
       let begin : (x : Arena) × (arena_after shape number (s.0 ++ Take a.class (with_uses a 0) ∷ (s.1 ++ Take b.class (with_uses b 0) ∷ [])) ≡ Some x) × (after (arena_step (geometry_of shape) number) x s.2 ≡ Some ok.0) =
       after-append (arena_step (geometry_of shape) number) (s.0 ++ Take a.class (with_uses a 0) ∷ (s.1 ++ Take b.class (with_uses b 0) ∷ [])) s.2 (new_arena (geometry_of shape) shape.chunks) ok.0 (ap (arena_after shape number) (sym s.3) ∙ ok.1) in
       let over0 : Overlap (with_uses a 0).place (with_uses b 0).place = over in
-      let back : list_any (gives (with_uses a 0)) s.1 ≡ true = comes-back shape number s.0 s.1 a.class b.class (with_uses a 0) (with_uses b 0) begin.0 begin.1 over0 in
+      let back : list_any (gives (with_uses a 0)) s.1 ≡ true = comes-back shape number holds.page s.0 s.1 a.class b.class (with_uses a 0) (with_uses b 0) begin.0 begin.1 over0 in
       let m : (m : ℕ) × (z : Did) × (slice_get s.1 m ≡ Some z) × (gives (with_uses a 0) z ≡ true) = any-at (gives (with_uses a 0)) s.1 back in
       let g : (x : RegionId) × (m.1 ≡ Give x) × (same_taking x (with_uses a 0) ≡ true) = gives-it (with_uses a 0) m.1 m.3 in
       let n : (n : ℕ) × (slice_get (dids (history_of (Object.Arena number) logs)) n ≡ Some m.1) × (n < j) = s.4 m.0 m.1 m.2 in

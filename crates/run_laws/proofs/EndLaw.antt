@@ -15,7 +15,8 @@ use Rattle.pool_law.specs.Same.{same_root}
 use Rattle.pool_law.specs.Caches.{Cache}
 use Rattle.pool_law.specs.Histories.{cache_after}
 use Rattle.pool_law.specs.Logs.{Logs, dids, of_lane, history_of, entry_of, entries_of}
-use Rattle.pool_law.specs.Legal.{HistoriesHold, CountsAgree}
+use Rattle.pool_law.specs.Legal.{CountsAgree}
+use Rattle.run_laws.proofs.PagedHistories.{HistoriesPaged}
 use Rattle.pool_law.specs.Lives.{IsUse, Done}
 use Rattle.run_laws.specs.Conserved.{total_in}
 use Rattle.run_laws.specs.CacheCounts.{one_of, total_by}
@@ -102,7 +103,7 @@ uncached-less = record { other = other; birth = λ o k r x. omega arith; end = �
     other (At o k (Kept r)) is = omega (arith, ap (λ b. one (not b)) is)
     other _ is = omega arith
 
-module _ (shape : Shape) (logs : Logs) (holds : HistoriesHold shape logs) (acts : LanesAct logs)
+module _ (shape : Shape) (logs : Logs) (holds : HistoriesPaged shape logs) (acts : LanesAct logs)
     (parts : (lane : ℕ) → lane < length logs → Parts lane (map (entry_of logs) (of_lane logs lane))) where
   pub even-over : (o : Object) → sum_over (at_object o (plain grant)) logs ≡ sum_over (at_object o (plain shed_one)) logs
   even-over o =

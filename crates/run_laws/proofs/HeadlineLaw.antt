@@ -11,7 +11,8 @@ use Rattle.pool_law.specs.declared.report.Leak.{Leak}
 use Rattle.pool_law.specs.declared.run.Shape.{Shape}
 use Rattle.pool_law.specs.declared.run.Run.{Run}
 use Rattle.pool_law.specs.Logs.{Logs, of_lane, entry_of, entries_of}
-use Rattle.pool_law.specs.Legal.{HistoriesHold, CountsAgree, IsLegal, logs_of}
+use Rattle.pool_law.specs.Legal.{CountsAgree, IsLegal, logs_of}
+use Rattle.run_laws.proofs.PagedHistories.{HistoriesPaged, paged}
 use Rattle.pool_law.specs.Leaks.{births, is_live, is_sampled, leak_of}
 use Rattle.pool_law.specs.Lives.{IsUse}
 use Rattle.pool_law.specs.Apart.{EndsBefore, NeverOverlap}
@@ -39,7 +40,7 @@ pub not-zero : (n : ℕ) → not (n == 0) ≡ true → n ≢ 0
 not-zero zero e none = absurd (cc e)
 not-zero (suc n) e none = absurd (omega (arith, none))
 
-module _ (shape : Shape) (logs : Logs) (holds : HistoriesHold shape logs) (acts : LanesAct logs)
+module _ (shape : Shape) (logs : Logs) (holds : HistoriesPaged shape logs) (acts : LanesAct logs)
     (parts : (lane : ℕ) → lane < length logs → Parts lane (map (entry_of logs) (of_lane logs lane))) (counts : CountsAgree (entries_of logs)) where
   notes : StandInOneLog logs
   notes = stand-in_one_log shape logs holds acts parts counts
@@ -97,7 +98,7 @@ lists-leaks run legal =
           born = born;
           serial = omega (arith, serial, r.serial_is);
           sampled = subst (λ n. IsTrue (is_sampled run.shape.level run.shape.interval n)) (sym serial) r.sampled;
-          never_freed = live-is run.shape (logs_of run) legal.histories (acts-of run legal) (parts-of run legal) legal.counts leak.lane r.order r.root born r.live;
+          never_freed = live-is run.shape (logs_of run) (paged run legal) (acts-of run legal) (parts-of run legal) legal.counts leak.lane r.order r.root born r.live;
           told = r.told ∙ (λ k. leak_of run.shape.level (logs_of run) (sym lane k) (sym serial k) r.root);
         }
 
@@ -116,7 +117,7 @@ lists-leaks run legal =
             there = is.born;
             serial = leak.serial;
             serial_is = omega (arith, is.serial);
-            live = is-live run.shape (logs_of run) legal.histories (acts-of run legal) (parts-of run legal) legal.counts leak.lane is.earlier is.root is.born is.never_freed;
+            live = is-live run.shape (logs_of run) (paged run legal) (acts-of run legal) (parts-of run legal) legal.counts leak.lane is.earlier is.root is.born is.never_freed;
             sampled = is.sampled;
             told = is.told;
           };
@@ -129,10 +130,10 @@ headline-holds run legal =
       never_overlap = roots-never_overlap run legal;
       one_after_another = regions-live run legal;
       lie_apart = regions-apart run legal;
-      live_apart = live-lie_apart run.shape (logs_of run) legal.histories (acts-of run legal) (parts-of run legal) legal.counts (roots-never_overlap run legal);
+      live_apart = live-lie_apart run.shape (logs_of run) (paged run legal) (acts-of run legal) (parts-of run legal) legal.counts (roots-never_overlap run legal);
       reads = reads-give_written run legal;
       returns = regions-return run legal;
-      live = live-never_freed run.shape (logs_of run) legal.histories (acts-of run legal) (parts-of run legal) legal.counts;
+      live = live-never_freed run.shape (logs_of run) (paged run legal) (acts-of run legal) (parts-of run legal) legal.counts;
       out = arenas-end run legal;
       caches = caches-end_empty run legal;
       leaks = lists-leaks run legal;

@@ -28,6 +28,7 @@ pub mod OutLaw
 pub mod LifeEvents
 pub mod OverlapLaw
 pub mod LifeChain
+pub mod PagedHistories
 pub mod ParcelLaw
 pub mod PostLaw
 pub mod RunLaws

@@ -9,7 +9,8 @@ use Rattle.pool_law.specs.declared.note.Note.{Note}
 use Rattle.pool_law.specs.declared.note.Note.TheVariants.{At}
 use Rattle.pool_law.specs.declared.run.Shape.{Shape}
 use Rattle.pool_law.specs.Logs.{Logs, dids, of_lane, history_of, entry_of, entries_of}
-use Rattle.pool_law.specs.Legal.{HistoriesHold, CountsAgree}
+use Rattle.pool_law.specs.Legal.{CountsAgree}
+use Rattle.run_laws.proofs.PagedHistories.{HistoriesPaged}
 use Rattle.pool_law.specs.Patterns.{one_more}
 use Rattle.pool_law.specs.Lives.{IsUse, Done, cache_of, arena_of, with_uses, Event, Stands, Got, Used, LivesOn, Follows, IsDoneAt, InOrder, IsAmong, dids_of, Life, RegionsLive}
 use Rattle.run_laws.specs.CacheCounts.{one_of}
@@ -30,7 +31,7 @@ use Rattle.run_laws.proofs.OutLaw.{uses_number, owner-there, kept-gone, few-uses
 use Rattle.run_laws.proofs.ReturnsLaw.{FromEnd, EndHands, one-note, put-down_by, shed-kept, end-hands, end-from, one-way_out}
 use Rattle.run_laws.proofs.LifeEvents.{the, the_birth, MovesAt, moves-at, Kind, kind-of, same-or_later, end-after, got-next, as-note, kept-counts, shed-counts, give-counts, hit-counts, birth-counts, taken-unused, moved-born, same-birth, same-end, same-kept, same-hit, same-take, same-shed, same-give, kept-hit, kept-shed, from-kept, from-given, shed-next, hit-there, shed-there, BornNext}
 
-module _ (shape : Shape) (logs : Logs) (holds : HistoriesHold shape logs) (acts : LanesAct logs)
+module _ (shape : Shape) (logs : Logs) (holds : HistoriesPaged shape logs) (acts : LanesAct logs)
     (parts : (lane : ℕ) → lane < length logs → Parts lane (map (entry_of logs) (of_lane logs lane))) (counts : CountsAgree (entries_of logs)) where
   -- the life from a birth on, and from what got the region on
   pub record UsedOn (root : RootId) (x : RegionId) (b : Event) : Type 0 where

@@ -12,7 +12,8 @@ use Rattle.pool_law.specs.declared.run.Shape.{Shape}
 use Rattle.pool_law.specs.Roots.{RootPlace}
 use Rattle.pool_law.specs.Histories.{place_after}
 use Rattle.pool_law.specs.Logs.{Logs, dids, of_lane, history_of, entry_of, entries_of}
-use Rattle.pool_law.specs.Legal.{HistoriesHold, CountsAgree}
+use Rattle.pool_law.specs.Legal.{CountsAgree}
+use Rattle.run_laws.proofs.PagedHistories.{HistoriesPaged}
 use Rattle.pool_law.specs.Patterns.{one_more}
 use Rattle.pool_law.specs.Lives.{StandsAt, IsUse, Done, cache_of, arena_of, with_uses, Event, Stands, Moves}
 use Rattle.run_laws.specs.CacheCounts.{one_of}
@@ -113,7 +114,7 @@ same-or_later (suc a) zero h = absurd (omega (arith, h))
 same-or_later (suc a) (suc b) h =
     ⊎_elim (λ same. inl (ap suc same)) (λ later. inr (later.0, omega (arith, later.1))) (same-or_later a b (omega (arith, h)))
 
-module _ (shape : Shape) (logs : Logs) (holds : HistoriesHold shape logs) (acts : LanesAct logs)
+module _ (shape : Shape) (logs : Logs) (holds : HistoriesPaged shape logs) (acts : LanesAct logs)
     (parts : (lane : ℕ) → lane < length logs → Parts lane (map (entry_of logs) (of_lane logs lane))) (counts : CountsAgree (entries_of logs)) where
   -- a root ends after its birth
   pub end-after : (root : RootId) (r : RegionId) (u : IsUse logs root r) (d : Done logs (Object.Root root.place) (End root)) → u.number < d.number

@@ -12,7 +12,7 @@ use Rattle.pool_law.specs.Same.{same_taking, same_region}
 use Rattle.pool_law.specs.Roots.{RootPlace, Present}
 use Rattle.pool_law.specs.Histories.{place_after}
 use Rattle.pool_law.specs.Logs.{Logs, History, dids, of_lane, history_of, entry_of, present_in, present_before}
-use Rattle.pool_law.specs.Legal.{HistoriesHold}
+use Rattle.run_laws.proofs.PagedHistories.{HistoriesPaged}
 use Rattle.pool_law.specs.Lives.{IsUse, Done, with_uses}
 use Rattle.run_laws.specs.CacheCounts.{one_of}
 use Rattle.pool_law.specs.Patterns.{one_more}
@@ -43,7 +43,7 @@ pub same_taking-uses : (a b : RegionId) → same_taking a b ≡ true → b ≡ w
 same_taking-uses a b e =
     sym (same_region-is (with_uses a b.uses) b (both_true (same_taking a b) (b.uses == b.uses) e (eq-eqb b.uses b.uses refl)))
 
-module _ (shape : Shape) (logs : Logs) (holds : HistoriesHold shape logs) (acts : LanesAct logs) where
+module _ (shape : Shape) (logs : Logs) (holds : HistoriesPaged shape logs) (acts : LanesAct logs) where
   -- a birth in a log is a use, and counts
   pub birth-use : (lane i k : ℕ) (o : Object) (root : RootId) (r : RegionId) → slice_get (of_lane logs lane) i ≡ Some (At o k (Birth root r)) → IsUse logs root r
   birth-use lane i k o root r is =

@@ -10,7 +10,7 @@ use Rattle.pool_law.specs.declared.run.Shape.{Shape}
 use Rattle.pool_law.specs.Caches.{Cache}
 use Rattle.pool_law.specs.Histories.{cache_after}
 use Rattle.pool_law.specs.Logs.{Logs, dids, of_lane, history_of}
-use Rattle.pool_law.specs.Legal.{HistoriesHold}
+use Rattle.run_laws.proofs.PagedHistories.{HistoriesPaged}
 use Rattle.pool_law.specs.Lives.{IsUse, Done, cache_of, with_uses}
 use Rattle.run_laws.specs.CacheCounts.{removes}
 use Rattle.pool_law.specs.Patterns.{one_more}
@@ -23,7 +23,7 @@ use Rattle.run_laws.proofs.LifeLaw.{use-found, use-used, hits-less, born-most}
 pub compare-uses : (a b : ℕ) → (a < b) ⊎ ((a ≡ b) ⊎ (b < a))
 compare-uses a b = grind arith
 
-module _ (shape : Shape) (logs : Logs) (holds : HistoriesHold shape logs) (acts : LanesAct logs) where
+module _ (shape : Shape) (logs : Logs) (holds : HistoriesPaged shape logs) (acts : LanesAct logs) where
   -- what a cache gives was kept there before
   pub kept-first : (lane i k : ℕ) (d : Did) (r : RegionId) → slice_get (of_lane logs lane) i ≡ Some (At (cache_of r) k d) → 1 ≤ removes r d → (kept : Done logs (cache_of r) (Kept r)) × (kept.number < k)
   kept-first lane i k d r is out =

@@ -9,7 +9,8 @@ use Rattle.pool_law.specs.declared.note.Note.{Note}
 use Rattle.pool_law.specs.declared.note.Note.TheVariants.{At, Ref}
 use Rattle.pool_law.specs.declared.run.Shape.{Shape}
 use Rattle.pool_law.specs.Logs.{Logs, of_lane, entry_of, entries_of}
-use Rattle.pool_law.specs.Legal.{HistoriesHold, CountsAgree}
+use Rattle.pool_law.specs.Legal.{CountsAgree}
+use Rattle.run_laws.proofs.PagedHistories.{HistoriesPaged}
 use Rattle.pool_law.specs.Lives.{StandsAt, IsUse}
 use Rattle.run_laws.specs.OneLog.{IsBorn, HasEnded, StandInOneLog}
 use Rattle.pool_law.specs.Same.{same_root}
@@ -22,7 +23,7 @@ use Rattle.run_laws.proofs.Totals.{note-placed}
 use Rattle.run_laws.proofs.LifeLaw.{end-use}
 use Rattle.run_laws.proofs.EndLaw.{one, birth_weight, born_weight, ended_weight, end_weight, vacated_weight, birth-alike, ended-alike, vacated-alike, sums-alike, ends-most, births-most}
 
-module _ (shape : Shape) (logs : Logs) (holds : HistoriesHold shape logs) (acts : LanesAct logs)
+module _ (shape : Shape) (logs : Logs) (holds : HistoriesPaged shape logs) (acts : LanesAct logs)
     (parts : (lane : ℕ) → lane < length logs → Parts lane (map (entry_of logs) (of_lane logs lane))) (counts : CountsAgree (entries_of logs)) where
   pub together : (lane i : ℕ) (n : Note) → StandsAt logs lane i n → Together logs lane i n
   together lane i n is = note-together logs lane (acts lane) i n is

@@ -17,7 +17,8 @@ use Rattle.pool_law.specs.Arenas.{Arena, new_arena, arena_step, take, give, is_o
 use Rattle.pool_law.specs.Caches.{Cache}
 use Rattle.pool_law.specs.Histories.{after, arena_after, cache_after}
 use Rattle.pool_law.specs.Logs.{Logs, dids, of_lane, history_of, entry_of, entries_of, note_stands}
-use Rattle.pool_law.specs.Legal.{HistoriesHold, CountsAgree}
+use Rattle.pool_law.specs.Legal.{CountsAgree}
+use Rattle.run_laws.proofs.PagedHistories.{HistoriesPaged}
 use Rattle.pool_law.specs.Lives.{IsUse, Done, cache_of, arena_of, with_uses}
 use Rattle.run_laws.specs.Conserved.{total_in, IsHeld, EndsAsArena, OutIsHeld}
 use Rattle.arena_law.specs.Slots.{EachOf, ArenaHolds}
@@ -182,7 +183,7 @@ abbrev pub uses_number : Note → ℕ
 uses_number (At o k (Birth root x)) = x.uses
 uses_number _ = 0
 
-module _ (shape : Shape) (logs : Logs) (holds : HistoriesHold shape logs) (acts : LanesAct logs)
+module _ (shape : Shape) (logs : Logs) (holds : HistoriesPaged shape logs) (acts : LanesAct logs)
     (parts : (lane : ℕ) → lane < length logs → Parts lane (map (entry_of logs) (of_lane logs lane))) (counts : CountsAgree (entries_of logs)) where
   -- a taking that was taken is its owner's, a lane of the run
   pub owner-there : (r : RegionId) → 1 ≤ takes_in logs (with_uses r 0) → r.owner < length logs
@@ -334,7 +335,7 @@ module _ (shape : Shape) (logs : Logs) (holds : HistoriesHold shape logs) (acts 
       ds = dids (history_of (Object.Arena number) logs)
 
       start : ArenaHolds (geometry_of shape) number (new_arena (geometry_of shape) shape.chunks)
-      start = new-holds (geometry_of shape) number shape.chunks
+      start = new-holds (geometry_of shape) number holds.page shape.chunks
 
       held-one : (r : RegionId) → IsOne r a.out → IsHeld logs r
       held-one r o =
@@ -343,7 +344,7 @@ module _ (shape : Shape) (logs : Logs) (holds : HistoriesHold shape logs) (acts 
           let out : 1 ≤ out_times r a.out = out-one r a.out o in
           let f : (i : ℕ) × (d : Did) × (slice_get ds i ≡ Some d) × (1 ≤ takes_taking r d) = total-found (takes_taking r) ds (omega (arith, balance, out)) in
           let t : (c : ℕ) × (x : RegionId) × (f.1 ≡ Take c x) × (same_taking x r ≡ true) = taken f.1 f.3 in
-          let p : (Object.Arena number ≡ arena_of t.1) × ((t.1.uses ≡ 0) × (t.1.class ≡ t.0)) = placed shape (Object.Arena number) ds f.0 (Take t.0 t.1) (holds.accepted (Object.Arena number)) (f.2 ∙ ap (λ x. Some x) t.2) in
+          let p : (Object.Arena number ≡ arena_of t.1) × ((t.1.uses ≡ 0) × (t.1.class ≡ t.0)) = placed shape holds.page (Object.Arena number) ds f.0 (Take t.0 t.1) (holds.accepted (Object.Arena number)) (f.2 ∙ ap (λ x. Some x) t.2) in
           let x_is : t.1 ≡ with_uses r 0 = same_taking-back t.1 r t.3 ∙ ap (λ n. with_uses r n) p.1.0 in
           let here : Object.Arena number ≡ arena_of r = p.0 ∙ ap arena_of x_is in
           let at : slice_get (dids (history_of (arena_of r) logs)) f.0 ≡ Some (Take t.0 (with_uses r 0)) = ap (λ x. slice_get (dids (history_of x logs)) f.0) (sym here) ∙ f.2 ∙ ap (λ x. Some x) t.2 ∙ ap (λ x. Some (Take t.0 x)) x_is in

@@ -8,6 +8,7 @@ use Rattle.pool_law.specs.declared.note.Did.{Did}
 use Rattle.pool_law.specs.declared.note.Did.TheVariants.{Take, Full, Give, Hit, Miss, Kept, Back, Trim, Close, Shed, Handle, NoHandle, Home, Post, Fetch, Birth, End}
 use Rattle.pool_law.specs.declared.run.Shape.{Shape}
 use Rattle.pool_law.specs.declared.id.Parcel.{Parcel}
+use Rattle.size_classes.specs.Sizes.{IsPage}
 use Rattle.pool_law.specs.Limits.{geometry_of, cache_capacity}
 use Rattle.pool_law.specs.Same.{same_region, same_taking}
 use Rattle.pool_law.specs.Arenas.{Arena, new_arena, arena_step, give, is_out_of}
@@ -108,15 +109,15 @@ IsPlaced o (Birth root r) = o ≡ Object.Root root.place
 IsPlaced o (End root) = o ≡ Object.Root root.place
 IsPlaced o _ = Unit {0}
 
-pub arena-placed : (shape : Shape) (number : ℕ) (ds : List Did) (a : Arena) (j : ℕ) (d : Did) → arena_after shape number ds ≡ Some a → slice_get ds j ≡ Some d → IsPlaced (Object.Arena number) d
-arena-placed shape number ds a j d e is =
+pub arena-placed : (shape : Shape) (number : ℕ) → IsPage shape.page → (ds : List Did) (a : Arena) (j : ℕ) (d : Did) → arena_after shape number ds ≡ Some a → slice_get ds j ≡ Some d → IsPlaced (Object.Arena number) d
+arena-placed shape number page ds a j d e is =
     let s : (m : Arena) × (n : Arena) × (after (arena_step (geometry_of shape) number) (new_arena (geometry_of shape) shape.chunks) (take j ds) ≡ Some m) × (arena_step (geometry_of shape) number m d ≡ Some n) = step-at (arena_step (geometry_of shape) number) ds (new_arena (geometry_of shape) shape.chunks) a j d e is in
-    let holds : ArenaHolds (geometry_of shape) number s.0 = after-holds (geometry_of shape) number (take j ds) (new_arena (geometry_of shape) shape.chunks) s.0 (new-holds (geometry_of shape) number shape.chunks) s.2 in
+    let holds : ArenaHolds (geometry_of shape) number s.0 = after-holds (geometry_of shape) number (take j ds) (new_arena (geometry_of shape) shape.chunks) s.0 (new-holds (geometry_of shape) number page shape.chunks) s.2 in
     go d s.0 s.1 holds s.3
   where
     go : (d : Did) (m n : Arena) → ArenaHolds (geometry_of shape) number m → arena_step (geometry_of shape) number m d ≡ Some n → IsPlaced (Object.Arena number) d
     go (Take class r) m n holds step =
-        let t : IsTaking number class m.takings r × (n.takings ≡ m.takings + 1) = step-numbers (geometry_of shape) number m n (Take class r) holds step in
+        let t : IsTaking number class m.takings r × (n.takings ≡ m.takings + 1) = step-numbers (geometry_of shape) number m n (Take class r) step in
         (ap Object.Arena (sym t.0.arena), (t.0.uses, t.0.class_is))
     go (Full class) m n holds step = tt
     go (Give r) m n holds step =
@@ -222,15 +223,15 @@ module _ (place : ℕ) where
       go (Shed r) here m o n step = absurd (never-moves place (Shed r) tt m n m.present step)
       go _ here m o n step = tt
 
-pub placed : (shape : Shape) (o : Object) (ds : List Did) (j : ℕ) (d : Did) → IsAccepted shape o ds → slice_get ds j ≡ Some d → IsPlaced o d
-placed shape (Object.Arena number) ds j d ok is = let s : (a : Arena) × (arena_after shape number ds ≡ Some a) = is-some (arena_after shape number ds) ok in arena-placed shape number ds s.0 j d s.1 is
-placed shape (Object.Cache lane class) ds j d ok is = let s : (c : Cache) × (cache_after lane class ds ≡ Some c) = is-some (cache_after lane class ds) ok in cache-placed lane class ds s.0 j d s.1 is
-placed shape (Object.Bin lane) ds j d ok is =
+pub placed : (shape : Shape) → IsPage shape.page → (o : Object) (ds : List Did) (j : ℕ) (d : Did) → IsAccepted shape o ds → slice_get ds j ≡ Some d → IsPlaced o d
+placed shape page (Object.Arena number) ds j d ok is = let s : (a : Arena) × (arena_after shape number ds ≡ Some a) = is-some (arena_after shape number ds) ok in arena-placed shape number page ds s.0 j d s.1 is
+placed shape page (Object.Cache lane class) ds j d ok is = let s : (c : Cache) × (cache_after lane class ds ≡ Some c) = is-some (cache_after lane class ds) ok in cache-placed lane class ds s.0 j d s.1 is
+placed shape page (Object.Bin lane) ds j d ok is =
     let s : (c : List ℕ) × (after (bin_step lane shape.handles) (new_bin lane shape.handles) ds ≡ Some c) = is-some (after (bin_step lane shape.handles) (new_bin lane shape.handles) ds) ok in
     let t : (m : List ℕ) × (n : List ℕ) × (after (bin_step lane shape.handles) (new_bin lane shape.handles) (take j ds) ≡ Some m) × (bin_step lane shape.handles m d ≡ Some n) = step-at (bin_step lane shape.handles) ds (new_bin lane shape.handles) s.0 j d s.1 is in
     bin-placed lane shape.handles t.0 t.1 d t.3
-placed shape (Object.Mail from to) ds j d ok is =
+placed shape page (Object.Mail from to) ds j d ok is =
     let s : (c : List Parcel) × (after mail_step [] ds ≡ Some c) = is-some (after mail_step [] ds) ok in
     let t : (m : List Parcel) × (n : List Parcel) × (after mail_step [] (take j ds) ≡ Some m) × (mail_step m d ≡ Some n) = step-at mail_step ds [] s.0 j d s.1 is in
     mail-placed from to t.0 t.1 d t.3
-placed shape (Object.Root place) ds j d ok is = let s : (p : RootPlace) × (place_after place ds ≡ Some p) = is-some (place_after place ds) ok in place-placed place ds s.0 j d s.1 is
+placed shape page (Object.Root place) ds j d ok is = let s : (p : RootPlace) × (place_after place ds ≡ Some p) = is-some (place_after place ds) ok in place-placed place ds s.0 j d s.1 is

@@ -11,7 +11,8 @@ use Rattle.pool_law.specs.declared.note.Note.{Note}
 use Rattle.pool_law.specs.declared.note.Note.TheVariants.{At, Ref}
 use Rattle.pool_law.specs.declared.run.Shape.{Shape}
 use Rattle.pool_law.specs.Logs.{Logs, Entry, dids, of_lane, history_of, entry_of, entries_of}
-use Rattle.pool_law.specs.Legal.{HistoriesHold, CountsAgree}
+use Rattle.pool_law.specs.Legal.{CountsAgree}
+use Rattle.run_laws.proofs.PagedHistories.{HistoriesPaged}
 use Rattle.pool_law.specs.Lives.{IsUse, Done, cache_of, arena_of}
 use Rattle.run_laws.specs.Conserved.{Returned, ReturnsOnce}
 use Rattle.run_laws.specs.OneLog.{Counted, HasEnded, StandInOneLog}
@@ -51,7 +52,7 @@ pub record FromShed (logs : Logs) (lane k : ℕ) (r : RegionId) : Type 0 where
 pub one-note : (logs : Logs) (lane i : ℕ) (n m : Note) → slice_get (of_lane logs lane) i ≡ Some n → slice_get (of_lane logs lane) i ≡ Some m → n ≡ m
 one-note logs lane i n m e d = same-some n m (sym e ∙ d)
 
-module _ (shape : Shape) (logs : Logs) (holds : HistoriesHold shape logs) (acts : LanesAct logs) where
+module _ (shape : Shape) (logs : Logs) (holds : HistoriesPaged shape logs) (acts : LanesAct logs) where
   pub from-end : (lane i k : ℕ) (r : RegionId) → Held logs lane i k Ended r → FromEnd logs lane k r
   from-end lane i k r h =
       let root : RootId = h.fills.0 in

@@ -10,6 +10,7 @@ use Rattle.pool_law.specs.Lives.{RegionsLive}
 use Rattle.pool_law.specs.Apart.{LieApart, NeverOverlap}
 use Rattle.run_laws.specs.Conserved.{CachesEndEmpty, RegionsReturn, OutAtEnd}
 use Rattle.run_laws.proofs.Sums.{below-or}
+use Rattle.run_laws.proofs.PagedHistories.{paged}
 use Rattle.run_laws.proofs.Placed.{is-some}
 use Rattle.run_laws.proofs.Acts.{sum_notes, Acts, no-acts}
 use Rattle.run_laws.proofs.LaneActs.{AnyNote, any-acts}
@@ -42,7 +43,7 @@ acts-of run legal lane =
     (below-or lane run.shape.lanes)
 
 pub regions-apart : (run : Run) → IsLegal run → LieApart (logs_of run)
-regions-apart run legal = apart run.shape (logs_of run) legal.histories (acts-of run legal)
+regions-apart run legal = apart run.shape (logs_of run) (paged run legal) (acts-of run legal)
 
 pub logs-length : (run : Run) → IsLegal run → length (logs_of run) ≡ run.shape.lanes
 logs-length run legal = omega (arith, map-length (λ l. l.notes) run.logs, legal.logs)
@@ -56,15 +57,15 @@ parts-of run legal lane low =
 pub caches-end_empty : (run : Run) → IsLegal run → CachesEndEmpty run.shape (logs_of run)
 caches-end_empty run legal lane class low cached =
     let ends = is-some (cache_after lane class (dids (history_of (Object.Cache lane class) (logs_of run)))) (legal.histories.accepted (Object.Cache lane class)) in
-    (ends.0, (ends.1, cache-empty run.shape (logs_of run) legal.histories (acts-of run legal) (parts-of run legal) lane class ends.0 (omega (arith, low, logs-length run legal)) cached ends.1))
+    (ends.0, (ends.1, cache-empty run.shape (logs_of run) (paged run legal) (acts-of run legal) (parts-of run legal) lane class ends.0 (omega (arith, low, logs-length run legal)) cached ends.1))
 
 pub regions-return : (run : Run) → IsLegal run → RegionsReturn (logs_of run)
-regions-return run legal root region used = returns-once run.shape (logs_of run) legal.histories (acts-of run legal) (parts-of run legal) legal.counts root region used
+regions-return run legal root region used = returns-once run.shape (logs_of run) (paged run legal) (acts-of run legal) (parts-of run legal) legal.counts root region used
 
 pub arenas-end : (run : Run) → IsLegal run → OutAtEnd run.shape (logs_of run)
 arenas-end run legal number =
     let ends = is-some (arena_after run.shape number (dids (history_of (Object.Arena number) (logs_of run)))) (legal.histories.accepted (Object.Arena number)) in
-    (ends.0, (ends.1, out-at_end run.shape (logs_of run) legal.histories (acts-of run legal) (parts-of run legal) legal.counts number ends.0 ends.1))
+    (ends.0, (ends.1, out-at_end run.shape (logs_of run) (paged run legal) (acts-of run legal) (parts-of run legal) legal.counts number ends.0 ends.1))
 
 pub posts-are_near : (run : Run) → IsLegal run → PostsWithin (logs_of run) run.shape.lanes
 posts-are_near run legal =
@@ -75,13 +76,13 @@ posts-are_near run legal =
 pub totals-are_shared : (run : Run) → IsLegal run → TotalsAreShared (logs_of run) run.shape.lanes
 totals-are_shared run legal root region used =
     total-shared run.shape (logs_of run) legal.histories root run.shape.lanes (omega (arith, logs-length run legal)) (posts-are_near run legal) legal.counts
-    (birth-counts run.shape (logs_of run) legal.histories (acts-of run legal) (parts-of run legal) root region used)
+    (birth-counts run.shape (logs_of run) (paged run legal) (acts-of run legal) (parts-of run legal) root region used)
 
 pub roots-in_one_log : (run : Run) → IsLegal run → StandInOneLog (logs_of run)
-roots-in_one_log run legal = stand-in_one_log run.shape (logs_of run) legal.histories (acts-of run legal) (parts-of run legal) legal.counts
+roots-in_one_log run legal = stand-in_one_log run.shape (logs_of run) (paged run legal) (acts-of run legal) (parts-of run legal) legal.counts
 
 pub regions-live : (run : Run) → IsLegal run → RegionsLive (logs_of run)
-regions-live run legal = chain.regions-live run.shape (logs_of run) legal.histories (acts-of run legal) (parts-of run legal) legal.counts
+regions-live run legal = chain.regions-live run.shape (logs_of run) (paged run legal) (acts-of run legal) (parts-of run legal) legal.counts
 
 pub roots-never_overlap : (run : Run) → IsLegal run → NeverOverlap (logs_of run)
 roots-never_overlap run legal = never-overlap (logs_of run) (regions-live run legal) (regions-apart run legal)

@@ -14,7 +14,7 @@ use Rattle.pool_law.specs.Caches.{Cache}
 use Rattle.pool_law.specs.Roots.{RootPlace, Present, new_place, place_step, place_step_by}
 use Rattle.pool_law.specs.Histories.{after, place_after, cache_after, arena_after}
 use Rattle.pool_law.specs.Logs.{Logs, History, dids, of_lane, history_of, entry_of, present_in, present_before, region_for}
-use Rattle.pool_law.specs.Legal.{HistoriesHold}
+use Rattle.run_laws.proofs.PagedHistories.{HistoriesPaged}
 use Rattle.pool_law.specs.Lives.{cache_of, arena_of}
 use Rattle.arena_law.specs.Takings.{TakenInOrder}
 use Rattle.run_laws.specs.CacheCounts.{one_of, times, puts, removes, total_by}
@@ -247,11 +247,11 @@ over-less-at {X = X} f g (xs ∷ logs) h = omega (arith, one xs (λ i x is. h 0 
     one (x ∷ xs) h = omega (arith, h 0 x refl, one xs (λ i y is. h (suc i) y is))
 
 -- the laws that need the histories and the hands of a run
-module _ (shape : Shape) (logs : Logs) (holds : HistoriesHold shape logs) (acts : LanesAct logs) where
+module _ (shape : Shape) (logs : Logs) (holds : HistoriesPaged shape logs) (acts : LanesAct logs) where
   pub note-placed : (lane i k : ℕ) (o : Object) (d : Did) → slice_get (of_lane logs lane) i ≡ Some (At o k d) → IsPlaced o d
   note-placed lane i k o d is =
       let at : (j : ℕ) × (k ≡ 1 + j) × (slice_get (history_of o logs) j ≡ Some (lane, d)) = in-history o logs (history_of o logs) (holds.whole o) lane i k d is in
-      placed shape o (dids (history_of o logs)) at.0 d (holds.accepted o) (dids-at (history_of o logs) at.0 lane d at.2)
+      placed shape holds.page o (dids (history_of o logs)) at.0 d (holds.accepted o) (dids-at (history_of o logs) at.0 lane d at.2)
 
   pub tally-log : (f : Tally) (log : List Note) → tally f (map (entry_of logs) log) ≡ sum_by (note_tally logs f) log
   tally-log f [] = refl
@@ -375,7 +375,7 @@ module _ (shape : Shape) (logs : Logs) (holds : HistoriesHold shape logs) (acts 
         go (suc n) e =
             let f : (i : ℕ) × (d : Did) × (slice_get (dids (history_of (arena_of r) logs)) i ≡ Some d) × (1 ≤ takes r d) = total-found (takes r) (dids (history_of (arena_of r) logs)) (omega (arith, e)) in
             let t : (c : ℕ) × (f.1 ≡ Take c r) = taken f.1 f.3 in
-            let p : (arena_of r ≡ arena_of r) × ((r.uses ≡ 0) × (r.class ≡ t.0)) = placed shape (arena_of r) (dids (history_of (arena_of r) logs)) f.0 (Take t.0 r) (holds.accepted (arena_of r)) (f.2 ∙ ap (λ x. Some x) t.1) in
+            let p : (arena_of r ≡ arena_of r) × ((r.uses ≡ 0) × (r.class ≡ t.0)) = placed shape holds.page (arena_of r) (dids (history_of (arena_of r) logs)) f.0 (Take t.0 r) (holds.accepted (arena_of r)) (f.2 ∙ ap (λ x. Some x) t.1) in
             absurd (omega (arith, p.1.0, used))
 
     -- what ends was born

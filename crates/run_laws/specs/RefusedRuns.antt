@@ -25,6 +25,7 @@ use Rattle.run_laws.specs.Refused.{front_place, first_taking, byte_root, at_aren
 abbrev pub shape_of : ℕ → ℕ → Shape
 shape_of handles lanes =
     record {
+      page = 8192;
       order = 9;
       arenas = 1;
       chunks = 1;
@@ -61,6 +62,7 @@ stale =
             ∷ [];
       };
       shape = record {
+        page = 8192;
         order = 9;
         arenas = 1;
         chunks = 1;
@@ -114,6 +116,7 @@ swapped =
             ∷ [];
       };
       shape = record {
+        page = 8192;
         order = 9;
         arenas = 1;
         chunks = 1;
