@@ -81,9 +81,9 @@ new-rooms g room =
 
 -- ---- the arena
 
-module _ (s : Inside) (order chunks room : ℕ) (least : 3 ≤ order) (most : order ≤ 11) (some : 1 ≤ chunks) (few : chunks ≤ 8) (classes : s.classes ≡ of_order order)
+module _ (s : Inside) (order page chunks room : ℕ) (sizes : IsGeometry (of_pages order page)) (some : 1 ≤ chunks) (few : chunks ≤ 8) (classes : s.classes ≡ of_pages order page)
     (lists : s.lists ≡ new_listing chunks) (count : length s.places.items ≡ chunks)
-    (unused : All (λ (p : PlaceState). (p.geometry ≡ of_order order) × (p.chunk ≡ None)) s.places.items) (room_is : room ≡ chunks * chunk_pages (of_order order))
+    (unused : All (λ (p : PlaceState). (p.geometry ≡ of_pages order page) × (p.chunk ≡ None)) s.places.items) (room_is : room ≡ chunks * chunk_pages (of_pages order page))
     (fronts : s.fronts.items ≡ map (front_for s.classes room) (below (class_count s.classes))) where
   no_lists : s.lists.lists ≡ no_chunks
   no_lists = ap (λ (l : Listing). l.lists) lists
@@ -99,12 +99,12 @@ module _ (s : Inside) (order chunks room : ℕ) (least : 3 ≤ order) (most : or
         fronts =
             subst (λ (fs : List FrontState). HasRoomAt (length s.places.items * chunk_pages s.classes) s.classes fs) (sym fronts)
             (subst (λ (n : ℕ). HasRoomAt n s.classes (map (front_for s.classes room) (below (class_count s.classes))))
-            (room_is ∙ ap (λ (n : ℕ). n * chunk_pages (of_order order)) (sym count) ∙ ap (λ (g : Geometry). length s.places.items * chunk_pages g) (sym classes))
+            (room_is ∙ ap (λ (n : ℕ). n * chunk_pages (of_pages order page)) (sym count) ∙ ap (λ (g : Geometry). length s.places.items * chunk_pages g) (sym classes))
             (new-rooms s.classes room));
         settled = λ c name listed. absurd (cc (sym (nowhere c) ∙ ap (λ (l : Lists). list_of l c) (sym no_lists) ∙ listed));
       }
 
-  pub new-state : arena_in (stock_in s) ≡ new_arena (of_order order) chunks
+  pub new-state : arena_in (stock_in s) ≡ new_arena (of_pages order page) chunks
   new-state = λ i. record {
     chunks = (all-same (λ (p : PlaceState). p.chunk) None s.places.items (λ k d less. (unused k d less).1) ∙ ap (λ (n : ℕ). replicate n None) count) i;
     lists = no_lists i;

@@ -385,6 +385,7 @@ impl Stock {
         self.drop_idle();
         let Stock {
             classes: _,
+            page: _,
             places,
             lists: _,
             fronts: _,
@@ -396,6 +397,7 @@ impl Stock {
     pub(crate) fn leave(self) {
         let Stock {
             classes: _,
+            page: _,
             mut places,
             lists: _,
             fronts: _,

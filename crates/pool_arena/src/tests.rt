@@ -7,6 +7,7 @@ ghost use Rattle.pool_arena.specs.Trials.{IsTrial};
 
 use crate::Arena;
 use pool_law::{ChunkEnd, ListName, Region};
+use size_classes::DEFAULT_PAGE;
 use std::alloc::Global;
 use std::collections::VecDeque;
 use std::marker::Model;
