@@ -4,7 +4,7 @@ use Rattle.std.specs.Prelude.{◌⊎◌, Option, map, slice_get, All, option_map
 use Rattle.std.proofs.lemmas.Option.{slice_get-map, slice_get-get_or}
 use Rattle.std.proofs.lemmas.List.{length-map, length-append, map-append, get_or_append_left, replicate-append-replicate}
 use Rattle.std.proofs.Math.Seq.{get_or-append_seam}
-use Rattle.size_classes.specs.Sizes.{Geometry, of_order, below, class_count, is_small, chunk_pages}
+use Rattle.size_classes.specs.Sizes.{Geometry, of_pages, IsGeometry, below, class_count, is_small, chunk_pages}
 use Rattle.pool_law.specs.ChunkLists.{Lists, list_of, no_chunks}
 use Rattle.pool_law.specs.Arenas.{new_arena}
 use Rattle.pool_law.proofs.ListLemmas.{slice_get-below}
@@ -81,7 +81,7 @@ new-rooms g room =
 
 -- ---- the arena
 
-module _ (s : Inside) (order page chunks room : ℕ) (sizes : IsGeometry (of_pages order page)) (some : 1 ≤ chunks) (few : chunks ≤ 8) (classes : s.classes ≡ of_pages order page)
+module _ (s : Inside) (order page chunks room : ℕ) (page_is : s.page ≡ page) (sizes : IsGeometry (of_pages order page)) (some : 1 ≤ chunks) (few : chunks ≤ 8) (classes : s.classes ≡ of_pages order page)
     (lists : s.lists ≡ new_listing chunks) (count : length s.places.items ≡ chunks)
     (unused : All (λ (p : PlaceState). (p.geometry ≡ of_pages order page) × (p.chunk ≡ None)) s.places.items) (room_is : room ≡ chunks * chunk_pages (of_pages order page))
     (fronts : s.fronts.items ≡ map (front_for s.classes room) (below (class_count s.classes))) where
@@ -91,8 +91,10 @@ module _ (s : Inside) (order page chunks room : ℕ) (sizes : IsGeometry (of_pag
   pub new-held : IsStock s
   new-held =
       record {
-        least = subst (λ (g : Geometry). 3 ≤ g.order) (sym classes) least;
-        order = subst (λ (g : Geometry). g.order ≤ 11) (sym classes) most;
+        least = subst (λ (g : Geometry). 3 ≤ g.order) (sym classes) sizes.least;
+        order = subst (λ (g : Geometry). g.order ≤ 11) (sym classes) sizes.most;
+        sizes = subst (λ (g : Geometry). IsGeometry g) (sym classes) sizes;
+        page = page_is ∙ ap (λ (g : Geometry). g.page) (sym classes);
         few = (omega (arith, count, some), omega (arith, count, few));
         lists = ap (λ (l : Listing). l.places) lists ∙ sym count;
         places = λ k d less. (unused k d less).0 ∙ sym classes;

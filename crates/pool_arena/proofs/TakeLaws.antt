@@ -13,9 +13,8 @@ use Rattle.pool_arena.specs.Places.{IsWanted}
 use Rattle.pool_arena.specs.Stocks.{StockState, arena_with, YieldsNone, CutsOff, run_wanted, GivesPlace}
 
 -- the pages of a normal class are some, and no more than a chunk has
-pub whole-wanted : (g : Geometry) (class pages : ℕ) → class < class_count g → pages * page_of g ≡ size_at class → IsWanted g (Wanted.Run pages)
-whole-wanted g class pages less fills =
-    (omega (arith, fills, size_at-least class), omega (arith, fills, size_at-within_chunk g class less))
+pub whole-wanted : (g : Geometry) (class pages : ℕ) → IsPageClass g pages → IsWanted g (Wanted.Run pages)
+whole-wanted g class pages page_class = page_class
 
 module _ (old : StockState) (class pages : ℕ) (whole : is_small old.geometry class ≡ false) (pages_are : pages ≡ pages_of old.geometry class) where
   -- what a normal class takes

@@ -100,7 +100,7 @@ impl ChunkPlace {
     /// How much of its chunk is used, in hundredths.
     pub(crate) fn usage(&self) -> u32
         requires used { IsSome self.now.chunk }
-        requires order { self.now.geometry.order ≤ 11 }
+        requires bytes { chunk_bytes self.now.geometry ≤ 2 ^ 24 }
         ensures usage { result ≡ usage self.now.geometry (runs_of self.now) }
         ensures most { result ≤ 100 }
         ensures chunk { IsChunk self.now.geometry (runs_of self.now) }

@@ -1,7 +1,7 @@
 //! What an arena has to give: its chunks in their lists, and its subpages by class.
 
 ghost use Rattle.std.specs.Prelude.{◌≡◌, ◌≢◌, ℕ, ◌+◌, ◌-◌, ◌*◌, ◌/◌, ◌^◌, ◌<◌, ◌≤◌, [], ◌∷◌, true, false, length, replicate, map, All, Option, Some, None, IfOk, IfSome, IfNone, IsSome, OnErr, slice_get, unwrap_or, position, not, is_some};
-ghost use Rattle.size_classes.specs.Sizes.{Geometry, below, of_pages, IsGeometry, page_of, chunk_pages, class_count, is_small, size_at, pages_of};
+ghost use Rattle.size_classes.specs.Sizes.{Geometry, below, of_pages, IsGeometry, page_of, chunk_pages, chunk_bytes, class_count, is_small, size_at, pages_of};
 ghost use Rattle.size_classes.specs.Pages.{NoneEmpty};
 ghost use Rattle.size_classes.specs.Elements.{is_idle, with_back};
 ghost use Rattle.pool_law.specs.Chunks.{new_chunk, usage, used_bytes, free_bytes};
@@ -412,7 +412,7 @@ impl Stock {
 // A chunk settles by its usage. One that is destroyed leaves its place.
 fn settle(place: &mut ChunkPlace, lists: &mut ChunkLists, chunk: u32)
     requires used { IsSome place.old.chunk }
-    requires order { place.old.geometry.order ≤ 11 }
+    requires bytes { chunk_bytes place.old.geometry ≤ 2 ^ 24 }
     requires listed { IsSome (list_of lists.old.lists chunk) }
     ensures lists { lists.new ≡ with_lists lists.old
         (settled lists.old.lists chunk (usage place.old.geometry (runs_of place.old))) }

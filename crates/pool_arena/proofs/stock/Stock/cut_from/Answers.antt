@@ -20,6 +20,7 @@ abbrev kept : goal.After-from_residual → Inside
 kept c =
     record {
       classes = c.self.inside.classes;
+      page = c.self.inside.page;
       places = with_item c.self.inside.places c.args.chunk c.cut.new.self;
       lists = c.self.inside.lists;
       fronts = c.self.inside.fronts;
@@ -71,6 +72,7 @@ abbrev after : goal.After-self-2-1 → Inside
 after c =
     record {
       classes = c.self.inside.classes;
+      page = c.self.inside.page;
       places = with_item c.self.inside.places c.args.chunk c.settle.new.place;
       lists = c.settle.new.lists;
       fronts = c.self.inside.fronts;

@@ -58,6 +58,7 @@ abbrev after : goal.After-self-2-1 → Inside
 after c =
     record {
       classes = c.self.inside.classes;
+      page = c.self.inside.page;
       places = with_item c.self.inside.places c.args.spot.chunk c.settle.new.place;
       lists = c.settle.new.lists;
       fronts = with_item c.self.inside.fronts c.args.class c.leave.new.self;

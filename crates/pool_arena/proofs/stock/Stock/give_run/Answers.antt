@@ -63,6 +63,7 @@ abbrev after : goal.After-self-1 → Inside
 after c =
     record {
       classes = c.self.inside.classes;
+      page = c.self.inside.page;
       places = with_item c.self.inside.places c.args.chunk c.settle.new.place;
       lists = c.settle.new.lists;
       fronts = c.self.inside.fronts;
