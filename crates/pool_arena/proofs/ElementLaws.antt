@@ -22,7 +22,7 @@ use Rattle.pool_arena.specs.Held.{stock_in, HasRoomAt, IsStock}
 use Rattle.pool_arena.specs.declared.stock.Stock.TheInside.{Inside}
 use Rattle.pool_arena.proofs.FrontsLaws.{front_of-is, spots-set}
 use Rattle.pool_arena.proofs.UsageLaws.{usage-same, elements-free}
-use Rattle.pool_arena.proofs.StockLaws.{Written, place-chunk_at, place-origin, written-grounds, written-chunks, written-held, written-settled}
+use Rattle.pool_arena.proofs.StockLaws.{sizes_of, Written, place-chunk_at, place-origin, written-grounds, written-chunks, written-held, written-settled}
 
 -- ---- runs
 
@@ -80,7 +80,7 @@ subpage-changed p q page sub f is =
 
 module _ (s t : Inside) (is : IsStock s) (c : ℕ) (x y : PlaceState) (page : ℕ) (found : slice_get s.places.items c ≡ Some x)
     (sub : HasSubpage (state_of x) page) (f : Elements) (changed : y ≡ with_chunk x (Some (with_elements page sub.class f (runs_of x))))
-    (items : t.places.items ≡ slice_set s.places.items c y) (lists : t.lists ≡ s.lists) (classes : t.classes ≡ s.classes) where
+    (items : t.places.items ≡ slice_set s.places.items c y) (lists : t.lists ≡ s.lists) (sizes : sizes_of t ≡ sizes_of s) where
   elements-written : Written s t c x y
   elements-written =
       record {
@@ -88,7 +88,8 @@ module _ (s t : Inside) (is : IsStock s) (c : ℕ) (x y : PlaceState) (page : �
         items = items;
         origin = ap (λ (p : PlaceState). p.origin) changed;
         geometry = ap (λ (p : PlaceState). p.geometry) changed;
-        classes = classes;
+        classes = ap (λ (x : Geometry × ℕ). x.0) sizes;
+            page = ap (λ (x : Geometry × ℕ). x.1) sizes;
         places = ap (λ (l : Listing). l.places) lists;
       }
 
@@ -161,7 +162,7 @@ other-fronts s class c page e other =
 
 module _ (s t : Inside) (is : IsStock s) (class c page : ℕ) (x y : PlaceState) (found : slice_get s.places.items c ≡ Some x) (o : IsOpen (stock_in s) class c page)
     (piece : Segment) (given : HandsOut x page (open-sub s class c page x found o) y piece) (items : t.places.items ≡ slice_set s.places.items c y) (lists : t.lists ≡ s.lists)
-    (classes : t.classes ≡ s.classes) (fronts : (stock_in t).fronts ≡ fronts_after (stock_in s) class c page (with_out o.elements given.element)) where
+    (sizes : sizes_of t ≡ sizes_of s) (fronts : (stock_in t).fronts ≡ fronts_after (stock_in s) class c page (with_out o.elements given.element)) where
   pub take-law : GivesPlace (stock_in s) (λ a. take_element s.classes a class (c, page)) class (stock_in t) c piece
   take-law =
       let e = o.elements in

@@ -81,7 +81,7 @@ few-pages : (g : Geometry) → 3 ≤ g.order → 7 ≤ chunk_pages g
 few-pages g le = omega (arith, pow-le-pow_right {n = 2} (omega arith) le)
 
 wanted-fits : (g : Geometry) → 3 ≤ g.order → (wanted : Wanted) → IsWanted g wanted → pages_wanted g wanted ≤ chunk_pages g
-wanted-fits g le (Wanted.Run pages) is = is.1
+wanted-fits g le (Wanted.Run pages) is = is.0
 wanted-fits g le (Wanted.Subpage class) is = omega (arith, (subpage_pages_within g class is.1).1, few-pages g le)
 
 module _ (old mid : StockState) (o : IsOrderly old.geometry (arena_in old)) (wanted : Wanted) (is : IsWanted old.geometry wanted) (c : ℕ)

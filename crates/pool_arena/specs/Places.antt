@@ -56,9 +56,9 @@ abbrev pub use_wanted : Geometry → Wanted → Use
 use_wanted g (Wanted.Run pages) = Whole
 use_wanted g (Wanted.Subpage class) = Sub class (new_elements (element_count g class))
 
--- a run has the pages of a page class, and a subpage is of a small class
+-- a run has the pages of a page class, no more than a chunk, and a subpage is of a small class
 abbrev pub IsWanted : Geometry → Wanted → Type 0
-IsWanted g (Wanted.Run pages) = IsPageClass g pages
+IsWanted g (Wanted.Run pages) = (pages ≤ chunk_pages g) × IsPageClass g pages
 IsWanted g (Wanted.Subpage class) = (class < class_count g) × (is_small g class ≡ true)
 
 -- what is cut off is the run that begins at a page: its bytes, or a subpage

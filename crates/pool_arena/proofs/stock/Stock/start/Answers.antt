@@ -35,6 +35,7 @@ writes c =
       origin = ap (λ (p : PlaceState). p.origin) c.start.ensures;
       geometry = ap (λ (p : PlaceState). p.geometry) c.start.ensures;
       classes = refl;
+      page = refl;
       places = ap (λ l. l.places) c.add-list.ensures.lists;
     }
 
