@@ -5,7 +5,7 @@ use Rattle.std.proofs.lemmas.Bool.{cond_both}
 use Rattle.std.proofs.lemmas.List.{length-map}
 use Rattle.arena_law.proofs.ArenaSteps.{chunk_at-below}
 use Rattle.ground.specs.Ground.{Segment}
-use Rattle.size_classes.specs.Sizes.{page_of, chunk_pages, size_at}
+use Rattle.size_classes.specs.Sizes.{Geometry, page_of, chunk_pages, size_at}
 use Rattle.size_classes.specs.Pages.{Run, Free, Used, pages_in, replaced, run_at, NoneEmpty}
 use Rattle.size_classes.specs.Elements.{Elements, is_full, next_element, with_out}
 use Rattle.size_classes.proofs.Runs.{Begins-run_at}
