@@ -1,4 +1,4 @@
-use Rattle.std.proofs.Common.{ℕ, ◌∙◌, List, [], ◌∷◌, refl, subst, arith, inl}
+use Rattle.std.proofs.Common.{ℕ, ◌∙◌, List, [], ◌∷◌, refl, subst, arith, inl, inr}
 use Rattle.pool_law.specs.declared.id.RegionId.{RegionId}
 use Rattle.pool_arena.specs.ArenaStates.{ArenaState, IsNew, Takes, Gives, AtRest, IsOutOf}
 use Rattle.pool_arena.specs.Trials.{HasOut}

@@ -1,4 +1,4 @@
-use Rattle.std.proofs.Common.{arith, []}
+use Rattle.std.proofs.Common.{arith, [], inl, inr, refl}
 use Rattle.pool_arena.proofs.OutLaws.{new-out, new-takings, take-takings}
 use Rattle.pool_arena.proofs.tests.the_whole_chunk_is_taken_once.Goals as goal
 
