@@ -169,7 +169,7 @@ module _ (s t : Inside) (is : IsStock s) (class c page : ℕ) (x y : PlaceState)
       let k = given.element in
       let sub = open-sub s class c page x found o in
       let chunks : (stock_in t).chunks ≡ slice_set (stock_in s).chunks c (Some (with_elements page class (with_out e k) (chunk_at (arena_in (stock_in s)) c))) =
-      elements-chunks s t is c x y page found sub (with_out e k) given.rest items lists classes in
+      elements-chunks s t is c x y page found sub (with_out e k) given.rest items lists sizes in
       record {
         yields =
             record {
@@ -192,8 +192,8 @@ module _ (s t : Inside) (is : IsStock s) (class c page : ℕ) (x y : PlaceState)
                       out = out;
                     },
                   ));
-              geometry = classes;
-              grounds = elements-grounds s t is c x y page found sub (with_out e k) given.rest items lists classes;
+              geometry = ap (λ (x : Geometry × ℕ). x.0) sizes;
+              grounds = elements-grounds s t is c x y page found sub (with_out e k) given.rest items lists sizes;
             };
         piece_is = record { origin = place-origin s c x found ∙ ap Some (sym given.piece.origin); start = refl; size = given.piece.size };
       }
