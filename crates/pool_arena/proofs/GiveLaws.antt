@@ -39,7 +39,7 @@ module _ (s t : Inside) (is : IsStock s) (c page n : ℕ) (what : Use) (x y q : 
       let free = given-free (runs_of x) page n what some begins in
       let more : free_pages (chunk_at (arena_in (stock_in s)) c) ≤ free_pages (runs_of y) =
       omega (arith, ap free_pages before, ap (λ (p : PlaceState). free_pages (runs_of p)) given, free) in
-      omega (arith, (is.settled c d.here d.there).1, usage-rises s.classes (chunk_at (arena_in (stock_in s)) c) (runs_of y) more)
+      omega (arith, (is.settled c d.here d.there).1, usage-rises s.classes is.sizes.page (chunk_at (arena_in (stock_in s)) c) (runs_of y) more)
 
   pub given-law : (fronts : List (List (ℕ × ℕ))) → map (λ (f : FrontState). f.spots) t.fronts.items ≡ fronts
       → Becomes (stock_in s) (λ a. run_given s.classes (record a { fronts = fronts }) c page) (stock_in t)

@@ -7,6 +7,7 @@ use Rattle.size_classes.specs.Pages.{Run, Used, run_at, run_start, pages_in, tot
 use Rattle.size_classes.specs.Runs.{Begins}
 use Rattle.size_classes.specs.Elements.{Elements, is_full, is_idle, with_back}
 use Rattle.size_classes.proofs.Runs.{run_at-Begins, Begins-inside, run_start-Begins}
+use Rattle.size_classes.proofs.Geometries.{page_shift-is}
 use Rattle.size_classes.proofs.SmallClasses.{small_below, page-some}
 use Rattle.pool_law.specs.declared.id.RegionId.{RegionId}
 use Rattle.pool_law.specs.Chunks.{Use, Sub, IsChunk}
@@ -31,7 +32,7 @@ use Rattle.pool_arena.proofs.RoomLaws.{AreWithin, within-of, room-for}
 
 -- a small class is a class
 pub small-class : (g : Geometry) (a : Arena) (class : ℕ) → IsOrderly g a → is_small g class ≡ true → class < class_count g
-small-class g a class o small = omega (arith, small_below g class small, o.order)
+small-class g a class o small = omega (arith, small_below g (o.sound 0).page class small, o.order, (page_shift-is g.page (o.sound 0).page).least)
 
 -- a run lies in the pages of its chunk
 pub run-inside : (g : Geometry) (a : Arena) (c p : ℕ) (r : Run Use) → IsOrderly g a → Begins p r (chunk_at a c) → p < chunk_pages g
