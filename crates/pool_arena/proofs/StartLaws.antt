@@ -2,6 +2,7 @@
 use Rattle.std.proofs.Common.{◌≡◌, ℕ, ◌*◌, ◌-◌, ◌/◌, ◌<◌, List, [], length, sym, ap, ◌∙◌, subst, Some, None, Bool, false, arith, ne_eqb}
 use Rattle.std.specs.Prelude.{Option, map, slice_set, if◌then◌else◌, ◌==◌, unwrap_or}
 use Rattle.std.proofs.Math.Nat.{mul-div_cancel_left}
+use Rattle.size_classes.specs.Pages.{free_pages}
 use Rattle.size_classes.specs.Sizes.{Geometry, IsPage, page_of, chunk_pages, chunk_bytes}
 use Rattle.pool_law.specs.declared.report.ListName.{ListName}
 use Rattle.pool_law.specs.declared.report.ListName.TheVariants.{QInit}
@@ -31,7 +32,9 @@ all-usage free size same some =
     ∙ ap (λ (n : ℕ). if n == 0 then 99 else 100 - n) quotient
 
 pub new-usage : (g : Geometry) → IsPage g.page → usage g (new_chunk g) ≡ 0
-new-usage g page = all-usage (free_bytes g (new_chunk g)) (chunk_bytes g) (ap (λ (n : ℕ). page_of g * n) (add-zero (chunk_pages g))) (size-some g page)
+new-usage g page =
+    let all : free_pages (new_chunk g) ≡ chunk_pages g = omega arith in
+    all-usage (free_bytes g (new_chunk g)) (chunk_bytes g) (ap (λ (n : ℕ). page_of g * n) all) (size-some g page)
 
 module _ (s t : Inside) (c : ℕ) (x q : PlaceState) (w : Written s t c x q) (is : IsStock s)
     (chunk_is : q.chunk ≡ Some (new_chunk x.geometry)) (lists_are : t.lists ≡ with_lists s.lists (added s.lists.lists c 0))
