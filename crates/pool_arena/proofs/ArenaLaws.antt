@@ -1,7 +1,8 @@
 -- What an arena keeps, and what its takings and givings are, in the law's words.
 use Rattle.std.proofs.Common.{◌≡◌, ℕ, [], length, refl, sym, ap, ◌∙◌, subst, Bool, true, false, arith, ◌≤◌}
 use Rattle.std.specs.Prelude.{Option, IfSome}
-use Rattle.size_classes.specs.Sizes.{Geometry, class_count, is_small}
+use Rattle.size_classes.specs.Sizes.{Geometry, IsPage, class_count, is_small}
+use Rattle.size_classes.proofs.Geometries.{page_shift-is}
 use Rattle.size_classes.proofs.SmallClasses.{small_below}
 use Rattle.pool_law.specs.declared.id.RegionId.{RegionId}
 use Rattle.pool_law.specs.Arenas.{Arena, Spotted, chunk_at, take_class, given_place}
@@ -38,9 +39,9 @@ given-places old new class chunk offset becomes =
     ap (λ (x : Arena). length x.chunks) (sym (becomes.law 0 [])) ∙ place-keeps old.geometry (arena_in old) class chunk offset
 
 -- a number past the classes is that of no small class
-pub past-not_small : (g : Geometry) (class : ℕ) → 3 ≤ g.order → class_count g ≤ class → is_small g class ≡ false
-past-not_small g class order past = by (is_small g class) refl
+pub past-not_small : (g : Geometry) → IsPage g.page → (class : ℕ) → 3 ≤ g.order → class_count g ≤ class → is_small g class ≡ false
+past-not_small g page class order past = by (is_small g class) refl
   where
     by : (b : Bool) → is_small g class ≡ b → is_small g class ≡ false
     by false is = is
-    by true is = absurd (omega (arith, small_below g class is, order, past))
+    by true is = absurd (omega (arith, small_below g page class is, order, (page_shift-is g.page page).least, past))

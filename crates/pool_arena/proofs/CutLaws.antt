@@ -50,7 +50,7 @@ module _ (s t : Inside) (is : IsStock s) (c : ℕ) (x y q : PlaceState) (wanted 
       let begins = chosen-begins s.classes (pages_wanted s.classes wanted) cuts.page cuts.long (chunk_at (arena_in (stock_in s)) c) found in
       let free = taken-free (chunk_at (arena_in (stock_in s)) c) cuts.page cuts.long (pages_wanted s.classes wanted) (use_wanted s.classes wanted) some begins.0 begins.1 in
       let less : free_pages (runs_of y) ≤ free_pages (chunk_at (arena_in (stock_in s)) c) = omega (arith, ap free_pages runs-are, free) in
-      omega (arith, (is.settled c d.here d.there).0, usage-rises s.classes (runs_of y) (chunk_at (arena_in (stock_in s)) c) less)
+      omega (arith, (is.settled c d.here d.there).0, usage-rises s.classes is.sizes.page (runs_of y) (chunk_at (arena_in (stock_in s)) c) less)
 
   pub cut-law : CutsFrom (stock_in s) c wanted (stock_in t) cut
   cut-law =

@@ -5,7 +5,7 @@ use Rattle.std.proofs.lemmas.Bool.{cond_both}
 use Rattle.std.proofs.lemmas.List.{length-map}
 use Rattle.arena_law.proofs.ArenaSteps.{chunk_at-below}
 use Rattle.ground.specs.Ground.{Segment}
-use Rattle.size_classes.specs.Sizes.{page_of, chunk_pages, size_at}
+use Rattle.size_classes.specs.Sizes.{Geometry, page_of, chunk_pages, size_at}
 use Rattle.size_classes.specs.Pages.{Run, Free, Used, pages_in, replaced, run_at, NoneEmpty}
 use Rattle.size_classes.specs.Elements.{Elements, is_full, next_element, with_out}
 use Rattle.size_classes.proofs.Runs.{Begins-run_at}
@@ -22,7 +22,7 @@ use Rattle.pool_arena.specs.Held.{stock_in, HasRoomAt, IsStock}
 use Rattle.pool_arena.specs.declared.stock.Stock.TheInside.{Inside}
 use Rattle.pool_arena.proofs.FrontsLaws.{front_of-is, spots-set}
 use Rattle.pool_arena.proofs.UsageLaws.{usage-same, elements-free}
-use Rattle.pool_arena.proofs.StockLaws.{Written, place-chunk_at, place-origin, written-grounds, written-chunks, written-held, written-settled}
+use Rattle.pool_arena.proofs.StockLaws.{sizes_of, Written, place-chunk_at, place-origin, written-grounds, written-chunks, written-held, written-settled}
 
 -- ---- runs
 
@@ -80,7 +80,7 @@ subpage-changed p q page sub f is =
 
 module _ (s t : Inside) (is : IsStock s) (c : ℕ) (x y : PlaceState) (page : ℕ) (found : slice_get s.places.items c ≡ Some x)
     (sub : HasSubpage (state_of x) page) (f : Elements) (changed : y ≡ with_chunk x (Some (with_elements page sub.class f (runs_of x))))
-    (items : t.places.items ≡ slice_set s.places.items c y) (lists : t.lists ≡ s.lists) (classes : t.classes ≡ s.classes) where
+    (items : t.places.items ≡ slice_set s.places.items c y) (lists : t.lists ≡ s.lists) (sizes : sizes_of t ≡ sizes_of s) where
   elements-written : Written s t c x y
   elements-written =
       record {
@@ -88,7 +88,8 @@ module _ (s t : Inside) (is : IsStock s) (c : ℕ) (x y : PlaceState) (page : �
         items = items;
         origin = ap (λ (p : PlaceState). p.origin) changed;
         geometry = ap (λ (p : PlaceState). p.geometry) changed;
-        classes = classes;
+        classes = ap (λ (x : Geometry × ℕ). x.0) sizes;
+            page = ap (λ (x : Geometry × ℕ). x.1) sizes;
         places = ap (λ (l : Listing). l.places) lists;
       }
 
@@ -161,14 +162,14 @@ other-fronts s class c page e other =
 
 module _ (s t : Inside) (is : IsStock s) (class c page : ℕ) (x y : PlaceState) (found : slice_get s.places.items c ≡ Some x) (o : IsOpen (stock_in s) class c page)
     (piece : Segment) (given : HandsOut x page (open-sub s class c page x found o) y piece) (items : t.places.items ≡ slice_set s.places.items c y) (lists : t.lists ≡ s.lists)
-    (classes : t.classes ≡ s.classes) (fronts : (stock_in t).fronts ≡ fronts_after (stock_in s) class c page (with_out o.elements given.element)) where
+    (sizes : sizes_of t ≡ sizes_of s) (fronts : (stock_in t).fronts ≡ fronts_after (stock_in s) class c page (with_out o.elements given.element)) where
   pub take-law : GivesPlace (stock_in s) (λ a. take_element s.classes a class (c, page)) class (stock_in t) c piece
   take-law =
       let e = o.elements in
       let k = given.element in
       let sub = open-sub s class c page x found o in
       let chunks : (stock_in t).chunks ≡ slice_set (stock_in s).chunks c (Some (with_elements page class (with_out e k) (chunk_at (arena_in (stock_in s)) c))) =
-      elements-chunks s t is c x y page found sub (with_out e k) given.rest items lists classes in
+      elements-chunks s t is c x y page found sub (with_out e k) given.rest items lists sizes in
       record {
         yields =
             record {
@@ -191,8 +192,8 @@ module _ (s t : Inside) (is : IsStock s) (class c page : ℕ) (x y : PlaceState)
                       out = out;
                     },
                   ));
-              geometry = classes;
-              grounds = elements-grounds s t is c x y page found sub (with_out e k) given.rest items lists classes;
+              geometry = ap (λ (x : Geometry × ℕ). x.0) sizes;
+              grounds = elements-grounds s t is c x y page found sub (with_out e k) given.rest items lists sizes;
             };
         piece_is = record { origin = place-origin s c x found ∙ ap Some (sym given.piece.origin); start = refl; size = given.piece.size };
       }

@@ -43,13 +43,15 @@ spots-set fs class h = map-set (λ (f : FrontState). f.spots) fs class h
 
 -- an arena with other fronts
 abbrev pub with_fronts : Inside → Vec FrontState Global → Inside
-with_fronts s v = record { classes = s.classes; places = s.places; lists = s.lists; fronts = v }
+with_fronts s v = record { classes = s.classes; page = s.page; places = s.places; lists = s.lists; fronts = v }
 
 pub fronts-held : (s : Inside) (v : Vec FrontState Global) → IsStock s → HasRoomAt (length s.places.items * chunk_pages s.classes) s.classes v.items → IsStock (with_fronts s v)
 fronts-held s v is rooms =
     record {
       least = is.least;
       order = is.order;
+      sizes = is.sizes;
+      page = is.page;
       few = is.few;
       lists = is.lists;
       places = is.places;

@@ -7,6 +7,7 @@ use Rattle.size_classes.specs.Sizes.{Geometry, page_of, is_small}
 use Rattle.size_classes.specs.Pages.{Run, Used, free_pages, given_at, run_at, NoneEmpty}
 use Rattle.size_classes.specs.Runs.{Begins}
 use Rattle.size_classes.proofs.Runs.{run_at-Begins}
+use Rattle.std.proofs.Math.Nat.{mul-div_cancel_left}
 use Rattle.pool_law.specs.declared.report.ListName.{ListName}
 use Rattle.pool_law.specs.Chunks.{Chunk, Use, Whole, usage}
 use Rattle.pool_law.specs.ChunkLists.{list_of, greatest}
@@ -38,7 +39,7 @@ module _ (s t : Inside) (is : IsStock s) (c page n : ℕ) (what : Use) (x y q : 
       let free = given-free (runs_of x) page n what some begins in
       let more : free_pages (chunk_at (arena_in (stock_in s)) c) ≤ free_pages (runs_of y) =
       omega (arith, ap free_pages before, ap (λ (p : PlaceState). free_pages (runs_of p)) given, free) in
-      omega (arith, (is.settled c d.here d.there).1, usage-rises s.classes (chunk_at (arena_in (stock_in s)) c) (runs_of y) more)
+      omega (arith, (is.settled c d.here d.there).1, usage-rises s.classes is.sizes.page (chunk_at (arena_in (stock_in s)) c) (runs_of y) more)
 
   pub given-law : (fronts : List (List (ℕ × ℕ))) → map (λ (f : FrontState). f.spots) t.fronts.items ≡ fronts
       → Becomes (stock_in s) (λ a. run_given s.classes (record a { fronts = fronts }) c page) (stock_in t)
@@ -78,13 +79,13 @@ small-out v class chunk piece out small = by out.slot
 -- ---- a whole run
 
 -- the page and the pages of a piece that is a whole run
-pub whole-page_is : (v : StockState) (class chunk : ℕ) (piece : Segment) → (out : IsPlaceOut v class chunk piece) → (run : IsWholeRun v.geometry (chunk_at (arena_in v) chunk) out.id)
-    → piece.start / 8192 ≡ run.page
-whole-page_is v class chunk piece out run = let at : piece.start ≡ 8192 * run.page = sym out.offset ∙ run.starts in omega (arith, at)
+pub whole-page_is : (v : StockState) → 0 < page_of v.geometry → (class chunk : ℕ) (piece : Segment) → (out : IsPlaceOut v class chunk piece) → (run : IsWholeRun v.geometry (chunk_at (arena_in v) chunk) out.id)
+    → piece.start / page_of v.geometry ≡ run.page
+whole-page_is v some class chunk piece out run = ap (λ (n : ℕ). n / page_of v.geometry) (sym out.offset ∙ run.starts) ∙ mul-div_cancel_left some run.page
 
-pub whole-pages_are : (v : StockState) (class chunk : ℕ) (piece : Segment) → (out : IsPlaceOut v class chunk piece) → (run : IsWholeRun v.geometry (chunk_at (arena_in v) chunk) out.id)
-    → length piece.bytes / 8192 ≡ run.pages
-whole-pages_are v class chunk piece out run = let bytes : length piece.bytes ≡ 8192 * run.pages = out.piece_is.size ∙ run.ends in omega (arith, bytes)
+pub whole-pages_are : (v : StockState) → 0 < page_of v.geometry → (class chunk : ℕ) (piece : Segment) → (out : IsPlaceOut v class chunk piece) → (run : IsWholeRun v.geometry (chunk_at (arena_in v) chunk) out.id)
+    → length piece.bytes / page_of v.geometry ≡ run.pages
+whole-pages_are v some class chunk piece out run = ap (λ (n : ℕ). n / page_of v.geometry) (out.piece_is.size ∙ run.ends) ∙ mul-div_cancel_left some run.pages
 
 module _ (s : Inside) (class c : ℕ) (piece : Segment) (out : IsPlaceOut (stock_in s) class c piece) (run : IsWholeRun s.classes (chunk_at (arena_in (stock_in s)) c) out.id)
     (x : PlaceState) (found : slice_get s.places.items c ≡ Some x) where
@@ -96,8 +97,8 @@ module _ (s : Inside) (class c : ℕ) (piece : Segment) (out : IsPlaceOut (stock
       → (o : IsRunOut (state_of x) page piece) × (o.pages ≡ pages)
   whole-run_out some page pages page_is pages_are =
       let origin : ◌≡◌ {A = Option _} (Some piece.origin) (Some x.origin) = sym out.piece_is.origin ∙ place-origin s c x found in
-      let at : piece.start ≡ 8192 * page = sym out.offset ∙ run.starts ∙ ap (λ (k : ℕ). 8192 * k) (sym page_is) in
-      let size : length piece.bytes ≡ 8192 * pages = out.piece_is.size ∙ run.ends ∙ ap (λ (k : ℕ). 8192 * k) (sym pages_are) in (
+      let at : piece.start ≡ page_of s.classes * page = sym out.offset ∙ run.starts ∙ ap (λ (k : ℕ). page_of s.classes * k) (sym page_is) in
+      let size : length piece.bytes ≡ page_of s.classes * pages = out.piece_is.size ∙ run.ends ∙ ap (λ (k : ℕ). page_of s.classes * k) (sym pages_are) in (
         record {
           pages = pages;
           run =
@@ -110,6 +111,6 @@ module _ (s : Inside) (class c : ℕ) (piece : Segment) (out : IsPlaceOut (stock
       )
 
 -- what a normal class gives back
-pub by-run : (g : Geometry) (class c page offset : ℕ) (a : Arena) → is_small g class ≡ false → offset / 8192 ≡ page → given_place g a class c offset ≡ run_given g a c page
+pub by-run : (g : Geometry) (class c page offset : ℕ) (a : Arena) → is_small g class ≡ false → offset / page_of g ≡ page → given_place g a class c offset ≡ run_given g a c page
 by-run g class c page offset a whole page_is =
     ap (λ (b : Bool). if b then small_given g a class c offset else run_given g a c (offset / page_of g)) whole ∙ ap (run_given g a c) page_is

@@ -3,7 +3,7 @@ use Rattle.std.proofs.Common.{◌≡◌, ℕ, ◌≤◌, List, [], ◌∷◌, re
 use Rattle.std.specs.Prelude.{Option, option_map, slice_get, unwrap_or, nat_le, ◌==◌}
 use Rattle.std.proofs.Math.Nat.{pow-le-pow_right}
 use Rattle.std.proofs.lemmas.Bool.Decides.{nat_tests}
-use Rattle.size_classes.specs.Sizes.{Geometry, chunk_pages, page_class_under}
+use Rattle.size_classes.specs.Sizes.{Geometry, IsPage, chunk_pages, page_class_under}
 use Rattle.size_classes.specs.Pages.{Span, free_runs, chosen, NoneEmpty}
 use Rattle.size_classes.proofs.Subpages.{subpage_pages_within}
 use Rattle.pool_law.specs.declared.id.RegionId.{RegionId}
@@ -80,9 +80,9 @@ one-chosen g pages n le =
 few-pages : (g : Geometry) → 3 ≤ g.order → 7 ≤ chunk_pages g
 few-pages g le = omega (arith, pow-le-pow_right {n = 2} (omega arith) le)
 
-wanted-fits : (g : Geometry) → 3 ≤ g.order → (wanted : Wanted) → IsWanted g wanted → pages_wanted g wanted ≤ chunk_pages g
-wanted-fits g le (Wanted.Run pages) is = is.1
-wanted-fits g le (Wanted.Subpage class) is = omega (arith, (subpage_pages_within g class is.1).1, few-pages g le)
+wanted-fits : (g : Geometry) → IsPage g.page → 3 ≤ g.order → (wanted : Wanted) → IsWanted g wanted → pages_wanted g wanted ≤ chunk_pages g
+wanted-fits g page le (Wanted.Run pages) is = is.0
+wanted-fits g page le (Wanted.Subpage class) is = omega (arith, (subpage_pages_within g page class is.1).1, few-pages g le)
 
 module _ (old mid : StockState) (o : IsOrderly old.geometry (arena_in old)) (wanted : Wanted) (is : IsWanted old.geometry wanted) (c : ℕ)
     (unused : first_unused old.chunks ≡ Some c) (becomes : Becomes old (λ a. opened old.geometry a c) mid) where
@@ -90,7 +90,7 @@ module _ (old mid : StockState) (o : IsOrderly old.geometry (arena_in old)) (wan
   mid-found =
       ap (λ (g : Geometry). chosen g (pages_wanted g wanted) (free_runs 0 (chunk_at (arena_in mid) c))) becomes.geometry
       ∙ ap (λ (rs : Chunk). chosen old.geometry (pages_wanted old.geometry wanted) (free_runs 0 rs)) (mid-chunk_at old mid o c unused becomes)
-      ∙ one-chosen old.geometry (pages_wanted old.geometry wanted) (chunk_pages old.geometry) (wanted-fits old.geometry o.order wanted is)
+      ∙ one-chosen old.geometry (pages_wanted old.geometry wanted) (chunk_pages old.geometry) (wanted-fits old.geometry (o.sound 0).page o.order wanted is)
 
   pub mid-has : found_in mid c wanted ≡ None → ⊥
   mid-has none = absurd (cc (sym mid-found ∙ none))

@@ -4,7 +4,7 @@ use Rattle.std.specs.Prelude.{◌⊎◌, Option, map, slice_get, All, option_map
 use Rattle.std.proofs.lemmas.Option.{slice_get-map, slice_get-get_or}
 use Rattle.std.proofs.lemmas.List.{length-map, length-append, map-append, get_or_append_left, replicate-append-replicate}
 use Rattle.std.proofs.Math.Seq.{get_or-append_seam}
-use Rattle.size_classes.specs.Sizes.{Geometry, of_order, below, class_count, is_small, chunk_pages}
+use Rattle.size_classes.specs.Sizes.{Geometry, of_pages, IsGeometry, below, class_count, is_small, chunk_pages}
 use Rattle.pool_law.specs.ChunkLists.{Lists, list_of, no_chunks}
 use Rattle.pool_law.specs.Arenas.{new_arena}
 use Rattle.pool_law.proofs.ListLemmas.{slice_get-below}
@@ -81,9 +81,9 @@ new-rooms g room =
 
 -- ---- the arena
 
-module _ (s : Inside) (order chunks room : ℕ) (least : 3 ≤ order) (most : order ≤ 11) (some : 1 ≤ chunks) (few : chunks ≤ 8) (classes : s.classes ≡ of_order order)
+module _ (s : Inside) (order page chunks room : ℕ) (page_is : s.page ≡ page) (sizes : IsGeometry (of_pages order page)) (some : 1 ≤ chunks) (few : chunks ≤ 8) (classes : s.classes ≡ of_pages order page)
     (lists : s.lists ≡ new_listing chunks) (count : length s.places.items ≡ chunks)
-    (unused : All (λ (p : PlaceState). (p.geometry ≡ of_order order) × (p.chunk ≡ None)) s.places.items) (room_is : room ≡ chunks * chunk_pages (of_order order))
+    (unused : All (λ (p : PlaceState). (p.geometry ≡ of_pages order page) × (p.chunk ≡ None)) s.places.items) (room_is : room ≡ chunks * chunk_pages (of_pages order page))
     (fronts : s.fronts.items ≡ map (front_for s.classes room) (below (class_count s.classes))) where
   no_lists : s.lists.lists ≡ no_chunks
   no_lists = ap (λ (l : Listing). l.lists) lists
@@ -91,20 +91,22 @@ module _ (s : Inside) (order chunks room : ℕ) (least : 3 ≤ order) (most : or
   pub new-held : IsStock s
   new-held =
       record {
-        least = subst (λ (g : Geometry). 3 ≤ g.order) (sym classes) least;
-        order = subst (λ (g : Geometry). g.order ≤ 11) (sym classes) most;
+        least = subst (λ (g : Geometry). 3 ≤ g.order) (sym classes) sizes.least;
+        order = subst (λ (g : Geometry). g.order ≤ 11) (sym classes) sizes.most;
+        sizes = subst (λ (g : Geometry). IsGeometry g) (sym classes) sizes;
+        page = page_is ∙ ap (λ (g : Geometry). g.page) (sym classes);
         few = (omega (arith, count, some), omega (arith, count, few));
         lists = ap (λ (l : Listing). l.places) lists ∙ sym count;
         places = λ k d less. (unused k d less).0 ∙ sym classes;
         fronts =
             subst (λ (fs : List FrontState). HasRoomAt (length s.places.items * chunk_pages s.classes) s.classes fs) (sym fronts)
             (subst (λ (n : ℕ). HasRoomAt n s.classes (map (front_for s.classes room) (below (class_count s.classes))))
-            (room_is ∙ ap (λ (n : ℕ). n * chunk_pages (of_order order)) (sym count) ∙ ap (λ (g : Geometry). length s.places.items * chunk_pages g) (sym classes))
+            (room_is ∙ ap (λ (n : ℕ). n * chunk_pages (of_pages order page)) (sym count) ∙ ap (λ (g : Geometry). length s.places.items * chunk_pages g) (sym classes))
             (new-rooms s.classes room));
         settled = λ c name listed. absurd (cc (sym (nowhere c) ∙ ap (λ (l : Lists). list_of l c) (sym no_lists) ∙ listed));
       }
 
-  pub new-state : arena_in (stock_in s) ≡ new_arena (of_order order) chunks
+  pub new-state : arena_in (stock_in s) ≡ new_arena (of_pages order page) chunks
   new-state = λ i. record {
     chunks = (all-same (λ (p : PlaceState). p.chunk) None s.places.items (λ k d less. (unused k d less).1) ∙ ap (λ (n : ℕ). replicate n None) count) i;
     lists = no_lists i;

@@ -5,7 +5,7 @@ use Rattle.std.proofs.lemmas.Bool.{cond_both}
 use Rattle.std.proofs.lemmas.List.{length-replicate}
 use Rattle.std.specs.List.{list_any}
 use Rattle.ground.specs.Ground.{Segment}
-use Rattle.size_classes.specs.Sizes.{Geometry, of_order}
+use Rattle.size_classes.specs.Sizes.{Geometry, of_pages, IsPage}
 use Rattle.size_classes.specs.Pages.{Used}
 use Rattle.pool_law.specs.declared.id.RegionId.{RegionId}
 use Rattle.pool_law.specs.Same.{same_place, same_taking}
@@ -36,17 +36,17 @@ has-out g number a out geometry number_is holds covered =
 
 -- ---- what is out after each call
 
-pub new-out : (number order chunks : ℕ) (a : ArenaState) → IsNew number order chunks a → HasOut a []
-new-out number order chunks a is =
-    has-out (of_order order) number a [] is.geometry is.number_is
-    (subst (λ (x : Arena). ArenaHolds (of_order order) number x) (sym is.law) (new-holds (of_order order) number chunks))
-    (subst (λ (x : Arena). IsCovered (of_order order) x) (sym is.law) (new-covered (of_order order) chunks))
+pub new-out : (number order page chunks : ℕ) (a : ArenaState) → IsPage page → IsNew number order page chunks a → HasOut a []
+new-out number order page chunks a is_page is =
+    has-out (of_pages order page) number a [] is.geometry is.number_is
+    (subst (λ (x : Arena). ArenaHolds (of_pages order page) number x) (sym is.law) (new-holds (of_pages order page) number is_page chunks))
+    (subst (λ (x : Arena). IsCovered (of_pages order page) x) (sym is.law) (new-covered (of_pages order page) chunks))
 
-pub new-places : (number order chunks : ℕ) (a : ArenaState) → IsNew number order chunks a → length a.chunks ≡ chunks
-new-places number order chunks a is = ap (λ (x : Arena). length x.chunks) is.law ∙ length-replicate chunks None
+pub new-places : (number order page chunks : ℕ) (a : ArenaState) → IsNew number order page chunks a → length a.chunks ≡ chunks
+new-places number order page chunks a is = ap (λ (x : Arena). length x.chunks) is.law ∙ length-replicate chunks None
 
-pub new-takings : (number order chunks : ℕ) (a : ArenaState) → IsNew number order chunks a → a.takings ≡ 0
-new-takings number order chunks a is = ap (λ (x : Arena). x.takings) is.law
+pub new-takings : (number order page chunks : ℕ) (a : ArenaState) → IsNew number order page chunks a → a.takings ≡ 0
+new-takings number order page chunks a is = ap (λ (x : Arena). x.takings) is.law
 
 module _ (old new : ArenaState) (class owner : ℕ) (r : RegionId) (out : List RegionId) (has : HasOut old out) (takes : Takes old class owner new r) where
   pub take-out : HasOut new (out ++ r ∷ [])
@@ -56,10 +56,10 @@ module _ (old new : ArenaState) (class owner : ℕ) (r : RegionId) (out : List R
       (take-covered old.geometry old.number (law_of old out) class owner has.holds has.covered (r, law_of new (out ++ r ∷ [])) (takes.step out))
 
   pub take-takings : new.takings ≡ old.takings + 1
-  take-takings = (take-numbers old.geometry old.number (law_of old out) class owner has.holds (r, law_of new (out ++ r ∷ [])) (takes.step out)).1
+  take-takings = (take-numbers old.geometry old.number (law_of old out) class owner (r, law_of new (out ++ r ∷ [])) (takes.step out)).1
 
   pub taken-number : r.taking ≡ old.takings + 1
-  taken-number = (take-numbers old.geometry old.number (law_of old out) class owner has.holds (r, law_of new (out ++ r ∷ [])) (takes.step out)).0.taking
+  taken-number = (take-numbers old.geometry old.number (law_of old out) class owner (r, law_of new (out ++ r ∷ [])) (takes.step out)).0.taking
 
 -- one of these takings is out
 one-out : (r : RegionId) (out : List RegionId) → IsOne r out → list_any (λ other. same_taking r other) out ≡ true
@@ -88,7 +88,7 @@ module _ (a : ArenaState) (r : RegionId) (out : List RegionId) (has : HasOut a o
 
     pub give-takings : new.takings ≡ a.takings
     give-takings =
-        ap (λ (x : Arena). x.takings) (sym (gives.step out)) ∙ give-numbers a.geometry a.number (law_of a out) r has.holds (one-out r out one)
+        ap (λ (x : Arena). x.takings) (sym (gives.step out)) ∙ give-numbers a.geometry a.number (law_of a out) r
 
 -- where no taking is out nothing of a chunk is
 pub none-out : (a : ArenaState) → HasOut a [] → AtRest a

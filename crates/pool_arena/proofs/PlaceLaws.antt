@@ -38,26 +38,22 @@ place-chunk p v same used =
 
 -- the place once its chunk has other runs
 pub place-after : (p : Inside) (v : PlaceState) (new : ChunkState) (runs : Chunk) → place_in p ≡ v → p.used ≡ true → new ≡ with_runs p.chunk runs
-    → place_in (record { chunk = new; used = p.used }) ≡ with_chunk v (Some runs)
+    → place_in (record { chunk = new; deed = p.deed; used = p.used }) ≡ with_chunk v (Some runs)
 place-after p v new runs same used is =
-    ap (λ (c : ChunkState). place_in (record { chunk = c; used = p.used })) is
+    ap (λ (c : ChunkState). place_in (record { chunk = c; deed = p.deed; used = p.used })) is
     ∙ ap (λ (b : Bool). with_chunk (place_in p) (if_used b runs)) used
     ∙ ap (λ (w : PlaceState). with_chunk w (Some runs)) same
 
 -- the place once a step makes other runs of its own
 pub place-changed : (p : Inside) (v : PlaceState) (new : ChunkState) (step : Chunk → Chunk) → place_in p ≡ v → p.used ≡ true
-    → new ≡ with_runs p.chunk (step p.chunk.runs) → place_in (record { chunk = new; used = p.used }) ≡ with_chunk v (Some (step (runs_of v)))
+    → new ≡ with_runs p.chunk (step p.chunk.runs) → place_in (record { chunk = new; deed = p.deed; used = p.used }) ≡ with_chunk v (Some (step (runs_of v)))
 place-changed p v new step same used is =
     place-after p v new (step p.chunk.runs) same used is
     ∙ ap (λ (c : ChunkState). with_chunk v (Some (step c.runs))) (place-chunk p v same used)
 
 -- a place in use has no fact about its chunk
-pub place-held : (p : Inside) → p.used ≡ true → IsPlace p
-place-held p used = record { unused = λ unused. absurd (cc (used, unused)) }
-
--- a chunk has at most 2 ^ 24 bytes
-pub chunk-small : (g : Geometry) → g.order ≤ 11 → chunk_bytes g ≤ 2 ^ 24
-chunk-small g le = omega (arith, pow-le-pow_right {n = 2} (omega arith) le)
+pub place-held : (p : Inside) → p.deed ≡ p.chunk.origin → p.used ≡ true → IsPlace p
+place-held p deed used = record { deed = deed; unused = λ unused. absurd (cc (used, unused)) }
 
 -- the usage of a chunk of which something is free
 pub usage-some : (g : Geometry) (runs : Chunk) (free size percent : ℕ) → free ≡ free_bytes g runs → size ≡ chunk_bytes g → (free ≡ 0 → ⊥)

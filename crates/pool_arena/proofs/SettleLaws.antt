@@ -17,7 +17,7 @@ use Rattle.pool_arena.specs.Fronts.{FrontState}
 use Rattle.pool_arena.specs.Stocks.{arena_in, Becomes}
 use Rattle.pool_arena.specs.Held.{stock_in, HasRoomAt, AreSettled, IsStock}
 use Rattle.pool_arena.specs.declared.stock.Stock.TheInside.{Inside}
-use Rattle.pool_arena.proofs.StockLaws.{Written, place-geometry, written-grounds, written-chunks, written-held, written-settled}
+use Rattle.pool_arena.proofs.StockLaws.{sizes_of, Written, place-geometry, written-grounds, written-chunks, written-held, written-settled}
 
 -- from the least usage of its list on a chunk goes to a list
 goes-there : (percent : ℕ) (here : ListName) → least here ≤ percent → (name : ListName) × (goes_to percent (Some here) ≡ Some name)
@@ -134,13 +134,13 @@ module _ (s t : Inside) (c : ℕ) (x q : PlaceState) (runs : Chunk) (d : Settles
 -- what is said of a place that settles, in the words of what the arena has
 pub settles-of : (s t : Inside) (is : IsStock s) (c : ℕ) (x y q : PlaceState) (here : ListName) → slice_get s.places.items c ≡ Some x
     → y.origin ≡ x.origin → y.geometry ≡ x.geometry → list_of s.lists.lists c ≡ Some here
-    → t.places.items ≡ slice_set s.places.items c q → t.classes ≡ s.classes
+    → t.places.items ≡ slice_set s.places.items c q → sizes_of t ≡ sizes_of s
     → t.lists ≡ with_lists s.lists (settled s.lists.lists c (usage y.geometry (runs_of y)))
     → q ≡ with_chunk y (unless_gone (list_of s.lists.lists c) (goes_to (usage y.geometry (runs_of y)) (list_of s.lists.lists c)) (runs_of y))
     → list_of t.lists.lists c ≡ goes_to (usage y.geometry (runs_of y)) (list_of s.lists.lists c)
     → ((name : ListName) → list_of t.lists.lists c ≡ Some name → IsWithin (usage y.geometry (runs_of y)) name)
     → Settles s t c x q (runs_of y)
-settles-of s t is c x y q here found origin geometry there items classes lists place list within =
+settles-of s t is c x y q here found origin geometry there items sizes lists place list within =
     let g : y.geometry ≡ s.classes = geometry ∙ place-geometry s c x found is in
     record {
       written =
@@ -149,7 +149,8 @@ settles-of s t is c x y q here found origin geometry there items classes lists p
             items = items;
             origin = ap (λ (p : PlaceState). p.origin) place ∙ origin;
             geometry = ap (λ (p : PlaceState). p.geometry) place ∙ geometry;
-            classes = classes;
+            classes = ap (λ (x : Geometry × ℕ). x.0) sizes;
+            page = ap (λ (x : Geometry × ℕ). x.1) sizes;
             places = ap (λ (l : Listing). l.places) lists;
           };
       here = here;

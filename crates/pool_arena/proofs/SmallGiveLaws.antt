@@ -7,7 +7,8 @@ use Rattle.size_classes.specs.Pages.{Run, Used, run_at, run_start, pages_in, tot
 use Rattle.size_classes.specs.Runs.{Begins}
 use Rattle.size_classes.specs.Elements.{Elements, is_full, is_idle, with_back}
 use Rattle.size_classes.proofs.Runs.{run_at-Begins, Begins-inside, run_start-Begins}
-use Rattle.size_classes.proofs.SmallClasses.{small_below}
+use Rattle.size_classes.proofs.Geometries.{page_shift-is}
+use Rattle.size_classes.proofs.SmallClasses.{small_below, page-some}
 use Rattle.pool_law.specs.declared.id.RegionId.{RegionId}
 use Rattle.pool_law.specs.Chunks.{Use, Sub, IsChunk}
 use Rattle.pool_law.specs.ChunkLists.{list_of}
@@ -31,7 +32,7 @@ use Rattle.pool_arena.proofs.RoomLaws.{AreWithin, within-of, room-for}
 
 -- a small class is a class
 pub small-class : (g : Geometry) (a : Arena) (class : ℕ) → IsOrderly g a → is_small g class ≡ true → class < class_count g
-small-class g a class o small = omega (arith, small_below g class small, o.order)
+small-class g a class o small = omega (arith, small_below g (o.sound 0).page class small, o.order, (page_shift-is g.page (o.sound 0).page).least)
 
 -- a run lies in the pages of its chunk
 pub run-inside : (g : Geometry) (a : Arena) (c p : ℕ) (r : Run Use) → IsOrderly g a → Begins p r (chunk_at a c) → p < chunk_pages g
@@ -71,21 +72,21 @@ module _ (v : StockState) (o : IsOrderly v.geometry (arena_in v)) (class c : ℕ
   pub it-begins : Begins it.page (Used it.pages (Sub class it.elements)) (chunk_at (arena_in v) c)
   it-begins = subst (λ (k : ℕ). Begins it.page (Used it.pages (Sub k it.elements)) (chunk_at (arena_in v) c)) asked.class_is it.begins
 
-  pub it-starts : piece.start ≡ 8192 * it.page + it.at * size_at class
-  it-starts = sym asked.offset ∙ it.starts ∙ ap (λ (k : ℕ). 8192 * it.page + it.at * size_at k) asked.class_is
+  pub it-starts : piece.start ≡ page_of v.geometry * it.page + it.at * size_at class
+  it-starts = sym asked.offset ∙ it.starts ∙ ap (λ (k : ℕ). page_of v.geometry * it.page + it.at * size_at k) asked.class_is
 
-  it-lies : (it.page ≤ piece.start / 8192) × (piece.start / 8192 < it.page + it.pages)
+  it-lies : (it.page ≤ piece.start / page_of v.geometry) × (piece.start / page_of v.geometry < it.page + it.pages)
   it-lies =
       let inside = element-inside v.geometry (chunk_at (arena_in v) c) (o.sound c) asked.id it in
-      let lies = page-of it.page it.pages (it.at * size_at class)
-      (omega (arith, subst (λ (k : ℕ). it.at * size_at k + size_at k ≤ 8192 * it.pages) asked.class_is inside, size_at-pos class)) in
-      subst (λ (n : ℕ). (it.page ≤ n / 8192) × (n / 8192 < it.page + it.pages)) (sym it-starts) lies
+      let lies = page-of (page_of v.geometry) it.page it.pages (it.at * size_at class) (page-some v.geometry (o.sound c).page)
+      (omega (arith, subst (λ (k : ℕ). it.at * size_at k + size_at k ≤ page_of v.geometry * it.pages) asked.class_is inside, size_at-pos class)) in
+      subst (λ (n : ℕ). (it.page ≤ n / page_of v.geometry) × (n / page_of v.geometry < it.page + it.pages)) (sym it-starts) lies
 
   pub it-run : run_at it.page (chunk_at (arena_in v) c) ≡ Some (Used it.pages (Sub class it.elements))
   it-run = run_at-Begins (chunk_at (arena_in v) c) it.page (Used it.pages (Sub class it.elements)) (o.sound c).none_empty it-begins
 
   -- its page is in use
-  pub it-in_use : (x : PlaceState) → chunk_at (arena_in v) c ≡ runs_of x → IsInUse (state_of x) (piece.start / 8192)
+  pub it-in_use : (x : PlaceState) → chunk_at (arena_in v) c ≡ runs_of x → IsInUse (state_of x) (piece.start / page_of v.geometry)
   it-in_use x same =
       record {
         start = it.page;
@@ -97,13 +98,13 @@ module _ (v : StockState) (o : IsOrderly v.geometry (arena_in v)) (class c : ℕ
       }
 
   -- the page and the number that are found
-  pub it-page : run_start (piece.start / 8192) (chunk_at (arena_in v) c) ≡ it.page
+  pub it-page : run_start (piece.start / page_of v.geometry) (chunk_at (arena_in v) c) ≡ it.page
   it-page =
-      run_start-Begins (chunk_at (arena_in v) c) it.page (piece.start / 8192) (Used it.pages (Sub class it.elements)) it-begins it-lies.0 it-lies.1
+      run_start-Begins (chunk_at (arena_in v) c) it.page (piece.start / page_of v.geometry) (Used it.pages (Sub class it.elements)) it-begins it-lies.0 it-lies.1
 
-  pub it-index : (piece.start - 8192 * it.page) / size_at class ≡ it.at
+  pub it-index : (piece.start - page_of v.geometry * it.page) / size_at class ≡ it.at
   it-index =
-      ap (λ (n : ℕ). (n - 8192 * it.page) / size_at class) it-starts ∙ number-of (8192 * it.page) it.at (size_at class) (size_at-pos class)
+      ap (λ (n : ℕ). (n - page_of v.geometry * it.page) / size_at class) it-starts ∙ number-of (page_of v.geometry * it.page) it.at (size_at class) (size_at-pos class)
 
   pub it-here : elements_at (arena_in v) class c it.page ≡ Some it.elements
   it-here = elements-found (arena_in v) class c it.page it.pages it.elements (o.sound c).none_empty it-begins

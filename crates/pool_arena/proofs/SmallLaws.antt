@@ -3,6 +3,7 @@ use Rattle.std.proofs.Common.{◌≡◌, ℕ, ◌*◌, ◌<◌, List, [], ◌∷
 use Rattle.std.specs.Prelude.{Option, slice_get, option_map, option_and_then, if◌then◌else◌}
 use Rattle.ground.specs.Ground.{Segment, Origin}
 use Rattle.size_classes.specs.Sizes.{Geometry, page_of, class_count, is_small, pages_of, subpage_pages}
+use Rattle.size_classes.proofs.Geometries.{page_shift-is}
 use Rattle.size_classes.proofs.SmallClasses.{small_below}
 use Rattle.pool_law.specs.declared.id.RegionId.{RegionId}
 use Rattle.pool_law.specs.Chunks.{Whole}
@@ -94,7 +95,7 @@ module _ (old : StockState) (class : ℕ) (small : is_small old.geometry class �
         ))
       where
         small-within : class < class_count old.geometry
-        small-within = omega (arith, small_below old.geometry class small, o.order)
+        small-within = omega (arith, small_below old.geometry (o.sound 0).page class small, o.order, (page_shift-is old.geometry.page (o.sound 0).page).least)
 
     pub mid-open : IsOpen mid class chunk page
     mid-open = open-first mid old.geometry mid-orderly class chunk page (front_of (arena_in new_front.mid) class) small mid-front

@@ -2,7 +2,8 @@
 use Rattle.std.proofs.Common.{◌≡◌, ℕ, ◌*◌, ◌-◌, ◌/◌, ◌<◌, List, [], length, sym, ap, ◌∙◌, subst, Some, None, Bool, false, arith, ne_eqb}
 use Rattle.std.specs.Prelude.{Option, map, slice_set, if◌then◌else◌, ◌==◌, unwrap_or}
 use Rattle.std.proofs.Math.Nat.{mul-div_cancel_left}
-use Rattle.size_classes.specs.Sizes.{Geometry, chunk_pages, chunk_bytes}
+use Rattle.size_classes.specs.Pages.{free_pages}
+use Rattle.size_classes.specs.Sizes.{Geometry, IsPage, page_of, chunk_pages, chunk_bytes}
 use Rattle.pool_law.specs.declared.report.ListName.{ListName}
 use Rattle.pool_law.specs.declared.report.ListName.TheVariants.{QInit}
 use Rattle.pool_law.specs.Chunks.{Chunk, new_chunk, usage_of, usage, free_bytes}
@@ -30,8 +31,10 @@ all-usage free size same some =
     ap (λ (b : Bool). if b then 100 else if (free * 100) / size == 0 then 99 else 100 - (free * 100) / size) not_none
     ∙ ap (λ (n : ℕ). if n == 0 then 99 else 100 - n) quotient
 
-pub new-usage : (g : Geometry) → usage g (new_chunk g) ≡ 0
-new-usage g = all-usage (free_bytes g (new_chunk g)) (chunk_bytes g) (omega arith) (size-some g)
+pub new-usage : (g : Geometry) → IsPage g.page → usage g (new_chunk g) ≡ 0
+new-usage g page =
+    let all : free_pages (new_chunk g) ≡ chunk_pages g = omega arith in
+    all-usage (free_bytes g (new_chunk g)) (chunk_bytes g) (ap (λ (n : ℕ). page_of g * n) all) (size-some g page)
 
 module _ (s t : Inside) (c : ℕ) (x q : PlaceState) (w : Written s t c x q) (is : IsStock s)
     (chunk_is : q.chunk ≡ Some (new_chunk x.geometry)) (lists_are : t.lists ≡ with_lists s.lists (added s.lists.lists c 0))
@@ -51,7 +54,7 @@ module _ (s t : Inside) (c : ℕ) (x q : PlaceState) (w : Written s t c x q) (is
       (λ n here.
       let same : ◌≡◌ {A = Option ListName} (Some name) (Some n) = sym listed ∙ here in
       let usage_is : 0 ≡ usage s.classes (runs_of q) =
-      sym (new-usage s.classes) ∙ ap (λ (o : Option Chunk). usage s.classes (unwrap_or o [])) (sym chunk-new) in
+      sym (new-usage s.classes is.sizes.page) ∙ ap (λ (o : Option Chunk). usage s.classes (unwrap_or o [])) (sym chunk-new) in
       subst (λ (k : ListName). IsWithin (usage s.classes (runs_of q)) k) (cc same)
       (subst (λ (u : ℕ). IsWithin u name) usage_is within)))
 

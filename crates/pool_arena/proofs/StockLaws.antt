@@ -4,7 +4,7 @@ use Rattle.std.specs.Prelude.{◌⊎◌, Option, map, slice_get, slice_set, All,
 use Rattle.std.proofs.lemmas.Option.{slice_get-map}
 use Rattle.std.proofs.lemmas.List.{map-set, length-set, length-map}
 use Rattle.std.proofs.Math.Seq.{map-set_same}
-use Rattle.size_classes.specs.Sizes.{Geometry, chunk_pages}
+use Rattle.size_classes.specs.Sizes.{Geometry, IsGeometry, chunk_pages}
 use Rattle.pool_law.specs.declared.report.ListName.{ListName}
 use Rattle.pool_law.specs.Chunks.{Chunk, usage}
 use Rattle.pool_law.specs.ChunkLists.{list_of}
@@ -49,12 +49,17 @@ place-of s c runs there =
 -- ---- one place is written
 
 -- the second has another place at one chunk, on the same ground
+-- the sizes that it holds
+abbrev pub sizes_of : Inside → Geometry × ℕ
+sizes_of s = (s.classes, s.page)
+
 pub record Written (s t : Inside) (c : ℕ) (x q : PlaceState) : Type 0 where
   pub found : slice_get s.places.items c ≡ Some x
   pub items : t.places.items ≡ slice_set s.places.items c q
   pub origin : q.origin ≡ x.origin
   pub geometry : q.geometry ≡ x.geometry
   pub classes : t.classes ≡ s.classes
+  pub page : t.page ≡ s.page
   pub places : t.lists.places ≡ s.lists.places
 
 module _ (s t : Inside) (c : ℕ) (x q : PlaceState) (w : Written s t c x q) where
@@ -88,6 +93,8 @@ module _ (s t : Inside) (c : ℕ) (x q : PlaceState) (w : Written s t c x q) whe
       record {
         least = subst (λ (g : Geometry). 3 ≤ g.order) (sym w.classes) is.least;
         order = subst (λ (g : Geometry). g.order ≤ 11) (sym w.classes) is.order;
+        sizes = subst (λ (g : Geometry). IsGeometry g) (sym w.classes) is.sizes;
+        page = w.page ∙ is.page ∙ ap (λ (g : Geometry). g.page) (sym w.classes);
         few = (omega (arith, written-length, is.few.0), omega (arith, written-length, is.few.1));
         lists = w.places ∙ is.lists ∙ sym written-length;
         places =

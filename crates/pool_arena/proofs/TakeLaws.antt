@@ -1,9 +1,8 @@
 -- A run that is taken as a whole.
 use Rattle.std.proofs.Common.{◌≡◌, ℕ, ◌*◌, ◌<◌, refl, sym, ap, ◌∙◌, Bool, false, Some, arith}
 use Rattle.std.specs.Prelude.{option_map, if◌then◌else◌}
-use Rattle.size_classes.specs.Sizes.{Geometry, page_of, class_count, is_small, pages_of, size_at}
-use Rattle.size_classes.proofs.Powers.{size_at-least}
-use Rattle.size_classes.proofs.Requests.{size_at-within_chunk}
+use Rattle.size_classes.specs.Sizes.{Geometry, IsGeometry, IsPageClass, page_of, class_count, is_small, pages_of, size_at}
+use Rattle.size_classes.proofs.PageClasses.{page_class-within}
 use Rattle.ground.specs.Ground.{Segment}
 use Rattle.pool_law.specs.Chunks.{Whole}
 use Rattle.pool_law.specs.Arenas.{Arena, Spotted, front_of, take_run, take_small, take_class}
@@ -13,9 +12,8 @@ use Rattle.pool_arena.specs.Places.{IsWanted}
 use Rattle.pool_arena.specs.Stocks.{StockState, arena_with, YieldsNone, CutsOff, run_wanted, GivesPlace}
 
 -- the pages of a normal class are some, and no more than a chunk has
-pub whole-wanted : (g : Geometry) (class pages : ℕ) → class < class_count g → pages * page_of g ≡ size_at class → IsWanted g (Wanted.Run pages)
-whole-wanted g class pages less fills =
-    (omega (arith, fills, size_at-least class), omega (arith, fills, size_at-within_chunk g class less))
+pub whole-wanted : (g : Geometry) → IsGeometry g → (pages : ℕ) → IsPageClass g pages → IsWanted g (Wanted.Run pages)
+whole-wanted g sizes pages page_class = ((page_class-within g sizes pages page_class).1, page_class)
 
 module _ (old : StockState) (class pages : ℕ) (whole : is_small old.geometry class ≡ false) (pages_are : pages ≡ pages_of old.geometry class) where
   -- what a normal class takes

@@ -2,10 +2,13 @@
 use Rattle.std.proofs.Common.{◌≡◌, ℕ, zero, suc, ◌+◌, ◌*◌, ◌-◌, ◌/◌, ◌<◌, ◌≤◌, [], ◌∷◌, ◌++◌, refl, sym, ap, ◌∙◌, true, false, Some, None, arith, eq-eqb, ne_eqb, eqb-true, inl, inr}
 use Rattle.std.specs.Prelude.{◌==◌, ◌⊎◌, if◌then◌else◌, Option, nat_le, IsSome, unwrap_or}
 use Rattle.std.proofs.lemmas.Bool.{cond_both}
+use Rattle.std.proofs.lemmas.Nat.{mul-le}
 use Rattle.std.proofs.Math.Nat.{div-mul-le_self}
 use Rattle.std.proofs.lemmas.Nat.{le-div}
 use lib.Pow.{pow_pos}
-use Rattle.size_classes.specs.Sizes.{Geometry, page_of, chunk_bytes}
+use Rattle.size_classes.specs.Sizes.{Geometry, IsPage, page_of, chunk_bytes}
+use Rattle.size_classes.proofs.SmallClasses.{page-some}
+use Rattle.std.proofs.Math.Nat.{le_of_mul-le-mul_left, mul-pos}
 use Rattle.size_classes.specs.Pages.{Run, Free, Used, pages_in, total_pages, free_in, free_pages, rest_of, front_used, freed, joined, merged, replaced, taken_at, given_at, NoneEmpty, NoneSideBySide}
 use Rattle.size_classes.specs.Runs.{Begins}
 use Rattle.size_classes.specs.Elements.{Elements}
@@ -102,13 +105,14 @@ elements-free rs at n class e f ne b =
 
 -- ---- the usage after a step
 
-pub size-some : (g : Geometry) → 0 < chunk_bytes g
-size-some g = omega (arith, pow_pos g.order)
+pub size-some : (g : Geometry) → IsPage g.page → 0 < chunk_bytes g
+size-some g page = mul-pos (page-some g page) (pow_pos g.order)
 
 -- a chunk of which less is free is used no less
-pub usage-rises : (g : Geometry) (less more : Chunk) → free_pages less ≤ free_pages more → usage g more ≤ usage g less
-usage-rises g less more le =
-    usage-falls (free_bytes g less) (free_bytes g more) (chunk_bytes g) (size-some g) (omega (arith, le))
+pub usage-rises : (g : Geometry) → IsPage g.page → (less more : Chunk) → free_pages less ≤ free_pages more → usage g more ≤ usage g less
+usage-rises g page less more le =
+    usage-falls (free_bytes g less) (free_bytes g more) (chunk_bytes g) (size-some g page)
+    (mul-le (page_of g) (free_pages less) (page_of g) (free_pages more) (omega arith) le)
 
 pub usage-same : (g : Geometry) (a b : Chunk) → free_pages a ≡ free_pages b → usage g a ≡ usage g b
 usage-same g a b e = ap (λ (n : ℕ). usage_of (page_of g * n) (chunk_bytes g)) e
@@ -133,8 +137,9 @@ all-free (Used n w ∷ rs) ne apart all some = absurd (omega (arith, ne.0, all, 
 -- a chunk that is used for nothing is one free run
 pub unused-free : (g : Geometry) (rs : Chunk) → IsChunk g rs → usage g rs < 1 → rs ≡ new_chunk g
 unused-free g rs is none =
-    let size : chunk_bytes g ≤ free_bytes g rs = usage-nothing (free_bytes g rs) (chunk_bytes g) (size-some g) none in
-    all-free rs is.none_empty is.none_side_by_side (omega (arith, size, is.covers)) (omega (arith, is.covers, pow_pos g.order))
+    let size : chunk_bytes g ≤ free_bytes g rs = usage-nothing (free_bytes g rs) (chunk_bytes g) (size-some g is.sizes.page) none in
+    let pages : chunk_pages g ≤ free_pages rs = le_of_mul-le-mul_left size (page-some g is.sizes.page) in
+    all-free rs is.none_empty is.none_side_by_side (omega (arith, pages, is.covers)) (omega (arith, is.covers, pow_pos g.order))
     ∙ ap (λ (k : ℕ). Free k ∷ []) is.covers
 
 -- so is a chunk that goes nowhere

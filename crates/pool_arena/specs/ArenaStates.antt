@@ -3,7 +3,7 @@
 use Rattle.std.specs.Prelude.{◌≡◌, ℕ, not, List, [], ◌∷◌, ◌++◌, length, filter, Option, Some, None, slice_get, unwrap_or}
 use Rattle.ground.specs.Ground.{Origin, Segment}
 use Rattle.ground.specs.Grounds.{Grounds}
-use Rattle.size_classes.specs.Sizes.{Geometry, of_order}
+use Rattle.size_classes.specs.Sizes.{Geometry, of_pages}
 use Rattle.pool_law.specs.declared.id.RegionId.{RegionId}
 use Rattle.pool_law.specs.declared.report.ChunkEnd.{ChunkEnd}
 use Rattle.pool_law.specs.Chunks.{Chunk}
@@ -35,11 +35,11 @@ law_of a out =
     }
 
 -- an arena at first: so many chunk places, each with a ground
-pub record IsNew (number order chunks : ℕ) (a : ArenaState) : Type 0 where
+pub record IsNew (number order page chunks : ℕ) (a : ArenaState) : Type 0 where
   pub number_is : a.number ≡ number
-  pub geometry : a.geometry ≡ of_order order
+  pub geometry : a.geometry ≡ of_pages order page
   pub grounds : length a.grounds ≡ chunks
-  pub law : law_of a [] ≡ new_arena (of_order order) chunks
+  pub law : law_of a [] ≡ new_arena (of_pages order page) chunks
 
 -- these are the grounds of the arena's chunk places
 abbrev pub AreGroundsOf : Grounds → ArenaState → Type 0

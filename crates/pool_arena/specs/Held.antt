@@ -1,6 +1,6 @@
 -- How an arena holds what it has to give. No public clause cites this module.
 use Rattle.std.specs.Prelude.{◌≡◌, ℕ, ◌*◌, ◌≤◌, ◌<◌, true, if◌then◌else◌, List, length, map, All, Some, slice_get}
-use Rattle.size_classes.specs.Sizes.{Geometry, chunk_pages, class_count, is_small}
+use Rattle.size_classes.specs.Sizes.{Geometry, IsGeometry, chunk_pages, class_count, is_small}
 use Rattle.pool_law.specs.declared.report.ListName.{ListName}
 use Rattle.pool_law.specs.ChunkLists.{list_of}
 use Rattle.pool_law.specs.Chunks.{usage}
@@ -43,6 +43,8 @@ AreSettled s =
 pub record IsStock (s : StockInside) : Type 0 where
   pub least : 3 ≤ s.classes.order
   pub order : s.classes.order ≤ 11
+  pub sizes : IsGeometry s.classes
+  pub page : s.page ≡ s.classes.page
   pub few : (1 ≤ length s.places.items) × (length s.places.items ≤ 8)
   pub lists : s.lists.places ≡ length s.places.items
   pub places : All (λ (p : PlaceState). p.geometry ≡ s.classes) s.places.items

@@ -1,7 +1,7 @@
 -- A chunk place. No public clause cites this module.
 use Rattle.std.specs.Prelude.{◌≡◌, ℕ, ◌<◌, ◌≤◌, Bool, true, false, [], Option, Some, None, unwrap_or}
 use Rattle.ground.specs.Ground.{Origin, Segment}
-use Rattle.size_classes.specs.Sizes.{Geometry, chunk_pages, size_at, class_count, is_small, subpage_pages, element_count}
+use Rattle.size_classes.specs.Sizes.{Geometry, chunk_pages, size_at, class_count, is_small, IsPageClass, subpage_pages, element_count}
 use Rattle.size_classes.specs.Pages.{free_runs, chosen, taken_at}
 use Rattle.size_classes.specs.Elements.{new_elements, next_element, with_out}
 use Rattle.pool_law.specs.Chunks.{Chunk, Use, Whole, Sub, new_chunk}
@@ -44,6 +44,7 @@ place_in p =
 
 -- the chunk of an unused place is all free
 pub record IsPlace (p : Inside) : Type 0 where
+  pub deed : p.deed ≡ p.chunk.origin
   pub unused : p.used ≡ false → p.chunk.runs ≡ new_chunk p.chunk.geometry
 
 -- the pages that are wanted, and what they are for
@@ -55,9 +56,9 @@ abbrev pub use_wanted : Geometry → Wanted → Use
 use_wanted g (Wanted.Run pages) = Whole
 use_wanted g (Wanted.Subpage class) = Sub class (new_elements (element_count g class))
 
--- a run has pages, as many as a chunk or fewer, and a subpage is of a small class
+-- a run has the pages of a page class, no more than a chunk, and a subpage is of a small class
 abbrev pub IsWanted : Geometry → Wanted → Type 0
-IsWanted g (Wanted.Run pages) = (0 < pages) × (pages ≤ chunk_pages g)
+IsWanted g (Wanted.Run pages) = (pages ≤ chunk_pages g) × IsPageClass g pages
 IsWanted g (Wanted.Subpage class) = (class < class_count g) × (is_small g class ≡ true)
 
 -- what is cut off is the run that begins at a page: its bytes, or a subpage

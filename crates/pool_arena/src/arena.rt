@@ -1,7 +1,7 @@
 //! An arena and its calls.
 
 ghost use Rattle.std.specs.Prelude.{◌≡◌, ℕ, ◌+◌, ◌^◌, ◌<◌, ◌≤◌, length, IfOk, IfSome, IfNone, OnSome, Option};
-ghost use Rattle.size_classes.specs.Sizes.{class_count};
+ghost use Rattle.size_classes.specs.Sizes.{of_pages, IsGeometry, class_count};
 ghost use Rattle.pool_law.specs.Arenas.{listed};
 
 use crate::stock::Stock;
@@ -36,15 +36,15 @@ impl Arena {
     ghost use Rattle.pool_arena.specs.ArenaStates.{IsNew, IsOutOf, IsInPlaceAt, IsInPlaceUnder, Takes, IsFullFor, Gives, AtRest, end_of};
     ghost use Rattle.pool_arena.specs.Standing.{StandsMore, taken_or_full};
 
-    /// An arena with so many chunk places of `2^order` pages, none of them in use.
+    /// An arena with so many chunk places of `2^order` pages of so many bytes, none of them in use.
     /// It takes the memory of all its chunks and of their tables.
-    pub fn new(alloc: Global, number: u32, order: u32, chunks: u32) -> Result<Arena, AllocError>
+    pub fn new(alloc: Global, number: u32, order: u32, page: u32, chunks: u32) -> Result<Arena, AllocError>
         requires number { number < 8 }
-        requires order { (3 ≤ order) × (order ≤ 11) }
+        requires sizes { IsGeometry (of_pages order page) }
         requires chunks { (1 ≤ chunks) × (chunks ≤ 8) }
-        ensures { IfOk result (λ arena. IsNew number order chunks arena) }
+        ensures { IfOk result (λ arena. IsNew number order page chunks arena) }
     {
-        let stock = Stock::new(alloc, order, chunks)?;
+        let stock = Stock::new(alloc, order, page, chunks)?;
         Ok(Arena {
             number,
             stock,

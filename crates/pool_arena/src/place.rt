@@ -1,7 +1,7 @@
 //! A chunk place: the memory of a chunk, whether or not the arena has a chunk there.
 
 ghost use Rattle.std.specs.Prelude.{◌≡◌, ◌+◌, ◌/◌, ◌^◌, ◌<◌, ◌≤◌, false, is_some, IsSome, Some, None, IfOk, IfSome, IfNone};
-ghost use Rattle.size_classes.specs.Sizes.{of_order, chunk_bytes};
+ghost use Rattle.size_classes.specs.Sizes.{of_pages, IsGeometry, chunk_bytes};
 ghost use Rattle.size_classes.specs.Pages.{run_start, given_at};
 ghost use Rattle.size_classes.specs.Elements.{is_full, is_idle, with_back};
 ghost use Rattle.pool_law.specs.Chunks.{new_chunk, used_bytes, free_bytes, usage, IsChunk};
@@ -9,13 +9,10 @@ ghost use Rattle.pool_chunk.specs.ChunkStates.{IsInUse, HasSubpage, HasIdleSubpa
 ghost use Rattle.pool_chunk.specs.Outcomes.{element_back};
 ghost use Rattle.pool_arena.specs.Closing.{IsAllFree};
 
-use ground::{Ground, Piece};
+use ground::{Deed, Ground, Piece};
 use pool_chunk::{Chunk, Freed, place_pack};
 use std::alloc::{AllocError, Global};
 use std::marker::Model;
-
-// The bytes of a page.
-pub(crate) const PAGE: u32 = 8192;
 
 /// What a chunk is asked for: a run of so many pages, or a subpage of a class.
 #[derive(Clone, Copy, Drop)]
@@ -35,6 +32,7 @@ pub(crate) enum Cut {
 /// The chunk of an unused place is all free, so that no memory is taken when it comes into use.
 pub(crate) struct ChunkPlace {
     chunk: Chunk,
+    deed: Deed,
     used: bool,
 }
 
@@ -53,17 +51,21 @@ impl Model for ChunkPlace {
 impl ChunkPlace {
     ghost use Rattle.pool_arena.specs.Places.{with_chunk, runs_of, state_of, Cuts, HasNone, HandsOut, IsWanted};
 
-    /// An unused place, with the memory of a chunk of `2^order` pages.
-    pub(crate) fn new(alloc: Global, order: u32) -> Result<ChunkPlace, AllocError>
-        requires { (3 ≤ order) × (order ≤ 11) }
-        ensures geometry { IfOk result (λ place. place.geometry ≡ of_order order) }
+    /// An unused place, with the memory of a chunk of `2^order` pages of so many bytes.
+    pub(crate) fn new(alloc: Global, order: u32, page: u32) -> Result<ChunkPlace, AllocError>
+        requires { IsGeometry (of_pages order page) }
+        ensures geometry { IfOk result (λ place. place.geometry ≡ of_pages order page) }
         ensures unused { IfOk result (λ place. place.chunk ≡ None) }
     {
-        let piece = Ground::new(alloc, PAGE as usize * 2usize.pow(order))?;
+        let (piece, deed) = Ground::new(alloc, page as usize * 2usize.pow(order))?;
         match Chunk::new(alloc, order, piece) {
-            Ok(chunk) => Ok(ChunkPlace { chunk, used: false }),
+            Ok(chunk) => Ok(ChunkPlace {
+                chunk,
+                deed,
+                used: false,
+            }),
             Err(piece) => {
-                piece.close();
+                piece.close(deed);
                 Err(AllocError)
             }
         }
@@ -98,7 +100,7 @@ impl ChunkPlace {
     /// How much of its chunk is used, in hundredths.
     pub(crate) fn usage(&self) -> u32
         requires used { IsSome self.now.chunk }
-        requires order { self.now.geometry.order ≤ 11 }
+        requires bytes { chunk_bytes self.now.geometry ≤ 2 ^ 24 }
         ensures usage { result ≡ usage self.now.geometry (runs_of self.now) }
         ensures most { result ≤ 100 }
         ensures chunk { IsChunk self.now.geometry (runs_of self.now) }
@@ -168,14 +170,14 @@ impl ChunkPlace {
         piece
     }
 
-    /// The first page of the run in use in which a byte lies.
-    pub(crate) fn start_of(&self, offset: u32) -> u32
-        requires { IsInUse (state_of self.now) (offset / 8192) }
-        ensures start { result ≡ run_start (offset / 8192) (runs_of self.now) }
-        ensures before { result ≤ offset / 8192 }
+    /// The first page of the run in use in which a page lies.
+    pub(crate) fn start_of(&self, page: u32) -> u32
+        requires { IsInUse (state_of self.now) page }
+        ensures start { result ≡ run_start page (runs_of self.now) }
+        ensures before { result ≤ page }
         ensures chunk { IsChunk self.now.geometry (runs_of self.now) }
     {
-        self.chunk.start_of(offset / PAGE)
+        self.chunk.start_of(page)
     }
 
     /// A run comes back, that begins at a page and has so many.
@@ -219,15 +221,24 @@ impl ChunkPlace {
     pub(crate) fn close(self)
         requires { IsAllFree self }
     {
-        let ChunkPlace { chunk, used: _ } = self;
+        let ChunkPlace {
+            chunk,
+            deed,
+            used: _,
+        } = self;
         // Its runs are a chunk.
         let _free = chunk.free();
-        chunk.into_piece().close();
+        chunk.into_piece().close(deed);
     }
 
     /// Keeps the memory until the program ends.
     pub(crate) fn leave(self) {
-        let ChunkPlace { chunk, used: _ } = self;
+        let ChunkPlace {
+            chunk,
+            deed,
+            used: _,
+        } = self;
         chunk.leave();
+        deed.leave();
     }
 }

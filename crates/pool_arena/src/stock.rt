@@ -1,7 +1,7 @@
 //! What an arena has to give: its chunks in their lists, and its subpages by class.
 
 ghost use Rattle.std.specs.Prelude.{◌≡◌, ◌≢◌, ℕ, ◌+◌, ◌-◌, ◌*◌, ◌/◌, ◌^◌, ◌<◌, ◌≤◌, [], ◌∷◌, true, false, length, replicate, map, All, Option, Some, None, IfOk, IfSome, IfNone, IsSome, OnErr, slice_get, unwrap_or, position, not, is_some};
-ghost use Rattle.size_classes.specs.Sizes.{Geometry, below, of_order, page_of, chunk_pages, class_count, is_small, size_at, pages_of};
+ghost use Rattle.size_classes.specs.Sizes.{Geometry, below, of_pages, IsGeometry, page_of, chunk_pages, chunk_bytes, class_count, is_small, size_at, pages_of};
 ghost use Rattle.size_classes.specs.Pages.{NoneEmpty};
 ghost use Rattle.size_classes.specs.Elements.{is_idle, with_back};
 ghost use Rattle.pool_law.specs.Chunks.{new_chunk, usage, used_bytes, free_bytes};
@@ -17,7 +17,7 @@ ghost use Rattle.pool_arena.specs.Closing.{IsAllFree, IsResting, HasNoFront};
 ghost use Rattle.pool_arena.specs.declared.place.Wanted.{Wanted};
 
 use crate::front::{Front, Spot};
-use crate::place::{ChunkPlace, Cut, PAGE, Wanted};
+use crate::place::{ChunkPlace, Cut, Wanted};
 use chunk_list::{ChunkLists, Settled};
 use ground::Piece;
 use pool_law::ListName;
@@ -30,6 +30,7 @@ use std::marker::Model;
 /// Only `new` takes memory. It must be spent.
 pub(crate) struct Stock {
     classes: SizeClasses,
+    page: u32,
     places: Vec<ChunkPlace>,
     lists: ChunkLists,
     fronts: Vec<Front>,
@@ -50,21 +51,22 @@ impl Model for Stock {
 impl Stock {
     ghost use Rattle.pool_arena.specs.Stocks.{arena_in, Becomes, Yields, YieldsNone, HasChunk, HasNoChunk, AreListed, CutsFrom, CutsOff, FindsNone, FindsIn, found_in, run_wanted, NewFront, IsOpen, GivesPlace, IsPlaceOut, IsElementOutOf, IsIdleAt, element_back, subpage_given};
 
-    /// Chunk places with chunks of `2^order` pages, none of them in use.
-    pub(crate) fn new(alloc: Global, order: u32, chunks: u32) -> Result<Stock, AllocError>
-        requires order { (3 ≤ order) × (order ≤ 11) }
+    /// Chunk places with chunks of `2^order` pages of so many bytes, none of them in use.
+    pub(crate) fn new(alloc: Global, order: u32, page: u32, chunks: u32) -> Result<Stock, AllocError>
+        requires sizes { IsGeometry (of_pages order page) }
         requires chunks { (1 ≤ chunks) × (chunks ≤ 8) }
-        ensures geometry { IfOk result (λ stock. stock.geometry ≡ of_order order) }
+        ensures geometry { IfOk result (λ stock. stock.geometry ≡ of_pages order page) }
         ensures grounds { IfOk result (λ stock. length stock.grounds ≡ chunks) }
-        ensures new { IfOk result (λ stock. arena_in stock ≡ new_arena (of_order order) chunks) }
+        ensures new { IfOk result (λ stock. arena_in stock ≡ new_arena (of_pages order page) chunks) }
     {
-        let classes = SizeClasses::new(alloc, order)?;
+        let classes = SizeClasses::new(alloc, order, page)?;
         let lists = ChunkLists::new(alloc, chunks)?;
         let room = chunks as usize * 2usize.pow(order);
         let fronts = new_fronts(alloc, &classes, room)?;
-        let places = new_places(alloc, order, chunks)?;
+        let places = new_places(alloc, order, page, chunks)?;
         Ok(Stock {
             classes,
+            page,
             places,
             lists,
             fronts,
@@ -279,8 +281,8 @@ impl Stock {
         ensures { Becomes self.old
             (λ a. given_place self.old.geometry a class chunk piece.start) self.new }
     {
-        let page = piece.start() as u32 / PAGE;
-        let pages = piece.len() as u32 / PAGE;
+        let page = piece.start() as u32 / self.page;
+        let pages = piece.len() as u32 / self.page;
         let place = &mut self.places[chunk as usize];
         place.give_run(piece, page, pages);
         settle(place, &mut self.lists, chunk);
@@ -296,8 +298,8 @@ impl Stock {
             (λ a. given_place self.old.geometry a class chunk piece.start) self.new }
     {
         let offset = piece.start() as u32;
-        let page = self.places[chunk as usize].start_of(offset);
-        let index = (offset - PAGE * page) / self.classes.size_of(class);
+        let page = self.places[chunk as usize].start_of(offset / self.page);
+        let index = (offset - self.page * page) / self.classes.size_of(class);
         let spot = Spot { chunk, page };
         let idle = self.element_back(class, spot, index, piece);
         if !idle {
@@ -383,6 +385,7 @@ impl Stock {
         self.drop_idle();
         let Stock {
             classes: _,
+            page: _,
             places,
             lists: _,
             fronts: _,
@@ -394,6 +397,7 @@ impl Stock {
     pub(crate) fn leave(self) {
         let Stock {
             classes: _,
+            page: _,
             mut places,
             lists: _,
             fronts: _,
@@ -408,7 +412,7 @@ impl Stock {
 // A chunk settles by its usage. One that is destroyed leaves its place.
 fn settle(place: &mut ChunkPlace, lists: &mut ChunkLists, chunk: u32)
     requires used { IsSome place.old.chunk }
-    requires order { place.old.geometry.order ≤ 11 }
+    requires bytes { chunk_bytes place.old.geometry ≤ 2 ^ 24 }
     requires listed { IsSome (list_of lists.old.lists chunk) }
     ensures lists { lists.new ≡ with_lists lists.old
         (settled lists.old.lists chunk (usage place.old.geometry (runs_of place.old))) }
@@ -449,15 +453,15 @@ fn new_fronts(alloc: Global, classes: &SizeClasses, room: usize) -> Result<Vec<F
 }
 
 // So many unused chunk places.
-fn new_places(alloc: Global, order: u32, chunks: u32) -> Result<Vec<ChunkPlace>, AllocError>
-    requires { (3 ≤ order) × (order ≤ 11) }
+fn new_places(alloc: Global, order: u32, page: u32, chunks: u32) -> Result<Vec<ChunkPlace>, AllocError>
+    requires { IsGeometry (of_pages order page) }
     ensures count { IfOk result (λ places. length places.items ≡ chunks) }
     ensures unused { IfOk result (λ places. All (λ (p : PlaceState).
-        (p.geometry ≡ of_order order) × (p.chunk ≡ None)) places.items) }
+        (p.geometry ≡ of_pages order page) × (p.chunk ≡ None)) places.items) }
 {
     let mut places = Vec::with_capacity(alloc, chunks as usize)?;
     for _ in 0..chunks {
-        match ChunkPlace::new(alloc, order) {
+        match ChunkPlace::new(alloc, order, page) {
             Ok(place) => match places.push(place) {
                 Ok(()) => {}
                 Err(_) => unreachable!(),

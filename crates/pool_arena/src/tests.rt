@@ -7,6 +7,7 @@ ghost use Rattle.pool_arena.specs.Trials.{IsTrial};
 
 use crate::Arena;
 use pool_law::{ChunkEnd, ListName, Region};
+use size_classes::DEFAULT_PAGE;
 use std::alloc::Global;
 use std::collections::VecDeque;
 use std::marker::Model;
@@ -23,9 +24,9 @@ fn new_arena(rt: &impl Abort, alloc: Global, order: u32, chunks: u32) -> Arena
     requires order { (3 ≤ order) × (order ≤ 11) }
     requires chunks { (1 ≤ chunks) × (chunks ≤ 8) }
     ensures geometry { result.geometry ≡ of_order order }
-    ensures new { IsNew 0 order chunks result }
+    ensures new { IsNew 0 order DEFAULT_PAGE chunks result }
 {
-    crosses(Arena::new(alloc, 0, order, chunks).expect(rt, "ample memory"))
+    crosses(Arena::new(alloc, 0, order, DEFAULT_PAGE, chunks).expect(rt, "ample memory"))
 }
 
 fn leave(region: Region) {

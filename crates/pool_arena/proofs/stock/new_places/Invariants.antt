@@ -1,5 +1,5 @@
 use Rattle.std.proofs.Common.{◌≡◌, ◌≤◌, All, None}
-use Rattle.size_classes.specs.Sizes.{of_order}
+use Rattle.size_classes.specs.Sizes.{of_pages}
 use Rattle.std.specs.Prelude.{vec_len, vec_capacity}
 use Rattle.pool_arena.specs.Places.{PlaceState}
 use Rattle.pool_arena.proofs.stock.new_places.Given as goal
@@ -9,5 +9,5 @@ invariant-loop l =
     record {
       count : vec_len l.places ≡ l.counter;
       room : l.chunks ≤ vec_capacity l.places;
-      unused : All (λ (p : PlaceState). (p.geometry ≡ of_order l.order) × (p.chunk ≡ None)) l.places.items;
+      unused : All (λ (p : PlaceState). (p.geometry ≡ of_pages l.order l.page) × (p.chunk ≡ None)) l.places.items;
     }

@@ -1,5 +1,5 @@
 use Rattle.std.proofs.Common.{sym, subst}
-use Rattle.size_classes.specs.Sizes.{Geometry, of_order}
+use Rattle.size_classes.specs.Sizes.{Geometry, of_pages}
 use Rattle.pool_law.specs.Arenas.{Arena}
 use Rattle.arena_law.specs.Orderly.{IsOrderly}
 use Rattle.arena_law.proofs.OrderlyTakes.{new-orderly}
@@ -13,5 +13,5 @@ invariant_of-result c =
       number = c.requires.number;
       orderly =
           subst (λ (g : Geometry). IsOrderly g (arena_in c.in_ok-stock.stock)) (sym made.geometry)
-          (subst (λ (a : Arena). IsOrderly (of_order c.args.order) a) (sym made.new) (new-orderly (of_order c.args.order) c.args.chunks c.requires.order.0));
+          (subst (λ (a : Arena). IsOrderly (of_pages c.args.order c.args.page) a) (sym made.new) (new-orderly (of_pages c.args.order c.args.page) c.args.chunks c.requires.sizes.page c.requires.sizes.least));
     }

@@ -1,6 +1,6 @@
 use Rattle.std.proofs.Common.{◌≡◌, refl, Bool, ◌-◌, ◌+◌, ◌*◌, ◌/◌, sym, ap, ◌∙◌, arith, ne_eqb, eq-eqb}
 use Rattle.pool_arena.specs.Places.{runs_of}
-use Rattle.pool_arena.proofs.PlaceLaws.{chunk-small, usage-some}
+use Rattle.pool_arena.proofs.PlaceLaws.{usage-some}
 use Rattle.std.specs.Prelude.{if◌then◌else◌}
 use Rattle.size_classes.specs.Sizes.{chunk_bytes}
 use Rattle.pool_arena.proofs.place.ChunkPlace.usage.Goals as goal
@@ -9,10 +9,10 @@ sum : (c : goal.After-used) → c.used.result + c.free-free.result ≡ chunk_byt
 sum c = omega (arith, c.free-free.ensures.bytes, c.used.ensures.whole)
 
 pub overflow_add-size : goal.overflow_add-size
-overflow_add-size c = omega (arith, sum c, chunk-small c.args.self.now.geometry c.requires.order)
+overflow_add-size c = omega (arith, sum c, c.requires.bytes)
 
 pub overflow_mul-percent : goal.overflow_mul-percent
-overflow_mul-percent c = omega (arith, c.free-free.ensures.bytes, c.used.ensures.whole, chunk-small c.args.self.now.geometry c.requires.order)
+overflow_mul-percent c = omega (arith, c.free-free.ensures.bytes, c.used.ensures.whole, c.requires.bytes)
 
 pub returns-then-percent-eq0-clause-usage : goal.returns-then-percent-eq0-clause-usage
 returns-then-percent-eq0-clause-usage c =

@@ -1,6 +1,6 @@
-use Rattle.std.proofs.Common.{◌≡◌, refl, sym, ap, ◌∙◌, subst, None, ◌≤◌}
+use Rattle.std.proofs.Common.{◌≡◌, ◌^◌, refl, sym, ap, ◌∙◌, subst, None, ◌≤◌}
 use Rattle.std.specs.Vec.{with_item}
-use Rattle.size_classes.specs.Sizes.{Geometry}
+use Rattle.size_classes.specs.Sizes.{Geometry, chunk_bytes}
 use Rattle.size_classes.specs.Pages.{NoneEmpty, chosen, free_runs}
 use Rattle.pool_law.specs.Chunks.{Chunk}
 use Rattle.pool_law.specs.Arenas.{chunk_at}
@@ -20,6 +20,7 @@ abbrev kept : goal.After-from_residual → Inside
 kept c =
     record {
       classes = c.self.inside.classes;
+      page = c.self.inside.page;
       places = with_item c.self.inside.places c.args.chunk c.cut.new.self;
       lists = c.self.inside.lists;
       fronts = c.self.inside.fronts;
@@ -36,6 +37,7 @@ none c =
       origin = ap (λ (p : PlaceState). p.origin) same;
       geometry = ap (λ (p : PlaceState). p.geometry) same;
       classes = refl;
+      page = refl;
       places = refl;
     }
 
@@ -57,20 +59,21 @@ returns-in_err-cut-clause-none c =
 
 -- ---- something is
 
-pub settle-requires-clause-order : goal.settle-requires-clause-order
-settle-requires-clause-order c =
+pub settle-requires-clause-bytes : goal.settle-requires-clause-bytes
+settle-requires-clause-bytes c =
     let s = c.self.inside in
     let there = subst (λ (v : StockState). HasChunk v c.args.chunk) (sym c.self.view_is) c.requires.there in
     let found =
     found-is s.places.items c.args.chunk c.index_mut-place.result.now (place-of s c.args.chunk there.runs there.there) c.index_mut-place.ensures.value in
     let same : c.cut.new.self.geometry ≡ s.classes =
     ap (λ (p : PlaceState). p.geometry) (c.in_ok-cut.ensures {u = tt}).some.rest ∙ place-geometry s c.args.chunk c.index_mut-place.result.now found c.self.invariant in
-    subst (λ (g : Geometry). g.order ≤ 11) (sym same) c.self.invariant.order
+    subst (λ (g : Geometry). chunk_bytes g ≤ 2 ^ 24) (sym same) c.self.invariant.sizes.chunk
 
 abbrev after : goal.After-self-2-1 → Inside
 after c =
     record {
       classes = c.self.inside.classes;
+      page = c.self.inside.page;
       places = with_item c.self.inside.places c.args.chunk c.settle.new.place;
       lists = c.settle.new.lists;
       fronts = c.self.inside.fronts;

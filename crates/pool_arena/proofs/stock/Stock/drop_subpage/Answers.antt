@@ -1,7 +1,7 @@
-use Rattle.std.proofs.Common.{◌≡◌, ℕ, ◌*◌, ◌≤◌, length, refl, sym, ap, ◌∙◌, subst, Some}
+use Rattle.std.proofs.Common.{◌≡◌, ◌^◌, ℕ, ◌*◌, ◌≤◌, length, refl, sym, ap, ◌∙◌, subst, Some}
 use Rattle.std.specs.Vec.{with_item}
 use Rattle.std.specs.Prelude.{slice_get, slice_set, slice_index_or, map}
-use Rattle.size_classes.specs.Sizes.{Geometry, chunk_pages}
+use Rattle.size_classes.specs.Sizes.{Geometry, chunk_bytes, chunk_pages}
 use Rattle.size_classes.specs.Pages.{Used, NoneEmpty, run_at}
 use Rattle.size_classes.proofs.Runs.{Begins-run_at}
 use Rattle.pool_law.specs.Chunks.{Chunk, Sub}
@@ -47,17 +47,18 @@ drop_subpage-requires c =
       idle = c.requires.idle.idle;
     }
 
-pub settle-requires-clause-order : goal.settle-requires-clause-order
-settle-requires-clause-order c =
+pub settle-requires-clause-bytes : goal.settle-requires-clause-bytes
+settle-requires-clause-bytes c =
     let s = c.self.inside in
     let x = c.index_mut-place.result.now in
     let found = place_at s c.args.self.now c.args.spot.chunk x c.self.view_is c.requires.there c.index_mut-place.ensures.value in
-    subst (λ (g : Geometry). g.order ≤ 11) (sym (ap (λ (p : PlaceState). p.geometry) c.drop_subpage.ensures ∙ place-geometry s c.args.spot.chunk x found c.self.invariant)) c.self.invariant.order
+    subst (λ (g : Geometry). chunk_bytes g ≤ 2 ^ 24) (sym (ap (λ (p : PlaceState). p.geometry) c.drop_subpage.ensures ∙ place-geometry s c.args.spot.chunk x found c.self.invariant)) c.self.invariant.sizes.chunk
 
 abbrev after : goal.After-self-2-1 → Inside
 after c =
     record {
       classes = c.self.inside.classes;
+      page = c.self.inside.page;
       places = with_item c.self.inside.places c.args.spot.chunk c.settle.new.place;
       lists = c.settle.new.lists;
       fronts = with_item c.self.inside.fronts c.args.class c.leave.new.self;

@@ -49,6 +49,7 @@ abbrev entered : goal.After-self-then-was_full-1 → Inside
 entered c =
     record {
       classes = c.self.inside.classes;
+      page = c.self.inside.page;
       places = with_item c.self.inside.places c.args.spot.chunk c.give_element-idle.new.self;
       lists = c.self.inside.lists;
       fronts = with_item c.self.inside.fronts c.args.class c.enter.new.self;
@@ -58,6 +59,7 @@ abbrev stays : goal.Else-was_full → Inside
 stays c =
     record {
       classes = c.self.inside.classes;
+      page = c.self.inside.page;
       places = with_item c.self.inside.places c.args.spot.chunk c.give_element-idle.new.self;
       lists = c.self.inside.lists;
       fronts = c.self.inside.fronts;

@@ -1,7 +1,7 @@
 use Rattle.std.proofs.Common.{◌≡◌, ℕ, ◌-◌, ◌*◌, ◌/◌, ◌<◌, sym, ap, ap₂, ◌∙◌, subst, Bool, true, Some}
 use Rattle.std.specs.Prelude.{slice_get, slice_index_or}
 use Rattle.ground.specs.Ground.{Segment}
-use Rattle.size_classes.specs.Sizes.{Geometry, class_count, is_small, size_at}
+use Rattle.size_classes.specs.Sizes.{Geometry, page_of, class_count, is_small, size_at}
 use Rattle.size_classes.specs.Pages.{Used, run_start}
 use Rattle.size_classes.specs.Runs.{Begins}
 use Rattle.size_classes.specs.Elements.{is_idle, with_back}
@@ -33,20 +33,25 @@ module _ (s : Inside) (is : IsStock s) (v : StockState) (class c : ℕ) (piece :
   runs_are : chunk_at (arena_in v) c ≡ runs_of x
   runs_are = ap (λ (w : StockState). chunk_at (arena_in w) c) (sym seen) ∙ place-chunk_at s c x found
 
-  in_use : (offset : ℕ) → offset ≡ piece.start → IsInUse (state_of x) (offset / 8192)
-  in_use offset same =
-      subst (λ (n : ℕ). IsInUse (state_of x) (n / 8192)) (sym same) (it-in_use v orderly class c piece asked small x runs_are)
+  page_bytes : s.page ≡ page_of v.geometry
+  page_bytes = is.page ∙ ap (λ (w : StockState). page_of w.geometry) seen
 
-  module _ (offset page size : ℕ) (offset_is : offset ≡ piece.start) (page_is : page ≡ run_start (offset / 8192) (runs_of x)) (size_is : size ≡ size_at class)
+  in_use : (offset : ℕ) → offset ≡ piece.start → IsInUse (state_of x) (offset / s.page)
+  in_use offset same =
+      subst (λ (n : ℕ). IsInUse (state_of x) n) (sym (ap₂ (λ (n b : ℕ). n / b) same page_bytes)) (it-in_use v orderly class c piece asked small x runs_are)
+
+  module _ (offset page size : ℕ) (offset_is : offset ≡ piece.start) (page_is : page ≡ run_start (offset / s.page) (runs_of x)) (size_is : size ≡ size_at class)
       (whole : IsChunk x.geometry (runs_of x)) where
     its_page : page ≡ (it v orderly class c piece asked small).page
     its_page =
-        page_is ∙ ap₂ (λ (n : ℕ) (rs : Chunk). run_start (n / 8192) rs) offset_is (sym runs_are) ∙ it-page v orderly class c piece asked small
+        page_is ∙ ap (λ (b : ℕ). run_start (offset / b) (runs_of x)) page_bytes
+        ∙ ap₂ (λ (n : ℕ) (rs : Chunk). run_start (n / page_of v.geometry) rs) offset_is (sym runs_are) ∙ it-page v orderly class c piece asked small
 
-    its_index : (offset - 8192 * page) / size ≡ (it v orderly class c piece asked small).at
+    its_index : (offset - s.page * page) / size ≡ (it v orderly class c piece asked small).at
     its_index =
-        ap₂ (λ (n p : ℕ). (n - 8192 * p) / size) offset_is its_page
-        ∙ ap (λ (k : ℕ). (piece.start - 8192 * (it v orderly class c piece asked small).page) / k) size_is
+        ap (λ (b : ℕ). (offset - b * page) / size) page_bytes
+        ∙ ap₂ (λ (n p : ℕ). (n - page_of v.geometry * p) / size) offset_is its_page
+        ∙ ap (λ (k : ℕ). (piece.start - page_of v.geometry * (it v orderly class c piece asked small).page) / k) size_is
         ∙ it-index v orderly class c piece asked small
 
     its_chunk : IsChunk v.geometry (chunk_at (arena_in v) c)
@@ -54,21 +59,21 @@ module _ (s : Inside) (is : IsStock s) (v : StockState) (class c : ℕ) (piece :
         subst (λ (rs : Chunk). IsChunk v.geometry rs) (sym runs_are)
         (subst (λ (g : Geometry). IsChunk g (runs_of x)) (place-geometry s c x found is ∙ ap (λ (w : StockState). w.geometry) seen) whole)
 
-    its_out : IsElementOutOf v class c page ((offset - 8192 * page) / size) piece
+    its_out : IsElementOutOf v class c page ((offset - s.page * page) / size) piece
     its_out =
         subst (λ (k : ℕ). IsElementOutOf v class c page k piece) (sym its_index)
         (subst (λ (p : ℕ). IsElementOutOf v class c p (it v orderly class c piece asked small).at piece) (sym its_page)
         (it-out v orderly class c piece asked small its_chunk))
 
     module _ (mid : StockState) (idle : Bool) where
-      its_back : ((o : IsElementOutOf v class c page ((offset - 8192 * page) / size) piece) → Becomes v (element_back class c page ((offset - 8192 * page) / size) o.elements) mid)
+      its_back : ((o : IsElementOutOf v class c page ((offset - s.page * page) / size) piece) → Becomes v (element_back class c page ((offset - s.page * page) / size) o.elements) mid)
           → Becomes v (element_back class c (it v orderly class c piece asked small).page (it v orderly class c piece asked small).at (it v orderly class c piece asked small).elements) mid
       its_back back =
           let P : ℕ → ℕ → Type 0 = λ p k. (o : IsElementOutOf v class c p k piece) → Becomes v (element_back class c p k o.elements) mid in
           subst (λ (p : ℕ). P p (it v orderly class c piece asked small).at) its_page (subst (λ (k : ℕ). P page k) its_index back)
           (it-out v orderly class c piece asked small its_chunk)
 
-      its_idle : ((o : IsElementOutOf v class c page ((offset - 8192 * page) / size) piece) → idle ≡ is_idle (with_back o.elements ((offset - 8192 * page) / size)))
+      its_idle : ((o : IsElementOutOf v class c page ((offset - s.page * page) / size) piece) → idle ≡ is_idle (with_back o.elements ((offset - s.page * page) / size)))
           → idle ≡ is_idle (with_back (it v orderly class c piece asked small).elements (it v orderly class c piece asked small).at)
       its_idle is_so =
           let P : ℕ → ℕ → Type 0 = λ p k. (o : IsElementOutOf v class c p k piece) → idle ≡ is_idle (with_back o.elements k) in

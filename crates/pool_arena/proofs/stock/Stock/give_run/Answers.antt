@@ -1,8 +1,9 @@
-use Rattle.std.proofs.Common.{◌≡◌, ℕ, ◌/◌, ◌≤◌, refl, sym, ap, ◌∙◌, subst, false, Some}
+use Rattle.std.proofs.Common.{◌≡◌, ◌^◌, ℕ, ◌/◌, ◌≤◌, refl, sym, ap, ap₂, ◌∙◌, subst, false, Some}
 use Rattle.std.specs.Vec.{with_item}
 use Rattle.std.specs.Prelude.{slice_get, slice_index_or}
 use Rattle.ground.specs.Ground.{Segment}
-use Rattle.size_classes.specs.Sizes.{Geometry, is_small}
+use Rattle.size_classes.specs.Sizes.{Geometry, page_of, chunk_bytes, is_small}
+use Rattle.size_classes.proofs.SmallClasses.{page-some}
 use Rattle.size_classes.specs.Pages.{Used, NoneEmpty}
 use Rattle.size_classes.specs.Runs.{Begins}
 use Rattle.pool_law.specs.Chunks.{Chunk, Whole}
@@ -37,8 +38,8 @@ module _ (s : Inside) (is : IsStock s) (v : StockState) (class c : ℕ) (piece :
   some : NoneEmpty (runs_of x)
   some = subst (λ (rs : Chunk). NoneEmpty rs) (place-chunk_at s c x found) (order.sound c).none_empty
 
-  order_is : (y : PlaceState) → y.geometry ≡ x.geometry → y.geometry.order ≤ 11
-  order_is y same = subst (λ (g : Geometry). g.order ≤ 11) (sym (same ∙ place-geometry s c x found is)) is.order
+  order_is : (y : PlaceState) → y.geometry ≡ x.geometry → chunk_bytes y.geometry ≤ 2 ^ 24
+  order_is y same = subst (λ (g : Geometry). chunk_bytes g ≤ 2 ^ 24) (sym (same ∙ place-geometry s c x found is)) is.sizes.chunk
 
 pub give_run-requires : goal.give_run-requires
 give_run-requires c =
@@ -50,12 +51,12 @@ give_run-requires c =
     whole-run_out s c.args.class c.args.chunk c.args.piece o r x
     (found s c.self.invariant v c.args.class c.args.chunk c.args.piece c.self.view_is c.requires.whole c.requires.orderly c.requires.out x c.index_mut-place.ensures.value)
     (some s c.self.invariant v c.args.class c.args.chunk c.args.piece c.self.view_is c.requires.whole c.requires.orderly c.requires.out x c.index_mut-place.ensures.value)
-    (c.start.result / 8192) (c.len.result / 8192)
-    (ap (λ n. n / 8192) c.start.ensures.start ∙ whole-page_is (stock_in s) c.args.class c.args.chunk c.args.piece o r)
-    (ap (λ n. n / 8192) c.len.ensures.len ∙ whole-pages_are (stock_in s) c.args.class c.args.chunk c.args.piece o r)
+    (c.start.result / s.page) (c.len.result / s.page)
+    (ap₂ (λ n p. n / p) c.start.ensures.start c.self.invariant.page ∙ whole-page_is (stock_in s) (page-some s.classes c.self.invariant.sizes.page) c.args.class c.args.chunk c.args.piece o r)
+    (ap₂ (λ n p. n / p) c.len.ensures.len c.self.invariant.page ∙ whole-pages_are (stock_in s) (page-some s.classes c.self.invariant.sizes.page) c.args.class c.args.chunk c.args.piece o r)
 
-pub settle-requires-clause-order : goal.settle-requires-clause-order
-settle-requires-clause-order c =
+pub settle-requires-clause-bytes : goal.settle-requires-clause-bytes
+settle-requires-clause-bytes c =
     order_is c.self.inside c.self.invariant c.args.self.now c.args.class c.args.chunk c.args.piece c.self.view_is c.requires.whole c.requires.orderly c.requires.out
     c.index_mut-place.result.now c.index_mut-place.ensures.value c.give_run.new.self (ap (λ (p : PlaceState). p.geometry) c.give_run.ensures)
 
@@ -63,6 +64,7 @@ abbrev after : goal.After-self-1 → Inside
 after c =
     record {
       classes = c.self.inside.classes;
+      page = c.self.inside.page;
       places = with_item c.self.inside.places c.args.chunk c.settle.new.place;
       lists = c.settle.new.lists;
       fronts = c.self.inside.fronts;
@@ -92,12 +94,12 @@ returns c =
     let s = c.self.inside in
     let v = c.args.self.now in
     let x = c.index_mut-place.result.now in
-    let page = c.start.result / 8192 in
+    let page = c.start.result / s.page in
     let o = out s c.self.invariant v c.args.class c.args.chunk c.args.piece c.self.view_is c.requires.whole c.requires.orderly c.requires.out x c.index_mut-place.ensures.value in
     let r = run s c.self.invariant v c.args.class c.args.chunk c.args.piece c.self.view_is c.requires.whole c.requires.orderly c.requires.out x c.index_mut-place.ensures.value in
     let at =
     found s c.self.invariant v c.args.class c.args.chunk c.args.piece c.self.view_is c.requires.whole c.requires.orderly c.requires.out x c.index_mut-place.ensures.value in
-    let page_is : page ≡ r.page = ap (λ n. n / 8192) c.start.ensures.start ∙ whole-page_is (stock_in s) c.args.class c.args.chunk c.args.piece o r in
+    let page_is : page ≡ r.page = ap₂ (λ n p. n / p) c.start.ensures.start c.self.invariant.page ∙ whole-page_is (stock_in s) (page-some s.classes c.self.invariant.sizes.page) c.args.class c.args.chunk c.args.piece o r in
     let begins = subst (λ (n : ℕ). Begins n (Used r.pages Whole) (runs_of x)) (sym page_is) (whole-begins s c.args.class c.args.chunk c.args.piece o r x at) in
     let becomes =
     given-law s (after c) c.self.invariant c.args.chunk page r.pages Whole x c.give_run.new.self c.settle.new.place begins
@@ -107,7 +109,7 @@ returns c =
     subst (λ (w : StockState). Becomes w (λ a. given_place w.geometry a c.args.class c.args.chunk c.args.piece.start) (stock_in (after c))) c.self.view_is
     (record {
       law = λ takings out.
-          by-run s.classes c.args.class c.args.chunk page c.args.piece.start (arena_with (stock_in s) takings out) small (ap (λ n. n / 8192) (sym c.start.ensures.start))
+          by-run s.classes c.args.class c.args.chunk page c.args.piece.start (arena_with (stock_in s) takings out) small (ap₂ (λ n p. n / p) (sym c.start.ensures.start) (sym c.self.invariant.page))
           ∙ becomes.law takings out;
       geometry = becomes.geometry;
       grounds = becomes.grounds;

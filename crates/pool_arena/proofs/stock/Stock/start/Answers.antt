@@ -15,6 +15,7 @@ abbrev after : goal.After-add-list → Inside
 after c =
     record {
       classes = c.self.inside.classes;
+      page = c.self.inside.page;
       places = with_item c.self.inside.places c.args.chunk c.start.new.self;
       lists = c.add-list.new.self;
       fronts = c.self.inside.fronts;
@@ -34,6 +35,7 @@ writes c =
       origin = ap (λ (p : PlaceState). p.origin) c.start.ensures;
       geometry = ap (λ (p : PlaceState). p.geometry) c.start.ensures;
       classes = refl;
+      page = refl;
       places = ap (λ l. l.places) c.add-list.ensures.lists;
     }
 

@@ -48,6 +48,7 @@ abbrev left : goal.After-self-then-is_full-1 → Inside
 left c =
     record {
       classes = c.self.inside.classes;
+      page = c.self.inside.page;
       places = with_item c.self.inside.places c.args.spot.chunk c.take_element-piece.new.self;
       lists = c.self.inside.lists;
       fronts = with_item c.self.inside.fronts c.args.class c.leave.new.self;
@@ -57,6 +58,7 @@ abbrev stays : goal.Else-is_full → Inside
 stays c =
     record {
       classes = c.self.inside.classes;
+      page = c.self.inside.page;
       places = with_item c.self.inside.places c.args.spot.chunk c.take_element-piece.new.self;
       lists = c.self.inside.lists;
       fronts = c.self.inside.fronts;
