@@ -81,11 +81,11 @@ small-out v class chunk piece out small = by out.slot
 -- the page and the pages of a piece that is a whole run
 pub whole-page_is : (v : StockState) → 0 < page_of v.geometry → (class chunk : ℕ) (piece : Segment) → (out : IsPlaceOut v class chunk piece) → (run : IsWholeRun v.geometry (chunk_at (arena_in v) chunk) out.id)
     → piece.start / page_of v.geometry ≡ run.page
-whole-page_is v some class chunk piece out run = ap (λ (n : ℕ). n / page_of v.geometry) (sym out.offset ∙ run.starts) ∙ mul-div_cancel_left some run.page
+whole-page_is v some class chunk piece out run = ap (λ (n : ℕ). n / page_of v.geometry) (sym out.offset ∙ run.starts) ∙ mul-div_cancel_left run.page some
 
 pub whole-pages_are : (v : StockState) → 0 < page_of v.geometry → (class chunk : ℕ) (piece : Segment) → (out : IsPlaceOut v class chunk piece) → (run : IsWholeRun v.geometry (chunk_at (arena_in v) chunk) out.id)
     → length piece.bytes / page_of v.geometry ≡ run.pages
-whole-pages_are v some class chunk piece out run = ap (λ (n : ℕ). n / page_of v.geometry) (out.piece_is.size ∙ run.ends) ∙ mul-div_cancel_left some run.pages
+whole-pages_are v some class chunk piece out run = ap (λ (n : ℕ). n / page_of v.geometry) (out.piece_is.size ∙ run.ends) ∙ mul-div_cancel_left run.pages some
 
 module _ (s : Inside) (class c : ℕ) (piece : Segment) (out : IsPlaceOut (stock_in s) class c piece) (run : IsWholeRun s.classes (chunk_at (arena_in (stock_in s)) c) out.id)
     (x : PlaceState) (found : slice_get s.places.items c ≡ Some x) where

@@ -162,7 +162,7 @@ module _ (g : Geometry) (a : Arena) (o : IsOrderly g a) (rest : (c : ℕ) → Ch
   run-free page (Used n (Sub class e)) b =
       let fits = subpage-fits g (chunk_at a c) page n class e whole b in
       let idle : is_idle e ≡ true = run-rest (chunk_at a c) page (Used n (Sub class e)) (rest c) b in
-      let room : is_full e ≡ false = idle-room e.out (omega (arith, fits.elements, some-elements g whole.sizes.page class fits.small)) idle in
+      let room : is_full e ≡ false = idle-room e.out (omega (arith, fits.elements, some-elements g (o.sound c).page class fits.small)) idle in
       let listed = (o.spotted class c page fits.small).1 (has-room a class c page whole.none_empty (record { pages = n; elements = e; begins = b; room = room })) in
       let both : false ≡ true = sym (ap (has_spot c page) (none class fits.small)) ∙ listed in
       absurd (cc both)

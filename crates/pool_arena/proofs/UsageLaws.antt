@@ -6,7 +6,7 @@ use Rattle.std.proofs.lemmas.Nat.{mul-le}
 use Rattle.std.proofs.Math.Nat.{div-mul-le_self}
 use Rattle.std.proofs.lemmas.Nat.{le-div}
 use lib.Pow.{pow_pos}
-use Rattle.size_classes.specs.Sizes.{Geometry, IsPage, page_of, chunk_bytes}
+use Rattle.size_classes.specs.Sizes.{Geometry, IsPage, page_of, chunk_pages, chunk_bytes}
 use Rattle.size_classes.proofs.SmallClasses.{page-some}
 use Rattle.std.proofs.Math.Nat.{le_of_mul-le-mul_left, mul-pos}
 use Rattle.size_classes.specs.Pages.{Run, Free, Used, pages_in, total_pages, free_in, free_pages, rest_of, front_used, freed, joined, merged, replaced, taken_at, given_at, NoneEmpty, NoneSideBySide}
