@@ -89,7 +89,7 @@ module _ (s t : Inside) (is : IsStock s) (c : ℕ) (x y : PlaceState) (page : �
         origin = ap (λ (p : PlaceState). p.origin) changed;
         geometry = ap (λ (p : PlaceState). p.geometry) changed;
         classes = ap (λ (x : Geometry × ℕ). x.0) sizes;
-            page = ap (λ (x : Geometry × ℕ). x.1) sizes;
+        page = ap (λ (x : Geometry × ℕ). x.1) sizes;
         places = ap (λ (l : Listing). l.places) lists;
       }
 

@@ -38,7 +38,13 @@ impl Arena {
 
     /// An arena with so many chunk places of `2^order` pages of so many bytes, none of them in use.
     /// It takes the memory of all its chunks and of their tables.
-    pub fn new(alloc: Global, number: u32, order: u32, page: u32, chunks: u32) -> Result<Arena, AllocError>
+    pub fn new(
+        alloc: Global,
+        number: u32,
+        order: u32,
+        page: u32,
+        chunks: u32,
+    ) -> Result<Arena, AllocError>
         requires number { number < 8 }
         requires sizes { IsGeometry (of_pages order page) }
         requires chunks { (1 ≤ chunks) × (chunks ≤ 8) }

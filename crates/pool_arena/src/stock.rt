@@ -52,7 +52,12 @@ impl Stock {
     ghost use Rattle.pool_arena.specs.Stocks.{arena_in, Becomes, Yields, YieldsNone, HasChunk, HasNoChunk, AreListed, CutsFrom, CutsOff, FindsNone, FindsIn, found_in, run_wanted, NewFront, IsOpen, GivesPlace, IsPlaceOut, IsElementOutOf, IsIdleAt, element_back, subpage_given};
 
     /// Chunk places with chunks of `2^order` pages of so many bytes, none of them in use.
-    pub(crate) fn new(alloc: Global, order: u32, page: u32, chunks: u32) -> Result<Stock, AllocError>
+    pub(crate) fn new(
+        alloc: Global,
+        order: u32,
+        page: u32,
+        chunks: u32,
+    ) -> Result<Stock, AllocError>
         requires sizes { IsGeometry (of_pages order page) }
         requires chunks { (1 ≤ chunks) × (chunks ≤ 8) }
         ensures geometry { IfOk result (λ stock. stock.geometry ≡ of_pages order page) }
@@ -453,7 +458,12 @@ fn new_fronts(alloc: Global, classes: &SizeClasses, room: usize) -> Result<Vec<F
 }
 
 // So many unused chunk places.
-fn new_places(alloc: Global, order: u32, page: u32, chunks: u32) -> Result<Vec<ChunkPlace>, AllocError>
+fn new_places(
+    alloc: Global,
+    order: u32,
+    page: u32,
+    chunks: u32,
+) -> Result<Vec<ChunkPlace>, AllocError>
     requires { IsGeometry (of_pages order page) }
     ensures count { IfOk result (λ places. length places.items ≡ chunks) }
     ensures unused { IfOk result (λ places. All (λ (p : PlaceState).
