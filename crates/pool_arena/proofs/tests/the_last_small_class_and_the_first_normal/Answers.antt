@@ -7,7 +7,7 @@ use Rattle.pool_arena.proofs.OutLaws.{new-out, new-takings, new-places, take-out
 use Rattle.pool_arena.proofs.tests.the_last_small_class_and_the_first_normal.Goals as goal
 
 -- two takings of a new arena, of which the second comes back first
-module _ (a b d : ArenaState) (is : IsNew 0 9 8192 4 a) (r s : RegionId) (first : Takes a 38 0 b r) (second : Takes b 39 0 d s) where
+module _ (a b d : ArenaState) (is : IsNew 0 8192 9 4 a) (r s : RegionId) (first : Takes a 38 0 b r) (second : Takes b 39 0 d s) where
   has_one : HasOut b (r ∷ [])
   has_one = take-out a b 38 0 r [] (new-out 0 8192 9 4 a (inr (inl refl)) is) first
 
