@@ -140,7 +140,8 @@ used-some g rs none = by (page_of g) refl
   where
     by : (page : ℕ) → page_of g ≡ page → 0 < page_of g
     by zero is =
-        let all : usage g rs ≡ 100 = ap (λ (page : ℕ). usage_of (page * free_pages rs) (chunk_bytes g)) is in
+        let free : free_bytes g rs ≡ 0 = ap (λ (page : ℕ). page * free_pages rs) is ∙ omega arith in
+        let all : usage g rs ≡ 100 = ap (λ (n : ℕ). usage_of n (chunk_bytes g)) free in
         absurd (omega (arith, none, all))
     by (suc page) is = omega (arith, is)
 
