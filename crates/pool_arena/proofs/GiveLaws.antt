@@ -1,5 +1,5 @@
 -- A run that comes back, and its chunk, which settles.
-use Rattle.std.proofs.Common.{◌≡◌, ℕ, ◌*◌, ◌/◌, ◌<◌, ◌≤◌, List, length, refl, sym, ap, ap₂, ◌∙◌, subst, Bool, true, false, Some, arith, inl, inr}
+use Rattle.std.proofs.Common.{◌≡◌, ℕ, ◌*◌, ◌/◌, ◌<◌, ◌≤◌, List, length, sym, ap, ap₂, ◌∙◌, subst, Bool, true, false, Some, arith, inl, inr}
 use Rattle.std.specs.Prelude.{Option, map, slice_get, if◌then◌else◌}
 use Rattle.std.proofs.lemmas.List.{length-map}
 use Rattle.ground.specs.Ground.{Segment}

@@ -1,5 +1,5 @@
 -- A chunk place, by its fields.
-use Rattle.std.proofs.Common.{◌≡◌, ℕ, ◌*◌, ◌-◌, ◌/◌, ◌≤◌, ◌^◌, [], refl, sym, ap, ◌∙◌, subst, Bool, true, false, Some, arith, ap₂, ne_eqb}
+use Rattle.std.proofs.Common.{◌≡◌, ℕ, ◌*◌, ◌-◌, ◌/◌, ◌^◌, [], refl, sym, ap, ◌∙◌, subst, Bool, true, false, Some, ap₂, ne_eqb}
 use Rattle.std.specs.Prelude.{IsSome, length, replicate, unwrap_or, ◌==◌, if◌then◌else◌}
 use Rattle.std.proofs.Math.Nat.{mul-div_cancel}
 use Rattle.std.proofs.lemmas.List.{length-replicate}

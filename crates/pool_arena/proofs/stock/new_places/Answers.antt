@@ -1,5 +1,4 @@
-use Rattle.std.proofs.Common.{◌≡◌, ◌≤◌, rules, sym, subst, List, All, None}
-use Rattle.std.specs.Prelude.{vec_len, vec_capacity}
+use Rattle.std.proofs.Common.{◌≡◌, rules, sym, subst, All, None}
 use Rattle.std.proofs.lemmas.List.Elements.{All-push}
 use Rattle.size_classes.specs.Sizes.{of_pages}
 use Rattle.pool_arena.specs.Places.{PlaceState}

@@ -1,10 +1,9 @@
 use Rattle.std.proofs.Common.{◌≡◌, ◌≤◌, ◌*◌, ◌^◌, ap, sym, subst, ◌∙◌, length}
-use Rattle.std.specs.Prelude.{replicate}
 use Rattle.std.proofs.lemmas.List.{length-replicate}
 use Rattle.size_classes.proofs.SmallClasses.{page-some}
 use Rattle.std.proofs.Math.Nat.{mul-pos}
 use lib.Pow.{pow_pos}
-use Rattle.size_classes.specs.Sizes.{Geometry, of_pages, IsGeometry, chunk_bytes}
+use Rattle.size_classes.specs.Sizes.{of_pages, IsGeometry, chunk_bytes}
 use Rattle.pool_chunk.specs.ChunkStates.{geometry_on}
 use Rattle.pool_arena.proofs.PlaceLaws.{ground-geometry}
 use Rattle.pool_arena.proofs.place.ChunkPlace.new.Goals as goal

@@ -2,7 +2,7 @@ use Rattle.std.proofs.Common.{◌≡◌, ◌^◌, ℕ, ◌/◌, ◌≤◌, refl,
 use Rattle.std.specs.Vec.{with_item}
 use Rattle.std.specs.Prelude.{slice_get, slice_index_or}
 use Rattle.ground.specs.Ground.{Segment}
-use Rattle.size_classes.specs.Sizes.{Geometry, page_of, chunk_bytes, is_small}
+use Rattle.size_classes.specs.Sizes.{Geometry, chunk_bytes, is_small}
 use Rattle.size_classes.proofs.SmallClasses.{page-some}
 use Rattle.size_classes.specs.Pages.{Used, NoneEmpty}
 use Rattle.size_classes.specs.Runs.{Begins}
