@@ -45,7 +45,8 @@ pub same-origin : (a b : Origin) → ◌≡◌ {A = Option Origin} (Some a) (Som
 same-origin a b e = cc e
 
 -- the element, by the place
-abbrev pub out-element : (s : Inside) → IsStock s → (class c page index : ℕ) (piece : Segment) (x : PlaceState) → IsElementOutOf (stock_in s) class c page index piece
+abbrev pub out-element : (s : Inside) → IsStock s → (class c page index : ℕ) (piece : Segment) (x : PlaceState)
+    → IsElementOutOf (stock_in s) class c page index piece
     → slice_get s.places.items c ≡ Some x → IsElementOut (state_of x) page index piece
 out-element s is class c page index piece x o found =
     record {
@@ -54,7 +55,9 @@ out-element s is class c page index piece x o found =
       piece =
           record {
             origin = same-origin piece.origin x.origin (sym o.piece_is.origin ∙ place-origin s c x found);
-            start = o.piece_is.start ∙ ap (λ (g : Geometry). page_of g * page + index * size_at class) (sym (place-geometry s c x found is));
+            start =
+                o.piece_is.start
+                ∙ ap (λ (g : Geometry). page_of g * page + index * size_at class) (sym (place-geometry s c x found is));
             size = o.piece_is.size;
           };
     }

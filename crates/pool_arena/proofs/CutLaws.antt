@@ -18,7 +18,8 @@ use Rattle.pool_arena.proofs.StockLaws.{place-chunk_at, place-geometry, place-or
 use Rattle.pool_arena.proofs.SettleLaws.{Settles, settle-up}
 
 -- the bytes that are cut off a place are those of its chunk
-pub cut-given : (s : Inside) → IsStock s → (c : ℕ) (x : PlaceState) → slice_get s.places.items c ≡ Some x → (wanted : Wanted) (page : ℕ) (cut : Cut)
+pub cut-given : (s : Inside) → IsStock s → (c : ℕ) (x : PlaceState) → slice_get s.places.items c ≡ Some x
+    → (wanted : Wanted) (page : ℕ) (cut : Cut)
     → IsCutAt (state_of x) wanted page cut → IsCutIn (stock_in s) c wanted page cut
 cut-given s is c x found (Wanted.Run pages) page (Cut.Run piece) at =
     let geometry = place-geometry s c x found is in

@@ -89,13 +89,16 @@ module _ (s : Inside) (class c : ℕ) (piece : Segment) (out : IsPlaceOut (stock
   whole-begins = subst (λ (rs : Chunk). Begins run.page (Used run.pages Whole) rs) (place-chunk_at s c x found) run.begins
 
   -- the run is out as the piece
-  pub whole-run_out : IsStock s → NoneEmpty (runs_of x) → (page : ℕ) → page ≡ run.page → IsRunOut (state_of x) page piece
+  pub whole-run_out : IsStock s → NoneEmpty (runs_of x) → (page : ℕ) → page ≡ run.page
+      → IsRunOut (state_of x) page piece
   whole-run_out is some page page_is =
       let origin : ◌≡◌ {A = Option _} (Some piece.origin) (Some x.origin) = sym out.piece_is.origin ∙ place-origin s c x found in
       let sizes : s.classes ≡ x.geometry = sym (place-geometry s c x found is) in
       record {
         pages = run.pages;
-        run = ap (λ (k : ℕ). run_at k (runs_of x)) page_is ∙ run_at-Begins (runs_of x) run.page (Used run.pages Whole) some whole-begins;
+        run =
+            ap (λ (k : ℕ). run_at k (runs_of x)) page_is
+            ∙ run_at-Begins (runs_of x) run.page (Used run.pages Whole) some whole-begins;
         piece =
             record {
               origin = cc origin;

@@ -95,7 +95,8 @@ module _ (old mid : StockState) (o : IsOrderly old.geometry (arena_in old)) (wan
   pub mid-has : found_in mid c wanted ≡ None → ⊥
   mid-has none = absurd (cc (sym mid-found ∙ none))
 
-  cut-same : (s t : StockState) (chunk : ℕ) (w : Wanted) (page : ℕ) (cut : Cut) → t.grounds ≡ s.grounds → t.geometry ≡ s.geometry → IsCutIn t chunk w page cut → IsCutIn s chunk w page cut
+  cut-same : (s t : StockState) (chunk : ℕ) (w : Wanted) (page : ℕ) (cut : Cut) → t.grounds ≡ s.grounds
+      → t.geometry ≡ s.geometry → IsCutIn t chunk w page cut → IsCutIn s chunk w page cut
   cut-same s t chunk (Wanted.Run pages) page (Cut.Run piece) grounds geometry at =
       record {
         origin = ap (λ os. slice_get os chunk) (sym grounds) ∙ at.origin;

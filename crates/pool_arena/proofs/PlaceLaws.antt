@@ -13,9 +13,11 @@ use Rattle.pool_arena.specs.Places.{PlaceState, with_chunk, runs_of, state_of, i
 use Rattle.pool_arena.specs.declared.place.ChunkPlace.TheInside.{Inside}
 
 -- a ground of the bytes of so many pages has the sizes that they make
-pub ground-geometry : (order page n : ℕ) (s : Segment) → s.bytes ≡ replicate n 0 → n ≡ page * 2 ^ order → geometry_on order s ≡ of_pages order page
+pub ground-geometry : (order page n : ℕ) (s : Segment) → s.bytes ≡ replicate n 0 → n ≡ page * 2 ^ order
+    → geometry_on order s ≡ of_pages order page
 ground-geometry order page n s bytes size =
-    ap (λ (k : ℕ). of_pages order (k / 2 ^ order)) (ap length bytes ∙ length-replicate n 0 ∙ size) ∙ ap (of_pages order) (mul-div_cancel page (pow_pos order))
+    ap (λ (k : ℕ). of_pages order (k / 2 ^ order)) (ap length bytes ∙ length-replicate n 0 ∙ size)
+    ∙ ap (of_pages order) (mul-div_cancel page (pow_pos order))
 
 -- where there is a chunk the place is in use
 some-used : (used : Bool) (runs : Chunk) → IsSome (if_used used runs) → used ≡ true

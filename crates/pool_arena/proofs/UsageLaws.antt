@@ -149,7 +149,8 @@ used-some g rs none = by (page_of g) refl
 pub unused-free : (g : Geometry) (rs : Chunk) → IsChunk g rs → usage g rs < 1 → rs ≡ new_chunk g
 unused-free g rs is none =
     let some = used-some g rs none in
-    let size : chunk_bytes g ≤ free_bytes g rs = usage-nothing (free_bytes g rs) (chunk_bytes g) (mul-pos some (pow_pos g.order)) none in
+    let size : chunk_bytes g ≤ free_bytes g rs =
+    usage-nothing (free_bytes g rs) (chunk_bytes g) (mul-pos some (pow_pos g.order)) none in
     let pages : chunk_pages g ≤ free_pages rs = le_of_mul-le-mul_left size some in
     all-free rs is.none_empty is.none_side_by_side (omega (arith, pages, is.covers)) (omega (arith, is.covers, pow_pos g.order))
     ∙ ap (λ (k : ℕ). Free k ∷ []) is.covers

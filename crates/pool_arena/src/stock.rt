@@ -62,7 +62,8 @@ impl Stock {
         requires chunks { (1 ≤ chunks) × (chunks ≤ 8) }
         ensures geometry { IfOk result (λ stock. stock.geometry ≡ of_pages order page) }
         ensures grounds { IfOk result (λ stock. length stock.grounds ≡ chunks) }
-        ensures new { IfOk result (λ stock. arena_in stock ≡ new_arena (of_pages order page) chunks) }
+        ensures new { IfOk result (λ stock.
+            arena_in stock ≡ new_arena (of_pages order page) chunks) }
     {
         let classes = SizeClasses::new(alloc, order, page)?;
         let lists = ChunkLists::new(alloc, chunks)?;

@@ -11,5 +11,7 @@ loop-preserved c =
     record {
       count = search rules;
       room = search rules;
-      unused = subst (All P) (sym c.in-Ok-push.ensures.items) (All-push P c.loop.places.items c.in-Ok.place c.loop.invariant.unused (made.geometry, made.unused));
+      unused =
+          subst (All P) (sym c.in-Ok-push.ensures.items)
+          (All-push P c.loop.places.items c.in-Ok.place c.loop.invariant.unused (made.geometry, made.unused));
     }

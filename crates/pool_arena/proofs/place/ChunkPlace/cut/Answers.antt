@@ -14,7 +14,8 @@ use Rattle.pool_arena.proofs.place.ChunkPlace.cut.Goals as goal
 use Rattle.pool_arena.proofs.place.ChunkPlace.cut.Goals.{in-Some, in-None}
 
 -- the run that the chunk gives is cut off the place
-run-cut : (p : Inside) (v : PlaceState) (new : ChunkState) (pages word : ℕ) (piece : Segment) → place_in p ≡ v → p.used ≡ true → TakesRun p.chunk new pages piece word
+run-cut : (p : Inside) (v : PlaceState) (new : ChunkState) (pages word : ℕ) (piece : Segment) → place_in p ≡ v → p.used ≡ true
+    → TakesRun p.chunk new pages piece word
     → Cuts v (Wanted.Run pages) (place_in (record { chunk = new; deed = p.deed; used = p.used })) (Cut.Run piece)
 run-cut p v new pages word piece seen used takes =
     let same = place-chunk p v seen used in
@@ -36,6 +37,7 @@ returns-after-take_run-clause-some c =
       | in-Some w ↦
           subst (λ (o : Option Cut). IfSome o (λ cut. Cuts v c.args.wanted new cut)) (sym w.result-is)
           (subst (λ (x : Wanted). Cuts v x new (Cut.Run w.in-Some.piece)) (sym c.in-Run.is)
-          (run-cut p v c.take_run.new.self c.in-Run.pages _ w.in-Some.piece c.self.view_is used (w.in-Some.ensures {u = tt}).some))
+          (run-cut p v c.take_run.new.self c.in-Run.pages _ w.in-Some.piece c.self.view_is used
+          (w.in-Some.ensures {u = tt}).some))
       | in-None w ↦ subst (λ (o : Option Cut). IfSome o (λ cut. Cuts v c.args.wanted new cut)) (sym w.result-is) tt
     ]

@@ -12,12 +12,15 @@ use Rattle.pool_arena.proofs.place.ChunkPlace.give_element.Goals as goal
 use Rattle.pool_arena.proofs.place.ChunkPlace.give_element.Goals.{in-Idle, in-Element, in-Run}
 
 -- the element is out of the place's chunk
-given : (p : Inside) (v : PlaceState) (page index : ℕ) (piece : Segment) → place_in p ≡ v → IsElementOut (state_of v) page index piece → IsElementOut p.chunk page index piece
+given : (p : Inside) (v : PlaceState) (page index : ℕ) (piece : Segment) → place_in p ≡ v
+    → IsElementOut (state_of v) page index piece → IsElementOut p.chunk page index piece
 given p v page index piece seen out =
-    subst (λ (s : ChunkState). IsElementOut s page index piece) (sym (place-chunk p v seen (run-used p v page _ seen out.subpage.run))) out
+    subst (λ (s : ChunkState). IsElementOut s page index piece)
+    (sym (place-chunk p v seen (run-used p v page _ seen out.subpage.run))) out
 
 pub give_element-requires : goal.give_element-requires
-give_element-requires c = given c.self.inside c.args.self.now c.args.page c.args.index c.args.piece c.self.view_is c.requires
+give_element-requires c =
+    given c.self.inside c.args.self.now c.args.page c.args.index c.args.piece c.self.view_is c.requires
 
 pub invariant_of-self : goal.invariant_of-self
 invariant_of-self c =
@@ -43,17 +46,20 @@ module _ (c : goal.Joined-give_element) where
   seen = place-chunk c.self.inside c.args.self.now c.self.view_is used
 
   -- what the chunk answers
-  idle-of : (e : Elements) → c.give_element.result ≡ freed_by e c.args.index → c.match-give_element.result ≡ is_idle (with_back e c.args.index)
+  idle-of : (e : Elements) → c.give_element.result ≡ freed_by e c.args.index
+      → c.match-give_element.result ≡ is_idle (with_back e c.args.index)
   idle-of e is =
+      let idle = idle-or e c.args.index c.give_element.result c.match-give_element.result is in
       elim c.match-give_element.branch [
-        | in-Idle w ↦ idle-or e c.args.index c.give_element.result c.match-give_element.result is (λ _. w.result-is) (λ h. absurd (cc (w.in-Idle.is, h)))
-        | in-Element w ↦ idle-or e c.args.index c.give_element.result c.match-give_element.result is (λ h. absurd (cc (w.in-Element.is, h))) (λ _. w.result-is)
-        | in-Run w ↦ idle-or e c.args.index c.give_element.result c.match-give_element.result is (λ h. absurd (cc (w.in-Run.is, h))) (λ h. absurd (cc (w.in-Run.is, h)))
+        | in-Idle w ↦ idle (λ _. w.result-is) (λ h. absurd (cc (w.in-Idle.is, h)))
+        | in-Element w ↦ idle (λ h. absurd (cc (w.in-Element.is, h))) (λ _. w.result-is)
+        | in-Run w ↦ idle (λ h. absurd (cc (w.in-Run.is, h))) (λ h. absurd (cc (w.in-Run.is, h)))
       ]
 
 pub returns-clause-idle : goal.returns-clause-idle
 returns-clause-idle c =
-    subst (λ (s : ChunkState). (out : IsElementOut s c.args.page c.args.index c.args.piece) → c.match-give_element.result ≡ is_idle (with_back out.subpage.elements c.args.index))
+    subst (λ (s : ChunkState). (out : IsElementOut s c.args.page c.args.index c.args.piece)
+    → c.match-give_element.result ≡ is_idle (with_back out.subpage.elements c.args.index))
     (seen c) (λ o. idle-of c o.subpage.elements (c.give_element.ensures.freed o))
 
 pub returns-clause-chunk : goal.returns-clause-chunk
@@ -64,4 +70,5 @@ returns-clause-chunk c =
     ≡ with_chunk v (Some (with_elements c.args.page out.subpage.class (with_back out.subpage.elements c.args.index) (runs_of v))))
     (seen c)
     (λ o. place-changed c.self.inside v c.give_element.new.self
-    (λ runs. with_elements c.args.page o.subpage.class (with_back o.subpage.elements c.args.index) runs) c.self.view_is (used c) (c.give_element.ensures.chunk o))
+    (λ runs. with_elements c.args.page o.subpage.class (with_back o.subpage.elements c.args.index) runs) c.self.view_is (used c)
+    (c.give_element.ensures.chunk o))

@@ -9,7 +9,8 @@ give_run-requires c =
     let p = c.self.inside in
     let v = c.args.self.now in
     let used = run-used p v c.args.page _ c.self.view_is c.requires.run in
-    subst (λ (s : ChunkState). IsRunOut s c.args.page c.args.piece) (sym (place-chunk p v c.self.view_is used)) c.requires
+    subst (λ (s : ChunkState). IsRunOut s c.args.page c.args.piece)
+    (sym (place-chunk p v c.self.view_is used)) c.requires
 
 pub returns : goal.returns
 returns c =

@@ -18,13 +18,14 @@ new-requires c =
 -- the sizes of the ground
 sizes : (c : goal.In_ok-piece) → geometry_on c.args.order c.in_ok-piece.piece ≡ of_pages c.args.order c.args.page
 sizes c =
-    ground-geometry c.args.order c.args.page (c.args.page * c.pow.result) c.in_ok-piece.piece (c.in_ok-piece.ensures {u = tt}).zeros
-    (ap (λ n. c.args.page * n) c.pow.ensures)
+    ground-geometry c.args.order c.args.page (c.args.page * c.pow.result) c.in_ok-piece.piece
+    (c.in_ok-piece.ensures {u = tt}).zeros (ap (λ n. c.args.page * n) c.pow.ensures)
 
 pub new-requires-2-clause-sizes : goal.new-requires-2-clause-sizes
 new-requires-2-clause-sizes c = subst IsGeometry (sym (sizes c)) c.requires
 
 pub new-requires-2-clause-chunk : goal.new-requires-2-clause-chunk
 new-requires-2-clause-chunk c =
-    let size = ap length (c.in_ok-piece.ensures {u = tt}).zeros ∙ length-replicate (c.args.page * c.pow.result) 0 ∙ ap (λ n. c.args.page * n) c.pow.ensures in
-    ((c.in_ok-piece.ensures {u = tt}).whole, size ∙ sym (ap chunk_bytes (sizes c)))
+    let made = c.in_ok-piece.ensures {u = tt} in
+    let size = ap length made.zeros ∙ length-replicate (c.args.page * c.pow.result) 0 ∙ ap (λ n. c.args.page * n) c.pow.ensures in
+    (made.whole, size ∙ sym (ap chunk_bytes (sizes c)))
