@@ -1,5 +1,5 @@
 -- How many lanes are accepted.
-use Rattle.std.proofs.Common.{◌≡◌, ℕ, ◌+◌, ◌≤◌, Bool, true, false, List, [], ◌∷◌, ◌++◌, length, refl, ap, ◌∙◌, subst, arith, length-append}
+use Rattle.std.proofs.Common.{◌≡◌, ℕ, ◌+◌, ◌≤◌, Bool, true, false, List, [], ◌∷◌, ◌++◌, length, refl, ap, subst, arith, length-append}
 use Rattle.std.specs.Prelude.{Option, Some, None, Result, Ok, Err, if◌then◌else◌, nat_lt}
 use Rattle.std.specs.Option.{option_map_or}
 use Rattle.std.proofs.lemmas.Bool.Decides.{nat_tests}
@@ -10,7 +10,7 @@ use Rattle.trace_text.specs.declared.TraceNo.{TraceNo}
 use Rattle.trace_text.specs.Items.{array_in}
 use Rattle.trace_text.specs.Lane.{lane_in}
 use Rattle.pool_law.specs.Traces.{byte_limit, bytes_asked, command_limit}
-use Rattle.trace_text.specs.Reading.{◌>>=◌, accepted, lanes_after, lanes_in, limited, trace_in}
+use Rattle.trace_text.specs.Reading.{accepted, lanes_after, lanes_in, limited, trace_in}
 use Rattle.trace_text.proofs.ReadingFits.{accepted_so, in_turn}
 
 map_ok : {X A : Type 0} (f : X → Result A TraceNo) (o : Option X) (why : TraceNo) (a : A) → option_map_or f o (Err why) ≡ Ok a

@@ -1,21 +1,21 @@
 -- The options of a trace that was read are in their ranges.
-use Rattle.std.proofs.Common.{◌≡◌, ℕ, List, refl, Bool, true, false, tests, rules}
-use Rattle.std.specs.Prelude.{Option, Some, None, IfSome, option_map, unwrap_or, Ok, Err, nat_le, ◌&&◌, if◌then◌else◌}
+use Rattle.std.proofs.Common.{◌≡◌, ℕ, refl, Bool, true, false, codes, tests, rules}
+use Rattle.std.specs.Prelude.{Option, Some, None, IfSome, option_map, unwrap_or, Ok, nat_le, ◌&&◌, if◌then◌else◌}
 use Rattle.std.specs.Option.{option_map_or, ok_or}
-use Rattle.serde_json.specs.Data.{Data, Members, Num}
-use Rattle.serde_json.specs.Find.{as_number, as_object, as_u64}
+use Rattle.serde_json.specs.Data.{Data, Members}
+use Rattle.serde_json.specs.Find.{as_number, as_object, as_u64, get}
 use Rattle.size_classes.specs.Sizes.{IsPage}
 use Rattle.pool_law.specs.declared.run.Options.{Options}
 use Rattle.trace_text.specs.declared.TraceNo.TheVariants as refusals
 use Rattle.trace_text.specs.Items.{◌>>=◌, only_if}
-use Rattle.trace_text.specs.Options.{AreOptions, IsBetween, is_page, may_be, no_options, number_from, options_from, page_from, parts_of, version_two}
+use Rattle.trace_text.specs.Options.{AreOptions, IsBetween, has_keys_of, is_page, level_from, may_be, no_options, number_from, option_keys, options_from, page_from, parts_of, version_keys, version_two}
 use Rattle.trace_text.proofs.FormSteps.{through, through_if}
 
 -- ---- Values.
 
 -- what passes a test
 only_so : {A : Type 0} (test : A → Bool) (Q : A → Type 0) → ((a : A) → test a ≡ true → Q a) → (a : A) → IfSome (only_if test a) Q
-only_so {A} test Q so a = elim (test a) as (λ (t : Bool). test a ≡ t → IfSome {A = A} (if t then Some a else None) Q) [
+only_so {A} test Q so a = elim (test a) as (λ (t : Bool). test a ≡ t → IfSome {T = A} (if t then Some a else None) Q) [
   | true ↦ λ e. so a e
   | false ↦ λ e. tt
 ] refl
@@ -45,23 +45,26 @@ page_fits d = through IsPage (as_number d >>= as_u64) _ (only_so is_page IsPage 
 
 -- ---- Options.
 
-page_may : (o : Option Data) → IfSome (may_be page_from o) (λ found. IfSome found IsPage)
-page_may = may_fit page_from IsPage page_fits
+page_step : (o : Option Data) (next : Option ℕ → Option Options) → ((found : Option ℕ) → IfSome found IsPage → IfSome (next found) AreOptions) → IfSome (may_be page_from o >>= next) AreOptions
+page_step o next = through_if (λ found. IfSome found IsPage) AreOptions (may_be page_from o) next (may_fit page_from IsPage page_fits o)
 
-number_may : (least greatest : ℕ) (o : Option Data) → IfSome (may_be (number_from least greatest) o) (λ found. IfSome found (IsBetween least greatest))
-number_may least greatest = may_fit (number_from least greatest) (IsBetween least greatest) (number_fits least greatest)
+number_step : (least greatest : ℕ) (o : Option Data) (next : Option ℕ → Option Options) → ((found : Option ℕ) → IfSome found (IsBetween least greatest) → IfSome (next found) AreOptions)
+    → IfSome (may_be (number_from least greatest) o >>= next) AreOptions
+number_step least greatest o next =
+    through_if (λ found. IfSome found (IsBetween least greatest)) AreOptions (may_be (number_from least greatest) o) next
+    (may_fit (number_from least greatest) (IsBetween least greatest) (number_fits least greatest) o)
 
 options_fit : (d : Data) → IfSome (options_from d) AreOptions
 unfolding options_from
 options_fit d =
-    through AreOptions _ _ (λ object.
-    through_if _ AreOptions _ _ (page_may _) (λ page has_page.
-    through_if _ AreOptions _ _ (number_may 3 11 _) (λ order has_order.
-    through_if _ AreOptions _ _ (number_may 1 8 _) (λ arenas has_arenas.
-    through_if _ AreOptions _ _ (number_may 1 8 _) (λ chunks has_chunks.
-    through_if _ AreOptions _ _ (number_may 1 4096 _) (λ handles has_handles.
-    through AreOptions _ _ (λ level.
-    through_if _ AreOptions _ _ (number_may 1 65536 _) (λ interval has_interval. record {
+    through AreOptions (only_if (has_keys_of option_keys) d) _ (λ object.
+    page_step (get (codes "page") object) _ (λ page has_page.
+    number_step 3 11 (get (codes "order") object) _ (λ order has_order.
+    number_step 1 8 (get (codes "arenas") object) _ (λ arenas has_arenas.
+    number_step 1 8 (get (codes "chunks") object) _ (λ chunks has_chunks.
+    number_step 1 4096 (get (codes "handles") object) _ (λ handles has_handles.
+    through AreOptions (may_be level_from (get (codes "level") object)) _ (λ level.
+    number_step 1 65536 (get (codes "interval") object) _ (λ interval has_interval. record {
       page = has_page;
       order = has_order;
       arenas = has_arenas;
@@ -80,10 +83,11 @@ chosen_fit (Some o) fit = fit
 version_fits : (d : Data) → IfSome (version_two d) (λ parts. AreOptions parts.1)
 unfolding version_two
 version_fits d =
-    through _ _ _ (λ object.
-    through _ _ _ (λ version.
-    through _ _ _ (λ lanes.
-    through_if _ _ _ _ (may_fit options_from AreOptions options_fit _) (λ options fit. chosen_fit options fit))))
+    let fit = λ (parts : Data × Options). AreOptions parts.1 in
+    through fit (only_if (has_keys_of version_keys) d) _ (λ object.
+    through fit (get (codes "version") object >>= number_from 2 2) _ (λ version.
+    through fit (get (codes "lanes") object) _ (λ lanes.
+    through_if (λ (found : Option Options). IfSome found AreOptions) fit (may_be options_from (get (codes "options") object)) _ (may_fit options_from AreOptions options_fit _) chosen_fit)))
 
 pub parts_fit : (d : Data) (parts : Data × Options) → parts_of d ≡ Ok parts → AreOptions parts.1
 unfolding parts_of

@@ -1,9 +1,8 @@
 -- The options of an object, from its values.
-use Rattle.std.proofs.Common.{◌≡◌, ℕ, refl, true, codes}
-use Rattle.std.specs.Prelude.{Option, Some}
+use Rattle.std.proofs.Common.{◌≡◌, refl, true, codes}
+use Rattle.std.specs.Prelude.{Some}
 use Rattle.serde_json.specs.Data.{Data}
 use Rattle.serde_json.specs.Find.{get}
-use Rattle.pool_law.specs.declared.run.Level.{Level}
 use Rattle.pool_law.specs.declared.run.Options.{Options}
 use Rattle.trace_text.specs.Options.{has_keys_of, level_from, may_be, number_from, option_keys, options_from, page_from}
 

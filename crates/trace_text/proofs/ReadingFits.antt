@@ -1,5 +1,5 @@
 -- The lanes of a trace that was read are what a run needs.
-use Rattle.std.proofs.Common.{◌≡◌, ℕ, zero, suc, ◌+◌, ◌≤◌, List, [], ◌∷◌, ◌++◌, length, refl, sym, ◌∙◌, subst, arith, true, false, inl, inr, zero-add, length-append}
+use Rattle.std.proofs.Common.{◌≡◌, ℕ, zero, suc, ◌+◌, ◌≤◌, List, [], ◌∷◌, ◌++◌, length, refl, sym, ◌∙◌, subst, arith, inl, inr, zero-add, length-append}
 use Rattle.std.specs.Prelude.{Option, Some, None, Result, Ok, Err, All}
 use Rattle.std.specs.Option.{option_map_or}
 use Rattle.std.proofs.lemmas.Bool.{cases_lt}
@@ -15,7 +15,7 @@ use Rattle.trace_text.specs.declared.TraceNo.TheVariants as refusals
 use Rattle.trace_text.specs.Items.{array_in}
 use Rattle.trace_text.specs.Lane.{lane_in}
 use Rattle.pool_law.specs.Traces.{command_limit}
-use Rattle.trace_text.specs.Reading.{◌>>=◌, Reading, accepted, limited, unstuck, lanes_after, lanes_in, trace_in}
+use Rattle.trace_text.specs.Reading.{◌>>=◌, accepted, limited, unstuck, lanes_after, lanes_in, trace_in}
 use Rattle.pool_law.specs.Traces.{AreLanes}
 use Rattle.trace_text.proofs.LaneFits.{FitsSo, lane_fits}
 
