@@ -15,17 +15,20 @@ keys_viewed [] = refl
 keys_viewed (e ∷ es) = ap (λ (ks : List (List ℕ)). string_bytes e.0 ∷ ks) (keys_viewed es)
 
 -- a test of all keys
-pub all_keys : (test : List ℕ → Bool) (es : List (String Global × Value)) → list_all (λ key. test (string_bytes key)) (maps.keys_of es) ≡ list_all test (keys_of (members_view es))
+pub all_keys : (test : List ℕ → Bool) (es : List (String Global × Value))
+    → list_all (λ key. test (string_bytes key)) (maps.keys_of es) ≡ list_all test (keys_of (members_view es))
 all_keys test es = sym (ap (list_all test) (keys_viewed es) ∙ list_all-map test string_bytes (maps.keys_of es))
 
 same_texts : (a b : List ℕ) → bytes_eq a b ≡ bytes_eq b a
 same_texts a b =
     elim (bytes_eq b a) as (λ (t : Bool). bytes_eq b a ≡ t → bytes_eq a b ≡ t) [
       | true ↦ λ e. (bytes_eq-Decides a b).1 (sym ((bytes_eq-Decides b a).0 e))
-      | false ↦ λ e. false_from_ne_true (bytes_eq a b) (λ f. let back : bytes_eq b a ≡ true = (bytes_eq-Decides b a).1 (sym ((bytes_eq-Decides a b).0 f)) in cc)
+      | false ↦ λ e. false_from_ne_true (bytes_eq a b) (λ f.
+          let back : bytes_eq b a ≡ true = (bytes_eq-Decides b a).1 (sym ((bytes_eq-Decides a b).0 f)) in cc)
     ] refl
 
 -- a text is one of others, whichever side it is compared on
-pub among : (text : List ℕ) (others : List (Bor (List ℕ))) → list_any (λ other. bytes_eq other.now text) others ≡ list_any (bytes_eq text) (map (λ other. other.now) others)
+pub among : (text : List ℕ) (others : List (Bor (List ℕ)))
+    → list_any (λ other. bytes_eq other.now text) others ≡ list_any (bytes_eq text) (map (λ other. other.now) others)
 among text [] = refl
 among text (o ∷ os) = rw (same_texts o.now text, among text os) refl

@@ -53,4 +53,5 @@ pub lane_count : (d : Data) (lanes : List (List Command)) → accepted d ≡ Ok 
 lane_count d lanes e =
     let (formed, (has_form, in_limits)) = accepted_so d lanes e in
     let limits = within formed lanes in_limits in
-    subst (λ (l : List (List Command)). (1 ≤ length l) × (length l ≤ 16)) limits.0 (some_read d formed has_form, limits.1)
+    subst (λ (l : List (List Command)). (1 ≤ length l) × (length l ≤ 16)) limits.0
+    (some_read d formed has_form, limits.1)

@@ -14,14 +14,16 @@ use Rattle.trace_text.proofs.FormSteps.{through, through_if}
 -- ---- Values.
 
 -- what passes a test
-only_so : {A : Type 0} (test : A → Bool) (Q : A → Type 0) → ((a : A) → test a ≡ true → Q a) → (a : A) → IfSome (only_if test a) Q
+only_so : {A : Type 0} (test : A → Bool) (Q : A → Type 0) → ((a : A) → test a ≡ true → Q a)
+    → (a : A) → IfSome (only_if test a) Q
 only_so {A} test Q so a = elim (test a) as (λ (t : Bool). test a ≡ t → IfSome {T = A} (if t then Some a else None) Q) [
   | true ↦ λ e. so a e
   | false ↦ λ e. tt
 ] refl
 
 -- a value of a form, where there is one
-may_fit : {A : Type 0} (form : Data → Option A) (Q : A → Type 0) → ((d : Data) → IfSome (form d) Q) → (o : Option Data) → IfSome (may_be form o) (λ found. IfSome found Q)
+may_fit : {A : Type 0} (form : Data → Option A) (Q : A → Type 0) → ((d : Data) → IfSome (form d) Q)
+    → (o : Option Data) → IfSome (may_be form o) (λ found. IfSome found Q)
 may_fit form Q fits None = tt
 may_fit {A} form Q fits (Some d) =
     elim (form d) as (λ (r : Option A). IfSome r Q → IfSome (option_map Some r) (λ found. IfSome found Q)) [
@@ -37,7 +39,9 @@ page_one bytes h = search (rules, tests)
 
 number_fits : (least greatest : ℕ) (d : Data) → IfSome (number_from least greatest d) (IsBetween least greatest)
 unfolding number_from
-number_fits least greatest d = through (IsBetween least greatest) (as_number d >>= as_u64) _ (only_so _ (IsBetween least greatest) (between least greatest))
+number_fits least greatest d =
+    through (IsBetween least greatest) (as_number d >>= as_u64) _
+    (only_so _ (IsBetween least greatest) (between least greatest))
 
 page_fits : (d : Data) → IfSome (page_from d) IsPage
 unfolding page_from
@@ -45,13 +49,19 @@ page_fits d = through IsPage (as_number d >>= as_u64) _ (only_so is_page IsPage 
 
 -- ---- Options.
 
-page_step : (o : Option Data) (next : Option ℕ → Option Options) → ((found : Option ℕ) → IfSome found IsPage → IfSome (next found) AreOptions) → IfSome (may_be page_from o >>= next) AreOptions
-page_step o next = through_if (λ found. IfSome found IsPage) AreOptions (may_be page_from o) next (may_fit page_from IsPage page_fits o)
+page_step : (o : Option Data) (next : Option ℕ → Option Options)
+    → ((found : Option ℕ) → IfSome found IsPage → IfSome (next found) AreOptions)
+    → IfSome (may_be page_from o >>= next) AreOptions
+page_step o next =
+    through_if (λ found. IfSome found IsPage) AreOptions (may_be page_from o) next
+    (may_fit page_from IsPage page_fits o)
 
-number_step : (least greatest : ℕ) (o : Option Data) (next : Option ℕ → Option Options) → ((found : Option ℕ) → IfSome found (IsBetween least greatest) → IfSome (next found) AreOptions)
+number_step : (least greatest : ℕ) (o : Option Data) (next : Option ℕ → Option Options)
+    → ((found : Option ℕ) → IfSome found (IsBetween least greatest) → IfSome (next found) AreOptions)
     → IfSome (may_be (number_from least greatest) o >>= next) AreOptions
 number_step least greatest o next =
-    through_if (λ found. IfSome found (IsBetween least greatest)) AreOptions (may_be (number_from least greatest) o) next
+    through_if (λ found. IfSome found (IsBetween least greatest)) AreOptions
+    (may_be (number_from least greatest) o) next
     (may_fit (number_from least greatest) (IsBetween least greatest) (number_fits least greatest) o)
 
 options_fit : (d : Data) → IfSome (options_from d) AreOptions
@@ -87,16 +97,21 @@ version_fits d =
     through fit (only_if (has_keys_of version_keys) d) _ (λ object.
     through fit (get (codes "version") object >>= number_from 2 2) _ (λ version.
     through fit (get (codes "lanes") object) _ (λ lanes.
-    through_if (λ (found : Option Options). IfSome found AreOptions) fit (may_be options_from (get (codes "options") object)) _ (may_fit options_from AreOptions options_fit _) chosen_fit)))
+    through_if (λ (found : Option Options). IfSome found AreOptions) fit
+    (may_be options_from (get (codes "options") object)) _ (may_fit options_from AreOptions options_fit _) chosen_fit)))
 
+-- what a value asks of the pool is in its ranges
 pub parts_fit : (d : Data) (parts : Data × Options) → parts_of d ≡ Ok parts → AreOptions parts.1
 unfolding parts_of
 parts_fit d parts is =
-    elim (as_object d) as (λ (o : Option Members). option_map_or (λ ms. ok_or (version_two d) refusals.Options) o (Ok (d, no_options)) ≡ Ok parts → AreOptions parts.1) [
+    elim (as_object d) as (λ (o : Option Members).
+    option_map_or (λ ms. ok_or (version_two d) refusals.Options) o (Ok (d, no_options)) ≡ Ok parts
+    → AreOptions parts.1) [
       | None ↦ λ e. let same : no_options ≡ parts.1 = cc in rw (← same) no_options_fit
       | Some ms ↦ λ e. of_version (version_two d) (version_fits d) e
     ] is
   where
-    of_version : (o : Option (Data × Options)) → IfSome o (λ found. AreOptions found.1) → ok_or o refusals.Options ≡ Ok parts → AreOptions parts.1
+    of_version : (o : Option (Data × Options)) → IfSome o (λ found. AreOptions found.1)
+        → ok_or o refusals.Options ≡ Ok parts → AreOptions parts.1
     of_version None fit e = cc
     of_version (Some found) fit e = let same : found ≡ parts = cc in rw (← same) fit

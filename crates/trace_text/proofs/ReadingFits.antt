@@ -70,7 +70,8 @@ lane_fit shape lanes k fit = elim (cases_lt k (length lanes)) [
 -- ---- What is accepted.
 
 -- a step that was not refused, and what follows it
-pub in_turn : {A B : Type 0} (r : Result A TraceNo) (next : A → Result B TraceNo) (b : B) → (r >>= next) ≡ Ok b → (a : A) × ((r ≡ Ok a) × (next a ≡ Ok b))
+pub in_turn : {A B : Type 0} (r : Result A TraceNo) (next : A → Result B TraceNo) (b : B) → (r >>= next) ≡ Ok b
+    → (a : A) × ((r ≡ Ok a) × (next a ≡ Ok b))
 in_turn (Ok a) next b is = (a, (refl, is))
 in_turn (Err why) next b is = cc
 
@@ -87,13 +88,16 @@ unstuck_so lanes found is =
     ] is
 
 -- the lanes of a value as they had their form, and as they passed the limits
-pub accepted_so : (d : Data) (lanes : List (List Command)) → accepted d ≡ Ok lanes → (formed : List (List Command)) × ((trace_in d ≡ Ok formed) × (limited formed ≡ Ok lanes))
+pub accepted_so : (d : Data) (lanes : List (List Command)) → accepted d ≡ Ok lanes
+    → (formed : List (List Command)) × ((trace_in d ≡ Ok formed) × (limited formed ≡ Ok lanes))
 unfolding accepted
 accepted_so d lanes is =
     let (few, (few_is, moves)) = in_turn (trace_in d >>= limited) unstuck lanes is in
     let (formed, (formed_is, in_limits)) = in_turn (trace_in d) limited few few_is in
-    (formed, (formed_is, subst (λ (found : List (List Command)). limited formed ≡ Ok found) (unstuck_so few lanes moves) in_limits))
+    let bounded = subst (λ (found : List (List Command)). limited formed ≡ Ok found) (unstuck_so few lanes moves) in_limits in
+    (formed, (formed_is, bounded))
 
+-- the lanes that are accepted are what a run needs
 pub accepted_fits : (d : Data) (lanes : List (List Command)) → accepted d ≡ Ok lanes → AreLanes lanes
 accepted_fits d lanes is shape count lane =
     let (formed, (has_form, in_limits)) = accepted_so d lanes is in

@@ -9,5 +9,6 @@ use Rattle.trace_text.proofs.options.are_known.Goals as goal
 pub returns : goal.returns
 returns c =
     let known = λ (key : List ℕ). list_any (bytes_eq key) (map (λ text. text.now) c.args.known.now) in
-    all_from_yields_List (λ key. known (string_bytes key)) _ _ _ c.all.ensures.ran (YieldsList-from_rest (keys_of c.args.members.now.entries) c.keys.ensures.rest) (λ x b q k. search rules)
+    all_from_yields_List (λ key. known (string_bytes key)) _ _ _ c.all.ensures.ran
+    (YieldsList-from_rest (keys_of c.args.members.now.entries) c.keys.ensures.rest) (λ x b q k. search rules)
     ∙ all_keys known c.args.members.now.entries
