@@ -10,7 +10,8 @@ use Rattle.pool_law.specs.Stuck.{command_count, stuck_at}
 use Rattle.trace_text.specs.declared.TraceNo.{TraceNo}
 use Rattle.trace_text.specs.Items.{array_in}
 use Rattle.trace_text.specs.Lane.{lane_in}
-use Rattle.trace_text.specs.Reading.{◌>>=◌, Gives, byte_limit, bytes_asked, command_limit, lanes_after, lanes_in, limited, reading_of, trace_in, unstuck, value_of, text_limit}
+use Rattle.pool_law.specs.Traces.{byte_limit, bytes_asked, command_limit}
+use Rattle.trace_text.specs.Reading.{◌>>=◌, Gives, lanes_after, lanes_in, limited, reading_of, trace_in, unstuck, value_of, text_limit}
 
 bind_ok : {A B : Type 0} (r : Result A TraceNo) (f : A → Result B TraceNo) (b : B) → (r >>= f) ≡ Ok b
     → (a : A) × (r ≡ Ok a) × (f a ≡ Ok b)

@@ -16,8 +16,9 @@ use Rattle.trace_text.specs.declared.TraceNo.{TraceNo}
 use Rattle.trace_text.specs.declared.TraceNo.TheVariants as refusals
 use Rattle.trace_text.specs.Items.{array_in}
 use Rattle.trace_text.specs.Lane.{lane_in}
-use Rattle.trace_text.specs.Reading.{◌>>=◌, Gives, Reading, limited, unstuck, lanes_after, lanes_in, trace_in, value_of, reading_of, text_limit, command_limit}
-use Rattle.trace_text.specs.Lanes.{AreLanes}
+use Rattle.pool_law.specs.Traces.{command_limit}
+use Rattle.trace_text.specs.Reading.{◌>>=◌, Gives, Reading, limited, unstuck, lanes_after, lanes_in, trace_in, value_of, reading_of, text_limit}
+use Rattle.pool_law.specs.Traces.{AreLanes}
 use Rattle.trace_text.proofs.LaneFits.{FitsSo, lane_fits}
 
 -- ---- Lanes.

@@ -4,6 +4,5 @@ pub mod Forms
 pub mod Words
 pub mod Lane
 pub mod Reading
-pub mod Lanes
 pub mod Steps
 pub mod Counts

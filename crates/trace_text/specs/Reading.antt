@@ -1,14 +1,13 @@
 -- What a text is read as: the commands of each lane, or the first reason why there are none.
 use Rattle.std.specs.Prelude.{◌≡◌, ℕ, nat_lt, if◌then◌else◌, List, [], ◌∷◌, ◌++◌, length, Result, Ok, Err}
-use Rattle.std.specs.List.{sum_by}
 use Rattle.std.specs.Option.{option_map_or, ok_or}
 use Rattle.std.specs.Str.{is_utf8}
 use Rattle.serde_json.specs.Data.{Data}
 use Rattle.serde_json.specs.Read.{read}
 use Rattle.pool_law.specs.declared.command.Command.{Command}
-use Rattle.pool_law.specs.declared.command.Command.TheVariants.{Get, Read}
 use Rattle.pool_law.specs.declared.command.Trace.{Trace}
 use Rattle.pool_law.specs.Stuck.{command_count, stuck_at}
+use Rattle.pool_law.specs.Traces.{byte_limit, bytes_asked, command_limit, lane_limit}
 use Rattle.trace_text.specs.Items.{array_in}
 use Rattle.trace_text.specs.Lane.{lane_in}
 use Rattle.trace_text.specs.declared.Limit.TheVariants.{Text, Lanes, Commands, Bytes}
@@ -29,24 +28,6 @@ Reading = Result (List (List Command)) TraceNo
 
 abbrev pub text_limit : ℕ
 text_limit = 16777216
-
-abbrev pub lane_limit : ℕ
-lane_limit = 16
-
-abbrev pub command_limit : ℕ
-command_limit = 65536
-
-abbrev pub byte_limit : ℕ
-byte_limit = 67108864
-
--- the bytes that a command asks to see
-abbrev pub asked_by : Command → ℕ
-asked_by (Get name at len tries) = len
-asked_by (Read name len) = len
-asked_by _ = 0
-
-abbrev pub bytes_asked : List (List Command) → ℕ
-bytes_asked lanes = sum_by (sum_by asked_by) lanes
 
 -- the lanes, where no limit is passed
 unfoldable pub limited : List (List Command) → Reading

@@ -3,9 +3,10 @@ ghost use Rattle.std.specs.Prelude.{◌≡◌, ◌≤◌, [], IfOk, length, map}
 ghost use Rattle.serde_json.specs.View.{view};
 ghost use Rattle.pool_law.specs.Stuck.{command_count};
 ghost use Rattle.trace_text.specs.Lane.{lane_in};
-ghost use Rattle.trace_text.specs.Lanes.{AreLanes};
+ghost use Rattle.pool_law.specs.Traces.{AreLanes};
 ghost use Rattle.trace_text.specs.Steps.{TakesLane};
-ghost use Rattle.trace_text.specs.Reading.{Gives, GivesAs, lanes_after, command_limit, reading_of, trace_in, unstuck, value_of};
+ghost use Rattle.pool_law.specs.Traces.{command_limit};
+ghost use Rattle.trace_text.specs.Reading.{Gives, GivesAs, lanes_after, reading_of, trace_in, unstuck, value_of};
 
 use crate::items::array_of;
 use crate::lane::lane_of;
