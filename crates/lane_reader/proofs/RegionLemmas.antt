@@ -24,4 +24,5 @@ pub region_tests : (a b : RegionId) →
     && ((a.class == b.class) && ((a.owner == b.owner) && ((a.taking == b.taking) && (a.uses == b.uses)))))
     ≡ same_region a b
 region_tests a b =
-    in_order (same_place a.place b.place) (a.class == b.class) (a.owner == b.owner) (a.taking == b.taking) (a.uses == b.uses)
+    in_order (same_place a.place b.place) (a.class == b.class) (a.owner == b.owner)
+    (a.taking == b.taking) (a.uses == b.uses)

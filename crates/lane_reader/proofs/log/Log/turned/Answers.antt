@@ -43,4 +43,5 @@ returns-in_default-sweep_if_due-clause-row c s is =
     step-found sweep_period setting.shape.now setting.lane s c.args.command.now c.args.reply.now log
     c.args.lane.now.asked (Some (c.in-Some.change, c.in-Some.at)) is.asked
     (c.in_ok-change.ensures.row s is ∙ ap (λ (o : Option (Change × At)). changes s log o) got)
-    ∙ unswept sweep_period setting.lane s log c.in-Some.change c.in-Some.at (c.in_default-sweep_if_due.ensures.reads s.seen)
+    ∙ unswept sweep_period setting.lane s log c.in-Some.change c.in-Some.at
+    (c.in_default-sweep_if_due.ensures.reads s.seen)
