@@ -172,7 +172,7 @@ pub(crate) fn take_from(store: &mut Store, layout: &Layout, first: u32, pages: u
 // A run joined with the free run that ends where it begins, which goes.
 fn join_before(store: &mut Store, layout: &Layout, run: FreeRun) -> FreeRun
     requires store { IsLayout layout.now × IsStore layout.now store.old }
-    requires run { IsRun layout.now run }
+    requires run { IsRun layout.now run × All (AreApart (span_of_run run)) (stored store.old) }
     ensures store { IsStore layout.now store.new }
     ensures runs { stored store.new
         ≡ without (run.first - ending run.first (stored store.old)) (stored store.old) }
