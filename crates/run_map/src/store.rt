@@ -81,8 +81,9 @@ impl Store {
     {
         let place = self.mark(class, first);
         clear(&mut self.firsts, place);
-        if self.first_under(class).is_none() {
-            self.noted &= !(1 << class);
+        match self.first_under(class) {
+            None => self.noted &= !(1 << class),
+            Some(_) => {}
         }
     }
 
