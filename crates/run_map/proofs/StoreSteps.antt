@@ -1,0 +1,68 @@
+-- A take and a give by the steps of a store: a run that is pulled, and one that is put.
+use Rattle.std.proofs.Common.{◌≡◌, ◌≢◌, ◌⊎◌, ℕ, ◌+◌, ◌-◌, ◌<◌, ◌≤◌, List, [], ◌∷◌, ◌++◌, refl, sym, ap, ◌∙◌, subst, arith, eq-eqb, ne_eqb, eqb-true}
+use Rattle.std.specs.Prelude.{◌==◌, if◌then◌else◌}
+use Rattle.std.proofs.lemmas.Bool.{cond_both, cases_eq, eqb-false}
+use Rattle.size_classes.specs.Spans.{Span, rest_of, taken_from, placed_in, AreSpacedFrom}
+use Rattle.size_classes.proofs.OutLaws.{IsAmong, among-later}
+use Rattle.run_map.specs.Lengths.{without, beginning}
+use Rattle.run_map.proofs.SpanSteps.{with_rest, taken-steps}
+use mathlib.Core.Logic.{inl, inr}
+
+-- the run that begins at a page is among them
+pub among-beginning : (at : ℕ) (runs : List Span) → 0 < beginning at runs → IsAmong (at, beginning at runs) runs
+among-beginning at [] some = absurd (omega (arith, some))
+among-beginning at (r ∷ runs) some = by (among-beginning at runs) some (cases_eq r.0 at)
+  where
+    by : (0 < beginning at runs → IsAmong (at, beginning at runs) runs) → 0 < beginning at (r ∷ runs) →
+        (r.0 ≡ at) ⊎ (r.0 ≡ at → ⊥) → IsAmong (at, beginning at (r ∷ runs)) (r ∷ runs)
+    by ih some (inl e) = rw (eq-eqb r.0 at e) (inl (ap (λ (k : ℕ). (k, r.1)) e))
+    by ih some (inr ne) =
+        let past : beginning at (r ∷ runs) ≡ beginning at runs = rw (ne_eqb r.0 at ne) refl in
+        subst (λ (n : ℕ). IsAmong (at, n) (r ∷ runs)) (sym past) (inr (ih (omega (arith, past, some))))
+
+-- what is in order from a page on is so from an earlier one
+pub spaced-lower : (low high : ℕ) (runs : List Span) → low ≤ high → AreSpacedFrom high runs → AreSpacedFrom low runs
+spaced-lower low high [] le h = tt
+spaced-lower low high (r ∷ runs) le h = (omega (arith, le, h.0), h.1, h.2)
+
+-- what a take leaves is in order
+pub taken-spaced : (low at long pages : ℕ) (runs : List Span) → AreSpacedFrom low runs → IsAmong (at, long) runs →
+    0 < pages → pages ≤ long → AreSpacedFrom low (taken_from at pages runs)
+taken-spaced low at long pages [] h is some le = absurd is
+taken-spaced low at long pages (r ∷ runs) h is some le =
+    cond_both (r.0 == at) (rest_of pages r ++ runs) (r ∷ taken_from at pages runs) (AreSpacedFrom low)
+    (λ e. here (eqb-true r.0 at e) (fits (eqb-true r.0 at e) is))
+    (λ ne. later (λ is. taken-spaced (r.0 + r.1 + 1) at long pages runs h.2 is some le) (eqb-false r.0 at ne) is)
+  where
+    fits : r.0 ≡ at → IsAmong (at, long) (r ∷ runs) → pages ≤ r.1
+    fits e (inl same) = omega (arith, ap (λ (s : Span). s.1) same, le)
+    fits e (inr is) = absurd (omega (arith, e, among-later (r.0 + r.1 + 1) (at, long) runs h.2 is))
+
+    here : r.0 ≡ at → pages ≤ r.1 → AreSpacedFrom low (rest_of pages r ++ runs)
+    here e few = cond_both (r.1 == pages) [] ((r.0 + pages, r.1 - pages) ∷ []) (λ l. AreSpacedFrom low (l ++ runs))
+        (λ _. spaced-lower low (r.0 + r.1 + 1) runs (omega (arith, h.0)) h.2)
+        (λ part. (omega (arith, h.0), omega (arith, few, eqb-false r.1 pages part),
+        spaced-lower (r.0 + pages + (r.1 - pages) + 1) (r.0 + r.1 + 1) runs (omega (arith, few)) h.2))
+
+    later : (IsAmong (at, long) runs → AreSpacedFrom (r.0 + r.1 + 1) (taken_from at pages runs)) → r.0 ≢ at →
+        IsAmong (at, long) (r ∷ runs) → AreSpacedFrom low (r ∷ taken_from at pages runs)
+    later ih ne (inl same) = absurd (ne (ap (λ (s : Span). s.0) same))
+    later ih ne (inr is) = (h.0, h.1, ih is)
+
+-- a take, where the run has been pulled
+taking : (at long pages : ℕ) (old new : List Span) → AreSpacedFrom 0 old → new ≡ without at old → long ≡ beginning at old →
+    0 < pages → pages ≤ beginning at old → taken_from at pages old ≡ with_rest at pages long new
+taking at long pages old new h gone size some le =
+    taken-steps 0 at (beginning at old) pages old h (among-beginning at old (omega (arith, some, le))) some le
+    ∙ ap (λ (n : ℕ). with_rest at pages n (without at old)) (sym size)
+    ∙ ap (λ (l : List Span). with_rest at pages long l) (sym gone)
+
+pub taking-whole : (at long pages : ℕ) (old new : List Span) → AreSpacedFrom 0 old → new ≡ without at old → long ≡ beginning at old →
+    0 < pages → pages ≤ beginning at old → long ≡ pages → taken_from at pages old ≡ new
+taking-whole at long pages old new h gone size some le all =
+    taking at long pages old new h gone size some le ∙ (rw (eq-eqb long pages all) refl)
+
+pub taking-part : (at long pages : ℕ) (old new : List Span) → AreSpacedFrom 0 old → new ≡ without at old → long ≡ beginning at old →
+    0 < pages → pages ≤ beginning at old → long ≢ pages → taken_from at pages old ≡ placed_in (at + pages, long - pages) new
+taking-part at long pages old new h gone size some le part =
+    taking at long pages old new h gone size some le ∙ (rw (ne_eqb long pages part) refl)
