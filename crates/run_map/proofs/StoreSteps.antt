@@ -1,10 +1,11 @@
 -- A take and a give by the steps of a store: a run that is pulled, and one that is put.
-use Rattle.std.proofs.Common.{◌≡◌, ◌≢◌, ◌⊎◌, ℕ, ◌+◌, ◌-◌, ◌<◌, ◌≤◌, List, [], ◌∷◌, ◌++◌, refl, sym, ap, ◌∙◌, subst, arith, eq-eqb, ne_eqb, eqb-true}
-use Rattle.std.specs.Prelude.{◌==◌, if◌then◌else◌}
+use Rattle.std.proofs.Common.{◌≡◌, ◌≢◌, ◌⊎◌, ℕ, zero, suc, ◌+◌, ◌-◌, ◌<◌, ◌≤◌, List, [], ◌∷◌, ◌++◌, length, get_or, refl, sym, ap, ◌∙◌, subst, arith, eq-eqb, ne_eqb, eqb-true}
+use Rattle.std.specs.Prelude.{slice_set, ◌==◌, if◌then◌else◌}
 use Rattle.std.proofs.lemmas.Bool.{cond_both, cases_eq, eqb-false}
 use Rattle.size_classes.specs.Spans.{Span, rest_of, taken_from, placed_in, AreSpacedFrom}
 use Rattle.size_classes.proofs.OutLaws.{IsAmong, among-later}
-use Rattle.run_map.specs.Lengths.{without, beginning}
+use Rattle.run_map.specs.Lengths.{spans_from, without, beginning}
+use Rattle.run_map.proofs.LengthLaws.{spans-clear}
 use Rattle.run_map.proofs.SpanSteps.{with_rest, taken-steps}
 use mathlib.Core.Logic.{inl, inr}
 
@@ -66,3 +67,49 @@ pub taking-part : (at long pages : ℕ) (old new : List Span) → AreSpacedFrom 
     0 < pages → pages ≤ beginning at old → long ≢ pages → taken_from at pages old ≡ placed_in (at + pages, long - pages) new
 taking-part at long pages old new h gone size some le part =
     taking at long pages old new h gone size some le ∙ (rw (ne_eqb long pages part) refl)
+
+-- ---- the lengths by page
+
+beginning-before : (low at : ℕ) (ns : List ℕ) → low < at → beginning low (spans_from at ns) ≡ 0
+beginning-before low at [] less = refl
+beginning-before low at (m ∷ ns) less =
+    let ih = beginning-before low (at + 1) ns (omega (arith, less)) in
+    cond_both (m == 0) (spans_from (at + 1) ns) ((at, m) ∷ spans_from (at + 1) ns) (λ runs. beginning low runs ≡ 0)
+    (λ _. ih)
+    (λ _. rw (ne_eqb at low (λ e. omega (arith, e, less))) ih)
+
+-- the run that begins at a page has the length that stands there
+pub beginning-at : (at i : ℕ) (ns : List ℕ) → beginning (at + i) (spans_from at ns) ≡ get_or ns i 0
+beginning-at at i [] = refl
+beginning-at at zero (m ∷ ns) =
+    let same : at + 0 ≡ at = omega arith in
+    rw same
+    (cond_both (m == 0) (spans_from (at + 1) ns) ((at, m) ∷ spans_from (at + 1) ns) (λ runs. beginning at runs ≡ m)
+    (λ none. beginning-before at (at + 1) ns (omega arith) ∙ sym (eqb-true m 0 none))
+    (λ _. rw (eq-eqb at at refl) refl))
+beginning-at at (suc i) (m ∷ ns) =
+    let same : at + 1 + i ≡ at + suc i = omega arith in
+    let ih : beginning (at + suc i) (spans_from (at + 1) ns) ≡ get_or ns i 0 =
+    subst (λ (k : ℕ). beginning k (spans_from (at + 1) ns) ≡ get_or ns i 0) same (beginning-at (at + 1) i ns) in
+    cond_both (m == 0) (spans_from (at + 1) ns) ((at, m) ∷ spans_from (at + 1) ns)
+    (λ runs. beginning (at + suc i) runs ≡ get_or ns i 0)
+    (λ _. ih)
+    (λ _. rw (ne_eqb at (at + suc i) (λ e. omega (arith, e))) ih)
+
+-- a page past the end has none
+pub there-begins : (ns : List ℕ) (i : ℕ) → 0 < get_or ns i 0 → i < length ns
+there-begins [] i some = absurd (omega (arith, some))
+there-begins (m ∷ ns) zero some = omega arith
+there-begins (m ∷ ns) (suc i) some = omega (arith, there-begins ns i some)
+
+pub begins-there : (ns : List ℕ) (i : ℕ) → 0 < beginning i (spans_from 0 ns) → i < length ns
+begins-there ns i some =
+    let from : 0 + i ≡ i = omega arith in
+    there-begins ns i (omega (arith, some, ap (λ (k : ℕ). beginning k (spans_from 0 ns)) from, beginning-at 0 i ns))
+
+-- what a pull leaves
+pub pulled : (ns : List ℕ) (i : ℕ) → 0 < beginning i (spans_from 0 ns) →
+    spans_from 0 (slice_set ns i 0) ≡ without i (spans_from 0 ns)
+pulled ns i some =
+    let from : 0 + i ≡ i = omega arith in
+    spans-clear 0 i ns (begins-there ns i some) ∙ ap (λ (k : ℕ). without k (spans_from 0 ns)) from

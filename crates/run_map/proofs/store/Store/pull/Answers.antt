@@ -1,0 +1,43 @@
+use Rattle.std.proofs.Common.{◌≡◌, ℕ, List, refl, sym, ap, ◌∙◌}
+use Rattle.std.specs.Prelude.{slice_set}
+use Rattle.run_map.specs.Lengths.{spans_from}
+use Rattle.run_map.specs.declared.store.Store.{Store}
+use Rattle.run_map.proofs.StoreSteps.{begins-there, pulled}
+use Rattle.run_map.proofs.store.Store.pull.Goals as goal
+
+pub index_mut-requires : goal.index_mut-requires
+index_mut-requires c = begins-there c.args.self.now.begins.items c.args.first c.requires.run
+
+pub overflow_add-first : goal.overflow_add-first
+overflow_add-first c = ?
+
+pub index_mut-requires-2 : goal.index_mut-requires-2
+index_mut-requires-2 c = ?
+
+pub class_under-requires : goal.class_under-requires
+class_under-requires c = ?
+
+pub unmark-requires-clause-place : goal.unmark-requires-clause-place
+unmark-requires-clause-place c = ?
+
+pub index_mut-requires-3 : goal.index_mut-requires-3
+index_mut-requires-3 c = ?
+
+pub unreachable-requires : goal.unreachable-requires
+unreachable-requires c = ?
+
+pub returns-clause-store : goal.returns-clause-store
+returns-clause-store c = ?
+
+pub returns-clause-runs : goal.returns-clause-runs
+returns-clause-runs c =
+    let ns : List ℕ = c.args.self.now.begins.items in
+    ap (λ (s : Store). spans_from 0 s.begins.items) c.unmark.ensures.rest
+    ∙ ap (λ (n : ℕ). spans_from 0 (slice_set ns c.args.first n)) c.replace-pages.ensures.after
+    ∙ pulled ns c.args.first c.requires.run
+
+pub returns-clause-place : goal.returns-clause-place
+returns-clause-place c = ?
+
+pub returns-clause-run : goal.returns-clause-run
+returns-clause-run c = ?
