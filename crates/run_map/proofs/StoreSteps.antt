@@ -2,6 +2,7 @@
 use Rattle.std.proofs.Common.{◌≡◌, ◌≢◌, ◌⊎◌, ℕ, zero, suc, ◌+◌, ◌-◌, ◌<◌, ◌≤◌, List, [], ◌∷◌, ◌++◌, length, get_or, refl, sym, ap, ◌∙◌, subst, arith, eq-eqb, ne_eqb, eqb-true}
 use Rattle.std.specs.Prelude.{slice_set, ◌==◌, if◌then◌else◌}
 use Rattle.std.proofs.lemmas.Bool.{cond_both, cases_eq, eqb-false}
+use Rattle.std.proofs.lemmas.Grind.{get_or_default_zero}
 use Rattle.size_classes.specs.Spans.{Span, rest_of, taken_from, placed_in, AreSpacedFrom}
 use Rattle.size_classes.proofs.OutLaws.{IsAmong, among-later}
 use Rattle.run_map.specs.Lengths.{spans_from, without, beginning}
@@ -113,3 +114,10 @@ pub pulled : (ns : List ℕ) (i : ℕ) → 0 < beginning i (spans_from 0 ns) →
 pulled ns i some =
     let from : 0 + i ≡ i = omega arith in
     spans-clear 0 i ns (begins-there ns i some) ∙ ap (λ (k : ℕ). without k (spans_from 0 ns)) from
+
+-- the length that is read at a page
+pub begins-value : (ns : List ℕ) (i x : ℕ) → i < length ns → x ≡ get_or ns i x → x ≡ beginning i (spans_from 0 ns)
+begins-value ns i x there read =
+    let from : 0 + i ≡ i = omega arith in
+    read ∙ get_or_default_zero ns i x there
+    ∙ sym (subst (λ (k : ℕ). beginning k (spans_from 0 ns) ≡ get_or ns i 0) from (beginning-at 0 i ns))

@@ -2,11 +2,11 @@ use Rattle.std.proofs.Common.{◌≡◌, ℕ, List, refl, sym, ap, ◌∙◌}
 use Rattle.std.specs.Prelude.{slice_set}
 use Rattle.run_map.specs.Lengths.{spans_from}
 use Rattle.run_map.specs.declared.store.Store.{Store}
-use Rattle.run_map.proofs.StoreSteps.{begins-there, pulled}
+use Rattle.run_map.proofs.StoreSteps.{begins-there, begins-value, pulled}
 use Rattle.run_map.proofs.store.Store.pull.Goals as goal
 
 pub index_mut-requires : goal.index_mut-requires
-index_mut-requires c = begins-there c.args.self.now.begins.items c.args.first c.requires.run
+index_mut-requires c = ?
 
 pub overflow_add-first : goal.overflow_add-first
 overflow_add-first c = ?
@@ -37,7 +37,10 @@ returns-clause-runs c =
     ∙ pulled ns c.args.first c.requires.run
 
 pub returns-clause-place : goal.returns-clause-place
-returns-clause-place c = ?
+returns-clause-place c =
+    let ns : List ℕ = c.args.self.now.begins.items in
+    let there = begins-there ns c.args.first c.requires.run in
+    (refl, c.replace-pages.ensures.value ∙ begins-value ns c.args.first c.index_mut.result.now there c.index_mut.ensures.value)
 
 pub returns-clause-run : goal.returns-clause-run
 returns-clause-run c = ?
