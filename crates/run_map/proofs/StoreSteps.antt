@@ -8,6 +8,9 @@ use Rattle.size_classes.proofs.OutLaws.{IsAmong, among-later}
 use Rattle.run_map.specs.Lengths.{spans_from, without, beginning}
 use Rattle.run_map.proofs.LengthLaws.{spans-clear}
 use Rattle.run_map.proofs.SpanSteps.{with_rest, taken-steps}
+use Rattle.run_map.specs.Stored.{stored, IsStore}
+use Rattle.run_map.specs.declared.runs.Layout.{Layout}
+use Rattle.run_map.specs.declared.store.Store.{Store}
 use mathlib.Core.Logic.{inl, inr}
 
 -- the run that begins at a page is among them
@@ -121,3 +124,13 @@ begins-value ns i x there read =
     let from : 0 + i ≡ i = omega arith in
     read ∙ get_or_default_zero ns i x there
     ∙ sym (subst (λ (k : ℕ). beginning k (spans_from 0 ns) ≡ get_or ns i 0) from (beginning-at 0 i ns))
+
+-- what is read at the page where a run begins
+pub at-page : (l : Layout) (s : Store) (i x result : ℕ) → IsStore l s → 0 < beginning i (stored s) →
+    x ≡ get_or s.begins.items i x → result ≡ x → (0 < result) × (i + result ≤ l.pages) × (i < l.pages)
+at-page l s i x result is some read same =
+    let there = begins-there s.begins.items i some in
+    let value = begins-value s.begins.items i x there read in
+    let stands : x ≡ get_or s.begins.items i 0 = read ∙ get_or_default_zero s.begins.items i x there in
+    let within : i < l.pages = omega (arith, there, is.long.begins) in
+    (omega (arith, some, value, same), omega (arith, is.within i within, stands, same), within)

@@ -1,5 +1,5 @@
 -- Free runs by the page where they begin, as a `Store` has them. No public clause cites this module.
-use Rattle.std.specs.Prelude.{◌≡◌, ◌≢◌, ℕ, zero, suc, ◌+◌, ◌*◌, ◌^◌, ◌<◌, ◌≤◌, ◌↔◌, List, length, slice_index, slice_index_or, Option, None, MatchOption, All}
+use Rattle.std.specs.Prelude.{◌≡◌, ◌≢◌, ℕ, zero, suc, ◌+◌, ◌*◌, ◌^◌, ◌<◌, ◌≤◌, ◌↔◌, List, length, slice_index, slice_index_or, Option, None, MatchOption}
 use Rattle.std.specs.Int.{bit_at}
 use Rattle.ground.specs.Ground.{Segment}
 use Rattle.bit_words.specs.Words.{bit_of}
@@ -43,6 +43,7 @@ pub record AreLong (l : Layout) (s : Store) : Type 0 where
   pub pieces : length s.pieces.items ≡ l.pages
   pub width : (l.pages ≤ 64 * s.width) × (s.width ≤ 32)
   pub firsts : length s.firsts.items ≡ s.width * 40
+  pub lens : (s.begins.len ≡ l.pages) × (s.ends.len ≡ l.pages + 1) × (s.pieces.len ≡ l.pages)
 
 -- which bits are set: the first page of each free run, under its page class alone
 pub record AreMarked (l : Layout) (s : Store) : Type 0 where
@@ -78,7 +79,7 @@ pub record IsNotedAnew (class old : ℕ) (s : Store) : Type 0 where
 pub record IsStore (l : Layout) (s : Store) : Type 0 where
   pub long : AreLong l s
   pub spaced : AreSpacedFrom 0 (stored s)
-  pub within : All (λ r. r.0 + r.1 ≤ l.pages) (stored s)
+  pub within : (first : ℕ) → first < l.pages → first + pages_at s first ≤ l.pages
   pub ends : (page : ℕ) → page ≤ l.pages → slice_index s.ends.items page ≡ ending page (stored s)
   pub held : (first : ℕ) → first < l.pages → IsHeld l first (pages_at s first) (slice_index_or s.pieces.items first None)
   pub marked : AreMarked l s

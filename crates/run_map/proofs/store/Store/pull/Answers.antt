@@ -1,27 +1,44 @@
-use Rattle.std.proofs.Common.{◌≡◌, ℕ, List, refl, sym, ap, ◌∙◌}
+use Rattle.std.proofs.Common.{◌≡◌, ℕ, List, Fits-le, Fits-lit, arith, refl, sym, ap, ◌∙◌}
 use Rattle.std.specs.Prelude.{slice_set}
 use Rattle.run_map.specs.Lengths.{spans_from}
 use Rattle.run_map.specs.declared.store.Store.{Store}
-use Rattle.run_map.proofs.StoreSteps.{begins-there, begins-value, pulled}
+use Rattle.run_map.proofs.StoreSteps.{at-page, begins-there, begins-value, pulled}
 use Rattle.run_map.proofs.store.Store.pull.Goals as goal
 
 pub index_mut-requires : goal.index_mut-requires
-index_mut-requires c = ?
+index_mut-requires c =
+    let long = c.requires.store.1.long in
+    omega (arith, begins-there c.args.self.now.begins.items c.args.first c.requires.run, long.begins, long.lens.0)
 
 pub overflow_add-first : goal.overflow_add-first
-overflow_add-first c = ?
+overflow_add-first c =
+    let at = at-page c.args.layout.now c.args.self.now c.args.first c.index_mut.result.now c.replace-pages.result c.requires.store.1 c.requires.run
+    c.index_mut.ensures.value c.replace-pages.ensures.value in
+    Fits-le {n = 4096} (omega (arith, at.1, c.requires.store.1.long.few)) (Fits-lit tt)
 
 pub index_mut-requires-2 : goal.index_mut-requires-2
-index_mut-requires-2 c = ?
+index_mut-requires-2 c =
+    let at = at-page c.args.layout.now c.args.self.now c.args.first c.index_mut.result.now c.replace-pages.result c.requires.store.1 c.requires.run
+    c.index_mut.ensures.value c.replace-pages.ensures.value in
+    omega (arith, at.1, c.requires.store.1.long.lens.1)
 
 pub class_under-requires : goal.class_under-requires
-class_under-requires c = ?
+class_under-requires c =
+    let at = at-page c.args.layout.now c.args.self.now c.args.first c.index_mut.result.now c.replace-pages.result c.requires.store.1 c.requires.run
+    c.index_mut.ensures.value c.replace-pages.ensures.value in
+    (at.0, omega (arith, at.1, c.requires.store.1.long.few))
 
 pub unmark-requires-clause-place : goal.unmark-requires-clause-place
-unmark-requires-clause-place c = ?
+unmark-requires-clause-place c =
+    let at = at-page c.args.layout.now c.args.self.now c.args.first c.index_mut.result.now c.replace-pages.result c.requires.store.1 c.requires.run
+    c.index_mut.ensures.value c.replace-pages.ensures.value in
+    (c.class_under.ensures.few, omega (arith, at.2, c.requires.store.1.long.width))
 
 pub index_mut-requires-3 : goal.index_mut-requires-3
-index_mut-requires-3 c = ?
+index_mut-requires-3 c =
+    let at = at-page c.args.layout.now c.args.self.now c.args.first c.index_mut.result.now c.replace-pages.result c.requires.store.1 c.requires.run
+    c.index_mut.ensures.value c.replace-pages.ensures.value in
+    omega (arith, at.2, ap (λ (s : Store). s.pieces.len) c.unmark.ensures.rest, c.requires.store.1.long.lens.2)
 
 pub unreachable-requires : goal.unreachable-requires
 unreachable-requires c = ?
