@@ -8,7 +8,12 @@ use Rattle.size_classes.proofs.OutLaws.{IsAmong, among-later}
 use Rattle.run_map.specs.Lengths.{spans_from, without, beginning}
 use Rattle.run_map.proofs.LengthLaws.{spans-clear}
 use Rattle.run_map.proofs.SpanSteps.{with_rest, taken-steps}
-use Rattle.run_map.specs.Stored.{stored, IsStore}
+use Rattle.std.proofs.Common.{Option, None}
+use Rattle.std.specs.Prelude.{MatchOption}
+use Rattle.std.proofs.lemmas.List.{get_or_default}
+use Rattle.ground.specs.Ground.{Segment}
+use Rattle.run_map.specs.Spaced.{IsPart}
+use Rattle.run_map.specs.Stored.{stored, IsStore, IsHeld}
 use Rattle.run_map.specs.declared.runs.Layout.{Layout}
 use Rattle.run_map.specs.declared.store.Store.{Store}
 use mathlib.Core.Logic.{inl, inr}
@@ -46,8 +51,11 @@ taken-spaced low at long pages (r ∷ runs) h is some le =
     here : r.0 ≡ at → pages ≤ r.1 → AreSpacedFrom low (rest_of pages r ++ runs)
     here e few = cond_both (r.1 == pages) [] ((r.0 + pages, r.1 - pages) ∷ []) (λ l. AreSpacedFrom low (l ++ runs))
         (λ _. spaced-lower low (r.0 + r.1 + 1) runs (omega (arith, h.0)) h.2)
-        (λ part. (omega (arith, h.0), omega (arith, few, eqb-false r.1 pages part),
-        spaced-lower (r.0 + pages + (r.1 - pages) + 1) (r.0 + r.1 + 1) runs (omega (arith, few)) h.2))
+        (λ part. (
+          omega (arith, h.0),
+          omega (arith, few, eqb-false r.1 pages part),
+          spaced-lower (r.0 + pages + (r.1 - pages) + 1) (r.0 + r.1 + 1) runs (omega (arith, few)) h.2,
+        ))
 
     later : (IsAmong (at, long) runs → AreSpacedFrom (r.0 + r.1 + 1) (taken_from at pages runs)) → r.0 ≢ at →
         IsAmong (at, long) (r ∷ runs) → AreSpacedFrom low (r ∷ taken_from at pages runs)
@@ -134,3 +142,25 @@ at-page l s i x result is some read same =
     let stands : x ≡ get_or s.begins.items i 0 = read ∙ get_or_default_zero s.begins.items i x there in
     let within : i < l.pages = omega (arith, there, is.long.begins) in
     (omega (arith, some, value, same), omega (arith, is.within i within, stands, same), within)
+
+held-piece : (l : Layout) (first n : ℕ) (piece : Option Segment) → 0 < n → IsHeld l first n piece →
+    MatchOption piece ⊥ (IsPart l first n)
+held-piece l first zero piece some h = absurd (omega (arith, some))
+held-piece l first (suc n) piece some h = h
+
+-- the memory that is read at the page where a run begins
+pub piece-at : (l : Layout) (s : Store) (i : ℕ) (ps : List (Option Segment)) (x result : Option Segment) → IsStore l s →
+    0 < beginning i (stored s) → ps ≡ s.pieces.items → x ≡ get_or ps i x → result ≡ x →
+    MatchOption result ⊥ (IsPart l i (beginning i (stored s)))
+piece-at l s i ps x result is some e read same =
+    let n : ℕ = get_or s.begins.items i 0 in
+    let from : 0 + i ≡ i = omega arith in
+    let stands : beginning i (stored s) ≡ n =
+    subst (λ (k : ℕ). beginning k (stored s) ≡ n) from (beginning-at 0 i s.begins.items) in
+    let within : i < l.pages = omega (arith, begins-there s.begins.items i some, is.long.begins) in
+    let found : result ≡ get_or s.pieces.items i None =
+    same ∙ read ∙ ap (λ (qs : List (Option Segment)). get_or qs i x) e
+    ∙ get_or_default s.pieces.items i x None (omega (arith, within, is.long.pieces)) in
+    subst (λ (m : ℕ). MatchOption result ⊥ (IsPart l i m)) (sym stands)
+    (subst (λ (o : Option Segment). MatchOption o ⊥ (IsPart l i n)) (sym found)
+    (held-piece l i n (get_or s.pieces.items i None) (omega (arith, some, stands)) (is.held i within)))

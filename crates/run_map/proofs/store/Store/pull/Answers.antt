@@ -1,8 +1,11 @@
-use Rattle.std.proofs.Common.{◌≡◌, ℕ, List, Fits-le, Fits-lit, arith, refl, sym, ap, ◌∙◌}
-use Rattle.std.specs.Prelude.{slice_set}
-use Rattle.run_map.specs.Lengths.{spans_from}
+use Rattle.std.proofs.Common.{◌≡◌, ℕ, List, Option, subst, Fits-le, Fits-lit, arith, refl, sym, ap, ◌∙◌}
+use Rattle.std.specs.Prelude.{slice_set, MatchOption}
+use Rattle.run_map.specs.Lengths.{spans_from, beginning}
+use Rattle.ground.specs.Ground.{Segment}
+use Rattle.run_map.specs.Spaced.{IsPart}
+use Rattle.run_map.specs.Stored.{stored}
 use Rattle.run_map.specs.declared.store.Store.{Store}
-use Rattle.run_map.proofs.StoreSteps.{at-page, begins-there, begins-value, pulled}
+use Rattle.run_map.proofs.StoreSteps.{at-page, piece-at, begins-there, begins-value, pulled}
 use Rattle.run_map.proofs.store.Store.pull.Goals as goal
 
 pub index_mut-requires : goal.index_mut-requires
@@ -41,7 +44,12 @@ index_mut-requires-3 c =
     omega (arith, at.2, ap (λ (s : Store). s.pieces.len) c.unmark.ensures.rest, c.requires.store.1.long.lens.2)
 
 pub unreachable-requires : goal.unreachable-requires
-unreachable-requires c = ?
+unreachable-requires c =
+    let l = c.args.layout.now in
+    let n : ℕ = beginning c.args.first (stored c.args.self.now) in
+    subst (λ (o : Option Segment). MatchOption o ⊥ (IsPart l c.args.first n)) c.in-None.is
+    (piece-at l c.args.self.now c.args.first c.unmark.new.self.pieces.items c.index_mut-3.result.now c.take.result
+    c.requires.store.1 c.requires.run (ap (λ (s : Store). s.pieces.items) c.unmark.ensures.rest) c.index_mut-3.ensures.value c.take.ensures.value)
 
 pub returns-clause-store : goal.returns-clause-store
 returns-clause-store c = ?
@@ -60,4 +68,21 @@ returns-clause-place c =
     (refl, c.replace-pages.ensures.value ∙ begins-value ns c.args.first c.index_mut.result.now there c.index_mut.ensures.value)
 
 pub returns-clause-run : goal.returns-clause-run
-returns-clause-run c = ?
+returns-clause-run c =
+    let l = c.args.layout.now in
+    let ns : List ℕ = c.args.self.now.begins.items in
+    let n : ℕ = beginning c.args.first (stored c.args.self.now) in
+    let at = at-page c.args.layout.now c.args.self.now c.args.first c.index_mut.result.now c.replace-pages.result c.requires.store.1 c.requires.run
+    c.index_mut.ensures.value c.replace-pages.ensures.value in
+    let there = begins-there ns c.args.first c.requires.run in
+    let same : c.replace-pages.result ≡ n =
+    c.replace-pages.ensures.value ∙ begins-value ns c.args.first c.index_mut.result.now there c.index_mut.ensures.value in
+    let part : IsPart l c.args.first n c.in-Some.piece =
+    subst (λ (o : Option Segment). MatchOption o ⊥ (IsPart l c.args.first n)) c.in-Some.is
+    (piece-at l c.args.self.now c.args.first c.unmark.new.self.pieces.items c.index_mut-3.result.now c.take.result
+    c.requires.store.1 c.requires.run (ap (λ (s : Store). s.pieces.items) c.unmark.ensures.rest) c.index_mut-3.ensures.value c.take.ensures.value) in
+    record {
+      part = subst (λ (m : ℕ). IsPart l c.args.first m c.in-Some.piece) (sym same) part;
+      some = at.0;
+      within = at.1;
+    }
