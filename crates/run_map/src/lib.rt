@@ -6,6 +6,7 @@
 mod choice;
 mod map;
 mod runs;
+mod store;
 
 pub use map::RunMap;
 
