@@ -13,7 +13,7 @@ abbrev pub with_rest : ℕ → ℕ → ℕ → List Span → List Span
 with_rest at pages long runs = if long == pages then runs else placed_in (at + pages, long - pages) runs
 
 -- what comes before the first of them goes first
-first-placed : (low : ℕ) (r : Span) (runs : List Span) → r.0 < low → AreSpacedFrom low runs → placed_in r runs ≡ r ∷ runs
+pub first-placed : (low : ℕ) (r : Span) (runs : List Span) → r.0 < low → AreSpacedFrom low runs → placed_in r runs ≡ r ∷ runs
 first-placed low r [] less h = refl
 first-placed low r (s ∷ runs) less h = rw (lt-ltb r.0 s.0 (omega (arith, less, h.0))) refl
 
@@ -44,7 +44,7 @@ taken-steps low at long pages (r ∷ runs) h (inr is) some le =
 -- ---- giving back
 
 -- runs in order are merged already
-spaced-merged : (low : ℕ) (runs : List Span) → AreSpacedFrom low runs → merged runs ≡ runs
+pub spaced-merged : (low : ℕ) (runs : List Span) → AreSpacedFrom low runs → merged runs ≡ runs
 spaced-merged low [] h = refl
 spaced-merged low (s ∷ []) h = refl
 spaced-merged low (s ∷ t ∷ runs) h =
@@ -52,20 +52,20 @@ spaced-merged low (s ∷ t ∷ runs) h =
     ∙ (let ne : (s.0 + s.1 == t.0) ≡ false = ne_eqb (s.0 + s.1) t.0 (λ e. omega (arith, e, h.2.0)) in rw ne refl)
 
 -- none begins or ends at a page that all lie behind
-none-begins : (low at : ℕ) (runs : List Span) → at < low → AreSpacedFrom low runs → beginning at runs ≡ 0
+pub none-begins : (low at : ℕ) (runs : List Span) → at < low → AreSpacedFrom low runs → beginning at runs ≡ 0
 none-begins low at [] less h = refl
 none-begins low at (s ∷ runs) less h =
     rw (ne_eqb s.0 at (λ e. omega (arith, e, less, h.0)))
     (none-begins (s.0 + s.1 + 1) at runs (omega (arith, less, h.0)) h.2)
 
-none-ends : (low at : ℕ) (runs : List Span) → at ≤ low → AreSpacedFrom low runs → ending at runs ≡ 0
+pub none-ends : (low at : ℕ) (runs : List Span) → at ≤ low → AreSpacedFrom low runs → ending at runs ≡ 0
 none-ends low at [] le h = refl
 none-ends low at (s ∷ runs) le h =
     rw (ne_eqb (s.0 + s.1) at (λ e. omega (arith, e, le, h.0, h.1)))
     (none-ends (s.0 + s.1 + 1) at runs (omega (arith, le, h.0)) h.2)
 
 -- nothing goes there
-none-goes : (low at : ℕ) (runs : List Span) → at < low → AreSpacedFrom low runs → without at runs ≡ runs
+pub none-goes : (low at : ℕ) (runs : List Span) → at < low → AreSpacedFrom low runs → without at runs ≡ runs
 none-goes low at [] less h = refl
 none-goes low at (s ∷ runs) less h =
     rw (ne_eqb s.0 at (λ e. omega (arith, e, less, h.0)))
@@ -94,7 +94,7 @@ front-given low r (s ∷ runs) less some h apart =
     by (inr after) (inr differ) = absurd (omega (arith, after, less, h.0, h.1))
 
 -- the run that ends where a page begins, begins behind the lower bound
-ending-later : (low at : ℕ) (runs : List Span) → AreSpacedFrom low runs → low ≤ at → low ≤ at - ending at runs
+pub ending-later : (low at : ℕ) (runs : List Span) → AreSpacedFrom low runs → low ≤ at → low ≤ at - ending at runs
 ending-later low at [] h le = omega (arith, le)
 ending-later low at (s ∷ runs) h le =
     cond_both (s.0 + s.1 == at) s.1 (ending at runs) (λ n. low ≤ at - n)
@@ -130,22 +130,22 @@ first-of r [] h = refl
 first-of r (s ∷ runs) h = rw (lt-ltb r.0 s.0 (omega (arith, h.0))) refl
 
 -- the steps, at a run
-ending-here : (at : ℕ) (s : Span) (runs : List Span) → s.0 + s.1 ≡ at → ending at (s ∷ runs) ≡ s.1
+pub ending-here : (at : ℕ) (s : Span) (runs : List Span) → s.0 + s.1 ≡ at → ending at (s ∷ runs) ≡ s.1
 ending-here at s runs e = rw (eq-eqb (s.0 + s.1) at e) refl
 
-ending-past : (at : ℕ) (s : Span) (runs : List Span) → (s.0 + s.1 ≡ at → ⊥) → ending at (s ∷ runs) ≡ ending at runs
+pub ending-past : (at : ℕ) (s : Span) (runs : List Span) → (s.0 + s.1 ≡ at → ⊥) → ending at (s ∷ runs) ≡ ending at runs
 ending-past at s runs ne = rw (ne_eqb (s.0 + s.1) at ne) refl
 
-beginning-past : (at : ℕ) (s : Span) (runs : List Span) → (s.0 ≡ at → ⊥) → beginning at (s ∷ runs) ≡ beginning at runs
+pub beginning-past : (at : ℕ) (s : Span) (runs : List Span) → (s.0 ≡ at → ⊥) → beginning at (s ∷ runs) ≡ beginning at runs
 beginning-past at s runs ne = rw (ne_eqb s.0 at ne) refl
 
-without-here : (at : ℕ) (s : Span) (runs : List Span) → s.0 ≡ at → without at (s ∷ runs) ≡ runs
+pub without-here : (at : ℕ) (s : Span) (runs : List Span) → s.0 ≡ at → without at (s ∷ runs) ≡ runs
 without-here at s runs e = rw (eq-eqb s.0 at e) refl
 
-without-past : (at : ℕ) (s : Span) (runs : List Span) → (s.0 ≡ at → ⊥) → without at (s ∷ runs) ≡ s ∷ without at runs
+pub without-past : (at : ℕ) (s : Span) (runs : List Span) → (s.0 ≡ at → ⊥) → without at (s ∷ runs) ≡ s ∷ without at runs
 without-past at s runs ne = rw (ne_eqb s.0 at ne) refl
 
-placed-past : (r s : Span) (runs : List Span) → s.0 ≤ r.0 → placed_in r (s ∷ runs) ≡ s ∷ placed_in r runs
+pub placed-past : (r s : Span) (runs : List Span) → s.0 ≤ r.0 → placed_in r (s ∷ runs) ≡ s ∷ placed_in r runs
 placed-past r s runs le = rw (le-ltb r.0 s.0 le) refl
 
 -- what a give makes of the runs, where the run before has so many pages: it and the run behind go,

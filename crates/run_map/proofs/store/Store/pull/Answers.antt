@@ -6,6 +6,7 @@ use Rattle.run_map.specs.Spaced.{IsPart}
 use Rattle.run_map.specs.Stored.{stored}
 use Rattle.run_map.specs.declared.store.Store.{Store}
 use Rattle.run_map.proofs.StoreSteps.{at-page, piece-at, begins-there, begins-value, pulled}
+use Rattle.run_map.proofs.StoreChanges.{pulled-store}
 use Rattle.run_map.proofs.store.Store.pull.Goals as goal
 
 pub index_mut-requires : goal.index_mut-requires
@@ -52,7 +53,33 @@ unreachable-requires c =
     c.requires.store.1 c.requires.run (ap (λ (s : Store). s.pieces.items) c.unmark.ensures.rest) c.index_mut-3.ensures.value c.take.ensures.value)
 
 pub returns-clause-store : goal.returns-clause-store
-returns-clause-store c = ?
+returns-clause-store c =
+    let l = c.args.layout.now in
+    let s : Store = c.args.self.now in
+    let first : ℕ = c.args.first in
+    let n : ℕ = c.replace-pages.result in
+    let rest = c.unmark.ensures.rest in
+    let noted = c.unmark.ensures.noted in
+    let at = at-page l s first c.index_mut.result.now n c.requires.store.1 c.requires.run
+    c.index_mut.ensures.value c.replace-pages.ensures.value in
+    let size : n ≡ beginning first (stored s) =
+    c.replace-pages.ensures.value
+    ∙ begins-value s.begins.items first c.index_mut.result.now (begins-there s.begins.items first c.requires.run) c.index_mut.ensures.value in
+    pulled-store l s _ c.class_under.result first n c.requires.store.1 size at.0
+    c.class_under.ensures.few c.class_under.ensures.last
+    (record {
+      begins = ap (λ (u : Store). u.begins.items) rest ∙ ap (slice_set s.begins.items first) c.replace-pages.ensures.after;
+      ends = ap (λ (u : Store). u.ends.items) rest;
+      pieces = ap (λ (ps : List (Option Segment)). slice_set ps first c.take.new.self) (ap (λ (u : Store). u.pieces.items) rest)
+          ∙ ap (slice_set s.pieces.items first) c.take.ensures.after;
+      mark = record { width = ap (λ (u : Store). u.width) rest; firsts = c.unmark.ensures.firsts };
+      lens = (
+        ap (λ (u : Store). u.begins.len) rest,
+        ap (λ (u : Store). u.ends.len) rest,
+        ap (λ (u : Store). u.pieces.len) rest,
+      );
+    })
+    (record { none = noted.none; some = noted.some; others = noted.others })
 
 pub returns-clause-runs : goal.returns-clause-runs
 returns-clause-runs c =
