@@ -61,7 +61,9 @@ joined-placed r j k runs one two some h apart once from size twice start long =
     ap₂ beginning end once ∙ beginning-without at q runs (λ same. omega (arith, same, some)) in
     let last : k.1 ≡ e + r.1 + beginning q runs = omega (arith, long, size, behind) in
     let left : two ≡ without q (without at runs) = twice ∙ ap₂ without end once in
-    ap₂ placed_in (ap₂ (λ (a b : ℕ). (a, b)) (start ∙ from) last) left
+    let one-run : k ≡ (at, e + r.1 + beginning q runs) = ap₂ (λ (a b : ℕ). (a, b)) (start ∙ from) last in
+    ap (λ (x : Span). placed_in x two) one-run
+    ∙ ap (placed_in (at, e + r.1 + beginning q runs)) left
     ∙ sym (given-steps 0 r runs some h apart)
   where
     within : (0 < ending r.0 runs) ⊎ (ending r.0 runs ≤ 0) → ending r.0 runs ≤ r.0

@@ -1,5 +1,5 @@
--- The memory of a run when it is cut.
-use Rattle.std.proofs.Common.{◌≡◌, ℕ, ◌+◌, ◌-◌, ◌*◌, ◌^◌, ◌<◌, ◌≤◌, length, take, drop, refl, sym, ap, ◌∙◌, arith, length-take-le, length-drop, add-mul, le-mul_of_pos_right, mul-lt-mul_of_pos_right}
+-- The memory of a run when it is cut, and of two that are joined.
+use Rattle.std.proofs.Common.{◌≡◌, ℕ, ◌+◌, ◌-◌, ◌*◌, ◌^◌, ◌<◌, ◌≤◌, ◌++◌, length, take, drop, refl, sym, ap, ◌∙◌, arith, length-append, length-take-le, length-drop, add-mul, le-mul_of_pos_right, mul-lt-mul_of_pos_right}
 use Rattle.std.proofs.Math.Nat.{mul-le-mul_right}
 use Rattle.ground.specs.Ground.{Segment, with_bytes, Follows}
 use Rattle.run_map.specs.Spaced.{IsLayout, IsPart, IsRun}
@@ -46,4 +46,27 @@ rest_run l r q pages left is less part follows bytes from many =
       };
       some = omega (arith, many, less);
       within = omega (arith, from, many, less, is.within);
+    }
+
+-- the memory of two runs that meet
+pub follows_run : (l : Layout) (r s : FreeRun) → IsRun l r → IsRun l s → r.first + r.pages ≡ s.first → Follows r.piece s.piece
+follows_run l r s a b e =
+    let sum = product_parts r.first r.pages l.page s.first e in
+    (b.part.origin ∙ sym a.part.origin, omega (arith, sum, a.part.start, a.part.size, b.part.start))
+
+pub joined_run : (l : Layout) (r s q : FreeRun) → IsRun l r → IsRun l s → r.first + r.pages ≡ s.first → q.first ≡ r.first → q.pages ≡ r.pages + s.pages
+    → q.piece ≡ with_bytes r.piece (r.piece.bytes ++ s.piece.bytes) → IsRun l q
+joined_run l r s q a b e f n is =
+    let sum = product_parts r.pages s.pages l.page (r.pages + s.pages) refl in
+    let first = ap (λ (m : ℕ). m * l.page) f in
+    let many = ap (λ (m : ℕ). m * l.page) n in
+    let size = ap (λ (x : Segment). length x.bytes) is ∙ length-append r.piece.bytes s.piece.bytes in
+    record {
+      part = record {
+        origin = ap (λ (x : Segment). x.origin) is ∙ a.part.origin;
+        start = ap (λ (x : Segment). x.start) is ∙ omega (arith, a.part.start, first);
+        size = omega (arith, size, a.part.size, b.part.size, sum, many);
+      };
+      some = omega (arith, n, a.some);
+      within = omega (arith, f, n, e, b.within);
     }

@@ -16,7 +16,7 @@ use Rattle.run_map.specs.declared.store.Store.{Store}
 use Rattle.run_map.proofs.LengthLaws.{spans-put}
 use Rattle.run_map.proofs.StoreSteps.{beginning-at, begins-there, pulled}
 use Rattle.run_map.proofs.SpanEnds.{without-spaced, ending-gone, ending-kept, placed-alone, ending-placed}
-use Rattle.run_map.proofs.Marks.{ChangesMark, pulled-marked, pulled-noted, put-marked, put-noted}
+use Rattle.run_map.proofs.BitChanges.{ChangesMark, pulled-marked, pulled-noted, put-marked, put-noted}
 use mathlib.Core.Logic.{inl, inr}
 
 -- the pages of the run that begins at a page stand there

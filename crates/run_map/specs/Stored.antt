@@ -75,6 +75,32 @@ pub record IsNotedAnew (class old : ℕ) (s : Store) : Type 0 where
       bit_at s.noted class ≡ bit_at old class
   pub others : (other : ℕ) → other ≢ class → other < 64 → bit_at s.noted other ≡ bit_at old other
 
+-- no page class from one on and before another is noted
+abbrev pub AreUnnoted : Store → ℕ → ℕ → Type 0
+AreUnnoted s from to = (class : ℕ) → from ≤ class → class < to → bit_at s.noted class ≡ 0
+
+-- the least page class from one on that is noted
+pub record IsLeastNoted (s : Store) (from class : ℕ) : Type 0 where
+  pub later : from ≤ class
+  pub few : class < 40
+  pub set : bit_at s.noted class ≡ 1
+  pub below : AreUnnoted s from class
+
+-- no page class from that of so many pages on has a free run
+pub record IsUnserved (s : Store) (pages : ℕ) : Type 0 where
+  pub from : ℕ
+  pub own : IsLastAtMost pages from
+  pub few : from < 40
+  pub none : AreUnnoted s from 40
+
+-- the least page class from that of so many pages on has a free run, and the lowest begins at a page
+pub record IsServing (s : Store) (pages first : ℕ) : Type 0 where
+  pub from : ℕ
+  pub own : IsLastAtMost pages from
+  pub class : ℕ
+  pub least : IsLeastNoted s from class
+  pub lowest : IsLowestMarked s class first
+
 -- the free runs of a chunk, which no two of them meet
 pub record IsStore (l : Layout) (s : Store) : Type 0 where
   pub long : AreLong l s

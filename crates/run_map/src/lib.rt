@@ -3,8 +3,8 @@
 //! merged. Stands on `ground`, whose pieces are the memory of the runs, and on `size_classes`,
 //! whose words say which run is chosen. The chunk above asks it for runs and gives them back.
 
-mod choice;
 mod map;
+mod marks;
 mod runs;
 mod store;
 

@@ -3,19 +3,22 @@
 //! The pages of each run stand at both of its ends, and its first page in the bits of its page
 //! class.
 
-ghost use Rattle.std.specs.Prelude.{◌≡◌, ◌*◌, ◌+◌, ◌-◌, ◌<◌, ◌≤◌, ◌^◌, [], ◌∷◌, All, length, MatchOption};
-ghost use Rattle.bit_words.specs.Words.{ChangesBit};
+ghost use Rattle.std.specs.Prelude.{◌≡◌, ℕ, ◌*◌, ◌+◌, ◌<◌, ◌≤◌, ◌^◌, [], None, IfOk, length, slice_index_or};
 ghost use Rattle.size_classes.specs.PageCounts.{IsLastAtMost};
-ghost use Rattle.size_classes.specs.Spans.{AreApart, AreSpacedFrom, placed_in, taken_from, given_back};
-ghost use Rattle.run_map.specs.Lengths.{beginning, ending, without};
-ghost use Rattle.run_map.specs.Spaced.{IsLayout, IsPart, IsRun, span_of_run};
-ghost use Rattle.run_map.specs.Stored.{IsStore, IsNotedAnew, IsUnmarked, IsLowestMarked, stored, mark_of};
+ghost use Rattle.size_classes.specs.Spans.{AreSpacedFrom, placed_in};
+ghost use Rattle.run_map.specs.Lengths.{beginning, without};
+ghost use Rattle.run_map.specs.Spaced.{IsLayout, IsRun, span_of_run};
+ghost use Rattle.run_map.specs.Stored.{IsStore, stored};
 
 use crate::runs::{FreeRun, Layout};
-use bit_words::{WIDTH, clear, lowest_set, set};
+use bit_words::WIDTH;
 use ground::Piece;
 use size_classes::last_at_most;
+use std::alloc::{AllocError, Global};
 use std::mem::replace;
+
+// The page classes of a chunk of 2^11 pages, which is the largest.
+pub(crate) const CLASSES: u32 = 40;
 
 // The free runs of a chunk. No two of them meet.
 pub(crate) struct Store {
@@ -34,7 +37,7 @@ pub(crate) struct Store {
 }
 
 // The page class under which a run of so many pages stands.
-fn class_under(pages: u32) -> u32
+pub(crate) fn class_under(pages: u32) -> u32
     requires { (0 < pages) × (pages ≤ 2 ^ 11) }
     ensures last { IsLastAtMost pages result }
     ensures few { result < 40 }
@@ -42,60 +45,62 @@ fn class_under(pages: u32) -> u32
     last_at_most(pages)
 }
 
-impl Store {
-    // The place of a page in the bits of a page class.
-    fn mark(&self, class: u32, first: u32) -> u32
-        requires { (class < 40) × (first < 64 * self.now.width) × (self.now.width ≤ 32) }
-        ensures place { result ≡ mark_of self.now class first }
-        ensures within { result < 64 * (self.now.width * 40) }
-    {
-        WIDTH * (self.width as u32 * class) + first
-    }
-
-    // A free run begins at a page and stands under a page class.
-    fn note(&mut self, class: u32, first: u32)
-        requires place { (class < 40) × (first < 64 * self.old.width) }
-        requires long { (self.old.width ≤ 32)
-            × (length self.old.firsts.items ≡ self.old.width * 40) }
-        ensures firsts { ChangesBit (mark_of self.old class first) 1
-            self.old.firsts.items self.new.firsts.items }
-        ensures noted { ChangesBit class 1 (self.old.noted ∷ []) (self.new.noted ∷ []) }
-        ensures rest { self.new
-            ≡ record self.old { firsts = self.new.firsts; noted = self.new.noted } }
-    {
-        let place = self.mark(class, first);
-        set(&mut self.firsts, place);
-        self.noted |= 1 << class;
-    }
-
-    // No free run begins any more at a page and stands under a page class.
-    fn unmark(&mut self, class: u32, first: u32)
-        requires place { (class < 40) × (first < 64 * self.old.width) }
-        requires long { (self.old.width ≤ 32)
-            × (length self.old.firsts.items ≡ self.old.width * 40) }
-        ensures firsts { ChangesBit (mark_of self.old class first) 0
-            self.old.firsts.items self.new.firsts.items }
-        ensures noted { IsNotedAnew class self.old.noted self.new }
-        ensures rest { self.new
-            ≡ record self.old { firsts = self.new.firsts; noted = self.new.noted } }
-    {
-        let place = self.mark(class, first);
-        clear(&mut self.firsts, place);
-        match self.first_under(class) {
-            None => self.noted &= !(1 << class),
-            Some(_) => {}
+// The memory of no run, for each of so many pages.
+fn no_pieces(alloc: Global, pages: usize) -> Result<Vec<Option<Piece>>, AllocError>
+    ensures none { IfOk result (λ v. (i : ℕ) → slice_index_or v.items i None ≡ None) }
+    ensures len { IfOk result (λ v. (length v.items ≡ pages) × (v.len ≡ pages)) }
+{
+    let mut pieces = Vec::with_capacity(alloc, pages)?;
+    for _ in 0..pages {
+        match pieces.push(None) {
+            Ok(()) => {}
+            Err(_) => unreachable!(),
         }
     }
+    Ok(pieces)
+}
 
-    // The first page of the lowest free run that stands under a page class.
-    fn first_under(&self, class: u32) -> Option<u32>
-        requires class { class < 40 }
-        requires long { (self.now.width ≤ 32)
-            × (length self.now.firsts.items ≡ self.now.width * 40) }
-        ensures { MatchOption result (IsUnmarked self.now class) (IsLowestMarked self.now class) }
+impl Store {
+    // The runs of a chunk that has none.
+    pub(crate) fn new(alloc: Global, layout: &Layout) -> Result<Store, AllocError>
+        requires { layout.now.pages ≤ 2 ^ 11 }
+        ensures { IfOk result (λ s. IsStore layout.now s × (stored s ≡ [])) }
     {
-        let from = self.width * class as usize;
-        lowest_set(&self.firsts[from..from + self.width])
+        let pages = layout.pages as usize;
+        let width = pages.div_ceil(WIDTH as usize);
+        let begins = vec![in alloc; 0; pages]?;
+        let ends = vec![in alloc; 0; pages + 1]?;
+        let firsts = vec![in alloc; 0; width * CLASSES as usize]?;
+        let pieces = no_pieces(alloc, pages)?;
+        Ok(Store {
+            begins,
+            ends,
+            pieces,
+            width,
+            firsts,
+            noted: 0,
+        })
+    }
+
+    // Spends a store that has no run.
+    pub(crate) fn close(self, layout: &Layout)
+        requires { IsStore layout.now self × (stored self ≡ []) }
+    {
+        let Store {
+            begins: _,
+            ends: _,
+            mut pieces,
+            width: _,
+            firsts: _,
+            noted: _,
+        } = self;
+        while let Some(piece) = pieces.pop() {
+            match piece {
+                None => {}
+                Some(_) => unreachable!(),
+            }
+        }
+        pieces.destroy_empty();
     }
 
     // The run that begins at a page, which goes.
@@ -142,105 +147,4 @@ impl Store {
             Some(_) => unreachable!(),
         }
     }
-}
-
-// The first pages of the run that begins at a page. The rest of it, if any, stays free.
-pub(crate) fn take_from(store: &mut Store, layout: &Layout, first: u32, pages: u32) -> Piece
-    requires store { IsLayout layout.now × IsStore layout.now store.old }
-    requires run { (0 < pages) × (pages ≤ beginning first (stored store.old)) }
-    ensures store { IsStore layout.now store.new }
-    ensures runs { stored store.new ≡ taken_from first pages (stored store.old) }
-    ensures piece { IsPart layout.now first pages result }
-{
-    let FreeRun {
-        first: _,
-        pages: long,
-        piece,
-    } = store.pull(layout, first);
-    if long == pages {
-        return piece;
-    }
-    let (front, piece) = piece.split(pages as usize * layout.page);
-    let rest = FreeRun {
-        first: first + pages,
-        pages: long - pages,
-        piece,
-    };
-    store.put(layout, rest);
-    front
-}
-
-// A run joined with the free run that ends where it begins, which goes.
-fn join_before(store: &mut Store, layout: &Layout, run: FreeRun) -> FreeRun
-    requires store { IsLayout layout.now × IsStore layout.now store.old }
-    requires run { IsRun layout.now run × All (AreApart (span_of_run run)) (stored store.old) }
-    ensures store { IsStore layout.now store.new }
-    ensures runs { stored store.new
-        ≡ without (run.first - ending run.first (stored store.old)) (stored store.old) }
-    ensures joined { (result.first ≡ run.first - ending run.first (stored store.old))
-        × (result.pages ≡ ending run.first (stored store.old) + run.pages) }
-    ensures run { IsRun layout.now result }
-{
-    let before = store.ends[run.first as usize];
-    if before == 0 {
-        return run;
-    }
-    let FreeRun {
-        first: start,
-        pages,
-        piece,
-    } = run;
-    let FreeRun {
-        first,
-        pages: long,
-        piece: front,
-    } = store.pull(layout, start - before);
-    FreeRun {
-        first,
-        pages: long + pages,
-        piece: front.join(piece),
-    }
-}
-
-// A run joined with the free run that begins where it ends, which goes.
-fn join_after(store: &mut Store, layout: &Layout, run: FreeRun) -> FreeRun
-    requires store { IsLayout layout.now × IsStore layout.now store.old }
-    requires run { IsRun layout.now run }
-    ensures store { IsStore layout.now store.new }
-    ensures runs { stored store.new ≡ without (run.first + run.pages) (stored store.old) }
-    ensures joined { (result.first ≡ run.first) × (result.pages
-        ≡ run.pages + beginning (run.first + run.pages) (stored store.old)) }
-    ensures run { IsRun layout.now result }
-{
-    let end = run.first + run.pages;
-    if end == layout.pages || store.begins[end as usize] == 0 {
-        return run;
-    }
-    let FreeRun {
-        first,
-        pages,
-        piece,
-    } = run;
-    let FreeRun {
-        first: _,
-        pages: more,
-        piece: rest,
-    } = store.pull(layout, end);
-    FreeRun {
-        first,
-        pages: pages + more,
-        piece: piece.join(rest),
-    }
-}
-
-// A run comes to the others, and is merged with the free runs beside it.
-pub(crate) fn give_to(store: &mut Store, layout: &Layout, run: FreeRun)
-    requires store { IsLayout layout.now × IsStore layout.now store.old }
-    requires run { IsRun layout.now run × All (AreApart (span_of_run run)) (stored store.old) }
-    ensures store { IsStore layout.now store.new }
-    ensures runs { stored store.new ≡ given_back (span_of_run run) (stored store.old) }
-{
-    let run = join_before(store, layout, run);
-    let run = join_after(store, layout, run);
-    store.put(layout, run);
 }
