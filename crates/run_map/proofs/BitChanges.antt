@@ -71,7 +71,6 @@ module _ (s t : Store) (class first bit : ℕ) (h : ChangesMark s t class first 
 module _ (l : Layout) (s t : Store) (class first n : ℕ) (h : ChangesMark s t class first 0) (there : first < 64 * s.width)
     (few : class < 40) (stood : pages_at s first ≡ n) (last : IsLastAtMost n class)
     (gone : pages_at t first ≡ 0) (rest : (q : ℕ) → q ≢ first → pages_at t q ≡ pages_at s q) where
-
   stands-on : (a q : ℕ) → q ≢ first → StandsAt t a q → StandsAt s a q
   stands-on a q ne is = subst (λ (m : ℕ). (0 < m) × IsLastAtMost m a) (rest q ne) is
 
@@ -100,7 +99,6 @@ module _ (l : Layout) (s t : Store) (class first n : ℕ) (h : ChangesMark s t c
           ∙ m.clear a q small less (λ is. not (subst (λ (k : ℕ). (0 < k) × IsLastAtMost k a) (sym (rest q ne)) is))
 
 module _ (s t : Store) (class first : ℕ) (h : ChangesMark s t class first 0) (there : first < 64 * s.width) (few : class < 40) where
-
   pub pulled-noted : AreNoted s → IsNotedAnew class s.noted t → AreNoted t
   pulled-noted was is = record {
     one = λ a q small mark less.
@@ -136,7 +134,6 @@ module _ (s t : Store) (class first : ℕ) (h : ChangesMark s t class first 0) (
 module _ (l : Layout) (s t : Store) (class first n : ℕ) (h : ChangesMark s t class first 1) (there : first < 64 * s.width)
     (few : class < 40) (none : pages_at s first ≡ 0) (last : IsLastAtMost n class) (some : 0 < n)
     (come : pages_at t first ≡ n) (rest : (q : ℕ) → q ≢ first → pages_at t q ≡ pages_at s q) where
-
   pub put-marked : AreMarked l s → l.pages ≤ 64 * s.width → AreMarked l t
   put-marked m long = record {
     set = λ a q small within is. on a q small within is (cases_eq q first);
@@ -166,7 +163,6 @@ module _ (l : Layout) (s t : Store) (class first n : ℕ) (h : ChangesMark s t c
           ∙ m.clear a q small less (λ is. not (subst (λ (k : ℕ). (0 < k) × IsLastAtMost k a) (sym (rest q ne)) is))
 
 module _ (s t : Store) (class first : ℕ) (h : ChangesMark s t class first 1) (there : first < 64 * s.width) (few : class < 40) where
-
   pub put-noted : AreNoted s → ChangesBit class 1 (s.noted ∷ []) (t.noted ∷ []) → AreNoted t
   put-noted was is = record {
     one = λ a q small mark less.
@@ -188,8 +184,11 @@ module _ (s t : Store) (class first : ℕ) (h : ChangesMark s t class first 1) (
 
       off : (a : ℕ) → a < 40 → IsUnmarked t a → (a ≡ class) ⊎ (a ≡ class → ⊥) → bit_at t.noted a ≡ 0
       off a small none (inl e) =
-          absurd (omega (arith, none first (omega (arith, there, ap (λ (w : ℕ). 64 * w) h.width)),
-          marked-here s t class first 1 h there a first e refl))
+          absurd (omega (
+            arith,
+            none first (omega (arith, there, ap (λ (w : ℕ). 64 * w) h.width)),
+            marked-here s t class first 1 h there a first e refl,
+          ))
       off a small none (inr ne) =
           other a small ne
           ∙ was.none a small (λ q less. sym (marked-other s t class first 1 h there a q less (λ e _. ne e))

@@ -1,6 +1,6 @@
 -- Page classes under which runs stand, the least of them, and the first run that passes a test.
-use Rattle.std.proofs.Common.{◌≡◌, ◌⊎◌, ℕ, zero, suc, ◌+◌, ◌-◌, ◌*◌, ◌^◌, ◌<◌, ◌≤◌, Bool, true, false, List, [], ◌∷◌, ◌++◌, Some, length, refl, sym, ap, ◌∙◌, subst, arith, lit<, add-one, eq-eqb, ne_eqb}
-use Rattle.std.specs.Prelude.{nat_le, ◌==◌, ◌&&◌, if◌then◌else◌, map, filter, fold, find, max, Contains}
+use Rattle.std.proofs.Common.{◌≡◌, ◌⊎◌, ℕ, zero, suc, ◌+◌, ◌^◌, ◌<◌, ◌≤◌, Bool, true, false, List, [], ◌∷◌, ◌++◌, Some, refl, sym, ap, ◌∙◌, subst, arith, lit<, add-one, eq-eqb, ne_eqb}
+use Rattle.std.specs.Prelude.{nat_le, if◌then◌else◌, map, filter, fold, find, max, Contains}
 use Rattle.std.proofs.lemmas.Bool.{cond_both, cases_lt, leb-true, le-leb, lt-leb}
 use Rattle.std.proofs.lemmas.List.Elements.{filter-append}
 use Rattle.std.proofs.lemmas.List.Sums.{fold-append}

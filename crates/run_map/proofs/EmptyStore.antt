@@ -71,7 +71,7 @@ module _ (l : Layout) (s : Store) (few : l.pages ≤ 2 ^ 11) (h : IsBlank l s) w
     spaced = subst (AreSpacedFrom 0) (sym no-runs) tt;
     within = λ q less. omega (arith, no-pages q, less);
     ends = λ q le.
-      ap (λ (ns : List ℕ). get_or ns q 0) h.ends.0 ∙ zero-at (l.pages + 1) q ∙ sym (ap (ending q) no-runs);
+        ap (λ (ns : List ℕ). get_or ns q 0) h.ends.0 ∙ zero-at (l.pages + 1) q ∙ sym (ap (ending q) no-runs);
     held = λ q less. subst (λ (n : ℕ). IsHeld l q n (get_or s.pieces.items q None)) (sym (no-pages q)) (h.none q);
     marked = record {
       set = λ a q small less at. absurd (omega (arith, at.0, no-pages q));

@@ -4,7 +4,6 @@ use Rattle.std.proofs.lemmas.Bool.{cases_eq, cases_lt}
 use Rattle.size_classes.specs.Spans.{Span, merged_before, merged, placed_in, given_back, AreApart, AreSpacedFrom}
 use Rattle.size_classes.proofs.Runs.{EachPair}
 use Rattle.run_map.specs.Lengths.{without, beginning, ending}
-use Rattle.run_map.specs.Spaced.{IsRun}
 use Rattle.run_map.specs.Stored.{stored, IsStore}
 use Rattle.run_map.specs.declared.runs.Layout.{Layout}
 use Rattle.run_map.specs.declared.store.Store.{Store}

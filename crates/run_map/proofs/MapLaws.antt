@@ -1,14 +1,13 @@
 -- A map as contracts see it: its sizes, and that what is out stays out.
-use Rattle.std.proofs.Common.{◌≡◌, ℕ, ◌+◌, ◌*◌, ◌/◌, ◌%◌, ◌^◌, ◌<◌, ◌≤◌, List, [], ◌∷◌, length, refl, sym, ap, ap₂, ◌∙◌, subst, arith, Some, None}
+use Rattle.std.proofs.Common.{◌≡◌, ℕ, ◌+◌, ◌*◌, ◌/◌, ◌%◌, ◌^◌, ◌<◌, ◌≤◌, length, sym, ap, ap₂, ◌∙◌, subst, arith, Some}
 use Rattle.std.proofs.lemmas.Nat.{div-mul-add, mod-mul-add}
 use Rattle.ground.specs.Ground.{Segment}
-use Rattle.size_classes.specs.Sizes.{Geometry, IsGeometry, IsPage, IsPageClass, of_pages}
+use Rattle.size_classes.specs.Sizes.{IsGeometry, IsPageClass, of_pages}
 use Rattle.size_classes.specs.Pages.{chosen}
 use Rattle.size_classes.specs.Spans.{Span, taken_from, given_back, AreApart, AreSpacedFrom, IsOut}
-use Rattle.size_classes.proofs.Geometries.{by_page}
 use Rattle.size_classes.proofs.PageClasses.{page_class-within}
 use Rattle.size_classes.proofs.Runs.{EachPair, IfThere, chosen-one}
-use Rattle.size_classes.proofs.OutLaws.{IsAmong, each-of, all-of, taken-apart, taken-fits, taken-out, given-apart}
+use Rattle.size_classes.proofs.OutLaws.{each-of, all-of, taken-apart, taken-fits, taken-out, given-apart}
 use Rattle.size_classes.proofs.ChosenLaws.{chosen-among}
 use Rattle.run_map.specs.declared.map.RunMap.TheInside.{Inside}
 use Rattle.run_map.specs.FreeRuns.{FreeRuns, geometry_in, with_runs, span_of, IsTaken, ArePagesOut, KeepsOut, KeepsOutBut}

@@ -1,5 +1,5 @@
 -- A map that is made: the layout of its chunk, and the one run that it has.
-use Rattle.std.proofs.Common.{◌≡◌, ℕ, ◌+◌, ◌*◌, ◌/◌, ◌%◌, ◌^◌, ◌<◌, ◌≤◌, List, [], ◌∷◌, length, refl, sym, ap, ap₂, ◌∙◌, subst, arith, lit<}
+use Rattle.std.proofs.Common.{◌≡◌, ℕ, ◌*◌, ◌/◌, ◌^◌, ◌<◌, ◌≤◌, List, [], ◌∷◌, length, sym, ap, ap₂, ◌∙◌, subst, arith, lit<}
 use Rattle.std.proofs.lemmas.Nat.{shr_split, pow_pos}
 use Rattle.ground.specs.Ground.{Origin, Segment}
 use Rattle.size_classes.specs.Sizes.{IsPage}
@@ -8,7 +8,6 @@ use Rattle.size_classes.proofs.Geometries.{by_page}
 use Rattle.run_map.specs.FreeRuns.{FreeRuns, IsChunk, all_free}
 use Rattle.run_map.specs.Spaced.{IsLayout, IsRun}
 use Rattle.run_map.specs.declared.runs.Layout.{Layout}
-use Rattle.run_map.specs.declared.runs.FreeRun.{FreeRun}
 use Rattle.run_map.proofs.Totals.{pages_in, total-one}
 
 -- what is known of the layout of a chunk, and of its memory

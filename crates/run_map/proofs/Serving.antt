@@ -1,23 +1,21 @@
 -- The run that serves a request, by the bits of a store: it is the one that the rule chooses.
-use Rattle.std.proofs.Common.{◌≡◌, ◌⊎◌, ℕ, ◌+◌, ◌-◌, ◌*◌, ◌/◌, ◌%◌, ◌^◌, ◌<◌, ◌≤◌, Bool, true, false, List, Option, Some, None, length, refl, sym, ap, ap₂, ◌∙◌, subst, arith, w64, eq-eqb, ne_eqb}
-use Rattle.std.specs.Prelude.{nat_le, ◌==◌, ◌&&◌, if◌then◌else◌, MatchOption}
+use Rattle.std.proofs.Common.{◌≡◌, ◌⊎◌, ℕ, ◌+◌, ◌-◌, ◌*◌, ◌/◌, ◌%◌, ◌^◌, ◌<◌, ◌≤◌, Bool, true, false, List, Some, refl, sym, ap, ap₂, ◌∙◌, subst, arith, w64, eq-eqb, ne_eqb}
+use Rattle.std.specs.Prelude.{nat_le, ◌==◌, ◌&&◌}
 use Rattle.std.specs.Int.{bit_at, trailing_zeros}
-use Rattle.std.proofs.lemmas.Bool.{cases_lt, le-leb, lt-leb}
+use Rattle.std.proofs.lemmas.Bool.{cases_lt, le-leb}
 use Rattle.std.proofs.lemmas.Nat.{shr-shr, shr_le}
 use Rattle.std.proofs.lemmas.Nat.Bits.{bit_at-zero, bit_at-trailing_zeros}
 use Rattle.size_classes.specs.Sizes.{Geometry, IsGeometry, IsPageClass, page_class_under}
 use Rattle.size_classes.specs.PageCounts.{page_count_at, IsLastAtMost}
 use Rattle.size_classes.specs.Pages.{least_class, chosen}
 use Rattle.size_classes.specs.Spans.{Span, AreShorter}
-use Rattle.size_classes.proofs.Runs.{EachPair}
 use Rattle.size_classes.proofs.OutLaws.{IsAmong, all-of}
 use Rattle.size_classes.proofs.CountLaws.{count-mono}
-use Rattle.run_map.specs.Stored.{stored, pages_at, is_marked, StandsAt, IsStore, IsUnmarked, AreUnnoted, IsLeastNoted, IsUnserved, IsServing}
+use Rattle.run_map.specs.Stored.{stored, pages_at, is_marked, StandsAt, IsStore, IsUnmarked, AreUnnoted, IsUnserved, IsServing}
 use Rattle.run_map.specs.declared.runs.Layout.{Layout}
 use Rattle.run_map.specs.declared.store.Store.{Store}
 use Rattle.run_map.proofs.Choosing.{stands-under, class-rises, same-class, class-under-is, class-pages, least-found, find-first}
 use Rattle.run_map.proofs.LengthLaws.{spans-among}
-use Rattle.run_map.proofs.StoreSteps.{there-begins}
 use Rattle.run_map.proofs.StoredRuns.{each-among, among-stored}
 use mathlib.Core.Logic.{inl, inr}
 
@@ -41,15 +39,14 @@ lowest-noted s from some fits =
     let zeros = bit_at-trailing_zeros w64 word some (omega (arith, shr_le s.noted from, fits)) in (
       sym (bit-later s.noted from (trailing_zeros w64 word)) ∙ zeros.1,
       λ class later less.
-        let at : from + (class - from) ≡ class = omega (arith, later) in
-        ap (bit_at s.noted) (sym at) ∙ sym (bit-later s.noted from (class - from))
-        ∙ zeros.2 (class - from) (omega (arith, later, less)),
+          let at : from + (class - from) ≡ class = omega (arith, later) in
+          ap (bit_at s.noted) (sym at) ∙ sym (bit-later s.noted from (class - from))
+          ∙ zeros.2 (class - from) (omega (arith, later, less)),
     )
 
 -- ---- what the bits say of the runs
 
 module _ (l : Layout) (s : Store) (is : IsStore l s) where
-
   -- a page that is marked is the first of a run that stands under the class
   marked-stands : (class first : ℕ) → class < 40 → first < 64 * s.width → is_marked s class first ≡ 1 → StandsAt s class first
   marked-stands class first few there mark =
@@ -117,7 +114,6 @@ not-second false b e = refl
 
 module _ (l : Layout) (s : Store) (is : IsStore l s) (g : Geometry) (h : IsGeometry g) (many : l.pages ≡ 2 ^ g.order)
     (pages first : ℕ) (own : IsPageClass g pages) (serves : IsServing s pages first) where
-
   abbrev runs : List Span
   runs = stored s
 
@@ -183,9 +179,9 @@ module _ (l : Layout) (s : Store) (is : IsStore l s) (g : Geometry) (h : IsGeome
       let u = stands-under x.1 fits.0 (omega (arith, fits.1, is.long.few)) in
       let mark = run-marked l s is x there u.class u.few u.last in
       let differs : page_class_under g x.1 ≡ least_class g pages runs → ⊥ = λ e.
-        let same : u.class ≡ class =
-        same-class u.class class u.few few (sym (under x there u.class u.few u.last) ∙ e ∙ least) in
-        omega (arith, mark, ap (λ (c : ℕ). is_marked s c x.0) same, serves.lowest.below x.0 less) in
+      let same : u.class ≡ class =
+      same-class u.class class u.few few (sym (under x there u.class u.few u.last) ∙ e ∙ least) in
+      omega (arith, mark, ap (λ (c : ℕ). is_marked s c x.0) same, serves.lowest.below x.0 less) in
       not-second (nat_le pages x.1) (page_class_under g x.1 == least_class g pages runs)
       (ne_eqb (page_class_under g x.1) (least_class g pages runs) differs)
 

@@ -6,7 +6,7 @@ use Rattle.size_classes.proofs.Runs.{EachPair}
 use Rattle.size_classes.proofs.OutLaws.{IsAmong, among-later}
 use Rattle.run_map.specs.Lengths.{without, beginning, ending}
 use Rattle.run_map.proofs.StoreSteps.{among-beginning, spaced-lower}
-use Rattle.run_map.proofs.SpanSteps.{none-begins, none-ends, ending-later, ending-here, ending-past, beginning-past, without-here, without-past, placed-past}
+use Rattle.run_map.proofs.SpanSteps.{none-begins, none-ends, ending-here, ending-past, beginning-past, without-here, without-past, placed-past}
 use mathlib.Core.Logic.{inl, inr}
 
 beginning-here : (at : ℕ) (s : Span) (runs : List Span) → s.0 ≡ at → beginning at (s ∷ runs) ≡ s.1

@@ -1,8 +1,8 @@
 -- A take and a give as the steps that the map makes: runs that go, and one that comes.
-use Rattle.std.proofs.Common.{◌≡◌, ◌⊎◌, ℕ, zero, suc, ◌+◌, ◌-◌, ◌<◌, ◌≤◌, Bool, true, false, List, [], ◌∷◌, ◌++◌, length, refl, sym, ap, ◌∙◌, subst, arith, eq-eqb, ne_eqb, lt-ltb, le-ltb, eqb-true}
+use Rattle.std.proofs.Common.{◌≡◌, ◌⊎◌, ℕ, ◌+◌, ◌-◌, ◌<◌, ◌≤◌, false, List, [], ◌∷◌, ◌++◌, refl, sym, ap, ◌∙◌, arith, eq-eqb, ne_eqb, lt-ltb, le-ltb, eqb-true}
 use Rattle.std.specs.Prelude.{nat_lt, ◌==◌, if◌then◌else◌}
 use Rattle.std.proofs.lemmas.Bool.{cond_both, cases_eq, cases_lt}
-use Rattle.size_classes.specs.Spans.{Span, rest_of, taken_from, merged_before, merged, placed_in, given_back, AreApart, AreSpacedFrom}
+use Rattle.size_classes.specs.Spans.{Span, taken_from, merged_before, merged, placed_in, given_back, AreApart, AreSpacedFrom}
 use Rattle.size_classes.proofs.Runs.{EachPair}
 use Rattle.size_classes.proofs.OutLaws.{IsAmong, among-later, begin-later}
 use Rattle.run_map.specs.Lengths.{without, beginning, ending}

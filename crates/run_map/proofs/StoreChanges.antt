@@ -9,7 +9,7 @@ use Rattle.size_classes.specs.PageCounts.{IsLastAtMost}
 use Rattle.size_classes.specs.Spans.{Span, placed_in, AreSpacedFrom}
 use Rattle.run_map.specs.Lengths.{spans_from, without, beginning, ending}
 use Rattle.run_map.specs.Spaced.{IsPart, IsRun, span_of_run}
-use Rattle.run_map.specs.Stored.{stored, pages_at, mark_of, IsHeld, AreLong, IsNotedAnew, IsStore}
+use Rattle.run_map.specs.Stored.{stored, pages_at, IsHeld, AreLong, IsNotedAnew, IsStore}
 use Rattle.run_map.specs.declared.runs.FreeRun.{FreeRun}
 use Rattle.run_map.specs.declared.runs.Layout.{Layout}
 use Rattle.run_map.specs.declared.store.Store.{Store}
@@ -35,7 +35,6 @@ pub record Changes (s t : Store) (class first end pages bit : ℕ) (piece : Opti
 
 module _ (l : Layout) (s t : Store) (class first end pages bit : ℕ) (piece : Option Segment)
     (h : Changes s t class first end pages bit piece) (long : AreLong l s) (there : first < l.pages) (close : end ≤ l.pages) where
-
   long-kept : AreLong l t
   long-kept = record {
     few = long.few;

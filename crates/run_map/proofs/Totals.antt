@@ -1,9 +1,9 @@
 -- The pages of all free runs, counted: what a take and a give make of their number.
-use Rattle.std.proofs.Common.{◌≡◌, ◌⊎◌, ℕ, ◌+◌, ◌-◌, ◌<◌, ◌≤◌, List, [], ◌∷◌, ◌++◌, refl, sym, ap, ◌∙◌, arith, eqb-true}
+use Rattle.std.proofs.Common.{◌≡◌, ℕ, ◌+◌, ◌-◌, ◌≤◌, List, [], ◌∷◌, ◌++◌, refl, ap, ◌∙◌, arith, eqb-true}
 use Rattle.std.specs.Prelude.{sum, nat_lt, ◌==◌}
 use Rattle.std.proofs.lemmas.Bool.{cond_both, eq-eqb, ne_eqb}
 use Rattle.std.proofs.lemmas.List.Sums.{sum_by-cons}
-use Rattle.size_classes.specs.Spans.{Span, run_lengths, rest_of, taken_from, merged_before, merged, placed_in, given_back, AreSpacedFrom}
+use Rattle.size_classes.specs.Spans.{Span, run_lengths, taken_from, merged_before, merged, placed_in, given_back, AreSpacedFrom}
 use Rattle.size_classes.proofs.Runs.{EachPair}
 use Rattle.size_classes.proofs.OutLaws.{IsAmong, among-later}
 use mathlib.Core.Logic.{inl, inr}

@@ -1,5 +1,5 @@
 -- Free runs by the page where they begin, as a `Store` has them. No public clause cites this module.
-use Rattle.std.specs.Prelude.{◌≡◌, ◌≢◌, ℕ, zero, suc, ◌+◌, ◌*◌, ◌^◌, ◌<◌, ◌≤◌, ◌↔◌, List, length, slice_index, slice_index_or, Option, None, MatchOption}
+use Rattle.std.specs.Prelude.{◌≡◌, ◌≢◌, ℕ, zero, suc, ◌+◌, ◌*◌, ◌^◌, ◌<◌, ◌≤◌, List, length, slice_index, slice_index_or, Option, None, MatchOption}
 use Rattle.std.specs.Int.{bit_at}
 use Rattle.ground.specs.Ground.{Segment}
 use Rattle.bit_words.specs.Words.{bit_of}

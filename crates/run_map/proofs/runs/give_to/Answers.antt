@@ -1,5 +1,5 @@
-use Rattle.std.proofs.Common.{◌≡◌, ◌∙◌, sym, subst, arith, ◌≤◌}
-use Rattle.size_classes.specs.Spans.{Span, placed_in, given_back, AreApart, AreSpacedFrom}
+use Rattle.std.proofs.Common.{◌∙◌, sym, subst, arith}
+use Rattle.size_classes.specs.Spans.{Span, AreApart, AreSpacedFrom}
 use Rattle.size_classes.proofs.OutLaws.{each-of}
 use Rattle.run_map.specs.Spaced.{span_of_run}
 use Rattle.run_map.specs.Stored.{stored}

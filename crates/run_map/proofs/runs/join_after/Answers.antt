@@ -1,4 +1,4 @@
-use Rattle.std.proofs.Common.{◌≡◌, ℕ, ◌+◌, ◌<◌, refl, sym, ap, ◌∙◌, arith}
+use Rattle.std.proofs.Common.{◌≡◌, ℕ, ◌+◌, refl, sym, ◌∙◌, arith}
 use Rattle.run_map.specs.Lengths.{beginning}
 use Rattle.run_map.specs.Stored.{stored}
 use Rattle.run_map.proofs.StoreSteps.{begins-value}
@@ -16,10 +16,10 @@ none-behind c =
     let end : ℕ = c.args.run.first + c.args.run.pages in
     let is = c.requires.store.1 in
     elim c.then-end-layout.branch [
-      then-end-layout-via-then-end-layout w ↦ none-past l s end is (omega (arith, w.if-end-layout.true)) |
-      then-end-layout-via-else-end-layout+then-index-eq0 w ↦
-        sym (begins-value s.begins.items end w.index.result.now
-        (omega (arith, w.if-end-layout.false, c.requires.run.within, is.long.begins)) w.index.ensures) ∙ w.if-index-eq0.true
+      | then-end-layout-via-then-end-layout w ↦ none-past l s end is (omega (arith, w.if-end-layout.true))
+      | then-end-layout-via-else-end-layout+then-index-eq0 w ↦
+          sym (begins-value s.begins.items end w.index.result.now
+          (omega (arith, w.if-end-layout.false, c.requires.run.within, is.long.begins)) w.index.ensures) ∙ w.if-index-eq0.true
     ]
 
 pub returns-then-end-layout-clause-runs : goal.returns-then-end-layout-clause-runs

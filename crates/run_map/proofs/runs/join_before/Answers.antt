@@ -1,7 +1,6 @@
-use Rattle.std.proofs.Common.{◌≡◌, ℕ, ◌+◌, ◌-◌, ◌<◌, ◌≤◌, List, refl, sym, ap, ◌∙◌, subst, arith}
-use Rattle.size_classes.specs.Spans.{Span, AreApart}
+use Rattle.std.proofs.Common.{◌≡◌, ℕ, ◌+◌, ◌-◌, refl, ap, ◌∙◌, arith}
+use Rattle.size_classes.specs.Spans.{AreApart}
 use Rattle.size_classes.proofs.OutLaws.{each-of}
-use Rattle.run_map.specs.Lengths.{beginning, ending}
 use Rattle.run_map.specs.Spaced.{span_of_run}
 use Rattle.run_map.specs.Stored.{stored}
 use Rattle.run_map.proofs.SpanEnds.{ending-begins}

@@ -1,5 +1,5 @@
-use Rattle.std.proofs.Common.{◌≡◌, ℕ, ◌+◌, ◌-◌, ◌<◌, ◌≤◌, List, arith, refl, sym, ap, ◌∙◌, subst}
-use Rattle.size_classes.specs.Spans.{Span, placed_in, AreSpacedFrom}
+use Rattle.std.proofs.Common.{ℕ, ◌+◌, ◌-◌, ◌<◌, List, arith, refl, sym, ap, ◌∙◌, subst}
+use Rattle.size_classes.specs.Spans.{Span, AreSpacedFrom}
 use Rattle.run_map.specs.declared.runs.FreeRun.{FreeRun}
 use Rattle.run_map.specs.Stored.{stored}
 use Rattle.run_map.proofs.Parts.{front_part, rest_run}

@@ -1,4 +1,4 @@
-use Rattle.std.proofs.Common.{◌≡◌, ℕ, ◌+◌, ◌≤◌, ◌++◌, List, Option, None, [], ◌∷◌, length, get_or, refl, sym, ap, ◌∙◌, arith, length-append, subst}
+use Rattle.std.proofs.Common.{ℕ, ◌+◌, List, Option, None, [], ◌∷◌, length, get_or, ap, ◌∙◌, arith, length-append}
 use Rattle.ground.specs.Ground.{Segment}
 use Rattle.run_map.proofs.EmptyStore.{none-appended}
 use Rattle.run_map.proofs.store.no_pieces.Goals as goal

@@ -1,4 +1,4 @@
-use Rattle.std.proofs.Common.{◌^◌, ◌*◌, ◌≤◌, Fits-le, Fits-lit, arith}
+use Rattle.std.proofs.Common.{◌^◌, Fits-le, Fits-lit, arith}
 use Rattle.std.proofs.Math.Nat.{mul-le-mul_right}
 use Rattle.run_map.proofs.MapLaws.{few-free}
 use Rattle.run_map.proofs.map.RunMap.free_bytes.Goals as goal

@@ -1,6 +1,5 @@
-use Rattle.std.proofs.Common.{◌≡◌, ℕ, ◌+◌, ◌*◌, ◌^◌, ◌<◌, List, [], ◌∷◌, refl, sym, ap, ◌∙◌, arith}
+use Rattle.std.proofs.Common.{◌≡◌, ℕ, ◌*◌, ◌^◌, [], ◌∷◌, sym, ap, ◌∙◌, arith}
 use Rattle.std.proofs.lemmas.Nat.{pow_pos}
-use Rattle.size_classes.specs.Spans.{Span}
 use Rattle.run_map.specs.FreeRuns.{FreeRuns}
 use Rattle.run_map.specs.Lengths.{beginning, without}
 use Rattle.run_map.specs.Stored.{stored}
@@ -31,8 +30,7 @@ returns c =
     let part = c.pull-piece.ensures.run.part in
     let place = c.pull-piece.ensures.place in
     let pages : run.pages ≡ m.layout.pages =
-    place.1 ∙ ap (beginning 0) all ∙ ap (λ (v : FreeRuns). 2 ^ v.order) (sym c.self.view_is) ∙ sym h.pages in
-    (
+    place.1 ∙ ap (beginning 0) all ∙ ap (λ (v : FreeRuns). 2 ^ v.order) (sym c.self.view_is) ∙ sym h.pages in (
       (
         part.start ∙ ap (λ (k : ℕ). k * m.layout.page) place.0 ∙ omega arith,
         part.size ∙ ap (λ (k : ℕ). k * m.layout.page) pages ∙ sym h.size ∙ ap (λ o. o.size) (sym part.origin),

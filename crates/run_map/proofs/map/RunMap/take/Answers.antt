@@ -1,6 +1,6 @@
-use Rattle.std.proofs.Common.{◌≡◌, ℕ, ◌+◌, ◌-◌, ◌<◌, ◌≤◌, List, Some, refl, sym, ap, ◌∙◌, subst, arith}
-use Rattle.size_classes.specs.Sizes.{IsGeometry, of_pages}
-use Rattle.size_classes.specs.Spans.{Span, taken_from, AreShorter}
+use Rattle.std.proofs.Common.{refl, ap, subst, arith}
+use Rattle.size_classes.specs.Sizes.{of_pages}
+use Rattle.size_classes.specs.Spans.{AreShorter}
 use Rattle.size_classes.proofs.ChosenLaws.{shorter-none}
 use Rattle.run_map.specs.FreeRuns.{FreeRuns, with_runs, geometry_in}
 use Rattle.run_map.specs.Held.{free_runs}

@@ -1,4 +1,4 @@
-use Rattle.std.proofs.Common.{◌≡◌, ℕ, None, slice_index_or, vec_len}
+use Rattle.std.proofs.Common.{◌≡◌, ℕ, None, slice_index_or}
 use Rattle.run_map.proofs.store.Store.close.Given as goal
 
 abbrev pub invariant-loop-piece : goal.invariant-loop-piece

@@ -1,4 +1,4 @@
-use Rattle.std.proofs.Common.{ℕ, ◌+◌, ◌/◌, ◌^◌, ◌<◌, ◌≤◌, arith}
+use Rattle.std.proofs.Common.{◌^◌, ◌<◌, arith}
 use Rattle.run_map.proofs.Serving.{none-noted, lowest-noted}
 use Rattle.run_map.proofs.store.Store.least_noted.Goals as goal
 

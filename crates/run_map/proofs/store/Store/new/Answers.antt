@@ -1,4 +1,4 @@
-use Rattle.std.proofs.Common.{◌≡◌, refl}
+use Rattle.std.proofs.Common.{refl}
 use Rattle.run_map.specs.declared.store.Store.{Store}
 use Rattle.run_map.proofs.EmptyStore.{IsBlank, no-runs, blank-store}
 use Rattle.run_map.proofs.store.Store.new.Goals as goal
