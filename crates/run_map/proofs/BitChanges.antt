@@ -68,7 +68,8 @@ module _ (s t : Store) (class first bit : ℕ) (h : ChangesMark s t class first 
 
 -- ---- a run goes
 
-module _ (l : Layout) (s t : Store) (class first n : ℕ) (h : ChangesMark s t class first 0) (there : first < 64 * s.width)
+module _ (l : Layout) (s t : Store) (class first n : ℕ) (h : ChangesMark s t class first 0)
+    (there : first < 64 * s.width)
     (few : class < 40) (stood : pages_at s first ≡ n) (last : IsLastAtMost n class)
     (gone : pages_at t first ≡ 0) (rest : (q : ℕ) → q ≢ first → pages_at t q ≡ pages_at s q) where
   stands-on : (a q : ℕ) → q ≢ first → StandsAt t a q → StandsAt s a q
@@ -98,7 +99,8 @@ module _ (l : Layout) (s t : Store) (class first n : ℕ) (h : ChangesMark s t c
           marked-other s t class first 0 h there a q less (λ _ e. ne e)
           ∙ m.clear a q small less (λ is. not (subst (λ (k : ℕ). (0 < k) × IsLastAtMost k a) (sym (rest q ne)) is))
 
-module _ (s t : Store) (class first : ℕ) (h : ChangesMark s t class first 0) (there : first < 64 * s.width) (few : class < 40) where
+module _ (s t : Store) (class first : ℕ) (h : ChangesMark s t class first 0) (there : first < 64 * s.width)
+    (few : class < 40) where
   pub pulled-noted : AreNoted s → IsNotedAnew class s.noted t → AreNoted t
   pulled-noted was is = record {
     one = λ a q small mark less.
@@ -131,7 +133,8 @@ module _ (s t : Store) (class first : ℕ) (h : ChangesMark s t class first 0) (
 
 -- ---- a run comes
 
-module _ (l : Layout) (s t : Store) (class first n : ℕ) (h : ChangesMark s t class first 1) (there : first < 64 * s.width)
+module _ (l : Layout) (s t : Store) (class first n : ℕ) (h : ChangesMark s t class first 1)
+    (there : first < 64 * s.width)
     (few : class < 40) (none : pages_at s first ≡ 0) (last : IsLastAtMost n class) (some : 0 < n)
     (come : pages_at t first ≡ n) (rest : (q : ℕ) → q ≢ first → pages_at t q ≡ pages_at s q) where
   pub put-marked : AreMarked l s → l.pages ≤ 64 * s.width → AreMarked l t
@@ -162,7 +165,8 @@ module _ (l : Layout) (s t : Store) (class first n : ℕ) (h : ChangesMark s t c
           marked-other s t class first 1 h there a q less (λ _ e. ne e)
           ∙ m.clear a q small less (λ is. not (subst (λ (k : ℕ). (0 < k) × IsLastAtMost k a) (sym (rest q ne)) is))
 
-module _ (s t : Store) (class first : ℕ) (h : ChangesMark s t class first 1) (there : first < 64 * s.width) (few : class < 40) where
+module _ (s t : Store) (class first : ℕ) (h : ChangesMark s t class first 1) (there : first < 64 * s.width)
+    (few : class < 40) where
   pub put-noted : AreNoted s → ChangesBit class 1 (s.noted ∷ []) (t.noted ∷ []) → AreNoted t
   put-noted was is = record {
     one = λ a q small mark less.

@@ -24,12 +24,15 @@ pub record StandsUnder (n : ℕ) : Type 0 where
   pub last : IsLastAtMost n class
 
 stands-below : (k n : ℕ) → 0 < n → k < 40 → n < page_count_at (k + 1) → StandsUnder n
-stands-below zero n some few less = record { class = 0; few = few; last = record { holds = omega (arith, some); next = less } }
+stands-below zero n some few less =
+    record { class = 0; few = few; last = record { holds = omega (arith, some); next = less } }
 stands-below (suc k) n some few less =
     by (cases_lt n (page_count_at (suc k)))
-    (λ fewer. stands-below k n some (omega (arith, few)) (subst (λ (j : ℕ). n < page_count_at j) (sym (add-one k)) fewer))
+    (λ fewer. stands-below k n some (omega (arith, few))
+    (subst (λ (j : ℕ). n < page_count_at j) (sym (add-one k)) fewer))
   where
-    by : (n < page_count_at (suc k)) ⊎ (page_count_at (suc k) ≤ n) → (n < page_count_at (suc k) → StandsUnder n) → StandsUnder n
+    by : (n < page_count_at (suc k)) ⊎ (page_count_at (suc k) ≤ n) → (n < page_count_at (suc k) → StandsUnder n) →
+        StandsUnder n
     by (inl fewer) ih = ih fewer
     by (inr le) ih = record { class = suc k; few = few; last = record { holds = le; next = less } }
 
@@ -52,7 +55,12 @@ same-class i j few small e = by (cases_lt i j) (cases_lt j i)
   where
     apart : (a b : ℕ) → b < 40 → a < b → page_count_at a < page_count_at b
     apart a b less below =
-        omega (arith, count-rises a (omega (arith, less, below)), count-mono (a + 1) b (omega (arith, below)) (omega (arith, less)))
+        omega (
+          arith,
+          count-rises a (omega (arith, less, below)),
+          count-mono (a + 1) b (omega (arith, below))
+              (omega (arith, less)),
+        )
 
     by : (i < j) ⊎ (j ≤ i) → (j < i) ⊎ (i ≤ j) → i ≡ j
     by (inl less) _ = absurd (omega (arith, apart i j small less, e))
@@ -72,7 +80,8 @@ greatest-more n y xs =
     by true a = refl
     by false a = refl
 
-greatest-up : (n k : ℕ) → page_count_at k ≤ n → k ≤ 255 → greatest_at_most n (first_page_counts (suc k)) ≡ page_count_at k
+greatest-up : (n k : ℕ) → page_count_at k ≤ n → k ≤ 255 →
+    greatest_at_most n (first_page_counts (suc k)) ≡ page_count_at k
 greatest-up n zero le few =
     greatest-more n (page_count_at 0) []
     ∙ ap (λ (b : Bool). if b then max 0 (page_count_at 0) else 0) (le-leb (page_count_at 0) n le)
@@ -85,7 +94,8 @@ greatest-up n (suc k) le few =
     ∙ ap (λ (a : ℕ). max a (page_count_at (suc k))) ih
     ∙ omega (arith, rises)
 
-greatest-is : (n i k : ℕ) → i < k → k ≤ 255 → IsLastAtMost n i → greatest_at_most n (first_page_counts k) ≡ page_count_at i
+greatest-is : (n i k : ℕ) → i < k → k ≤ 255 → IsLastAtMost n i →
+    greatest_at_most n (first_page_counts k) ≡ page_count_at i
 greatest-is n i zero less few last = absurd (omega (arith, less))
 greatest-is n i (suc k) less few last = by (cases_lt i k) (λ more. greatest-is n i k more (omega (arith, few)) last)
   where
@@ -155,7 +165,8 @@ least-stays p m f [] some h = refl
 least-stays p m f (r ∷ runs) some h =
     let ih = least-stays p m f runs some h.1 in
     cond_both (nat_le p r.1) (r ∷ long_enough p runs) (long_enough p runs) (λ l. fold lower m (map f l) ≡ m)
-    (λ holds. ap (λ (a : ℕ). fold lower a (map f (long_enough p runs))) (lower-first m (f r) some (h.0 (leb-true p r.1 holds))) ∙ ih)
+    (λ holds. ap (λ (a : ℕ). fold lower a (map f (long_enough p runs)))
+    (lower-first m (f r) some (h.0 (leb-true p r.1 holds))) ∙ ih)
     (λ _. ih)
 
 pub least-found : (p m : ℕ) (f : Span → ℕ) (a : ℕ) (runs : List Span) (x : Span) → 0 < m →
@@ -176,7 +187,8 @@ least-found p m f a (r ∷ runs) x some h (inr is) le e from =
 
 -- ---- the first that passes
 
-pub find-first : (test : Span → Bool) (low : ℕ) (runs : List Span) (x : Span) → AreSpacedFrom low runs → IsAmong x runs →
+pub find-first : (test : Span → Bool) (low : ℕ) (runs : List Span) (x : Span) → AreSpacedFrom low runs →
+    IsAmong x runs →
     test x ≡ true → ((r : Span) → IsAmong r runs → r.0 < x.0 → test r ≡ false) → find test runs ≡ Some x
 find-first test low [] x h is passes before = absurd is
 find-first test low (r ∷ runs) x h (inl e) passes before =

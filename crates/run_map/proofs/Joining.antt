@@ -32,7 +32,8 @@ pub given-spaced : (low : ℕ) (r : Span) (runs : List Span) → low ≤ r.0 →
 given-spaced low r [] from some h apart = (from, some, tt)
 given-spaced low r (s ∷ runs) from some h apart =
     by (cases_lt r.0 s.0) apart.0
-    (λ le. given-spaced (s.0 + s.1) r runs le some (spaced-lower (s.0 + s.1) (s.0 + s.1 + 1) runs (omega arith) h.2) apart.1)
+    (λ le. given-spaced (s.0 + s.1) r runs le some (spaced-lower (s.0 + s.1) (s.0 + s.1 + 1) runs (omega arith) h.2)
+    apart.1)
   where
     by : (r.0 < s.0) ⊎ (s.0 ≤ r.0) → AreApart r s → (s.0 + s.1 ≤ r.0 → AreSpacedFrom (s.0 + s.1) (given_back r runs)) →
         AreSpacedFrom low (given_back r (s ∷ runs))
@@ -47,9 +48,11 @@ given-spaced low r (s ∷ runs) from some h apart =
         (before-spaced low s (given_back r runs) h.0 h.1 (ih near))
 
 -- the run before goes, and the run behind, and the joined one comes
-pub joined-placed : (r j k : Span) (runs one two : List Span) → 0 < r.1 → AreSpacedFrom 0 runs → EachPair (AreApart r) runs →
+pub joined-placed : (r j k : Span) (runs one two : List Span) → 0 < r.1 → AreSpacedFrom 0 runs →
+    EachPair (AreApart r) runs →
     one ≡ without (r.0 - ending r.0 runs) runs → j.0 ≡ r.0 - ending r.0 runs → j.1 ≡ ending r.0 runs + r.1 →
-    two ≡ without (j.0 + j.1) one → k.0 ≡ j.0 → k.1 ≡ j.1 + beginning (j.0 + j.1) one → placed_in k two ≡ given_back r runs
+    two ≡ without (j.0 + j.1) one → k.0 ≡ j.0 → k.1 ≡ j.1 + beginning (j.0 + j.1) one →
+    placed_in k two ≡ given_back r runs
 joined-placed r j k runs one two some h apart once from size twice start long =
     let e : ℕ = ending r.0 runs in
     let at : ℕ = r.0 - e in
@@ -86,7 +89,8 @@ none-past l s p is past = by (cases_lt 0 (beginning p (stored s)))
     by (inr none) = omega (arith, none)
 
 -- where no run ends before, none goes
-pub none-before : (s : Store) (r : Span) (x : ℕ) → AreSpacedFrom 0 (stored s) → 0 < r.1 → EachPair (AreApart r) (stored s) →
+pub none-before : (s : Store) (r : Span) (x : ℕ) → AreSpacedFrom 0 (stored s) → 0 < r.1 →
+    EachPair (AreApart r) (stored s) →
     x ≡ ending r.0 (stored s) → x ≡ 0 → stored s ≡ without (r.0 - ending r.0 (stored s)) (stored s)
 none-before s r x h some apart is none =
     let at : r.0 - ending r.0 (stored s) ≡ r.0 = omega (arith, is, none) in

@@ -8,7 +8,8 @@ use Rattle.run_map.specs.Lengths.{spans_from, without}
 use mathlib.Core.Logic.{inl, inr}
 
 -- a run that begins before all of them goes first
-placed-first : (low n : ℕ) (at : ℕ) (ns : List ℕ) → low < at → placed_in (low, n) (spans_from at ns) ≡ (low, n) ∷ spans_from at ns
+placed-first : (low n : ℕ) (at : ℕ) (ns : List ℕ) → low < at →
+    placed_in (low, n) (spans_from at ns) ≡ (low, n) ∷ spans_from at ns
 placed-first low n at [] less = refl
 placed-first low n at (m ∷ ns) less =
     cond_both (m == 0) (spans_from (at + 1) ns) ((at, m) ∷ spans_from (at + 1) ns)
@@ -30,7 +31,8 @@ spans-put at (suc i) n (m ∷ ns) there none some =
     by (spans-put (at + 1) i n ns (omega (arith, there)) none some
     ∙ ap (λ (k : ℕ). placed_in (k, n) (spans_from (at + 1) ns)) same) (cases_eq m 0)
   where
-    by : spans_from (at + 1) (slice_set ns i n) ≡ placed_in (at + suc i, n) (spans_from (at + 1) ns) → (m ≡ 0) ⊎ (m ≡ 0 → ⊥) →
+    by : spans_from (at + 1) (slice_set ns i n) ≡ placed_in (at + suc i, n) (spans_from (at + 1) ns) →
+        (m ≡ 0) ⊎ (m ≡ 0 → ⊥) →
         spans_from at (m ∷ slice_set ns i n) ≡ placed_in (at + suc i, n) (spans_from at (m ∷ ns))
     by ih (inl e) = rw (eq-eqb m 0 e) ih
     by ih (inr ne) =
@@ -62,7 +64,8 @@ spans-clear at (suc i) (m ∷ ns) there =
     by (spans-clear (at + 1) i ns (omega (arith, there)) ∙ ap (λ (k : ℕ). without k (spans_from (at + 1) ns)) same)
     (cases_eq m 0)
   where
-    by : spans_from (at + 1) (slice_set ns i 0) ≡ without (at + suc i) (spans_from (at + 1) ns) → (m ≡ 0) ⊎ (m ≡ 0 → ⊥) →
+    by : spans_from (at + 1) (slice_set ns i 0) ≡ without (at + suc i) (spans_from (at + 1) ns) →
+        (m ≡ 0) ⊎ (m ≡ 0 → ⊥) →
         spans_from at (m ∷ slice_set ns i 0) ≡ without (at + suc i) (spans_from at (m ∷ ns))
     by ih (inl e) = rw (eq-eqb m 0 e) ih
     by ih (inr ne) =

@@ -29,7 +29,12 @@ geometry-is m h = record {
 -- no more pages are free than the chunk has
 pub few-free : (m : Inside) → IsRunMap m → m.total ≤ m.layout.pages
 few-free m h =
-    omega (arith, h.total, few-pages m.layout.pages (stored m.store) h.store.spaced (stored-within m.layout m.store h.store))
+    omega (
+      arith,
+      h.total,
+      few-pages m.layout.pages (stored m.store) h.store.spaced
+          (stored-within m.layout m.store h.store),
+    )
 
 -- a page class of the map as contracts see it
 pub class-in : (m : Inside) (v : FreeRuns) (pages : ℕ) → free_runs m ≡ v → IsPageClass (geometry_in v) pages →
@@ -37,25 +42,21 @@ pub class-in : (m : Inside) (v : FreeRuns) (pages : ℕ) → free_runs m ≡ v �
 class-in m v pages is class = subst (λ (x : FreeRuns). IsPageClass (geometry_in x) pages) (sym is) class
 
 -- a page class is no more than the largest chunk
-pub few-pages-of : (m : Inside) (v : FreeRuns) (pages : ℕ) → IsRunMap m → free_runs m ≡ v → IsPageClass (geometry_in v) pages →
+pub few-pages-of : (m : Inside) (v : FreeRuns) (pages : ℕ) → IsRunMap m → free_runs m ≡ v →
+    IsPageClass (geometry_in v) pages →
     (0 < pages) × (pages ≤ 2 ^ 11)
 few-pages-of m v pages h is class =
-    let within = page_class-within (of_pages m.order m.layout.page) (geometry-is m h) pages (class-in m v pages is class) in
+    let within =
+    page_class-within (of_pages m.order m.layout.page) (geometry-is m h) pages (class-in m v pages is class) in
     (within.0, omega (arith, within.1, h.pages, h.store.long.few))
 
 -- the run that serves a request
-pub served : (m : Inside) (v : FreeRuns) (pages first : ℕ) → IsRunMap m → free_runs m ≡ v → IsPageClass (geometry_in v) pages →
+pub served : (m : Inside) (v : FreeRuns) (pages first : ℕ) → IsRunMap m → free_runs m ≡ v →
+    IsPageClass (geometry_in v) pages →
     IsServing m.store pages first → IsServed (of_pages m.order m.layout.page) m.store pages first
 served m v pages first h is class serves =
     serving-chosen m.layout m.store h.store (of_pages m.order m.layout.page) (geometry-is m h) h.pages pages first
     (class-in m v pages is class) serves
-
--- a page class has pages
-pub some-pages : (m : Inside) (v : FreeRuns) (pages : ℕ) → IsRunMap m → free_runs m ≡ v →
-    IsPageClass (geometry_in v) pages → 0 < pages
-some-pages m v pages h is class =
-    let G : FreeRuns → Type 0 = λ x. IsGeometry (geometry_in x) in
-    (page_class-within (geometry_in v) (subst G is (geometry-is m h)) pages class).0
 
 -- what is known of the free runs that contracts see
 record AreRuns (v : FreeRuns) : Type 0 where
@@ -68,7 +69,9 @@ are-runs m v h is =
     subst AreRuns is (record {
       page = h.layout.page;
       spaced = h.store.spaced;
-      within = subst (λ (n : ℕ). EachPair (λ r. r.0 + r.1 ≤ n) (stored m.store)) h.pages (stored-within m.layout m.store h.store);
+      within =
+          subst (λ (n : ℕ). EachPair (λ r. r.0 + r.1 ≤ n) (stored m.store)) h.pages
+          (stored-within m.layout m.store h.store);
     })
 
 -- the span of so many whole pages
@@ -95,7 +98,8 @@ taken-is-out m v n pages s offset h is some taken =
     let among = chosen-among (geometry_in v) pages v.runs (offset, taken.long) taken.run in
     let span = span-is v.page offset pages s a.page taken.piece.start taken.piece.size in
     let left = taken_from offset pages v.runs in
-    let apart = all-of (AreApart (offset, pages)) left (taken-out 0 offset taken.long pages v.runs a.spaced among held.1) in
+    let apart =
+    all-of (AreApart (offset, pages)) left (taken-out 0 offset taken.long pages v.runs a.spaced among held.1) in
     subst (λ (x : FreeRuns). ArePagesOut x s) (sym taken.rest) (record {
       pages = record {
         origin = taken.piece.origin;

@@ -37,7 +37,8 @@ laid-out l order s h many page small =
       is = is;
     }
 
-pub whole-run : (l : Layout) (order : ℕ) (s : Segment) → IsChunk order s → l.pages ≡ 2 ^ order → l.site.origin ≡ s.origin →
+pub whole-run : (l : Layout) (order : ℕ) (s : Segment) → IsChunk order s → l.pages ≡ 2 ^ order →
+    l.site.origin ≡ s.origin →
     IsLaidOut l order s → IsRun l (record { first = 0; pages = l.pages; piece = s })
 whole-run l order s h many site laid = record {
   part = record { origin = sym site; start = omega (arith, h.whole.0); size = laid.whole };
@@ -57,7 +58,8 @@ pub one-total : (pages : ℕ) (old new : List Span) → new ≡ placed_in (0, pa
 one-total pages old new come none = sym (ap pages_in (one-run pages old new come none) ∙ total-one (0, pages))
 
 -- so all of the chunk is free
-pub all-free : (l : Layout) (order : ℕ) (s : Segment) (runs : List Span) → l.site.origin ≡ s.origin → l.page ≡ s.origin.size / 2 ^ order →
+pub all-free : (l : Layout) (order : ℕ) (s : Segment) (runs : List Span) → l.site.origin ≡ s.origin →
+    l.page ≡ s.origin.size / 2 ^ order →
     runs ≡ (0, l.pages) ∷ [] → l.pages ≡ 2 ^ order →
     ◌≡◌ {A = FreeRuns} (record { origin = l.site.origin; page = l.page; order = order; runs = runs }) (all_free order s)
 all-free l order s runs site page one many =

@@ -48,7 +48,8 @@ lowest-noted s from some fits =
 
 module _ (l : Layout) (s : Store) (is : IsStore l s) where
   -- a page that is marked is the first of a run that stands under the class
-  marked-stands : (class first : ℕ) → class < 40 → first < 64 * s.width → is_marked s class first ≡ 1 → StandsAt s class first
+  marked-stands : (class first : ℕ) → class < 40 → first < 64 * s.width → is_marked s class first ≡ 1 →
+      StandsAt s class first
   marked-stands class first few there mark =
       by (cases_lt 0 n) (cases_lt n (page_count_at class)) (cases_lt n (page_count_at (class + 1)))
     where
@@ -73,7 +74,8 @@ module _ (l : Layout) (s : Store) (is : IsStore l s) where
       let size : x.1 ≡ pages_at s x.0 = sym at.1 in
       is.marked.set class x.0 few at.0 (omega (arith, size, at.2), subst (λ (n : ℕ). IsLastAtMost n class) size last)
 
-  run-noted : (x : Span) → IsAmong x (stored s) → (class : ℕ) → class < 40 → IsLastAtMost x.1 class → bit_at s.noted class ≡ 1
+  run-noted : (x : Span) → IsAmong x (stored s) → (class : ℕ) → class < 40 → IsLastAtMost x.1 class →
+      bit_at s.noted class ≡ 1
   run-noted x among class few last =
       is.noted.one class x.0 few (run-marked x among class few last)
       (omega (arith, (among-stored l s x is among).0, is.long.width.0))
@@ -89,7 +91,8 @@ module _ (l : Layout) (s : Store) (is : IsStore l s) where
 
   pub serving-none : (pages : ℕ) → IsUnserved s pages → AreShorter pages (stored s)
   serving-none pages none =
-      all-of (λ r. r.1 < pages) (stored s) (each-among (λ r. r.1 < pages) (stored s) (λ x among. by x among (cases_lt x.1 pages)))
+      all-of (λ r. r.1 < pages) (stored s)
+      (each-among (λ r. r.1 < pages) (stored s) (λ x among. by x among (cases_lt x.1 pages)))
     where
       by : (x : Span) → IsAmong x (stored s) → (x.1 < pages) ⊎ (pages ≤ x.1) → x.1 < pages
       by x among (inl less) = less
@@ -162,7 +165,8 @@ module _ (l : Layout) (s : Store) (is : IsStore l s) (g : Geometry) (h : IsGeome
   least =
       least-found pages m (λ run. page_class_under g run.1) 0 runs (first, n)
       (omega (arith, count-mono 0 class (omega arith) (omega (arith, few))))
-      (each-among (λ r. pages ≤ r.1 → m ≤ page_class_under g r.1) runs each) among long (under (first, n) among class few at.1)
+      (each-among (λ r. pages ≤ r.1 → m ≤ page_class_under g r.1) runs each) among long
+      (under (first, n) among class few at.1)
       (inl refl)
     where
       each : (x : Span) → IsAmong x runs → pages ≤ x.1 → m ≤ page_class_under g x.1
@@ -173,7 +177,8 @@ module _ (l : Layout) (s : Store) (is : IsStore l s) (g : Geometry) (h : IsGeome
           omega (arith, under x there u.class u.few u.last, rises)
 
   -- none that begins before it is long enough and stands under the class
-  before : (x : Span) → IsAmong x runs → x.0 < first → (nat_le pages x.1 && (page_class_under g x.1 == least_class g pages runs)) ≡ false
+  before : (x : Span) → IsAmong x runs → x.0 < first →
+      (nat_le pages x.1 && (page_class_under g x.1 == least_class g pages runs)) ≡ false
   before x there less =
       let fits = run-fits l s is x there in
       let u = stands-under x.1 fits.0 (omega (arith, fits.1, is.long.few)) in
@@ -189,7 +194,9 @@ module _ (l : Layout) (s : Store) (is : IsStore l s) (g : Geometry) (h : IsGeome
   serving-chosen = record {
     long = long;
     among = among;
-    run = find-first (λ run. nat_le pages run.1 && (page_class_under g run.1 == least_class g pages runs)) 0 runs (first, n)
+    run =
+        find-first (λ run. nat_le pages run.1 && (page_class_under g run.1 == least_class g pages runs)) 0 runs
+        (first, n)
         is.spaced among
         (both (nat_le pages n) (page_class_under g n == least_class g pages runs) (le-leb pages n long)
         (eq-eqb (page_class_under g n) (least_class g pages runs) (under (first, n) among class few at.1 ∙ sym least)))

@@ -18,22 +18,27 @@ placed-here r s runs less = rw (lt-ltb r.0 s.0 less) refl
 -- ---- one goes
 
 -- nothing goes where none begins
-pub without-none : (low at : ℕ) (runs : List Span) → AreSpacedFrom low runs → beginning at runs ≡ 0 → without at runs ≡ runs
+pub without-none : (low at : ℕ) (runs : List Span) → AreSpacedFrom low runs → beginning at runs ≡ 0 →
+    without at runs ≡ runs
 without-none low at [] h none = refl
 without-none low at (r ∷ runs) h none = by (cases_eq r.0 at) (without-none (r.0 + r.1 + 1) at runs h.2)
   where
-    by : (r.0 ≡ at) ⊎ (r.0 ≡ at → ⊥) → (beginning at runs ≡ 0 → without at runs ≡ runs) → without at (r ∷ runs) ≡ r ∷ runs
+    by : (r.0 ≡ at) ⊎ (r.0 ≡ at → ⊥) → (beginning at runs ≡ 0 → without at runs ≡ runs) →
+        without at (r ∷ runs) ≡ r ∷ runs
     by (inl e) ih = absurd (omega (arith, h.1, beginning-here at r runs e, none))
-    by (inr ne) ih = without-past at r runs ne ∙ ap (λ (l : List Span). r ∷ l) (ih (sym (beginning-past at r runs ne) ∙ none))
+    by (inr ne) ih =
+        without-past at r runs ne ∙ ap (λ (l : List Span). r ∷ l) (ih (sym (beginning-past at r runs ne) ∙ none))
 
 -- what is left is in order
 pub without-spaced : (low at : ℕ) (runs : List Span) → AreSpacedFrom low runs → AreSpacedFrom low (without at runs)
 without-spaced low at [] h = tt
 without-spaced low at (r ∷ runs) h = by (cases_eq r.0 at) (without-spaced (r.0 + r.1 + 1) at runs h.2)
   where
-    by : (r.0 ≡ at) ⊎ (r.0 ≡ at → ⊥) → AreSpacedFrom (r.0 + r.1 + 1) (without at runs) → AreSpacedFrom low (without at (r ∷ runs))
+    by : (r.0 ≡ at) ⊎ (r.0 ≡ at → ⊥) → AreSpacedFrom (r.0 + r.1 + 1) (without at runs) →
+        AreSpacedFrom low (without at (r ∷ runs))
     by (inl e) ih =
-        subst (AreSpacedFrom low) (sym (without-here at r runs e)) (spaced-lower low (r.0 + r.1 + 1) runs (omega (arith, h.0)) h.2)
+        subst (AreSpacedFrom low) (sym (without-here at r runs e))
+        (spaced-lower low (r.0 + r.1 + 1) runs (omega (arith, h.0)) h.2)
     by (inr ne) ih = subst (AreSpacedFrom low) (sym (without-past at r runs ne)) (h.0, h.1, ih)
 
 -- a run that begins there begins behind the first
@@ -48,11 +53,13 @@ pub ending-gone : (low at p : ℕ) (runs : List Span) → AreSpacedFrom low runs
 ending-gone low at p [] h some e = refl
 ending-gone low at p (r ∷ runs) h some e = by (cases_eq r.0 at) (ending-gone (r.0 + r.1 + 1) at p runs h.2)
   where
-    by : (r.0 ≡ at) ⊎ (r.0 ≡ at → ⊥) → (0 < beginning at runs → p ≡ at + beginning at runs → ending p (without at runs) ≡ 0) →
+    by : (r.0 ≡ at) ⊎ (r.0 ≡ at → ⊥) →
+        (0 < beginning at runs → p ≡ at + beginning at runs → ending p (without at runs) ≡ 0) →
         ending p (without at (r ∷ runs)) ≡ 0
     by (inl same) ih =
         let size = beginning-here at r runs same in
-        ap (ending p) (without-here at r runs same) ∙ none-ends (r.0 + r.1 + 1) p runs (omega (arith, e, same, size)) h.2
+        ap (ending p) (without-here at r runs same)
+        ∙ none-ends (r.0 + r.1 + 1) p runs (omega (arith, e, same, size)) h.2
     by (inr ne) ih =
         let size = beginning-past at r runs ne in
         let more : 0 < beginning at runs = omega (arith, some, size) in
@@ -78,7 +85,8 @@ ending-kept low at p (r ∷ runs) h some ne =
         ending p (without at (r ∷ runs)) ≡ ending p (r ∷ runs)
     by (inl same) ih =
         let size = beginning-here at r runs same in
-        ap (ending p) (without-here at r runs same) ∙ sym (ending-past p r runs (λ is. ne (omega (arith, is, same, size))))
+        ap (ending p) (without-here at r runs same)
+        ∙ sym (ending-past p r runs (λ is. ne (omega (arith, is, same, size))))
     by (inr other) ih =
         let size = beginning-past at r runs other in
         ap (ending p) (without-past at r runs other)
@@ -131,7 +139,8 @@ placed-alone low r (s ∷ runs) h = by (cases_lt r.0 s.0) (placed-alone (s.0 + s
         let rest = ih spaced.2 in
         let far = among-later (s.0 + s.1 + 1) r (placed_in r runs) spaced.2 (placed-among r runs) in (
           beginning-past r.0 s runs (λ e. omega (arith, e, far)) ∙ rest.0,
-          ap (ending (r.0 + r.1)) past ∙ ending-past (r.0 + r.1) s (placed_in r runs) (λ e. omega (arith, e, far)) ∙ rest.1,
+          ap (ending (r.0 + r.1)) past ∙ ending-past (r.0 + r.1) s (placed_in r runs) (λ e. omega (arith, e, far))
+              ∙ rest.1,
         )
 
 -- the others end where they ended
@@ -170,7 +179,8 @@ ending-begins low at e (r ∷ runs) h is some = by (cases_eq (r.0 + r.1) at) (en
         (beginning-past (at - e) r runs (λ z. omega (arith, z, far)) ∙ rest.0, rest.1)
 
 -- none begins in a run that is apart from them
-pub apart-begins : (low : ℕ) (r : Span) (runs : List Span) → AreSpacedFrom low runs → 0 < r.1 → EachPair (AreApart r) runs →
+pub apart-begins : (low : ℕ) (r : Span) (runs : List Span) → AreSpacedFrom low runs → 0 < r.1 →
+    EachPair (AreApart r) runs →
     beginning r.0 runs ≡ 0
 apart-begins low r [] h some apart = refl
 apart-begins low r (s ∷ runs) h some apart =

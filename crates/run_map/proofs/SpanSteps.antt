@@ -13,7 +13,8 @@ abbrev pub with_rest : ℕ → ℕ → ℕ → List Span → List Span
 with_rest at pages long runs = if long == pages then runs else placed_in (at + pages, long - pages) runs
 
 -- what comes before the first of them goes first
-pub first-placed : (low : ℕ) (r : Span) (runs : List Span) → r.0 < low → AreSpacedFrom low runs → placed_in r runs ≡ r ∷ runs
+pub first-placed : (low : ℕ) (r : Span) (runs : List Span) → r.0 < low → AreSpacedFrom low runs →
+    placed_in r runs ≡ r ∷ runs
 first-placed low r [] less h = refl
 first-placed low r (s ∷ runs) less h = rw (lt-ltb r.0 s.0 (omega (arith, less, h.0))) refl
 
@@ -75,7 +76,8 @@ none-goes low at (s ∷ runs) less h =
 abbrev pub joined_front : Span → List Span → List Span
 joined_front r runs = (r.0, r.1 + beginning (r.0 + r.1) runs) ∷ without (r.0 + r.1) runs
 
-front-given : (low : ℕ) (r : Span) (runs : List Span) → r.0 < low → 0 < r.1 → AreSpacedFrom low runs → EachPair (AreApart r) runs →
+front-given : (low : ℕ) (r : Span) (runs : List Span) → r.0 < low → 0 < r.1 → AreSpacedFrom low runs →
+    EachPair (AreApart r) runs →
     given_back r runs ≡ joined_front r runs
 front-given low r [] less some h apart = ap (λ (n : ℕ). (r.0, n) ∷ []) (omega arith)
 front-given low r (s ∷ runs) less some h apart =
@@ -83,7 +85,8 @@ front-given low r (s ∷ runs) less some h apart =
     ∙ ap (merged_before r) (spaced-merged low (s ∷ runs) h)
     ∙ by apart.0 (cases_eq (r.0 + r.1) s.0)
   where
-    by : AreApart r s → (r.0 + r.1 ≡ s.0) ⊎ (r.0 + r.1 ≡ s.0 → ⊥) → merged_before r (s ∷ runs) ≡ joined_front r (s ∷ runs)
+    by : AreApart r s → (r.0 + r.1 ≡ s.0) ⊎ (r.0 + r.1 ≡ s.0 → ⊥) →
+        merged_before r (s ∷ runs) ≡ joined_front r (s ∷ runs)
     by a (inl meet) = rw (eq-eqb (r.0 + r.1) s.0 meet, eq-eqb s.0 (r.0 + r.1) (sym meet)) refl
     by (inl before) (inr differ) =
         let behind : r.0 + r.1 < s.0 = omega (arith, before, differ) in
@@ -107,13 +110,15 @@ ending-later low at (s ∷ runs) h le =
     go ih (inr more) = omega (arith, ih more, h.0)
 
 -- what is left and what comes all begin behind the bound
-later-without : (low at : ℕ) (runs : List Span) → EachPair (λ s. low ≤ s.0) runs → EachPair (λ s. low ≤ s.0) (without at runs)
+later-without : (low at : ℕ) (runs : List Span) → EachPair (λ s. low ≤ s.0) runs →
+    EachPair (λ s. low ≤ s.0) (without at runs)
 later-without low at [] h = tt
 later-without low at (s ∷ runs) h =
     cond_both (s.0 == at) runs (s ∷ without at runs) (EachPair (λ s. low ≤ s.0)) (λ _. h.1)
     (λ _. (h.0, later-without low at runs h.1))
 
-later-placed : (low : ℕ) (r : Span) (runs : List Span) → low ≤ r.0 → EachPair (λ s. low ≤ s.0) runs → EachPair (λ s. low ≤ s.0) (placed_in r runs)
+later-placed : (low : ℕ) (r : Span) (runs : List Span) → low ≤ r.0 → EachPair (λ s. low ≤ s.0) runs →
+    EachPair (λ s. low ≤ s.0) (placed_in r runs)
 later-placed low r [] le h = (le, tt)
 later-placed low r (s ∷ runs) le h =
     cond_both (nat_lt r.0 s.0) (r ∷ s ∷ runs) (s ∷ placed_in r runs) (EachPair (λ s. low ≤ s.0)) (λ _. (le, h))
@@ -136,7 +141,8 @@ ending-here at s runs e = rw (eq-eqb (s.0 + s.1) at e) refl
 pub ending-past : (at : ℕ) (s : Span) (runs : List Span) → (s.0 + s.1 ≡ at → ⊥) → ending at (s ∷ runs) ≡ ending at runs
 ending-past at s runs ne = rw (ne_eqb (s.0 + s.1) at ne) refl
 
-pub beginning-past : (at : ℕ) (s : Span) (runs : List Span) → (s.0 ≡ at → ⊥) → beginning at (s ∷ runs) ≡ beginning at runs
+pub beginning-past : (at : ℕ) (s : Span) (runs : List Span) → (s.0 ≡ at → ⊥) →
+    beginning at (s ∷ runs) ≡ beginning at runs
 beginning-past at s runs ne = rw (ne_eqb s.0 at ne) refl
 
 pub without-here : (at : ℕ) (s : Span) (runs : List Span) → s.0 ≡ at → without at (s ∷ runs) ≡ runs
@@ -188,13 +194,16 @@ given-meets r s runs some meet one h apart =
     let back : r.0 - s.1 ≡ s.0 = omega (arith, meet) in
     let sum : s.1 + r.1 + b ≡ s.1 + (r.1 + b) = omega arith in
     let later = later-without (s.0 + 1) q runs (begin-later (s.0 + 1) (s.0 + s.1 + 1) runs (omega arith) h) in
-    let joins : merged_before s ((r.0, r.1 + b) ∷ l) ≡ (s.0, s.1 + (r.1 + b)) ∷ l = rw (eq-eqb (s.0 + s.1) r.0 meet) refl in
+    let joins : merged_before s ((r.0, r.1 + b) ∷ l) ≡ (s.0, s.1 + (r.1 + b)) ∷ l =
+    rw (eq-eqb (s.0 + s.1) r.0 meet) refl in
     ap merged (placed-past r s runs (omega (arith, meet)))
     ∙ ap (merged_before s) (front-given (s.0 + s.1 + 1) r runs (omega (arith, meet)) some h apart)
     ∙ joins
     ∙ sym (ap (λ (n : ℕ). joined_with n r (s ∷ runs)) (ending-here r.0 s runs meet)
-    ∙ ap (λ (n : ℕ). placed_in (r.0 - s.1, s.1 + r.1 + n) (without q (without (r.0 - s.1) (s ∷ runs)))) (beginning-past q s runs other)
-    ∙ ap (λ (rest : List Span). placed_in (r.0 - s.1, s.1 + r.1 + b) (without q rest)) (without-here (r.0 - s.1) s runs (sym back))
+    ∙ ap (λ (n : ℕ). placed_in (r.0 - s.1, s.1 + r.1 + n) (without q (without (r.0 - s.1) (s ∷ runs))))
+    (beginning-past q s runs other)
+    ∙ ap (λ (rest : List Span). placed_in (r.0 - s.1, s.1 + r.1 + b) (without q rest))
+    (without-here (r.0 - s.1) s runs (sym back))
     ∙ ap (λ (k : ℕ). placed_in (k, s.1 + r.1 + b) l) back
     ∙ ap (λ (n : ℕ). placed_in (s.0, n) l) sum
     ∙ first-of (s.0, s.1 + (r.1 + b)) l later)
@@ -223,7 +232,8 @@ given-past r s runs some far h ih =
     ∙ ap (placed_in (k, n)) (without-past q s (without k runs) not-q)
     ∙ placed-past (k, n) s (without q (without k runs)) (omega (arith, from)))
 
-pub given-steps : (low : ℕ) (r : Span) (runs : List Span) → 0 < r.1 → AreSpacedFrom low runs → EachPair (AreApart r) runs →
+pub given-steps : (low : ℕ) (r : Span) (runs : List Span) → 0 < r.1 → AreSpacedFrom low runs →
+    EachPair (AreApart r) runs →
     given_back r runs ≡ joined_in r runs
 given-steps low r [] some h apart =
     ap (λ (k : ℕ). (k, r.1) ∷ []) (omega arith) ∙ ap (λ (n : ℕ). (r.0 - 0, n) ∷ []) (omega arith)

@@ -34,14 +34,16 @@ pub record Changes (s t : Store) (class first end pages bit : ℕ) (piece : Opti
   pub lens : (t.begins.len ≡ s.begins.len) × (t.ends.len ≡ s.ends.len) × (t.pieces.len ≡ s.pieces.len)
 
 module _ (l : Layout) (s t : Store) (class first end pages bit : ℕ) (piece : Option Segment)
-    (h : Changes s t class first end pages bit piece) (long : AreLong l s) (there : first < l.pages) (close : end ≤ l.pages) where
+    (h : Changes s t class first end pages bit piece) (long : AreLong l s) (there : first < l.pages)
+    (close : end ≤ l.pages) where
   long-kept : AreLong l t
   long-kept = record {
     few = long.few;
     begins = ap length h.begins ∙ length-set s.begins.items first pages ∙ long.begins;
     ends = ap length h.ends ∙ length-set s.ends.items end pages ∙ long.ends;
     pieces = ap length h.pieces ∙ length-set s.pieces.items first piece ∙ long.pieces;
-    width = (omega (arith, long.width.0, ap (λ (w : ℕ). 64 * w) h.mark.width), omega (arith, long.width.1, h.mark.width));
+    width =
+        (omega (arith, long.width.0, ap (λ (w : ℕ). 64 * w) h.mark.width), omega (arith, long.width.1, h.mark.width));
     firsts = h.mark.firsts.length ∙ long.firsts ∙ sym (ap (λ (w : ℕ). w * 40) h.mark.width);
     lens = (h.lens.0 ∙ long.lens.0, h.lens.1 ∙ long.lens.1, h.lens.2 ∙ long.lens.2);
   }
@@ -102,11 +104,13 @@ module _ (l : Layout) (s t : Store) (class first end pages bit : ℕ) (piece : O
 
 -- ---- one goes
 
-pub pulled-store : (l : Layout) (s t : Store) (class first n : ℕ) → IsStore l s → n ≡ beginning first (stored s) → 0 < n →
+pub pulled-store : (l : Layout) (s t : Store) (class first n : ℕ) → IsStore l s → n ≡ beginning first (stored s) →
+    0 < n →
     class < 40 → IsLastAtMost n class → Changes s t class first (first + n) 0 0 None → IsNotedAnew class s.noted t →
     IsStore l t
 pulled-store l s t class first n is size some few last h noted =
-    let there : first < l.pages = omega (arith, begins-there s.begins.items first (omega (arith, size, some)), is.long.begins) in
+    let there : first < l.pages =
+    omega (arith, begins-there s.begins.items first (omega (arith, size, some)), is.long.begins) in
     let stood : pages_at s first ≡ n = sym (size ∙ begins-at s first) in
     let close : first + n ≤ l.pages = omega (arith, is.within first there, stood) in
     let marked : first < 64 * s.width = omega (arith, there, is.long.width.0) in
@@ -117,12 +121,14 @@ pulled-store l s t class first n is size some few last h noted =
     record {
       long = long-kept l s t class first (first + n) 0 0 None h is.long there close;
       spaced = subst (AreSpacedFrom 0) (sym runs) (without-spaced 0 first (stored s) is.spaced);
-      within = within-kept l s t class first (first + n) 0 0 None h is.long there close (omega (arith, there)) is.within;
+      within =
+          within-kept l s t class first (first + n) 0 0 None h is.long there close (omega (arith, there)) is.within;
       ends = ends-kept l s t class first (first + n) 0 0 None h is.long there close
           (ap (ending (first + n)) runs
           ∙ ending-gone 0 first (first + n) (stored s) is.spaced more (ap (λ (k : ℕ). first + k) size))
           (λ q ne. ap (ending q) runs
-          ∙ ending-kept 0 first q (stored s) is.spaced more (λ e. ne (e ∙ ap (λ (k : ℕ). first + k) (sym size)))) is.ends;
+          ∙ ending-kept 0 first q (stored s) is.spaced more (λ e. ne (e ∙ ap (λ (k : ℕ). first + k) (sym size))))
+          is.ends;
       held = held-kept l s t class first (first + n) 0 0 None h is.long there close refl is.held;
       marked = pulled-marked l s t class first n h.mark marked few stood last gone rest is.marked is.long.width.0;
       noted = pulled-noted s t class first h.mark marked few is.noted noted;
@@ -130,7 +136,8 @@ pulled-store l s t class first n is size some few last h noted =
 
 -- ---- one comes
 
-held-some : (l : Layout) (first n : ℕ) (piece : Segment) → 0 < n → IsPart l first n piece → IsHeld l first n (Some piece)
+held-some : (l : Layout) (first n : ℕ) (piece : Segment) → 0 < n → IsPart l first n piece →
+    IsHeld l first n (Some piece)
 held-some l first zero piece some part = absurd (omega (arith, some))
 held-some l first (suc n) piece some part = part
 
@@ -164,7 +171,8 @@ put-store l s t class r is run spaced few last h noted =
     record {
       long = long-kept l s t class first (first + n) n 1 (Some r.piece) h is.long there run.within;
       spaced = subst (AreSpacedFrom 0) (sym runs) spaced;
-      within = within-kept l s t class first (first + n) n 1 (Some r.piece) h is.long there run.within run.within is.within;
+      within =
+          within-kept l s t class first (first + n) n 1 (Some r.piece) h is.long there run.within run.within is.within;
       ends = ends-kept l s t class first (first + n) n 1 (Some r.piece) h is.long there run.within
           (ap (ending (first + n)) runs ∙ (placed-alone 0 (first, n) (stored s) spaced).1)
           (λ q ne. ap (ending q) runs ∙ ending-placed q (first, n) (stored s) ne) is.ends;
@@ -175,7 +183,8 @@ put-store l s t class r is run spaced few last h noted =
     }
 
 -- and none has its memory there
-pub none-held : (l : Layout) (s : Store) (r : Span) (ps : List (Option Segment)) (x result : Option Segment) → IsStore l s →
+pub none-held : (l : Layout) (s : Store) (r : Span) (ps : List (Option Segment)) (x result : Option Segment) →
+    IsStore l s →
     AreSpacedFrom 0 (placed_in r (stored s)) → r.0 < l.pages → ps ≡ s.pieces.items → x ≡ get_or ps r.0 x → result ≡ x →
     result ≡ None
 none-held l s r ps x result is spaced there e read same =

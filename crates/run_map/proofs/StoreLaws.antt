@@ -53,14 +53,6 @@ notes-none s w i few none =
       others = λ j ne low. bit_at_clear_other w64 w i within j low ne;
     }
 
--- one that stays noted, since a free run stands under it
-pub notes-same : (s : Store) (i first : ℕ) → IsLowestMarked s i first → IsNotedAnew i s.noted s
-notes-same s i first lowest = record {
-  none = λ none. absurd (omega (arith, none first lowest.there, lowest.set));
-  some = λ _ _ _. refl;
-  others = λ _ _ _. refl;
-}
-
 -- ---- the words of a page class
 
 part-bit : (ws : List ℕ) (from w i : ℕ) → i < 64 * w →
@@ -91,10 +83,12 @@ class-long ws width class long few =
 
 pub lowest-under : (s : Store) (class : ℕ) (ws : List ℕ) (o : Option ℕ) → ws ≡ s.firsts.items →
     length s.firsts.items ≡ s.width * 40 → class < 40 →
-    MatchOption o (AreAll 0 (class_words (s.width * class) s.width ws)) (IsLowestSet (class_words (s.width * class) s.width ws)) →
+    MatchOption o (AreAll 0 (class_words (s.width * class) s.width ws))
+    (IsLowestSet (class_words (s.width * class) s.width ws)) →
     MatchOption o (IsUnmarked s class) (IsLowestMarked s class)
 lowest-under s class ws o are long few h =
-    by o (subst (λ (l : List ℕ). MatchOption o (AreAll 0 (class_words (s.width * class) s.width l)) (IsLowestSet (class_words (s.width * class) s.width l))) are h)
+    by o (subst (λ (l : List ℕ). MatchOption o (AreAll 0 (class_words (s.width * class) s.width l))
+    (IsLowestSet (class_words (s.width * class) s.width l))) are h)
   where
     words : List ℕ
     words = class_words (s.width * class) s.width s.firsts.items

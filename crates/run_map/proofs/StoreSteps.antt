@@ -63,20 +63,24 @@ taken-spaced low at long pages (r ∷ runs) h is some le =
     later ih ne (inr is) = (h.0, h.1, ih is)
 
 -- a take, where the run has been pulled
-taking : (at long pages : ℕ) (old new : List Span) → AreSpacedFrom 0 old → new ≡ without at old → long ≡ beginning at old →
+taking : (at long pages : ℕ) (old new : List Span) → AreSpacedFrom 0 old → new ≡ without at old →
+    long ≡ beginning at old →
     0 < pages → pages ≤ beginning at old → taken_from at pages old ≡ with_rest at pages long new
 taking at long pages old new h gone size some le =
     taken-steps 0 at (beginning at old) pages old h (among-beginning at old (omega (arith, some, le))) some le
     ∙ ap (λ (n : ℕ). with_rest at pages n (without at old)) (sym size)
     ∙ ap (λ (l : List Span). with_rest at pages long l) (sym gone)
 
-pub taking-whole : (at long pages : ℕ) (old new : List Span) → AreSpacedFrom 0 old → new ≡ without at old → long ≡ beginning at old →
+pub taking-whole : (at long pages : ℕ) (old new : List Span) → AreSpacedFrom 0 old → new ≡ without at old →
+    long ≡ beginning at old →
     0 < pages → pages ≤ beginning at old → long ≡ pages → taken_from at pages old ≡ new
 taking-whole at long pages old new h gone size some le all =
     taking at long pages old new h gone size some le ∙ (rw (eq-eqb long pages all) refl)
 
-pub taking-part : (at long pages : ℕ) (old new : List Span) → AreSpacedFrom 0 old → new ≡ without at old → long ≡ beginning at old →
-    0 < pages → pages ≤ beginning at old → long ≢ pages → taken_from at pages old ≡ placed_in (at + pages, long - pages) new
+pub taking-part : (at long pages : ℕ) (old new : List Span) → AreSpacedFrom 0 old → new ≡ without at old →
+    long ≡ beginning at old →
+    0 < pages → pages ≤ beginning at old → long ≢ pages →
+    taken_from at pages old ≡ placed_in (at + pages, long - pages) new
 taking-part at long pages old new h gone size some le part =
     taking at long pages old new h gone size some le ∙ (rw (ne_eqb long pages part) refl)
 

@@ -27,12 +27,14 @@ record StandsIn (at : ℕ) (ns : List ℕ) (x : Span) : Type 0 where
 among-from : (at : ℕ) (ns : List ℕ) (x : Span) → IsAmong x (spans_from at ns) → StandsIn at ns x
 among-from at [] x is = absurd is
 among-from at (m ∷ ns) x is =
-    cond_both (m == 0) (spans_from (at + 1) ns) ((at, m) ∷ spans_from (at + 1) ns) (λ runs. IsAmong x runs → StandsIn at (m ∷ ns) x)
+    cond_both (m == 0) (spans_from (at + 1) ns) ((at, m) ∷ spans_from (at + 1) ns)
+    (λ runs. IsAmong x runs → StandsIn at (m ∷ ns) x)
     (λ _. later (among-from (at + 1) ns x))
     (λ some. here (eqb-false m 0 some) (among-from (at + 1) ns x))
     is
   where
-    later : (IsAmong x (spans_from (at + 1) ns) → StandsIn (at + 1) ns x) → IsAmong x (spans_from (at + 1) ns) → StandsIn at (m ∷ ns) x
+    later : (IsAmong x (spans_from (at + 1) ns) → StandsIn (at + 1) ns x) → IsAmong x (spans_from (at + 1) ns) →
+        StandsIn at (m ∷ ns) x
     later ih is =
         let rest = ih is in
         record {

@@ -19,7 +19,8 @@ pub total-one : (r : Span) → pages_in (r ∷ []) ≡ r.1
 total-one r = total-cons r [] ∙ omega arith
 
 -- the runs of a chunk have no more pages than the chunk
-few-from : (pages low : ℕ) (runs : List Span) → AreSpacedFrom low runs → EachPair (λ r. r.0 + r.1 ≤ pages) runs → low ≤ pages + 1 →
+few-from : (pages low : ℕ) (runs : List Span) → AreSpacedFrom low runs → EachPair (λ r. r.0 + r.1 ≤ pages) runs →
+    low ≤ pages + 1 →
     low + pages_in runs ≤ pages + 1
 few-from pages low [] h within le = omega (arith, le)
 few-from pages low (r ∷ runs) h within le =

@@ -1,4 +1,5 @@
--- Free runs by the page where they begin, as a `Store` has them. No public clause cites this module.
+-- Free runs by the page where they begin, as a `Store` has them.
+-- No public clause cites this module.
 use Rattle.std.specs.Prelude.{◌≡◌, ◌≢◌, ℕ, zero, suc, ◌+◌, ◌*◌, ◌^◌, ◌<◌, ◌≤◌, List, length, slice_index, slice_index_or, Option, None, MatchOption}
 use Rattle.std.specs.Int.{bit_at}
 use Rattle.ground.specs.Ground.{Segment}
@@ -47,7 +48,8 @@ pub record AreLong (l : Layout) (s : Store) : Type 0 where
 
 -- which bits are set: the first page of each free run, under its page class alone
 pub record AreMarked (l : Layout) (s : Store) : Type 0 where
-  pub set : (class first : ℕ) → class < 40 → first < l.pages → StandsAt s class first → is_marked s class first ≡ 1
+  pub set : (class first : ℕ) → class < 40 → first < l.pages → StandsAt s class first →
+      is_marked s class first ≡ 1
   pub clear : (class first : ℕ) → class < 40 → first < 64 * s.width → (StandsAt s class first → ⊥) →
       is_marked s class first ≡ 0
 
@@ -93,7 +95,8 @@ pub record IsUnserved (s : Store) (pages : ℕ) : Type 0 where
   pub few : from < 40
   pub none : AreUnnoted s from 40
 
--- the least page class from that of so many pages on has a free run, and the lowest begins at a page
+-- the lowest run of the least page class that has one, from that of so many pages on,
+-- begins at a page
 pub record IsServing (s : Store) (pages first : ℕ) : Type 0 where
   pub from : ℕ
   pub own : IsLastAtMost pages from
@@ -107,6 +110,7 @@ pub record IsStore (l : Layout) (s : Store) : Type 0 where
   pub spaced : AreSpacedFrom 0 (stored s)
   pub within : (first : ℕ) → first < l.pages → first + pages_at s first ≤ l.pages
   pub ends : (page : ℕ) → page ≤ l.pages → slice_index s.ends.items page ≡ ending page (stored s)
-  pub held : (first : ℕ) → first < l.pages → IsHeld l first (pages_at s first) (slice_index_or s.pieces.items first None)
+  pub held : (first : ℕ) → first < l.pages →
+      IsHeld l first (pages_at s first) (slice_index_or s.pieces.items first None)
   pub marked : AreMarked l s
   pub noted : AreNoted s

@@ -15,7 +15,8 @@ put-requires-clause-spaced c =
     let before = c.join_before-run in
     let after = c.join_after-run in
     subst (AreSpacedFrom 0)
-    (sym (joined-placed r (span_of_run before.result) (span_of_run after.result) runs (stored before.new.store) (stored after.new.store)
+    (sym (joined-placed r (span_of_run before.result) (span_of_run after.result) runs (stored before.new.store)
+    (stored after.new.store)
     c.requires.run.0.some is.spaced apart before.ensures.runs before.ensures.joined.0 before.ensures.joined.1
     after.ensures.runs after.ensures.joined.0 after.ensures.joined.1))
     (given-spaced 0 r runs (omega arith) c.requires.run.0.some is.spaced apart)
@@ -28,6 +29,8 @@ returns-clause-runs c =
     let before = c.join_before-run in
     let after = c.join_after-run in
     c.put.ensures.runs
-    ∙ joined-placed r (span_of_run before.result) (span_of_run after.result) runs (stored before.new.store) (stored after.new.store)
-    c.requires.run.0.some c.requires.store.1.spaced apart before.ensures.runs before.ensures.joined.0 before.ensures.joined.1
+    ∙ joined-placed r (span_of_run before.result) (span_of_run after.result) runs (stored before.new.store)
+    (stored after.new.store)
+    c.requires.run.0.some c.requires.store.1.spaced apart before.ensures.runs before.ensures.joined.0
+    before.ensures.joined.1
     after.ensures.runs after.ensures.joined.0 after.ensures.joined.1

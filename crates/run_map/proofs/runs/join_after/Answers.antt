@@ -9,7 +9,8 @@ use Rattle.run_map.proofs.runs.join_after.Goals as goal
 use Rattle.run_map.proofs.runs.join_after.Goals.{Joined-then-end-layout, then-end-layout-via-then-end-layout, then-end-layout-via-else-end-layout+then-index-eq0}
 
 -- no run begins where it ends
-none-behind : (c : Joined-then-end-layout) → beginning (c.args.run.first + c.args.run.pages) (stored c.args.store.now) ≡ 0
+none-behind : (c : Joined-then-end-layout) →
+    beginning (c.args.run.first + c.args.run.pages) (stored c.args.store.now) ≡ 0
 none-behind c =
     let l = c.args.layout.now in
     let s = c.args.store.now in
@@ -19,12 +20,14 @@ none-behind c =
       | then-end-layout-via-then-end-layout w ↦ none-past l s end is (omega (arith, w.if-end-layout.true))
       | then-end-layout-via-else-end-layout+then-index-eq0 w ↦
           sym (begins-value s.begins.items end w.index.result.now
-          (omega (arith, w.if-end-layout.false, c.requires.run.within, is.long.begins)) w.index.ensures) ∙ w.if-index-eq0.true
+          (omega (arith, w.if-end-layout.false, c.requires.run.within, is.long.begins)) w.index.ensures) ∙
+          w.if-index-eq0.true
     ]
 
 pub returns-then-end-layout-clause-runs : goal.returns-then-end-layout-clause-runs
 returns-then-end-layout-clause-runs c =
-    sym (without-none 0 (c.args.run.first + c.args.run.pages) (stored c.args.store.now) c.requires.store.1.spaced (none-behind c))
+    sym (without-none 0 (c.args.run.first + c.args.run.pages) (stored c.args.store.now) c.requires.store.1.spaced
+    (none-behind c))
 
 pub returns-then-end-layout-clause-joined : goal.returns-then-end-layout-clause-joined
 returns-then-end-layout-clause-joined c = (refl, omega (arith, none-behind c))

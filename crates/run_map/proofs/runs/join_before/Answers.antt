@@ -16,7 +16,8 @@ returns-then-before-eq0-clause-runs c =
     let run = c.requires.run.0 in
     none-before s (span_of_run r) c.index-before.result.now is.spaced run.some
     (each-of (AreApart (span_of_run r)) (stored s) c.requires.run.1)
-    (ends-value c.args.layout.now s r.first c.index-before.result.now is (omega (arith, run.within)) c.index-before.ensures)
+    (ends-value c.args.layout.now s r.first c.index-before.result.now is (omega (arith, run.within))
+    c.index-before.ensures)
     c.if-before-eq0.true
 
 pub overflow_sub-start : goal.overflow_sub-start
@@ -67,7 +68,8 @@ returns-clause-joined c =
     let is = c.requires.store.1 in
     let first : ℕ = c.args.run.first in
     let n : ℕ = c.index-before.result.now in
-    let value = ends-value c.args.layout.now s first n is (omega (arith, c.requires.run.0.within)) c.index-before.ensures in
+    let value =
+    ends-value c.args.layout.now s first n is (omega (arith, c.requires.run.0.within)) c.index-before.ensures in
     let begins = ending-begins 0 first n (stored s) is.spaced value (omega (arith, c.if-before-eq0.false)) in
     let place = c.pull-first.ensures.place in
     (place.0 ∙ ap (λ (k : ℕ). first - k) value, ap (λ (k : ℕ). k + c.args.run.pages) (place.1 ∙ begins.0 ∙ value))
@@ -83,5 +85,6 @@ returns-clause-run c =
     (omega (arith, c.if-before-eq0.false)) in
     let meet : c.pull-first.result.first + c.pull-first.result.pages ≡ first =
     omega (arith, c.pull-first.ensures.place.0, c.pull-first.ensures.place.1, begins.0, begins.1) in
-    joined_run c.args.layout.now c.pull-first.result c.args.run _ c.pull-first.ensures.run c.requires.run.0 meet refl refl
+    joined_run c.args.layout.now c.pull-first.result c.args.run _ c.pull-first.ensures.run c.requires.run.0 meet refl
+    refl
     c.join.ensures

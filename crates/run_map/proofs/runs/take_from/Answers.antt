@@ -9,7 +9,8 @@ use Rattle.run_map.proofs.runs.take_from.Goals as goal
 pub returns-then-long-pages-clause-runs : goal.returns-then-long-pages-clause-runs
 returns-then-long-pages-clause-runs c =
     let at = c.pull-long.ensures.place in
-    sym (taking-whole c.args.first c.pull-long.result.pages c.args.pages (stored c.args.store.now) (stored c.pull-long.new.self)
+    sym (taking-whole c.args.first c.pull-long.result.pages c.args.pages (stored c.args.store.now)
+    (stored c.pull-long.new.self)
     c.requires.store.1.spaced c.pull-long.ensures.runs at.1 c.requires.run.0 c.requires.run.1 c.if-long-pages.true)
 
 pub put-requires-clause-run : goal.put-requires-clause-run
@@ -19,8 +20,10 @@ put-requires-clause-run c =
     let is = c.pull-long.ensures.run in
     let at = c.pull-long.ensures.place in
     let fewer : c.args.pages < r.pages = omega (arith, at.1, c.requires.run.1, c.if-long-pages.false) in
-    let q : FreeRun = record { first = c.args.first + c.args.pages; pages = r.pages - c.args.pages; piece = c.split-front.result.1 } in
-    let front = front_part l r.first r.pages c.args.pages r.piece c.split-front.result.0 is.part (omega (arith, fewer)) c.split-front.ensures.left in
+    let q : FreeRun =
+    record { first = c.args.first + c.args.pages; pages = r.pages - c.args.pages; piece = c.split-front.result.1 } in
+    let front = front_part l r.first r.pages c.args.pages r.piece c.split-front.result.0 is.part (omega (arith, fewer))
+    c.split-front.ensures.left in
     rest_run l r q c.args.pages c.split-front.result.0 is fewer front c.split-front.ensures.right.0
     c.split-front.ensures.right.1 (ap (λ (k : ℕ). k + c.args.pages) (sym at.0)) refl
 
@@ -34,11 +37,13 @@ put-requires-clause-spaced c =
     subst (AreSpacedFrom 0)
     (taking-part c.args.first c.pull-long.result.pages c.args.pages old (stored c.pull-long.new.self)
     h c.pull-long.ensures.runs at.1 some le c.if-long-pages.false)
-    (taken-spaced 0 c.args.first _ c.args.pages old h (among-beginning c.args.first old (omega (arith, some, le))) some le)
+    (taken-spaced 0 c.args.first _ c.args.pages old h (among-beginning c.args.first old (omega (arith, some, le))) some
+    le)
 
 pub returns-clause-runs : goal.returns-clause-runs
 returns-clause-runs c =
     let at = c.pull-long.ensures.place in
     c.put.ensures.runs
-    ∙ sym (taking-part c.args.first c.pull-long.result.pages c.args.pages (stored c.args.store.now) (stored c.pull-long.new.self)
+    ∙ sym (taking-part c.args.first c.pull-long.result.pages c.args.pages (stored c.args.store.now)
+    (stored c.pull-long.new.self)
     c.requires.store.1.spaced c.pull-long.ensures.runs at.1 c.requires.run.0 c.requires.run.1 c.if-long-pages.false)

@@ -23,7 +23,9 @@ loop-preserved c =
     let h = c.loop.invariant in
     let pushed = c.in-Ok.ensures in
     record {
-      none = λ i. ap (λ (ps : List (Option Segment)). get_or ps i None) pushed.items ∙ none-appended c.loop.pieces.items h.none i;
+      none =
+          λ i. ap (λ (ps : List (Option Segment)). get_or ps i None) pushed.items
+          ∙ none-appended c.loop.pieces.items h.none i;
       long = ap length pushed.items ∙ length-append c.loop.pieces.items (None ∷ []) ∙ ap (λ (n : ℕ). n + 1) h.long;
       len = pushed.len ∙ ap (λ (n : ℕ). n + 1) h.len;
       room = omega (arith, h.room, pushed.capacity);

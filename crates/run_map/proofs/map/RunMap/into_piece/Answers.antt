@@ -11,13 +11,15 @@ pull-piece-requires-clause-store c = (c.self.invariant.layout, c.self.invariant.
 pub pull-piece-requires-clause-run : goal.pull-piece-requires-clause-run
 pull-piece-requires-clause-run c =
     let order : ℕ = c.args.self.order in
-    let all : stored c.self.inside.store ≡ (0, 2 ^ order) ∷ [] = ap (λ (v : FreeRuns). v.runs) c.self.view_is ∙ c.requires in
+    let all : stored c.self.inside.store ≡ (0, 2 ^ order) ∷ [] =
+    ap (λ (v : FreeRuns). v.runs) c.self.view_is ∙ c.requires in
     omega (arith, ap (beginning 0) all, pow_pos order)
 
 pub close-requires : goal.close-requires
 close-requires c =
     let order : ℕ = c.args.self.order in
-    let all : stored c.self.inside.store ≡ (0, 2 ^ order) ∷ [] = ap (λ (v : FreeRuns). v.runs) c.self.view_is ∙ c.requires in
+    let all : stored c.self.inside.store ≡ (0, 2 ^ order) ∷ [] =
+    ap (λ (v : FreeRuns). v.runs) c.self.view_is ∙ c.requires in
     (c.pull-piece.ensures.store, c.pull-piece.ensures.runs ∙ ap (without 0) all)
 
 pub returns : goal.returns

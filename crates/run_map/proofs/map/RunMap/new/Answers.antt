@@ -7,18 +7,25 @@ use Rattle.run_map.proofs.map.RunMap.new.Goals as goal
 
 pub new-requires : goal.new-requires
 new-requires c =
-    omega (arith, c.pow-pages.ensures, pow-le-pow_right {n = 2} (lit< tt) {i = c.args.order} {j = 11} c.requires.order.1)
+    omega (
+      arith,
+      c.pow-pages.ensures,
+      pow-le-pow_right {n = 2} (lit< tt) {i = c.args.order} {j = 11}
+          c.requires.order.1,
+    )
 
 pub put-requires-clause-store : goal.put-requires-clause-store
 put-requires-clause-store c =
-    let l : Layout = record { page = c.len.result / c.pow-pages.result; pages = c.pow-pages.result; site = c.of.result } in
+    let l : Layout =
+    record { page = c.len.result / c.pow-pages.result; pages = c.pow-pages.result; site = c.of.result } in
     let laid = laid-out l c.args.order c.args.piece c.requires.chunk c.pow-pages.ensures
     (ap (λ (n : ℕ). n / l.pages) c.len.ensures.len) c.len.ensures.small in
     (laid.layout, c.in-Ok.ensures.0)
 
 pub put-requires-clause-run : goal.put-requires-clause-run
 put-requires-clause-run c =
-    let l : Layout = record { page = c.len.result / c.pow-pages.result; pages = c.pow-pages.result; site = c.of.result } in
+    let l : Layout =
+    record { page = c.len.result / c.pow-pages.result; pages = c.pow-pages.result; site = c.of.result } in
     let laid = laid-out l c.args.order c.args.piece c.requires.chunk c.pow-pages.ensures
     (ap (λ (n : ℕ). n / l.pages) c.len.ensures.len) c.len.ensures.small in
     whole-run l c.args.order c.args.piece c.requires.chunk c.pow-pages.ensures c.of.ensures laid
@@ -30,7 +37,8 @@ put-requires-clause-spaced c =
 
 pub invariant_of-result : goal.invariant_of-result
 invariant_of-result c =
-    let l : Layout = record { page = c.len.result / c.pow-pages.result; pages = c.pow-pages.result; site = c.of.result } in
+    let l : Layout =
+    record { page = c.len.result / c.pow-pages.result; pages = c.pow-pages.result; site = c.of.result } in
     let laid = laid-out l c.args.order c.args.piece c.requires.chunk c.pow-pages.ensures
     (ap (λ (n : ℕ). n / l.pages) c.len.ensures.len) c.len.ensures.small in
     record {
@@ -40,13 +48,17 @@ invariant_of-result c =
       layout = laid.layout;
       size = ap (λ o. o.size) c.of.ensures ∙ laid.size;
       store = c.put.ensures.store;
-      total = one-total c.pow-pages.result (stored c.in-Ok.store) (stored c.put.new.self) c.put.ensures.runs c.in-Ok.ensures.1;
+      total =
+          one-total c.pow-pages.result (stored c.in-Ok.store) (stored c.put.new.self) c.put.ensures.runs
+          c.in-Ok.ensures.1;
     }
 
 pub returns : goal.returns
 returns c =
-    let l : Layout = record { page = c.len.result / c.pow-pages.result; pages = c.pow-pages.result; site = c.of.result } in
+    let l : Layout =
+    record { page = c.len.result / c.pow-pages.result; pages = c.pow-pages.result; site = c.of.result } in
     let laid = laid-out l c.args.order c.args.piece c.requires.chunk c.pow-pages.ensures
     (ap (λ (n : ℕ). n / l.pages) c.len.ensures.len) c.len.ensures.small in
-    let one = one-run c.pow-pages.result (stored c.in-Ok.store) (stored c.put.new.self) c.put.ensures.runs c.in-Ok.ensures.1 in
+    let one =
+    one-run c.pow-pages.result (stored c.in-Ok.store) (stored c.put.new.self) c.put.ensures.runs c.in-Ok.ensures.1 in
     all-free l c.args.order c.args.piece (stored c.put.new.self) c.of.ensures laid.page one c.pow-pages.ensures

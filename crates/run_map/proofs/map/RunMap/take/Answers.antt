@@ -28,7 +28,12 @@ overflow_sub-self c =
     let m = c.self.inside in
     let h = c.self.invariant in
     let is = served m c.args.self.now c.args.pages c.in-Some.first h c.self.view_is c.requires c.in-Some.ensures in
-    omega (arith, h.total, total-taken 0 c.in-Some.first _ c.args.pages (stored m.store) h.store.spaced is.among is.long)
+    omega (
+      arith,
+      h.total,
+      total-taken 0 c.in-Some.first _ c.args.pages (stored m.store) h.store.spaced is.among
+          is.long,
+    )
 
 pub invariant_of-self : goal.invariant_of-self
 invariant_of-self c =
@@ -61,7 +66,8 @@ returns-in-None-clause-short c =
 pub returns-in-Some-clause-some : goal.returns-in-Some-clause-some
 returns-in-Some-clause-some c =
     let m = c.self.inside in
-    let is = served m c.args.self.now c.args.pages c.in-Some.first c.self.invariant c.self.view_is c.requires c.in-Some.ensures in
+    let is = served m c.args.self.now c.args.pages c.in-Some.first c.self.invariant c.self.view_is c.requires
+    c.in-Some.ensures in
     let part = c.take_from-piece.ensures.piece in
     rw (← c.self.view_is) (record {
       long = _;

@@ -16,31 +16,36 @@ index_mut-requires c =
 
 pub overflow_add-first : goal.overflow_add-first
 overflow_add-first c =
-    let at = at-page c.args.layout.now c.args.self.now c.args.first c.index_mut.result.now c.replace-pages.result c.requires.store.1 c.requires.run
+    let at = at-page c.args.layout.now c.args.self.now c.args.first c.index_mut.result.now c.replace-pages.result
+    c.requires.store.1 c.requires.run
     c.index_mut.ensures.value c.replace-pages.ensures.value in
     Fits-le {n = 4096} (omega (arith, at.1, c.requires.store.1.long.few)) (Fits-lit tt)
 
 pub index_mut-requires-2 : goal.index_mut-requires-2
 index_mut-requires-2 c =
-    let at = at-page c.args.layout.now c.args.self.now c.args.first c.index_mut.result.now c.replace-pages.result c.requires.store.1 c.requires.run
+    let at = at-page c.args.layout.now c.args.self.now c.args.first c.index_mut.result.now c.replace-pages.result
+    c.requires.store.1 c.requires.run
     c.index_mut.ensures.value c.replace-pages.ensures.value in
     omega (arith, at.1, c.requires.store.1.long.lens.1)
 
 pub class_under-requires : goal.class_under-requires
 class_under-requires c =
-    let at = at-page c.args.layout.now c.args.self.now c.args.first c.index_mut.result.now c.replace-pages.result c.requires.store.1 c.requires.run
+    let at = at-page c.args.layout.now c.args.self.now c.args.first c.index_mut.result.now c.replace-pages.result
+    c.requires.store.1 c.requires.run
     c.index_mut.ensures.value c.replace-pages.ensures.value in
     (at.0, omega (arith, at.1, c.requires.store.1.long.few))
 
 pub unmark-requires-clause-place : goal.unmark-requires-clause-place
 unmark-requires-clause-place c =
-    let at = at-page c.args.layout.now c.args.self.now c.args.first c.index_mut.result.now c.replace-pages.result c.requires.store.1 c.requires.run
+    let at = at-page c.args.layout.now c.args.self.now c.args.first c.index_mut.result.now c.replace-pages.result
+    c.requires.store.1 c.requires.run
     c.index_mut.ensures.value c.replace-pages.ensures.value in
     (c.class_under.ensures.few, omega (arith, at.2, c.requires.store.1.long.width))
 
 pub index_mut-requires-3 : goal.index_mut-requires-3
 index_mut-requires-3 c =
-    let at = at-page c.args.layout.now c.args.self.now c.args.first c.index_mut.result.now c.replace-pages.result c.requires.store.1 c.requires.run
+    let at = at-page c.args.layout.now c.args.self.now c.args.first c.index_mut.result.now c.replace-pages.result
+    c.requires.store.1 c.requires.run
     c.index_mut.ensures.value c.replace-pages.ensures.value in
     omega (arith, at.2, ap (λ (s : Store). s.pieces.len) c.unmark.ensures.rest, c.requires.store.1.long.lens.2)
 
@@ -50,7 +55,8 @@ unreachable-requires c =
     let n : ℕ = beginning c.args.first (stored c.args.self.now) in
     subst (λ (o : Option Segment). MatchOption o ⊥ (IsPart l c.args.first n)) c.in-None.is
     (piece-at l c.args.self.now c.args.first c.unmark.new.self.pieces.items c.index_mut-3.result.now c.take.result
-    c.requires.store.1 c.requires.run (ap (λ (s : Store). s.pieces.items) c.unmark.ensures.rest) c.index_mut-3.ensures.value c.take.ensures.value)
+    c.requires.store.1 c.requires.run (ap (λ (s : Store). s.pieces.items) c.unmark.ensures.rest)
+    c.index_mut-3.ensures.value c.take.ensures.value)
 
 pub returns-clause-store : goal.returns-clause-store
 returns-clause-store c =
@@ -64,13 +70,17 @@ returns-clause-store c =
     c.index_mut.ensures.value c.replace-pages.ensures.value in
     let size : n ≡ beginning first (stored s) =
     c.replace-pages.ensures.value
-    ∙ begins-value s.begins.items first c.index_mut.result.now (begins-there s.begins.items first c.requires.run) c.index_mut.ensures.value in
+    ∙ begins-value s.begins.items first c.index_mut.result.now (begins-there s.begins.items first c.requires.run)
+    c.index_mut.ensures.value in
     pulled-store l s _ c.class_under.result first n c.requires.store.1 size at.0
     c.class_under.ensures.few c.class_under.ensures.last
     (record {
-      begins = ap (λ (u : Store). u.begins.items) rest ∙ ap (slice_set s.begins.items first) c.replace-pages.ensures.after;
+      begins =
+          ap (λ (u : Store). u.begins.items) rest ∙ ap (slice_set s.begins.items first) c.replace-pages.ensures.after;
       ends = ap (λ (u : Store). u.ends.items) rest;
-      pieces = ap (λ (ps : List (Option Segment)). slice_set ps first c.take.new.self) (ap (λ (u : Store). u.pieces.items) rest)
+      pieces =
+          ap (λ (ps : List (Option Segment)). slice_set ps first c.take.new.self)
+          (ap (λ (u : Store). u.pieces.items) rest)
           ∙ ap (slice_set s.pieces.items first) c.take.ensures.after;
       mark = record { width = ap (λ (u : Store). u.width) rest; firsts = c.unmark.ensures.firsts };
       lens = (
@@ -91,23 +101,29 @@ returns-clause-runs c =
 pub returns-clause-place : goal.returns-clause-place
 returns-clause-place c =
     let ns : List ℕ = c.args.self.now.begins.items in
-    let there = begins-there ns c.args.first c.requires.run in
-    (refl, c.replace-pages.ensures.value ∙ begins-value ns c.args.first c.index_mut.result.now there c.index_mut.ensures.value)
+    let there = begins-there ns c.args.first c.requires.run in (
+      refl,
+      c.replace-pages.ensures.value ∙ begins-value ns c.args.first c.index_mut.result.now there
+          c.index_mut.ensures.value,
+    )
 
 pub returns-clause-run : goal.returns-clause-run
 returns-clause-run c =
     let l = c.args.layout.now in
     let ns : List ℕ = c.args.self.now.begins.items in
     let n : ℕ = beginning c.args.first (stored c.args.self.now) in
-    let at = at-page c.args.layout.now c.args.self.now c.args.first c.index_mut.result.now c.replace-pages.result c.requires.store.1 c.requires.run
+    let at = at-page c.args.layout.now c.args.self.now c.args.first c.index_mut.result.now c.replace-pages.result
+    c.requires.store.1 c.requires.run
     c.index_mut.ensures.value c.replace-pages.ensures.value in
     let there = begins-there ns c.args.first c.requires.run in
     let same : c.replace-pages.result ≡ n =
-    c.replace-pages.ensures.value ∙ begins-value ns c.args.first c.index_mut.result.now there c.index_mut.ensures.value in
+    c.replace-pages.ensures.value
+    ∙ begins-value ns c.args.first c.index_mut.result.now there c.index_mut.ensures.value in
     let part : IsPart l c.args.first n c.in-Some.piece =
     subst (λ (o : Option Segment). MatchOption o ⊥ (IsPart l c.args.first n)) c.in-Some.is
     (piece-at l c.args.self.now c.args.first c.unmark.new.self.pieces.items c.index_mut-3.result.now c.take.result
-    c.requires.store.1 c.requires.run (ap (λ (s : Store). s.pieces.items) c.unmark.ensures.rest) c.index_mut-3.ensures.value c.take.ensures.value) in
+    c.requires.store.1 c.requires.run (ap (λ (s : Store). s.pieces.items) c.unmark.ensures.rest)
+    c.index_mut-3.ensures.value c.take.ensures.value) in
     record {
       part = subst (λ (m : ℕ). IsPart l c.args.first m c.in-Some.piece) (sym same) part;
       some = at.0;

@@ -9,7 +9,8 @@ first_under-requires c =
 pub unreachable-requires : goal.unreachable-requires
 unreachable-requires c =
     let least = c.in-Some.ensures in
-    noted-some c.args.layout.now c.args.self.now c.requires.store c.in-Some.class least.few least.set c.in-None-first_under.ensures
+    noted-some c.args.layout.now c.args.self.now c.requires.store c.in-Some.class least.few least.set
+    c.in-None-first_under.ensures
 
 pub returns-in-None : goal.returns-in-None
 returns-in-None c = record {
