@@ -1,5 +1,5 @@
 -- A map as contracts see it: its sizes, and that what is out stays out.
-use Rattle.std.proofs.Common.{◌≡◌, ℕ, ◌+◌, ◌*◌, ◌/◌, ◌%◌, ◌^◌, ◌<◌, ◌≤◌, length, sym, ap, ap₂, ◌∙◌, subst, arith, Some}
+use Rattle.std.proofs.Common.{◌≡◌, ℕ, ◌+◌, ◌-◌, ◌*◌, ◌/◌, ◌%◌, ◌^◌, ◌<◌, ◌≤◌, List, length, sym, ap, ap₂, ◌∙◌, subst, arith, Some}
 use Rattle.std.proofs.lemmas.Nat.{div-mul-add, mod-mul-add}
 use Rattle.ground.specs.Ground.{Segment}
 use Rattle.size_classes.specs.Sizes.{IsGeometry, IsPageClass, of_pages}
@@ -14,7 +14,9 @@ use Rattle.run_map.specs.FreeRuns.{FreeRuns, geometry_in, with_runs, span_of, Is
 use Rattle.run_map.specs.Held.{free_runs, IsRunMap}
 use Rattle.run_map.specs.Stored.{stored, IsServing}
 use Rattle.run_map.proofs.StoredRuns.{stored-within}
-use Rattle.run_map.proofs.Totals.{few-pages}
+use Rattle.run_map.proofs.Totals.{pages_in, few-pages}
+use Rattle.run_map.proofs.Parts.{product_parts}
+use Rattle.std.proofs.Math.Nat.{mul-le-mul_right, mod-eq-sub-div-mul, div-mul-le_self}
 use Rattle.run_map.proofs.Serving.{IsServed, serving-chosen}
 
 -- the sizes of the chunk are inside the limits
@@ -26,15 +28,29 @@ geometry-is m h = record {
   chunk = omega (arith, ap (λ (n : ℕ). n * m.layout.page) h.pages, h.layout.size);
 }
 
--- no more pages are free than the chunk has
-pub few-free : (m : Inside) → IsRunMap m → m.total ≤ m.layout.pages
+-- no more bytes are free than the largest chunk has
+pub few-free : (m : Inside) → IsRunMap m → m.total ≤ 2 ^ 24
 few-free m h =
-    omega (
-      arith,
-      h.total,
-      few-pages m.layout.pages (stored m.store) h.store.spaced
-          (stored-within m.layout m.store h.store),
-    )
+    let few = few-pages m.layout.pages (stored m.store) h.store.spaced (stored-within m.layout m.store h.store) in
+    let product = mul-le-mul_right {m = pages_in (stored m.store)} {n = m.layout.pages} m.layout.page few in
+    omega (arith, h.total, product, h.layout.size)
+
+-- what a take leaves of the free bytes
+pub total-less : (m : Inside) (runs : List Span) (pages bytes : ℕ) → IsRunMap m →
+    pages_in runs + pages ≡ pages_in (stored m.store) →
+    bytes ≡ pages * m.layout.page → (bytes ≤ m.total) × (m.total - bytes ≡ pages_in runs * m.layout.page)
+total-less m runs pages bytes h left size =
+    let product = product_parts (pages_in runs) pages m.layout.page (pages_in (stored m.store)) left in
+    (omega (arith, h.total, product, size), omega (arith, h.total, product, size))
+
+-- and what a give makes of them
+pub total-more : (m : Inside) (runs : List Span) (bytes : ℕ) → IsRunMap m →
+    pages_in runs ≡ pages_in (stored m.store) + bytes / m.layout.page → bytes % m.layout.page ≡ 0 →
+    m.total + bytes ≡ pages_in runs * m.layout.page
+total-more m runs bytes h more whole =
+    let parts =
+    product_parts (pages_in (stored m.store)) (bytes / m.layout.page) m.layout.page (pages_in runs) (sym more) in
+    omega (arith, h.total, parts, whole, mod-eq-sub-div-mul bytes m.layout.page, div-mul-le_self bytes m.layout.page)
 
 -- a page class of the map as contracts see it
 pub class-in : (m : Inside) (v : FreeRuns) (pages : ℕ) → free_runs m ≡ v → IsPageClass (geometry_in v) pages →

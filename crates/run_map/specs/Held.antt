@@ -22,4 +22,4 @@ pub record IsRunMap (m : Inside) : Type 0 where
   pub layout : IsLayout m.layout
   pub size : m.layout.site.origin.size ≡ m.layout.pages * m.layout.page
   pub store : IsStore m.layout m.store
-  pub total : m.total ≡ sum (run_lengths (stored m.store))
+  pub total : m.total ≡ sum (run_lengths (stored m.store)) * m.layout.page

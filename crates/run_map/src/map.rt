@@ -23,7 +23,7 @@ pub struct RunMap {
     store: Store,
     order: u32,
     layout: Layout,
-    // The pages of all free runs.
+    // The bytes of all free runs.
     total: u32,
 }
 
@@ -47,8 +47,9 @@ impl RunMap {
         ensures { MatchResult result (λ map. map ≡ all_free order piece) (λ back. back ≡ piece) }
     {
         let pages = 2u32.pow(order);
+        let bytes = piece.len();
         let layout = Layout {
-            page: piece.len() / pages as usize,
+            page: bytes / pages as usize,
             pages,
             site: Site::of(&piece),
         };
@@ -65,7 +66,7 @@ impl RunMap {
             store,
             order,
             layout,
-            total: pages,
+            total: bytes as u32,
         })
     }
 
@@ -73,7 +74,7 @@ impl RunMap {
     pub fn free_bytes(&self) -> u32
         ensures { result ≡ sum (run_lengths self.now.runs) * self.now.page }
     {
-        self.total * self.layout.page as u32
+        self.total
     }
 
     /// So many pages and the first of them: the front of the lowest run that stands under the least
@@ -95,7 +96,7 @@ impl RunMap {
             None => None,
             Some(first) => {
                 let piece = take_from(&mut self.store, &self.layout, first, pages);
-                self.total -= pages;
+                self.total -= piece.len() as u32;
                 Some((piece, first))
             }
         }
@@ -111,12 +112,13 @@ impl RunMap {
         // What else is out stays out.
         ensures kept { KeepsOutBut (span_of self.old.page piece) self.old self.new }
     {
+        let bytes = piece.len();
         let run = FreeRun {
             first: (piece.start() / self.layout.page) as u32,
-            pages: (piece.len() / self.layout.page) as u32,
+            pages: (bytes / self.layout.page) as u32,
             piece,
         };
-        self.total += run.pages;
+        self.total += bytes as u32;
         give_to(&mut self.store, &self.layout, run);
     }
 

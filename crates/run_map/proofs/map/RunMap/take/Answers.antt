@@ -1,11 +1,11 @@
-use Rattle.std.proofs.Common.{refl, ap, subst, arith}
+use Rattle.std.proofs.Common.{List, ◌*◌, ◌∙◌, sym, refl, ap, subst, arith}
 use Rattle.size_classes.specs.Sizes.{of_pages}
-use Rattle.size_classes.specs.Spans.{AreShorter}
+use Rattle.size_classes.specs.Spans.{Span, taken_from, AreShorter}
 use Rattle.size_classes.proofs.ChosenLaws.{shorter-none}
 use Rattle.run_map.specs.FreeRuns.{FreeRuns, with_runs, geometry_in}
 use Rattle.run_map.specs.Held.{free_runs}
 use Rattle.run_map.specs.Stored.{stored}
-use Rattle.run_map.proofs.MapLaws.{few-pages-of, served, taken-is-out, taken-keeps}
+use Rattle.run_map.proofs.MapLaws.{few-pages-of, served, total-less, taken-is-out, taken-keeps}
 use Rattle.run_map.proofs.Serving.{serving-none}
 use Rattle.run_map.proofs.StoreChanges.{begins-at}
 use Rattle.run_map.proofs.Totals.{pages_in, total-taken}
@@ -27,20 +27,24 @@ pub overflow_sub-self : goal.overflow_sub-self
 overflow_sub-self c =
     let m = c.self.inside in
     let h = c.self.invariant in
-    let is = served m c.args.self.now c.args.pages c.in-Some.first h c.self.view_is c.requires c.in-Some.ensures in
-    omega (
-      arith,
-      h.total,
-      total-taken 0 c.in-Some.first _ c.args.pages (stored m.store) h.store.spaced is.among
-          is.long,
-    )
+    let is =
+    served m c.args.self.now c.args.pages c.in-Some.first h c.self.view_is c.requires c.in-Some.ensures in
+    let left =
+    total-taken 0 c.in-Some.first _ c.args.pages (stored m.store) h.store.spaced is.among is.long in
+    (total-less m (taken_from c.in-Some.first c.args.pages (stored m.store)) c.args.pages c.len.result h left
+    (c.len.ensures.len ∙ c.take_from-piece.ensures.piece.size)).0
 
 pub invariant_of-self : goal.invariant_of-self
 invariant_of-self c =
     let m = c.self.inside in
     let h = c.self.invariant in
-    let is = served m c.args.self.now c.args.pages c.in-Some.first h c.self.view_is c.requires c.in-Some.ensures in
-    let left = total-taken 0 c.in-Some.first _ c.args.pages (stored m.store) h.store.spaced is.among is.long in
+    let is =
+    served m c.args.self.now c.args.pages c.in-Some.first h c.self.view_is c.requires c.in-Some.ensures in
+    let left =
+    total-taken 0 c.in-Some.first _ c.args.pages (stored m.store) h.store.spaced is.among is.long in
+    let less =
+    total-less m (taken_from c.in-Some.first c.args.pages (stored m.store)) c.args.pages c.len.result h left
+    (c.len.ensures.len ∙ c.take_from-piece.ensures.piece.size) in
     record {
       order = h.order;
       page = h.page;
@@ -48,7 +52,7 @@ invariant_of-self c =
       layout = h.layout;
       size = h.size;
       store = c.take_from-piece.ensures.store;
-      total = omega (arith, h.total, ap pages_in c.take_from-piece.ensures.runs, left);
+      total = less.1 ∙ sym (ap (λ (runs : List Span). pages_in runs * m.layout.page) c.take_from-piece.ensures.runs);
     }
 
 pub returns-in-None-clause-none : goal.returns-in-None-clause-none
