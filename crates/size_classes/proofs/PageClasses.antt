@@ -41,7 +41,7 @@ page_class_up-is g h pages k fits few first =
 -- ---- down
 
 -- the last class that pages of a chunk hold is one of the chunk's
-last-there : (order pages k : ℕ) → 3 ≤ order → order ≤ 11 → pages ≤ 2 ^ order → k ≤ 256 → IsLastAtMost pages k →
+pub last-there : (order pages k : ℕ) → 3 ≤ order → order ≤ 11 → pages ≤ 2 ^ order → k ≤ 256 → IsLastAtMost pages k →
     k < 4 * order - 4
 last-there order pages k least most fits few last = go (cases_lt k (4 * order - 4))
   where
