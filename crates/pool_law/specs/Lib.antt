@@ -31,4 +31,6 @@ pub mod NotedHistories
 pub mod Naming
 pub mod Homes
 pub mod Text
+pub mod Summary
 pub mod Stuck
+pub mod Traces

@@ -18,4 +18,4 @@ pub use list::{
 pub use named::Named;
 pub use note::{CacheNo, Did, Held, Note, Noted, Object, RefDid};
 pub use report::{Access, ChunkEnd, Leak, ListName, Watch};
-pub use run::{Answered, LaneLog, Level, Reply, Run, Shape};
+pub use run::{Answered, LaneLog, Level, Options, Reply, Run, Shape};

@@ -8,7 +8,7 @@ use Rattle.pool_law.specs.declared.run.LaneLog.{LaneLog}
 use Rattle.pool_law.specs.declared.run.Reply.{Reply}
 use Rattle.pool_law.specs.declared.run.Run.{Run}
 use Rattle.pool_law.specs.LaneLaw.{replies_in}
-use Rattle.run_report.specs.Summary.{is_refusal, bytes_in, all_replies, all_bytes}
+use Rattle.pool_law.specs.Summary.{is_refusal, bytes_in, replies_given, all_bytes}
 use Rattle.run_report.specs.Told.{refusals_by, read_by, total_by}
 
 -- a sum over a list of lists is that of their sums
@@ -41,14 +41,14 @@ over_all f (log ∷ logs) =
     ∙ ap (λ (k : ℕ). sum_by (λ (a : Answered). f a.reply) log.replies + k) (over_all f logs)
     ∙ sym (sum_by-cons (λ (l : LaneLog). sum_by (λ (a : Answered). f a.reply) l.replies) log logs)
 
-pub refused_is : (run : Run) → length (filter is_refusal (all_replies run)) ≡ sum_by refusals_by run.logs
+pub refused_is : (run : Run) → length (filter is_refusal (replies_given run)) ≡ sum_by refusals_by run.logs
 refused_is run =
-    length-filter is_refusal (all_replies run) ∙ over_all (λ r. if is_refusal r then 1 else 0) run.logs
+    length-filter is_refusal (replies_given run) ∙ over_all (λ r. if is_refusal r then 1 else 0) run.logs
 
 pub read_is : (run : Run) → length (all_bytes run) ≡ sum_by read_by run.logs
 read_is run =
-    length-flat_map bytes_in (all_replies run) ∙ over_all (λ r. length (bytes_in r)) run.logs
+    length-flat_map bytes_in (replies_given run) ∙ over_all (λ r. length (bytes_in r)) run.logs
 
 pub total_is : (run : Run) → sum (all_bytes run) ≡ sum_by total_by run.logs
 total_is run =
-    sum_by-flat_map (λ (b : ℕ). b) bytes_in (all_replies run) ∙ over_all (λ r. sum (bytes_in r)) run.logs
+    sum_by-flat_map (λ (b : ℕ). b) bytes_in (replies_given run) ∙ over_all (λ r. sum (bytes_in r)) run.logs

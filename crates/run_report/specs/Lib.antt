@@ -1,4 +1,3 @@
 pub mod Words
 pub mod Roots
-pub mod Summary
 pub mod Told

@@ -2,7 +2,7 @@
 use Rattle.std.specs.Prelude.{ℕ, if◌then◌else◌, length, sum, sum_by}
 use Rattle.pool_law.specs.declared.run.Answered.{Answered}
 use Rattle.pool_law.specs.declared.run.LaneLog.{LaneLog}
-use Rattle.run_report.specs.Summary.{is_refusal, bytes_in}
+use Rattle.pool_law.specs.Summary.{is_refusal, bytes_in}
 
 -- one for a reply that refuses
 abbrev pub refusals_in : Answered → ℕ

@@ -3,7 +3,7 @@
 ghost use Rattle.std.specs.Prelude.{◌≡◌, ◌++◌, ◌∷◌, ◌≤◌, [], All, IfOk, OnOk, codes, decimal, length};
 ghost use Rattle.pool_law.specs.Legal.{IsLegal};
 ghost use Rattle.pool_law.specs.Text.{line, named};
-ghost use Rattle.run_report.specs.Summary.{blocks_in, generated_line, summary_of};
+ghost use Rattle.pool_law.specs.Summary.{blocks_in, generated_line, summary_of};
 
 use crate::roots::{RootCounts, counts_of};
 use crate::told::{Told, told_of};

@@ -1,7 +1,7 @@
 //! What the replies of a run tell: how many refuse, and the bytes that were read.
 
 ghost use Rattle.std.specs.Prelude.{◌≡◌, ◌*◌, ◌^◌, ◌≤◌, length, filter, sum, sum_by, All};
-ghost use Rattle.run_report.specs.Summary.{all_bytes, all_replies, bytes_in, is_refusal};
+ghost use Rattle.pool_law.specs.Summary.{all_bytes, replies_given, bytes_in, is_refusal};
 ghost use Rattle.run_report.specs.Told.{read_by, read_in, refusals_by, refusals_in, total_by, total_in};
 
 use pool_law::{Answered, LaneLog, Reply, Run};
@@ -19,7 +19,7 @@ pub struct Told {
 pub fn told_of(run: &Run) -> Told
     requires lanes { length run.now.logs ≤ 16 }
     requires few { All (λ log. length log.replies ≤ 65536) run.now.logs }
-    ensures refused { result.refused ≡ length (filter is_refusal (all_replies run.now)) }
+    ensures refused { result.refused ≡ length (filter is_refusal (replies_given run.now)) }
     ensures read { result.read ≡ length (all_bytes run.now) }
     ensures total { result.total ≡ sum (all_bytes run.now) }
 {

@@ -10,7 +10,8 @@ use Rattle.pool_law.specs.Legal.{AreCommands}
 use Rattle.pool_law.specs.Logs.{of_lane}
 use Rattle.trace_make.specs.Draws.{first_state, state_after, draw_after}
 use Rattle.trace_make.specs.Generated.{drawn_size, drawn_byte, block_of, drawn_block, blocks_in, generated}
-use Rattle.trace_make.specs.Accepted.{AreLanes, IsPlain, IsAccepted}
+use Rattle.pool_law.specs.Traces.{AreLanes}
+use Rattle.trace_make.specs.Accepted.{IsPlain, IsAccepted}
 use Rattle.trace_make.proofs.DrawSteps.{few_blocks}
 use Rattle.trace_make.proofs.Joined.{All-joined, All-given, length-given}
 use Rattle.trace_make.proofs.Totals.{length-lane, command_count-lanes, bytes_asked-lanes, few-blocks}

@@ -7,7 +7,7 @@ use Rattle.std.proofs.Math.Nat.{mul-div-le}
 use Rattle.size_classes.specs.Sizes.{below}
 use Rattle.pool_law.specs.declared.command.Command.{Command}
 use Rattle.pool_law.specs.Stuck.{command_count}
-use Rattle.trace_make.specs.Accepted.{asked_by}
+use Rattle.pool_law.specs.Traces.{bytes_asked, bytes_asked_by}
 use Rattle.trace_make.specs.Generated.{drawn_block, joined}
 
 pub length-joined : {X : Type 0} (list : ℕ → List X) (k n : ℕ) → ((j : ℕ) → length (list j) ≡ k)
@@ -54,10 +54,10 @@ command_count-lanes lanes n state =
     (λ i. length-lane lanes i (state i) n)
 
 pub bytes_asked-lanes : (lanes n : ℕ) (state : ℕ → ℕ)
-    → sum_by (sum_by asked_by) (map (λ i. joined (drawn_block lanes i (state i)) n) (below lanes)) ≡ 8 * n * lanes
+    → bytes_asked (map (λ i. joined (drawn_block lanes i (state i)) n) (below lanes)) ≡ 8 * n * lanes
 bytes_asked-lanes lanes n state =
-    sum_by-given (sum_by asked_by) (λ i. joined (drawn_block lanes i (state i)) n) (8 * n) lanes
-    (λ i. sum_by-joined asked_by (drawn_block lanes i (state i)) 8 n (λ j. refl))
+    sum_by-given (sum_by bytes_asked_by) (λ i. joined (drawn_block lanes i (state i)) n) (8 * n) lanes
+    (λ i. sum_by-joined bytes_asked_by (drawn_block lanes i (state i)) 8 n (λ j. refl))
 
 -- the blocks have no more commands than were asked for
 pub few-blocks : (lanes commands : ℕ) → 8 * (commands / (8 * lanes)) * lanes ≤ commands

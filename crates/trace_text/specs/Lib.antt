@@ -1,9 +1,9 @@
 pub mod Items
+pub mod Options
 pub mod Names
 pub mod Forms
 pub mod Words
 pub mod Lane
 pub mod Reading
-pub mod Lanes
 pub mod Steps
 pub mod Counts

@@ -2,7 +2,8 @@
 ghost use Rattle.std.specs.Prelude.{◌≡◌, ◌+◌, ◌-◌, ◌<◌, ◌≤◌, ◌^◌, IfOk, min};
 ghost use Rattle.std.specs.List.{sum_by};
 ghost use Rattle.pool_law.specs.Stuck.{command_count};
-ghost use Rattle.trace_text.specs.Reading.{Gives, asked_by, bytes_asked, command_limit, limited};
+ghost use Rattle.pool_law.specs.Traces.{bytes_asked_by, bytes_asked, command_limit};
+ghost use Rattle.trace_text.specs.Reading.{GivesLanes, limited};
 
 use crate::{Limit, TraceNo};
 use pool_law::{Command, CommandList, Trace};
@@ -18,7 +19,7 @@ const BYTE_LIMIT: u64 = 67_108_864;
 /// The trace, where it passes no limit.
 #[tactic(auto, unfolding(crate::specs::Reading::limited))]
 pub fn limited(trace: Trace) -> Result<Trace, TraceNo>
-    ensures trace { Gives result (limited trace.lanes) }
+    ensures trace { GivesLanes result (limited trace.lanes) }
     ensures commands { IfOk result (λ trace. command_count trace.lanes ≤ command_limit) }
 {
     let lanes = trace.lanes.items();
@@ -57,7 +58,7 @@ fn byte_total(lanes: &[CommandList]) -> u64
 }
 
 fn bytes_of_lane(commands: &[Command]) -> u64
-    ensures { result ≡ min (sum_by asked_by commands.now) (2 ^ 64 - 1) }
+    ensures { result ≡ min (sum_by bytes_asked_by commands.now) (2 ^ 64 - 1) }
 {
     let mut total = 0u64;
     for command in commands {
@@ -67,7 +68,7 @@ fn bytes_of_lane(commands: &[Command]) -> u64
 }
 
 fn bytes_of_command(command: &Command) -> u64
-    ensures { result ≡ asked_by command.now }
+    ensures { result ≡ bytes_asked_by command.now }
 {
     match command {
         Command::Get { len, .. } | Command::Read { len, .. } => u64::from(*len),

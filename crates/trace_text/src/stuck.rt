@@ -3,7 +3,7 @@ ghost use Rattle.std.specs.Prelude.{◌≡◌, Some, ◌+◌, ◌<◌, ◌≤◌
 ghost use Rattle.pool_law.specs.Stuck.{command_count, first_waiting, how_many, may_pass, moved, next_of, passed, resting, stuck_at};
 ghost use Rattle.trace_text.specs.declared.counts.Side.TheVariants.{Receives, Sends};
 ghost use Rattle.trace_text.specs.Counts.{AreTables, meets};
-ghost use Rattle.trace_text.specs.Reading.{command_limit};
+ghost use Rattle.pool_law.specs.Traces.{command_limit};
 
 use crate::counts::{Side, tables};
 use crate::limits::command_total;

@@ -4,7 +4,7 @@ use Rattle.std.specs.Io.KnownBytes.{Appends, Keeps}
 use Rattle.pool_law.specs.declared.command.Command.{Command}
 use Rattle.pool_law.specs.declared.run.Run.{Run}
 use Rattle.pool_law.specs.Text.{text_of}
-use Rattle.run_report.specs.Summary.{summary_of}
+use Rattle.pool_law.specs.Summary.{summary_of}
 use Rattle.lane_core.specs.Played.{IsPlayed}
 use Rattle.trace_make.specs.Generated.{generated}
 use Rattle.trace_top.specs.Playable.{reading_of}

@@ -1,7 +1,7 @@
 //! Which traces are played until lanes make composites: those without any.
 ghost use Rattle.std.specs.Prelude.{◌≡◌, ℕ, ◌≤◌, All, IfOk, length};
 ghost use Rattle.lane_core.specs.Opened.{IsPlain};
-ghost use Rattle.trace_text.specs.Lanes.{AreLanes};
+ghost use Rattle.pool_law.specs.Traces.{AreLanes};
 ghost use Rattle.trace_text.specs.Reading.{Gives};
 ghost use Rattle.trace_top.specs.Playable.{is_composite, playable, reading_of, unplayed_line, unplayed_place};
 

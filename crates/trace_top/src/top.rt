@@ -4,7 +4,7 @@ ghost use Rattle.lane_core.specs.Opened.{IsPlain};
 ghost use Rattle.lane_core.specs.Played.{IsPlayed};
 ghost use Rattle.run_laws.specs.Headline.{Headline};
 ghost use Rattle.trace_make.specs.Generated.{generated};
-ghost use Rattle.trace_text.specs.Lanes.{AreLanes};
+ghost use Rattle.pool_law.specs.Traces.{AreLanes};
 ghost use Rattle.trace_top.specs.Outcomes.{Completes, Explains, ExplainsOptions, ExplainsRun, ExplainsSource, ExplainsText, Refuses, sink_span, source_span, text_for};
 ghost use Rattle.trace_top.specs.Words.{AreSound, IsGeneration, IsOrigin, options_of, shape_of};
 

@@ -1,6 +1,6 @@
 use Rattle.std.proofs.Common.{◌≡◌, ◌-◌, ◌^◌, take}
 use Rattle.std.specs.Prelude.{min}
-use Rattle.trace_text.specs.Reading.{bytes_asked}
+use Rattle.pool_law.specs.Traces.{bytes_asked}
 use Rattle.trace_text.proofs.limits.byte_total.Given as goal
 
 abbrev pub invariant-loop-lane : goal.invariant-loop-lane

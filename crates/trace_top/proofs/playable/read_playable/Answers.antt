@@ -2,7 +2,7 @@ use Rattle.std.proofs.Common.{◌≡◌, ◌≤◌, List, length, sym, subst}
 use Rattle.std.proofs.lemmas.Result.{IfOk-weaker}
 use Rattle.pool_law.specs.declared.command.Command.{Command}
 use Rattle.pool_law.specs.declared.command.Trace.{Trace}
-use Rattle.trace_text.specs.Lanes.{AreLanes}
+use Rattle.pool_law.specs.Traces.{AreLanes}
 use Rattle.trace_top.proofs.playable.read_playable.Goals as goal
 
 pub returns-clause-lanes : goal.returns-clause-lanes

@@ -32,15 +32,31 @@ is_refusal Reply.Stopped = true
 -- the bytes that a reply tells
 abbrev pub bytes_in : Reply → List ℕ
 bytes_in (Reply.OkBytes bytes) = bytes
-bytes_in _ = []
+bytes_in Reply.Ok = []
+bytes_in (Reply.OkPlace size place) = []
+bytes_in (Reply.OkNumber n) = []
+bytes_in Reply.Kept = []
+bytes_in Reply.Freed = []
+bytes_in Reply.Unbound = []
+bytes_in Reply.Taken = []
+bytes_in Reply.Illegal = []
+bytes_in Reply.Range = []
+bytes_in Reply.TooLarge = []
+bytes_in Reply.Handles = []
+bytes_in Reply.Full = []
+bytes_in (Reply.Busy n) = []
+bytes_in Reply.Nothing = []
+bytes_in Reply.Composite = []
+bytes_in Reply.Plain = []
+bytes_in Reply.Stopped = []
 
--- all replies, lane by lane
-abbrev pub all_replies : Run → List Reply
-all_replies run = flat_map (λ log. replies_in log.replies) run.logs
+-- the replies given to all commands, lane by lane
+abbrev pub replies_given : Run → List Reply
+replies_given run = flat_map (λ log. replies_in log.replies) run.logs
 
 -- the bytes that they tell
 abbrev pub all_bytes : Run → List ℕ
-all_bytes run = flat_map bytes_in (all_replies run)
+all_bytes run = flat_map bytes_in (replies_given run)
 
 -- the blocks of each lane, where all have as many as the first
 abbrev pub blocks_in : List (List Command) → ℕ
@@ -62,7 +78,7 @@ roots_line run =
     line
     (named (codes "roots") (length roots)
     (named (codes "live") (live_in (logs_of run) roots)
-    (named (codes "refused") (length (filter is_refusal (all_replies run))) [])))
+    (named (codes "refused") (length (filter is_refusal (replies_given run))) [])))
 
 -- the bytes that were read, and the sum of their values
 abbrev pub read_line : Run → Text
