@@ -19,7 +19,7 @@ id_of r = r.id
 
 pub new-trial : (a : ArenaState) → IsNew 0 9 1 a → IsTrial a []
 new-trial a is =
-    record { number = is.number_is; geometry = is.geometry; places = new-places 0 9 1 a is; out = new-out 0 9 1 a is; placed = tt }
+    record { number = is.number_is; geometry = is.geometry; places = new-places 0 8192 9 1 a is; out = new-out 0 8192 9 1 a (inr (inl refl)) is; placed = tt }
 
 -- what is in place stays there
 in-place : (old new : ArenaState) (r : RegionId) (piece : Segment) → IsSameArena old new → IsInPlaceUnder old r piece → IsInPlaceUnder new r piece

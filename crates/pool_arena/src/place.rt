@@ -52,7 +52,7 @@ impl ChunkPlace {
     ghost use Rattle.pool_arena.specs.Places.{with_chunk, runs_of, state_of, Cuts, HasNone, HandsOut, IsWanted};
 
     /// An unused place, with the memory of a chunk of `2^order` pages of so many bytes.
-    pub(crate) fn new(alloc: Global, order: u32, page: u32) -> Result<ChunkPlace, AllocError>
+    pub(crate) fn new(alloc: Global, page: u32, order: u32) -> Result<ChunkPlace, AllocError>
         requires { IsGeometry (of_pages order page) }
         ensures geometry { IfOk result (λ place. place.geometry ≡ of_pages order page) }
         ensures unused { IfOk result (λ place. place.chunk ≡ None) }

@@ -54,8 +54,8 @@ impl Stock {
     /// Chunk places with chunks of `2^order` pages of so many bytes, none of them in use.
     pub(crate) fn new(
         alloc: Global,
-        order: u32,
         page: u32,
+        order: u32,
         chunks: u32,
     ) -> Result<Stock, AllocError>
         requires sizes { IsGeometry (of_pages order page) }
@@ -68,7 +68,7 @@ impl Stock {
         let lists = ChunkLists::new(alloc, chunks)?;
         let room = chunks as usize * 2usize.pow(order);
         let fronts = new_fronts(alloc, &classes, room)?;
-        let places = new_places(alloc, order, page, chunks)?;
+        let places = new_places(alloc, page, order, chunks)?;
         Ok(Stock {
             classes,
             page,
@@ -460,8 +460,8 @@ fn new_fronts(alloc: Global, classes: &SizeClasses, room: usize) -> Result<Vec<F
 // So many unused chunk places.
 fn new_places(
     alloc: Global,
-    order: u32,
     page: u32,
+    order: u32,
     chunks: u32,
 ) -> Result<Vec<ChunkPlace>, AllocError>
     requires { IsGeometry (of_pages order page) }
@@ -471,7 +471,7 @@ fn new_places(
 {
     let mut places = Vec::with_capacity(alloc, chunks as usize)?;
     for _ in 0..chunks {
-        match ChunkPlace::new(alloc, order, page) {
+        match ChunkPlace::new(alloc, page, order) {
             Ok(place) => match places.push(place) {
                 Ok(()) => {}
                 Err(_) => unreachable!(),

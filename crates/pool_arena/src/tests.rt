@@ -24,9 +24,9 @@ fn new_arena(rt: &impl Abort, alloc: Global, order: u32, chunks: u32) -> Arena
     requires order { (3 ≤ order) × (order ≤ 11) }
     requires chunks { (1 ≤ chunks) × (chunks ≤ 8) }
     ensures geometry { result.geometry ≡ of_order order }
-    ensures new { IsNew 0 order DEFAULT_PAGE chunks result }
+    ensures new { IsNew 0 DEFAULT_PAGE order chunks result }
 {
-    crosses(Arena::new(alloc, 0, order, DEFAULT_PAGE, chunks).expect(rt, "ample memory"))
+    crosses(Arena::new(alloc, 0, DEFAULT_PAGE, order, chunks).expect(rt, "ample memory"))
 }
 
 fn leave(region: Region) {

@@ -19,7 +19,7 @@ use Rattle.shared_pool.specs.Seats.{IsPoolSeat}
 
 -- the value is that of the k-th arena, cache, bin, mail or root place, at first
 abbrev pub IsFirstArena : Shape → ℕ → Home → Type 0
-IsFirstArena s k (Arena a) = IsNew k s.order s.chunks a.value
+IsFirstArena s k (Arena a) = IsNew k s.page s.order s.chunks a.value
 IsFirstArena s k _ = ⊥
 
 abbrev pub IsCacheOf : ℕ → Home → Type 0

@@ -139,7 +139,7 @@ fn arena_home(alloc: Global, shape: &Shape, number: u32) -> Result<Home, AllocEr
     requires number { number < shape.now.arenas }
     ensures { IfOk result (IsFirstArena shape.now number) }
 {
-    let arena = Arena::new(alloc, number, shape.order, shape.chunks)?;
+    let arena = Arena::new(alloc, number, shape.page, shape.order, shape.chunks)?;
     match Box::new(alloc, arena) {
         Ok(arena) => Ok(Home::Arena(arena)),
         Err(AllocFailed { value }) => {

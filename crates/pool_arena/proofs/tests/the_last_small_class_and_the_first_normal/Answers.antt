@@ -9,20 +9,20 @@ use Rattle.pool_arena.proofs.tests.the_last_small_class_and_the_first_normal.Goa
 -- two takings of a new arena, of which the second comes back first
 module _ (a b d : ArenaState) (is : IsNew 0 9 8192 4 a) (r s : RegionId) (first : Takes a 38 0 b r) (second : Takes b 39 0 d s) where
   has_one : HasOut b (r ∷ [])
-  has_one = take-out a b 38 0 r [] (new-out 0 9 8192 4 a (inr (inl refl)) is) first
+  has_one = take-out a b 38 0 r [] (new-out 0 8192 9 4 a (inr (inl refl)) is) first
 
   has_two : HasOut d (r ∷ s ∷ [])
   has_two = take-out b d 39 0 s (r ∷ []) has_one second
 
   one_taking : b.takings ≡ 1
-  one_taking = omega (arith, new-takings 0 9 8192 4 a is, take-takings a b 38 0 r [] (new-out 0 9 8192 4 a (inr (inl refl)) is) first)
+  one_taking = omega (arith, new-takings 0 8192 9 4 a is, take-takings a b 38 0 r [] (new-out 0 8192 9 4 a (inr (inl refl)) is) first)
 
   second_out : IsOutOf d s
   second_out = out-of d s (r ∷ s ∷ []) has_two (inr (inl refl))
 
   apart : s.taking ≢ r.taking
   apart e =
-      omega (arith, e, taken-number a b 38 0 r [] (new-out 0 9 8192 4 a (inr (inl refl)) is) first, taken-number b d 39 0 s (r ∷ []) has_one second, one_taking, new-takings 0 9 8192 4 a is)
+      omega (arith, e, taken-number a b 38 0 r [] (new-out 0 8192 9 4 a (inr (inl refl)) is) first, taken-number b d 39 0 s (r ∷ []) has_one second, one_taking, new-takings 0 8192 9 4 a is)
 
   module _ (x : ArenaState) (gives : Gives d s x) where
     has_first : HasOut x (r ∷ [])
@@ -37,10 +37,10 @@ module _ (a b d : ArenaState) (is : IsNew 0 9 8192 4 a) (r s : RegionId) (first 
     rest y later = none-out y (subst (λ (out : List RegionId). HasOut y out) (left-first r []) (give-out x r (r ∷ []) has_first (inl refl) y later))
 
 pub chunk_now-requires : goal.chunk_now-requires
-chunk_now-requires g c = omega (arith, new-places 0 9 8192 4 c.new_arena-arena.result c.new_arena-arena.ensures.new)
+chunk_now-requires g c = omega (arith, new-places 0 8192 9 4 c.new_arena-arena.result c.new_arena-arena.ensures.new)
 
 pub take-a-requires-clause-takings : goal.take-a-requires-clause-takings
-take-a-requires-clause-takings g c = omega (arith, new-takings 0 9 8192 4 c.new_arena-arena.result c.new_arena-arena.ensures.new)
+take-a-requires-clause-takings g c = omega (arith, new-takings 0 8192 9 4 c.new_arena-arena.result c.new_arena-arena.ensures.new)
 
 pub take-b-requires-clause-class : goal.take-b-requires-clause-class
 take-b-requires-clause-class g c =
@@ -51,8 +51,8 @@ take-b-requires-clause-takings g c =
     let a = c.new_arena-arena.result in
     omega (
       arith,
-      new-takings 0 9 8192 4 a c.new_arena-arena.ensures.new,
-      take-takings a c.take-a.new.arena 38 0 c.take-a.result.id [] (new-out 0 9 8192 4 a (inr (inl refl)) c.new_arena-arena.ensures.new) c.take-a.ensures.takes,
+      new-takings 0 8192 9 4 a c.new_arena-arena.ensures.new,
+      take-takings a c.take-a.new.arena 38 0 c.take-a.result.id [] (new-out 0 8192 9 4 a (inr (inl refl)) c.new_arena-arena.ensures.new) c.take-a.ensures.takes,
     )
 
 pub give-requires-clause-out : goal.give-requires-clause-out
