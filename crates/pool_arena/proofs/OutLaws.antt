@@ -36,13 +36,15 @@ has-out g number a out geometry number_is holds covered =
 
 -- ---- what is out after each call
 
-pub new-out : (number page order chunks : ℕ) (a : ArenaState) → IsPage page → IsNew number page order chunks a → HasOut a []
+pub new-out : (number page order chunks : ℕ) (a : ArenaState) → IsPage page → IsNew number page order chunks a
+    → HasOut a []
 new-out number page order chunks a is_page is =
     has-out (of_pages order page) number a [] is.geometry is.number_is
     (subst (λ (x : Arena). ArenaHolds (of_pages order page) number x) (sym is.law) (new-holds (of_pages order page) number is_page chunks))
     (subst (λ (x : Arena). IsCovered (of_pages order page) x) (sym is.law) (new-covered (of_pages order page) chunks))
 
-pub new-places : (number page order chunks : ℕ) (a : ArenaState) → IsNew number page order chunks a → length a.chunks ≡ chunks
+pub new-places : (number page order chunks : ℕ) (a : ArenaState) → IsNew number page order chunks a
+    → length a.chunks ≡ chunks
 new-places number page order chunks a is = ap (λ (x : Arena). length x.chunks) is.law ∙ length-replicate chunks None
 
 pub new-takings : (number page order chunks : ℕ) (a : ArenaState) → IsNew number page order chunks a → a.takings ≡ 0

@@ -6,7 +6,7 @@ use Rattle.pool_arena.proofs.OutLaws.{new-out, new-takings, take-out, out-of, gi
 use Rattle.pool_arena.proofs.tests.a_whole_chunk_is_destroyed.Goals as goal
 
 -- the one taking of a new arena
-module _ (a b : ArenaState) (order chunks class owner : ℕ) (is : IsNew 0 order 8192 chunks a) (r : RegionId) (takes : Takes a class owner b r) where
+module _ (a b : ArenaState) (order chunks class owner : ℕ) (is : IsNew 0 8192 order chunks a) (r : RegionId) (takes : Takes a class owner b r) where
   has : HasOut b (r ∷ [])
   has = take-out a b class owner r [] (new-out 0 8192 order chunks a (inr (inl refl)) is) takes
 

@@ -7,7 +7,7 @@ use Rattle.pool_arena.proofs.OutLaws.{new-out, new-takings, take-out, take-takin
 use Rattle.pool_arena.proofs.tests.an_idle_subpage_stays_while_it_is_alone.Goals as goal
 
 -- three takings of a new arena, of which the first and the last come back before a fourth
-module _ (n a : ArenaState) (is : IsNew 0 4 8192 1 n) (r : RegionId) (one : Takes n 38 0 a r) where
+module _ (n a : ArenaState) (is : IsNew 0 8192 4 1 n) (r : RegionId) (one : Takes n 38 0 a r) where
   has_one : HasOut a (r ∷ [])
   has_one = take-out n a 38 0 r [] (new-out 0 8192 4 1 n (inr (inl refl)) is) one
 
