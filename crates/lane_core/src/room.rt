@@ -11,6 +11,7 @@ use size_classes::CACHED_CLASSES;
 
 // How many caches a lane has, and how many asks it sweeps them behind.
 const CACHES: usize = CACHED_CLASSES as usize;
+
 const PERIOD: usize = SWEEP_PERIOD as usize;
 
 /// One more than the greatest name of the commands, or none.
