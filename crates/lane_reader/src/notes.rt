@@ -94,6 +94,7 @@ impl Log<'_> {
     }
 
     /// This region comes back.
+    #[tactic(auto, using(crate::proofs::ReadingLemmas::note_says, crate::proofs::RegionLemmas::region_tests))]
     pub(crate) fn given(&self, at: At, object: &Object, region: &RegionId) -> Option<At>
         ensures { (before : Entries) → note object.now (says.give region.now) (log_from before self.now at)
             ≡ passes before self.now result }
@@ -105,6 +106,7 @@ impl Log<'_> {
     }
 
     /// This region is kept.
+    #[tactic(auto, using(crate::proofs::ReadingLemmas::note_says, crate::proofs::RegionLemmas::region_tests))]
     pub(crate) fn kept(&self, at: At, object: &Object, region: &RegionId) -> Option<At>
         ensures { (before : Entries) → note object.now (says.kept region.now) (log_from before self.now at)
             ≡ passes before self.now result }

@@ -48,7 +48,9 @@ pub stood_more : (measures : List ℕ) (setting : Setting) (h : List Noted) (n :
     (at : IsArenaAt measures setting h old) → IsOutIfGiven (law_of old at.stands.out) d → IsArenaAt measures setting (h ++ n ∷ []) new
 stood_more measures setting h n d old new is same more at out =
     record {
-      measured = at.measured ∙ (λ i. 0 ∷ sym same.number i ∷ (sym same.geometry i).order ∷ (sym same.geometry i).page ∷ sym same.places i ∷ []);
+      measured =
+          at.measured
+          ∙ (λ i. 0 ∷ sym same.number i ∷ (sym same.geometry i).order ∷ (sym same.geometry i).page ∷ sym same.places i ∷ []);
       stands = more setting.grounds h n is at.stands out;
     }
 
@@ -144,7 +146,11 @@ module _ {G : Ghosts Home Noted} (l : Layout) (number : ℕ) (old new : PoolSeat
           let s : ArenaState = a.value in let x : ArenaLaw = law_of s at.stands.out in
           let number_is : number ≡ s.number = cc at.measured in
           let page_is : l.shape.page ≡ s.geometry.page = cc at.measured in
-          let holds : ArenaHolds s.geometry s.number x = after-holds s.geometry s.number (noted_dids got.history) (new_arena s.geometry (length s.chunks)) x (new-holds s.geometry s.number (subst IsPage page_is page) (length s.chunks)) at.stands.told in
+          let first : ArenaLaw = new_arena s.geometry (length s.chunks) in
+          let new : ArenaHolds s.geometry s.number first =
+          new-holds s.geometry s.number (subst IsPage page_is page) (length s.chunks) in
+          let holds : ArenaHolds s.geometry s.number x =
+          after-holds s.geometry s.number (noted_dids got.history) first x new at.stands.told in
           (here ∙ number_is, out-slot s.geometry s.number x r holds (is_out r here hand s at))
       go (Mail x) at = tt
       go (Cache x) at = tt

@@ -35,7 +35,9 @@ chunks_are s k a new = ap (λ (x : ArenaLaw). length x.chunks) new.law ∙ lengt
 arena_stands : (s : Shape) (g : Setting) (k : ℕ) (a : ArenaState) → IsNew k s.page s.order s.chunks a → slice_get g.grounds k ≡ Some a.grounds → IsArenaAt (measures_of s (ArenaOf k)) g [] a
 arena_stands s g k a new here =
     record {
-      measured = λ i. 0 ∷ sym new.number_is i ∷ (sym new.geometry i).order ∷ (sym new.geometry i).page ∷ sym (chunks_are s k a new) i ∷ [];
+      measured =
+          λ i.
+          0 ∷ sym new.number_is i ∷ (sym new.geometry i).order ∷ (sym new.geometry i).page ∷ sym (chunks_are s k a new) i ∷ [];
       stands = record {
         out = [];
         told = ap (λ (x : ArenaLaw). Some x) ((λ i. new_arena (new.geometry i) (chunks_are s k a new i)) ∙ sym new.law);

@@ -66,7 +66,8 @@ taken_out s setting p h root y region handle whole at is out =
     let lanes_is : whole.lanes ≡ s.lanes = cc whole.measured in let order_is : whole.order ≡ s.order = cc whole.measured in
     let page_is : whole.page ≡ s.page = cc whole.measured in
     let known : Fits s.lanes s.order s.page r =
-    subst (λ (m : ℕ × ℕ × ℕ). Fits m.0 m.1 m.2 r) (λ i. (lanes_is i, order_is i, page_is i)) (subst (λ (o : Option RootState). IfSome o (Fits whole.lanes whole.order whole.page)) there.1 whole.region) in
+    subst (λ (m : ℕ × ℕ × ℕ). Fits m.0 m.1 m.2 r) (λ i. (lanes_is i, order_is i, page_is i))
+    (subst (λ (o : Option RootState). IfSome o (Fits whole.lanes whole.order whole.page)) there.1 whole.region) in
     record {
       right = (refl, ap Some got.0 ∙ sym (ap (λ (o : Option RootPlace). option_map (λ (q : Present). q.region) (present_in o)) at.told ∙ ap (λ (o : Option RootState). option_map (λ (q : Present). q.region) (option_map law_root o)) there.1), refl);
       in_place = subst (λ (x : RegionId × _). IsInPlace setting.grounds x.0.place x.1) (λ i. (sym got.0 i, sym got.1 i)) here.in_place;
@@ -123,7 +124,8 @@ module _ {G : Ghosts Home Noted} (l : Layout) (p : ℕ) (old new : PoolSeat Home
   stands_here = stood l (RootOf p) old new section got setting known
 
   pub place_there : IsPlace section.home
-  place_there = is_place setting got.history p l.shape.handles l.shape.lanes l.shape.order l.shape.page section.home stands_here
+  place_there =
+      is_place setting got.history p l.shape.handles l.shape.lanes l.shape.order l.shape.page section.home stands_here
 
   pub ends_here : IfPlace section.home MayEnd
   ends_here = home_ends l.shape setting p got.history root section.home stands_here is

@@ -1,4 +1,5 @@
 pub mod Items
+pub mod Options
 pub mod Names
 pub mod Forms
 pub mod Words

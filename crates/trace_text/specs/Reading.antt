@@ -3,13 +3,16 @@ use Rattle.std.specs.Prelude.{◌≡◌, ℕ, nat_lt, if◌then◌else◌, List,
 use Rattle.std.specs.Option.{option_map_or, ok_or}
 use Rattle.std.specs.Str.{is_utf8}
 use Rattle.serde_json.specs.Data.{Data}
-use Rattle.serde_json.specs.Read.{read}
+use Rattle.serde_json.specs.Read.{read as json_read}
 use Rattle.pool_law.specs.declared.command.Command.{Command}
 use Rattle.pool_law.specs.declared.command.Trace.{Trace}
+use Rattle.pool_law.specs.declared.run.Options.{Options}
 use Rattle.pool_law.specs.Stuck.{command_count, stuck_at}
 use Rattle.pool_law.specs.Traces.{byte_limit, bytes_asked, command_limit, lane_limit}
 use Rattle.trace_text.specs.Items.{array_in}
 use Rattle.trace_text.specs.Lane.{lane_in}
+use Rattle.trace_text.specs.Options.{parts_of}
+use Rattle.trace_text.specs.declared.Read.{Read}
 use Rattle.trace_text.specs.declared.Limit.TheVariants.{Text, Lanes, Commands, Bytes}
 use Rattle.trace_text.specs.declared.TraceNo.{TraceNo}
 use Rattle.trace_text.specs.declared.TraceNo.TheVariants as refusals
@@ -62,12 +65,19 @@ trace_in d = option_map_or lanes_in (array_in d) (Err (refusals.Shape 0 0))
 
 -- the JSON value of a text in UTF-8
 unfoldable pub value_of : List ℕ → Result Data TraceNo
-value_of text = if is_utf8 text then ok_or (read text) refusals.Syntax else Err refusals.Syntax
+value_of text = if is_utf8 text then ok_or (json_read text) refusals.Syntax else Err refusals.Syntax
 
-unfoldable pub reading_of : List ℕ → Reading
+-- the lanes of a value, where they pass no limit and none gets stuck
+unfoldable pub accepted : Data → Reading
+accepted d = trace_in d >>= limited >>= unstuck
+
+-- the lanes of a text, and what it asks of the pool
+unfoldable pub reading_of : List ℕ → Result (List (List Command) × Options) TraceNo
 reading_of text =
     if nat_lt text_limit (length text) then Err (refusals.Limit Text)
-    else (value_of text >>= trace_in >>= limited >>= unstuck)
+    else
+    (value_of text >>= parts_of
+    >>= (λ parts. accepted parts.0 >>= (λ lanes. Ok (lanes, parts.1))))
 
 -- what was answered is what was read, as it is seen, or want of memory
 abbrev pub GivesAs : {A B : Type 0} → (A → B) → Result A TraceNo → Result B TraceNo → Type 0
@@ -75,5 +85,8 @@ GivesAs seen (Ok a) reading = reading ≡ Ok (seen a)
 GivesAs seen (Err refusals.Memory) reading = Unit {0}
 GivesAs seen (Err e) reading = reading ≡ Err e
 
-abbrev pub Gives : Result Trace TraceNo → Reading → Type 0
-Gives answer reading = GivesAs (λ (trace : Trace). trace.lanes) answer reading
+abbrev pub GivesLanes : Result Trace TraceNo → Reading → Type 0
+GivesLanes answer reading = GivesAs (λ (trace : Trace). trace.lanes) answer reading
+
+abbrev pub Gives : Result Read TraceNo → Result (List (List Command) × Options) TraceNo → Type 0
+Gives answer reading = GivesAs (λ (read : Read). (read.trace.lanes, read.options)) answer reading

@@ -9,20 +9,36 @@ mod items;
 mod lane;
 mod limits;
 mod names;
+mod options;
 mod reading;
 mod stuck;
 #[cfg(test)]
 mod tests;
 mod words;
 
+pub use options::level_named;
+use pool_law::{Options, Trace};
 pub use reading::{TEXT_LIMIT, read_trace};
+
+/// What a text is read as.
+#[derive(Drop)]
+pub struct Read {
+    /// The commands of each lane.
+    pub trace: Trace,
+    /// What it asks of the pool; nothing, where the text is of version 1.
+    pub options: Options,
+}
 
 /// A limit on a trace.
 #[derive(Clone, Copy, Debug, PartialEq, Eq)]
 pub enum Limit {
+    /// The bytes of the text, 16,777,216.
     Text,
+    /// The lanes, 16.
     Lanes,
+    /// The commands of all lanes together, 65,536.
     Commands,
+    /// The bytes that `get`, `tryget` and `read` ask to see, together, 67,108,864.
     Bytes,
 }
 
@@ -33,9 +49,13 @@ pub enum TraceNo {
     Syntax,
     /// The first line that is no command.
     Shape { lane: u32, line: u32 },
+    /// It passes a limit.
     Limit(Limit),
     /// The least lane that can't finish, and the line of the `recv` at which it waits.
     Stuck { lane: u32, line: u32 },
     /// There was no memory for it.
     Memory,
+    /// It is an object, but none of version 2; or what it asks of the pool, together with what the
+    /// words ask, makes a pool that is too large.
+    Options,
 }

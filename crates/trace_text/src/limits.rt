@@ -3,7 +3,7 @@ ghost use Rattle.std.specs.Prelude.{◌≡◌, ◌+◌, ◌-◌, ◌<◌, ◌≤
 ghost use Rattle.std.specs.List.{sum_by};
 ghost use Rattle.pool_law.specs.Stuck.{command_count};
 ghost use Rattle.pool_law.specs.Traces.{bytes_asked_by, bytes_asked, command_limit};
-ghost use Rattle.trace_text.specs.Reading.{Gives, limited};
+ghost use Rattle.trace_text.specs.Reading.{GivesLanes, limited};
 
 use crate::{Limit, TraceNo};
 use pool_law::{Command, CommandList, Trace};
@@ -19,7 +19,7 @@ const BYTE_LIMIT: u64 = 67_108_864;
 /// The trace, where it passes no limit.
 #[tactic(auto, unfolding(crate::specs::Reading::limited))]
 pub fn limited(trace: Trace) -> Result<Trace, TraceNo>
-    ensures trace { Gives result (limited trace.lanes) }
+    ensures trace { GivesLanes result (limited trace.lanes) }
     ensures commands { IfOk result (λ trace. command_count trace.lanes ≤ command_limit) }
 {
     let lanes = trace.lanes.items();

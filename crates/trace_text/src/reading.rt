@@ -3,16 +3,17 @@ ghost use Rattle.std.specs.Prelude.{◌≡◌, ◌≤◌, [], IfOk, length, map}
 ghost use Rattle.serde_json.specs.View.{view};
 ghost use Rattle.pool_law.specs.Stuck.{command_count};
 ghost use Rattle.trace_text.specs.Lane.{lane_in};
-ghost use Rattle.pool_law.specs.Traces.{AreLanes};
 ghost use Rattle.trace_text.specs.Steps.{TakesLane};
-ghost use Rattle.pool_law.specs.Traces.{command_limit};
-ghost use Rattle.trace_text.specs.Reading.{Gives, GivesAs, lanes_after, reading_of, trace_in, unstuck, value_of};
+ghost use Rattle.pool_law.specs.Traces.{AreLanes, command_limit, lane_limit};
+ghost use Rattle.trace_text.specs.Options.{AreOptions};
+ghost use Rattle.trace_text.specs.Reading.{Gives, GivesAs, GivesLanes, accepted, lanes_after, reading_of, trace_in, unstuck, value_of};
 
 use crate::items::array_of;
 use crate::lane::lane_of;
 use crate::limits::limited;
+use crate::options::parts_of;
 use crate::stuck::waiting_place;
-use crate::{Limit, TraceNo};
+use crate::{Limit, Read, TraceNo};
 use pool_law::{CommandList, CommandLists, Trace};
 use serde_json::Value;
 use std::alloc::Global;
@@ -22,19 +23,30 @@ pub const TEXT_LIMIT: usize = 16_777_216;
 
 /// The trace that a text is. `Memory` may stand in place of any other answer.
 #[tactic(auto, unfolding(crate::specs::Reading::reading_of))]
-pub fn read_trace(alloc: Global, text: &[u8]) -> Result<Trace, TraceNo>
+pub fn read_trace(alloc: Global, text: &[u8]) -> Result<Read, TraceNo>
     ensures reading { Gives result (reading_of text.now) }
 
-    // What a run needs of the lanes.
-    ensures lanes { IfOk result (λ trace. AreLanes trace.lanes) }
-    ensures some_lane { IfOk result (λ trace. 1 ≤ length trace.lanes) }
-    ensures few_lanes { IfOk result (λ trace. length trace.lanes ≤ 16) }
+    // What a run needs of the lanes and the options.
+    ensures lanes { IfOk result (λ read. AreLanes read.trace.lanes) }
+    ensures some_lane { IfOk result (λ read. 1 ≤ length read.trace.lanes) }
+    ensures few_lanes { IfOk result (λ read. length read.trace.lanes ≤ lane_limit) }
+    ensures options { IfOk result (λ read. AreOptions read.options) }
 {
     if text.len() > TEXT_LIMIT {
         return Err(TraceNo::Limit(Limit::Text));
     }
     let value = value_from(alloc, text)?;
-    let trace = trace_from(alloc, &value)?;
+    let (lanes, options) = parts_of(&value)?;
+    let trace = accepted(alloc, lanes)?;
+    Ok(Read { trace, options })
+}
+
+/// The trace of the lanes, where it passes no limit and no lane gets stuck.
+#[tactic(auto, unfolding(crate::specs::Reading::accepted))]
+fn accepted(alloc: Global, lanes: &Value) -> Result<Trace, TraceNo>
+    ensures { GivesLanes result (accepted (view lanes.now)) }
+{
+    let trace = trace_from(alloc, lanes)?;
     let trace = limited(trace)?;
     unstuck(alloc, trace)
 }
@@ -43,7 +55,7 @@ pub fn read_trace(alloc: Global, text: &[u8]) -> Result<Trace, TraceNo>
 #[tactic(auto, unfolding(crate::specs::Reading::unstuck))]
 fn unstuck(alloc: Global, trace: Trace) -> Result<Trace, TraceNo>
     requires { command_count trace.lanes ≤ command_limit }
-    ensures { Gives result (unstuck trace.lanes) }
+    ensures { GivesLanes result (unstuck trace.lanes) }
 {
     match waiting_place(alloc, trace.lanes.items()) {
         Ok(None) => Ok(trace),
@@ -71,7 +83,7 @@ fn value_from(alloc: Global, text: &[u8]) -> Result<Value, TraceNo>
 /// The trace of a JSON value, of any number of lanes and commands.
 #[tactic(auto, unfolding(crate::specs::Reading::trace_in))]
 fn trace_from(alloc: Global, value: &Value) -> Result<Trace, TraceNo>
-    ensures { Gives result (trace_in (view value.now)) }
+    ensures { GivesLanes result (trace_in (view value.now)) }
 {
     match array_of(value) {
         Some(values) if !values.is_empty() => lanes_from(alloc, values),
@@ -80,7 +92,7 @@ fn trace_from(alloc: Global, value: &Value) -> Result<Trace, TraceNo>
 }
 
 fn lanes_from(alloc: Global, values: &[Value]) -> Result<Trace, TraceNo>
-    ensures { Gives result (lanes_after (length values.now) [] (map view values.now)) }
+    ensures { GivesLanes result (lanes_after (length values.now) [] (map view values.now)) }
 {
     let mut lanes = Vec::new(alloc);
     for value in values {

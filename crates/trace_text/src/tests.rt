@@ -1,20 +1,50 @@
 //! Texts, and what each is read as. Names are numbers, and a command that tries or retains says so.
 use super::*;
-use pool_law::{Command, Trace};
+use pool_law::{Command, Options, Trace};
 use std::alloc::{AllocError, Global};
 use std::process::Abort;
 use std::test::Fail;
 
-/// Each command of a lane between `;`, each lane between `|`; or why there are none.
+/// Each command of a lane between `;`, each lane between `|`, and what is asked of the pool; or why
+/// there are none.
 fn told(alloc: Global, text: &[u8]) -> Result<String, AllocError> {
     match read_trace(alloc, text) {
-        Ok(trace) => told_trace(alloc, &trace),
+        Ok(read) => {
+            let mut told = told_trace(alloc, &read.trace)?;
+            let asked = told_options(alloc, &read.options)?;
+            told.push_str(asked.as_str())?;
+            Ok(told)
+        }
         Err(TraceNo::Syntax) => String::from_str(alloc, "syntax"),
         Err(TraceNo::Shape { lane, line }) => format!(in alloc; "shape {lane}.{line}"),
         Err(TraceNo::Limit(limit)) => format!(in alloc; "limit {limit:?}"),
         Err(TraceNo::Stuck { lane, line }) => format!(in alloc; "stuck {lane}.{line}"),
         Err(TraceNo::Memory) => String::from_str(alloc, "memory"),
+        Err(TraceNo::Options) => String::from_str(alloc, "options"),
     }
+}
+
+fn told_options(alloc: Global, options: &Options) -> Result<String, AllocError> {
+    let mut text = String::new(alloc);
+    let numbers = [
+        ("page", options.page),
+        ("order", options.order),
+        ("arenas", options.arenas),
+        ("chunks", options.chunks),
+        ("handles", options.handles),
+        ("interval", options.interval),
+    ];
+    for (name, number) in numbers {
+        if let Some(number) = number {
+            let word = format!(in alloc; " {name} {number}")?;
+            text.push_str(word.as_str())?;
+        }
+    }
+    if let Some(level) = options.level {
+        let word = format!(in alloc; " level {level:?}")?;
+        text.push_str(word.as_str())?;
+    }
+    Ok(text)
 }
 
 fn told_trace(alloc: Global, trace: &Trace) -> Result<String, AllocError> {
@@ -114,7 +144,6 @@ const SYNTAX: &str = r#"[[["alloc","a",24],["se => syntax
 "#;
 
 const FAULTS: &str = r#"null => shape 0.0
-{} => shape 0.0
 [] => shape 0.0
 [5] => shape 0.0
 [[],{}] => shape 1.0
@@ -168,6 +197,62 @@ const FAULTS: &str = r#"null => shape 0.0
 [[["alloc","a",1],["forget","a"],["send","b",0],["recv","a",0]]] => shape 0.3
 "#;
 
+const VERSION_TWO: &str = r#"{"version":2,"lanes":[[]]} => ||
+{"lanes":[[["touch","a"]],[]],"options":{},"version":2} => |touch 0;||
+{"version":2,"options":{"page":4096},"lanes":[[]]} => || page 4096
+{"version":2,"options":{"page":8192,"order":3},"lanes":[[]]} => || page 8192 order 3
+{"version":2,"options":{"page":16384,"order":11},"lanes":[[]]} => || page 16384 order 11
+{"version":2,"options":{"page":32768,"arenas":8,"chunks":8},"lanes":[[]]} => || page 32768 arenas 8 chunks 8
+{"version":2,"options":{"arenas":1,"chunks":1,"handles":1,"interval":1},"lanes":[[]]} => || arenas 1 chunks 1 handles 1 interval 1
+{"version":2,"options":{"handles":4096,"interval":65536},"lanes":[[]]} => || handles 4096 interval 65536
+{"version":2,"options":{"level":"disabled"},"lanes":[[]]} => || level Disabled
+{"version":2,"options":{"level":"simple"},"lanes":[[]]} => || level Simple
+{"version":2,"options":{"level":"advanced"},"lanes":[[]]} => || level Advanced
+{"version":2,"options":{"level":"paranoid"},"lanes":[[]]} => || level Paranoid
+{"version":3,"version":2,"lanes":[[]]} => ||
+"#;
+
+const NO_VERSION_TWO: &str = r#"{} => options
+{"version":3,"lanes":[[]]} => options
+{"version":1,"lanes":[[]]} => options
+{"version":2.0,"lanes":[[]]} => options
+{"version":"2","lanes":[[]]} => options
+{"version":2,"version":3,"lanes":[[]]} => options
+{"version":2} => options
+{"lanes":[[]]} => options
+{"version":2,"lanes":[[]],"more":0} => options
+{"version":2,"lanes":[[]],"Options":{}} => options
+{"version":2,"options":null,"lanes":[[]]} => options
+{"version":2,"options":[],"lanes":[[]]} => options
+{"version":2,"options":{"workers":4},"lanes":[[]]} => options
+{"version":2,"options":{"page":2048},"lanes":[[]]} => options
+{"version":2,"options":{"page":8191},"lanes":[[]]} => options
+{"version":2,"options":{"page":65536},"lanes":[[]]} => options
+{"version":2,"options":{"page":"8192"},"lanes":[[]]} => options
+{"version":2,"options":{"page":null},"lanes":[[]]} => options
+{"version":2,"options":{"order":2},"lanes":[[]]} => options
+{"version":2,"options":{"order":12},"lanes":[[]]} => options
+{"version":2,"options":{"order":9.0},"lanes":[[]]} => options
+{"version":2,"options":{"arenas":0},"lanes":[[]]} => options
+{"version":2,"options":{"arenas":9},"lanes":[[]]} => options
+{"version":2,"options":{"chunks":0},"lanes":[[]]} => options
+{"version":2,"options":{"chunks":9},"lanes":[[]]} => options
+{"version":2,"options":{"handles":0},"lanes":[[]]} => options
+{"version":2,"options":{"handles":4097},"lanes":[[]]} => options
+{"version":2,"options":{"interval":0},"lanes":[[]]} => options
+{"version":2,"options":{"interval":65537},"lanes":[[]]} => options
+{"version":2,"options":{"interval":4294967297},"lanes":[[]]} => options
+{"version":2,"options":{"level":"Simple"},"lanes":[[]]} => options
+{"version":2,"options":{"level":1},"lanes":[[]]} => options
+{"version":2,"options":{"page":1},"lanes":[]} => options
+{"version":2,"lanes":[]} => shape 0.0
+{"version":2,"lanes":null} => shape 0.0
+{"version":2,"lanes":{"version":2,"lanes":[[]]}} => shape 0.0
+{"version":2,"lanes":[[],{}]} => shape 1.0
+{"version":2,"lanes":[[["recv","x",0]]]} => stuck 0.0
+[{"version":2,"lanes":[[]]}] => shape 0.0
+"#;
+
 const BYTES: &str = r#"[[["get","a",0,67108864]]] => |get 0 0 67108864 false;|
 [[["get","a",0,67108865]]] => limit Bytes
 [[["tryget","a",0,67108863]],[["read","b",1]]] => |get 0 0 67108863 true;|read 0 1;|
@@ -217,6 +302,12 @@ fn refuses_what_is_no_json(rt: HostRuntime) -> Result<(), Fail> {
 #[test]
 fn names_the_first_fault(rt: HostRuntime) -> Result<(), Fail> {
     check_table(&rt, FAULTS)
+}
+
+#[test]
+fn reads_version_two(rt: HostRuntime) -> Result<(), Fail> {
+    check_table(&rt, VERSION_TWO)?;
+    check_table(&rt, NO_VERSION_TWO)
 }
 
 #[test]

@@ -13,8 +13,10 @@ use Rattle.shared_pool.proofs.pool.SharedPool.give.Goals as goal
 
 pub give-requires-clause-out : goal.give-requires-clause-out
 give-requires-clause-out c =
-    let page = subst (λ (y : Layout). IsPage y.shape.page) (sym c.args.self.now.same_layout) c.args.self.now.shape.page in
-    out_of c.args.self.now.table.layout c.args.region.id.place.arena c.args.seat.now c.claim.new.seat c.in-Ok.section c.in-Ok.ensures.got c.requires.seat.setting c.requires.seat.settled page c.args.region.id refl c.requires.region.hand.taking
+    let page =
+    subst (λ (y : Layout). IsPage y.shape.page) (sym c.args.self.now.same_layout) c.args.self.now.shape.page in
+    out_of c.args.self.now.table.layout c.args.region.id.place.arena c.args.seat.now c.claim.new.seat
+    c.in-Ok.section c.in-Ok.ensures.got c.requires.seat.setting c.requires.seat.settled page c.args.region.id refl c.requires.region.hand.taking
 
 pub note-number-requires-clause-section : goal.note-number-requires-clause-section
 note-number-requires-clause-section c =
