@@ -45,15 +45,34 @@ use Rattle.lane_core.proofs.DeskLaws.{noted_so}
 use Rattle.lane_core.proofs.StageTurns.{Staged, allotted, answers_behind, staged_counts, staged_names}
 
 -- a step of an allocation, and the desk behind it
-module _ (pool : SharedPool) (old mid : Desk) (name size class : ℕ) (stage : AllotStage) (d : IsDesk pool (allotment.hand_of stage) old) (class_is : class_of (geometry_of old.shape) size ≡ Some class) (mid_so : mid ≡ record old { seat = mid.seat; sampler = mid.sampler; notes = mid.notes; asked = allotment.asks_of stage old.asked }) where
+module _ (pool : SharedPool) (old mid : Desk) (name size class : ℕ) (stage : AllotStage)
+    (d : IsDesk pool (allotment.hand_of stage) old) (class_is : class_of (geometry_of old.shape) size ≡ Some class)
+    (mid_so : mid ≡ record old {
+      seat = mid.seat;
+      sampler = mid.sampler;
+      notes = mid.notes;
+      asked =
+          allotment.asks_of stage old.asked;
+    }) where
   -- it can be answered
-  pub allot_can : (allots : Allots) → allotment.HasAllotted pool old.seat mid.seat old.sampler mid.sampler old.notes mid.notes size class stage allots → HasRoomFor old (allotment.left_of stage) → length old.replies.items < vec_capacity old.replies → CanAnswer mid
+  pub allot_can : (allots : Allots) → allotment.HasAllotted pool old.seat mid.seat old.sampler mid.sampler old.notes
+      mid.notes size class stage allots → HasRoomFor old (allotment.left_of stage)
+      → length old.replies.items < vec_capacity old.replies → CanAnswer mid
   allot_can allots did room replies =
-      let start : Desk = record old { seat = mid.seat; sampler = mid.sampler; asked = allotment.asks_of stage old.asked } in
-      answers_behind pool (allotment.hand_of stage) old d (allotment.left_of stage) (allotment.left_after allots) room (view_of mid.seat) did.wrote.added did.written did.wrote.more did.wrote.noted did.spends start mid refl (noted_so start mid did.written did.log mid_so) replies
+      let start : Desk = record old {
+        seat = mid.seat;
+        sampler = mid.sampler;
+        asked =
+            allotment.asks_of stage old.asked;
+      } in
+      answers_behind pool (allotment.hand_of stage) old d (allotment.left_of stage) (allotment.left_after allots) room
+      (view_of mid.seat) did.wrote.added did.written did.wrote.more did.wrote.noted did.spends start mid refl
+      (noted_so start mid did.written did.log mid_so) replies
 
   -- a root was born, and what its count asks of the desk that noted that
-  module _ (root : RootId) (region : RegionId) (did : allotment.HasAllotted pool old.seat mid.seat old.sampler mid.sampler old.notes mid.notes size class stage (New root region)) where
+  module _ (root : RootId) (region : RegionId)
+      (did : allotment.HasAllotted pool old.seat mid.seat old.sampler mid.sampler old.notes mid.notes size class stage
+      (New root region)) where
     abbrev born_start : Desk
     born_start = record old { seat = mid.seat; sampler = mid.sampler; asked = allotment.asks_of stage old.asked }
 
@@ -61,88 +80,191 @@ module _ (pool : SharedPool) (old mid : Desk) (name size class : ℕ) (stage : A
     new_staged = allotted pool old mid name size class stage d class_is mid_so (New root region) did
 
     counts_kept : mid.counts ≡ old.counts
-    counts_kept = staged_counts pool (allotment.hand_of stage) empty_hand old born_start mid did.wrote.added (one_for root) new_staged
+    counts_kept =
+        staged_counts pool (allotment.hand_of stage) empty_hand old born_start mid did.wrote.added (one_for root)
+        new_staged
 
     -- the root's place is one of the desk's
     pub new_place : root.place < length mid.counts
     new_place =
-        let places : length mid.counts ≡ pool.table.layout.shape.lanes * pool.table.layout.shape.handles = ap (λ (cs : List Counted). length cs) counts_kept ∙ d.places ∙ (λ i. (d.shape i).lanes * (d.shape i).handles) in
+        let places : length mid.counts ≡ pool.table.layout.shape.lanes * pool.table.layout.shape.handles =
+        ap (λ (cs : List Counted). length cs) counts_kept ∙ d.places
+        ∙ (λ i. (d.shape i).lanes * (d.shape i).handles) in
         subst (λ (n : ℕ). root.place < n) (sym places) did.place
 
     -- of the place no other root is counted
     pub new_alone : (other : RootId) → other.place ≡ root.place → 0 < counted mid.counts other → other ≡ root
     new_alone other at some =
-        alone_added old.counts (view_of old.seat) (view_of mid.seat) did.wrote.added (one_for root) d.counts did.wrote.seat.alone did.wrote.more.notes did.counts did.wrote.seat.counts root
-        (let a : one_for root root ≡ 1 = ap (λ (b : Bool). if b then 1 else 0) (same_root-refl root) in omega (arith, a))
+        alone_added old.counts (view_of old.seat) (view_of mid.seat) did.wrote.added (one_for root) d.counts
+        did.wrote.seat.alone did.wrote.more.notes did.counts did.wrote.seat.counts root
+        (let a : one_for root root ≡ 1 = ap (λ (b : Bool). if b then 1 else 0) (same_root-refl root) in
+        omega (arith, a))
         other at (subst (λ (cs : List Counted). 0 < counted cs other) counts_kept some)
 
     -- it isn't counted too often for one count more
     pub new_few : HasRoomFor old (allotment.left_of stage) → counted mid.counts root < 4294967295
     new_few room =
-        let a = few_counted old.counts (entries_of old) d.counts root in let b = length-map (notes_of old) entry_of in let e = room.few in
+        let a = few_counted old.counts (entries_of old) d.counts root in let b = length-map (notes_of old) entry_of in
+        let e = room.few in
         subst (λ (cs : List Counted). counted cs root < 4294967295) (sym counts_kept) (omega (arith, a, b, e))
 
     pub new_name : name < length old.names → name < length mid.names
-    new_name lt = subst (λ (names : List (Option ViewData)). name < length names) (sym (staged_names pool (allotment.hand_of stage) empty_hand old born_start mid did.wrote.added (one_for root) new_staged)) lt
+    new_name lt =
+        subst (λ (names : List (Option ViewData)). name < length names)
+        (sym (staged_names pool (allotment.hand_of stage) empty_hand old born_start mid did.wrote.added
+        (one_for root) new_staged)) lt
 
-module _ (pool : SharedPool) (old new : Desk) (name size : ℕ) (s : LaneState) (state : IsState s old.names old.counts) where
-  abbrev command : Command
-  command = Command.Alloc name size
+module _ (pool : SharedPool) (old new : Desk) (name size : ℕ) (s : LaneState) (state : IsState s old.names old.counts)
+  where
+    abbrev command : Command
+    command = Command.Alloc name size
 
-  -- the name is bound
-  pub taken_turn : MayTurn pool (left_for command) old → (v : ViewData) → bound_at old.names name ≡ Some v → HasReplied old new Reply.Taken → HasTurned pool old new s command Ready (Went Ready)
-  taken_turn may v bound replied =
-      refused_turn pool (left_for command) old new may Taken replied s command state.names_are
-      (refuses s old.names old.counts state old.shape (lane_of old.seat) command Reply.Taken (comes_first (taken s name) (too_large_for old.shape size ∷ []) (is_taken s old.names old.counts state name v bound)))
+    -- the name is bound
+    pub taken_turn : MayTurn pool (left_for command) old → (v : ViewData) → bound_at old.names name ≡ Some v
+        → HasReplied old new Reply.Taken → HasTurned pool old new s command Ready (Went Ready)
+    taken_turn may v bound replied =
+        refused_turn pool (left_for command) old new may Taken replied s command state.names_are
+        (refuses s old.names old.counts state old.shape (lane_of old.seat) command Reply.Taken
+        (comes_first (taken s name) (too_large_for old.shape size ∷ [])
+        (is_taken s old.names old.counts state name v bound)))
 
-  module _ (none : bound_at old.names name ≡ None) where
-    free_first : (class : Option ℕ) → class_of (geometry_of old.shape) size ≡ class → first_refusal (refusals old.shape s command) ≡ (if is_none class then Some Reply.TooLarge else None)
-    free_first class is =
-        passed (taken s name) (too_large_for old.shape size ∷ []) (is_free s old.names old.counts state name none)
-        ∙ ap (λ (o : Option ℕ). if is_none o then Some Reply.TooLarge else None) is
+    module _ (none : bound_at old.names name ≡ None) where
+      free_first : (class : Option ℕ) → class_of (geometry_of old.shape) size ≡ class
+          → first_refusal (refusals old.shape s command) ≡ (if is_none class then Some Reply.TooLarge else None)
+      free_first class is =
+          passed (taken s name) (too_large_for old.shape size ∷ []) (is_free s old.names old.counts state name none)
+          ∙ ap (λ (o : Option ℕ). if is_none o then Some Reply.TooLarge else None) is
 
-    -- no class holds the size
-    pub too_large : MayTurn pool (left_for command) old → class_of (geometry_of old.shape) size ≡ None → HasReplied old new Reply.TooLarge → HasTurned pool old new s command Ready (Went Ready)
-    too_large may is replied =
-        noteless pool old new may.desk may.asked old.names Reply.TooLarge refl replied refl s command s.names state.names_are
-        (refuses s old.names old.counts state old.shape (lane_of old.seat) command Reply.TooLarge (free_first None is))
+      -- no class holds the size
+      pub too_large : MayTurn pool (left_for command) old → class_of (geometry_of old.shape) size ≡ None
+          → HasReplied old new Reply.TooLarge → HasTurned pool old new s command Ready (Went Ready)
+      too_large may is replied =
+          noteless pool old new may.desk may.asked old.names Reply.TooLarge refl replied refl s command s.names
+          state.names_are
+          (refuses s old.names old.counts state old.shape (lane_of old.seat) command Reply.TooLarge
+          (free_first None is))
 
-    -- the allocation was begun
-    module _ (class : ℕ) (is : class_of (geometry_of old.shape) size ≡ Some class) where
-      begun_reads : (log : Log) → reads_from old.shape (lane_of old.seat) s command Ready log ≡ reads_from old.shape (lane_of old.seat) s command (Allotting name size class AskHandle) log
-      begun_reads log = ap (λ o. option_and_then (λ got. swept (lane_of old.seat) got.0 got.1) o) (goes s old.names old.counts state old.shape (lane_of old.seat) command (free_first (Some class) is) log)
+      -- the allocation was begun
+      module _ (class : ℕ) (is : class_of (geometry_of old.shape) size ≡ Some class) where
+        begun_reads : (log : Log) → reads_from old.shape (lane_of old.seat) s command Ready log
+            ≡ reads_from old.shape (lane_of old.seat) s command (Allotting name size class AskHandle) log
+        begun_reads log =
+            ap (λ o. option_and_then (λ got. swept (lane_of old.seat) got.0 got.1) o)
+            (goes s old.names old.counts state old.shape (lane_of old.seat) command (free_first (Some class) is) log)
 
-      -- it goes on as it is read then
-      begun_on : (added : List Entry) (before : Names → Reader Answer) → GoesOn old new added (reads_from old.shape (lane_of old.seat) s command (Allotting name size class AskHandle)) before → GoesOn old new added (reads_from old.shape (lane_of old.seat) s command Ready) before
-      begun_on added before t = record { some = t.some; replies = t.replies; begun = t.begun; bound = t.bound; names = t.names; reads = λ rest. begun_reads (log_of old (map entry_of added ++ rest)) ∙ t.reads rest }
+        -- it goes on as it is read then
+        begun_on : (added : List Entry) (before : Names → Reader Answer)
+            → GoesOn old new added (reads_from old.shape (lane_of old.seat) s command
+            (Allotting name size class AskHandle)) before
+            → GoesOn old new added (reads_from old.shape (lane_of old.seat) s command Ready) before
+        begun_on added before t =
+            record {
+              some = t.some;
+              replies = t.replies;
+              begun = t.begun;
+              bound = t.bound;
+              names = t.names;
+              reads =
+                  λ rest. begun_reads (log_of old (map entry_of added ++ rest)) ∙ t.reads rest;
+            }
 
-      pub begun_turn : (turn : Turn) → HasTurned pool old new s command (Allotting name size class AskHandle) turn → HasTurned pool old new s command Ready turn
-      begun_turn (Went Ready) t = record {
-        added = t.added;
-        grew = t.grew;
-        fits = t.fits;
-        name = t.name;
-        spends = t.spends;
-        comes = record {
-          answered = t.comes.answered;
-          replies = t.comes.replies;
-          unstopped = t.comes.unstopped;
-          notes = t.comes.notes;
-          begun = t.comes.begun;
-          bound = t.comes.bound;
-          names = t.comes.names;
-          reads = λ rest. begun_reads (log_of old (map entry_of t.added ++ rest)) ∙ t.comes.reads rest;
-        };
-        waits = tt;
-        held = tt;
-      }
-      begun_turn (Went (Allotting other more at next)) t = record { added = t.added; grew = t.grew; fits = t.fits; name = t.name; spends = t.spends; comes = begun_on t.added (λ names. reads_from old.shape (lane_of old.seat) (renamed s names) command (Allotting other more at next)) t.comes; waits = tt; held = tt }
-      begun_turn (Went (Ending next)) t = record { added = t.added; grew = t.grew; fits = t.fits; name = t.name; spends = t.spends; comes = begun_on t.added (λ names. reads_from old.shape (lane_of old.seat) (renamed s names) command (Ending next)) t.comes; waits = tt; held = tt }
-      begun_turn (Went (Sweeping reply next)) t = record { added = t.added; grew = t.grew; fits = t.fits; name = t.name; spends = t.spends; comes = begun_on t.added (λ names. reads_from old.shape (lane_of old.seat) (renamed s names) command (Sweeping reply next)) t.comes; waits = tt; held = tt }
-      begun_turn (Went (Closing next)) t = absurd t.comes
-      begun_turn (Pending held Ready) t = absurd (cc t.comes.0)
-      begun_turn (Pending held (Allotting other more at next)) t = record { added = t.added; grew = t.grew; fits = t.fits; name = t.name; spends = t.spends; comes = (λ log. begun_reads log ∙ t.comes.0 log, t.comes.1); waits = tt; held = t.held }
-      begun_turn (Pending held (Ending next)) t = record { added = t.added; grew = t.grew; fits = t.fits; name = t.name; spends = t.spends; comes = (λ log. begun_reads log ∙ t.comes.0 log, t.comes.1); waits = tt; held = t.held }
-      begun_turn (Pending held (Sweeping reply next)) t = record { added = t.added; grew = t.grew; fits = t.fits; name = t.name; spends = t.spends; comes = (λ log. begun_reads log ∙ t.comes.0 log, t.comes.1); waits = tt; held = t.held }
-      begun_turn (Pending held (Closing next)) t = absurd t.comes
-      begun_turn (Waiting sender) t = absurd (cc t.comes.0)
+        pub begun_turn : (turn : Turn) → HasTurned pool old new s command (Allotting name size class AskHandle) turn
+            → HasTurned pool old new s command Ready turn
+        begun_turn (Went Ready) t = record {
+          added = t.added;
+          grew = t.grew;
+          fits = t.fits;
+          name = t.name;
+          spends = t.spends;
+          comes = record {
+            answered = t.comes.answered;
+            replies = t.comes.replies;
+            unstopped = t.comes.unstopped;
+            notes = t.comes.notes;
+            begun = t.comes.begun;
+            bound = t.comes.bound;
+            names = t.comes.names;
+            reads = λ rest. begun_reads (log_of old (map entry_of t.added ++ rest)) ∙ t.comes.reads rest;
+          };
+          waits = tt;
+          held = tt;
+        }
+        begun_turn (Went (Allotting other more at next)) t =
+            record {
+              added = t.added;
+              grew = t.grew;
+              fits = t.fits;
+              name = t.name;
+              spends = t.spends;
+              comes =
+                  begun_on t.added (λ names. reads_from old.shape (lane_of old.seat) (renamed s names) command
+                  (Allotting other more at next)) t.comes;
+              waits = tt;
+              held = tt;
+            }
+        begun_turn (Went (Ending next)) t =
+            record {
+              added = t.added;
+              grew = t.grew;
+              fits = t.fits;
+              name = t.name;
+              spends = t.spends;
+              comes =
+                  begun_on t.added (λ names. reads_from old.shape (lane_of old.seat) (renamed s names) command
+                  (Ending next)) t.comes;
+              waits = tt;
+              held = tt;
+            }
+        begun_turn (Went (Sweeping reply next)) t =
+            record {
+              added = t.added;
+              grew = t.grew;
+              fits = t.fits;
+              name = t.name;
+              spends = t.spends;
+              comes =
+                  begun_on t.added (λ names. reads_from old.shape (lane_of old.seat) (renamed s names) command
+                  (Sweeping reply next)) t.comes;
+              waits = tt;
+              held = tt;
+            }
+        begun_turn (Went (Closing next)) t = absurd t.comes
+        begun_turn (Pending held Ready) t = absurd (cc t.comes.0)
+        begun_turn (Pending held (Allotting other more at next)) t =
+            record {
+              added = t.added;
+              grew = t.grew;
+              fits = t.fits;
+              name = t.name;
+              spends = t.spends;
+              comes =
+                  (λ log. begun_reads log ∙ t.comes.0 log, t.comes.1);
+              waits = tt;
+              held = t.held;
+            }
+        begun_turn (Pending held (Ending next)) t =
+            record {
+              added = t.added;
+              grew = t.grew;
+              fits = t.fits;
+              name = t.name;
+              spends = t.spends;
+              comes =
+                  (λ log. begun_reads log ∙ t.comes.0 log, t.comes.1);
+              waits = tt;
+              held = t.held;
+            }
+        begun_turn (Pending held (Sweeping reply next)) t =
+            record {
+              added = t.added;
+              grew = t.grew;
+              fits = t.fits;
+              name = t.name;
+              spends = t.spends;
+              comes =
+                  (λ log. begun_reads log ∙ t.comes.0 log, t.comes.1);
+              waits = tt;
+              held = t.held;
+            }
+        begun_turn (Pending held (Closing next)) t = absurd t.comes
+        begun_turn (Waiting sender) t = absurd (cc t.comes.0)

@@ -59,7 +59,8 @@ abbrev pub IsUnasked : Allotting → Type 0
 IsUnasked (AskCache handle) = ⊥
 IsUnasked _ = ⊤
 
-module _ {G : Ghosts HomeValue Noted} (pool : SharedPool) (old new : PoolSeat HomeValue G) (class : ℕ) (is : IsPoolSeat pool new) (same : SameSeat old new) where
+module _ {G : Ghosts HomeValue Noted} (pool : SharedPool) (old new : PoolSeat HomeValue G) (class : ℕ)
+    (is : IsPoolSeat pool new) (same : SameSeat old new) where
   abbrev shape : Shape
   shape = pool.table.layout.shape
 
@@ -73,11 +74,14 @@ module _ {G : Ghosts HomeValue Noted} (pool : SharedPool) (old new : PoolSeat Ho
   w = view_of new
 
   -- a handle that was the seat's own is so still
-  pub own_still : (h : HandleValue) (es : List Entry) (spent : ℕ) → Grows v w es spent → IsOwnHandle pool old h → IsOwnHandle pool new h
+  pub own_still : (h : HandleValue) (es : List Entry) (spent : ℕ) → Grows v w es spent → IsOwnHandle pool old h
+      → IsOwnHandle pool new h
   own_still h es spent grows own = (own.0, own.1 ∙ sym (ap (λ (x : Option ℕ). unwrap_or x 0) grows.more.number))
 
-  module _ (number : ℕ) (note : Note) (log later : Vec Note) (adds : HasWritten log later (note ∷ [])) (sampler : Sampling) (size : ℕ) where
-    pub asked_none : MayAllot pool old class Handle → IsNoted pool old new (Bin lane) number (plain Did.NoHandle) → note ≡ Note.At (Bin lane) number Did.NoHandle →
+  module _ (number : ℕ) (note : Note) (log later : Vec Note) (adds : HasWritten log later (note ∷ []))
+      (sampler : Sampling) (size : ℕ) where
+    pub asked_none : MayAllot pool old class Handle → IsNoted pool old new (Bin lane) number (plain Did.NoHandle)
+        → note ≡ Note.At (Bin lane) number Did.NoHandle →
         HasAllotted pool old new sampler sampler log later size class Handle NoHandle
     asked_none may noted it =
         let n : Noted = plain Did.NoHandle in let e : Entry = note_at pool old new may.seat_is is (Bin lane) number n in
@@ -85,178 +89,283 @@ module _ {G : Ghosts HomeValue Noted} (pool : SharedPool) (old new : PoolSeat Ho
         record {
           written = note ∷ [];
           log = adds;
-          wrote = wrote_note pool old new may.seat_is is same sampler (rest_of shape lane size class Handle) none_asked (rest_after shape lane size class NoHandle) (Bin lane) number n note noted it (tt, refl)
+          wrote =
+              wrote_note pool old new may.seat_is is same sampler (rest_of shape lane size class Handle) none_asked
+              (rest_after shape lane size class NoHandle) (Bin lane) number n note noted it (tt, refl)
               (read_no_handle shape lane size class 0 number (entry_of e) refl);
-          hand = held_on v w (e ∷ []) 0 empty_hand empty_hand grows (no_handle lane number v.own.number empty_hand lane) may.hand;
+          hand =
+              held_on v w (e ∷ []) 0 empty_hand empty_hand grows (no_handle lane number v.own.number empty_hand lane)
+              may.hand;
           fits = tt;
           again = omega arith;
-          counts = still_added (entry_of e) (record { gains = λ q. refl; loses = λ q. refl; needs = λ q. refl; ends = λ q. refl }) refl;
+          counts =
+              still_added (entry_of e) (record
+              { gains = λ q. refl; loses = λ q. refl; needs = λ q. refl; ends = λ q. refl }) refl;
           place = tt;
-          spends = spends v w (e ∷ []) 0 grows (left_of Handle) (left_after NoHandle) (omega arith) (omega arith) (omega arith) (λ to. omega arith);
+          spends =
+              spends v w (e ∷ []) 0 grows (left_of Handle) (left_after NoHandle) (omega arith) (omega arith)
+              (omega arith) (λ to. omega arith);
           asked = λ n. omega arith;
         }
 
     module _ (h : HandleValue) where
-      pub asked_handle : class_of (geometry_of shape) size ≡ Some class → class < cached_classes → MayAllot pool old class Handle → IsNoted pool old new (Bin lane) number (plain (Did.Handle h.place)) → HoldsHandle pool new h → h.lane ≡ lane → note ≡ Note.At (Bin lane) number (Did.Handle h.place) →
+      pub asked_handle : class_of (geometry_of shape) size ≡ Some class → class < cached_classes
+          → MayAllot pool old class Handle → IsNoted pool old new (Bin lane) number (plain (Did.Handle h.place))
+          → HoldsHandle pool new h → h.lane ≡ lane → note ≡ Note.At (Bin lane) number (Did.Handle h.place) →
           HasAllotted pool old new sampler sampler log later size class Handle (More (AskCache h))
       asked_handle class_is less may noted holds own it =
-          let n : Noted = plain (Did.Handle h.place) in let e : Entry = note_at pool old new may.seat_is is (Bin lane) number n in
+          let n : Noted = plain (Did.Handle h.place) in let e : Entry =
+          note_at pool old new may.seat_is is (Bin lane) number n in
           let grows : Grows v w (e ∷ []) 0 = grows_noted pool old new may.seat_is is (Bin lane) number n noted in
           record {
             written = note ∷ [];
             log = adds;
-            wrote = wrote_note pool old new may.seat_is is same sampler (rest_of shape lane size class Handle) none_asked (rest_after shape lane size class (More (AskCache h))) (Bin lane) number n note noted it (tt, refl)
+            wrote =
+                wrote_note pool old new may.seat_is is same sampler (rest_of shape lane size class Handle) none_asked
+                (rest_after shape lane size class (More (AskCache h))) (Bin lane) number n note noted it (tt, refl)
                 (read_handle shape lane size class h.place number (entry_of e) class_is refl);
-            hand = held_on v w (e ∷ []) 0 empty_hand (hand_of (AskCache h)) grows (handle_comes lane number v.own.number empty_hand lane h.place) may.hand;
+            hand =
+                held_on v w (e ∷ []) 0 empty_hand (hand_of (AskCache h)) grows
+                (handle_comes lane number v.own.number empty_hand lane h.place) may.hand;
             fits = (own_still h (e ∷ []) 0 grows (is_handle pool new h holds, own), less);
             again = omega arith;
-            counts = still_added (entry_of e) (record { gains = λ q. refl; loses = λ q. refl; needs = λ q. refl; ends = λ q. refl }) refl;
+            counts =
+                still_added (entry_of e) (record
+                { gains = λ q. refl; loses = λ q. refl; needs = λ q. refl; ends = λ q. refl }) refl;
             place = tt;
-            spends = spends v w (e ∷ []) 0 grows (left_of Handle) (left_of (AskCache h)) (omega arith) (omega arith) (omega arith) (λ to. omega arith);
+            spends =
+                spends v w (e ∷ []) 0 grows (left_of Handle) (left_of (AskCache h)) (omega arith) (omega arith)
+                (omega arith) (λ to. omega arith);
             asked = λ n. omega arith;
           }
 
-      pub asked_handle_uncached : class_of (geometry_of shape) size ≡ Some class → cached_classes ≤ class → MayAllot pool old class Handle → IsNoted pool old new (Bin lane) number (plain (Did.Handle h.place)) → HoldsHandle pool new h → h.lane ≡ lane → note ≡ Note.At (Bin lane) number (Did.Handle h.place) →
+      pub asked_handle_uncached : class_of (geometry_of shape) size ≡ Some class → cached_classes ≤ class
+          → MayAllot pool old class Handle → IsNoted pool old new (Bin lane) number (plain (Did.Handle h.place))
+          → HoldsHandle pool new h → h.lane ≡ lane → note ≡ Note.At (Bin lane) number (Did.Handle h.place) →
           HasAllotted pool old new sampler sampler log later size class Handle (More (AskArena h))
       asked_handle_uncached class_is more may noted holds own it =
-          let n : Noted = plain (Did.Handle h.place) in let e : Entry = note_at pool old new may.seat_is is (Bin lane) number n in
+          let n : Noted = plain (Did.Handle h.place) in let e : Entry =
+          note_at pool old new may.seat_is is (Bin lane) number n in
           let grows : Grows v w (e ∷ []) 0 = grows_noted pool old new may.seat_is is (Bin lane) number n noted in
           record {
             written = note ∷ [];
             log = adds;
-            wrote = wrote_note pool old new may.seat_is is same sampler (rest_of shape lane size class Handle) none_asked (rest_after shape lane size class (More (AskArena h))) (Bin lane) number n note noted it (tt, refl)
+            wrote =
+                wrote_note pool old new may.seat_is is same sampler (rest_of shape lane size class Handle) none_asked
+                (rest_after shape lane size class (More (AskArena h))) (Bin lane) number n note noted it (tt, refl)
                 (read_handle_uncached shape lane size class h.place number (entry_of e) class_is refl more);
-            hand = held_on v w (e ∷ []) 0 empty_hand (hand_of (AskArena h)) grows (handle_comes lane number v.own.number empty_hand lane h.place) may.hand;
+            hand =
+                held_on v w (e ∷ []) 0 empty_hand (hand_of (AskArena h)) grows
+                (handle_comes lane number v.own.number empty_hand lane h.place) may.hand;
             fits = own_still h (e ∷ []) 0 grows (is_handle pool new h holds, own);
             again = omega arith;
-            counts = still_added (entry_of e) (record { gains = λ q. refl; loses = λ q. refl; needs = λ q. refl; ends = λ q. refl }) refl;
+            counts =
+                still_added (entry_of e) (record
+                { gains = λ q. refl; loses = λ q. refl; needs = λ q. refl; ends = λ q. refl }) refl;
             place = tt;
-            spends = spends v w (e ∷ []) 0 grows (left_of Handle) (left_of (AskArena h)) (omega arith) (omega arith) (omega arith) (λ to. omega arith);
+            spends =
+                spends v w (e ∷ []) 0 grows (left_of Handle) (left_of (AskArena h)) (omega arith) (omega arith)
+                (omega arith) (λ to. omega arith);
             asked = λ n. omega arith;
           }
 
-      pub cache_hit : (r : Region) → MayAllot pool old class (AskCache h) → IsNoted pool old new (Cache lane class) number (plain (Did.Hit r.id)) → HoldsRegion pool new r → r.id.class ≡ class → note ≡ Note.At (Cache lane class) number (Did.Hit r.id) →
+      pub cache_hit : (r : Region) → MayAllot pool old class (AskCache h)
+          → IsNoted pool old new (Cache lane class) number (plain (Did.Hit r.id)) → HoldsRegion pool new r
+          → r.id.class ≡ class → note ≡ Note.At (Cache lane class) number (Did.Hit r.id) →
           HasAllotted pool old new sampler sampler log later size class (AskCache h) (More (Birth h r))
       cache_hit r may noted holds classed it =
-          let o : Object = Cache lane class in let n : Noted = plain (Did.Hit r.id) in let e : Entry = note_at pool old new may.seat_is is o number n in
+          let o : Object = Cache lane class in let n : Noted = plain (Did.Hit r.id) in let e : Entry =
+          note_at pool old new may.seat_is is o number n in
           let grows : Grows v w (e ∷ []) 0 = grows_noted pool old new may.seat_is is o number n noted in
           record {
             written = note ∷ [];
             log = adds;
-            wrote = wrote_note pool old new may.seat_is is same sampler (rest_of shape lane size class (AskCache h)) one_asked (rest_after shape lane size class (More (Birth h r))) o number n note noted it (tt, refl)
+            wrote =
+                wrote_note pool old new may.seat_is is same sampler (rest_of shape lane size class (AskCache h))
+                one_asked (rest_after shape lane size class (More (Birth h r))) o number n note noted it (tt, refl)
                 (read_hit shape lane size class h.place number (entry_of e) may.fits.1 r.id refl);
-            hand = held_on v w (e ∷ []) 0 (hand_of (AskCache h)) (hand_of (Birth h r)) grows (region_hit lane number v.own.number (hand_of (AskCache h)) lane class r.id) may.hand;
+            hand =
+                held_on v w (e ∷ []) 0 (hand_of (AskCache h)) (hand_of (Birth h r)) grows
+                (region_hit lane number v.own.number (hand_of (AskCache h)) lane class r.id) may.hand;
             fits = (may.fits.0.0, is_region pool new r holds, classed);
             again = omega arith;
-            counts = still_added (entry_of e) (record { gains = λ q. refl; loses = λ q. refl; needs = λ q. refl; ends = λ q. refl }) refl;
+            counts =
+                still_added (entry_of e) (record
+                { gains = λ q. refl; loses = λ q. refl; needs = λ q. refl; ends = λ q. refl }) refl;
             place = tt;
-            spends = spends v w (e ∷ []) 0 grows (left_of (AskCache h)) (left_of (Birth h r)) (omega arith) (omega arith) (omega arith) (λ to. omega arith);
+            spends =
+                spends v w (e ∷ []) 0 grows (left_of (AskCache h)) (left_of (Birth h r)) (omega arith) (omega arith)
+                (omega arith) (λ to. omega arith);
             asked = λ n. omega arith;
           }
 
-      pub cache_empty : MayAllot pool old class (AskCache h) → IsNoted pool old new (Cache lane class) number (plain Did.Miss) → note ≡ Note.At (Cache lane class) number Did.Miss →
+      pub cache_empty : MayAllot pool old class (AskCache h)
+          → IsNoted pool old new (Cache lane class) number (plain Did.Miss)
+          → note ≡ Note.At (Cache lane class) number Did.Miss →
           HasAllotted pool old new sampler sampler log later size class (AskCache h) (More (AskArena h))
       cache_empty may noted it =
-          let o : Object = Cache lane class in let n : Noted = plain Did.Miss in let e : Entry = note_at pool old new may.seat_is is o number n in
+          let o : Object = Cache lane class in let n : Noted = plain Did.Miss in let e : Entry =
+          note_at pool old new may.seat_is is o number n in
           let grows : Grows v w (e ∷ []) 0 = grows_noted pool old new may.seat_is is o number n noted in
           record {
             written = note ∷ [];
             log = adds;
-            wrote = wrote_note pool old new may.seat_is is same sampler (rest_of shape lane size class (AskCache h)) one_asked (rest_after shape lane size class (More (AskArena h))) o number n note noted it (tt, refl)
+            wrote =
+                wrote_note pool old new may.seat_is is same sampler (rest_of shape lane size class (AskCache h))
+                one_asked (rest_after shape lane size class (More (AskArena h))) o number n note noted it (tt, refl)
                 (read_missed shape lane size class h.place number (entry_of e) may.fits.1 refl);
-            hand = held_on v w (e ∷ []) 0 (hand_of (AskCache h)) (hand_of (AskArena h)) grows (cache_missed lane number v.own.number (hand_of (AskCache h)) lane class) may.hand;
+            hand =
+                held_on v w (e ∷ []) 0 (hand_of (AskCache h)) (hand_of (AskArena h)) grows
+                (cache_missed lane number v.own.number (hand_of (AskCache h)) lane class) may.hand;
             fits = own_still h (e ∷ []) 0 grows may.fits.0;
             again = omega arith;
-            counts = still_added (entry_of e) (record { gains = λ q. refl; loses = λ q. refl; needs = λ q. refl; ends = λ q. refl }) refl;
+            counts =
+                still_added (entry_of e) (record
+                { gains = λ q. refl; loses = λ q. refl; needs = λ q. refl; ends = λ q. refl }) refl;
             place = tt;
-            spends = spends v w (e ∷ []) 0 grows (left_of (AskCache h)) (left_of (AskArena h)) (omega arith) (omega arith) (omega arith) (λ to. omega arith);
+            spends =
+                spends v w (e ∷ []) 0 grows (left_of (AskCache h)) (left_of (AskArena h)) (omega arith) (omega arith)
+                (omega arith) (λ to. omega arith);
             asked = λ n. omega arith;
           }
 
-      pub arena_gave : (r : Region) → MayAllot pool old class (AskArena h) → IsNoted pool old new (Arena (lane % shape.arenas)) number (plain (Did.Take class r.id)) → HoldsRegion pool new r → r.id.class ≡ class →
-          note ≡ Note.At (Arena (lane % shape.arenas)) number (Did.Take class r.id) → HasAllotted pool old new sampler sampler log later size class (AskArena h) (More (Birth h r))
+      pub arena_gave : (r : Region) → MayAllot pool old class (AskArena h)
+          → IsNoted pool old new (Arena (lane % shape.arenas)) number (plain (Did.Take class r.id))
+          → HoldsRegion pool new r → r.id.class ≡ class →
+          note ≡ Note.At (Arena (lane % shape.arenas)) number (Did.Take class r.id)
+          → HasAllotted pool old new sampler sampler log later size class (AskArena h) (More (Birth h r))
       arena_gave r may noted holds classed it =
-          let o : Object = Arena (lane % shape.arenas) in let n : Noted = plain (Did.Take class r.id) in let e : Entry = note_at pool old new may.seat_is is o number n in
+          let o : Object = Arena (lane % shape.arenas) in let n : Noted = plain (Did.Take class r.id) in let e : Entry =
+          note_at pool old new may.seat_is is o number n in
           let grows : Grows v w (e ∷ []) 0 = grows_noted pool old new may.seat_is is o number n noted in
           record {
             written = note ∷ [];
             log = adds;
-            wrote = wrote_note pool old new may.seat_is is same sampler (rest_of shape lane size class (AskArena h)) none_asked (rest_after shape lane size class (More (Birth h r))) o number n note noted it (tt, refl)
+            wrote =
+                wrote_note pool old new may.seat_is is same sampler (rest_of shape lane size class (AskArena h))
+                none_asked (rest_after shape lane size class (More (Birth h r))) o number n note noted it (tt, refl)
                 (read_taken shape lane size class h.place number (entry_of e) r.id refl);
-            hand = held_on v w (e ∷ []) 0 (hand_of (AskArena h)) (hand_of (Birth h r)) grows (region_taken lane number v.own.number (hand_of (AskArena h)) (lane % shape.arenas) class r.id) may.hand;
+            hand =
+                held_on v w (e ∷ []) 0 (hand_of (AskArena h)) (hand_of (Birth h r)) grows
+                (region_taken lane number v.own.number (hand_of (AskArena h)) (lane % shape.arenas) class r.id)
+                may.hand;
             fits = (may.fits.0, is_region pool new r holds, classed);
             again = omega arith;
-            counts = still_added (entry_of e) (record { gains = λ q. refl; loses = λ q. refl; needs = λ q. refl; ends = λ q. refl }) refl;
+            counts =
+                still_added (entry_of e) (record
+                { gains = λ q. refl; loses = λ q. refl; needs = λ q. refl; ends = λ q. refl }) refl;
             place = tt;
-            spends = spends v w (e ∷ []) 0 grows (left_of (AskArena h)) (left_of (Birth h r)) (omega arith) (omega arith) (omega arith) (λ to. omega arith);
+            spends =
+                spends v w (e ∷ []) 0 grows (left_of (AskArena h)) (left_of (Birth h r)) (omega arith) (omega arith)
+                (omega arith) (λ to. omega arith);
             asked = λ n. omega arith;
           }
 
-      pub arena_was_full : MayAllot pool old class (AskArena h) → IsNoted pool old new (Arena (lane % shape.arenas)) number (plain (Did.Full class)) → note ≡ Note.At (Arena (lane % shape.arenas)) number (Did.Full class) →
+      pub arena_was_full : MayAllot pool old class (AskArena h)
+          → IsNoted pool old new (Arena (lane % shape.arenas)) number (plain (Did.Full class))
+          → note ≡ Note.At (Arena (lane % shape.arenas)) number (Did.Full class) →
           HasAllotted pool old new sampler sampler log later size class (AskArena h) (More (Home h))
       arena_was_full may noted it =
-          let o : Object = Arena (lane % shape.arenas) in let n : Noted = plain (Did.Full class) in let e : Entry = note_at pool old new may.seat_is is o number n in
+          let o : Object = Arena (lane % shape.arenas) in let n : Noted = plain (Did.Full class) in let e : Entry =
+          note_at pool old new may.seat_is is o number n in
           let grows : Grows v w (e ∷ []) 0 = grows_noted pool old new may.seat_is is o number n noted in
           record {
             written = note ∷ [];
             log = adds;
-            wrote = wrote_note pool old new may.seat_is is same sampler (rest_of shape lane size class (AskArena h)) none_asked (rest_after shape lane size class (More (Home h))) o number n note noted it (tt, refl)
+            wrote =
+                wrote_note pool old new may.seat_is is same sampler (rest_of shape lane size class (AskArena h))
+                none_asked (rest_after shape lane size class (More (Home h))) o number n note noted it (tt, refl)
                 (read_full shape lane size class h.place number (entry_of e) refl);
-            hand = held_on v w (e ∷ []) 0 (hand_of (AskArena h)) (hand_of (Home h)) grows (arena_full lane number v.own.number (hand_of (AskArena h)) (lane % shape.arenas) class) may.hand;
+            hand =
+                held_on v w (e ∷ []) 0 (hand_of (AskArena h)) (hand_of (Home h)) grows
+                (arena_full lane number v.own.number (hand_of (AskArena h)) (lane % shape.arenas) class) may.hand;
             fits = own_still h (e ∷ []) 0 grows may.fits;
             again = omega arith;
-            counts = still_added (entry_of e) (record { gains = λ q. refl; loses = λ q. refl; needs = λ q. refl; ends = λ q. refl }) refl;
+            counts =
+                still_added (entry_of e) (record
+                { gains = λ q. refl; loses = λ q. refl; needs = λ q. refl; ends = λ q. refl }) refl;
             place = tt;
-            spends = spends v w (e ∷ []) 0 grows (left_of (AskArena h)) (left_of (Home h)) (omega arith) (omega arith) (omega arith) (λ to. omega arith);
+            spends =
+                spends v w (e ∷ []) 0 grows (left_of (AskArena h)) (left_of (Home h)) (omega arith) (omega arith)
+                (omega arith) (λ to. omega arith);
             asked = λ n. omega arith;
           }
 
-      pub went_home : MayAllot pool old class (Home h) → IsNoted pool old new (Bin h.lane) number (plain (Did.Home h.place)) → note ≡ Note.At (Bin h.lane) number (Did.Home h.place) →
+      pub went_home : MayAllot pool old class (Home h)
+          → IsNoted pool old new (Bin h.lane) number (plain (Did.Home h.place))
+          → note ≡ Note.At (Bin h.lane) number (Did.Home h.place) →
           HasAllotted pool old new sampler sampler log later size class (Home h) Full
       went_home may noted it =
-          let o : Object = Bin h.lane in let n : Noted = plain (Did.Home h.place) in let e : Entry = note_at pool old new may.seat_is is o number n in
+          let o : Object = Bin h.lane in let n : Noted = plain (Did.Home h.place) in let e : Entry =
+          note_at pool old new may.seat_is is o number n in
           let grows : Grows v w (e ∷ []) 0 = grows_noted pool old new may.seat_is is o number n noted in
           record {
             written = note ∷ [];
             log = adds;
-            wrote = wrote_note pool old new may.seat_is is same sampler (rest_of shape lane size class (Home h)) none_asked (rest_after shape lane size class Full) o number n note noted it (tt, refl)
+            wrote =
+                wrote_note pool old new may.seat_is is same sampler (rest_of shape lane size class (Home h)) none_asked
+                (rest_after shape lane size class Full) o number n note noted it (tt, refl)
                 (read_home shape lane size class h.place number (entry_of e) h.lane may.fits.1 refl);
-            hand = held_on v w (e ∷ []) 0 (hand_of (Home h)) empty_hand grows (handle_goes lane number v.own.number (hand_of (Home h)) h.lane h.place) may.hand;
+            hand =
+                held_on v w (e ∷ []) 0 (hand_of (Home h)) empty_hand grows
+                (handle_goes lane number v.own.number (hand_of (Home h)) h.lane h.place) may.hand;
             fits = tt;
             again = omega arith;
-            counts = still_added (entry_of e) (record { gains = λ q. refl; loses = λ q. refl; needs = λ q. refl; ends = λ q. refl }) refl;
+            counts =
+                still_added (entry_of e) (record
+                { gains = λ q. refl; loses = λ q. refl; needs = λ q. refl; ends = λ q. refl }) refl;
             place = tt;
-            spends = spends v w (e ∷ []) 0 grows (left_of (Home h)) (left_after Full) (omega arith) (omega arith) (omega arith) (λ to. omega arith);
+            spends =
+                spends v w (e ∷ []) 0 grows (left_of (Home h)) (left_after Full) (omega arith) (omega arith)
+                (omega arith) (λ to. omega arith);
             asked = λ n. omega arith;
           }
 
   -- another lane was in the cache
-  pub cache_busy : (h : HandleValue) (held : Held) (log later : Vec Note) → HasWritten log later (Note.Busy held ∷ []) → (sampler : Sampling) (size : ℕ) → MayAllot pool old class (AskCache h) → FoundBusy pool (Cache lane class) true old new held →
+  pub cache_busy : (h : HandleValue) (held : Held) (log later : Vec Note) → HasWritten log later (Note.Busy held ∷ [])
+      → (sampler : Sampling) (size : ℕ) → MayAllot pool old class (AskCache h)
+      → FoundBusy pool (Cache lane class) true old new held →
       HasAllotted pool old new sampler sampler log later size class (AskCache h) (More (AskArena h))
   cache_busy h held log later adds sampler size may found =
       let grows : Grows v w (Busy held ∷ []) 0 = grows_busy pool old new may.seat_is is (Cache lane class) held found in
       record {
         written = Note.Busy held ∷ [];
         log = adds;
-        wrote = wrote_mark pool old new may.seat_is is same sampler (rest_of shape lane size class (AskCache h)) one_asked (rest_after shape lane size class (More (AskArena h))) (Cache lane class) held found
+        wrote =
+            wrote_mark pool old new may.seat_is is same sampler (rest_of shape lane size class (AskCache h)) one_asked
+            (rest_after shape lane size class (More (AskArena h))) (Cache lane class) held found
             (read_busy shape lane size class h.place 0 (entry_of (Busy held)) may.fits.1 held found.object refl);
-        hand = held_on v w (Busy held ∷ []) 0 (hand_of (AskCache h)) (hand_of (AskArena h)) grows (marked_busy lane 0 v.own.number (hand_of (AskCache h)) held) may.hand;
+        hand =
+            held_on v w (Busy held ∷ []) 0 (hand_of (AskCache h)) (hand_of (AskArena h)) grows
+            (marked_busy lane 0 v.own.number (hand_of (AskCache h)) held) may.hand;
         fits = own_still h (Busy held ∷ []) 0 grows may.fits.0;
         again = omega arith;
-        counts = still_added (entry_of (Busy held)) (record { gains = λ q. refl; loses = λ q. refl; needs = λ q. refl; ends = λ q. refl }) refl;
+        counts =
+            still_added (entry_of (Busy held))
+            (record { gains = λ q. refl; loses = λ q. refl; needs = λ q. refl; ends = λ q. refl }) refl;
         place = tt;
-        spends = spends v w (Busy held ∷ []) 0 grows (left_of (AskCache h)) (left_of (AskArena h)) (omega arith) (omega arith) (omega arith) (λ to. omega arith);
+        spends =
+            spends v w (Busy held ∷ []) 0 grows (left_of (AskCache h)) (left_of (AskArena h)) (omega arith)
+            (omega arith) (omega arith) (λ to. omega arith);
         asked = λ n. omega arith;
       }
 
   -- a root is born
-  pub root_born : (h : HandleValue) (r : Region) (root : RootId) (number size : ℕ) (first last : Sampling) (born step : Note) (log later : Vec Note) → HasWritten log later (born ∷ step ∷ []) → MayAllot pool old class (Birth h r) → 0 < v.moves →
-      IsNotedWith pool old new root number (birth root r.id (watch_of last)) Born (v.moves - 1) → root.place ≡ h.place → root.capacity ≡ size → last ≡ with_birth first →
-      born ≡ Note.At (Root root.place) number (Did.Birth root (record r.id { uses = r.id.uses + 1 })) → step ≡ Note.Ref root Born →
-      HasAllotted pool old new first last log later size class (Birth h r) (NewRoot root (record r.id { uses = r.id.uses + 1 }))
+  pub root_born : (h : HandleValue) (r : Region) (root : RootId) (number size : ℕ) (first last : Sampling)
+      (born step : Note) (log later : Vec Note) → HasWritten log later (born ∷ step ∷ [])
+      → MayAllot pool old class (Birth h r) → 0 < v.moves →
+      IsNotedWith pool old new root number (birth root r.id (watch_of last)) Born (v.moves - 1) → root.place ≡ h.place
+      → root.capacity ≡ size → last ≡ with_birth first →
+      born ≡ Note.At (Root root.place) number (Did.Birth root (record r.id { uses = r.id.uses + 1 }))
+      → step ≡ Note.Ref root Born →
+      HasAllotted pool old new first last log later size class (Birth h r)
+      (NewRoot root (record r.id { uses = r.id.uses + 1 }))
   root_born h r root number size first last born step log later adds may moves noted at long sampled it next_it =
-      let n : Noted = birth root r.id (watch_of last) in let e : Entry = note_at pool old new may.seat_is is (Root root.place) number n in let es : List Entry = e ∷ Ref root Born ∷ [] in
-      let grows : Grows v w es 1 = grows_with pool old new may.seat_is is root number n Born (v.moves - 1) 1 noted (omega (arith, moves)) in
+      let n : Noted = birth root r.id (watch_of last) in let e : Entry =
+      note_at pool old new may.seat_is is (Root root.place) number n in let es : List Entry =
+      e ∷ Ref root Born ∷ [] in
+      let grows : Grows v w es 1 = grows_with pool old new may.seat_is is root number n Born (v.moves - 1) 1 noted
+      (omega (arith, moves)) in
       record {
         written = born ∷ step ∷ [];
         log = adds;
@@ -267,18 +376,28 @@ module _ {G : Ghosts HomeValue Noted} (pool : SharedPool) (old new : PoolSeat Ho
           more = grows.more;
           noted = λ i. sym it i ∷ sym next_it i ∷ [];
           sampled = (ap watch_of sampled, sym sampled);
-          read = read_born shape lane size class h.place number (entry_of e) root r.id (entry_of (Ref root Born)) at long refl refl;
+          read =
+              read_born shape lane size class h.place number (entry_of e) root r.id (entry_of (Ref root Born)) at long
+              refl refl;
         };
-        hand = held_on v w es 1 (hand_of (Birth h r)) empty_hand grows (both_born lane number v.own.number empty_hand root r.id (watch_of last) h.place at) may.hand;
+        hand =
+            held_on v w es 1 (hand_of (Birth h r)) empty_hand grows
+            (both_born lane number v.own.number empty_hand root r.id (watch_of last) h.place at) may.hand;
         fits = tt;
         again = omega arith;
-        counts = born_added (entry_of e) root (record { gains = λ q. refl; loses = λ q. refl; needs = λ q. refl; ends = λ q. refl }) refl;
+        counts =
+            born_added (entry_of e) root (record
+            { gains = λ q. refl; loses = λ q. refl; needs = λ q. refl; ends = λ q. refl }) refl;
         place = subst (λ (p : ℕ). p < shape.lanes * shape.handles) (sym at) may.fits.0.place;
-        spends = spends v w es 1 grows (left_of (Birth h r)) (left_after (NewRoot root (record r.id { uses = r.id.uses + 1 }))) (omega arith) (omega arith) (omega arith) (λ to. omega arith);
+        spends =
+            spends v w es 1 grows (left_of (Birth h r))
+            (left_after (NewRoot root (record r.id { uses = r.id.uses + 1 }))) (omega arith) (omega arith)
+            (omega arith) (λ to. omega arith);
         asked = λ n. omega arith;
       }
 
-  still_asked : (stage : Allotting) → IsUnasked stage → (n : ℕ) → (left_of stage).asks + asks_of stage n ≤ (left_of stage).asks + n
+  still_asked : (stage : Allotting) → IsUnasked stage → (n : ℕ)
+      → (left_of stage).asks + asks_of stage n ≤ (left_of stage).asks + n
   still_asked Handle un n = omega arith
   still_asked (AskCache h) un n = absurd un
   still_asked (AskArena h) un n = omega arith
@@ -286,7 +405,8 @@ module _ {G : Ghosts HomeValue Noted} (pool : SharedPool) (old new : PoolSeat Ho
   still_asked (Home h) un n = omega arith
 
   -- where no cache is asked, the same is read of no notes
-  still_at : (size : ℕ) (stage : Allotting) → IsUnasked stage → ReadsOn (rest_of shape lane size class stage) [] (asks_of stage) (rest_of shape lane size class stage)
+  still_at : (size : ℕ) (stage : Allotting) → IsUnasked stage
+      → ReadsOn (rest_of shape lane size class stage) [] (asks_of stage) (rest_of shape lane size class stage)
   still_at size Handle un = still_on (rest_of shape lane size class Handle)
   still_at size (AskCache h) un = absurd un
   still_at size (AskArena h) un = still_on (rest_of shape lane size class (AskArena h))
@@ -294,20 +414,27 @@ module _ {G : Ghosts HomeValue Noted} (pool : SharedPool) (old new : PoolSeat Ho
   still_at size (Home h) un = still_on (rest_of shape lane size class (Home h))
 
   -- another seat was there, and the same is to be tried again
-  pub found_held : (o : Object) (held : Held) (stage again : Allotting) (log : Vec Note) (sampler : Sampling) (size : ℕ) → IsUnasked stage → MayAllot pool old class stage → FoundBusy pool o false old new held → again ≡ stage → Fits pool new class stage →
+  pub found_held : (o : Object) (held : Held) (stage again : Allotting) (log : Vec Note) (sampler : Sampling) (size : ℕ)
+      → IsUnasked stage → MayAllot pool old class stage → FoundBusy pool o false old new held → again ≡ stage
+      → Fits pool new class stage →
       HasAllotted pool old new sampler sampler log log size class stage (HeldBack held again)
   found_held o held stage again log sampler size unasked may found alike fits =
       let grows : Grows v w [] 0 = grows_held pool old new may.seat_is is o held found in
-      subst (λ (x : Allotting). HasAllotted pool old new sampler sampler log log size class stage (HeldBack held x)) (sym alike)
+      subst (λ (x : Allotting). HasAllotted pool old new sampler sampler log log size class stage (HeldBack held x))
+      (sym alike)
       (record {
         written = [];
         log = wrote_none log;
-        wrote = wrote_nothing pool old new may.seat_is is same sampler (rest_of shape lane size class stage) (asks_of stage) (rest_of shape lane size class stage) o held found (still_at size stage unasked);
+        wrote =
+            wrote_nothing pool old new may.seat_is is same sampler (rest_of shape lane size class stage) (asks_of stage)
+            (rest_of shape lane size class stage) o held found (still_at size stage unasked);
         hand = subst (λ (x : SeatView). IsHeld (hand_of stage) x) (sym (ap (λ m. m.0) found.marked)) may.hand;
         fits = fits;
         again = (refl, refl, found_there pool old new may.seat_is is same o false held found);
         counts = none_added;
         place = tt;
-        spends = spends v w [] 0 grows (left_of stage) (left_of stage) (omega arith) (omega arith) (omega arith) (λ to. omega arith);
+        spends =
+            spends v w [] 0 grows (left_of stage) (left_of stage) (omega arith) (omega arith) (omega arith)
+            (λ to. omega arith);
         asked = still_asked stage unasked;
       })

@@ -39,58 +39,99 @@ use Rattle.lane_core.proofs.DeskLaws.{waits_turn}
 use Rattle.lane_core.proofs.AccessTurns.{IsAccessDid, set_is, get_is, access_entry, access_turn, access_names, busy_turn, read_set, read_get, read_busy}
 
 -- the access of a reach to its root is noted, and its name is bound to what is behind it
-module _ (pool : SharedPool) (old start mid new : Desk) (d : IsDesk pool empty_hand old) (low : old.asked < sweep_period) (start_is : start ≡ record old { seat = start.seat }) (same : SameSeat old.seat start.seat) (seat : IsPoolSeat pool start.seat) (reach : Reach) (lt : 0 < counted old.counts reach.root)
-    (number : ℕ) (did : Did) (is : IsAccessDid reach.root number (view_of old.seat).own.number did) (made : IsNoted pool old.seat start.seat (Root reach.root.place) number (access reach.root did)) (noted : HasNoted start mid (Note.At (Root reach.root.place) number did ∷ [])) where
-  reached_turn : (reply : Reply) → before_stop (reply ∷ []) ≡ 1 → HasReplied (record mid { names = slice_set mid.names reach.name (Some reach.after.at) }) new reply →
-      (s : LaneState) (command : Command) (bound : Names) → NamesAre bound (slice_set old.names reach.name (Some reach.after.at)) → 1 ≤ (left_for command).notes →
-      ReadsOn (answer_of old.shape (lane_of old.seat) s command) (entry_of (access_entry reach.root number (view_of old.seat).own.number did) ∷ []) none_asked (give (answer reply bound)) → HasTurned pool old new s command Ready (Went Ready)
+module _ (pool : SharedPool) (old start mid new : Desk) (d : IsDesk pool empty_hand old)
+    (low : old.asked < sweep_period) (start_is : start ≡ record old { seat = start.seat })
+    (same : SameSeat old.seat start.seat) (seat : IsPoolSeat pool start.seat) (reach : Reach)
+    (lt : 0 < counted old.counts reach.root)
+    (number : ℕ) (did : Did) (is : IsAccessDid reach.root number (view_of old.seat).own.number did)
+    (made : IsNoted pool old.seat start.seat (Root reach.root.place) number (access reach.root did))
+    (noted : HasNoted start mid (Note.At (Root reach.root.place) number did ∷ [])) where
+  reached_turn : (reply : Reply) → before_stop (reply ∷ []) ≡ 1
+      → HasReplied (record mid { names = slice_set mid.names reach.name (Some reach.after.at) }) new reply →
+      (s : LaneState) (command : Command) (bound : Names)
+      → NamesAre bound (slice_set old.names reach.name (Some reach.after.at)) → 1 ≤ (left_for command).notes →
+      ReadsOn (answer_of old.shape (lane_of old.seat) s command)
+      (entry_of (access_entry reach.root number (view_of old.seat).own.number did) ∷ []) none_asked
+      (give (answer reply bound)) → HasTurned pool old new s command Ready (Went Ready)
   reached_turn reply unstopped replied s command bound are notes reads =
-      let names_are : mid.names ≡ old.names = access_names pool old start mid new d low start_is same seat reach.root lt number did is made noted in
-      access_turn pool old start mid new d low start_is same seat reach.root lt number did is made noted (slice_set mid.names reach.name (Some reach.after.at)) reply unstopped replied
-      (slice_set-length mid.names reach.name (Some reach.after.at) ∙ ap (λ (names : List (Option ViewData)). length names) names_are) s command bound
-      (subst (λ (names : List (Option ViewData)). NamesAre bound (slice_set names reach.name (Some reach.after.at))) (sym names_are) are) notes reads
+      let names_are : mid.names ≡ old.names = access_names pool old start mid new d low start_is same seat reach.root lt
+      number did is made noted in
+      access_turn pool old start mid new d low start_is same seat reach.root lt number did is made noted
+      (slice_set mid.names reach.name (Some reach.after.at)) reply unstopped replied
+      (slice_set-length mid.names reach.name (Some reach.after.at)
+      ∙ ap (λ (names : List (Option ViewData)). length names) names_are) s command bound
+      (subst (λ (names : List (Option ViewData)). NamesAre bound (slice_set names reach.name (Some reach.after.at)))
+      (sym names_are) are) notes reads
 
-module _ (pool : SharedPool) (old start mid new : Desk) (d : IsDesk pool empty_hand old) (low : old.asked < sweep_period) (start_is : start ≡ record old { seat = start.seat }) (same : SameSeat old.seat start.seat) (seat : IsPoolSeat pool start.seat) (reach : Reach) (lt : 0 < counted old.counts reach.root) (number : ℕ) where
+module _ (pool : SharedPool) (old start mid new : Desk) (d : IsDesk pool empty_hand old)
+    (low : old.asked < sweep_period) (start_is : start ≡ record old { seat = start.seat })
+    (same : SameSeat old.seat start.seat) (seat : IsPoolSeat pool start.seat) (reach : Reach)
+    (lt : 0 < counted old.counts reach.root) (number : ℕ) where
   -- bytes were set
-  pub set_turn : (bytes : Vec ℕ Global) → IsNoted pool old.seat start.seat (Root reach.root.place) number (access reach.root (Did.Set reach.offset bytes.items)) → HasNoted start mid (Note.At (Root reach.root.place) number (Did.Set reach.offset bytes.items) ∷ []) →
-      HasReplied (record mid { names = slice_set mid.names reach.name (Some reach.after.at) }) new Reply.Ok → AccessTurns pool old new (Set reach bytes) (Went Ready)
+  pub set_turn : (bytes : Vec ℕ Global) → IsNoted pool old.seat start.seat (Root reach.root.place) number
+      (access reach.root (Did.Set reach.offset bytes.items))
+      → HasNoted start mid (Note.At (Root reach.root.place) number (Did.Set reach.offset bytes.items) ∷ []) →
+      HasReplied (record mid { names = slice_set mid.names reach.name (Some reach.after.at) }) new Reply.Ok
+      → AccessTurns pool old new (Set reach bytes) (Went Ready)
   set_turn bytes made noted replied = λ s command state prepared.
       let lane : Option ℕ = (view_of old.seat).own.number in let bound = prepared.bound in
       let e = entry_of (access_entry reach.root number lane (Did.Set reach.offset bytes.items)) in
-      reached_turn pool old start mid new d low start_is same seat reach lt number (Did.Set reach.offset bytes.items) (set_is reach.root number lane reach.offset bytes.items) made noted Reply.Ok refl replied s command bound prepared.names_are prepared.noted
-      (λ log. prepared.read old.shape (lane_of old.seat) (before_left log (e ∷ [])) ∙ read_set s bound reach number lane bytes.items log)
+      reached_turn pool old start mid new d low start_is same seat reach lt number (Did.Set reach.offset bytes.items)
+      (set_is reach.root number lane reach.offset bytes.items) made noted Reply.Ok refl replied s command bound
+      prepared.names_are prepared.noted
+      (λ log. prepared.read old.shape (lane_of old.seat) (before_left log (e ∷ []))
+      ∙ read_set s bound reach number lane bytes.items log)
 
   -- bytes were got
-  pub get_turn : (note reply : Vec ℕ Global) (bytes : List ℕ) → length bytes ≡ length note.items → IsNoted pool old.seat start.seat (Root reach.root.place) number (access reach.root (Did.Get reach.offset bytes)) → HasNoted start mid (Note.At (Root reach.root.place) number (Did.Get reach.offset bytes) ∷ []) →
-      HasReplied (record mid { names = slice_set mid.names reach.name (Some reach.after.at) }) new (Reply.OkBytes bytes) → AccessTurns pool old new (Get reach note reply) (Went Ready)
+  pub get_turn : (note reply : Vec ℕ Global) (bytes : List ℕ) → length bytes ≡ length note.items
+      → IsNoted pool old.seat start.seat (Root reach.root.place) number (access reach.root (Did.Get reach.offset bytes))
+      → HasNoted start mid (Note.At (Root reach.root.place) number (Did.Get reach.offset bytes) ∷ []) →
+      HasReplied (record mid { names = slice_set mid.names reach.name (Some reach.after.at) }) new (Reply.OkBytes bytes)
+      → AccessTurns pool old new (Get reach note reply) (Went Ready)
   get_turn note reply bytes len made noted replied = λ s command state prepared.
       let lane : Option ℕ = (view_of old.seat).own.number in let bound = prepared.bound in
       let e = entry_of (access_entry reach.root number lane (Did.Get reach.offset bytes)) in
-      reached_turn pool old start mid new d low start_is same seat reach lt number (Did.Get reach.offset bytes) (get_is reach.root number lane reach.offset bytes) made noted (Reply.OkBytes bytes) refl replied s command bound prepared.names_are prepared.noted
-      (λ log. prepared.read old.shape (lane_of old.seat) (before_left log (e ∷ [])) ∙ read_get s bound reach number lane bytes (length note.items) len log)
+      reached_turn pool old start mid new d low start_is same seat reach lt number (Did.Get reach.offset bytes)
+      (get_is reach.root number lane reach.offset bytes) made noted (Reply.OkBytes bytes) refl replied s command
+      bound prepared.names_are prepared.noted
+      (λ log. prepared.read old.shape (lane_of old.seat) (before_left log (e ∷ []))
+      ∙ read_get s bound reach number lane bytes (length note.items) len log)
 
 -- another seat was at the root of an access
-module _ (pool : SharedPool) (old start new : Desk) (d : IsDesk pool empty_hand old) (low : old.asked < sweep_period) (start_is : start ≡ record old { seat = start.seat }) (same : SameSeat old.seat start.seat) (seat : IsPoolSeat pool start.seat) (reach : Reach) (view : reach.after.at.root ≡ reach.root) (held : Held) (turn : Turn)
-    (s : LaneState) (command : Command) (going : Reader Answer) (are : NamesAre s.names old.names) (notes : 1 ≤ (left_for command).notes) where
-  found_turn : (tries : Bool) → FoundBusy pool (Root reach.root.place) tries old.seat start.seat held → FindsBusy tries start new held turn →
-      ((log : Log) → answer_of old.shape (lane_of old.seat) s command log ≡ tries_or tries s reach.after.at going log) → HasTurned pool old new s command Ready turn
+module _ (pool : SharedPool) (old start new : Desk) (d : IsDesk pool empty_hand old) (low : old.asked < sweep_period)
+    (start_is : start ≡ record old { seat = start.seat }) (same : SameSeat old.seat start.seat)
+    (seat : IsPoolSeat pool start.seat) (reach : Reach) (view : reach.after.at.root ≡ reach.root) (held : Held)
+    (turn : Turn)
+    (s : LaneState) (command : Command) (going : Reader Answer) (are : NamesAre s.names old.names)
+    (notes : 1 ≤ (left_for command).notes) where
+  found_turn : (tries : Bool) → FoundBusy pool (Root reach.root.place) tries old.seat start.seat held
+      → FindsBusy tries start new held turn →
+      ((log : Log) → answer_of old.shape (lane_of old.seat) s command log ≡ tries_or tries s reach.after.at going log)
+      → HasTurned pool old new s command Ready turn
   found_turn true found did reads =
       subst (λ (t : Turn). HasTurned pool old new s command Ready t) (sym did.3)
-      (busy_turn pool old start did.0 new d low start_is same seat held (Root reach.root.place) found did.1 did.2 s command are notes
+      (busy_turn pool old start did.0 new d low start_is same seat held (Root reach.root.place) found did.1 did.2 s
+      command are notes
       (λ log. reads (before_left log (entry_of (Busy held) ∷ []))
       ∙ read_busy s reach.after.at held going (found.object ∙ ap (λ (r : RootId). Root r.place) (sym view)) log))
   found_turn false found did reads =
       subst (λ (x : Desk × Turn). HasTurned pool old x.0 s command Ready x.1) (λ i. (sym did.0 i, sym did.1 i))
       (waits_turn pool old start low d start_is same seat (Root reach.root.place) held found s command)
 
-module _ (pool : SharedPool) (old start new : Desk) (d : IsDesk pool empty_hand old) (low : old.asked < sweep_period) (start_is : start ≡ record old { seat = start.seat }) (same : SameSeat old.seat start.seat) (seat : IsPoolSeat pool start.seat) (reach : Reach) (view : reach.after.at.root ≡ reach.root) (held : Held) (turn : Turn)
-    (found : FoundBusy pool (Root reach.root.place) reach.tries old.seat start.seat held) (did : FindsBusy reach.tries start new held turn) where
+module _ (pool : SharedPool) (old start new : Desk) (d : IsDesk pool empty_hand old) (low : old.asked < sweep_period)
+    (start_is : start ≡ record old { seat = start.seat }) (same : SameSeat old.seat start.seat)
+    (seat : IsPoolSeat pool start.seat) (reach : Reach) (view : reach.after.at.root ≡ reach.root) (held : Held)
+    (turn : Turn)
+    (found : FoundBusy pool (Root reach.root.place) reach.tries old.seat start.seat held)
+    (did : FindsBusy reach.tries start new held turn) where
   pub set_found : (bytes : Vec ℕ Global) → AccessTurns pool old new (Set reach bytes) turn
   set_found bytes = λ s command state prepared.
-      found_turn pool old start new d low start_is same seat reach view held turn s command (reads_set prepared.bound reach bytes.items) state.names_are prepared.noted
+      found_turn pool old start new d low start_is same seat reach view held turn s command
+      (reads_set prepared.bound reach bytes.items) state.names_are prepared.noted
       reach.tries found did (prepared.read old.shape (lane_of old.seat))
 
   pub get_found : (note reply : Vec ℕ Global) → AccessTurns pool old new (Get reach note reply) turn
   get_found note reply = λ s command state prepared.
-      found_turn pool old start new d low start_is same seat reach view held turn s command (reads_get prepared.bound reach (length note.items)) state.names_are prepared.noted
+      found_turn pool old start new d low start_is same seat reach view held turn s command
+      (reads_get prepared.bound reach (length note.items)) state.names_are prepared.noted
       reach.tries found did (prepared.read old.shape (lane_of old.seat))

@@ -15,9 +15,11 @@ at_most a b is = grind (arith, nat_tests)
 
 pub class_inside : (g : Geometry) (n class : ℕ) → class_of g n ≡ Some class → class < class_count g
 class_inside g n class e =
-    let a = (found (λ size. nat_le n size) (sizes g) class e).0 in let b = length-first_sizes (class_count g) in omega (arith, a, b)
+    let a = (found (λ size. nat_le n size) (sizes g) class e).0 in let b = length-first_sizes (class_count g) in
+    omega (arith, a, b)
 
 pub class_holds : (g : Geometry) (n class : ℕ) → class_of g n ≡ Some class → n ≤ size_at class
 class_holds g n class e =
     at_most n (size_at class)
-    (subst (λ (size : ℕ). nat_le n size ≡ true) (first_sizes-at (class_count g) class 0 (class_inside g n class e)) (found (λ size. nat_le n size) (sizes g) class e).1)
+    (subst (λ (size : ℕ). nat_le n size ≡ true) (first_sizes-at (class_count g) class 0 (class_inside g n class e))
+    (found (λ size. nat_le n size) (sizes g) class e).1)

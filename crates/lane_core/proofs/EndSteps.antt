@@ -52,7 +52,8 @@ end_left (AskCache region handle) = omega arith
 end_left (AskArena region handle) = omega arith
 end_left (Home handle) = omega arith
 
-module _ {G : Ghosts HomeValue Noted} (pool : SharedPool) (old new : PoolSeat HomeValue G) (is : IsPoolSeat pool new) (same : SameSeat old new) where
+module _ {G : Ghosts HomeValue Noted} (pool : SharedPool) (old new : PoolSeat HomeValue G) (is : IsPoolSeat pool new)
+    (same : SameSeat old new) where
   abbrev shape : Shape
   shape = pool.table.layout.shape
 
@@ -65,95 +66,159 @@ module _ {G : Ghosts HomeValue Noted} (pool : SharedPool) (old new : PoolSeat Ho
   abbrev w : SeatView
   w = view_of new
 
-  module _ (number : ℕ) (note : Note) (log later : Vec Note) (adds : HasWritten log later (note ∷ [])) (h : HandleValue) where
-    module _ (r : Region) where
-      pub kept_there : MayEnd pool old (AskCache r h) → IsNoted pool old new (Cache r.id.owner r.id.class) number (plain (Did.Kept r.id)) → note ≡ Note.At (Cache r.id.owner r.id.class) number (Did.Kept r.id) →
-          HasEnded pool old new log later (AskCache r h) (More (Home h))
-      kept_there may noted it =
-          let o : Object = Cache r.id.owner r.id.class in let n : Noted = plain (Did.Kept r.id) in let e : Entry = note_at pool old new may.seat_is is o number n in
+  module _ (number : ℕ) (note : Note) (log later : Vec Note) (adds : HasWritten log later (note ∷ [])) (h : HandleValue)
+    where
+      module _ (r : Region) where
+        pub kept_there : MayEnd pool old (AskCache r h)
+            → IsNoted pool old new (Cache r.id.owner r.id.class) number (plain (Did.Kept r.id))
+            → note ≡ Note.At (Cache r.id.owner r.id.class) number (Did.Kept r.id) →
+            HasEnded pool old new log later (AskCache r h) (More (Home h))
+        kept_there may noted it =
+            let o : Object = Cache r.id.owner r.id.class in let n : Noted = plain (Did.Kept r.id) in let e : Entry =
+            note_at pool old new may.seat_is is o number n in
+            let grows : Grows v w (e ∷ []) 0 = grows_noted pool old new may.seat_is is o number n noted in
+            record {
+              written = note ∷ [];
+              log = adds;
+              wrote =
+                  λ sampler. wrote_note pool old new may.seat_is is same sampler (rest_of shape (AskCache r h))
+                  none_asked
+                  (rest_after shape (More (Home h))) o number n note noted it (tt, refl)
+                  (read_kept shape h.place number (entry_of e) r.id may.fits.2 refl);
+              hand =
+                  held_on v w (e ∷ []) 0 (hand_of (AskCache r h)) (hand_of (Home h)) grows
+                  (region_kept lane number v.own.number (hand_of (Home h)) r.id.owner r.id.class r.id) may.hand;
+              fits = may.fits.0;
+              again = omega arith;
+              counts =
+                  λ sampler. still_added (entry_of e)
+                  (record { gains = λ q. refl; loses = λ q. refl; needs = λ q. refl; ends = λ q. refl }) refl;
+              spends =
+                  spends v w (e ∷ []) 0 grows (left_of (AskCache r h)) (left_of (Home h)) (omega arith) (omega arith)
+                  (omega arith) (λ to. omega arith);
+            }
+
+        pub came_back : (why : CacheNo) → MayEnd pool old (AskCache r h)
+            → IsNoted pool old new (Cache r.id.owner r.id.class) number (plain (Did.Back r.id why))
+            → note ≡ Note.At (Cache r.id.owner r.id.class) number (Did.Back r.id why) →
+            HasEnded pool old new log later (AskCache r h) (More (AskArena r h))
+        came_back why may noted it =
+            let o : Object = Cache r.id.owner r.id.class in let n : Noted = plain (Did.Back r.id why) in let e : Entry =
+            note_at pool old new may.seat_is is o number n in
+            let grows : Grows v w (e ∷ []) 0 = grows_noted pool old new may.seat_is is o number n noted in
+            record {
+              written = note ∷ [];
+              log = adds;
+              wrote =
+                  λ sampler. wrote_note pool old new may.seat_is is same sampler (rest_of shape (AskCache r h))
+                  none_asked
+                  (rest_after shape (More (AskArena r h))) o number n note noted it (tt, refl)
+                  (read_back shape h.place number (entry_of e) r.id may.fits.2 why refl);
+              hand =
+                  held_on v w (e ∷ []) 0 (hand_of (AskCache r h)) (hand_of (AskArena r h)) grows
+                  (region_back lane number v.own.number (hand_of (AskCache r h)) r.id.owner r.id.class r.id why)
+                  may.hand;
+              fits = (may.fits.0, region_stays pool old new r grows.more.setting may.fits.1);
+              again = omega arith;
+              counts =
+                  λ sampler. still_added (entry_of e)
+                  (record { gains = λ q. refl; loses = λ q. refl; needs = λ q. refl; ends = λ q. refl }) refl;
+              spends =
+                  spends v w (e ∷ []) 0 grows (left_of (AskCache r h)) (left_of (AskArena r h)) (omega arith)
+                  (omega arith) (omega arith) (λ to. omega arith);
+            }
+
+        pub given_back : MayEnd pool old (AskArena r h)
+            → IsNoted pool old new (Arena r.id.place.arena) number (plain (Did.Give r.id))
+            → note ≡ Note.At (Arena r.id.place.arena) number (Did.Give r.id) →
+            HasEnded pool old new log later (AskArena r h) (More (Home h))
+        given_back may noted it =
+            let o : Object = Arena r.id.place.arena in let n : Noted = plain (Did.Give r.id) in let e : Entry =
+            note_at pool old new may.seat_is is o number n in
+            let grows : Grows v w (e ∷ []) 0 = grows_noted pool old new may.seat_is is o number n noted in
+            record {
+              written = note ∷ [];
+              log = adds;
+              wrote =
+                  λ sampler. wrote_note pool old new may.seat_is is same sampler (rest_of shape (AskArena r h))
+                  none_asked
+                  (rest_after shape (More (Home h))) o number n note noted it (tt, refl)
+                  (read_given shape h.place number (entry_of e) r.id refl);
+              hand =
+                  held_on v w (e ∷ []) 0 (hand_of (AskArena r h)) (hand_of (Home h)) grows
+                  (region_given lane number v.own.number (hand_of (Home h)) r.id.place.arena r.id) may.hand;
+              fits = may.fits.0;
+              again = omega arith;
+              counts =
+                  λ sampler. still_added (entry_of e)
+                  (record { gains = λ q. refl; loses = λ q. refl; needs = λ q. refl; ends = λ q. refl }) refl;
+              spends =
+                  spends v w (e ∷ []) 0 grows (left_of (AskArena r h)) (left_of (Home h)) (omega arith) (omega arith)
+                  (omega arith) (λ to. omega arith);
+            }
+
+      pub gone_home : MayEnd pool old (Home h) → IsNoted pool old new (Bin h.lane) number (plain (Did.Home h.place))
+          → note ≡ Note.At (Bin h.lane) number (Did.Home h.place) → HasEnded pool old new log later (Home h) Done
+      gone_home may noted it =
+          let o : Object = Bin h.lane in let n : Noted = plain (Did.Home h.place) in let e : Entry =
+          note_at pool old new may.seat_is is o number n in
           let grows : Grows v w (e ∷ []) 0 = grows_noted pool old new may.seat_is is o number n noted in
           record {
             written = note ∷ [];
             log = adds;
-            wrote = λ sampler. wrote_note pool old new may.seat_is is same sampler (rest_of shape (AskCache r h)) none_asked (rest_after shape (More (Home h))) o number n note noted it (tt, refl)
-                (read_kept shape h.place number (entry_of e) r.id may.fits.2 refl);
-            hand = held_on v w (e ∷ []) 0 (hand_of (AskCache r h)) (hand_of (Home h)) grows (region_kept lane number v.own.number (hand_of (Home h)) r.id.owner r.id.class r.id) may.hand;
-            fits = may.fits.0;
+            wrote =
+                λ sampler. wrote_note pool old new may.seat_is is same sampler (rest_of shape (Home h)) none_asked
+                (rest_after shape Done) o number n note noted it (tt, refl)
+                (read_gone shape h.place number (entry_of e) h.lane may.fits.lane refl);
+            hand =
+                held_on v w (e ∷ []) 0 (hand_of (Home h)) empty_hand grows
+                (handle_goes lane number v.own.number (hand_of (Home h)) h.lane h.place) may.hand;
+            fits = tt;
             again = omega arith;
-            counts = λ sampler. still_added (entry_of e) (record { gains = λ q. refl; loses = λ q. refl; needs = λ q. refl; ends = λ q. refl }) refl;
-            spends = spends v w (e ∷ []) 0 grows (left_of (AskCache r h)) (left_of (Home h)) (omega arith) (omega arith) (omega arith) (λ to. omega arith);
+            counts =
+                λ sampler. still_added (entry_of e)
+                (record { gains = λ q. refl; loses = λ q. refl; needs = λ q. refl; ends = λ q. refl }) refl;
+            spends =
+                spends v w (e ∷ []) 0 grows (left_of (Home h)) (left_after Done) (omega arith) (omega arith)
+                (omega arith)
+                (λ to. omega arith);
           }
-
-      pub came_back : (why : CacheNo) → MayEnd pool old (AskCache r h) → IsNoted pool old new (Cache r.id.owner r.id.class) number (plain (Did.Back r.id why)) → note ≡ Note.At (Cache r.id.owner r.id.class) number (Did.Back r.id why) →
-          HasEnded pool old new log later (AskCache r h) (More (AskArena r h))
-      came_back why may noted it =
-          let o : Object = Cache r.id.owner r.id.class in let n : Noted = plain (Did.Back r.id why) in let e : Entry = note_at pool old new may.seat_is is o number n in
-          let grows : Grows v w (e ∷ []) 0 = grows_noted pool old new may.seat_is is o number n noted in
-          record {
-            written = note ∷ [];
-            log = adds;
-            wrote = λ sampler. wrote_note pool old new may.seat_is is same sampler (rest_of shape (AskCache r h)) none_asked (rest_after shape (More (AskArena r h))) o number n note noted it (tt, refl)
-                (read_back shape h.place number (entry_of e) r.id may.fits.2 why refl);
-            hand = held_on v w (e ∷ []) 0 (hand_of (AskCache r h)) (hand_of (AskArena r h)) grows (region_back lane number v.own.number (hand_of (AskCache r h)) r.id.owner r.id.class r.id why) may.hand;
-            fits = (may.fits.0, region_stays pool old new r grows.more.setting may.fits.1);
-            again = omega arith;
-            counts = λ sampler. still_added (entry_of e) (record { gains = λ q. refl; loses = λ q. refl; needs = λ q. refl; ends = λ q. refl }) refl;
-            spends = spends v w (e ∷ []) 0 grows (left_of (AskCache r h)) (left_of (AskArena r h)) (omega arith) (omega arith) (omega arith) (λ to. omega arith);
-          }
-
-      pub given_back : MayEnd pool old (AskArena r h) → IsNoted pool old new (Arena r.id.place.arena) number (plain (Did.Give r.id)) → note ≡ Note.At (Arena r.id.place.arena) number (Did.Give r.id) →
-          HasEnded pool old new log later (AskArena r h) (More (Home h))
-      given_back may noted it =
-          let o : Object = Arena r.id.place.arena in let n : Noted = plain (Did.Give r.id) in let e : Entry = note_at pool old new may.seat_is is o number n in
-          let grows : Grows v w (e ∷ []) 0 = grows_noted pool old new may.seat_is is o number n noted in
-          record {
-            written = note ∷ [];
-            log = adds;
-            wrote = λ sampler. wrote_note pool old new may.seat_is is same sampler (rest_of shape (AskArena r h)) none_asked (rest_after shape (More (Home h))) o number n note noted it (tt, refl)
-                (read_given shape h.place number (entry_of e) r.id refl);
-            hand = held_on v w (e ∷ []) 0 (hand_of (AskArena r h)) (hand_of (Home h)) grows (region_given lane number v.own.number (hand_of (Home h)) r.id.place.arena r.id) may.hand;
-            fits = may.fits.0;
-            again = omega arith;
-            counts = λ sampler. still_added (entry_of e) (record { gains = λ q. refl; loses = λ q. refl; needs = λ q. refl; ends = λ q. refl }) refl;
-            spends = spends v w (e ∷ []) 0 grows (left_of (AskArena r h)) (left_of (Home h)) (omega arith) (omega arith) (omega arith) (λ to. omega arith);
-          }
-
-    pub gone_home : MayEnd pool old (Home h) → IsNoted pool old new (Bin h.lane) number (plain (Did.Home h.place)) → note ≡ Note.At (Bin h.lane) number (Did.Home h.place) → HasEnded pool old new log later (Home h) Done
-    gone_home may noted it =
-        let o : Object = Bin h.lane in let n : Noted = plain (Did.Home h.place) in let e : Entry = note_at pool old new may.seat_is is o number n in
-        let grows : Grows v w (e ∷ []) 0 = grows_noted pool old new may.seat_is is o number n noted in
-        record {
-          written = note ∷ [];
-          log = adds;
-          wrote = λ sampler. wrote_note pool old new may.seat_is is same sampler (rest_of shape (Home h)) none_asked (rest_after shape Done) o number n note noted it (tt, refl)
-              (read_gone shape h.place number (entry_of e) h.lane may.fits.lane refl);
-          hand = held_on v w (e ∷ []) 0 (hand_of (Home h)) empty_hand grows (handle_goes lane number v.own.number (hand_of (Home h)) h.lane h.place) may.hand;
-          fits = tt;
-          again = omega arith;
-          counts = λ sampler. still_added (entry_of e) (record { gains = λ q. refl; loses = λ q. refl; needs = λ q. refl; ends = λ q. refl }) refl;
-          spends = spends v w (e ∷ []) 0 grows (left_of (Home h)) (left_after Done) (omega arith) (omega arith) (omega arith) (λ to. omega arith);
-        }
 
   -- another lane was in the cache
-  pub away_busy : (r : Region) (h : HandleValue) (held : Held) (log later : Vec Note) → HasWritten log later (Note.Busy held ∷ []) → MayEnd pool old (AskCache r h) → FoundBusy pool (Cache r.id.owner r.id.class) true old new held → HasEnded pool old new log later (AskCache r h) (More (AskArena r h))
+  pub away_busy : (r : Region) (h : HandleValue) (held : Held) (log later : Vec Note)
+      → HasWritten log later (Note.Busy held ∷ []) → MayEnd pool old (AskCache r h)
+      → FoundBusy pool (Cache r.id.owner r.id.class) true old new held
+      → HasEnded pool old new log later (AskCache r h) (More (AskArena r h))
   away_busy r h held log later adds may found =
       let o : Object = Cache r.id.owner r.id.class in
       let grows : Grows v w (Busy held ∷ []) 0 = grows_busy pool old new may.seat_is is o held found in
       record {
         written = Note.Busy held ∷ [];
         log = adds;
-        wrote = λ sampler. wrote_mark pool old new may.seat_is is same sampler (rest_of shape (AskCache r h)) none_asked (rest_after shape (More (AskArena r h))) o held found
+        wrote =
+            λ sampler. wrote_mark pool old new may.seat_is is same sampler (rest_of shape (AskCache r h)) none_asked
+            (rest_after shape (More (AskArena r h))) o held found
             (read_away_busy shape h.place 0 (entry_of (Busy held)) r.id may.fits.2 held found.object refl);
-        hand = held_on v w (Busy held ∷ []) 0 (hand_of (AskCache r h)) (hand_of (AskArena r h)) grows (marked_busy lane 0 v.own.number (hand_of (AskCache r h)) held) may.hand;
+        hand =
+            held_on v w (Busy held ∷ []) 0 (hand_of (AskCache r h)) (hand_of (AskArena r h)) grows
+            (marked_busy lane 0 v.own.number (hand_of (AskCache r h)) held) may.hand;
         fits = (may.fits.0, region_stays pool old new r grows.more.setting may.fits.1);
         again = omega arith;
-        counts = λ sampler. still_added (entry_of (Busy held)) (record { gains = λ q. refl; loses = λ q. refl; needs = λ q. refl; ends = λ q. refl }) refl;
-        spends = spends v w (Busy held ∷ []) 0 grows (left_of (AskCache r h)) (left_of (AskArena r h)) (omega arith) (omega arith) (omega arith) (λ to. omega arith);
+        counts =
+            λ sampler. still_added (entry_of (Busy held))
+            (record { gains = λ q. refl; loses = λ q. refl; needs = λ q. refl; ends = λ q. refl }) refl;
+        spends =
+            spends v w (Busy held ∷ []) 0 grows (left_of (AskCache r h)) (left_of (AskArena r h)) (omega arith)
+            (omega arith) (omega arith) (λ to. omega arith);
       }
 
   -- a root ends, and its region is put away
-  module _ (token : EndToken) (r : Region) (h : HandleValue) (number : ℕ) (ended vacated : Note) (log later : Vec Note) (adds : HasWritten log later (ended ∷ vacated ∷ [])) (may : MayEnd pool old (EndRoot token)) (noted : IsNotedWith pool old new token.root number (end_of token.root r.id) Vacated v.moves)
-      (holds : HoldsRegion pool new r) (handle : HoldsHandle pool new h) (at : h.place ≡ token.root.place) (it : ended ≡ Note.At (Root token.root.place) number (Did.End token.root)) (next_it : vacated ≡ Note.Ref token.root Vacated) where
+  module _ (token : EndToken) (r : Region) (h : HandleValue) (number : ℕ) (ended vacated : Note) (log later : Vec Note)
+      (adds : HasWritten log later (ended ∷ vacated ∷ [])) (may : MayEnd pool old (EndRoot token))
+      (noted : IsNotedWith pool old new token.root number (end_of token.root r.id) Vacated v.moves)
+      (holds : HoldsRegion pool new r) (handle : HoldsHandle pool new h) (at : h.place ≡ token.root.place)
+      (it : ended ≡ Note.At (Root token.root.place) number (Did.End token.root))
+      (next_it : vacated ≡ Note.Ref token.root Vacated) where
     abbrev n : Noted
     n = end_of token.root r.id
 
@@ -177,16 +242,25 @@ module _ {G : Ghosts HomeValue Noted} (pool : SharedPool) (old new : PoolSeat Ho
         more = grows.more;
         noted = λ i. sym it i ∷ sym next_it i ∷ [];
         sampled = (tt, refl);
-        read = read_end shape h.place number (entry_of e) token.root r.id (entry_of (Ref token.root Vacated)) at refl refl refl;
+        read =
+            read_end shape h.place number (entry_of e) token.root r.id (entry_of (Ref token.root Vacated)) at refl refl
+            refl;
       };
-      hand = held_on v w es 0 (hand_of (EndRoot token)) (hand_of (AskCache r h)) grows (both_come lane number v.own.number empty_hand token.root r.id h.place at) may.hand;
+      hand =
+          held_on v w es 0 (hand_of (EndRoot token)) (hand_of (AskCache r h)) grows
+          (both_come lane number v.own.number empty_hand token.root r.id h.place at) may.hand;
       fits = (is_handle pool new h handle, is_region pool new r holds, less);
       again = omega arith;
-      counts = λ sampler. vacated_added (entry_of e) token.root (record { gains = λ q. refl; loses = λ q. refl; needs = λ q. refl; ends = λ q. refl }) refl;
-      spends = spends v w es 0 grows (left_of (EndRoot token)) (left_of (AskCache r h)) (omega arith) (omega arith) (omega arith) (λ to. omega arith);
+      counts =
+          λ sampler. vacated_added (entry_of e) token.root
+          (record { gains = λ q. refl; loses = λ q. refl; needs = λ q. refl; ends = λ q. refl }) refl;
+      spends =
+          spends v w es 0 grows (left_of (EndRoot token)) (left_of (AskCache r h)) (omega arith) (omega arith)
+          (omega arith) (λ to. omega arith);
     }
 
-    pub root_ended_uncached : cached_classes ≤ r.id.class → HasEnded pool old new log later (EndRoot token) (More (AskArena r h))
+    pub root_ended_uncached : cached_classes ≤ r.id.class
+        → HasEnded pool old new log later (EndRoot token) (More (AskArena r h))
     root_ended_uncached more = record {
       written = ended ∷ vacated ∷ [];
       log = adds;
@@ -198,32 +272,47 @@ module _ {G : Ghosts HomeValue Noted} (pool : SharedPool) (old new : PoolSeat Ho
         noted = λ i. sym it i ∷ sym next_it i ∷ [];
         sampled = (tt, refl);
         read = λ log.
-            read_end shape h.place number (entry_of e) token.root r.id (entry_of (Ref token.root Vacated)) at refl refl refl log
+            read_end shape h.place number (entry_of e) token.root r.id (entry_of (Ref token.root Vacated)) at refl refl
+            refl log
             ∙ put_uncached shape h.place number (entry_of e) r.id more (behind log (map entry_of es) none_asked);
       };
-      hand = held_on v w es 0 (hand_of (EndRoot token)) (hand_of (AskArena r h)) grows (both_come lane number v.own.number empty_hand token.root r.id h.place at) may.hand;
+      hand =
+          held_on v w es 0 (hand_of (EndRoot token)) (hand_of (AskArena r h)) grows
+          (both_come lane number v.own.number empty_hand token.root r.id h.place at) may.hand;
       fits = (is_handle pool new h handle, is_region pool new r holds);
       again = omega arith;
-      counts = λ sampler. vacated_added (entry_of e) token.root (record { gains = λ q. refl; loses = λ q. refl; needs = λ q. refl; ends = λ q. refl }) refl;
-      spends = spends v w es 0 grows (left_of (EndRoot token)) (left_of (AskArena r h)) (omega arith) (omega arith) (omega arith) (λ to. omega arith);
+      counts =
+          λ sampler. vacated_added (entry_of e) token.root
+          (record { gains = λ q. refl; loses = λ q. refl; needs = λ q. refl; ends = λ q. refl }) refl;
+      spends =
+          spends v w es 0 grows (left_of (EndRoot token)) (left_of (AskArena r h)) (omega arith) (omega arith)
+          (omega arith) (λ to. omega arith);
     }
 
   -- another seat was there, and the same is to be tried again
-  pub found_held : (o : Object) (held : Held) (stage again : Ending) (log : Vec Note) → MayEnd pool old stage → FoundBusy pool o false old new held → again ≡ stage → Fits pool new stage → HasEnded pool old new log log stage (HeldBack held again)
+  pub found_held : (o : Object) (held : Held) (stage again : Ending) (log : Vec Note) → MayEnd pool old stage
+      → FoundBusy pool o false old new held → again ≡ stage → Fits pool new stage
+      → HasEnded pool old new log log stage (HeldBack held again)
   found_held o held stage again log may found alike fits =
       let grows : Grows v w [] 0 = grows_held pool old new may.seat_is is o held found in
       subst (λ (x : Ending). HasEnded pool old new log log stage (HeldBack held x)) (sym alike)
       (record {
         written = [];
         log = wrote_none log;
-        wrote = λ sampler. wrote_nothing pool old new may.seat_is is same sampler (rest_of shape stage) none_asked (rest_of shape stage) o held found (still_on (rest_of shape stage));
+        wrote =
+            λ sampler. wrote_nothing pool old new may.seat_is is same sampler (rest_of shape stage) none_asked
+            (rest_of shape stage) o held found (still_on (rest_of shape stage));
         hand = subst (λ (x : SeatView). IsHeld (hand_of stage) x) (sym (ap (λ m. m.0) found.marked)) may.hand;
         fits = fits;
         again = (refl, refl, found_there pool old new may.seat_is is same o false held found);
         counts = λ sampler. none_added;
-        spends = spends v w [] 0 grows (left_of stage) (left_of stage) (omega arith) (omega arith) (omega arith) (λ to. omega arith);
+        spends =
+            spends v w [] 0 grows (left_of stage) (left_of stage) (omega arith) (omega arith) (omega arith)
+            (λ to. omega arith);
       })
 
   -- what is in hand is the pool's still
-  pub region_still : (o : Object) (held : Held) (r : Region) (stage : Ending) → MayEnd pool old stage → FoundBusy pool o false old new held → IsRegion pool old r → IsRegion pool new r
-  region_still o held r stage may found = region_stays pool old new r (grows_held pool old new may.seat_is is o held found).more.setting
+  pub region_still : (o : Object) (held : Held) (r : Region) (stage : Ending) → MayEnd pool old stage
+      → FoundBusy pool o false old new held → IsRegion pool old r → IsRegion pool new r
+  region_still o held r stage may found =
+      region_stays pool old new r (grows_held pool old new may.seat_is is o held found).more.setting

@@ -43,7 +43,8 @@ weigh_own f v alone =
     let b : sum_by g v.others ≡ 0 = ap (λ (ps : List Part). sum_by g ps) alone in omega (arith, a, b)
 
 -- posts over two lists of entries
-posts_append : (sender receiver : ℕ) (xs ys : List Entry) → posts sender receiver (xs ++ ys) ≡ posts sender receiver xs + posts sender receiver ys
+posts_append : (sender receiver : ℕ) (xs ys : List Entry)
+    → posts sender receiver (xs ++ ys) ≡ posts sender receiver xs + posts sender receiver ys
 posts_append sender receiver [] ys = omega arith
 posts_append sender receiver (At o k n ∷ xs) ys = let h = posts_append sender receiver xs ys in omega (arith, h)
 posts_append sender receiver (Ref r d ∷ xs) ys = posts_append sender receiver xs ys
@@ -54,23 +55,32 @@ module _ (v w : SeatView) (added : List Entry) (spent : ℕ) (grows : Grows v w 
   own_more f = ap (λ (es : List Entry). sum_by f es) grows.more.notes ∙ sum_by-append f v.own.notes added
 
   pub weigh_more : (f : Entry → ℕ) → weigh f w ≡ weigh f v + sum_by f added
-  weigh_more f = let a = weigh_own f w grows.alone in let b = weigh_own f v grows.was_alone in let c = own_more f in omega (arith, a, b, c)
+  weigh_more f =
+      let a = weigh_own f w grows.alone in let b = weigh_own f v grows.was_alone in let c = own_more f in
+      omega (arith, a, b, c)
 
   -- what the entries cost is spent
-  pub spends : (before after : Left) → after.notes + length added ≤ before.notes → after.takes + sum_by takes added ≤ before.takes → after.moves + spent ≤ before.moves →
+  pub spends : (before after : Left) → after.notes + length added ≤ before.notes
+      → after.takes + sum_by takes added ≤ before.takes → after.moves + spent ≤ before.moves →
       ((to : ℕ) → after.sends to + posts (lane_in v) to added ≤ before.sends to) → Spends v w before after
   spends before after notes taken moves sends =
       record {
-        notes = (let a = ap (λ (es : List Entry). length es) grows.more.notes in let b = length-append v.own.notes added in omega (arith, a, b, notes));
+        notes =
+            (let a = ap (λ (es : List Entry). length es) grows.more.notes in let b = length-append v.own.notes added in
+            omega (arith, a, b, notes));
         takes = (let a = all_out_now v w added grows.more in omega (arith, a, taken));
         moves = (let a = grows.moves in omega (arith, a, moves));
         sends = λ to. (let a = posted to in let b = sends to in omega (arith, a, b));
       }
     where
-      posted : (to : ℕ) → posts (lane_in w) to w.own.notes ≡ posts (lane_in v) to v.own.notes + posts (lane_in v) to added
-      posted to = (λ i. posts (unwrap_or (grows.more.number i) 0) to (grows.more.notes i)) ∙ posts_append (lane_in v) to v.own.notes added
+      posted : (to : ℕ) → posts (lane_in w) to w.own.notes
+          ≡ posts (lane_in v) to v.own.notes + posts (lane_in v) to added
+      posted to =
+          (λ i. posts (unwrap_or (grows.more.number i) 0) to (grows.more.notes i))
+          ∙ posts_append (lane_in v) to v.own.notes added
 
-module _ {G : Ghosts Home Noted} (pool : SharedPool) (old new : PoolSeat Home G) (was : IsPoolSeat pool old) (is : IsPoolSeat pool new) where
+module _ {G : Ghosts Home Noted} (pool : SharedPool) (old new : PoolSeat Home G) (was : IsPoolSeat pool old)
+    (is : IsPoolSeat pool new) where
   abbrev v : SeatView
   v = view_of old
 
@@ -78,7 +88,8 @@ module _ {G : Ghosts Home Noted} (pool : SharedPool) (old new : PoolSeat Home G)
   abbrev pub note_at : Object → ℕ → Noted → Entry
   note_at o number n = At o number (noted_by v.own.number n)
 
-  grows_entry : (e : Entry) (t : ℕ) → v.turns ≤ t + 1 → view_of new ≡ with_entry v e t → Grows v (view_of new) (e ∷ []) 0
+  grows_entry : (e : Entry) (t : ℕ) → v.turns ≤ t + 1 → view_of new ≡ with_entry v e t
+      → Grows v (view_of new) (e ∷ []) 0
   grows_entry e t le view = record {
     more = record {
       notes = ap (λ (x : SeatView). x.own.notes) view;
@@ -91,10 +102,12 @@ module _ {G : Ghosts Home Noted} (pool : SharedPool) (old new : PoolSeat Home G)
     moves = (let a = ap (λ (x : SeatView). x.moves) view in omega (arith, a));
   }
 
-  pub grows_noted : (o : Object) (number : ℕ) (n : Noted) → IsNoted pool old new o number n → Grows v (view_of new) (note_at o number n ∷ []) 0
+  pub grows_noted : (o : Object) (number : ℕ) (n : Noted) → IsNoted pool old new o number n
+      → Grows v (view_of new) (note_at o number n ∷ []) 0
   grows_noted o number n noted = grows_entry (note_at o number n) (v.turns - 1) (omega arith) (ap (λ m. m.0) noted.seat)
 
-  pub grows_busy : (o : Object) (held : Held) → FoundBusy pool o true old new held → Grows v (view_of new) (Busy held ∷ []) 0
+  pub grows_busy : (o : Object) (held : Held) → FoundBusy pool o true old new held
+      → Grows v (view_of new) (Busy held ∷ []) 0
   grows_busy o held found = grows_entry (Busy held) v.turns (omega arith) (ap (λ m. m.0) found.marked)
 
   pub grows_held : (o : Object) (held : Held) → FoundBusy pool o false old new held → Grows v (view_of new) [] 0
@@ -112,7 +125,8 @@ module _ {G : Ghosts Home Noted} (pool : SharedPool) (old new : PoolSeat Home G)
         moves = (let a = ap (λ (x : SeatView). x.moves) view in omega (arith, a));
       }
 
-  pub grows_with : (root : RootId) (number : ℕ) (n : Noted) (step : RefDid) (moves spent : ℕ) → IsNotedWith pool old new root number n step moves → v.moves ≤ moves + spent →
+  pub grows_with : (root : RootId) (number : ℕ) (n : Noted) (step : RefDid) (moves spent : ℕ)
+      → IsNotedWith pool old new root number n step moves → v.moves ≤ moves + spent →
       Grows v (view_of new) (note_at (Root root.place) number n ∷ Ref root step ∷ []) spent
   grows_with root number n step moves spent noted le =
       let e : Entry = note_at (Root root.place) number n in

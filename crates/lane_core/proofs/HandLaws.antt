@@ -41,20 +41,27 @@ down_in f es = sum_by (to_arena f) es + (sum_by (to_cache f) es + sum_by (to_pla
 -- these entries of a seat of the lane make the one hand of the other
 pub record Carries (lane : ℕ) (before after : Hand) (es : List Entry) : Type 0 where
   pub places : (p : ℕ) →
-      sum_by (at_in p) es + sum_by (on_place ref_vacated p) es + is_place p before.place ≡ sum_by (at_out p) es + sum_by (on_place ref_born p) es + is_place p after.place
+      sum_by (at_in p) es + sum_by (on_place ref_vacated p) es + is_place p before.place
+      ≡ sum_by (at_out p) es + sum_by (on_place ref_born p) es + is_place p after.place
   pub births : (p : ℕ) → sum_by (at_birth p) es ≡ sum_by (on_place ref_born p) es
-  pub regions : (q : RegionId) → up_in (is_taking q) es + held_weight (is_taking q) before.region ≡ down_in (is_taking q) es + held_weight (is_taking q) after.region
+  pub regions : (q : RegionId) → up_in (is_taking q) es + held_weight (is_taking q) before.region
+      ≡ down_in (is_taking q) es + held_weight (is_taking q) after.region
   pub uses : (q : RegionId) →
-      up_in (uses_in q) es + sum_by (to_place (is_taking q)) es + held_weight (uses_in q) before.region ≡ down_in (uses_in q) es + held_weight (uses_in q) after.region
-  pub tokens : (root : RootId) → sum_by (on_this ref_ended root) es + is_token root before.token ≡ sum_by (on_this ref_vacated root) es + is_token root after.token
+      up_in (uses_in q) es + sum_by (to_place (is_taking q)) es + held_weight (uses_in q) before.region
+      ≡ down_in (uses_in q) es + held_weight (uses_in q) after.region
+  pub tokens : (root : RootId) → sum_by (on_this ref_ended root) es + is_token root before.token
+      ≡ sum_by (on_this ref_vacated root) es + is_token root after.token
   pub ended : (root : RootId) → sum_by (ends root) es ≡ sum_by (on_this ref_vacated root) es
   pub quotas : (class : ℕ) → quota_from lane class (quota_of before class) es ≡ quota_of after class
-  pub closes : (class : ℕ) → (if has_closed lane class es then true else nat_lt class before.closed) ≡ nat_lt class after.closed
+  pub closes : (class : ℕ) → (if has_closed lane class es then true else nat_lt class before.closed)
+      ≡ nat_lt class after.closed
 
 -- a quota over two lists of entries
-quota_append : (lane class quota : ℕ) (xs ys : List Entry) → quota_from lane class quota (xs ++ ys) ≡ quota_from lane class (quota_from lane class quota xs) ys
+quota_append : (lane class quota : ℕ) (xs ys : List Entry)
+    → quota_from lane class quota (xs ++ ys) ≡ quota_from lane class (quota_from lane class quota xs) ys
 quota_append lane class quota [] ys = refl
-quota_append lane class quota (At o k n ∷ xs) ys = quota_append lane class (if same_object o (Cache lane class) then quota_after quota n.did else quota) xs ys
+quota_append lane class quota (At o k n ∷ xs) ys =
+    quota_append lane class (if same_object o (Cache lane class) then quota_after quota n.did else quota) xs ys
 quota_append lane class quota (Ref r d ∷ xs) ys = quota_append lane class quota xs ys
 quota_append lane class quota (Busy b ∷ xs) ys = quota_append lane class quota xs ys
 
@@ -67,36 +74,59 @@ always true = refl
 always false = refl
 
 -- a cache that is closed in one of two lists
-closed_append : (lane class : ℕ) (xs ys : List Entry) → has_closed lane class (xs ++ ys) ≡ (if has_closed lane class ys then true else has_closed lane class xs)
+closed_append : (lane class : ℕ) (xs ys : List Entry)
+    → has_closed lane class (xs ++ ys) ≡ (if has_closed lane class ys then true else has_closed lane class xs)
 closed_append lane class [] ys = either (has_closed lane class ys)
-closed_append lane class (At o k n ∷ xs) ys = go (same_object o (Cache lane class) && is_close n.did) (closed_append lane class xs ys)
+closed_append lane class (At o k n ∷ xs) ys =
+    go (same_object o (Cache lane class) && is_close n.did) (closed_append lane class xs ys)
   where
-    go : (b : Bool) → has_closed lane class (xs ++ ys) ≡ (if has_closed lane class ys then true else has_closed lane class xs) →
-        (if b then true else has_closed lane class (xs ++ ys)) ≡ (if has_closed lane class ys then true else (if b then true else has_closed lane class xs))
+    go : (b : Bool) → has_closed lane class (xs ++ ys)
+        ≡ (if has_closed lane class ys then true else has_closed lane class xs) →
+        (if b then true else has_closed lane class (xs ++ ys))
+        ≡ (if has_closed lane class ys then true else (if b then true else has_closed lane class xs))
     go true rest = always (has_closed lane class ys)
     go false rest = rest
 closed_append lane class (Ref r d ∷ xs) ys = closed_append lane class xs ys
 closed_append lane class (Busy b ∷ xs) ys = closed_append lane class xs ys
 
 -- the hand behind the entries
-pub held_on : (v w : SeatView) (es : List Entry) (spent : ℕ) (before after : Hand) → Grows v w es spent → Carries (lane_in v) before after es → IsHeld before v → IsHeld after w
+pub held_on : (v w : SeatView) (es : List Entry) (spent : ℕ) (before after : Hand) → Grows v w es spent
+    → Carries (lane_in v) before after es → IsHeld before v → IsHeld after w
 held_on v w es spent before after grows carries held =
     record {
-      places = λ p. (let a = more (at_in p) in let b = more (on_place ref_vacated p) in let c = more (at_out p) in let d = more (on_place ref_born p) in
+      places =
+          λ p. (let a = more (at_in p) in let b = more (on_place ref_vacated p) in let c = more (at_out p) in let d =
+          more (on_place ref_born p) in
           let x = held.places p in let y = carries.places p in omega (arith, a, b, c, d, x, y));
-      births = λ p. (let a = more (at_birth p) in let b = more (on_place ref_born p) in let x = held.births p in let y = carries.births p in omega (arith, a, b, x, y));
-      regions = λ q. (let f = is_taking q in let a = more (from_arena f) in let b = more (from_cache f) in let c = more (from_place f) in let d = more (to_arena f) in let e = more (to_cache f) in let g = more (to_place f) in
+      births =
+          λ p. (let a = more (at_birth p) in let b = more (on_place ref_born p) in let x = held.births p in let y =
+          carries.births p in omega (arith, a, b, x, y));
+      regions =
+          λ q. (let f = is_taking q in let a = more (from_arena f) in let b = more (from_cache f) in let c =
+          more (from_place f) in let d =
+          more (to_arena f) in let e = more (to_cache f) in let g = more (to_place f) in
           let x = held.regions q in let y = carries.regions q in omega (arith, a, b, c, d, e, g, x, y));
-      uses = λ q. (let f = uses_in q in let a = more (from_arena f) in let b = more (from_cache f) in let c = more (from_place f) in let d = more (to_arena f) in let e = more (to_cache f) in let g = more (to_place f) in
-          let h = more (to_place (is_taking q)) in let x = held.uses q in let y = carries.uses q in omega (arith, a, b, c, d, e, g, h, x, y));
-      tokens = λ root. (let a = more (on_this ref_ended root) in let b = more (on_this ref_vacated root) in let x = held.tokens root in let y = carries.tokens root in omega (arith, a, b, x, y));
-      ended = λ root. (let a = more (ends root) in let b = more (on_this ref_vacated root) in let x = held.ended root in let y = carries.ended root in omega (arith, a, b, x, y));
+      uses =
+          λ q. (let f = uses_in q in let a = more (from_arena f) in let b = more (from_cache f) in let c =
+          more (from_place f) in let d =
+          more (to_arena f) in let e = more (to_cache f) in let g = more (to_place f) in
+          let h = more (to_place (is_taking q)) in let x = held.uses q in let y = carries.uses q in
+          omega (arith, a, b, c, d, e, g, h, x, y));
+      tokens =
+          λ root. (let a = more (on_this ref_ended root) in let b = more (on_this ref_vacated root) in let x =
+          held.tokens root in let y = carries.tokens root in omega (arith, a, b, x, y));
+      ended =
+          λ root. (let a = more (ends root) in let b = more (on_this ref_vacated root) in let x = held.ended root in
+          let y = carries.ended root in omega (arith, a, b, x, y));
       quotas = λ class.
-          (λ i. quota_left (unwrap_or (grows.more.number i) 0) class (grows.more.notes i)) ∙ quota_append (lane_in v) class 0 v.own.notes es
+          (λ i. quota_left (unwrap_or (grows.more.number i) 0) class (grows.more.notes i))
+          ∙ quota_append (lane_in v) class 0 v.own.notes es
           ∙ ap (λ (q : ℕ). quota_from (lane_in v) class q es) (held.quotas class) ∙ carries.quotas class;
       closes = λ class.
-          (λ i. has_closed (unwrap_or (grows.more.number i) 0) class (grows.more.notes i)) ∙ closed_append (lane_in v) class v.own.notes es
-          ∙ ap (λ (b : Bool). if has_closed (lane_in v) class es then true else b) (held.closes class) ∙ carries.closes class;
+          (λ i. has_closed (unwrap_or (grows.more.number i) 0) class (grows.more.notes i))
+          ∙ closed_append (lane_in v) class v.own.notes es
+          ∙ ap (λ (b : Bool). if has_closed (lane_in v) class es then true else b) (held.closes class)
+          ∙ carries.closes class;
     }
   where
     more : (f : Entry → ℕ) → weigh f w ≡ weigh f v + sum_by f es
@@ -128,7 +158,8 @@ module _ (lane k : ℕ) (number : Option ℕ) (h : Hand) where
   note o did = At o k (noted_by number (plain did)) ∷ []
 
   -- a handle comes, and goes home
-  pub handle_comes : (b p : ℕ) → Carries lane (record h { place = None }) (record h { place = Some p }) (note (Bin b) (Did.Handle p))
+  pub handle_comes : (b p : ℕ) → Carries lane (record h { place = None }) (record h { place = Some p })
+      (note (Bin b) (Did.Handle p))
   handle_comes b p = record {
     places = λ q. omega arith;
     births = λ q. refl;
@@ -140,7 +171,8 @@ module _ (lane k : ℕ) (number : Option ℕ) (h : Hand) where
     closes = λ class. refl;
   }
 
-  pub handle_goes : (b p : ℕ) → Carries lane (record h { place = Some p }) (record h { place = None }) (note (Bin b) (Did.Home p))
+  pub handle_goes : (b p : ℕ) → Carries lane (record h { place = Some p }) (record h { place = None })
+      (note (Bin b) (Did.Home p))
   handle_goes b p = record {
     places = λ q. omega arith;
     births = λ q. refl;
@@ -165,7 +197,8 @@ module _ (lane k : ℕ) (number : Option ℕ) (h : Hand) where
   }
 
   -- a region comes from an arena, or doesn't, and goes there
-  pub region_taken : (a class : ℕ) (r : RegionId) → Carries lane (record h { region = None }) (record h { region = Some r }) (note (Arena a) (Did.Take class r))
+  pub region_taken : (a class : ℕ) (r : RegionId) → Carries lane (record h { region = None })
+      (record h { region = Some r }) (note (Arena a) (Did.Take class r))
   region_taken a class r = record {
     places = λ q. omega arith;
     births = λ q. refl;
@@ -189,7 +222,8 @@ module _ (lane k : ℕ) (number : Option ℕ) (h : Hand) where
     closes = λ class. refl;
   }
 
-  pub region_given : (a : ℕ) (r : RegionId) → Carries lane (record h { region = Some r }) (record h { region = None }) (note (Arena a) (Did.Give r))
+  pub region_given : (a : ℕ) (r : RegionId) → Carries lane (record h { region = Some r }) (record h { region = None })
+      (note (Arena a) (Did.Give r))
   region_given a r = record {
     places = λ q. omega arith;
     births = λ q. refl;
@@ -202,7 +236,8 @@ module _ (lane k : ℕ) (number : Option ℕ) (h : Hand) where
   }
 
   -- a region comes from a cache, or doesn't, and goes there, or doesn't
-  pub region_hit : (m c : ℕ) (r : RegionId) → Carries lane (record h { region = None }) (record h { region = Some r }) (note (Cache m c) (Did.Hit r))
+  pub region_hit : (m c : ℕ) (r : RegionId) → Carries lane (record h { region = None }) (record h { region = Some r })
+      (note (Cache m c) (Did.Hit r))
   region_hit m c r = record {
     places = λ q. omega arith;
     births = λ q. refl;
@@ -226,7 +261,8 @@ module _ (lane k : ℕ) (number : Option ℕ) (h : Hand) where
     closes = λ class. not_closed (same_object (Cache m c) (Cache lane class)) (nat_lt class h.closed);
   }
 
-  pub region_kept : (m c : ℕ) (r : RegionId) → Carries lane (record h { region = Some r }) (record h { region = None }) (note (Cache m c) (Did.Kept r))
+  pub region_kept : (m c : ℕ) (r : RegionId) → Carries lane (record h { region = Some r }) (record h { region = None })
+      (note (Cache m c) (Did.Kept r))
   region_kept m c r = record {
     places = λ q. omega arith;
     births = λ q. refl;
@@ -280,7 +316,8 @@ module _ (lane k : ℕ) (number : Option ℕ) (h : Hand) where
 
   -- a root ends, and its region and the handle of its place come
   pub both_come : (root : RootId) (r : RegionId) (p : ℕ) → p ≡ root.place →
-      Carries lane (record h { place = None; region = None; token = Some root }) (record h { place = Some p; region = Some r; token = None })
+      Carries lane (record h { place = None; region = None; token = Some root })
+      (record h { place = Some p; region = Some r; token = None })
       (At (Root root.place) k (noted_by number (end_of root r)) ∷ Ref root Vacated ∷ [])
   both_come root r p is = record {
     places = λ q. (let a = same_place q p root.place is in let b = nothing (root.place == q) in omega (arith, a, b));
@@ -294,10 +331,15 @@ module _ (lane k : ℕ) (number : Option ℕ) (h : Hand) where
   }
 
   -- the next cache of the lane is asked, and so many regions of it are to be shed
-  asked_quota : (class quota c : ℕ) → (if (lane == lane) && (class == c) then quota else (if c + 1 == class then 0 else 0)) ≡ (if c + 1 == class + 1 then quota else 0)
-  asked_quota class quota c = ap (λ (b : Bool). if b && (class == c) then quota else (if c + 1 == class then 0 else 0)) (same_number lane) ∙ grind (arith, nat_tests)
+  asked_quota : (class quota c : ℕ)
+      → (if (lane == lane) && (class == c) then quota else (if c + 1 == class then 0 else 0))
+      ≡ (if c + 1 == class + 1 then quota else 0)
+  asked_quota class quota c =
+      ap (λ (b : Bool). if b && (class == c) then quota else (if c + 1 == class then 0 else 0)) (same_number lane)
+      ∙ grind (arith, nat_tests)
 
-  pub cache_closed : (class quota : ℕ) → Carries lane (record h { closed = class; drained = class; quota = 0 }) (record h { closed = class + 1; drained = class + 1; quota = quota }) (note (Cache lane class) (Did.Close quota))
+  pub cache_closed : (class quota : ℕ) → Carries lane (record h { closed = class; drained = class; quota = 0 })
+      (record h { closed = class + 1; drained = class + 1; quota = quota }) (note (Cache lane class) (Did.Close quota))
   cache_closed class quota = record {
     places = λ q. omega arith;
     births = λ q. refl;
@@ -309,10 +351,14 @@ module _ (lane k : ℕ) (number : Option ℕ) (h : Hand) where
     closes = closes;
   }
     where
-      closes : (c : ℕ) → (if (if ((lane == lane) && (class == c)) && true then true else false) then true else nat_lt c class) ≡ nat_lt c (class + 1)
-      closes c = ap (λ (b : Bool). if (if (b && (class == c)) && true then true else false) then true else nat_lt c class) (same_number lane) ∙ grind (arith, nat_tests)
+      closes : (c : ℕ) → (if (if ((lane == lane) && (class == c)) && true then true else false) then true else nat_lt c
+          class) ≡ nat_lt c (class + 1)
+      closes c =
+          ap (λ (b : Bool). if (if (b && (class == c)) && true then true else false) then true else nat_lt c class)
+          (same_number lane) ∙ grind (arith, nat_tests)
 
-  pub cache_trimmed : (class quota : ℕ) → Carries lane (record h { drained = class; quota = 0 }) (record h { drained = class + 1; quota = quota }) (note (Cache lane class) (Did.Trim quota))
+  pub cache_trimmed : (class quota : ℕ) → Carries lane (record h { drained = class; quota = 0 })
+      (record h { drained = class + 1; quota = quota }) (note (Cache lane class) (Did.Trim quota))
   cache_trimmed class quota = record {
     places = λ q. omega arith;
     births = λ q. refl;
@@ -326,7 +372,8 @@ module _ (lane k : ℕ) (number : Option ℕ) (h : Hand) where
 
   -- a region of its quota comes
   pub region_shed : (class left : ℕ) (r : RegionId) →
-      Carries lane (record h { region = None; drained = class + 1; quota = left }) (record h { region = Some r; drained = class + 1; quota = left - 1 }) (note (Cache lane class) (Did.Shed r))
+      Carries lane (record h { region = None; drained = class + 1; quota = left })
+      (record h { region = Some r; drained = class + 1; quota = left - 1 }) (note (Cache lane class) (Did.Shed r))
   region_shed class left r = record {
     places = λ q. omega arith;
     births = λ q. refl;
@@ -338,11 +385,15 @@ module _ (lane k : ℕ) (number : Option ℕ) (h : Hand) where
     closes = λ c. not_closed (same_object (Cache lane class) (Cache lane c)) (nat_lt c h.closed);
   }
     where
-      quotas : (c : ℕ) → (if (lane == lane) && (class == c) then (if c + 1 == class + 1 then left else 0) - 1 else (if c + 1 == class + 1 then left else 0)) ≡ (if c + 1 == class + 1 then left - 1 else 0)
-      quotas c = ap (λ (b : Bool). if b && (class == c) then (if c + 1 == class + 1 then left else 0) - 1 else (if c + 1 == class + 1 then left else 0)) (same_number lane) ∙ grind (arith, nat_tests)
+      quotas : (c : ℕ) → (if (lane == lane) && (class == c) then (if c + 1 == class + 1 then left else 0) - 1 else
+          (if c + 1 == class + 1 then left else 0)) ≡ (if c + 1 == class + 1 then left - 1 else 0)
+      quotas c =
+          ap (λ (b : Bool). if b && (class == c) then (if c + 1 == class + 1 then left else 0) - 1 else
+          (if c + 1 == class + 1 then left else 0)) (same_number lane) ∙ grind (arith, nat_tests)
 
 -- once nothing more is to be shed, it is of no account how many caches were asked
-pub drained_held : (hand : Hand) (v : SeatView) → hand.quota ≡ 0 → IsHeld hand v → IsHeld (record hand { drained = 0; quota = 0 }) v
+pub drained_held : (hand : Hand) (v : SeatView) → hand.quota ≡ 0 → IsHeld hand v
+    → IsHeld (record hand { drained = 0; quota = 0 }) v
 drained_held hand v none held = record {
   places = held.places;
   births = held.births;
@@ -350,6 +401,8 @@ drained_held hand v none held = record {
   uses = held.uses;
   tokens = held.tokens;
   ended = held.ended;
-  quotas = λ class. held.quotas class ∙ ap (λ (n : ℕ). if class + 1 == hand.drained then n else 0) none ∙ same_quota (class + 1 == hand.drained) 0 ∙ sym (same_quota (class + 1 == 0) 0);
+  quotas =
+      λ class. held.quotas class ∙ ap (λ (n : ℕ). if class + 1 == hand.drained then n else 0) none
+      ∙ same_quota (class + 1 == hand.drained) 0 ∙ sym (same_quota (class + 1 == 0) 0);
   closes = held.closes;
 }

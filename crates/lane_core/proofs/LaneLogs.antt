@@ -14,11 +14,14 @@ use Rattle.pool_law.specs.Names.{Names}
 use Rattle.pool_law.specs.Readers.{Entries, Log, ended_with}
 
 -- the first of what is left
-pub cut_more : {X : Type 0} (k : ℕ) (xs : List X) (x : X) (ys : List X) → drop k xs ≡ x ∷ ys → (take (suc k) xs ≡ take k xs ++ x ∷ []) × (drop (suc k) xs ≡ ys) × (k < length xs)
+pub cut_more : {X : Type 0} (k : ℕ) (xs : List X) (x : X) (ys : List X) → drop k xs ≡ x ∷ ys
+    → (take (suc k) xs ≡ take k xs ++ x ∷ []) × (drop (suc k) xs ≡ ys) × (k < length xs)
 cut_more zero [] x ys e = absurd (cc e)
-cut_more zero (y ∷ xs) x ys e = let same : y ≡ x = cc e in let rest : xs ≡ ys = cc e in (ap (λ z. z ∷ []) same, rest, omega arith)
+cut_more zero (y ∷ xs) x ys e =
+    let same : y ≡ x = cc e in let rest : xs ≡ ys = cc e in (ap (λ z. z ∷ []) same, rest, omega arith)
 cut_more (suc k) [] x ys e = absurd (cc e)
-cut_more (suc k) (y ∷ xs) x ys e = let ih = cut_more k xs x ys e in let lt = ih.2 in (ap (λ t. y ∷ t) ih.0, ih.1, omega (arith, lt))
+cut_more (suc k) (y ∷ xs) x ys e =
+    let ih = cut_more k xs x ys e in let lt = ih.2 in (ap (λ t. y ∷ t) ih.0, ih.1, omega (arith, lt))
 
 pub cut_at : {X : Type 0} (k : ℕ) (xs : List X) → k < length xs → (x : X) × (ys : List X) × (drop k xs ≡ x ∷ ys)
 cut_at zero [] lt = absurd (omega (arith, lt))
@@ -40,7 +43,8 @@ drop_whole (suc n) [] le = refl
 drop_whole (suc n) (x ∷ xs) le = drop_whole n xs (omega (arith, le))
 
 -- one piece more
-pub pieces_more : {X : Type 0} (ns : List ℕ) (n : ℕ) (xs ys : List X) → sum ns ≡ length xs → n ≡ length ys → pieces (ns ++ n ∷ []) (xs ++ ys) ≡ pieces ns xs ++ ys ∷ []
+pub pieces_more : {X : Type 0} (ns : List ℕ) (n : ℕ) (xs ys : List X) → sum ns ≡ length xs → n ≡ length ys
+    → pieces (ns ++ n ∷ []) (xs ++ ys) ≡ pieces ns xs ++ ys ∷ []
 pieces_more [] n [] ys e f = ap (λ t. t ∷ []) (take_whole n ys (omega (arith, f)))
 pieces_more [] n (x ∷ xs) ys e f = absurd (omega (arith, e))
 pieces_more (m ∷ ns) n xs ys e f =
@@ -52,11 +56,13 @@ pieces_more (m ∷ ns) n xs ys e f =
     ∙ ap (λ t. take m xs ∷ t) (pieces_more ns n (drop m xs) ys (omega (arith, more, e, left, le)) f)
 
 -- one reply more
-pub counts_more : (rs : List Answered) (a : Answered) → sum (note_counts (rs ++ a ∷ [])) ≡ sum (note_counts rs) + a.notes
+pub counts_more : (rs : List Answered) (a : Answered)
+    → sum (note_counts (rs ++ a ∷ [])) ≡ sum (note_counts rs) + a.notes
 counts_more rs a =
     let one : sum (a.notes ∷ []) ≡ a.notes + sum [] = sum_by-cons (λ k. k) a.notes [] in
     let both = sum_by-append (λ (k : ℕ). k) (note_counts rs) (a.notes ∷ []) in
-    let cut = ap (λ (ns : List ℕ). sum ns) (map-append (λ (x : Answered). x.notes) rs (a ∷ [])) in omega (arith, one, both, cut)
+    let cut = ap (λ (ns : List ℕ). sum ns) (map-append (λ (x : Answered). x.notes) rs (a ∷ [])) in
+    omega (arith, one, both, cut)
 
 -- the state behind a turn, whose log is read to its end
 abbrev state_of : Answer × Log → Option (Reply × LaneState)
@@ -66,18 +72,24 @@ abbrev to_end : Answer × Log → Option (Answer × Log)
 to_end p = option_and_then {U = Answer × Log} (λ (q : Unit {0} × Log). Some (p.0, q.1)) (ended_with p.1 p.1.left)
 
 -- a command whose notes are these is answered
-pub step_is : (period : ℕ) (shape : Shape) (lane : ℕ) (s : LaneState) (c : Command) (es seen : Entries) (asked : ℕ) (reply : Reply) (names : Names) →
-    ((rest : Entries) → turn period shape lane s c (log_at s (es ++ rest)) ≡ Some (answer reply names, record { seen = seen; asked = asked; left = rest })) →
+pub step_is : (period : ℕ) (shape : Shape) (lane : ℕ) (s : LaneState) (c : Command) (es seen : Entries) (asked : ℕ)
+    (reply : Reply) (names : Names) →
+    ((rest : Entries) → turn period shape lane s c (log_at s (es ++ rest))
+    ≡ Some (answer reply names, record { seen = seen; asked = asked; left = rest })) →
     lane_step period shape lane s c es ≡ Some (reply, record { names = names; seen = seen; asked = asked })
 step_is period shape lane s c es seen asked reply names reads =
-    ended (turn period shape lane s c (log_at s es)) (ap (λ (xs : Entries). turn period shape lane s c (log_at s xs)) (sym (append-nil es)) ∙ reads [])
+    ended (turn period shape lane s c (log_at s es))
+    (ap (λ (xs : Entries). turn period shape lane s c (log_at s xs)) (sym (append-nil es)) ∙ reads [])
   where
-    ended : (o : Option (Answer × Log)) → o ≡ Some (answer reply names, record { seen = seen; asked = asked; left = [] }) →
-        option_and_then state_of (option_and_then to_end o) ≡ Some (reply, record { names = names; seen = seen; asked = asked })
+    ended : (o : Option (Answer × Log)) → o ≡ Some
+        (answer reply names, record { seen = seen; asked = asked; left = [] }) →
+        option_and_then state_of (option_and_then to_end o)
+        ≡ Some (reply, record { names = names; seen = seen; asked = asked })
     ended o is = ap (λ (x : Option (Answer × Log)). option_and_then state_of (option_and_then to_end x)) is
 
 -- none of these replies says that the lane was stopped, and nor does one more
-pub unstopped_more : (rs : List Reply) (r : Reply) → before_stop rs ≡ length rs → before_stop (r ∷ []) ≡ 1 → before_stop (rs ++ r ∷ []) ≡ length (rs ++ r ∷ [])
+pub unstopped_more : (rs : List Reply) (r : Reply) → before_stop rs ≡ length rs → before_stop (r ∷ []) ≡ 1
+    → before_stop (rs ++ r ∷ []) ≡ length (rs ++ r ∷ [])
 unstopped_more [] r e f = f
 unstopped_more (Reply.Stopped ∷ rs) r e f = absurd (cc e)
 unstopped_more (x ∷ rs) r e f = let a = unstopped_more rs r (cc e) f in omega (arith, a)

@@ -23,32 +23,41 @@ use Rattle.lane_core.specs.Lanes.{IsClosing, both, left_for_all, with_takes, lef
 
 -- ---- Room for less.
 
-pub room_most : (d : Desk) (more less : Left) → less.notes ≤ more.notes → less.moves ≤ more.moves → ((to : ℕ) → less.sends to ≤ more.sends to) → HasRoomFor d more → HasRoomFor d less
+pub room_most : (d : Desk) (more less : Left) → less.notes ≤ more.notes → less.moves ≤ more.moves
+    → ((to : ℕ) → less.sends to ≤ more.sends to) → HasRoomFor d more → HasRoomFor d less
 room_most d more less notes moves sends room = record {
   notes = (let a = room.notes in omega (arith, a, notes));
   few = (let a = room.few in omega (arith, a, notes));
   turns = (let a = room.turns in omega (arith, a, notes));
   moves = (let a = room.moves in omega (arith, a, moves));
-  mails = λ to lt. IfSome_then (view_of d.seat).setting (room.mails to lt) (λ setting m. (m.0, m.1, (let a = m.2 in let b = sends to in omega (arith, a, b))));
+  mails =
+      λ to lt. IfSome_then (view_of d.seat).setting (room.mails to lt)
+      (λ setting m. (m.0, m.1, (let a = m.2 in let b = sends to in omega (arith, a, b))));
 }
 
 -- what is left now is more than what the command may spend
-now_more : (command : Command) (stage : Stage) (v : SeatView) → ((left_at command stage v).notes ≤ (left_now command stage v).notes) × ((left_at command stage v).moves ≡ (left_now command stage v).moves) × ((to : ℕ) → (left_at command stage v).sends to ≡ (left_now command stage v).sends to)
+now_more : (command : Command) (stage : Stage) (v : SeatView)
+    → ((left_at command stage v).notes ≤ (left_now command stage v).notes)
+    × ((left_at command stage v).moves ≡ (left_now command stage v).moves)
+    × ((to : ℕ) → (left_at command stage v).sends to ≡ (left_now command stage v).sends to)
 now_more command Ready v = (omega arith, refl, λ to. refl)
 now_more command (Allotting name size class stage) v = (omega arith, refl, λ to. refl)
 now_more command (Ending stage) v = (omega arith, refl, λ to. refl)
 now_more command (Sweeping reply stage) v = (omega arith, refl, λ to. refl)
 now_more command (Closing stage) v = (omega arith, refl, λ to. refl)
 
-pub room_front : (d : Desk) (command : Command) (stage : Stage) (v : SeatView) (more rest : Left) → HasRoomFor d (both (both (left_now command stage v) more) rest) → HasRoomFor d (left_at command stage v)
+pub room_front : (d : Desk) (command : Command) (stage : Stage) (v : SeatView) (more rest : Left)
+    → HasRoomFor d (both (both (left_now command stage v) more) rest) → HasRoomFor d (left_at command stage v)
 room_front d command stage v more rest room =
     let now = now_more command stage v in let a = now.0 in let b = now.1 in
-    room_most d (both (both (left_now command stage v) more) rest) (left_at command stage v) (omega (arith, a)) (omega (arith, b)) (λ to. let e = now.2 to in omega (arith, e)) room
+    room_most d (both (both (left_now command stage v) more) rest) (left_at command stage v) (omega (arith, a))
+    (omega (arith, b)) (λ to. let e = now.2 to in omega (arith, e)) room
 
 -- ---- The caches that are to be asked.
 
 -- a lane that isn't closing keeps a note for each cache in each sweep to come, and in the closing
-pub to_ask_open : (stage : Stage) (asking : ℕ) → (IsClosing stage → ⊥) → left_to_ask stage asking ≡ notes_alone (cached_classes * (1 + asking / sweep_period))
+pub to_ask_open : (stage : Stage) (asking : ℕ) → (IsClosing stage → ⊥)
+    → left_to_ask stage asking ≡ notes_alone (cached_classes * (1 + asking / sweep_period))
 to_ask_open Ready asking not = refl
 to_ask_open (Allotting name size class stage) asking not = refl
 to_ask_open (Ending stage) asking not = refl
@@ -56,18 +65,23 @@ to_ask_open (Sweeping reply stage) asking not = refl
 to_ask_open (Closing stage) asking not = absurd (not tt)
 
 -- so many sweeps less
-pub sweeps_less : (sweeps less more : ℕ) → less + sweep_period * sweeps ≤ more → less / sweep_period + sweeps ≤ more / sweep_period
+pub sweeps_less : (sweeps less more : ℕ) → less + sweep_period * sweeps ≤ more
+    → less / sweep_period + sweeps ≤ more / sweep_period
 sweeps_less sweeps less more le = omega (arith, le)
 
 -- a command that was answered left the rest to those behind it
-pub rest_ready : (later : List Command) (v : SeatView) → let left = both (with_sheds v (notes_alone 0)) (with_takes (left_for_all later)) in let rest = left_for_rest later Ready v in
-    (left.notes ≡ rest.notes) × (left.asks ≡ rest.asks) × (left.moves ≡ rest.moves) × ((to : ℕ) → left.sends to ≡ rest.sends to)
+pub rest_ready : (later : List Command) (v : SeatView)
+    → let left = both (with_sheds v (notes_alone 0)) (with_takes (left_for_all later)) in let rest =
+    left_for_rest later Ready v in
+    (left.notes ≡ rest.notes) × (left.asks ≡ rest.asks) × (left.moves ≡ rest.moves)
+    × ((to : ℕ) → left.sends to ≡ rest.sends to)
 rest_ready [] v = (omega arith, omega arith, omega arith, λ to. omega arith)
 rest_ready (c ∷ later) v = (omega arith, omega arith, omega arith, λ to. omega arith)
 
 -- ---- Room behind a turn.
 
-module _ (pool : SharedPool) (hand : Hand) (old new : Desk) (added : List Entry) (grew : DeskGrew pool hand old new added) where
+module _ (pool : SharedPool) (hand : Hand) (old new : Desk) (added : List Entry)
+    (grew : DeskGrew pool hand old new added) where
   pub lane_same : lane_of new.seat ≡ lane_of old.seat
   lane_same = ap (λ (n : Option ℕ). unwrap_or n 0) grew.more.number
 
@@ -75,8 +89,11 @@ module _ (pool : SharedPool) (hand : Hand) (old new : Desk) (added : List Entry)
   notes_grew = ap (λ (es : List Entry). length es) grew.more.notes ∙ length-append (notes_of old) added
 
   -- what was spent is left less
-  pub has_room : (before after : Left) → HasRoomFor old before → after.notes + length (notes_of new) ≤ before.notes + length (notes_of old) → after.moves + (view_of old.seat).moves ≤ before.moves + (view_of new.seat).moves →
-      ((to : ℕ) → after.sends to + posts (lane_of new.seat) to (notes_of new) ≤ before.sends to + posts (lane_of old.seat) to (notes_of old)) → HasRoomFor new after
+  pub has_room : (before after : Left) → HasRoomFor old before
+      → after.notes + length (notes_of new) ≤ before.notes + length (notes_of old)
+      → after.moves + (view_of old.seat).moves ≤ before.moves + (view_of new.seat).moves →
+      ((to : ℕ) → after.sends to + posts (lane_of new.seat) to (notes_of new) ≤ before.sends to + posts
+      (lane_of old.seat) to (notes_of old)) → HasRoomFor new after
   has_room before after room notes moves sends =
       let more = notes_grew in
       record {
@@ -89,22 +106,39 @@ module _ (pool : SharedPool) (hand : Hand) (old new : Desk) (added : List Entry)
     where
       mail : (to : ℕ) → to < old.shape.lanes →
           IfSome (view_of new.seat).setting (λ setting.
-          (k : ℕ) × (slice_get setting.mail (lane_of new.seat * new.shape.lanes + to) ≡ Some k) × (posts (lane_of new.seat) to (notes_of new) + after.sends to ≤ k))
+          (k : ℕ) × (slice_get setting.mail (lane_of new.seat * new.shape.lanes + to) ≡ Some k)
+          × (posts (lane_of new.seat) to (notes_of new) + after.sends to ≤ k))
       mail to lt =
           let kept : IfSome (view_of old.seat).setting (λ setting.
-          (k : ℕ) × (slice_get setting.mail (lane_of old.seat * old.shape.lanes + to) ≡ Some k) × (posts (lane_of new.seat) to (notes_of new) + after.sends to ≤ k)) =
-          IfSome_then (view_of old.seat).setting (room.mails to lt) (λ setting m. (m.0, m.1, (let a = m.2 in let b = sends to in omega (arith, a, b)))) in
-          subst (λ (x : Option Setting × ℕ). IfSome x.0 (λ setting. (k : ℕ) × (slice_get setting.mail (x.1 + to) ≡ Some k) × (posts (lane_of new.seat) to (notes_of new) + after.sends to ≤ k)))
+          (k : ℕ) × (slice_get setting.mail (lane_of old.seat * old.shape.lanes + to) ≡ Some k)
+          × (posts (lane_of new.seat) to (notes_of new) + after.sends to ≤ k)) =
+          IfSome_then (view_of old.seat).setting (room.mails to lt)
+          (λ setting m. (m.0, m.1, (let a = m.2 in let b = sends to in omega (arith, a, b)))) in
+          subst (λ (x : Option Setting × ℕ). IfSome x.0
+          (λ setting. (k : ℕ) × (slice_get setting.mail (x.1 + to) ≡ Some k)
+          × (posts (lane_of new.seat) to (notes_of new) + after.sends to ≤ k)))
           (λ i. (sym grew.more.setting i, sym lane_same i * (sym grew.shape i).lanes)) kept
 
   -- of which the rest is left as it was
-  pub room_behind : (before after rest : Left) → SpendsAt old new before after → HasRoomFor old (both (both before rest) (notes_alone (cached_classes * (1 + (old.asked + (before.asks + rest.asks)) / sweep_period)))) →
-      HasRoomFor new (both (both after rest) (notes_alone (cached_classes * (1 + (new.asked + (after.asks + rest.asks)) / sweep_period))))
+  pub room_behind : (before after rest : Left) → SpendsAt old new before after
+      → HasRoomFor old (both (both before rest)
+      (notes_alone (cached_classes * (1 + (old.asked + (before.asks + rest.asks)) / sweep_period)))) →
+      HasRoomFor new (both (both after rest)
+      (notes_alone (cached_classes * (1 + (new.asked + (after.asks + rest.asks)) / sweep_period))))
   room_behind before after rest sp room =
       let a = sp.notes in let b = sp.asks in let m = sp.moves in
-      let asks = sweeps_less sp.sweeps (new.asked + (after.asks + rest.asks)) (old.asked + (before.asks + rest.asks)) (omega (arith, b)) in
-      let less = few after.notes before.notes rest.notes (length (notes_of new)) (length (notes_of old)) sp.sweeps ((new.asked + (after.asks + rest.asks)) / sweep_period) ((old.asked + (before.asks + rest.asks)) / sweep_period) a asks in
-      has_room (both (both before rest) (notes_alone (cached_classes * (1 + (old.asked + (before.asks + rest.asks)) / sweep_period)))) (both (both after rest) (notes_alone (cached_classes * (1 + (new.asked + (after.asks + rest.asks)) / sweep_period)))) room less (omega (arith, m)) (λ to. let e = sp.sends to in omega (arith, e))
+      let asks = sweeps_less sp.sweeps (new.asked + (after.asks + rest.asks)) (old.asked + (before.asks + rest.asks))
+      (omega (arith, b)) in
+      let less = few after.notes before.notes rest.notes (length (notes_of new)) (length (notes_of old)) sp.sweeps
+      ((new.asked + (after.asks + rest.asks)) / sweep_period)
+      ((old.asked + (before.asks + rest.asks)) / sweep_period) a asks in
+      has_room (both (both before rest)
+      (notes_alone (cached_classes * (1 + (old.asked + (before.asks + rest.asks)) / sweep_period))))
+      (both (both after rest) (notes_alone
+      (cached_classes * (1 + (new.asked + (after.asks + rest.asks)) / sweep_period)))) room less
+      (omega (arith, m)) (λ to. let e = sp.sends to in omega (arith, e))
     where
-      few : (after before rest new old sweeps now then : ℕ) → after + new ≤ before + old + cached_classes * sweeps → now + sweeps ≤ then → after + rest + cached_classes * (1 + now) + new ≤ before + rest + cached_classes * (1 + then) + old
+      few : (after before rest new old sweeps now then : ℕ) → after + new ≤ before + old + cached_classes * sweeps
+          → now + sweeps ≤ then → after + rest + cached_classes * (1 + now) + new ≤ before + rest + cached_classes
+          * (1 + then) + old
       few after before rest new old sweeps now then a asks = omega (arith, a, asks)

@@ -19,10 +19,13 @@ use Rattle.lane_core.specs.Sampled.{AreSampled}
 use Rattle.lane_core.specs.Wrote.{Wrote}
 use Rattle.lane_core.proofs.Grown.{note_at, grows_noted, grows_busy, grows_held}
 
-module _ {G : Ghosts Home Noted} (pool : SharedPool) (old new : PoolSeat Home G) (was : IsPoolSeat pool old) (is : IsPoolSeat pool new) (same : SameSeat old new) where
+module _ {G : Ghosts Home Noted} (pool : SharedPool) (old new : PoolSeat Home G) (was : IsPoolSeat pool old)
+    (is : IsPoolSeat pool new) (same : SameSeat old new) where
   module _ {X : Type 0} (sampler : Sampling) (before : Reader X) (asks : ℕ → ℕ) (after : Reader X) where
-    abbrev pub wrote_note : (o : Object) (number : ℕ) (n : Noted) (note : Note) → IsNoted pool old new o number n → note ≡ Note.At o number n.did → AreSampled sampler (note_at pool old new was is o number n ∷ []) sampler →
-        ReadsOn before (entry_of (note_at pool old new was is o number n) ∷ []) asks after → Wrote pool old new (note ∷ []) sampler sampler before asks after
+    abbrev pub wrote_note : (o : Object) (number : ℕ) (n : Noted) (note : Note) → IsNoted pool old new o number n
+        → note ≡ Note.At o number n.did → AreSampled sampler (note_at pool old new was is o number n ∷ []) sampler →
+        ReadsOn before (entry_of (note_at pool old new was is o number n) ∷ []) asks after
+        → Wrote pool old new (note ∷ []) sampler sampler before asks after
     wrote_note o number n note noted it sampled read = record {
       added = note_at pool old new was is o number n ∷ [];
       same = same;
@@ -33,7 +36,9 @@ module _ {G : Ghosts Home Noted} (pool : SharedPool) (old new : PoolSeat Home G)
       read = read;
     }
 
-    abbrev pub wrote_mark : (o : Object) (held : Held) → FoundBusy pool o true old new held → ReadsOn before (entry_of (Busy held) ∷ []) asks after → Wrote pool old new (Note.Busy held ∷ []) sampler sampler before asks after
+    abbrev pub wrote_mark : (o : Object) (held : Held) → FoundBusy pool o true old new held
+        → ReadsOn before (entry_of (Busy held) ∷ []) asks after
+        → Wrote pool old new (Note.Busy held ∷ []) sampler sampler before asks after
     wrote_mark o held found read = record {
       added = Busy held ∷ [];
       same = same;
@@ -45,7 +50,8 @@ module _ {G : Ghosts Home Noted} (pool : SharedPool) (old new : PoolSeat Home G)
     }
 
     -- nothing was noted, and all is read as before
-    abbrev pub wrote_nothing : (o : Object) (held : Held) → FoundBusy pool o false old new held → ReadsOn before [] asks after → Wrote pool old new [] sampler sampler before asks after
+    abbrev pub wrote_nothing : (o : Object) (held : Held) → FoundBusy pool o false old new held
+        → ReadsOn before [] asks after → Wrote pool old new [] sampler sampler before asks after
     wrote_nothing o held found read = record {
       added = [];
       same = same;
@@ -57,5 +63,6 @@ module _ {G : Ghosts Home Noted} (pool : SharedPool) (old new : PoolSeat Home G)
     }
 
   -- the object is the one that was found busy
-  pub found_there : (o : Object) (mark : Bool) (held : Held) → FoundBusy pool o mark old new held → FoundBusy pool held.object mark old new held
+  pub found_there : (o : Object) (mark : Bool) (held : Held) → FoundBusy pool o mark old new held
+      → FoundBusy pool held.object mark old new held
   found_there o mark held found = subst (λ (p : Object). FoundBusy pool p mark old new held) (sym found.object) found

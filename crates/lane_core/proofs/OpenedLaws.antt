@@ -73,8 +73,10 @@ module _ (v : SeatView) (own : v.own.notes ≡ []) (alone : v.others ≡ []) whe
   IsHeld-empty = subst (IsHeld empty_hand) bare_is nothing_held
 
 -- ---- The log and the names at first.
-CountsAre-none : (cs : List Counted) → ((root : RootId) → counted cs root ≡ 0) → (es : Entries) → es ≡ [] → CountsAre cs es
-CountsAre-none cs none es e = subst (CountsAre cs) (sym e) (record { counts = λ root. sym (none root); holds = λ root. tt })
+CountsAre-none : (cs : List Counted) → ((root : RootId) → counted cs root ≡ 0) → (es : Entries) → es ≡ []
+    → CountsAre cs es
+CountsAre-none cs none es e =
+    subst (CountsAre cs) (sym e) (record { counts = λ root. sym (none root); holds = λ root. tt })
 
 unbound_at : (n name : ℕ) → bound_at (replicate n None) name ≡ None
 unbound_at zero name = refl
@@ -83,10 +85,12 @@ unbound_at (suc n) (suc name) = unbound_at n name
 
 NamesAre-none : (names : List (Option ViewData)) → names ≡ replicate (length names) None → NamesAre [] names
 NamesAre-none names e name =
-    sym (ap (λ (xs : List (Option ViewData)). option_map Plain (bound_at xs name)) e ∙ ap (option_map Plain) (unbound_at (length names) name))
+    sym (ap (λ (xs : List (Option ViewData)). option_map Plain (bound_at xs name)) e
+    ∙ ap (option_map Plain) (unbound_at (length names) name))
 
 -- ---- The commands.
-fits_desk : (d : Desk) (earlier : List Command) (c : Command) → IsPlain c → ChangesBelow (length d.names) c → fits_after d.shape earlier c ≡ true → FitsDesk d c
+fits_desk : (d : Desk) (earlier : List Command) (c : Command) → IsPlain c → ChangesBelow (length d.names) c
+    → fits_after d.shape earlier c ≡ true → FitsDesk d c
 fits_desk d earlier (Command.Alloc name size) plain below fits = below
 fits_desk d earlier (Command.Set name at bytes tries) plain below fits = below
 fits_desk d earlier (Command.Get name at len tries) plain below fits = below
@@ -105,13 +109,15 @@ fits_desk d earlier (Command.Recv fresh lane) plain below fits =
 fits_desk d earlier (Command.Compose fresh names) plain below fits = absurd plain
 fits_desk d earlier (Command.Add whole name) plain below fits = absurd plain
 
-all_fit_desk : (d : Desk) (earlier cs : List Command) → all_fit d.shape earlier cs ≡ true → All IsPlain cs → All (ChangesBelow (length d.names)) cs → All (FitsDesk d) cs
+all_fit_desk : (d : Desk) (earlier cs : List Command) → all_fit d.shape earlier cs ≡ true → All IsPlain cs
+    → All (ChangesBelow (length d.names)) cs → All (FitsDesk d) cs
 all_fit_desk d earlier [] fit plain below = λ k e lt. absurd (omega (arith, lt))
 all_fit_desk d earlier (c ∷ cs) fit plain below =
     let parts = and_parts (fits_after d.shape earlier c) (all_fit d.shape (earlier ++ c ∷ []) cs) fit in
     All-cons (FitsDesk d) c cs
     (fits_desk d earlier c (All-head IsPlain c cs plain) (All-head (ChangesBelow (length d.names)) c cs below) parts.0)
-    (all_fit_desk d (earlier ++ c ∷ []) cs parts.1 (All-tail IsPlain c cs plain) (All-tail (ChangesBelow (length d.names)) c cs below))
+    (all_fit_desk d (earlier ++ c ∷ []) cs parts.1 (All-tail IsPlain c cs plain)
+    (All-tail (ChangesBelow (length d.names)) c cs below))
 
 -- a lane that is made of these parts
 abbrev made : Shape → Lane → Parts → Lane
@@ -152,7 +158,8 @@ module _ (pool : SharedPool) (shape : Shape) (l : Lane) (p : Parts)
       counts = CountsAre-none p.counts parts.counts (entries_of new.desk) (ap (map entry_of) first.notes);
       places = parts.places;
       sampled =
-          subst (λ (es : List Entry). AreSampled (new_sampler (lane_of l.desk.seat) shape.level shape.interval) es p.sampler)
+          subst (λ (es : List Entry). AreSampled (new_sampler (lane_of l.desk.seat) shape.level shape.interval) es
+          p.sampler)
           (sym first.notes) (sym parts.sampler);
       begun = omega arith;
     }
@@ -161,7 +168,9 @@ module _ (pool : SharedPool) (shape : Shape) (l : Lane) (p : Parts)
     answered = record {
       counted = ap (λ (rs : List Answered). sum (note_counts rs)) parts.replies.0;
       run =
-          subst (λ (rs : List Answered). lane_run sweep_period shape (lane_of l.desk.seat) new_lane (take (length rs) l.commands) (pieces (note_counts rs) (answered_entries new)) ≡ Some (replies_in rs, new_lane))
+          subst (λ (rs : List Answered). lane_run sweep_period shape (lane_of l.desk.seat) new_lane
+          (take (length rs) l.commands) (pieces (note_counts rs) (answered_entries new))
+          ≡ Some (replies_in rs, new_lane))
           (sym parts.replies.0) refl;
       unstopped = subst (λ (rs : List Answered). before_stop (replies_in rs) ≡ length rs) (sym parts.replies.0) refl;
       seen = refl;
@@ -178,7 +187,8 @@ module _ (pool : SharedPool) (shape : Shape) (l : Lane) (p : Parts)
         let reads = closing (lane_of l.desk.seat) in
         subst (λ (es : Entries). ReadsOn reads es none_asked reads) (sym none_yet) (still_on reads)
     begins (c ∷ cs) =
-        λ rest i. turn sweep_period shape (lane_of l.desk.seat) new_lane c (record { seen = sym none_yet i; asked = 0; left = none_yet i ++ rest })
+        λ rest i. turn sweep_period shape (lane_of l.desk.seat) new_lane c
+        (record { seen = sym none_yet i; asked = 0; left = none_yet i ++ rest })
 
     -- ---- What is left is what the bound is of.
     abbrev R : Left
@@ -201,7 +211,8 @@ module _ (pool : SharedPool) (shape : Shape) (l : Lane) (p : Parts)
         let a = (rest_ready l.commands v).0 in let none : all_out v ≡ 0 = none_out v first.notes in
         let takes = all_takes l.commands in let bound = bound_is l.commands are.plain in
         let asked : 0 + (rest_for l.commands).asks ≡ R.asks = (let b = rest_asks in omega (arith, b)) in
-        let asks : cached_classes * (1 + (0 + (rest_for l.commands).asks) / sweep_period) ≡ cached_classes * (1 + R.asks / sweep_period) =
+        let asks : cached_classes * (1 + (0 + (rest_for l.commands).asks) / sweep_period)
+        ≡ cached_classes * (1 + R.asks / sweep_period) =
         ap (λ (k : ℕ). cached_classes * (1 + k / sweep_period)) asked in
         omega (arith, a, none, takes, bound, asks)
 
@@ -223,7 +234,12 @@ module _ (pool : SharedPool) (shape : Shape) (l : Lane) (p : Parts)
           moves = omega (arith, moves, rest_moves);
           mails =
               λ to lt. IfSome_then (view_of l.desk.seat).setting (first.mails to lt)
-              (λ setting mail. (mail.0, mail.1, (let none = ap (posts (lane_of l.desk.seat) to) first.notes in let enough = mail.2 in let rest_sends = (rest_ready l.commands v).3 to in omega (arith, none, enough, rest_sends))));
+              (λ setting mail. (
+                mail.0,
+                mail.1,
+                (let none = ap (posts (lane_of l.desk.seat) to) first.notes in let enough = mail.2 in let rest_sends =
+                    (rest_ready l.commands v).3 to in omega (arith, none, enough, rest_sends)),
+              ));
         })
 
     pub IsLane-first : IsLane pool new
@@ -240,7 +256,13 @@ module _ (pool : SharedPool) (shape : Shape) (l : Lane) (p : Parts)
       bound_are = NamesAre-none p.names parts.names;
       begun = begins (commands_left new);
       all_answered = λ closing. absurd closing;
-      rest = λ ready. record { begun = (let none = ap length first.notes in omega (arith, none)); names_are = refl; asked = refl };
+      rest =
+          λ ready. record {
+            begun = (let none = ap length first.notes in omega (arith, none));
+            names_are = refl;
+            asked =
+                refl;
+          };
       underway = λ begun. absurd begun;
       names = tt;
       room = subst (λ (cs : List Command). HasRoomFor new.desk (left_for_these cs)) (sym commands) room;

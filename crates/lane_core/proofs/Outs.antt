@@ -24,7 +24,8 @@ did_takes (suc c) did = did_take c did + did_takes c did
 takes_below : (r : RegionId) (c n : ℕ) → n ≤ c → did_takes n (Take c r) ≡ 0
 takes_below r c zero le = refl
 takes_below r c (suc n) le =
-    let a : one_if_so (c == n) ≡ 0 = ap (λ (b : Bool). one_if_so b) (ne_eqb c n (λ (e : c ≡ n). omega (arith, le, e))) in
+    let a : one_if_so (c == n) ≡ 0 = ap (λ (b : Bool). one_if_so b)
+    (ne_eqb c n (λ (e : c ≡ n). omega (arith, le, e))) in
     let b = takes_below r c n (omega (arith, le)) in omega (arith, a, b)
 
 takes_once : (r : RegionId) (c n : ℕ) → did_takes n (Take c r) ≤ 1
@@ -80,7 +81,8 @@ list_none (suc n) = let a = list_none n in let b : sum_by (takes_of n) [] ≡ 0 
 list_more : (n : ℕ) (e : Entry) (es : List Entry) → list_takes n (e ∷ es) ≡ entry_takes n e + list_takes n es
 list_more zero e es = let a = entry_none e in omega (arith, a)
 list_more (suc n) e es =
-    let a = sum_by-cons (takes_of n) e es in let b = list_more n e es in let d = entry_more n e in omega (arith, a, b, d)
+    let a = sum_by-cons (takes_of n) e es in let b = list_more n e es in let d = entry_more n e in
+    omega (arith, a, b, d)
 
 list_few : (n : ℕ) (es : List Entry) → list_takes n es ≤ sum_by takes es
 list_few n [] = let a = list_none n in omega (arith, a)
@@ -97,7 +99,8 @@ module _ (v w : SeatView) (added : List Entry) (more : HasMore v w added) where
   lane_now : lane_in w ≡ lane_in v
   lane_now = ap (λ (o : Option ℕ). unwrap_or o 0) more.number
 
-  gives_now : (c : ℕ) → in_own (gives_of (lane_in w) c) w ≡ in_own (gives_of (lane_in v) c) v + sum_by (gives_of (lane_in v) c) added
+  gives_now : (c : ℕ) → in_own (gives_of (lane_in w) c) w
+      ≡ in_own (gives_of (lane_in v) c) v + sum_by (gives_of (lane_in v) c) added
   gives_now c = ap (λ (l : ℕ). in_own (gives_of l c) w) lane_now ∙ own_now (gives_of (lane_in v) c)
 
   -- of one class
@@ -112,15 +115,19 @@ module _ (v w : SeatView) (added : List Entry) (more : HasMore v w added) where
   pub all_out_now : all_out w ≤ all_out v + sum_by takes added
   unfolding all_out
   all_out_now = let a = outs_now cached_classes in let b = list_few cached_classes added in
-      few (out_below cached_classes w) (out_below cached_classes v) (list_takes cached_classes added) (sum_by takes added) a b
+      few (out_below cached_classes w) (out_below cached_classes v) (list_takes cached_classes added)
+      (sum_by takes added) a b
     where
       few : (x y m k : ℕ) → x ≤ y + m → m ≤ k → x ≤ y + k
       few x y m k a b = omega (arith, a, b)
 
   -- nothing was taken, and of one class a region was given back that was out
-  module _ (class : ℕ) (given : sum_by (gives_of (lane_in v) class) added ≡ 1) (none : (c : ℕ) → sum_by (takes_of c) added ≡ 0) (some : 0 < out_of class v) where
+  module _ (class : ℕ) (given : sum_by (gives_of (lane_in v) class) added ≡ 1)
+      (none : (c : ℕ) → sum_by (takes_of c) added ≡ 0) (some : 0 < out_of class v) where
     out_less : out_of class w + 1 ≤ out_of class v
-    out_less = let a = own_now (takes_of class) in let b = gives_now class in let t = none class in omega (arith, a, b, given, t, some)
+    out_less =
+        let a = own_now (takes_of class) in let b = gives_now class in let t = none class in
+        omega (arith, a, b, given, t, some)
 
     out_still : (c : ℕ) → out_of c w ≤ out_of c v
     out_still c = let a = out_now c in let t = none c in omega (arith, a, t)
@@ -133,13 +140,17 @@ module _ (v w : SeatView) (added : List Entry) (more : HasMore v w added) where
     outs_less zero lt = absurd (omega (arith, lt))
     outs_less (suc n) lt = go (class == n) refl (outs_less n)
       where
-        go : (b : Bool) → (class == n) ≡ b → (class < n → out_below n w + 1 ≤ out_below n v) → out_of n w + out_below n w + 1 ≤ out_of n v + out_below n v
+        go : (b : Bool) → (class == n) ≡ b → (class < n → out_below n w + 1 ≤ out_below n v)
+            → out_of n w + out_below n w + 1 ≤ out_of n v + out_below n v
         go true e ih =
             let same : class ≡ n = eqb-true class n e in
             let a : out_of n w + 1 ≤ out_of n v = at_class n same in let b = outs_still n in omega (arith, a, b)
           where
             at_class : (k : ℕ) → class ≡ k → out_of k w + 1 ≤ out_of k v
-            at_class k same = let p = ap (λ (c : ℕ). out_of c w) same in let q = ap (λ (c : ℕ). out_of c v) same in let a = out_less in omega (arith, a, p, q)
+            at_class k same =
+                let p = ap (λ (c : ℕ). out_of c w) same in let q = ap (λ (c : ℕ). out_of c v) same in let a =
+                out_less in
+                omega (arith, a, p, q)
         go false e ih =
             let other : class ≡ n → ⊥ = (λ same. absurd (cc (eq-eqb class n same, e))) in
             let a = out_still n in let b = ih (omega (arith, lt, other)) in omega (arith, a, b)
@@ -154,8 +165,10 @@ below_one : (class : ℕ) (v : SeatView) (n : ℕ) → class < n → out_of clas
 below_one class v zero lt = absurd (omega (arith, lt))
 below_one class v (suc n) lt = go (class == n) refl (below_one class v n)
   where
-    go : (b : Bool) → (class == n) ≡ b → (class < n → out_of class v ≤ out_below n v) → out_of class v ≤ out_of n v + out_below n v
-    go true e ih = let same : class ≡ n = eqb-true class n e in let p = ap (λ (c : ℕ). out_of c v) same in omega (arith, p)
+    go : (b : Bool) → (class == n) ≡ b → (class < n → out_of class v ≤ out_below n v)
+        → out_of class v ≤ out_of n v + out_below n v
+    go true e ih =
+        let same : class ≡ n = eqb-true class n e in let p = ap (λ (c : ℕ). out_of c v) same in omega (arith, p)
     go false e ih =
         let other : class ≡ n → ⊥ = (λ same. absurd (cc (eq-eqb class n same, e))) in
         let b = ih (omega (arith, lt, other)) in omega (arith, b)

@@ -33,11 +33,14 @@ abbrev ended : Option (Unit {0} × Log) → Option (Unit {0})
 ended o = option_map (λ got. tt) (option_and_then to_end o)
 
 -- the closing of a lane is read to its end
-closes-whole : (pool : SharedPool) (l : Lane) → IsLane pool l → l.stage ≡ Closing Done → closes (number_of l) (entries_since l) ≡ Some tt
+closes-whole : (pool : SharedPool) (l : Lane) → IsLane pool l → l.stage ≡ Closing Done
+    → closes (number_of l) (entries_since l) ≡ Some tt
 closes-whole pool l lane done =
     let es = entries_since l in
-    let had : ReadsOn (closing (number_of l)) es none_asked (draining.rest_of Close (number_of l) Done) = close_had pool l lane Done done in
-    ap ended (ap (λ (xs : Entries). closing (number_of l) (log_at new_lane xs)) (sym (append-nil es)) ∙ had (log_at new_lane []))
+    let had : ReadsOn (closing (number_of l)) es none_asked (draining.rest_of Close (number_of l) Done) =
+    close_had pool l lane Done done in
+    ap ended (ap (λ (xs : Entries). closing (number_of l) (log_at new_lane xs)) (sym (append-nil es))
+    ∙ had (log_at new_lane []))
 
 -- as many pieces are cut as there are numbers
 pieces-length : {X : Type 0} (ns : List ℕ) (xs : List X) → length (pieces ns xs) ≡ length ns
@@ -45,10 +48,12 @@ pieces-length [] xs = refl
 pieces-length (n ∷ ns) xs = let a = pieces-length ns (drop n xs) in omega (arith, a)
 
 -- a lane that was stopped nowhere ran all its commands
-never-stopped : (lane n : ℕ) (cs : List Command) (gs : List Entries) (rs : List Reply) → length cs ≤ n → length gs ≤ n → length rs ≤ n →
+never-stopped : (lane n : ℕ) (cs : List Command) (gs : List Entries) (rs : List Reply) → length cs ≤ n → length gs ≤ n
+    → length rs ≤ n →
     stopped_run lane (drop n cs) (drop n gs) ≡ Some (drop n rs)
 never-stopped lane n cs gs rs a b c =
-    (λ i. stopped_run lane (drop_whole n cs a i) (drop_whole n gs b i)) ∙ ap (λ (xs : List Reply). Some xs) (sym (drop_whole n rs c))
+    (λ i. stopped_run lane (drop_whole n cs a i) (drop_whole n gs b i))
+    ∙ ap (λ (xs : List Reply). Some xs) (sym (drop_whole n rs c))
 
 -- none of its commands is left
 no-more : (n : ℕ) (cs : List Command) → drop n cs ≡ [] → length cs ≤ n
@@ -88,20 +93,28 @@ module _ (pool : SharedPool) (k : ℕ) (l : Lane) (f : IsFinishedLane pool k l) 
       let unstopped = f.lane.answered.unstopped in let few = no-more (length rs) l.commands none in
       let count = reply_count in let groups = group_count in
       record {
-        counted = (let a = counted in let b = f.lane.desk.begun in let c = length-map entry_of (notes_of l.desk) in omega (arith, a, b, c));
+        counted =
+            (let a = counted in let b = f.lane.desk.begun in let c = length-map entry_of (notes_of l.desk) in
+            omega (arith, a, b, c));
         last = f.lane.state;
         answered =
-            subst (λ (n : ℕ). lane_run sweep_period l.desk.shape (number_of l) new_lane (take n l.commands) (take n (pieces counts es)) ≡ Some (take n (replies_in rs), f.lane.state)) (sym unstopped)
-            ((λ i. lane_run sweep_period l.desk.shape (number_of l) new_lane (take (length rs) l.commands) ((take_whole (length rs) (pieces counts es) (omega (arith, groups)) ∙ sym cut) i))
+            subst (λ (n : ℕ). lane_run sweep_period l.desk.shape (number_of l) new_lane (take n l.commands)
+            (take n (pieces counts es)) ≡ Some (take n (replies_in rs), f.lane.state)) (sym unstopped)
+            ((λ i. lane_run sweep_period l.desk.shape (number_of l) new_lane (take (length rs) l.commands)
+            ((take_whole (length rs) (pieces counts es) (omega (arith, groups)) ∙ sym cut) i))
             ∙ f.lane.answered.run
-            ∙ ap (λ (xs : List Reply). Some (xs, f.lane.state)) (sym (take_whole (length rs) (replies_in rs) (omega (arith, count)))));
+            ∙ ap (λ (xs : List Reply). Some (xs, f.lane.state))
+            (sym (take_whole (length rs) (replies_in rs) (omega (arith, count)))));
         stopped =
-            subst (λ (n : ℕ). stopped_run (number_of l) (drop n l.commands) (drop n (pieces counts es)) ≡ Some (drop n (replies_in rs))) (sym unstopped)
-            (never-stopped (number_of l) (length rs) l.commands (pieces counts es) (replies_in rs) few (omega (arith, groups)) (omega (arith, count)));
+            subst (λ (n : ℕ). stopped_run (number_of l) (drop n l.commands) (drop n (pieces counts es))
+            ≡ Some (drop n (replies_in rs))) (sym unstopped)
+            (never-stopped (number_of l) (length rs) l.commands (pieces counts es) (replies_in rs) few
+            (omega (arith, groups)) (omega (arith, count)));
         closed =
             ap (closes (number_of l)) (behind-is counts es ∙ ap (λ n. drop n es) counted)
             ∙ closes-whole pool l f.lane f.finished;
       }
 
   pub lane-log : IsLaneLog l.desk.shape k l.commands l.desk.replies.items (entries_of l.desk)
-  lane-log = subst (λ n. IsLaneLog l.desk.shape n l.commands l.desk.replies.items (entries_of l.desk)) f.number_is own_log
+  lane-log =
+      subst (λ n. IsLaneLog l.desk.shape n l.commands l.desk.replies.items (entries_of l.desk)) f.number_is own_log

@@ -37,7 +37,8 @@ birth-or : (s : Sampling) (d : Did) → IsBirth d ⊎ IsNone s d
 birth-or s (Birth root region) = inl (root, region, refl)
 birth-or s d = inr (record { births_same = λ o k ns. refl; sampler_same = refl })
 
-births-one : (o : Object) (k : ℕ) (d : Did) (ns : List Note) (root : RootId) (region : RegionId) → d ≡ Birth root region → births (Note.At o k d ∷ ns) ≡ root ∷ births ns
+births-one : (o : Object) (k : ℕ) (d : Did) (ns : List Note) (root : RootId) (region : RegionId) → d ≡ Birth root region
+    → births (Note.At o k d ∷ ns) ≡ root ∷ births ns
 births-one o k d ns root region e = subst (λ x. births (Note.At o k x ∷ ns) ≡ root ∷ births ns) (sym e) refl
 
 -- the sampler after so many births
@@ -56,19 +57,25 @@ pub record BirthAt (s : Sampling) (es : List Entry) (nth : ℕ) (root : RootId) 
   pub watch : noted.watch ≡ watch_of (sampler_at s nth)
 
 watch-next : (s : Sampling) (n : ℕ) → watch_of (sampler_at (with_birth s) n) ≡ watch_of (sampler_at s (suc n))
-watch-next s n = let same : s.births + 1 + n + 1 ≡ s.births + suc n + 1 = omega arith in ap (λ b. watch_of (record s { births = b })) same
+watch-next s n =
+    let same : s.births + 1 + n + 1 ≡ s.births + suc n + 1 = omega arith in
+    ap (λ b. watch_of (record s { births = b })) same
 
 watch-first : (s : Sampling) → watch_of (with_birth s) ≡ watch_of (sampler_at s 0)
-watch-first s = let same : s.births + 1 ≡ s.births + 0 + 1 = omega arith in ap (λ b. watch_of (record s { births = b })) same
+watch-first s =
+    let same : s.births + 1 ≡ s.births + 0 + 1 = omega arith in ap (λ b. watch_of (record s { births = b })) same
 
-sampled-birth : (s : Sampling) (n : Noted) (root : RootId) (region : RegionId) → n.did ≡ Birth root region → IsSampledBy s n.did n → n.watch ≡ watch_of (with_birth s)
+sampled-birth : (s : Sampling) (n : Noted) (root : RootId) (region : RegionId) → n.did ≡ Birth root region
+    → IsSampledBy s n.did n → n.watch ≡ watch_of (with_birth s)
 sampled-birth s n root region e by = subst (λ d. IsSampledBy s d n) e by
 
-sampler-birth : (s : Sampling) (d : Did) (root : RootId) (region : RegionId) → d ≡ Birth root region → sampler_after s d ≡ with_birth s
+sampler-birth : (s : Sampling) (d : Did) (root : RootId) (region : RegionId) → d ≡ Birth root region
+    → sampler_after s d ≡ with_birth s
 sampler-birth s d root region e = ap (sampler_after s) e
 
 -- a birth that stands in a part has an index
-pub index-of_birth : (s last : Sampling) (es : List Entry) → AreSampled s es last → (at : ℕ) (o : Object) (k : ℕ) (n : Noted) (root : RootId) (region : RegionId) →
+pub index-of_birth : (s last : Sampling) (es : List Entry) → AreSampled s es last
+    → (at : ℕ) (o : Object) (k : ℕ) (n : Noted) (root : RootId) (region : RegionId) →
     slice_get es at ≡ Some (At o k n) → n.did ≡ Birth root region →
     (nth : ℕ) × (slice_get (births (map note_of es)) nth ≡ Some root) × (n.watch ≡ watch_of (sampler_at s nth))
 index-of_birth s last [] sampled at o k n root region e b = absurd (cc e)
@@ -82,20 +89,28 @@ index-of_birth s last (At p j m ∷ es) sampled zero o k n root region e b =
 index-of_birth s last (At p j m ∷ es) sampled (suc at) o k n root region e b =
     ⊎_elim
     (λ (is : IsBirth m.did).
-    let next : AreSampled (with_birth s) es last = subst (λ t. AreSampled t es last) (sampler-birth s m.did is.0 is.1 is.2) sampled.1 in
-    let i = index-of_birth (with_birth s) last es next at o k n root region e b in
-    (suc i.0, ap (λ xs. slice_get xs (suc i.0)) (births-one p j m.did (map note_of es) is.0 is.1 is.2) ∙ i.1, i.2 ∙ watch-next s i.0))
+    let next : AreSampled (with_birth s) es last =
+    subst (λ t. AreSampled t es last) (sampler-birth s m.did is.0 is.1 is.2) sampled.1 in
+    let i = index-of_birth (with_birth s) last es next at o k n root region e b in (
+      suc i.0,
+      ap (λ xs. slice_get xs (suc i.0)) (births-one p j m.did (map note_of es) is.0 is.1 is.2) ∙ i.1,
+      i.2
+          ∙ watch-next s i.0,
+    ))
     (λ (no : IsNone s m.did).
     let next : AreSampled s es last = subst (λ t. AreSampled t es last) no.sampler_same sampled.1 in
     let i = index-of_birth s last es next at o k n root region e b in
     (i.0, ap (λ xs. slice_get xs i.0) (no.births_same p j (map note_of es)) ∙ i.1, i.2))
     (birth-or s m.did)
 index-of_birth s last (Ref r d ∷ es) sampled zero o k n root region e b = absurd (cc e)
-index-of_birth s last (Ref r d ∷ es) sampled (suc at) o k n root region e b = index-of_birth s last es sampled at o k n root region e b
+index-of_birth s last (Ref r d ∷ es) sampled (suc at) o k n root region e b =
+    index-of_birth s last es sampled at o k n root region e b
 index-of_birth s last (Busy h ∷ es) sampled zero o k n root region e b = absurd (cc e)
-index-of_birth s last (Busy h ∷ es) sampled (suc at) o k n root region e b = index-of_birth s last es sampled at o k n root region e b
+index-of_birth s last (Busy h ∷ es) sampled (suc at) o k n root region e b =
+    index-of_birth s last es sampled at o k n root region e b
 
-later : (s : Sampling) (x : Entry) (es : List Entry) (nth : ℕ) (root : RootId) → BirthAt s es nth root → BirthAt s (x ∷ es) nth root
+later : (s : Sampling) (x : Entry) (es : List Entry) (nth : ℕ) (root : RootId) → BirthAt s es nth root
+    → BirthAt s (x ∷ es) nth root
 later s x es nth root b = record {
   at = suc b.at;
   object = b.object;
@@ -108,18 +123,24 @@ later s x es nth root b = record {
 }
 
 -- and each index has its birth
-pub birth-of_index : (s last : Sampling) (es : List Entry) → AreSampled s es last → (nth : ℕ) (root : RootId) → slice_get (births (map note_of es)) nth ≡ Some root → BirthAt s es nth root
+pub birth-of_index : (s last : Sampling) (es : List Entry) → AreSampled s es last → (nth : ℕ) (root : RootId)
+    → slice_get (births (map note_of es)) nth ≡ Some root → BirthAt s es nth root
 birth-of_index s last [] sampled nth root e = absurd (cc e)
 birth-of_index s last (At p j m ∷ es) sampled nth root e =
     ⊎_elim (λ (is : IsBirth m.did). born is (λ next k. birth-of_index (with_birth s) last es next k root) nth e)
     (λ (no : IsNone s m.did).
     let next : AreSampled s es last = subst (λ t. AreSampled t es last) no.sampler_same sampled.1 in
-    later s (At p j m) es nth root (birth-of_index s last es next nth root (sym (ap (λ xs. slice_get xs nth) (no.births_same p j (map note_of es))) ∙ e)))
+    later s (At p j m) es nth root
+    (birth-of_index s last es next nth root
+    (sym (ap (λ xs. slice_get xs nth) (no.births_same p j (map note_of es))) ∙ e)))
     (birth-or s m.did)
   where
-    born : IsBirth m.did → (AreSampled (with_birth s) es last → (k : ℕ) → slice_get (births (map note_of es)) k ≡ Some root → BirthAt (with_birth s) es k root) → (nth : ℕ) → slice_get (births (Note.At p j m.did ∷ map note_of es)) nth ≡ Some root → BirthAt s (At p j m ∷ es) nth root
+    born : IsBirth m.did → (AreSampled (with_birth s) es last → (k : ℕ)
+        → slice_get (births (map note_of es)) k ≡ Some root → BirthAt (with_birth s) es k root) → (nth : ℕ)
+        → slice_get (births (Note.At p j m.did ∷ map note_of es)) nth ≡ Some root → BirthAt s (At p j m ∷ es) nth root
     born is f zero e =
-        let same : Some is.0 ≡ Some root = sym (ap (λ xs. slice_get xs 0) (births-one p j m.did (map note_of es) is.0 is.1 is.2)) ∙ e in
+        let same : Some is.0 ≡ Some root = sym
+        (ap (λ xs. slice_get xs 0) (births-one p j m.did (map note_of es) is.0 is.1 is.2)) ∙ e in
         let here : is.0 ≡ root = cc same in
         record {
           at = 0;
@@ -132,8 +153,10 @@ birth-of_index s last (At p j m ∷ es) sampled nth root e =
           watch = sampled-birth s m is.0 is.1 is.2 sampled.0 ∙ watch-first s;
         }
     born is f (suc nth) e =
-        let next : AreSampled (with_birth s) es last = subst (λ t. AreSampled t es last) (sampler-birth s m.did is.0 is.1 is.2) sampled.1 in
-        let b = f next nth (sym (ap (λ xs. slice_get xs (suc nth)) (births-one p j m.did (map note_of es) is.0 is.1 is.2)) ∙ e) in
+        let next : AreSampled (with_birth s) es last =
+        subst (λ t. AreSampled t es last) (sampler-birth s m.did is.0 is.1 is.2) sampled.1 in
+        let b = f next nth (sym (ap (λ xs. slice_get xs (suc nth))
+        (births-one p j m.did (map note_of es) is.0 is.1 is.2)) ∙ e) in
         record {
           at = suc b.at;
           object = b.object;
@@ -144,12 +167,15 @@ birth-of_index s last (At p j m ∷ es) sampled nth root e =
           birth = b.birth;
           watch = b.watch ∙ watch-next s nth;
         }
-birth-of_index s last (Ref r d ∷ es) sampled nth root e = later s (Ref r d) es nth root (birth-of_index s last es sampled nth root e)
-birth-of_index s last (Busy h ∷ es) sampled nth root e = later s (Busy h) es nth root (birth-of_index s last es sampled nth root e)
+birth-of_index s last (Ref r d ∷ es) sampled nth root e =
+    later s (Ref r d) es nth root (birth-of_index s last es sampled nth root e)
+birth-of_index s last (Busy h ∷ es) sampled nth root e =
+    later s (Busy h) es nth root (birth-of_index s last es sampled nth root e)
 
 -- ---- A birth stands at its root's place.
 
-step-some : {S : Type 0} (step : S → Did → Option S) (s : S) (first last : History) (lane : ℕ) (d : Did) → is_some (after step s (dids (first ++ (lane, d) ∷ last))) ≡ true →
+step-some : {S : Type 0} (step : S → Did → Option S) (s : S) (first last : History) (lane : ℕ) (d : Did)
+    → is_some (after step s (dids (first ++ (lane, d) ∷ last))) ≡ true →
     (m : S) × (is_some (step m d) ≡ true)
 step-some {S = S} step s [] last lane d ok = (s, go (step s d) ok)
   where
@@ -158,20 +184,26 @@ step-some {S = S} step s [] last lane d ok = (s, go (step s d) ok)
     go (Some t) x = refl
 step-some {S = S} step s (e ∷ first) last lane d ok = go (step s e.1) (λ t. step-some step t first last lane d) ok
   where
-    go : (o : Option S) → ((t : S) → is_some (after step t (dids (first ++ (lane, d) ∷ last))) ≡ true → (m : S) × (is_some (step m d) ≡ true)) →
-        is_some (option_and_then (λ t. after step t (dids (first ++ (lane, d) ∷ last))) o) ≡ true → (m : S) × (is_some (step m d) ≡ true)
+    go : (o : Option S) → ((t : S) → is_some (after step t (dids (first ++ (lane, d) ∷ last))) ≡ true
+        → (m : S) × (is_some (step m d) ≡ true)) →
+        is_some (option_and_then (λ t. after step t (dids (first ++ (lane, d) ∷ last))) o) ≡ true
+        → (m : S) × (is_some (step m d) ≡ true)
     go None f x = absurd (cc x)
     go (Some t) f x = f t x
 
-born-there : (place : ℕ) (s : RootPlace) (o : Option Present) (root : RootId) (region : RegionId) → is_some (place_step_by place s o (Birth root region)) ≡ true → root.place ≡ place
-born-there place s None root region ok = go (root.place == place) ((root.generation == s.generation + 1) && nat_le root.capacity region.place.len) refl ok
+born-there : (place : ℕ) (s : RootPlace) (o : Option Present) (root : RootId) (region : RegionId)
+    → is_some (place_step_by place s o (Birth root region)) ≡ true → root.place ≡ place
+born-there place s None root region ok =
+    go (root.place == place) ((root.generation == s.generation + 1) && nat_le root.capacity region.place.len) refl ok
   where
-    go : (b c : Bool) → (root.place == place) ≡ b → is_some (if b && c then Some (born root region) else None) ≡ true → root.place ≡ place
+    go : (b c : Bool) → (root.place == place) ≡ b → is_some (if b && c then Some (born root region) else None) ≡ true
+        → root.place ≡ place
     go true c e x = eqb-true root.place place e
     go false c e x = absurd (cc x)
 born-there place s (Some p) root region ok = absurd (cc ok)
 
-no-cache_birth : (capacity : ℕ) (c : Cache) (root : RootId) (region : RegionId) → is_some (cache_step capacity c (Birth root region)) ≡ true → ⊥
+no-cache_birth : (capacity : ℕ) (c : Cache) (root : RootId) (region : RegionId)
+    → is_some (cache_step capacity c (Birth root region)) ≡ true → ⊥
 no-cache_birth capacity c root region ok = cc ok
 
 accepted-birth : (shape : Shape) (o : Object) (first last : History) (lane : ℕ) (root : RootId) (region : RegionId) →
@@ -184,7 +216,8 @@ accepted-birth shape (Object.Cache owner class) first last lane root region ok =
     let m = step-some (lane_cache_step owner class) new_cache first last lane (Birth root region) ok in
     absurd (no-cache_birth (cache_capacity class) m.0 root region m.1)
 accepted-birth shape (Object.Bin owner) first last lane root region ok =
-    let m = step-some (bin_step owner shape.handles) (new_bin owner shape.handles) first last lane (Birth root region) ok in
+    let m = step-some (bin_step owner shape.handles) (new_bin owner shape.handles) first last lane (Birth root region)
+    ok in
     let none : false ≡ true = m.1 in absurd (cc none)
 accepted-birth shape (Object.Mail from to) first last lane root region ok =
     let m = step-some mail_step [] first last lane (Birth root region) ok in
@@ -193,7 +226,8 @@ accepted-birth shape (Object.Root place) first last lane root region ok =
     let m = step-some (place_step place) new_place first last lane (Birth root region) ok in
     ap Object.Root (sym (born-there place m.0 m.0.present root region m.1))
 
-pub birth-placed : (shape : Shape) (logs : Logs) → HistoriesHold shape logs → (lane at k : ℕ) (o : Object) (root : RootId) (region : RegionId) →
+pub birth-placed : (shape : Shape) (logs : Logs) → HistoriesHold shape logs
+    → (lane at k : ℕ) (o : Object) (root : RootId) (region : RegionId) →
     slice_get (of_lane logs lane) at ≡ Some (Note.At o k (Birth root region)) → o ≡ Object.Root root.place
 birth-placed shape logs hold lane at k o root region e =
     let c = cut-at (of_lane logs lane) at (Note.At o k (Birth root region)) e in

@@ -13,13 +13,15 @@ stands-at P [] k lt h = absurd (omega arith)
 stands-at P (x ∷ xs) zero lt h = (x, refl, h x)
 stands-at P (x ∷ xs) (suc k) lt h = stands-at P xs k (omega arith) (λ d. h d)
 
-pub HoldsAt-from : {X : Type 0} (P : X → Type 0) (xs : List X) (k : ℕ) (x : X) → slice_get xs k ≡ Some x → P x → HoldsAt P xs k
+pub HoldsAt-from : {X : Type 0} (P : X → Type 0) (xs : List X) (k : ℕ) (x : X) → slice_get xs k ≡ Some x → P x
+    → HoldsAt P xs k
 HoldsAt-from P [] k x e h = absurd (cc e)
 HoldsAt-from P (y ∷ ys) zero x e h = λ d. let same : x ≡ y = cc e in subst P same h
 HoldsAt-from P (y ∷ ys) (suc k) x e h = HoldsAt-from P ys k x e h
 
 -- the first of a list, and the others
-pub All-first : {X : Type 0} (P : X → Type 0) (xs : List X) (x : X) → 0 < length xs → x ≡ slice_index_or xs 0 x → All P xs → P x
+pub All-first : {X : Type 0} (P : X → Type 0) (xs : List X) (x : X) → 0 < length xs → x ≡ slice_index_or xs 0 x
+    → All P xs → P x
 All-first P xs x lt e h = subst P (sym e) (h 0 x lt)
 
 pub All-rest : {X : Type 0} (P : X → Type 0) (xs : List X) → All P xs → All P (remove xs 0)
@@ -27,7 +29,8 @@ All-rest P [] h = λ k d lt. absurd (omega arith)
 All-rest P (y ∷ ys) h = λ k d lt. h (suc k) d (omega arith)
 
 -- the first of a list moves behind what is done
-pub moved-first : {X Y : Type 0} (f : X → Y) (xs : List X) (x : X) (y : Y) (done next : List Y) → 0 < length xs → x ≡ slice_index_or xs 0 x →
+pub moved-first : {X Y : Type 0} (f : X → Y) (xs : List X) (x : X) (y : Y) (done next : List Y) → 0 < length xs
+    → x ≡ slice_index_or xs 0 x →
     y ≡ f x → next ≡ done ++ y ∷ [] → next ++ map f (remove xs 0) ≡ done ++ map f xs
 moved-first f [] x y done next lt e same is = absurd (omega arith)
 moved-first {Y = Y} f (z ∷ xs) x y done next lt e same is =
@@ -46,16 +49,20 @@ pub map-map : {X Y Z : Type 0} (g : Y → Z) (f : X → Y) (xs : List X) → map
 map-map g f [] = refl
 map-map g f (x ∷ xs) = ap (λ t. g (f x) ∷ t) (map-map g f xs)
 
-pub map-same : {X Y : Type 0} (f g : X → Y) (xs : List X) → ((k : ℕ) (x : X) → slice_get xs k ≡ Some x → f x ≡ g x) → map f xs ≡ map g xs
+pub map-same : {X Y : Type 0} (f g : X → Y) (xs : List X) → ((k : ℕ) (x : X) → slice_get xs k ≡ Some x → f x ≡ g x)
+    → map f xs ≡ map g xs
 map-same f g [] h = refl
-map-same f g (x ∷ xs) h = ap (λ y. y ∷ map f xs) (h 0 x refl) ∙ ap (λ t. g x ∷ t) (map-same f g xs (λ k y e. h (suc k) y e))
+map-same f g (x ∷ xs) h =
+    ap (λ y. y ∷ map f xs) (h 0 x refl) ∙ ap (λ t. g x ∷ t) (map-same f g xs (λ k y e. h (suc k) y e))
 
-pub get-map : {X Y : Type 0} (f : X → Y) (xs : List X) (k : ℕ) (x : X) → slice_get xs k ≡ Some x → slice_get (map f xs) k ≡ Some (f x)
+pub get-map : {X Y : Type 0} (f : X → Y) (xs : List X) (k : ℕ) (x : X) → slice_get xs k ≡ Some x
+    → slice_get (map f xs) k ≡ Some (f x)
 get-map f [] k x e = absurd (cc e)
 get-map f (y ∷ ys) zero x e = let same : y ≡ x = cc e in ap (λ z. Some (f z)) same
 get-map f (y ∷ ys) (suc k) x e = get-map f ys k x e
 
-pub map-get : {X Y : Type 0} (f : X → Y) (xs : List X) (k : ℕ) (y : Y) → slice_get (map f xs) k ≡ Some y → (x : X) × (slice_get xs k ≡ Some x) × (f x ≡ y)
+pub map-get : {X Y : Type 0} (f : X → Y) (xs : List X) (k : ℕ) (y : Y) → slice_get (map f xs) k ≡ Some y
+    → (x : X) × (slice_get xs k ≡ Some x) × (f x ≡ y)
 map-get f [] k y e = absurd (cc e)
 map-get f (x ∷ xs) zero y e = (x, refl, cc e)
 map-get f (x ∷ xs) (suc k) y e = map-get f xs k y e
@@ -65,7 +72,8 @@ get-below [] k x e = absurd (cc e)
 get-below (y ∷ ys) zero x e = omega arith
 get-below (y ∷ ys) (suc k) x e = let ih : k < length ys = get-below ys k x e in omega arith
 
-pub log-at : {X Y : Type 0} (f : X → List Y) (xs : List X) (k : ℕ) (x : X) → slice_get xs k ≡ Some x → of_lane (map f xs) k ≡ f x
+pub log-at : {X Y : Type 0} (f : X → List Y) (xs : List X) (k : ℕ) (x : X) → slice_get xs k ≡ Some x
+    → of_lane (map f xs) k ≡ f x
 log-at f [] k x e = absurd (cc e)
 log-at f (y ∷ ys) zero x e = let same : y ≡ x = cc e in ap f same
 log-at f (y ∷ ys) (suc k) x e = log-at f ys k x e

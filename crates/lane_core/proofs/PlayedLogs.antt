@@ -37,7 +37,8 @@ module _ (pool : SharedPool) (lanes : List Lane) (fin : AreFinished pool lanes) 
   pub notes-are : logs_in (parts_of_lanes lanes) ≡ map (λ l. l.desk.notes.items) lanes
   notes-are =
       ap logs_in (parts-are lanes) ∙ map-map (λ (p : Part). map note_of p.notes) own_part lanes
-      ∙ map-same (λ (l : Lane). map note_of (own_part l).notes) (λ l. l.desk.notes.items) lanes (λ k l e. sym (finished-at k l e).lane.desk.log)
+      ∙ map-same (λ (l : Lane). map note_of (own_part l).notes) (λ l. l.desk.notes.items) lanes
+      (λ k l e. sym (finished-at k l e).lane.desk.log)
 
   pub logs-are : (shape : Shape) (run : Run) → IsRunOf shape lanes run → logs_in (parts_of_lanes lanes) ≡ logs_of run
   logs-are shape run of =
@@ -47,7 +48,8 @@ pub parts-length : (lanes : List Lane) → length (parts_of_lanes lanes) ≡ len
 parts-length lanes = ap length (parts-are lanes) ∙ length-map own_part lanes
 
 -- the entries of a lane
-pub entries-at : (lanes : List Lane) (k : ℕ) (l : Lane) → slice_get lanes k ≡ Some l → of_lane (entries_in (parts_of_lanes lanes)) k ≡ entries_of l.desk
+pub entries-at : (lanes : List Lane) (k : ℕ) (l : Lane) → slice_get lanes k ≡ Some l
+    → of_lane (entries_in (parts_of_lanes lanes)) k ≡ entries_of l.desk
 entries-at lanes k l e =
     ap (λ ps. of_lane (entries_in ps) k) (parts-are lanes)
     ∙ ap (λ es. of_lane es k) (map-map (λ (p : Part). map entry_of p.notes) own_part lanes)

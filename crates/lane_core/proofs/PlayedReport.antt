@@ -39,11 +39,14 @@ Ascends (x ∷ xs) = ((y : Leak) → In y xs → IsBefore x y) × Ascends xs
 not-both : (a b : Leak) → IsBefore a b → IsBefore b a → ⊥
 not-both a b p q =
     ⊎_elim
-    (λ (l : a.lane < b.lane). ⊎_elim (λ (m : b.lane < a.lane). omega (arith, l, m)) (λ (m : (b.lane ≡ a.lane) × (b.serial < a.serial)). omega (arith, l, m.0)) q)
-    (λ (l : (a.lane ≡ b.lane) × (a.serial < b.serial)). ⊎_elim (λ (m : b.lane < a.lane). omega (arith, l.0, m)) (λ (m : (b.lane ≡ a.lane) × (b.serial < a.serial)). omega (arith, l.1, m.1)) q)
+    (λ (l : a.lane < b.lane). ⊎_elim (λ (m : b.lane < a.lane). omega (arith, l, m))
+    (λ (m : (b.lane ≡ a.lane) × (b.serial < a.serial)). omega (arith, l, m.0)) q)
+    (λ (l : (a.lane ≡ b.lane) × (a.serial < b.serial)). ⊎_elim (λ (m : b.lane < a.lane). omega (arith, l.0, m))
+    (λ (m : (b.lane ≡ a.lane) × (b.serial < a.serial)). omega (arith, l.1, m.1)) q)
     p
 
-pub same-leaks : (xs ys : List Leak) → Ascends xs → Ascends ys → ((x : Leak) → In x xs → In x ys) → ((y : Leak) → In y ys → In y xs) → xs ≡ ys
+pub same-leaks : (xs ys : List Leak) → Ascends xs → Ascends ys → ((x : Leak) → In x xs → In x ys)
+    → ((y : Leak) → In y ys → In y xs) → xs ≡ ys
 same-leaks [] [] a b f g = refl
 same-leaks [] (y ∷ ys) a b f g = let i = g y (0, refl) in absurd (none i)
   where
@@ -59,7 +62,8 @@ same-leaks (x ∷ xs) (y ∷ ys) a b f g =
     head : x ≡ y
     head =
         ⊎_elim (λ (e : y ≡ x). sym e)
-        (λ (i : In x ys). ⊎_elim (λ (e : x ≡ y). e) (λ (j : In y xs). absurd (not-both x y (a.0 y j) (b.0 x i))) (in-cases y x xs (g y (0, refl))))
+        (λ (i : In x ys). ⊎_elim (λ (e : x ≡ y). e) (λ (j : In y xs). absurd (not-both x y (a.0 y j) (b.0 x i)))
+        (in-cases y x xs (g y (0, refl))))
         (in-cases x y ys (f x (0, refl)))
 
     itself : (z : Leak) → IsBefore z z → ⊥
@@ -72,12 +76,14 @@ same-leaks (x ∷ xs) (y ∷ ys) a b f g =
 
     up : (z : Leak) → In z ys → In z xs
     up z i =
-        ⊎_elim (λ (e : x ≡ z). absurd (itself z (subst (λ w. IsBefore w z) (sym head ∙ e) (b.0 z i)))) (λ (j : In z xs). j)
+        ⊎_elim (λ (e : x ≡ z). absurd (itself z (subst (λ w. IsBefore w z) (sym head ∙ e) (b.0 z i))))
+        (λ (j : In z xs). j)
         (in-cases z x xs (g z (suc i.0, i.1)))
 
 -- ---- Leaks that are sorted, and no two of one lane and serial.
 
-pub index-of : {X : Type 0} (xs : List X) (k : ℕ) (x d : X) → slice_get xs k ≡ Some x → (slice_index_or xs k d ≡ x) × (k < length xs)
+pub index-of : {X : Type 0} (xs : List X) (k : ℕ) (x d : X) → slice_get xs k ≡ Some x
+    → (slice_index_or xs k d ≡ x) × (k < length xs)
 index-of [] k x d e = absurd (cc e)
 index-of (y ∷ ys) zero x d e = (cc e, omega arith)
 index-of (y ∷ ys) (suc k) x d e = let i = index-of ys k x d e in (i.0, omega (arith, i.1))
@@ -87,9 +93,11 @@ get-of [] k lt = absurd (omega arith)
 get-of (y ∷ ys) zero lt = (y, refl)
 get-of (y ∷ ys) (suc k) lt = get-of ys k (omega arith)
 
-pub pair-of : {X : Type 0} (R : X → X → Type 0) (xs : List X) (i j : ℕ) (x y : X) → AllPairs R xs → slice_get xs i ≡ Some x → slice_get xs j ≡ Some y → i < j → R x y
+pub pair-of : {X : Type 0} (R : X → X → Type 0) (xs : List X) (i j : ℕ) (x y : X) → AllPairs R xs
+    → slice_get xs i ≡ Some x → slice_get xs j ≡ Some y → i < j → R x y
 pair-of R xs i j x y all a b lt =
-    subst (λ z. R z y) (index-of xs i x x a).0 (subst (R (slice_index_or xs i x)) (index-of xs j y x b).0 (all i j x lt (index-of xs j y x b).1))
+    subst (λ z. R z y) (index-of xs i x x a).0
+    (subst (R (slice_index_or xs i x)) (index-of xs j y x b).0 (all i j x lt (index-of xs j y x b).1))
 
 pub pairs-rest : {X : Type 0} (R : X → X → Type 0) (x : X) (xs : List X) → AllPairs R (x ∷ xs) → AllPairs R xs
 pairs-rest R x xs all i j d lt end = all (suc i) (suc j) d (omega arith) (omega arith)
@@ -99,17 +107,24 @@ below-or a b = grind arith
 
 -- two leaks of one lane and serial stand at one place
 abbrev pub OnceEach : List Leak → Type 0
-OnceEach xs = (i j : ℕ) (x y : Leak) → slice_get xs i ≡ Some x → slice_get xs j ≡ Some y → x.lane ≡ y.lane → x.serial ≡ y.serial → i ≡ j
+OnceEach xs =
+    (i j : ℕ) (x y : Leak) → slice_get xs i ≡ Some x → slice_get xs j ≡ Some y → x.lane ≡ y.lane → x.serial ≡ y.serial
+    → i ≡ j
 
 pub ascends : (xs : List Leak) → AllPairs IsNotAfter xs → OnceEach xs → Ascends xs
 ascends [] all once = tt
-ascends (x ∷ xs) all once = (first, ascends xs (pairs-rest IsNotAfter x xs all) (λ i j y z a b l s. omega (arith, once (suc i) (suc j) y z a b l s)))
+ascends (x ∷ xs) all once = (
+  first,
+  ascends xs (pairs-rest IsNotAfter x xs all)
+      (λ i j y z a b l s. omega (arith, once (suc i) (suc j) y z a b l s)),
+)
   where
     first : (y : Leak) → In y xs → IsBefore x y
     first y (k, e) =
         ⊎_elim (λ (lt : x.lane < y.lane). inl lt)
         (λ (m : (x.lane ≡ y.lane) × (x.serial ≤ y.serial)).
         ⊎_elim (λ (lt : x.serial < y.serial). inr (m.0, lt))
-        (λ (same : y.serial ≤ x.serial). absurd (omega (arith, once 0 (suc k) x y refl e m.0 (omega (arith, m.1, same)))))
+        (λ (same : y.serial ≤ x.serial). absurd
+        (omega (arith, once 0 (suc k) x y refl e m.0 (omega (arith, m.1, same)))))
         (below-or x.serial y.serial))
         (pair-of IsNotAfter (x ∷ xs) 0 (suc k) x y all refl e (omega arith))

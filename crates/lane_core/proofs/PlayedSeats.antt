@@ -21,7 +21,8 @@ nothing-held v held = record {
 }
 
 -- the lane's part has its number
-pub part-number : (pool : SharedPool) (k : ℕ) (l : Lane) → IsFinishedLane pool k l → (view_of l.desk.seat).own.number ≡ Some k
+pub part-number : (pool : SharedPool) (k : ℕ) (l : Lane) → IsFinishedLane pool k l
+    → (view_of l.desk.seat).own.number ≡ Some k
 part-number pool k l f =
     let seat = f.lane.desk.seat in
     seat.number ∙ ap Some (sym (ap (λ o. unwrap_or o 0) seat.number) ∙ f.number_is)
@@ -30,15 +31,19 @@ pub lane-done : (pool : SharedPool) (k : ℕ) (l : Lane) → IsFinishedLane pool
 lane-done pool k l f = record {
   seat = f.lane.desk.seat;
   number = part-number pool k l f;
-  nothing = nothing-held (view_of l.desk.seat) (subst (λ s. IsHeld (hand_of s) (view_of l.desk.seat)) f.finished f.lane.desk.held);
+  nothing =
+      nothing-held (view_of l.desk.seat)
+      (subst (λ s. IsHeld (hand_of s) (view_of l.desk.seat)) f.finished f.lane.desk.held);
 }
 
 -- the lane with a number
-pub lane-at : (pool : SharedPool) (lanes : List Lane) → AreFinished pool lanes → (k : ℕ) → k < pool.table.layout.shape.lanes →
+pub lane-at : (pool : SharedPool) (lanes : List Lane) → AreFinished pool lanes → (k : ℕ)
+    → k < pool.table.layout.shape.lanes →
     (l : Lane) × (slice_get lanes k ≡ Some l) × IsFinishedLane pool k l
 lane-at pool lanes fin k lt = stands-at (IsFinishedLane pool k) lanes k (omega (arith, fin.many)) (fin.each k lt)
 
-pub seats-done : (pool : SharedPool) (lanes : List Lane) → AreFinished pool lanes → AreDone pool (map (λ l. l.desk.seat) lanes)
+pub seats-done : (pool : SharedPool) (lanes : List Lane) → AreFinished pool lanes
+    → AreDone pool (map (λ l. l.desk.seat) lanes)
 seats-done pool lanes fin = record {
   many = length-map (λ (l : Lane). l.desk.seat) lanes ∙ fin.many;
   each = λ k lt.

@@ -35,34 +35,42 @@ module _ {A : Type 0} (r q : Reader A) (es : Entries) (asks : ℕ → ℕ) where
   pub first_on : (a : A) → ReadsOn r es asks (give a) → ReadsOn (r or q) es asks (give a)
   first_on a on log = ap (λ o. or_else o (q (before_left log es))) (on log)
 
-  pub second_on : (t : Reader A) → ((log : Log) → r (before_left log es) ≡ None) → ReadsOn q es asks t → ReadsOn (r or q) es asks t
+  pub second_on : (t : Reader A) → ((log : Log) → r (before_left log es) ≡ None) → ReadsOn q es asks t
+      → ReadsOn (r or q) es asks t
   second_on t none on log = ap (λ o. or_else o (q (before_left log es))) (none log) ∙ on log
 
 pub none_then : {A B : Type 0} (r : Reader A) (f : A → Reader B) (log : Log) → r log ≡ None → (r >>= f) log ≡ None
 none_then r f log is = ap (λ o. option_and_then (λ got. f got.0 got.1) o) is
 
 -- over one entry, and over the next
-pub two_on : {A : Type 0} (r q t : Reader A) (e f : Entry) → ReadsOn r (e ∷ []) none_asked q → ReadsOn q (f ∷ []) none_asked t → ReadsOn r (e ∷ f ∷ []) none_asked t
+pub two_on : {A : Type 0} (r q t : Reader A) (e f : Entry) → ReadsOn r (e ∷ []) none_asked q
+    → ReadsOn q (f ∷ []) none_asked t → ReadsOn r (e ∷ f ∷ []) none_asked t
 two_on r q t e f first second log =
     first (before_left log (f ∷ []))
     ∙ second (record { seen = log.seen ++ e ∷ []; asked = log.asked; left = log.left })
-    ∙ ap (λ (seen : Entries). t (record { seen = seen; asked = log.asked; left = log.left })) (append_assoc log.seen (e ∷ []) (f ∷ []))
+    ∙ ap (λ (seen : Entries). t (record { seen = seen; asked = log.asked; left = log.left }))
+    (append_assoc log.seen (e ∷ []) (f ∷ []))
 
 -- over two lists of entries, where no cache is asked
-pub on_append : {A : Type 0} (r q t : Reader A) (es fs : Entries) → ReadsOn r es none_asked q → ReadsOn q fs none_asked t → ReadsOn r (es ++ fs) none_asked t
+pub on_append : {A : Type 0} (r q t : Reader A) (es fs : Entries) → ReadsOn r es none_asked q
+    → ReadsOn q fs none_asked t → ReadsOn r (es ++ fs) none_asked t
 on_append r q t es fs first second log =
-    ap (λ (left : Entries). r (record { seen = log.seen; asked = log.asked; left = left })) (append_assoc es fs log.left)
+    ap (λ (left : Entries). r (record { seen = log.seen; asked = log.asked; left = left }))
+    (append_assoc es fs log.left)
     ∙ first (before_left log fs)
     ∙ second (record { seen = log.seen ++ es; asked = log.asked; left = log.left })
-    ∙ ap (λ (seen : Entries). t (record { seen = seen; asked = log.asked; left = log.left })) (append_assoc log.seen es fs)
+    ∙ ap (λ (seen : Entries). t (record { seen = seen; asked = log.asked; left = log.left }))
+    (append_assoc log.seen es fs)
 
 -- an allocation asks a cache, and what it reads then
-pub asked_on : {A : Type 0} (r t : Reader A) (es : Entries) → ReadsOn r es none_asked t → ReadsOn (ask >> r) es one_asked t
+pub asked_on : {A : Type 0} (r t : Reader A) (es : Entries) → ReadsOn r es none_asked t
+    → ReadsOn (ask >> r) es one_asked t
 asked_on r t es on log = on (record log { asked = log.asked + 1 })
 
 -- over no entries
 pub still_on : {A : Type 0} (r : Reader A) → ReadsOn r [] none_asked r
-still_on r log = ap (λ (seen : Entries). r (record { seen = seen; asked = log.asked; left = log.left })) (sym (nil log.seen))
+still_on r log =
+    ap (λ (seen : Entries). r (record { seen = seen; asked = log.asked; left = log.left })) (sym (nil log.seen))
   where
     nil : (es : Entries) → es ++ [] ≡ es
     nil [] = refl
@@ -94,23 +102,32 @@ module _ {A : Type 0} (e : Entry) where
         ∙ ap (λ (x : Option A). option_map (λ a. (a, behind_entry (before_left log (e ∷ [])) e log.left)) x) so
 
   -- an access to a root that is present
-  pub access_on : (root : RootId) (says : Did → Option A) (n : ℕ) (did : Did) → e.note ≡ Note.At (Object.Root root.place) n did → root_is root e.root ≡ true → (a : A) → says did ≡ Some a → ReadsOn (access root says) (e ∷ []) none_asked (give a)
+  pub access_on : (root : RootId) (says : Did → Option A) (n : ℕ) (did : Did)
+      → e.note ≡ Note.At (Object.Root root.place) n did → root_is root e.root ≡ true → (a : A) → says did ≡ Some a
+      → ReadsOn (access root says) (e ∷ []) none_asked (give a)
   access_on root says n did is here a so log =
       access-is root says n did (before_left log (e ∷ [])) e log.left refl is here
       ∙ ap (λ (x : Option A). option_map (λ a. (a, behind_entry (before_left log (e ∷ [])) e log.left)) x) so
 
   -- a busy mark is no note
-  pub mark_off : (o : Object) (says : Did → Option A) (held : Held) → e.note ≡ Note.Busy held → (log : Log) → note o says (before_left log (e ∷ [])) ≡ None
-  mark_off o says held is log = ap (λ (n : Note). option_map (λ a. (a, behind_entry (before_left log (e ∷ [])) e log.left)) (option_and_then says (done_at o n))) is
+  pub mark_off : (o : Object) (says : Did → Option A) (held : Held) → e.note ≡ Note.Busy held → (log : Log)
+      → note o says (before_left log (e ∷ [])) ≡ None
+  mark_off o says held is log =
+      ap (λ (n : Note). option_map (λ a. (a, behind_entry (before_left log (e ∷ [])) e log.left))
+      (option_and_then says (done_at o n))) is
 
-pub mark_on : (e : Entry) (o : Object) (held : Held) → held.object ≡ o → e.note ≡ Note.Busy held → ReadsOn (busy o) (e ∷ []) none_asked (give held.number)
+pub mark_on : (e : Entry) (o : Object) (held : Held) → held.object ≡ o → e.note ≡ Note.Busy held
+    → ReadsOn (busy o) (e ∷ []) none_asked (give held.number)
 mark_on e o held at is log =
     ap (λ (n : Note). option_map (λ (a : ℕ). (a, behind_entry (before_left log (e ∷ [])) e log.left)) (marked o n)) is
-    ∙ ap (λ (b : Bool). option_map (λ (a : ℕ). (a, behind_entry (before_left log (e ∷ [])) e log.left)) (if b then Some held.number else None)) (ap (same_object o) at ∙ same_object-refl o)
+    ∙ ap (λ (b : Bool). option_map (λ (a : ℕ). (a, behind_entry (before_left log (e ∷ [])) e log.left))
+    (if b then Some held.number else None)) (ap (same_object o) at ∙ same_object-refl o)
 
 -- a busy mark alone may be there where a note is
-pub note_unmarked : (e : Entry) (o p : Object) (n : ℕ) (did : Did) → e.note ≡ Note.At p n did → (log : Log) → busy o (before_left log (e ∷ [])) ≡ None
-note_unmarked e o p n did is log = ap (λ (x : Note). option_map (λ (a : ℕ). (a, behind_entry (before_left log (e ∷ [])) e log.left)) (marked o x)) is
+pub note_unmarked : (e : Entry) (o p : Object) (n : ℕ) (did : Did) → e.note ≡ Note.At p n did → (log : Log)
+    → busy o (before_left log (e ∷ [])) ≡ None
+note_unmarked e o p n did is log =
+    ap (λ (x : Note). option_map (λ (a : ℕ). (a, behind_entry (before_left log (e ∷ [])) e log.left)) (marked o x)) is
 
 -- ---- The sweep behind an answer.
 
@@ -118,14 +135,17 @@ note_unmarked e o p n did is log = ap (λ (x : Note). option_map (λ (a : ℕ). 
 pub unswept : (lane : ℕ) (a : Answer) (log : Log) → log.asked < sweep_period → swept lane a log ≡ Some (a, log)
 unswept lane a log low = go (sweep lane) (nat_le sweep_period log.asked) (lt-leb sweep_period log.asked low)
   where
-    go : (s : Reader (Unit {0})) (test : Bool) → test ≡ false → ((if test then (asks_anew >> s) else nothing) >> give a) log ≡ Some (a, log)
+    go : (s : Reader (Unit {0})) (test : Bool) → test ≡ false
+        → ((if test then (asks_anew >> s) else nothing) >> give a) log ≡ Some (a, log)
     go s true is = absurd (cc is)
     go s false is = refl
 
 -- where one is due, the caches are asked from the first on
-pub sweeps_on : (lane : ℕ) (a : Answer) (log : Log) → nat_le sweep_period log.asked ≡ true → swept lane a log ≡ (sweep lane >> give a) (record log { asked = 0 })
+pub sweeps_on : (lane : ℕ) (a : Answer) (log : Log) → nat_le sweep_period log.asked ≡ true
+    → swept lane a log ≡ (sweep lane >> give a) (record log { asked = 0 })
 sweeps_on lane a log due = go (sweep lane) (nat_le sweep_period log.asked) due
   where
-    go : (s : Reader (Unit {0})) (test : Bool) → test ≡ true → ((if test then (asks_anew >> s) else nothing) >> give a) log ≡ (s >> give a) (record log { asked = 0 })
+    go : (s : Reader (Unit {0})) (test : Bool) → test ≡ true
+        → ((if test then (asks_anew >> s) else nothing) >> give a) log ≡ (s >> give a) (record log { asked = 0 })
     go s true is = refl
     go s false is = absurd (cc is)

@@ -70,7 +70,8 @@ pub all_takes : (cs : List Command) → (left_for_all cs).takes ≡ (left_for_al
 all_takes [] = refl
 all_takes (c ∷ cs) = let rest = all_takes cs in omega (arith, rest)
 
-notes_push : (cs : List Command) (c : Command) → (left_for_all (cs ++ c ∷ [])).notes ≡ (left_for_all cs).notes + most_notes false c
+notes_push : (cs : List Command) (c : Command) → (left_for_all (cs ++ c ∷ [])).notes
+    ≡ (left_for_all cs).notes + most_notes false c
 notes_push [] c = omega arith
 notes_push (b ∷ bs) c = let rest = notes_push bs c in omega (arith, rest)
 
@@ -113,7 +114,8 @@ all_asks (c ∷ cs) =
     omega (arith, cut, rest)
 
 -- for commands that make no composite it is what they may spend in all
-pub bound_is : (cs : List Command) → All IsPlain cs → note_bound cs ≡ (left_for_all cs).notes + most_drained (left_for_all cs).asks
+pub bound_is : (cs : List Command) → All IsPlain cs
+    → note_bound cs ≡ (left_for_all cs).notes + most_drained (left_for_all cs).asks
 bound_is cs plain =
     ap (λ (b : Bool). sum (map (most_notes b) cs) + most_drained (sum (map may_ask cs))) (no_composite cs plain)
     ∙ (λ i. all_notes cs i + most_drained (all_asks cs i))
@@ -122,7 +124,8 @@ bound_is cs plain =
 below_more : (m n : ℕ) → m ≤ n → (c : Command) → ChangesBelow m c → ChangesBelow n c
 below_more m n le c below = IfSome_then (changed_name c) below (λ name lt. omega (arith, le, lt))
 
-pub all_below_more : (m n k : ℕ) (cs : List Command) (i : ℕ) (c : Command) → i < length cs → c ≡ get_or cs i c → m ≤ k → n ≤ k → All (ChangesBelow m) (take i cs) → ChangesBelow n c → All (ChangesBelow k) (take (i + 1) cs)
+pub all_below_more : (m n k : ℕ) (cs : List Command) (i : ℕ) (c : Command) → i < length cs → c ≡ get_or cs i c → m ≤ k
+    → n ≤ k → All (ChangesBelow m) (take i cs) → ChangesBelow n c → All (ChangesBelow k) (take (i + 1) cs)
 all_below_more m n k cs i c lt is most also below here =
     All-more (ChangesBelow k) cs i c lt
     (All-weaker (ChangesBelow m) (ChangesBelow k) (below_more m k most) (take i cs) below)
@@ -131,7 +134,8 @@ all_below_more m n k cs i c lt is most also below here =
 pub max_most : (a b : ℕ) → (a ≤ ord_max nat_cmp a b) × (b ≤ ord_max nat_cmp a b)
 max_most a b = go (nat_lt b a) refl (b == a)
   where
-    go : (t : Bool) → nat_lt b a ≡ t → (u : Bool) → (a ≤ cond (is_lt (cond t Less (cond u Equal Greater))) a b) × (b ≤ cond (is_lt (cond t Less (cond u Equal Greater))) a b)
+    go : (t : Bool) → nat_lt b a ≡ t → (u : Bool) → (a ≤ cond (is_lt (cond t Less (cond u Equal Greater))) a b)
+        × (b ≤ cond (is_lt (cond t Less (cond u Equal Greater))) a b)
     go true is u = let low = ltb-true b a is in (omega arith, omega (arith, low))
     go false is true = let low = ltb-false b a is in (omega (arith, low), omega arith)
     go false is false = let low = ltb-false b a is in (omega (arith, low), omega arith)

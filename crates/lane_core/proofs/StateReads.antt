@@ -33,10 +33,12 @@ module _ (s : LaneState) (names : List (Option ViewData)) (cs : List Counted) (s
   named_so name o is = state.names_are name ∙ ap (option_map Plain) is
 
   pub counting : (root : RootId) → 0 < counted cs root → counts s root ≡ true
-  counting root lt = let same = state.counts_are.counts root in le-leb 1 (count_of root s.seen) (omega (arith, same, lt))
+  counting root lt =
+      let same = state.counts_are.counts root in le-leb 1 (count_of root s.seen) (omega (arith, same, lt))
 
   not_counting : (root : RootId) → counted cs root ≡ 0 → counts s root ≡ false
-  not_counting root none = let same = state.counts_are.counts root in lt-leb 1 (count_of root s.seen) (omega (arith, same, none))
+  not_counting root none =
+      let same = state.counts_are.counts root in lt-leb 1 (count_of root s.seen) (omega (arith, same, none))
 
   -- a new name is free, or taken
   pub is_free : (fresh : ℕ) → bound_at names fresh ≡ None → (taken s fresh).comes ≡ false
@@ -56,16 +58,24 @@ module _ (s : LaneState) (names : List (Option ViewData)) (cs : List Counted) (s
     is_plain = ap (λ (o : Option Bound). passes (λ b. is_some (composite_in b)) o) (named_so name (Some v) is)
 
     is_legal : 0 < counted cs v.root → (illegal s name).comes ≡ false
-    is_legal lt = ap (λ (o : Option Bound). passes (λ b. not (is_usable (counts s) b)) o) (named_so name (Some v) is) ∙ ap (λ (b : Bool). not b) (counting v.root lt)
+    is_legal lt =
+        ap (λ (o : Option Bound). passes (λ b. not (is_usable (counts s) b)) o) (named_so name (Some v) is)
+        ∙ ap (λ (b : Bool). not b) (counting v.root lt)
 
     is_illegal : counted cs v.root ≡ 0 → (illegal s name).comes ≡ true
-    is_illegal none = ap (λ (o : Option Bound). passes (λ b. not (is_usable (counts s) b)) o) (named_so name (Some v) is) ∙ ap (λ (b : Bool). not b) (not_counting v.root none)
+    is_illegal none =
+        ap (λ (o : Option Bound). passes (λ b. not (is_usable (counts s) b)) o) (named_so name (Some v) is)
+        ∙ ap (λ (b : Bool). not b) (not_counting v.root none)
 
     has_count : 0 < counted cs v.root → (uncounted s name).comes ≡ false
-    has_count lt = ap (λ (o : Option Bound). passes (λ b. not (is_counted (counts s) b)) o) (named_so name (Some v) is) ∙ ap (λ (b : Bool). not b) (counting v.root lt)
+    has_count lt =
+        ap (λ (o : Option Bound). passes (λ b. not (is_counted (counts s) b)) o) (named_so name (Some v) is)
+        ∙ ap (λ (b : Bool). not b) (counting v.root lt)
 
     has_none : counted cs v.root ≡ 0 → (uncounted s name).comes ≡ true
-    has_none none = ap (λ (o : Option Bound). passes (λ b. not (is_counted (counts s) b)) o) (named_so name (Some v) is) ∙ ap (λ (b : Bool). not b) (not_counting v.root none)
+    has_none none =
+        ap (λ (o : Option Bound). passes (λ b. not (is_counted (counts s) b)) o) (named_so name (Some v) is)
+        ∙ ap (λ (b : Bool). not b) (not_counting v.root none)
 
     -- the name's view
     pub viewed : view_named s name ≡ Some v
@@ -93,7 +103,9 @@ module _ (s : LaneState) (names : List (Option ViewData)) (cs : List Counted) (s
     -- where the lane counts it, none of them comes
     module _ (v : ViewData) (is : bound_at names name ≡ Some v) (lt : 0 < counted cs v.root) where
       pub used : (rest : List Refuses) → first_refusal (of_bytes rest) ≡ first_refusal rest
-      used rest = passed (unbound s name) (illegal s name ∷ rest) (is_bound name v is) ∙ passed (illegal s name) rest (is_legal name v is lt)
+      used rest =
+          passed (unbound s name) (illegal s name ∷ rest) (is_bound name v is)
+          ∙ passed (illegal s name) rest (is_legal name v is lt)
 
       pub used_view : (rest : List Refuses) → first_refusal (of_view rest) ≡ first_refusal rest
       used_view rest =
@@ -101,7 +113,8 @@ module _ (s : LaneState) (names : List (Option ViewData)) (cs : List Counted) (s
           ∙ passed (composite s name) (illegal s name ∷ rest) (is_plain name v is)
           ∙ passed (illegal s name) rest (is_legal name v is lt)
 
-      pub used_fresh : (fresh : ℕ) → bound_at names fresh ≡ None → (rest : List Refuses) → first_refusal (of_fresh fresh rest) ≡ first_refusal rest
+      pub used_fresh : (fresh : ℕ) → bound_at names fresh ≡ None → (rest : List Refuses)
+          → first_refusal (of_fresh fresh rest) ≡ first_refusal rest
       used_fresh fresh none rest =
           passed (unbound s name) (taken s fresh ∷ composite s name ∷ illegal s name ∷ rest) (is_bound name v is)
           ∙ passed (taken s fresh) (composite s name ∷ illegal s name ∷ rest) (is_free fresh none)
@@ -109,17 +122,24 @@ module _ (s : LaneState) (names : List (Option ViewData)) (cs : List Counted) (s
           ∙ passed (illegal s name) rest (is_legal name v is lt)
 
       pub used_count : first_refusal of_count ≡ None
-      used_count = passed (unbound s name) (uncounted s name ∷ []) (is_bound name v is) ∙ passed (uncounted s name) [] (has_count name v is lt)
+      used_count =
+          passed (unbound s name) (uncounted s name ∷ []) (is_bound name v is)
+          ∙ passed (uncounted s name) [] (has_count name v is lt)
 
     -- where it is refused, that comes
-    pub refused : (refusal : Refusal) → IsRefused names cs name refusal → (rest : List Refuses) → first_refusal (of_bytes rest) ≡ Some (reply_for refusal)
+    pub refused : (refusal : Refusal) → IsRefused names cs name refusal → (rest : List Refuses)
+        → first_refusal (of_bytes rest) ≡ Some (reply_for refusal)
     refused Unbound is rest = comes_first (unbound s name) (illegal s name ∷ rest) (is_unbound name is)
-    refused Illegal is rest = passed (unbound s name) (illegal s name ∷ rest) (is_bound name is.0 is.1) ∙ comes_first (illegal s name) rest (is_illegal name is.0 is.1 is.2)
+    refused Illegal is rest =
+        passed (unbound s name) (illegal s name ∷ rest) (is_bound name is.0 is.1)
+        ∙ comes_first (illegal s name) rest (is_illegal name is.0 is.1 is.2)
     refused Taken is rest = absurd is
     refused Range is rest = absurd is
 
-    pub refused_view : (refusal : Refusal) → IsRefused names cs name refusal → (rest : List Refuses) → first_refusal (of_view rest) ≡ Some (reply_for refusal)
-    refused_view Unbound is rest = comes_first (unbound s name) (composite s name ∷ illegal s name ∷ rest) (is_unbound name is)
+    pub refused_view : (refusal : Refusal) → IsRefused names cs name refusal → (rest : List Refuses)
+        → first_refusal (of_view rest) ≡ Some (reply_for refusal)
+    refused_view Unbound is rest =
+        comes_first (unbound s name) (composite s name ∷ illegal s name ∷ rest) (is_unbound name is)
     refused_view Illegal is rest =
         passed (unbound s name) (composite s name ∷ illegal s name ∷ rest) (is_bound name is.0 is.1)
         ∙ passed (composite s name) (illegal s name ∷ rest) (is_plain name is.0 is.1)
@@ -127,14 +147,19 @@ module _ (s : LaneState) (names : List (Option ViewData)) (cs : List Counted) (s
     refused_view Taken is rest = absurd is
     refused_view Range is rest = absurd is
 
-    pub refused_count : (refusal : Refusal) → IsRefused names cs name refusal → first_refusal of_count ≡ Some (reply_for refusal)
+    pub refused_count : (refusal : Refusal) → IsRefused names cs name refusal
+        → first_refusal of_count ≡ Some (reply_for refusal)
     refused_count Unbound is = comes_first (unbound s name) (uncounted s name ∷ []) (is_unbound name is)
-    refused_count Illegal is = passed (unbound s name) (uncounted s name ∷ []) (is_bound name is.0 is.1) ∙ comes_first (uncounted s name) [] (has_none name is.0 is.1 is.2)
+    refused_count Illegal is =
+        passed (unbound s name) (uncounted s name ∷ []) (is_bound name is.0 is.1)
+        ∙ comes_first (uncounted s name) [] (has_none name is.0 is.1 is.2)
     refused_count Taken is = absurd is
     refused_count Range is = absurd is
 
-    pub refused_fresh : (fresh : ℕ) (refusal : Refusal) → IsRefusedFresh names cs fresh name refusal → (rest : List Refuses) → first_refusal (of_fresh fresh rest) ≡ Some (reply_for refusal)
-    refused_fresh fresh Unbound is rest = comes_first (unbound s name) (taken s fresh ∷ composite s name ∷ illegal s name ∷ rest) (is_unbound name is)
+    pub refused_fresh : (fresh : ℕ) (refusal : Refusal) → IsRefusedFresh names cs fresh name refusal
+        → (rest : List Refuses) → first_refusal (of_fresh fresh rest) ≡ Some (reply_for refusal)
+    refused_fresh fresh Unbound is rest =
+        comes_first (unbound s name) (taken s fresh ∷ composite s name ∷ illegal s name ∷ rest) (is_unbound name is)
     refused_fresh fresh Taken is rest =
         passed (unbound s name) (taken s fresh ∷ composite s name ∷ illegal s name ∷ rest) (is_bound name is.0 is.2)
         ∙ comes_first (taken s fresh) (composite s name ∷ illegal s name ∷ rest) (is_taken fresh is.1 is.3)
@@ -158,28 +183,37 @@ module _ (s : LaneState) (names : List (Option ViewData)) (cs : List Counted) (s
       out_of_range_so : test (Plain v) ≡ false → out_of_range.comes ≡ true
       out_of_range_so fail = tested name v is (λ b. not (test b)) ∙ ap (λ (b : Bool). not b) fail
 
-      pub ranged : 0 < counted cs v.root → test (Plain v) ≡ true → first_refusal (of_bytes name (out_of_range ∷ [])) ≡ None
+      pub ranged : 0 < counted cs v.root → test (Plain v) ≡ true
+          → first_refusal (of_bytes name (out_of_range ∷ [])) ≡ None
       ranged lt pass = used name v is lt (out_of_range ∷ []) ∙ passed out_of_range [] (in_range_so pass)
 
-      pub ranged_view : 0 < counted cs v.root → test (Plain v) ≡ true → first_refusal (of_view name (out_of_range ∷ [])) ≡ None
+      pub ranged_view : 0 < counted cs v.root → test (Plain v) ≡ true
+          → first_refusal (of_view name (out_of_range ∷ [])) ≡ None
       ranged_view lt pass = used_view name v is lt (out_of_range ∷ []) ∙ passed out_of_range [] (in_range_so pass)
 
       -- with a new name
       module _ (fresh : ℕ) (none : bound_at names fresh ≡ None) (lt : 0 < counted cs v.root) where
         pub ranged_fresh : test (Plain v) ≡ true → first_refusal (of_fresh name fresh (out_of_range ∷ [])) ≡ None
-        ranged_fresh pass = used_fresh name v is lt fresh none (out_of_range ∷ []) ∙ passed out_of_range [] (in_range_so pass)
+        ranged_fresh pass =
+            used_fresh name v is lt fresh none (out_of_range ∷ []) ∙ passed out_of_range [] (in_range_so pass)
 
-        pub unranged_fresh : test (Plain v) ≡ false → first_refusal (of_fresh name fresh (out_of_range ∷ [])) ≡ Some Reply.Range
-        unranged_fresh fail = used_fresh name v is lt fresh none (out_of_range ∷ []) ∙ comes_first out_of_range [] (out_of_range_so fail)
+        pub unranged_fresh : test (Plain v) ≡ false
+            → first_refusal (of_fresh name fresh (out_of_range ∷ [])) ≡ Some Reply.Range
+        unranged_fresh fail =
+            used_fresh name v is lt fresh none (out_of_range ∷ []) ∙ comes_first out_of_range [] (out_of_range_so fail)
 
-    pub unranged : (why : Refusal) → IsRefusedRange names cs name (λ v. test (Plain v)) why → first_refusal (of_bytes name (out_of_range ∷ [])) ≡ Some (reply_for why)
-    unranged Range is = used name is.0 is.1 is.2 (out_of_range ∷ []) ∙ comes_first out_of_range [] (out_of_range_so is.0 is.1 is.3)
+    pub unranged : (why : Refusal) → IsRefusedRange names cs name (λ v. test (Plain v)) why
+        → first_refusal (of_bytes name (out_of_range ∷ [])) ≡ Some (reply_for why)
+    unranged Range is =
+        used name is.0 is.1 is.2 (out_of_range ∷ []) ∙ comes_first out_of_range [] (out_of_range_so is.0 is.1 is.3)
     unranged Unbound is = refused name Unbound is (out_of_range ∷ [])
     unranged Illegal is = refused name Illegal is (out_of_range ∷ [])
     unranged Taken is = absurd is
 
-    pub unranged_view : (why : Refusal) → IsRefusedRange names cs name (λ v. test (Plain v)) why → first_refusal (of_view name (out_of_range ∷ [])) ≡ Some (reply_for why)
-    unranged_view Range is = used_view name is.0 is.1 is.2 (out_of_range ∷ []) ∙ comes_first out_of_range [] (out_of_range_so is.0 is.1 is.3)
+    pub unranged_view : (why : Refusal) → IsRefusedRange names cs name (λ v. test (Plain v)) why
+        → first_refusal (of_view name (out_of_range ∷ [])) ≡ Some (reply_for why)
+    unranged_view Range is =
+        used_view name is.0 is.1 is.2 (out_of_range ∷ []) ∙ comes_first out_of_range [] (out_of_range_so is.0 is.1 is.3)
     unranged_view Unbound is = refused_view name Unbound is (out_of_range ∷ [])
     unranged_view Illegal is = refused_view name Illegal is (out_of_range ∷ [])
     unranged_view Taken is = absurd is
@@ -188,13 +222,17 @@ module _ (s : LaneState) (names : List (Option ViewData)) (cs : List Counted) (s
 
   module _ (shape : Shape) (lane : ℕ) (command : Command) where
     -- a command whose refusals don't come is carried out
-    pub goes : first_refusal (refusals shape s command) ≡ None → (log : Log) → answer_of shape lane s command log ≡ carried_out shape lane s command log
+    pub goes : first_refusal (refusals shape s command) ≡ None → (log : Log)
+        → answer_of shape lane s command log ≡ carried_out shape lane s command log
     goes none log = ap (λ (o : Option Reply). answer_by shape lane s command o log) none
 
     -- and else it isn't
-    pub refuses : (reply : Reply) → first_refusal (refusals shape s command) ≡ Some reply → (log : Log) → answer_of shape lane s command log ≡ answer_by shape lane s command (Some reply) log
+    pub refuses : (reply : Reply) → first_refusal (refusals shape s command) ≡ Some reply → (log : Log)
+        → answer_of shape lane s command log ≡ answer_by shape lane s command (Some reply) log
     refuses reply first log = ap (λ (o : Option Reply). answer_by shape lane s command o log) first
 
     -- a command on the count of a view
-    pub goes_uncounted : (name : ℕ) (v : ViewData) → bound_at names name ≡ Some v → 0 < counted cs v.root → refusals shape s command ≡ unbound s name ∷ uncounted s name ∷ [] → (log : Log) → answer_of shape lane s command log ≡ carried_out shape lane s command log
+    pub goes_uncounted : (name : ℕ) (v : ViewData) → bound_at names name ≡ Some v → 0 < counted cs v.root
+        → refusals shape s command ≡ unbound s name ∷ uncounted s name ∷ [] → (log : Log)
+        → answer_of shape lane s command log ≡ carried_out shape lane s command log
     goes_uncounted name v is lt of = goes (ap first_refusal of ∙ used_count name v is lt)

@@ -41,7 +41,8 @@ no_post : (x : Bool) → (if x && false then 1 else 0) + 0 ≤ 0
 no_post true = omega arith
 no_post false = omega arith
 
-module _ {G : Ghosts Home Noted} (pool : SharedPool) (old new : PoolSeat Home G) (was : IsPoolSeat pool old) (is : IsPoolSeat pool new) (paid : IsPaid (view_of old)) (held : IsHeld empty_hand (view_of old)) where
+module _ {G : Ghosts Home Noted} (pool : SharedPool) (old new : PoolSeat Home G) (was : IsPoolSeat pool old)
+    (is : IsPoolSeat pool new) (paid : IsPaid (view_of old)) (held : IsHeld empty_hand (view_of old)) where
   abbrev v : SeatView
   v = view_of old
 
@@ -49,7 +50,8 @@ module _ {G : Ghosts Home Noted} (pool : SharedPool) (old new : PoolSeat Home G)
   w = view_of new
 
   -- an entry that leaves the hand empty
-  goes_entry : (e : Entry) → Grows v w (e ∷ []) 0 → Carries (lane_in v) empty_hand empty_hand (e ∷ []) → IsPaid w → Goes pool empty_hand 1 0 old new
+  goes_entry : (e : Entry) → Grows v w (e ∷ []) 0 → Carries (lane_in v) empty_hand empty_hand (e ∷ []) → IsPaid w
+      → Goes pool empty_hand 1 0 old new
   goes_entry e grows carries pays = record {
     seat = is;
     held = held_on v w (e ∷ []) 0 empty_hand empty_hand grows carries held;
@@ -59,7 +61,8 @@ module _ {G : Ghosts Home Noted} (pool : SharedPool) (old new : PoolSeat Home G)
     number = grows.more.number;
   }
 
-  module _ (receiver number : ℕ) (sent : Parcel) (counts : IfSome sent.view (λ x. HasCount x.root (view_of old))) (noted : IsNoted pool old new (Mail (lane_of old) receiver) number (plain (Did.Post sent))) where
+  module _ (receiver number : ℕ) (sent : Parcel) (counts : IfSome sent.view (λ x. HasCount x.root (view_of old)))
+      (noted : IsNoted pool old new (Mail (lane_of old) receiver) number (plain (Did.Post sent))) where
     abbrev e : Entry
     e = post_entry (lane_of old) receiver number v.own.number sent
 
@@ -70,16 +73,25 @@ module _ {G : Ghosts Home Noted} (pool : SharedPool) (old new : PoolSeat Home G)
     post_paid : IsPaid w
     post_paid root = let a = go sent.view refl counts in omega (arith, a)
       where
-        spent : (n : ℕ) → view_of_root root sent.view ≡ n → n + lost_of root v ≤ gained_of root v → lost_of root w ≤ gained_of root w
-        spent n many enough = let a = gained_more v w (e ∷ []) 0 posted root in let b = lost_more v w (e ∷ []) 0 posted root in omega (arith, a, b, many, enough)
+        spent : (n : ℕ) → view_of_root root sent.view ≡ n → n + lost_of root v ≤ gained_of root v
+            → lost_of root w ≤ gained_of root w
+        spent n many enough =
+            let a = gained_more v w (e ∷ []) 0 posted root in let b = lost_more v w (e ∷ []) 0 posted root in
+            omega (arith, a, b, many, enough)
 
-        told : (x : ViewData) → HasCount x.root v → (b : Bool) → same_root x.root root ≡ b → one_if_so b + lost_of root v ≤ gained_of root v
-        told x counted true same = let one : HasCount root v = subst (λ (r : RootId). HasCount r v) (same_root-is x.root root same) counted in omega (arith, one)
+        told : (x : ViewData) → HasCount x.root v → (b : Bool) → same_root x.root root ≡ b
+            → one_if_so b + lost_of root v ≤ gained_of root v
+        told x counted true same =
+            let one : HasCount root v = subst (λ (r : RootId). HasCount r v) (same_root-is x.root root same) counted in
+            omega (arith, one)
         told x counted false other = paid root
 
-        go : (o : Option ViewData) → sent.view ≡ o → IfSome o (λ x. HasCount x.root v) → lost_of root w ≤ gained_of root w
+        go : (o : Option ViewData) → sent.view ≡ o → IfSome o (λ x. HasCount x.root v)
+            → lost_of root w ≤ gained_of root w
         go None is_none counted = spent 0 (ap (λ (o : Option ViewData). view_of_root root o) is_none) (paid root)
-        go (Some x) some counted = spent (one_if_so (same_root x.root root)) (ap (λ (o : Option ViewData). view_of_root root o) some) (told x counted (same_root x.root root) refl)
+        go (Some x) some counted =
+            spent (one_if_so (same_root x.root root)) (ap (λ (o : Option ViewData). view_of_root root o) some)
+            (told x counted (same_root x.root root) refl)
 
     pub goes_post : Goes pool empty_hand 1 0 old new
     goes_post = goes_entry e posted (post_carries (lane_of old) receiver number v.own.number sent (lane_in v)) post_paid
@@ -87,7 +99,8 @@ module _ {G : Ghosts Home Noted} (pool : SharedPool) (old new : PoolSeat Home G)
     pub post_sends : Sends 1 v w
     post_sends = sends_grown v w (e ∷ []) 0 posted 1 (λ to. one_post ((lane_of old == lane_in v) && (receiver == to)))
 
-  module _ (sender number : ℕ) (parcel : Parcel) (noted : IsNoted pool old new (Mail sender (lane_of old)) number (plain (Did.Fetch parcel))) where
+  module _ (sender number : ℕ) (parcel : Parcel)
+      (noted : IsNoted pool old new (Mail sender (lane_of old)) number (plain (Did.Fetch parcel))) where
     abbrev f : Entry
     f = fetch_entry sender (lane_of old) number v.own.number parcel
 
@@ -97,7 +110,8 @@ module _ {G : Ghosts Home Noted} (pool : SharedPool) (old new : PoolSeat Home G)
     pub goes_fetch : Goes pool empty_hand 1 0 old new
     goes_fetch =
         goes_entry f fetched (fetch_carries sender (lane_of old) number v.own.number parcel (lane_in v))
-        (λ root. (let a = gained_more v w (f ∷ []) 0 fetched root in let b = lost_more v w (f ∷ []) 0 fetched root in let c = paid root in omega (arith, a, b, c)))
+        (λ root. (let a = gained_more v w (f ∷ []) 0 fetched root in let b = lost_more v w (f ∷ []) 0 fetched root in
+        let c = paid root in omega (arith, a, b, c)))
 
     pub fetch_sends : Sends 0 v w
     fetch_sends = sends_grown v w (f ∷ []) 0 fetched 0 (λ to. no_post ((sender == lane_in v) && (lane_of old == to)))
@@ -109,5 +123,8 @@ module _ {G : Ghosts Home Noted} (pool : SharedPool) (old new : PoolSeat Home G)
         go : (o : Option ViewData) → parcel.view ≡ o → IfSome o (λ x. HasCount x.root w)
         go None is_none = tt
         go (Some x) some =
-            let one : view_of_root x.root parcel.view ≡ 1 = ap (λ (o : Option ViewData). view_of_root x.root o) some ∙ ap (λ (b : Bool). one_if_so b) (same_root-refl x.root) in
-            let a = gained_more v w (f ∷ []) 0 fetched x.root in let b = lost_more v w (f ∷ []) 0 fetched x.root in let c = paid x.root in omega (arith, a, b, c, one)
+            let one : view_of_root x.root parcel.view ≡ 1 = ap (λ (o : Option ViewData). view_of_root x.root o) some
+            ∙ ap (λ (b : Bool). one_if_so b) (same_root-refl x.root) in
+            let a = gained_more v w (f ∷ []) 0 fetched x.root in let b = lost_more v w (f ∷ []) 0 fetched x.root in
+            let c = paid x.root in
+            omega (arith, a, b, c, one)

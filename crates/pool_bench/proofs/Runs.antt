@@ -46,7 +46,8 @@ module _ (v : SeatView) (own : v.own.notes ≡ []) (alone : v.others ≡ []) whe
 
 module _ {G : Ghosts Home Noted} (pool : SharedPool) (l : Layout) (mail : List ℕ) where
   -- a seat that was opened may work
-  pub may_run : (blocks lane : ℕ) (s : PoolSeat Home G) → l.moves ≡ block_moves * blocks → l.turns ≡ block_turns * blocks → IsOpened l mail pool lane s → MayRun pool blocks s
+  pub may_run : (blocks lane : ℕ) (s : PoolSeat Home G) → l.moves ≡ block_moves * blocks
+      → l.turns ≡ block_turns * blocks → IsOpened l mail pool lane s → MayRun pool blocks s
   may_run blocks lane s moves turns opened = record {
     seat = opened.seat;
     held = IsHeld-empty (view_of s) opened.notes opened.seat.alone;
@@ -56,8 +57,16 @@ module _ {G : Ghosts Home Noted} (pool : SharedPool) (l : Layout) (mail : List �
   }
 
   -- and post what the plan says
-  pub has_mail : (p : Plan) (lane : ℕ) (s : PoolSeat Home G) → lane < p.threads → IsMailFor p mail → pool.table.layout.shape.lanes ≡ p.threads → IsOpened l mail pool lane s → HasMail pool p.mail s
-  has_mail p lane s lt sized lanes_are opened = record { room = p.mail; known = from_setting (view_of s).setting opened.mail_is; enough = (let a = ap (λ (es : List Entry). posts (lane_of s) (next_lane lanes (lane_of s)) es) opened.notes in omega (arith, a)) }
+  pub has_mail : (p : Plan) (lane : ℕ) (s : PoolSeat Home G) → lane < p.threads → IsMailFor p mail
+      → pool.table.layout.shape.lanes ≡ p.threads → IsOpened l mail pool lane s → HasMail pool p.mail s
+  has_mail p lane s lt sized lanes_are opened =
+      record {
+        room = p.mail;
+        known = from_setting (view_of s).setting opened.mail_is;
+        enough =
+            (let a = ap (λ (es : List Entry). posts (lane_of s) (next_lane lanes (lane_of s)) es) opened.notes in
+            omega (arith, a));
+      }
     where
       lanes : ℕ
       lanes = pool.table.layout.shape.lanes
@@ -66,19 +75,31 @@ module _ {G : Ghosts Home Noted} (pool : SharedPool) (l : Layout) (mail : List �
       lane_is = ap (λ (n : Option ℕ). unwrap_or n 0) opened.number
 
       there : slice_get mail (lane_of s * lanes + next_lane lanes (lane_of s)) ≡ Some p.mail
-      there = subst (λ (x : ℕ × ℕ). slice_get mail (x.0 * x.1 + next_lane x.1 x.0) ≡ Some p.mail) (λ i. (sym lane_is i, sym lanes_are i)) (sized.each lane lt)
+      there =
+          subst (λ (x : ℕ × ℕ). slice_get mail (x.0 * x.1 + next_lane x.1 x.0) ≡ Some p.mail)
+          (λ i. (sym lane_is i, sym lanes_are i)) (sized.each lane lt)
 
-      from_setting : (o : Option Setting) → IfSome o (λ t. t.mail ≡ mail) → IfSome o (λ t. slice_get t.mail (lane_of s * lanes + next_lane lanes (lane_of s)) ≡ Some p.mail)
+      from_setting : (o : Option Setting) → IfSome o (λ t. t.mail ≡ mail)
+          → IfSome o (λ t. slice_get t.mail (lane_of s * lanes + next_lane lanes (lane_of s)) ≡ Some p.mail)
       from_setting None is = tt
-      from_setting (Some t) is = subst (λ (xs : List ℕ). slice_get xs (lane_of s * lanes + next_lane lanes (lane_of s)) ≡ Some p.mail) (sym is) there
+      from_setting (Some t) is =
+          subst (λ (xs : List ℕ). slice_get xs (lane_of s * lanes + next_lane lanes (lane_of s)) ≡ Some p.mail) (sym is)
+          there
 
   -- the seats that were opened have nothing in hand
-  pub opened_done : (seats : List (PoolSeat Home G)) → AreOpened l mail pool seats → pool.table.layout ≡ l → AreDone pool seats
+  pub opened_done : (seats : List (PoolSeat Home G)) → AreOpened l mail pool seats → pool.table.layout ≡ l
+      → AreDone pool seats
   opened_done seats opened is = record {
     many = opened.many ∙ ap (λ (x : Layout). x.shape.lanes) (sym is);
     each = λ lane lt d.
         let one = opened.each lane (subst (λ (x : Layout). lane < x.shape.lanes) is lt) d in
-        record { seat = one.seat; number = one.number; nothing = nothing_held (view_of (get_or seats lane d)) (IsHeld-empty (view_of (get_or seats lane d)) one.notes one.seat.alone) };
+        record {
+          seat = one.seat;
+          number = one.number;
+          nothing =
+              nothing_held (view_of (get_or seats lane d))
+              (IsHeld-empty (view_of (get_or seats lane d)) one.notes one.seat.alone);
+        };
   }
 
 -- ---- The runners with these seats.
@@ -88,7 +109,8 @@ some_runner [] k lt = absurd (omega (arith, lt))
 some_runner (runner ∷ runners) k lt = runner
 
 module _ (pool : SharedPool) (l : Layout) (mail : List ℕ) (runners : List Runner) where
-  seat_at : (k : ℕ) (d : Runner) → k < length runners → (get_or runners k d).seat ≡ get_or (map (λ (q : Runner). q.seat) runners) k d.seat
+  seat_at : (k : ℕ) (d : Runner) → k < length runners
+      → (get_or runners k d).seat ≡ get_or (map (λ (q : Runner). q.seat) runners) k d.seat
   seat_at k d lt = sym (get_or-map (λ (q : Runner). q.seat) runners k d d.seat lt)
 
   module _ (opened : AreOpened l mail pool (map (λ (q : Runner). q.seat) runners)) where
@@ -96,23 +118,41 @@ module _ (pool : SharedPool) (l : Layout) (mail : List ℕ) (runners : List Runn
     many = sym (length-map runners (λ (q : Runner). q.seat)) ∙ opened.many
 
     opened_at : (k : ℕ) (d : Runner) → k < length runners → IsOpened l mail pool k (get_or runners k d).seat
-    opened_at k d lt = subst (λ s. IsOpened l mail pool k s) (sym (seat_at k d lt)) (opened.each k (subst (λ (n : ℕ). k < n) many lt) d.seat)
+    opened_at k d lt =
+        subst (λ s. IsOpened l mail pool k s) (sym (seat_at k d lt))
+        (opened.each k (subst (λ (n : ℕ). k < n) many lt) d.seat)
 
-    pub all_may_run : (blocks : ℕ) → l.moves ≡ block_moves * blocks → l.turns ≡ block_turns * blocks → All (λ (q : Runner). MayRun pool blocks q.seat) runners
-    all_may_run blocks moves turns = λ k d lt. may_run pool l mail blocks k (get_or runners k d).seat moves turns (opened_at k d lt)
+    pub all_may_run : (blocks : ℕ) → l.moves ≡ block_moves * blocks → l.turns ≡ block_turns * blocks
+        → All (λ (q : Runner). MayRun pool blocks q.seat) runners
+    all_may_run blocks moves turns =
+        λ k d lt. may_run pool l mail blocks k (get_or runners k d).seat moves turns (opened_at k d lt)
 
-    pub all_have_mail : (p : Plan) → IsMailFor p mail → l.shape.lanes ≡ p.threads → pool.table.layout.shape.lanes ≡ p.threads → All (λ (q : Runner). HasMail pool p.mail q.seat) runners
-    all_have_mail p sized lanes_are of_pool = λ k d lt. has_mail pool l mail p k (get_or runners k d).seat (let a = many in omega (arith, a, lanes_are, lt)) sized of_pool (opened_at k d lt)
+    pub all_have_mail : (p : Plan) → IsMailFor p mail → l.shape.lanes ≡ p.threads
+        → pool.table.layout.shape.lanes ≡ p.threads → All (λ (q : Runner). HasMail pool p.mail q.seat) runners
+    all_have_mail p sized lanes_are of_pool =
+        λ k d lt. has_mail pool l mail p k (get_or runners k d).seat (let a = many in omega (arith, a, lanes_are, lt))
+        sized of_pool (opened_at k d lt)
 
     -- behind their work they have nothing in hand
-    pub done : (after : List Runner) → pool.table.layout ≡ l → HaveRun pool runners after → AreDone pool (map (λ (q : Runner). q.seat) after)
+    pub done : (after : List Runner) → pool.table.layout ≡ l → HaveRun pool runners after
+        → AreDone pool (map (λ (q : Runner). q.seat) after)
     done after is ran = record {
       many = length-map after (λ (q : Runner). q.seat) ∙ ran.many ∙ many ∙ ap (λ (x : Layout). x.shape.lanes) (sym is);
       each = λ lane lt d.
-          let below : lane < length runners = subst (λ (n : ℕ). lane < n) (sym many) (subst (λ (x : Layout). lane < x.shape.lanes) is lt) in
+          let below : lane < length runners = subst (λ (n : ℕ). lane < n) (sym many)
+          (subst (λ (x : Layout). lane < x.shape.lanes) is lt) in
           let e = some_runner runners lane below in
           let run = ran.each lane e below in
-          let at : get_or (map (λ (q : Runner). q.seat) after) lane d ≡ (get_or after lane e).seat = get_or-map (λ (q : Runner). q.seat) after lane e d (subst (λ (n : ℕ). lane < n) (sym ran.many) below) in
+          let at : get_or (map (λ (q : Runner). q.seat) after) lane d
+          ≡ (get_or after lane e).seat =
+          get_or-map (λ (q : Runner). q.seat) after lane e d
+          (subst (λ (n : ℕ). lane < n) (sym ran.many) below) in
           subst (λ s. IsDone pool lane s) (sym at)
-          (record { seat = run.seat; number = run.number ∙ (opened_at lane e below).number; nothing = nothing_held (view_of (get_or after lane e).seat) run.held });
+          (record {
+            seat = run.seat;
+            number = run.number
+                ∙ (opened_at lane e below).number;
+            nothing =
+                nothing_held (view_of (get_or after lane e).seat) run.held;
+          });
     }

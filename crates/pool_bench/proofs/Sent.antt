@@ -34,7 +34,8 @@ sends_on a b u v w x y = record {
 }
 
 -- a step that was to send nothing
-pub sends_spent : (v w : SeatView) (es : List Entry) (before after : Left) → HasMore v w es → Spends v w before after → ((to : ℕ) → before.sends to ≡ 0) → Sends 0 v w
+pub sends_spent : (v w : SeatView) (es : List Entry) (before after : Left) → HasMore v w es → Spends v w before after
+    → ((to : ℕ) → before.sends to ≡ 0) → Sends 0 v w
 sends_spent v w es before after more spent none = record {
   number = more.number;
   setting = more.setting;
@@ -42,10 +43,20 @@ sends_spent v w es before after more spent none = record {
 }
 
 -- entries of which no more than so many are posts
-pub sends_grown : (v w : SeatView) (es : List Entry) (spent : ℕ) → Grows v w es spent → (count : ℕ) → ((to : ℕ) → posts (lane_in v) to es ≤ count) → Sends count v w
+pub sends_grown : (v w : SeatView) (es : List Entry) (spent : ℕ) → Grows v w es spent → (count : ℕ)
+    → ((to : ℕ) → posts (lane_in v) to es ≤ count) → Sends count v w
 sends_grown v w es spent grows count few =
-    let before : Left = record { notes = length es; asks = 0; takes = sum_by takes es; moves = spent; sends = λ to. count } in
-    let costs : Spends v w before (notes_alone 0) = spends v w es spent grows before (notes_alone 0) (omega arith) (omega arith) (omega arith) (λ to. (let a = few to in omega (arith, a))) in
+    let before : Left = record {
+      notes = length es;
+      asks = 0;
+      takes = sum_by takes es;
+      moves = spent;
+      sends =
+          λ to. count;
+    } in
+    let costs : Spends v w before (notes_alone 0) =
+    spends v w es spent grows before (notes_alone 0) (omega arith) (omega arith) (omega arith)
+    (λ to. (let a = few to in omega (arith, a))) in
     record {
       number = grows.more.number;
       setting = grows.more.setting;
@@ -54,26 +65,35 @@ sends_grown v w es spent grows count few =
 
 module _ {G : Ghosts Home Noted} (pool : SharedPool) where
   -- there is still room behind what was sent
-  pub mail_after : (spent count : ℕ) (old new : PoolSeat Home G) → Sends spent (view_of old) (view_of new) → HasMail pool (count + spent) old → HasMail pool count new
+  pub mail_after : (spent count : ℕ) (old new : PoolSeat Home G) → Sends spent (view_of old) (view_of new)
+      → HasMail pool (count + spent) old → HasMail pool count new
   mail_after spent count old new sends mail =
       let lanes = pool.table.layout.shape.lanes in
       let same : lane_of new ≡ lane_of old = ap (λ (n : Option ℕ). unwrap_or n 0) sends.number in
-      let known = subst (λ (o : Option Setting). IfSome o (λ t. slice_get t.mail (lane_of old * lanes + next_lane lanes (lane_of old)) ≡ Some mail.room)) (sym sends.setting) mail.known in
+      let known = subst (λ (o : Option Setting). IfSome o
+      (λ t. slice_get t.mail (lane_of old * lanes + next_lane lanes (lane_of old)) ≡ Some mail.room))
+      (sym sends.setting) mail.known in
       record {
         room = mail.room;
-        known = subst (λ (lane : ℕ). IfSome (view_of new).setting (λ t. slice_get t.mail (lane * lanes + next_lane lanes lane) ≡ Some mail.room)) (sym same) known;
+        known =
+            subst (λ (lane : ℕ). IfSome (view_of new).setting
+            (λ t. slice_get t.mail (lane * lanes + next_lane lanes lane) ≡ Some mail.room)) (sym same) known;
         enough = (
             let a = sends.sent (next_lane lanes (lane_of old)) in
-            let b : posts (lane_of new) (next_lane lanes (lane_of new)) (view_of new).own.notes ≡ posts (lane_of new) (next_lane lanes (lane_of old)) (view_of new).own.notes = ap (λ (lane : ℕ). posts (lane_of new) (next_lane lanes lane) (view_of new).own.notes) same in
+            let b : posts (lane_of new) (next_lane lanes (lane_of new)) (view_of new).own.notes
+            ≡ posts (lane_of new) (next_lane lanes (lane_of old)) (view_of new).own.notes =
+            ap (λ (lane : ℕ). posts (lane_of new) (next_lane lanes lane) (view_of new).own.notes) same in
             let c = mail.enough in
             omega (arith, a, b, c)
             );
       }
 
   -- and for one parcel
-  pub has_room : (s : PoolSeat Home G) → HasMail pool 1 s → HasRoom pool.table.layout.shape (lane_of s) (next_lane pool.table.layout.shape.lanes (lane_of s)) (view_of s)
+  pub has_room : (s : PoolSeat Home G) → HasMail pool 1 s
+      → HasRoom pool.table.layout.shape (lane_of s) (next_lane pool.table.layout.shape.lanes (lane_of s)) (view_of s)
   has_room s mail = record { room = mail.room; known = mail.known; fewer = (let a = mail.enough in omega (arith, a)) }
 
   -- there is room for less
   pub mail_less : (count few : ℕ) (s : PoolSeat Home G) → few ≤ count → HasMail pool count s → HasMail pool few s
-  mail_less count few s le mail = record { room = mail.room; known = mail.known; enough = (let a = mail.enough in omega (arith, a, le)) }
+  mail_less count few s le mail =
+      record { room = mail.room; known = mail.known; enough = (let a = mail.enough in omega (arith, a, le)) }

@@ -106,62 +106,96 @@ abbrev pub HasRoom : ℕ → ℕ → Vec Note → Type 0
 HasRoom capacity notes log = (length log.items + notes ≤ vec_capacity log) × (vec_capacity log ≡ capacity)
 
 -- a step leaves room for what may be noted behind it
-room_after : (capacity : ℕ) (v w : SeatView) (es : List Entry) (before after : Left) (had has : Vec Note) (written : List Note) → HasMore v w es → Spends v w before after
-    → map note_of es ≡ written → HasWritten had has written → HasRoom capacity before.notes had → HasRoom capacity after.notes has
+room_after : (capacity : ℕ) (v w : SeatView) (es : List Entry) (before after : Left) (had has : Vec Note)
+    (written : List Note) → HasMore v w es → Spends v w before after
+    → map note_of es ≡ written → HasWritten had has written → HasRoom capacity before.notes had
+    → HasRoom capacity after.notes has
 room_after capacity v w es before after had has written more spends noted log room =
     let few = added_few v w es before after more spends in
     let many : length written ≡ length es = ap (λ (ns : List Note). length ns) (sym noted) ∙ length-map es note_of in
-    let long : length has.items ≡ length had.items + length written = ap (λ (ns : List Note). length ns) log.items ∙ length-append had.items written in
+    let long : length has.items ≡ length had.items + length written = ap (λ (ns : List Note). length ns) log.items
+    ∙ length-append had.items written in
     let there = room.0 in let same = log.room in
     (omega (arith, few, many, long, there, same), log.room ∙ room.1)
 
 module _ {G : Ghosts HomeValue Noted} where
   -- the seat spent at most so much, got these roots and has this in hand, and sent nothing
-  pub record Proceeds (pool : SharedPool) (hand : Hand) (turns moves : ℕ) (got : List RootId) (init now : PoolSeat HomeValue G) : Type 0 where
+  pub record Proceeds (pool : SharedPool) (hand : Hand) (turns moves : ℕ) (got : List RootId)
+      (init now : PoolSeat HomeValue G) : Type 0 where
     pub goes : Goes pool hand turns moves init now
     pub recounted : Recounted got [] (view_of init) (view_of now)
     pub sends : Sends 0 (view_of init) (view_of now)
 
   -- it did nothing yet
-  pub proceeds_none : (pool : SharedPool) (hand : Hand) (t m : ℕ) (s : PoolSeat HomeValue G) → Works pool hand t m s → Proceeds pool hand 0 0 [] s s
-  proceeds_none pool hand t m s works = record { goes = goes_none pool hand t m s works; recounted = λ root. omega arith; sends = sends_none (view_of s) }
+  pub proceeds_none : (pool : SharedPool) (hand : Hand) (t m : ℕ) (s : PoolSeat HomeValue G) → Works pool hand t m s
+      → Proceeds pool hand 0 0 [] s s
+  proceeds_none pool hand t m s works =
+      record { goes = goes_none pool hand t m s works; recounted = λ root. omega arith; sends = sends_none (view_of s) }
 
-module _ {G : Ghosts HomeValue Noted} (pool : SharedPool) (init old new : PoolSeat HomeValue G) (had has : Vec Note) where
-  module _ (first last : Sampling) (size class : ℕ) (stage : Allotting) (before : Proceeds pool (allotment.hand_of stage) (5 - (allotment.left_of stage).notes) (1 - (allotment.left_of stage).moves) [] init old) where
-    pub allotted : (next : Allots) → allotment.HasAllotted pool old new first last had has size class stage next → Proceeds pool (allotment.hand_after next) (5 - (allotment.left_after next).notes) (1 - (allotment.left_after next).moves) (born next) init new
-    allotted next did =
-        let es = did.wrote.added in let left = allotment.left_of stage in let rest = allotment.left_after next in
+module _ {G : Ghosts HomeValue Noted} (pool : SharedPool) (init old new : PoolSeat HomeValue G) (had has : Vec Note)
+  where
+    module _ (first last : Sampling) (size class : ℕ) (stage : Allotting)
+        (before : Proceeds pool (allotment.hand_of stage) (5 - (allotment.left_of stage).notes)
+        (1 - (allotment.left_of stage).moves) [] init old) where
+      pub allotted : (next : Allots) → allotment.HasAllotted pool old new first last had has size class stage next
+          → Proceeds pool (allotment.hand_after next) (5 - (allotment.left_after next).notes)
+          (1 - (allotment.left_after next).moves) (born next) init new
+      allotted next did =
+          let es = did.wrote.added in let left = allotment.left_of stage in let rest = allotment.left_after next in
+          record {
+            goes =
+                goes_step pool 5 1 init old new (allotment.hand_of stage) (allotment.hand_after next) es
+                (allotment.born_in next) left rest did.wrote.seat (allot_notes stage) (allot_moves stage)
+                (after_moves next) before.goes did.wrote.more did.spends did.counts did.hand;
+            recounted = recounted_after (view_of init) (view_of old) (view_of new) (born next) [] before.recounted
+                (recounted_adds (view_of old) (view_of new) es left rest did.wrote.more before.goes.seat.alone
+                did.wrote.seat.alone did.spends (allotment.born_in next) did.counts (born next) (born_few next));
+            sends = sends_on 0 0 (view_of init) (view_of old) (view_of new) before.sends
+                (sends_spent (view_of old) (view_of new) es left rest did.wrote.more did.spends (allot_sends stage));
+          }
+
+      pub allot_room : (capacity : ℕ) → HasRoom capacity (allotment.left_of stage).notes had → (next : Allots)
+          → allotment.HasAllotted pool old new first last had has size class stage next
+          → HasRoom capacity (allotment.left_after next).notes has
+      allot_room capacity room next did =
+          room_after capacity (view_of old) (view_of new) did.wrote.added (allotment.left_of stage)
+          (allotment.left_after next) had has did.written did.wrote.more did.spends did.wrote.noted did.log room
+
+      pub born_counts : (root : RootId) (region : RegionId)
+          → allotment.HasAllotted pool old new first last had has size class stage (Born root region)
+          → HasCount root (view_of new)
+      born_counts root region did =
+          step_counts pool old new before.goes.seat did.wrote.seat before.goes.paid did.wrote.added (one_for root)
+          (allotment.left_of stage) (allotment.left_after (Born root region)) did.wrote.more did.spends did.counts
+          root (let a = one_self root in omega (arith, a))
+
+    pub ended : (stage : Ending) → Proceeds pool (ending.hand_of stage) (5 - (ending.left_of stage).notes) 0 [] init old
+        → (next : Ends) → ending.HasEnded pool old new had has stage next
+        → Proceeds pool (ending.hand_after next) (5 - (ending.left_after next).notes) 0 [] init new
+    ended stage before next did =
+        let sampler : Sampling = record { lane = 0; level = Level.Disabled; interval = 1; births = 0 } in let wrote =
+        did.wrote sampler in
+        let left = ending.left_of stage in let rest = ending.left_after next in
+        let from_none : Goes pool (ending.hand_of stage) (5 - left.notes) (0 - left.moves) init old =
+        goes_more pool (ending.hand_of stage) (5 - left.notes) 0 (5 - left.notes) (0 - left.moves) init old
+        before.goes (omega arith) (omega arith) in
         record {
-          goes = goes_step pool 5 1 init old new (allotment.hand_of stage) (allotment.hand_after next) es (allotment.born_in next) left rest did.wrote.seat (allot_notes stage) (allot_moves stage) (after_moves next) before.goes did.wrote.more did.spends did.counts did.hand;
-          recounted = recounted_after (view_of init) (view_of old) (view_of new) (born next) [] before.recounted
-              (recounted_adds (view_of old) (view_of new) es left rest did.wrote.more before.goes.seat.alone did.wrote.seat.alone did.spends (allotment.born_in next) did.counts (born next) (born_few next));
+          goes = goes_more pool (ending.hand_after next) (5 - rest.notes) (0 - rest.moves) (5 - rest.notes) 0 init new
+              (goes_step pool 5 0 init old new (ending.hand_of stage) (ending.hand_after next) wrote.added (λ root. 0)
+              left rest wrote.seat (end_notes stage) (end_moves stage) (ends_moves next) from_none wrote.more
+              did.spends (did.counts sampler) did.hand)
+              (omega arith) (omega arith);
+          recounted = recounted_after (view_of init) (view_of old) (view_of new) [] [] before.recounted
+              (recounted_adds (view_of old) (view_of new) wrote.added left rest wrote.more before.goes.seat.alone
+              wrote.seat.alone did.spends (λ root. 0) (did.counts sampler) [] (λ root. omega arith));
           sends = sends_on 0 0 (view_of init) (view_of old) (view_of new) before.sends
-              (sends_spent (view_of old) (view_of new) es left rest did.wrote.more did.spends (allot_sends stage));
+              (sends_spent (view_of old) (view_of new) wrote.added left rest wrote.more did.spends (end_sends stage));
         }
 
-    pub allot_room : (capacity : ℕ) → HasRoom capacity (allotment.left_of stage).notes had → (next : Allots) → allotment.HasAllotted pool old new first last had has size class stage next → HasRoom capacity (allotment.left_after next).notes has
-    allot_room capacity room next did = room_after capacity (view_of old) (view_of new) did.wrote.added (allotment.left_of stage) (allotment.left_after next) had has did.written did.wrote.more did.spends did.wrote.noted did.log room
-
-    pub born_counts : (root : RootId) (region : RegionId) → allotment.HasAllotted pool old new first last had has size class stage (Born root region) → HasCount root (view_of new)
-    born_counts root region did =
-        step_counts pool old new before.goes.seat did.wrote.seat before.goes.paid did.wrote.added (one_for root) (allotment.left_of stage) (allotment.left_after (Born root region)) did.wrote.more did.spends did.counts root (let a = one_self root in omega (arith, a))
-
-  pub ended : (stage : Ending) → Proceeds pool (ending.hand_of stage) (5 - (ending.left_of stage).notes) 0 [] init old → (next : Ends) → ending.HasEnded pool old new had has stage next → Proceeds pool (ending.hand_after next) (5 - (ending.left_after next).notes) 0 [] init new
-  ended stage before next did =
-      let sampler : Sampling = record { lane = 0; level = Level.Disabled; interval = 1; births = 0 } in let wrote = did.wrote sampler in
-      let left = ending.left_of stage in let rest = ending.left_after next in
-      let from_none : Goes pool (ending.hand_of stage) (5 - left.notes) (0 - left.moves) init old = goes_more pool (ending.hand_of stage) (5 - left.notes) 0 (5 - left.notes) (0 - left.moves) init old before.goes (omega arith) (omega arith) in
-      record {
-        goes = goes_more pool (ending.hand_after next) (5 - rest.notes) (0 - rest.moves) (5 - rest.notes) 0 init new
-            (goes_step pool 5 0 init old new (ending.hand_of stage) (ending.hand_after next) wrote.added (λ root. 0) left rest wrote.seat (end_notes stage) (end_moves stage) (ends_moves next) from_none wrote.more did.spends (did.counts sampler) did.hand)
-            (omega arith) (omega arith);
-        recounted = recounted_after (view_of init) (view_of old) (view_of new) [] [] before.recounted
-            (recounted_adds (view_of old) (view_of new) wrote.added left rest wrote.more before.goes.seat.alone wrote.seat.alone did.spends (λ root. 0) (did.counts sampler) [] (λ root. omega arith));
-        sends = sends_on 0 0 (view_of init) (view_of old) (view_of new) before.sends
-            (sends_spent (view_of old) (view_of new) wrote.added left rest wrote.more did.spends (end_sends stage));
-      }
-
-  pub end_room : (stage : Ending) (capacity : ℕ) → HasRoom capacity (ending.left_of stage).notes had → (next : Ends) → ending.HasEnded pool old new had has stage next → HasRoom capacity (ending.left_after next).notes has
-  end_room stage capacity room next did =
-      let sampler : Sampling = record { lane = 0; level = Level.Disabled; interval = 1; births = 0 } in let wrote = did.wrote sampler in
-      room_after capacity (view_of old) (view_of new) wrote.added (ending.left_of stage) (ending.left_after next) had has did.written wrote.more did.spends wrote.noted did.log room
+    pub end_room : (stage : Ending) (capacity : ℕ) → HasRoom capacity (ending.left_of stage).notes had → (next : Ends)
+        → ending.HasEnded pool old new had has stage next → HasRoom capacity (ending.left_after next).notes has
+    end_room stage capacity room next did =
+        let sampler : Sampling = record { lane = 0; level = Level.Disabled; interval = 1; births = 0 } in let wrote =
+        did.wrote sampler in
+        room_after capacity (view_of old) (view_of new) wrote.added (ending.left_of stage) (ending.left_after next) had
+        has did.written wrote.more did.spends wrote.noted did.log room

@@ -12,10 +12,16 @@ use Rattle.lane_core.proofs.Holds.{holds_handle, holds_region}
 use Rattle.lane_core.proofs.allotment.bear.Goals as goal
 
 pub birth-number-requires-clause-handle : goal.birth-number-requires-clause-handle
-birth-number-requires-clause-handle c = let may = c.requires.may in holds_handle c.args.pool.now c.args.seat.now (hand_of (Birth c.args.handle c.args.region)) c.args.handle may.hand may.fits.0
+birth-number-requires-clause-handle c =
+    let may = c.requires.may in
+    holds_handle c.args.pool.now c.args.seat.now (hand_of (Birth c.args.handle c.args.region)) c.args.handle may.hand
+    may.fits.0
 
 pub birth-number-requires-clause-region : goal.birth-number-requires-clause-region
-birth-number-requires-clause-region c = let may = c.requires.may in holds_region c.args.pool.now c.args.seat.now (hand_of (Birth c.args.handle c.args.region)) c.args.region may.hand may.fits.1
+birth-number-requires-clause-region c =
+    let may = c.requires.may in
+    holds_region c.args.pool.now c.args.seat.now (hand_of (Birth c.args.handle c.args.region)) c.args.region may.hand
+    may.fits.1
 
 pub overflow_add-used : goal.overflow_add-used
 overflow_add-used c = let few = c.birth-number.ensures.uses in omega (arith, few)
@@ -25,8 +31,12 @@ write-requires-2 c = room_behind c.args.log.now c.write.new.log c.at.result c.wr
 
 pub returns : goal.returns
 returns c =
-    let pool = c.args.pool.now in let old = c.args.seat.now in let new = c.birth-number.new.seat in let call = c.birth-number in let root = call.result.1 in let last = c.next-watch.new.self in
-    let noted = subst (λ (x : Option Watch). IsNotedWith pool old new root call.result.0 (birth root c.args.region.id x) Born ((view_of old).moves - 1)) c.next-watch.ensures.watch call.ensures.did in
-    root_born pool old new c.args.region.id.class call.ensures.seat call.ensures.same c.args.handle c.args.region root call.result.0 c.args.size c.args.sampler.now last c.at.result c.to.result c.args.log.now c.write-2.new.log
-    (wrote_two c.args.log.now c.write.new.log c.write-2.new.log c.at.result c.to.result c.write.ensures c.write-2.ensures) c.requires.may c.requires.moves
+    let pool = c.args.pool.now in let old = c.args.seat.now in let new = c.birth-number.new.seat in let call =
+    c.birth-number in let root = call.result.1 in let last = c.next-watch.new.self in
+    let noted = subst (λ (x : Option Watch). IsNotedWith pool old new root call.result.0 (birth root c.args.region.id x)
+    Born ((view_of old).moves - 1)) c.next-watch.ensures.watch call.ensures.did in
+    root_born pool old new c.args.region.id.class call.ensures.seat call.ensures.same c.args.handle c.args.region root
+    call.result.0 c.args.size c.args.sampler.now last c.at.result c.to.result c.args.log.now c.write-2.new.log
+    (wrote_two c.args.log.now c.write.new.log c.write-2.new.log c.at.result c.to.result c.write.ensures
+    c.write-2.ensures) c.requires.may c.requires.moves
     noted call.ensures.root.0 call.ensures.root.1 c.next-watch.ensures.births c.at.ensures c.to.ensures

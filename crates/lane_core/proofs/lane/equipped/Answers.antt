@@ -11,15 +11,28 @@ pub returns : goal.returns
 returns c =
     let names_are = c.in_ok-names.ensures {u = tt} in let counts = c.in_ok-counts.ensures {u = tt} in
     let replies = c.in_ok-replies.ensures {u = tt} in let notes = c.in_ok-notes.ensures {u = tt} in
-    let len : length c.in_ok-names.names ≡ c.name_count.result = ap length names_are ∙ length-replicate c.name_count.result None in
+    let len : length c.in_ok-names.names ≡ c.name_count.result = ap length names_are
+    ∙ length-replicate c.name_count.result None in
     record {
       classes = c.in_ok-classes.ensures {u = tt};
       names = names_are ∙ ap (λ n. replicate n None) (sym len);
-      below = subst (λ (x : ℕ × List Command). All (ChangesBelow x.0) x.1) (λ i. (sym len i, c.items.ensures i)) c.name_count.ensures;
+      below =
+          subst (λ (x : ℕ × List Command). All (ChangesBelow x.0) x.1) (λ i. (sym len i, c.items.ensures i))
+          c.name_count.ensures;
       counts = counts.none;
       places = counts.places;
-      sampler = c.new-5.ensures ∙ ap (λ n. new_sampler n c.args.shape.now.level c.args.shape.now.interval) c.lane_of.ensures.lane;
-      replies = (replies.items, subst (λ (xs : List Command). length xs ≤ vec_capacity c.in_ok-replies.replies) c.items-2.ensures replies.capacity);
-      notes = (notes.items, subst (λ n. n ≤ vec_capacity c.in_ok-notes.notes) (c.note_bound.ensures.bound ∙ ap note_bound c.items-3.ensures) notes.capacity);
+      sampler =
+          c.new-5.ensures ∙ ap (λ n. new_sampler n c.args.shape.now.level c.args.shape.now.interval)
+          c.lane_of.ensures.lane;
+      replies = (
+        replies.items,
+        subst (λ (xs : List Command). length xs ≤ vec_capacity c.in_ok-replies.replies)
+            c.items-2.ensures replies.capacity,
+      );
+      notes = (
+        notes.items,
+        subst (λ n. n ≤ vec_capacity c.in_ok-notes.notes)
+            (c.note_bound.ensures.bound ∙ ap note_bound c.items-3.ensures) notes.capacity,
+      );
       spare = c.in_ok-spare.ensures {u = tt};
     }

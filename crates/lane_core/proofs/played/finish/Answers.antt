@@ -20,7 +20,9 @@ use Rattle.lane_core.proofs.played.finish.Goals as goal
 
 pub close-requires : goal.close-requires
 close-requires c = record {
-  seats = subst (λ ss. AreDone c.args.pool ss) (sym c.part-commands.ensures.seats) (seats-done c.args.pool c.args.lanes.items c.requires.lanes);
+  seats =
+      subst (λ ss. AreDone c.args.pool ss) (sym c.part-commands.ensures.seats)
+      (seats-done c.args.pool c.args.lanes.items c.requires.lanes);
 }
 
 pub abandon-requires : goal.abandon-requires
@@ -29,7 +31,8 @@ abandon-requires c =
     record {
       seats =
           subst (λ p. All (λ s. IsPoolSeat p s) c.in-Err.seats.items) (sym back.0)
-          (All-moved (λ s. IsPoolSeat c.args.pool s) (λ (l : Lane). l.desk.seat) c.args.lanes.items [] c.in-Err.seats.items refl
+          (All-moved (λ s. IsPoolSeat c.args.pool s) (λ (l : Lane). l.desk.seat) c.args.lanes.items []
+          c.in-Err.seats.items refl
           (append-nil c.in-Err.seats.items ∙ back.1 ∙ c.part-commands.ensures.seats)
           (λ k d lt. (c.requires.lanes.each k (omega (arith, lt, c.requires.lanes.many)) d).lane.desk.seat));
     }
@@ -52,5 +55,6 @@ invariant_of-result c =
     (subst (λ ss. AreWhole shape (parts_in ss)) seats c.in-Ok-close.ensures.whole)
     end.live
     (subst (λ ss. AreLiveRoots (parts_in ss) end.live) seats c.in-Ok-close.ensures.live)
-    (subst (λ ss. end.chunks ≡ ends_from shape (logs_in (parts_in ss)) (below shape.arenas)) seats c.in-Ok-close.ensures.chunks)
+    (subst (λ ss. end.chunks ≡ ends_from shape (logs_in (parts_in ss)) (below shape.arenas)) seats
+    c.in-Ok-close.ensures.chunks)
     c.in_ok-leaks.ensures

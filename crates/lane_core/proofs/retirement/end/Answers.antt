@@ -7,7 +7,8 @@ use Rattle.lane_core.proofs.retirement.end.Goals as goal
 
 pub retire-requires-clause-room : goal.retire-requires-clause-room
 retire-requires-clause-room c =
-    let log = c.args.log.now in let room = subst (λ (s : Ending). length log.items + (left_of s).notes ≤ vec_capacity log) c.in-Root.is c.requires.room in
+    let log = c.args.log.now in let room = subst
+    (λ (s : Ending). length log.items + (left_of s).notes ≤ vec_capacity log) c.in-Root.is c.requires.room in
     omega (arith, room)
 
 pub put_away-requires-clause-room : goal.put_away-requires-clause-room

@@ -25,17 +25,24 @@ are_first = record {
   plain =
       All-cons IsPlain (Command.Alloc 0 24) set_later tt
       (All-cons IsPlain (Command.Set 0 0 (104 ∷ 101 ∷ 108 ∷ 108 ∷ 111 ∷ []) false) later tt
-      (All-cons IsPlain (Command.Get 0 0 5 false) last tt (All-cons IsPlain (Command.Release 0) [] tt (All-nil IsPlain))));
+      (All-cons IsPlain (Command.Get 0 0 5 false) last tt
+      (All-cons IsPlain (Command.Release 0) [] tt (All-nil IsPlain))));
 }
 
 pub play-requires-clause-commands : goal.play-requires-clause-commands
-play-requires-clause-commands g c = subst (λ (cs : List Command). AreFirst LAYOUT.shape cs) (sym c.in_ok-commands.ensures) are_first
+play-requires-clause-commands g c =
+    subst (λ (cs : List Command). AreFirst LAYOUT.shape cs) (sym c.in_ok-commands.ensures) are_first
 
 pub play-requires-clause-turns : goal.play-requires-clause-turns
-play-requires-clause-turns g c = let few : 55 ≤ 100 = omega arith in subst (λ (cs : List Command). note_bound cs ≤ 100) (sym c.in_ok-commands.ensures) few
+play-requires-clause-turns g c =
+    let few : 55 ≤ 100 = omega arith in
+    subst (λ (cs : List Command). note_bound cs ≤ 100) (sym c.in_ok-commands.ensures) few
 
 pub play-requires-clause-moves : goal.play-requires-clause-moves
-play-requires-clause-moves g c = let few : 1 ≤ 1 = omega arith in subst (λ (cs : List Command). (left_for_all cs).moves ≤ 1) (sym c.in_ok-commands.ensures) few
+play-requires-clause-moves g c =
+    let few : 1 ≤ 1 = omega arith in
+    subst (λ (cs : List Command). (left_for_all cs).moves ≤ 1) (sym c.in_ok-commands.ensures) few
 
 pub play-requires-clause-mails : goal.play-requires-clause-mails
-play-requires-clause-mails g c = subst (λ (cs : List Command). (left_for_all cs).sends 0 ≡ 0) (sym c.in_ok-commands.ensures) refl
+play-requires-clause-mails g c =
+    subst (λ (cs : List Command). (left_for_all cs).sends 0 ≡ 0) (sym c.in_ok-commands.ensures) refl

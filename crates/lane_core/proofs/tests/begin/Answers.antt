@@ -43,10 +43,15 @@ first_seat pool cs s is limits turns moves none o = record {
 
 pub new-requires-clause-seat : goal.new-requires-clause-seat
 new-requires-clause-seat c =
-    let q = c.requires in let o = c.in_ok-pool.ensures in
-    (c.in_ok-pool.field-0.pool, first_seat c.in_ok-pool.field-0.pool c.args.commands c.in_ok-pool.field-0.seat o.layout o.limits q.turns q.moves q.mails o.seat)
+    let q = c.requires in let o = c.in_ok-pool.ensures in (
+      c.in_ok-pool.field-0.pool,
+      first_seat c.in_ok-pool.field-0.pool c.args.commands c.in_ok-pool.field-0.seat o.layout
+          o.limits q.turns q.moves q.mails o.seat,
+    )
 
 pub returns-in-Ok-clause-lane : goal.returns-in-Ok-clause-lane
 returns-in-Ok-clause-lane c =
     let q = c.requires in let o = c.in_ok-pool.ensures in
-    c.in-Ok.ensures.lane c.in_ok-pool.field-0.pool (first_seat c.in_ok-pool.field-0.pool c.args.commands c.in_ok-pool.field-0.seat o.layout o.limits q.turns q.moves q.mails o.seat)
+    c.in-Ok.ensures.lane c.in_ok-pool.field-0.pool
+    (first_seat c.in_ok-pool.field-0.pool c.args.commands c.in_ok-pool.field-0.seat o.layout o.limits q.turns
+    q.moves q.mails o.seat)

@@ -18,12 +18,14 @@ alone pool l shape lane number finished =
       many = sym one;
       each = λ k below.
           let first : 0 ≡ k = omega (arith, below, one) in
-          subst (λ (n : ℕ). HoldsAt (IsFinishedLane pool n) (l ∷ []) n) first (λ d. record { lane = lane; number_is = number; finished = finished });
+          subst (λ (n : ℕ). HoldsAt (IsFinishedLane pool n) (l ∷ []) n) first
+          (λ d. record { lane = lane; number_is = number; finished = finished });
     }
 
 pub finish-requires-clause-lanes : goal.finish-requires-clause-lanes
 finish-requires-clause-lanes c =
     let q = c.requires in
     let empty : c.in-Ok.lanes.items ≡ [] = first_of (search rules, grind (arith, common_steps)) in
-    subst (AreFinished c.args.pool) (sym (c.push_reserved.ensures.items ∙ ap (λ (ls : List Lane). ls ++ c.args.lane ∷ []) empty))
+    subst (AreFinished c.args.pool)
+    (sym (c.push_reserved.ensures.items ∙ ap (λ (ls : List Lane). ls ++ c.args.lane ∷ []) empty))
     (alone c.args.pool c.args.lane q.shape q.lane q.number q.finished)

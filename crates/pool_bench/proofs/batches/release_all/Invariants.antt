@@ -10,4 +10,5 @@ decreases-loop-root g l = vec_len l.runner.roots
 abbrev pub invariant-loop-root : goal.invariant-loop-root
 invariant-loop-root g l =
     (vec_len l.runner.roots ≤ vec_len l.initial.runner.roots)
-    × Goes l.pool empty_hand (6 * (vec_len l.initial.runner.roots - vec_len l.runner.roots)) 0 l.initial.runner.seat l.runner.seat × Holds l.runner.roots.items (view_of l.runner.seat)
+    × Goes l.pool empty_hand (6 * (vec_len l.initial.runner.roots - vec_len l.runner.roots)) 0 l.initial.runner.seat
+    l.runner.seat × Holds l.runner.roots.items (view_of l.runner.seat)

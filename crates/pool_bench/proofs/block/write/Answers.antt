@@ -11,22 +11,36 @@ use Rattle.pool_bench.proofs.block.write.Goals as goal
 
 pub returns-in-Did-clause-goes : goal.returns-in-Did-clause-goes
 returns-in-Did-clause-goes g c =
-    let pool = c.args.pool.now in let old = c.args.runner.now.seat in let mid = c.loop.runner.seat in let new = c.write.new.seat in let did = c.in-Did in let root = c.args.root in
-    let still = goes_same pool empty_hand 0 0 old old mid c.loop.invariant.0 c.loop.invariant.1 (goes_none pool empty_hand 1 0 old c.requires.works) in
+    let pool = c.args.pool.now in let old = c.args.runner.now.seat in let mid = c.loop.runner.seat in let new =
+    c.write.new.seat in let did = c.in-Did in let root = c.args.root in
+    let still = goes_same pool empty_hand 0 0 old old mid c.loop.invariant.0 c.loop.invariant.1
+    (goes_none pool empty_hand 1 0 old c.requires.works) in
     goes_on pool empty_hand empty_hand 0 0 1 0 1 0 old mid new still
-    (goes_access pool mid new c.loop.invariant.0 did.ensures.seat still.paid still.held root did._number (Did.Set c.args.offset c.args.bytes.now) (set_is root did._number (view_of mid).own.number c.args.offset c.args.bytes.now) did.ensures.did (λ r. refl))
+    (goes_access pool mid new c.loop.invariant.0 did.ensures.seat still.paid still.held root did._number
+    (Did.Set c.args.offset c.args.bytes.now)
+    (set_is root did._number (view_of mid).own.number c.args.offset c.args.bytes.now) did.ensures.did
+    (λ r. refl))
     (omega arith) (omega arith)
 
 pub returns-in-Did-clause-recounted : goal.returns-in-Did-clause-recounted
 returns-in-Did-clause-recounted g c =
-    let pool = c.args.pool.now in let old = c.args.runner.now.seat in let mid = c.loop.runner.seat in let new = c.write.new.seat in let did = c.in-Did in let root = c.args.root in
-    let still = goes_same pool empty_hand 0 0 old old mid c.loop.invariant.0 c.loop.invariant.1 (goes_none pool empty_hand 1 0 old c.requires.works) in
+    let pool = c.args.pool.now in let old = c.args.runner.now.seat in let mid = c.loop.runner.seat in let new =
+    c.write.new.seat in let did = c.in-Did in let root = c.args.root in
+    let still = goes_same pool empty_hand 0 0 old old mid c.loop.invariant.0 c.loop.invariant.1
+    (goes_none pool empty_hand 1 0 old c.requires.works) in
     subst (λ (v : SeatView). Recounted [] [] v (view_of new)) c.loop.invariant.1
-    (access_recounted pool mid new c.loop.invariant.0 did.ensures.seat still.paid still.held root did._number (Did.Set c.args.offset c.args.bytes.now) (set_is root did._number (view_of mid).own.number c.args.offset c.args.bytes.now) did.ensures.did (λ r. refl))
+    (access_recounted pool mid new c.loop.invariant.0 did.ensures.seat still.paid still.held root did._number
+    (Did.Set c.args.offset c.args.bytes.now)
+    (set_is root did._number (view_of mid).own.number c.args.offset c.args.bytes.now) did.ensures.did
+    (λ r. refl))
 
 pub returns-in-Did-clause-sends : goal.returns-in-Did-clause-sends
 returns-in-Did-clause-sends g c =
-    let pool = c.args.pool.now in let old = c.args.runner.now.seat in let mid = c.loop.runner.seat in let new = c.write.new.seat in let did = c.in-Did in let root = c.args.root in
-    let still = goes_same pool empty_hand 0 0 old old mid c.loop.invariant.0 c.loop.invariant.1 (goes_none pool empty_hand 1 0 old c.requires.works) in
+    let pool = c.args.pool.now in let old = c.args.runner.now.seat in let mid = c.loop.runner.seat in let new =
+    c.write.new.seat in let did = c.in-Did in let root = c.args.root in
+    let still = goes_same pool empty_hand 0 0 old old mid c.loop.invariant.0 c.loop.invariant.1
+    (goes_none pool empty_hand 1 0 old c.requires.works) in
     subst (λ (v : SeatView). Sends 0 v (view_of new)) c.loop.invariant.1
-    (access_sends pool mid new c.loop.invariant.0 did.ensures.seat still.paid still.held root did._number (Did.Set c.args.offset c.args.bytes.now) (set_is root did._number (view_of mid).own.number c.args.offset c.args.bytes.now) did.ensures.did)
+    (access_sends pool mid new c.loop.invariant.0 did.ensures.seat still.paid still.held root did._number
+    (Did.Set c.args.offset c.args.bytes.now)
+    (set_is root did._number (view_of mid).own.number c.args.offset c.args.bytes.now) did.ensures.did)

@@ -7,4 +7,5 @@ use Rattle.pool_bench.proofs.retained.retain_often.Given as goal
 
 abbrev pub invariant-loop-done : goal.invariant-loop-done
 invariant-loop-done g l =
-    (l.done ≤ l.blocks) × Goes l.pool empty_hand (7 * l.done) l.done l.initial.runner.seat l.runner.seat × HasCount l.root (view_of l.runner.seat)
+    (l.done ≤ l.blocks) × Goes l.pool empty_hand (7 * l.done) l.done l.initial.runner.seat l.runner.seat
+    × HasCount l.root (view_of l.runner.seat)

@@ -7,5 +7,6 @@ abbrev pub invariant-loop-lane : goal.invariant-loop-lane
 invariant-loop-lane l = record {
   many : length l.mail.items ≡ l.lanes * l.lanes;
   within : l.lane ≤ l.lanes;
-  each : (lane : ℕ) → lane < l.lane → slice_get l.mail.items (lane * l.lanes + next_lane l.lanes lane) ≡ Some l.plan.mail;
+  each : (lane : ℕ) → lane < l.lane → slice_get l.mail.items (lane * l.lanes + next_lane l.lanes lane)
+      ≡ Some l.plan.mail;
 }

@@ -6,5 +6,6 @@ use Rattle.pool_bench.proofs.work.run_blocks.Given as goal
 
 abbrev pub invariant-loop-done : goal.invariant-loop-done
 invariant-loop-done g l =
-    (l.done ≤ l.blocks) × Works l.pool empty_hand (block_turns * (l.blocks - l.done)) (block_moves * (l.blocks - l.done)) l.runner.seat
+    (l.done ≤ l.blocks) × Works l.pool empty_hand (block_turns * (l.blocks - l.done))
+    (block_moves * (l.blocks - l.done)) l.runner.seat
     × ((view_of l.runner.seat).own.number ≡ (view_of l.initial.runner.seat).own.number)

@@ -12,19 +12,30 @@ use Rattle.lane_core.proofs.Turning.{refused_turn}
 use Rattle.lane_core.proofs.desk.Desk.access.Goals as goal
 
 pub refuse-requires : goal.refuse-requires
-refuse-requires c = can_answer c.args.pool.now (notes_alone 1) c.args.self.now (record { desk = c.requires.desk; room = c.requires.room; replies = c.requires.replies; asked = c.requires.asked })
+refuse-requires c =
+    can_answer c.args.pool.now (notes_alone 1) c.args.self.now
+    (record {
+      desk = c.requires.desk;
+      room = c.requires.room;
+      replies = c.requires.replies;
+      asked =
+          c.requires.asked;
+    })
 
 pub returns-in-Refused : goal.returns-in-Refused
 returns-in-Refused c = λ s command state prepared.
-    let pool = c.args.pool.now in let old = c.args.self.now in let new = c.refuse.new.self in let refusal = c.in-Refused.refusal in
-    let may : MayTurn pool (notes_alone 1) old = record { desk = c.requires.desk; room = c.requires.room; replies = c.requires.replies; asked = c.requires.asked } in
+    let pool = c.args.pool.now in let old = c.args.self.now in let new = c.refuse.new.self in let refusal =
+    c.in-Refused.refusal in
+    let may : MayTurn pool (notes_alone 1) old = record
+    { desk = c.requires.desk; room = c.requires.room; replies = c.requires.replies; asked = c.requires.asked } in
     let read = subst (λ (a : Access). IsPrepared old.names old.counts command a s) c.in-Refused.is prepared in
     subst (λ (t : Turn). HasTurned pool old new s command Ready t) (sym c.refuse.ensures.ready)
     (refused_turn pool (notes_alone 1) old new may refusal c.refuse.ensures.replied s command state.names_are
     (read.read old.shape (lane_of old.seat)))
 
 pub set-requires-clause-may : goal.set-requires-clause-may
-set-requires-clause-may c = record { desk = c.requires.desk; room = c.requires.room; replies = c.requires.replies; asked = c.requires.asked }
+set-requires-clause-may c =
+    record { desk = c.requires.desk; room = c.requires.room; replies = c.requires.replies; asked = c.requires.asked }
 
 pub set-requires-clause-reaches : goal.set-requires-clause-reaches
 set-requires-clause-reaches c = subst (λ (a : Access). IsReady c.args.self.now.counts a) c.in-Set.is c.requires.ready
@@ -34,13 +45,16 @@ set-requires-clause-name c = subst (λ (a : Access). AccessFits c.args.self.now 
 
 pub returns-in-Set : goal.returns-in-Set
 returns-in-Set c =
-    subst (λ (a : Access). AccessTurns c.args.pool.now c.args.self.now c.set.new.self a c.set.result) (sym c.in-Set.is) c.set.ensures
+    subst (λ (a : Access). AccessTurns c.args.pool.now c.args.self.now c.set.new.self a c.set.result) (sym c.in-Set.is)
+    c.set.ensures
 
 pub get-requires-clause-may : goal.get-requires-clause-may
-get-requires-clause-may c = record { desk = c.requires.desk; room = c.requires.room; replies = c.requires.replies; asked = c.requires.asked }
+get-requires-clause-may c =
+    record { desk = c.requires.desk; room = c.requires.room; replies = c.requires.replies; asked = c.requires.asked }
 
 pub get-requires-clause-reaches : goal.get-requires-clause-reaches
-get-requires-clause-reaches c = (subst (λ (a : Access). IsReady c.args.self.now.counts a) c.in-Get.is c.requires.ready).0
+get-requires-clause-reaches c =
+    (subst (λ (a : Access). IsReady c.args.self.now.counts a) c.in-Get.is c.requires.ready).0
 
 pub get-requires-clause-reply : goal.get-requires-clause-reply
 get-requires-clause-reply c = (subst (λ (a : Access). IsReady c.args.self.now.counts a) c.in-Get.is c.requires.ready).1
@@ -50,4 +64,5 @@ get-requires-clause-name c = subst (λ (a : Access). AccessFits c.args.self.now 
 
 pub returns-in-Get : goal.returns-in-Get
 returns-in-Get c =
-    subst (λ (a : Access). AccessTurns c.args.pool.now c.args.self.now c.get.new.self a c.get.result) (sym c.in-Get.is) c.get.ensures
+    subst (λ (a : Access). AccessTurns c.args.pool.now c.args.self.now c.get.new.self a c.get.result) (sym c.in-Get.is)
+    c.get.ensures

@@ -19,10 +19,13 @@ answer-requires c = record { begun = c.requires.may.begun; few = c.requires.may.
 
 pub returns-in-Err : goal.returns-in-Err
 returns-in-Err c = λ pool may s state.
-    let old = c.args.self.now in let new = c.refuse.new.self in let fresh = c.args.fresh in let name = c.args.name in let command = Command.Dup fresh name in
+    let old = c.args.self.now in let new = c.refuse.new.self in let fresh = c.args.fresh in let name = c.args.name in
+    let command = Command.Dup fresh name in
     subst (λ (t : Turn). HasTurned pool old new s command Ready t) (sym c.refuse.ensures.ready)
-    (refused_turn pool (left_for command) old new may c.in-Err.refusal c.refuse.ensures.replied s command state.names_are
-    (refuses s old.names old.counts state old.shape (lane_of old.seat) command (reply_for c.in-Err.refusal) (refused_fresh s old.names old.counts state name fresh c.in-Err.refusal c.in-Err.ensures.refused [])))
+    (refused_turn pool (left_for command) old new may c.in-Err.refusal c.refuse.ensures.replied s command
+    state.names_are
+    (refuses s old.names old.counts state old.shape (lane_of old.seat) command (reply_for c.in-Err.refusal)
+    (refused_fresh s old.names old.counts state name fresh c.in-Err.refusal c.in-Err.ensures.refused [])))
 
 pub returns : goal.returns
 returns c = λ pool may s state.
@@ -30,5 +33,7 @@ returns c = λ pool may s state.
     let v : ViewData = c.in-Ok.view.now.at in let ok = c.in-Ok.ensures.ok in
     subst (λ (t : Turn). HasTurned pool old new s (Command.Dup fresh name) Ready t) (sym c.answer.ensures.ready)
     (bound_turn pool fresh old new may.desk may.asked c.requires.name v
-    (subst (λ (names : List (Option ViewData)). HasReplied (record old { names = names }) new Reply.Ok) (c.bind.ensures ∙ ap (λ (w : ViewData). slice_set old.names fresh (Some w)) c.duplicate-view.ensures) c.answer.ensures.replied) s state.names_are (Command.Dup fresh name)
+    (subst (λ (names : List (Option ViewData)). HasReplied (record old { names = names }) new Reply.Ok)
+    (c.bind.ensures ∙ ap (λ (w : ViewData). slice_set old.names fresh (Some w)) c.duplicate-view.ensures)
+    c.answer.ensures.replied) s state.names_are (Command.Dup fresh name)
     (reads_duplicate old.shape (lane_of old.seat) s old.names old.counts state fresh name v ok.0 ok.1 ok.2))

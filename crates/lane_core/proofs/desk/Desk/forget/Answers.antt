@@ -22,11 +22,14 @@ returns-in_default c = λ pool may s state.
     let old = c.args.self.now in let new = c.answer.new.self in let command = Command.Forget c.args.name in
     subst (λ (t : Turn). HasTurned pool old new s command Ready t) (sym c.answer.ensures.ready)
     (forget_turn pool c.args.name old new may c.requires.name c.in_default.field-0.now.at c.in_default.ensures.bound
-    (subst (λ (names : List (Option ViewData)). HasReplied (record old { names = names }) new Reply.Ok) c.unbind.ensures c.answer.ensures.replied) s state)
+    (subst (λ (names : List (Option ViewData)). HasReplied (record old { names = names }) new Reply.Ok) c.unbind.ensures
+    c.answer.ensures.replied) s state)
 
 pub returns : goal.returns
 returns c = λ pool may s state.
     let old = c.args.self.now in let new = c.refuse.new.self in let command = Command.Forget c.args.name in
     subst (λ (t : Turn). HasTurned pool old new s command Ready t) (sym c.refuse.ensures.ready)
     (refused_turn pool (left_for command) old new may Unbound c.refuse.ensures.replied s command state.names_are
-    (refuses s old.names old.counts state old.shape (lane_of old.seat) command Reply.Unbound (comes_first (unbound s c.args.name) [] (is_unbound s old.names old.counts state c.args.name c.in-None.ensures.unbound))))
+    (refuses s old.names old.counts state old.shape (lane_of old.seat) command Reply.Unbound
+    (comes_first (unbound s c.args.name) []
+    (is_unbound s old.names old.counts state c.args.name c.in-None.ensures.unbound))))

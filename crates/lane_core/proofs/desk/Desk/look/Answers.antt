@@ -19,29 +19,37 @@ refuse-requires c = can_answer c.args.pool.now (left_for (Command.Refcnt c.args.
 
 pub returns-in-Err : goal.returns-in-Err
 returns-in-Err c = λ s state.
-    let pool = c.args.pool.now in let old = c.args.self.now in let new = c.refuse.new.self in let command = Command.Refcnt c.args.name in
+    let pool = c.args.pool.now in let old = c.args.self.now in let new = c.refuse.new.self in let command =
+    Command.Refcnt c.args.name in
     subst (λ (t : Turn). HasTurned pool old new s command Ready t) (sym c.refuse.ensures.ready)
-    (refused_turn pool (left_for command) old new c.requires c.in-Err.refusal c.refuse.ensures.replied s command state.names_are
-    (refuses s old.names old.counts state old.shape (lane_of old.seat) command (reply_for c.in-Err.refusal) (refused_count s old.names old.counts state c.args.name c.in-Err.refusal c.in-Err.ensures.refused)))
+    (refused_turn pool (left_for command) old new c.requires c.in-Err.refusal c.refuse.ensures.replied s command
+    state.names_are
+    (refuses s old.names old.counts state old.shape (lane_of old.seat) command (reply_for c.in-Err.refusal)
+    (refused_count s old.names old.counts state c.args.name c.in-Err.refusal c.in-Err.ensures.refused)))
 
 pub look-count-requires-clause-seat : goal.look-count-requires-clause-seat
 look-count-requires-clause-seat c = c.requires.desk.seat
 
 pub look-count-requires-clause-counts : goal.look-count-requires-clause-counts
-look-count-requires-clause-counts c = counts_root c.args.pool.now c.args.self.now c.requires.desk c.in-Ok.view.now.at.root c.in-Ok.ensures.ok.1
+look-count-requires-clause-counts c =
+    counts_root c.args.pool.now c.args.self.now c.requires.desk c.in-Ok.view.now.at.root c.in-Ok.ensures.ok.1
 
 pub note-requires : goal.note-requires
-note-requires c = note_room c.args.pool.now (left_for (Command.Refcnt c.args.name)) c.args.self.now c.requires (omega arith)
+note-requires c =
+    note_room c.args.pool.now (left_for (Command.Refcnt c.args.name)) c.args.self.now c.requires (omega arith)
 
 pub answer-requires : goal.answer-requires
 answer-requires c =
     let start : Desk = record c.args.self.now { seat = c.look-count.new.seat } in
-    can_answer_noted c.args.pool.now (left_for (Command.Refcnt c.args.name)) c.args.self.now c.requires (omega arith) start c.note.new.self c.to.result c.note.ensures refl
+    can_answer_noted c.args.pool.now (left_for (Command.Refcnt c.args.name)) c.args.self.now c.requires (omega arith)
+    start c.note.new.self c.to.result c.note.ensures refl
 
 pub returns : goal.returns
 returns c = λ s state.
-    let pool = c.args.pool.now in let old = c.args.self.now in let mid = c.note.new.self in let new = c.answer.new.self in
+    let pool = c.args.pool.now in let old = c.args.self.now in let mid = c.note.new.self in let new =
+    c.answer.new.self in
     let start : Desk = record old { seat = c.look-count.new.seat } in let ok = c.in-Ok.ensures.ok in
     subst (λ (t : Turn). HasTurned pool old new s (Command.Refcnt c.args.name) Ready t) (sym c.answer.ensures.ready)
-    (look_turn pool c.args.name old start mid new c.requires refl c.look-count.ensures.same c.look-count.ensures.seat c.in-Ok.view.now.at ok.0 ok.1 c.look-count.result c.look-count.ensures.did
+    (look_turn pool c.args.name old start mid new c.requires refl c.look-count.ensures.same c.look-count.ensures.seat
+    c.in-Ok.view.now.at ok.0 ok.1 c.look-count.result c.look-count.ensures.did
     (subst (λ (n : Note). HasNoted start mid (n ∷ [])) c.to.ensures c.note.ensures) c.answer.ensures.replied s state)

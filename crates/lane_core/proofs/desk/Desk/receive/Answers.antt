@@ -19,67 +19,99 @@ use Rattle.lane_core.proofs.PostTurns.{fetched_place, fetched_alone, fetched_few
 use Rattle.lane_core.proofs.desk.Desk.receive.Goals as goal
 
 -- the note is of the mail to the seat's lane
-noted_there : (start mid : Desk) (from to lane number : ℕ) (parcel : Parcel) (note : Note) → note ≡ Note.At (Mail from to) number (Did.Fetch parcel) → to ≡ lane → HasNoted start mid (note ∷ []) → HasNoted start mid (Note.At (Mail from lane) number (Did.Fetch parcel) ∷ [])
+noted_there : (start mid : Desk) (from to lane number : ℕ) (parcel : Parcel) (note : Note)
+    → note ≡ Note.At (Mail from to) number (Did.Fetch parcel) → to ≡ lane → HasNoted start mid (note ∷ [])
+    → HasNoted start mid (Note.At (Mail from lane) number (Did.Fetch parcel) ∷ [])
 noted_there start mid from to lane number parcel note is same noted =
-    subst (λ (n : Note). HasNoted start mid (n ∷ [])) (is ∙ ap (λ (k : ℕ). Note.At (Mail from k) number (Did.Fetch parcel)) same) noted
+    subst (λ (n : Note). HasNoted start mid (n ∷ []))
+    (is ∙ ap (λ (k : ℕ). Note.At (Mail from k) number (Did.Fetch parcel)) same) noted
 
 pub fetch-requires-clause-seat : goal.fetch-requires-clause-seat
 fetch-requires-clause-seat c = c.requires.may.desk.seat
 
 pub fetch-requires-clause-turn : goal.fetch-requires-clause-turn
-fetch-requires-clause-turn c = turn_left c.args.pool.now (left_for (Command.Recv c.args.fresh c.args.lane)) c.args.self.now c.requires.may.desk c.requires.may.room (omega arith)
+fetch-requires-clause-turn c =
+    turn_left c.args.pool.now (left_for (Command.Recv c.args.fresh c.args.lane)) c.args.self.now c.requires.may.desk
+    c.requires.may.room (omega arith)
 
 pub fetch-requires-clause-from_is : goal.fetch-requires-clause-from_is
 fetch-requires-clause-from_is c = subst (λ (s : Shape). c.args.lane < s.lanes) c.requires.may.desk.shape c.requires.lane
 
 pub note-requires : goal.note-requires
-note-requires c = note_room c.args.pool.now (left_for (Command.Recv c.args.fresh c.args.lane)) c.args.self.now c.requires.may (omega arith)
+note-requires c =
+    note_room c.args.pool.now (left_for (Command.Recv c.args.fresh c.args.lane)) c.args.self.now c.requires.may
+    (omega arith)
 
 pub add-requires-clause-place : goal.add-requires-clause-place
 add-requires-clause-place c =
-    let old = c.args.self.now in let start : Desk = record old { seat = c.fetch.new.seat } in let mid = c.note.new.self in let got = c.in-Got in
-    let noted = noted_there start mid c.args.lane c.lane_of.result (lane_of old.seat) got.number got.parcel c.at.result c.at.ensures c.lane_of.ensures.lane c.note.ensures in
-    fetched_place c.args.pool.now c.args.fresh c.args.lane old start mid mid c.requires.may refl got.ensures.same got.ensures.seat got.number got.parcel got.ensures.got noted c.in-Some.view c.in-Some.is got.ensures.place
+    let old = c.args.self.now in let start : Desk = record old { seat = c.fetch.new.seat } in let mid =
+    c.note.new.self in let got = c.in-Got in
+    let noted = noted_there start mid c.args.lane c.lane_of.result (lane_of old.seat) got.number got.parcel c.at.result
+    c.at.ensures c.lane_of.ensures.lane c.note.ensures in
+    fetched_place c.args.pool.now c.args.fresh c.args.lane old start mid mid c.requires.may refl got.ensures.same
+    got.ensures.seat got.number got.parcel got.ensures.got noted c.in-Some.view c.in-Some.is got.ensures.place
 
 pub add-requires-clause-alone : goal.add-requires-clause-alone
 add-requires-clause-alone c = λ other at counts.
-    let old = c.args.self.now in let start : Desk = record old { seat = c.fetch.new.seat } in let mid = c.note.new.self in let got = c.in-Got in
-    let noted = noted_there start mid c.args.lane c.lane_of.result (lane_of old.seat) got.number got.parcel c.at.result c.at.ensures c.lane_of.ensures.lane c.note.ensures in
-    fetched_alone c.args.pool.now c.args.fresh c.args.lane old start mid mid c.requires.may refl got.ensures.same got.ensures.seat got.number got.parcel got.ensures.got noted c.in-Some.view c.in-Some.is other at counts
+    let old = c.args.self.now in let start : Desk = record old { seat = c.fetch.new.seat } in let mid =
+    c.note.new.self in let got = c.in-Got in
+    let noted = noted_there start mid c.args.lane c.lane_of.result (lane_of old.seat) got.number got.parcel c.at.result
+    c.at.ensures c.lane_of.ensures.lane c.note.ensures in
+    fetched_alone c.args.pool.now c.args.fresh c.args.lane old start mid mid c.requires.may refl got.ensures.same
+    got.ensures.seat got.number got.parcel got.ensures.got noted c.in-Some.view c.in-Some.is other at counts
 
 pub add-requires-clause-few : goal.add-requires-clause-few
 add-requires-clause-few c =
-    let old = c.args.self.now in let start : Desk = record old { seat = c.fetch.new.seat } in let mid = c.note.new.self in let got = c.in-Got in
-    let noted = noted_there start mid c.args.lane c.lane_of.result (lane_of old.seat) got.number got.parcel c.at.result c.at.ensures c.lane_of.ensures.lane c.note.ensures in
-    fetched_few c.args.pool.now c.args.fresh c.args.lane old start mid mid c.requires.may refl got.ensures.same got.ensures.seat got.number got.parcel got.ensures.got noted c.in-Some.view.root
+    let old = c.args.self.now in let start : Desk = record old { seat = c.fetch.new.seat } in let mid =
+    c.note.new.self in let got = c.in-Got in
+    let noted = noted_there start mid c.args.lane c.lane_of.result (lane_of old.seat) got.number got.parcel c.at.result
+    c.at.ensures c.lane_of.ensures.lane c.note.ensures in
+    fetched_few c.args.pool.now c.args.fresh c.args.lane old start mid mid c.requires.may refl got.ensures.same
+    got.ensures.seat got.number got.parcel got.ensures.got noted c.in-Some.view.root
 
 pub bind-requires : goal.bind-requires
 bind-requires c =
-    subst (λ (names : List (Option ViewData)). c.args.fresh < length names) (sym (ap (λ (x : Desk). x.names) c.note.ensures.rest)) c.requires.name
+    subst (λ (names : List (Option ViewData)). c.args.fresh < length names)
+    (sym (ap (λ (x : Desk). x.names) c.note.ensures.rest)) c.requires.name
 
 pub returns-in-Some : goal.returns-in-Some
 returns-in-Some c = λ s state.
-    let pool = c.args.pool.now in let old = c.args.self.now in let start : Desk = record old { seat = c.fetch.new.seat } in let mid = c.note.new.self in let new = c.answer.new.self in let got = c.in-Got in let v : ViewData = c.in-Some.view in
-    let noted = noted_there start mid c.args.lane c.lane_of.result (lane_of old.seat) got.number got.parcel c.at.result c.at.ensures c.lane_of.ensures.lane c.note.ensures in
-    subst (λ (t : Turn). HasTurned pool old new s (Command.Recv c.args.fresh c.args.lane) Ready t) (sym c.answer.ensures.ready)
-    (receive_turn pool c.args.fresh c.args.lane old start mid new c.requires.may refl got.ensures.same got.ensures.seat got.number got.parcel got.ensures.got noted v c.in-Some.is c.requires.name c.add.new.self
+    let pool = c.args.pool.now in let old = c.args.self.now in let start : Desk =
+    record old { seat = c.fetch.new.seat } in let mid =
+    c.note.new.self in let new = c.answer.new.self in let got = c.in-Got in let v : ViewData = c.in-Some.view in
+    let noted = noted_there start mid c.args.lane c.lane_of.result (lane_of old.seat) got.number got.parcel c.at.result
+    c.at.ensures c.lane_of.ensures.lane c.note.ensures in
+    subst (λ (t : Turn). HasTurned pool old new s (Command.Recv c.args.fresh c.args.lane) Ready t)
+    (sym c.answer.ensures.ready)
+    (receive_turn pool c.args.fresh c.args.lane old start mid new c.requires.may refl got.ensures.same got.ensures.seat
+    got.number got.parcel got.ensures.got noted v c.in-Some.is c.requires.name c.add.new.self
     (record { counts = c.add.ensures.counts; places = c.add.ensures.places })
-    (subst (λ (names : List (Option ViewData)). HasReplied (record mid { counts = c.add.new.self; names = names }) new Reply.Ok) c.bind.ensures c.answer.ensures.replied) s state)
+    (subst (λ (names : List (Option ViewData)). HasReplied (record mid { counts = c.add.new.self; names = names }) new
+    Reply.Ok) c.bind.ensures c.answer.ensures.replied) s state)
 
 pub returns-in-None : goal.returns-in-None
 returns-in-None c = λ s state.
-    let pool = c.args.pool.now in let old = c.args.self.now in let start : Desk = record old { seat = c.fetch.new.seat } in let mid = c.note.new.self in let new = c.answer-in-None.new.self in let got = c.in-Got in
-    let noted = noted_there start mid c.args.lane c.lane_of.result (lane_of old.seat) got.number got.parcel c.at.result c.at.ensures c.lane_of.ensures.lane c.note.ensures in
-    subst (λ (t : Turn). HasTurned pool old new s (Command.Recv c.args.fresh c.args.lane) Ready t) (sym c.answer-in-None.ensures.ready)
-    (nothing_turn pool c.args.fresh c.args.lane old start mid new c.requires.may refl got.ensures.same got.ensures.seat got.number got.parcel got.ensures.got noted c.in-None.is c.answer-in-None.ensures.replied s state)
+    let pool = c.args.pool.now in let old = c.args.self.now in let start : Desk =
+    record old { seat = c.fetch.new.seat } in let mid =
+    c.note.new.self in let new = c.answer-in-None.new.self in let got = c.in-Got in
+    let noted = noted_there start mid c.args.lane c.lane_of.result (lane_of old.seat) got.number got.parcel c.at.result
+    c.at.ensures c.lane_of.ensures.lane c.note.ensures in
+    subst (λ (t : Turn). HasTurned pool old new s (Command.Recv c.args.fresh c.args.lane) Ready t)
+    (sym c.answer-in-None.ensures.ready)
+    (nothing_turn pool c.args.fresh c.args.lane old start mid new c.requires.may refl got.ensures.same got.ensures.seat
+    got.number got.parcel got.ensures.got noted c.in-None.is c.answer-in-None.ensures.replied s state)
 
 pub returns-in-Empty : goal.returns-in-Empty
 returns-in-Empty c = λ s state.
-    let pool = c.args.pool.now in let old = c.args.self.now in let start : Desk = record old { seat = c.fetch.new.seat } in let d = c.requires.may.desk in let empty = c.in-Empty.ensures in
-    waiting pool old start d refl (advances_none pool old.seat start.seat empty_hand d.seat d.held empty.same empty.seat empty.empty) c.requires.may.asked c.args.lane s (Command.Recv c.args.fresh c.args.lane) refl empty.drained
+    let pool = c.args.pool.now in let old = c.args.self.now in let start : Desk =
+    record old { seat = c.fetch.new.seat } in let d = c.requires.may.desk in let empty = c.in-Empty.ensures in
+    waiting pool old start d refl (advances_none pool old.seat start.seat empty_hand d.seat d.held empty.same empty.seat
+    empty.empty) c.requires.may.asked c.args.lane s (Command.Recv c.args.fresh c.args.lane) refl empty.drained
 
 pub returns-in-Held : goal.returns-in-Held
 returns-in-Held c = λ s state.
-    let pool = c.args.pool.now in let old = c.args.self.now in let held = c.in-Held in let start : Desk = record old { seat = c.fetch.new.seat } in let command = Command.Recv c.args.fresh c.args.lane in
+    let pool = c.args.pool.now in let old = c.args.self.now in let held = c.in-Held in let start : Desk =
+    record old { seat = c.fetch.new.seat } in let command = Command.Recv c.args.fresh c.args.lane in
     subst (λ (t : Turn). HasTurned pool old start s command Ready t) (sym c.waits.ensures)
-    (waits_turn pool old start c.requires.may.asked c.requires.may.desk refl held.ensures.same held.ensures.seat (Mail c.args.lane (lane_of old.seat)) held.held held.ensures.held s command)
+    (waits_turn pool old start c.requires.may.asked c.requires.may.desk refl held.ensures.same held.ensures.seat
+    (Mail c.args.lane (lane_of old.seat)) held.held held.ensures.held s command)

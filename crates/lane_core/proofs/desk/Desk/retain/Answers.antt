@@ -16,10 +16,13 @@ refuse-requires c = can_answer c.args.pool.now (left_for (Command.Retain c.args.
 
 pub returns-in-Err : goal.returns-in-Err
 returns-in-Err c = λ s state.
-    let pool = c.args.pool.now in let old = c.args.self.now in let new = c.refuse.new.self in let command = Command.Retain c.args.name in
+    let pool = c.args.pool.now in let old = c.args.self.now in let new = c.refuse.new.self in let command =
+    Command.Retain c.args.name in
     subst (λ (t : Turn). HasTurned pool old new s command Ready t) (sym c.refuse.ensures.ready)
-    (refused_turn pool (left_for command) old new c.requires c.in-Err.refusal c.refuse.ensures.replied s command state.names_are
-    (refuses s old.names old.counts state old.shape (lane_of old.seat) command (reply_for c.in-Err.refusal) (refused_count s old.names old.counts state c.args.name c.in-Err.refusal c.in-Err.ensures.refused)))
+    (refused_turn pool (left_for command) old new c.requires c.in-Err.refusal c.refuse.ensures.replied s command
+    state.names_are
+    (refuses s old.names old.counts state old.shape (lane_of old.seat) command (reply_for c.in-Err.refusal)
+    (refused_count s old.names old.counts state c.args.name c.in-Err.refusal c.in-Err.ensures.refused)))
 
 pub count_more-requires-clause-desk : goal.count_more-requires-clause-desk
 count_more-requires-clause-desk c = c.requires.desk
@@ -34,10 +37,13 @@ pub answer-requires : goal.answer-requires
 answer-requires c =
     let old = c.args.self.now in let mid = c.count_more.new.self in let did = c.count_more.ensures in
     let start : Desk = record old { seat = mid.seat; counts = mid.counts } in
-    can_answer_noted c.args.pool.now (left_for (Command.Retain c.args.name)) old c.requires (omega arith) start mid _ did.noted refl
+    can_answer_noted c.args.pool.now (left_for (Command.Retain c.args.name)) old c.requires (omega arith) start mid _
+    did.noted refl
 
 pub returns : goal.returns
 returns c = λ s state.
-    let pool = c.args.pool.now in let old = c.args.self.now in let mid = c.count_more.new.self in let new = c.answer.new.self in let ok = c.in-Ok.ensures.ok in
+    let pool = c.args.pool.now in let old = c.args.self.now in let mid = c.count_more.new.self in let new =
+    c.answer.new.self in let ok = c.in-Ok.ensures.ok in
     subst (λ (t : Turn). HasTurned pool old new s (Command.Retain c.args.name) Ready t) (sym c.answer.ensures.ready)
-    (retain_turn pool c.args.name old mid new c.requires c.in-Ok.view.now.at ok.0 ok.1 c.count_more.ensures c.answer.ensures.replied s state)
+    (retain_turn pool c.args.name old mid new c.requires c.in-Ok.view.now.at ok.0 ok.1 c.count_more.ensures
+    c.answer.ensures.replied s state)

@@ -5,4 +5,6 @@ use Rattle.byte_view.specs.declared.view.View.{View}
 use Rattle.lane_core.proofs.names.Names.unbind.Goals as goal
 
 pub returns : goal.returns
-returns c = map-set (option_map (λ (view : View). view.at)) c.self.inside.bound.items c.args.name None ∙ ap (λ names. slice_set names c.args.name (option_map (λ (view : View). view.at) None)) c.self.view_is
+returns c =
+    map-set (option_map (λ (view : View). view.at)) c.self.inside.bound.items c.args.name None
+    ∙ ap (λ names. slice_set names c.args.name (option_map (λ (view : View). view.at) None)) c.self.view_is
