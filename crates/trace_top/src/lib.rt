@@ -14,6 +14,8 @@ mod needs;
 mod output;
 mod play;
 mod playable;
+mod pools;
+mod reading;
 mod settings;
 mod sinks;
 mod sources;

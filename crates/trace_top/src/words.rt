@@ -1,17 +1,13 @@
 //! The words of the command line.
 ghost use Rattle.std.specs.Prelude.{◌≡◌, ◌≤◌, ◌<◌, true, length, map, string_bytes, IfSome, option_map};
-ghost use Rattle.pool_law.specs.Limits.{IsShape};
-ghost use Rattle.trace_top.specs.Settings.{row_of};
-ghost use Rattle.trace_top.specs.Words.{AreSound, AreWithin, IsInRange, IsOrigin, IsWithin, all_chunk_bytes, asked_by, first_given, given_alone, given_by, is_whole, level_given, number_given, options_of, or_default, shape_of};
+ghost use Rattle.trace_text.specs.Options.{AreOptions};
+ghost use Rattle.trace_top.specs.Pools.{AreSound};
+ghost use Rattle.trace_top.specs.Words.{AreWithin, IsInRange, IsOrigin, IsWithin, asked_by, first_given, given_alone, given_by, is_whole, level_given, number_given, options_of};
 
-use crate::settings::{Setting, level_named, named};
-use pool_law::{Level, Shape};
-
-// The most bytes that all chunks of all arenas may have together.
-const ALL_CHUNKS_MOST: u64 = 536_870_912;
-
-// The bytes of a page.
-const PAGE_BYTES: u64 = 8192;
+use crate::pools::{is_within_memory, or_default};
+use crate::settings::{Setting, named};
+use pool_law::{Level, Options};
+use trace_text::level_named;
 
 // The commands of a block of a generated trace, of which each lane has one at least.
 const BLOCK_LEN: u32 = 8;
@@ -36,21 +32,13 @@ pub struct Generation {
 
 /// What the words ask for.
 #[derive(Clone, Copy)]
-pub struct Options {
+pub struct RunOptions {
+    /// Where the trace comes from.
     pub origin: Origin,
-    /// A chunk has `2^order` pages.
-    pub order: u32,
-    pub arenas: u32,
-    /// The most chunks of an arena.
-    pub chunks: u32,
-    /// The buffers that a lane may hold at a time.
-    pub handles: u32,
+    /// What they ask of the pool.
+    pub pool: Options,
     /// The threads that step the lanes.
     pub workers: u32,
-    /// How leaks are sampled.
-    pub level: Level,
-    /// One root in so many is sampled.
-    pub interval: u32,
     /// Whether the text has the notes of all lanes.
     pub history: bool,
 }
@@ -84,7 +72,7 @@ pub struct Asked {
 
 impl Asked {
     ghost use Rattle.std.specs.Prelude.{◌≡◌, IfSome};
-    ghost use Rattle.trace_top.specs.Words.{AreWithin, IsInRange, IsWithin, asked_with, generated_from, is_for_generated, is_for_source, nothing, options_for, options_from, origin_for, with_number};
+    ghost use Rattle.trace_top.specs.Words.{AreWithin, IsInRange, IsWithin, asked_with, generated_from, is_for_generated, is_for_source, nothing, options_for, origin_for, pool_asked, with_number};
 
     // Nothing is asked for.
     fn nothing() -> Asked
@@ -175,31 +163,33 @@ impl Asked {
         }
     }
 
-    // The options that are asked for, the others at their defaults; None where two of them have no
-    // form together.
-    fn options(self) -> Option<Options>
+    // What is asked of the run; None where two options have no form together.
+    fn options(self) -> Option<RunOptions>
         requires { AreWithin self }
         ensures { result ≡ options_for self }
     {
         let origin = self.origin()?;
-        Some(self.options_from(origin))
+        Some(RunOptions {
+            origin,
+            pool: self.pool_asked(),
+            workers: or_default(Setting::Workers, narrowed(self.workers)),
+            history: self.history,
+        })
     }
 
-    // The options that are asked for, the others at their defaults, with this origin.
-    fn options_from(self, origin: Origin) -> Options
+    // What is asked of the pool; no word speaks of the page.
+    fn pool_asked(self) -> Options
         requires { AreWithin self }
-        ensures { result ≡ options_from self origin }
+        ensures { result ≡ pool_asked self }
     {
         Options {
-            origin,
-            order: or_default(Setting::Order, self.order),
-            arenas: or_default(Setting::Arenas, self.arenas),
-            chunks: or_default(Setting::Chunks, self.chunks),
-            handles: or_default(Setting::Handles, self.handles),
-            workers: or_default(Setting::Workers, self.workers),
-            level: self.level.unwrap_or(Level::Simple),
-            interval: or_default(Setting::Interval, self.interval),
-            history: self.history,
+            page: None,
+            order: narrowed(self.order),
+            arenas: narrowed(self.arenas),
+            chunks: narrowed(self.chunks),
+            handles: narrowed(self.handles),
+            level: self.level,
+            interval: narrowed(self.interval),
         }
     }
 
@@ -222,8 +212,8 @@ impl Asked {
     {
         let generation = Generation {
             start,
-            lanes: or_default(Setting::Lanes, self.lanes),
-            commands: or_default(Setting::Commands, self.commands),
+            lanes: or_default(Setting::Lanes, narrowed(self.lanes)),
+            commands: or_default(Setting::Commands, narrowed(self.commands)),
         };
         if self.is_for_generated() && BLOCK_LEN * generation.lanes <= generation.commands {
             Some(Origin::Generated(generation))
@@ -251,13 +241,12 @@ impl Asked {
     }
 }
 
-// The number that is asked for, or the option's default.
-fn or_default(setting: Setting, asked: Option<u64>) -> u32
-    requires small { (row_of setting).greatest ≤ 65536 }
-    requires range { IfSome asked (IsInRange setting) }
-    ensures { result ≡ or_default setting asked }
+// The number that is asked for, in fewer bits.
+fn narrowed(asked: Option<u64>) -> Option<u32>
+    requires { IfSome asked (λ n. n ≤ 65536) }
+    ensures { result ≡ asked }
 {
-    asked.unwrap_or(setting.row().default()) as u32
+    asked.map(|number| number as u32)
 }
 
 // The option of a name with the value of a text.
@@ -347,41 +336,16 @@ fn asked_by(words: &[String]) -> Option<Asked>
 
 /// The options that the words are; None exactly where the words have no form.
 #[tactic(auto, unfolding(crate::specs::Words::options_of))]
-pub fn read_words(words: &[String]) -> Option<Options>
+pub fn read_words(words: &[String]) -> Option<RunOptions>
     ensures value { result ≡ options_of (map string_bytes words.now) }
-    ensures sound { IfSome result AreSound }
+    ensures sound { IfSome result (λ options. AreSound options.pool) }
+    ensures within { IfSome result (λ options. AreOptions options.pool) }
     ensures origin { IfSome result (λ options. IsOrigin options.origin) }
 {
     let options = asked_by(words)?.options()?;
-    if all_chunk_bytes(&options) <= ALL_CHUNKS_MOST {
+    if is_within_memory(&options.pool) {
         Some(options)
     } else {
         None
-    }
-}
-
-// The bytes of all chunks of all arenas.
-fn all_chunk_bytes(options: &Options) -> u64
-    requires order { options.now.order ≤ 11 }
-    requires arenas { options.now.arenas ≤ 8 }
-    requires chunks { options.now.chunks ≤ 8 }
-    ensures { result ≡ all_chunk_bytes options.now }
-{
-    let chunk = PAGE_BYTES * (1u64 << options.order);
-    u64::from(options.arenas) * (u64::from(options.chunks) * chunk)
-}
-
-/// The shape of a run of so many lanes.
-pub fn shape(options: &Options, lanes: u32) -> Shape
-    ensures { result ≡ shape_of options.now lanes }
-{
-    Shape {
-        order: options.order,
-        arenas: options.arenas,
-        chunks: options.chunks,
-        handles: options.handles,
-        lanes,
-        level: options.level,
-        interval: options.interval,
     }
 }
