@@ -33,12 +33,13 @@ end roots 2 live 0 leaks 0
 // The words ask for eight pages of the trace's size.
 const WORDS_WIN: Row = (
     "--order 3",
-    r#"{"version":2,"options":{"page":4096,"order":9},"lanes":[[["alloc","a",24]]]}"#,
+    r#"{"version":2,"options":{"page":4096,"order":9},"lanes":[[["alloc","a",24],["release","a"]]]}"#,
     Status::Whole,
     "\
 0.0 alloc ok 32 0.0+0
+0.1 release freed
 chunk 0.0 qInit used 4096 free 28672
-end roots 1 live 1 leaks 0
+end roots 1 live 0 leaks 0
 ",
 );
 
