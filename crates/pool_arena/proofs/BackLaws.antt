@@ -1,9 +1,9 @@
 -- An element that comes back to its subpage.
-use Rattle.std.proofs.Common.{◌≡◌, ℕ, ◌*◌, ◌<◌, List, ◌∷◌, length, sym, ap, ◌∙◌, Bool, true, false, Some, arith}
+use Rattle.std.proofs.Common.{◌≡◌, ℕ, ◌+◌, ◌*◌, ◌<◌, List, ◌∷◌, length, sym, ap, ◌∙◌, Bool, true, false, Some, arith}
 use Rattle.std.specs.Prelude.{Option, map, slice_get, slice_set, slice_index_or, if◌then◌else◌}
 use Rattle.std.proofs.lemmas.List.{length-map}
 use Rattle.ground.specs.Ground.{Segment, Origin}
-use Rattle.size_classes.specs.Sizes.{is_small, chunk_pages}
+use Rattle.size_classes.specs.Sizes.{Geometry, page_of, is_small, chunk_pages, size_at}
 use Rattle.size_classes.specs.Pages.{Used, run_at}
 use Rattle.size_classes.specs.Elements.{Elements, is_full, with_back}
 use Rattle.size_classes.proofs.Runs.{Begins-run_at}
@@ -17,7 +17,7 @@ use Rattle.pool_arena.specs.Stocks.{StockState, arena_with, arena_in, Becomes, I
 use Rattle.pool_arena.specs.Held.{stock_in, IsStock}
 use Rattle.pool_arena.specs.declared.stock.Stock.TheInside.{Inside}
 use Rattle.pool_arena.proofs.ListLaws.{found-is}
-use Rattle.pool_arena.proofs.StockLaws.{place-chunk_at, place-origin}
+use Rattle.pool_arena.proofs.StockLaws.{sizes_of, place-chunk_at, place-geometry, place-origin}
 use Rattle.pool_arena.proofs.FrontsLaws.{front_of-is, spots-set}
 use Rattle.pool_arena.proofs.ElementLaws.{front-choice, elements-chunks, elements-grounds}
 use Rattle.pool_arena.proofs.GiveLaws.{begins-within}
@@ -45,16 +45,19 @@ pub same-origin : (a b : Origin) → ◌≡◌ {A = Option Origin} (Some a) (Som
 same-origin a b e = cc e
 
 -- the element, by the place
-abbrev pub out-element : (s : Inside) (class c page index : ℕ) (piece : Segment) (x : PlaceState) → IsElementOutOf (stock_in s) class c page index piece
+abbrev pub out-element : (s : Inside) → IsStock s → (class c page index : ℕ) (piece : Segment) (x : PlaceState)
+    → IsElementOutOf (stock_in s) class c page index piece
     → slice_get s.places.items c ≡ Some x → IsElementOut (state_of x) page index piece
-out-element s class c page index piece x o found =
+out-element s is class c page index piece x o found =
     record {
       subpage = out-sub s class c page index piece x o found;
       out = o.out;
       piece =
           record {
             origin = same-origin piece.origin x.origin (sym o.piece_is.origin ∙ place-origin s c x found);
-            start = o.piece_is.start;
+            start =
+                o.piece_is.start
+                ∙ ap (λ (g : Geometry). page_of g * page + index * size_at class) (sym (place-geometry s c x found is));
             size = o.piece_is.size;
           };
     }
@@ -89,14 +92,14 @@ other-back s class c page e other =
 
 module _ (s t : Inside) (is : IsStock s) (class c page index : ℕ) (piece : Segment) (x y : PlaceState) (o : IsElementOutOf (stock_in s) class c page index piece)
     (found : slice_get s.places.items c ≡ Some x) (changed : y ≡ with_chunk x (Some (with_elements page class (with_back o.elements index) (runs_of x))))
-    (items : t.places.items ≡ slice_set s.places.items c y) (lists : t.lists ≡ s.lists) (classes : t.classes ≡ s.classes)
+    (items : t.places.items ≡ slice_set s.places.items c y) (lists : t.lists ≡ s.lists) (sizes : sizes_of t ≡ sizes_of s)
     (fronts : (stock_in t).fronts ≡ fronts_back (stock_in s) class c page o.elements) where
   pub back-law : Becomes (stock_in s) (element_back class c page index o.elements) (stock_in t)
   back-law =
       let e = o.elements in
       let sub = out-sub s class c page index piece x o found in
       let chunks : (stock_in t).chunks ≡ slice_set (stock_in s).chunks c (Some (with_elements page class (with_back e index) (chunk_at (arena_in (stock_in s)) c))) =
-      elements-chunks s t is c x y page found sub (with_back e index) changed items lists classes in
+      elements-chunks s t is c x y page found sub (with_back e index) changed items lists sizes in
       record {
         law = λ takings out.
             let a : Arena = arena_with (stock_in s) takings out in
@@ -110,6 +113,6 @@ module _ (s t : Inside) (is : IsStock s) (class c page index : ℕ) (piece : Seg
               takings = takings;
               out = out;
             });
-        geometry = classes;
-        grounds = elements-grounds s t is c x y page found sub (with_back e index) changed items lists classes;
+        geometry = ap (λ (x : Geometry × ℕ). x.0) sizes;
+        grounds = elements-grounds s t is c x y page found sub (with_back e index) changed items lists sizes;
       }

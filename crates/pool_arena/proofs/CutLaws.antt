@@ -1,7 +1,7 @@
 -- What is cut off a chunk, in the words of what the arena has.
-use Rattle.std.proofs.Common.{◌≡◌, ℕ, ◌≤◌, sym, ap, ◌∙◌, subst, Some, arith}
+use Rattle.std.proofs.Common.{◌≡◌, ℕ, ◌*◌, ◌≤◌, sym, ap, ◌∙◌, subst, Some, arith}
 use Rattle.std.specs.Prelude.{slice_get}
-use Rattle.size_classes.specs.Sizes.{Geometry}
+use Rattle.size_classes.specs.Sizes.{Geometry, page_of}
 use Rattle.size_classes.specs.Pages.{free_runs, free_pages, chosen, taken_at, NoneEmpty}
 use Rattle.pool_law.specs.Chunks.{Chunk, usage}
 use Rattle.pool_law.specs.ChunkLists.{least}
@@ -18,13 +18,19 @@ use Rattle.pool_arena.proofs.StockLaws.{place-chunk_at, place-geometry, place-or
 use Rattle.pool_arena.proofs.SettleLaws.{Settles, settle-up}
 
 -- the bytes that are cut off a place are those of its chunk
-pub cut-given : (s : Inside) (c : ℕ) (x : PlaceState) → slice_get s.places.items c ≡ Some x → (wanted : Wanted) (page : ℕ) (cut : Cut)
+pub cut-given : (s : Inside) → IsStock s → (c : ℕ) (x : PlaceState) → slice_get s.places.items c ≡ Some x
+    → (wanted : Wanted) (page : ℕ) (cut : Cut)
     → IsCutAt (state_of x) wanted page cut → IsCutIn (stock_in s) c wanted page cut
-cut-given s c x found (Wanted.Run pages) page (Cut.Run piece) at =
-    record { origin = place-origin s c x found ∙ ap Some (sym at.origin); start = at.start; size = at.size }
-cut-given s c x found (Wanted.Run pages) page (Cut.Subpage first) at = at
-cut-given s c x found (Wanted.Subpage class) page (Cut.Run piece) at = at
-cut-given s c x found (Wanted.Subpage class) page (Cut.Subpage first) at = at
+cut-given s is c x found (Wanted.Run pages) page (Cut.Run piece) at =
+    let geometry = place-geometry s c x found is in
+    record {
+      origin = place-origin s c x found ∙ ap Some (sym at.origin);
+      start = at.start ∙ ap (λ (g : Geometry). page_of g * page) geometry;
+      size = at.size ∙ ap (λ (g : Geometry). page_of g * pages) geometry;
+    }
+cut-given s is c x found (Wanted.Run pages) page (Cut.Subpage first) at = at
+cut-given s is c x found (Wanted.Subpage class) page (Cut.Run piece) at = at
+cut-given s is c x found (Wanted.Subpage class) page (Cut.Subpage first) at = at
 
 module _ (s t : Inside) (is : IsStock s) (c : ℕ) (x y q : PlaceState) (wanted : Wanted) (cut : Cut) (cuts : Cuts x wanted y cut)
     (d : Settles s t c x q (runs_of y)) (fronts : t.fronts.items ≡ s.fronts.items) (some : NoneEmpty (chunk_at (arena_in (stock_in s)) c)) where
@@ -60,5 +66,5 @@ module _ (s t : Inside) (is : IsStock s) (c : ℕ) (x y q : PlaceState) (wanted 
         run = found;
         becomes =
             settle-up s t c x q (runs_of y) d is fronts risen cuts.page (pages_wanted s.classes wanted) (use_wanted s.classes wanted) runs-are;
-        given = cut-given s c x d.written.found wanted cuts.page cut cuts.given;
+        given = cut-given s is c x d.written.found wanted cuts.page cut cuts.given;
       }

@@ -22,7 +22,7 @@ use Rattle.pool_arena.specs.Held.{stock_in, HasRoomAt, IsStock}
 use Rattle.pool_arena.specs.declared.stock.Stock.TheInside.{Inside}
 use Rattle.pool_arena.proofs.FrontsLaws.{front_of-is, spots-set}
 use Rattle.pool_arena.proofs.UsageLaws.{usage-same, elements-free}
-use Rattle.pool_arena.proofs.StockLaws.{sizes_of, Written, place-chunk_at, place-origin, written-grounds, written-chunks, written-held, written-settled}
+use Rattle.pool_arena.proofs.StockLaws.{sizes_of, Written, place-chunk_at, place-geometry, place-origin, written-grounds, written-chunks, written-held, written-settled}
 
 -- ---- runs
 
@@ -168,6 +168,8 @@ module _ (s t : Inside) (is : IsStock s) (class c page : ℕ) (x y : PlaceState)
       let e = o.elements in
       let k = given.element in
       let sub = open-sub s class c page x found o in
+      let start : piece.start ≡ page_of s.classes * page + k * size_at class =
+      given.piece.start ∙ ap (λ (g : Geometry). page_of g * page + k * size_at class) (place-geometry s c x found is) in
       let chunks : (stock_in t).chunks ≡ slice_set (stock_in s).chunks c (Some (with_elements page class (with_out e k) (chunk_at (arena_in (stock_in s)) c))) =
       elements-chunks s t is c x y page found sub (with_out e k) given.rest items lists sizes in
       record {
@@ -183,7 +185,7 @@ module _ (s t : Inside) (is : IsStock s) (class c page : ℕ) (x y : PlaceState)
                   (slice_set a.fronts class (without_spot c page (front_of a class))))
                   ∙ (λ i. Some (
                     c,
-                    sym given.piece.start i,
+                    sym start i,
                     record {
                       chunks = sym chunks i;
                       lists = ap (λ (l : Listing). l.lists) (sym lists) i;

@@ -1,5 +1,5 @@
 -- A run that comes back, and its chunk, which settles.
-use Rattle.std.proofs.Common.{◌≡◌, ℕ, ◌*◌, ◌/◌, ◌<◌, ◌≤◌, List, length, refl, sym, ap, ◌∙◌, subst, Bool, true, false, Some, arith, inl, inr}
+use Rattle.std.proofs.Common.{◌≡◌, ℕ, ◌*◌, ◌/◌, ◌<◌, ◌≤◌, List, length, sym, ap, ap₂, ◌∙◌, subst, Bool, true, false, Some, arith, inl, inr}
 use Rattle.std.specs.Prelude.{Option, map, slice_get, if◌then◌else◌}
 use Rattle.std.proofs.lemmas.List.{length-map}
 use Rattle.ground.specs.Ground.{Segment}
@@ -24,7 +24,7 @@ use Rattle.pool_arena.specs.Held.{stock_in, IsStock}
 use Rattle.pool_arena.specs.declared.stock.Stock.TheInside.{Inside}
 use Rattle.pool_arena.proofs.UsageLaws.{usage-rises, given-free}
 use Rattle.pool_arena.proofs.WalkLaws.{there}
-use Rattle.pool_arena.proofs.StockLaws.{place-chunk_at, place-origin}
+use Rattle.pool_arena.proofs.StockLaws.{place-chunk_at, place-geometry, place-origin}
 use Rattle.pool_arena.proofs.SettleLaws.{Settles, settle-down}
 
 -- ---- the chunk settles
@@ -78,14 +78,10 @@ small-out v class chunk piece out small = by out.slot
 
 -- ---- a whole run
 
--- the page and the pages of a piece that is a whole run
+-- the page of a piece that is a whole run
 pub whole-page_is : (v : StockState) → 0 < page_of v.geometry → (class chunk : ℕ) (piece : Segment) → (out : IsPlaceOut v class chunk piece) → (run : IsWholeRun v.geometry (chunk_at (arena_in v) chunk) out.id)
     → piece.start / page_of v.geometry ≡ run.page
 whole-page_is v some class chunk piece out run = ap (λ (n : ℕ). n / page_of v.geometry) (sym out.offset ∙ run.starts) ∙ mul-div_cancel_left run.page some
-
-pub whole-pages_are : (v : StockState) → 0 < page_of v.geometry → (class chunk : ℕ) (piece : Segment) → (out : IsPlaceOut v class chunk piece) → (run : IsWholeRun v.geometry (chunk_at (arena_in v) chunk) out.id)
-    → length piece.bytes / page_of v.geometry ≡ run.pages
-whole-pages_are v some class chunk piece out run = ap (λ (n : ℕ). n / page_of v.geometry) (out.piece_is.size ∙ run.ends) ∙ mul-div_cancel_left run.pages some
 
 module _ (s : Inside) (class c : ℕ) (piece : Segment) (out : IsPlaceOut (stock_in s) class c piece) (run : IsWholeRun s.classes (chunk_at (arena_in (stock_in s)) c) out.id)
     (x : PlaceState) (found : slice_get s.places.items c ≡ Some x) where
@@ -93,22 +89,23 @@ module _ (s : Inside) (class c : ℕ) (piece : Segment) (out : IsPlaceOut (stock
   whole-begins = subst (λ (rs : Chunk). Begins run.page (Used run.pages Whole) rs) (place-chunk_at s c x found) run.begins
 
   -- the run is out as the piece
-  pub whole-run_out : NoneEmpty (runs_of x) → (page pages : ℕ) → page ≡ run.page → pages ≡ run.pages
-      → (o : IsRunOut (state_of x) page piece) × (o.pages ≡ pages)
-  whole-run_out some page pages page_is pages_are =
+  pub whole-run_out : IsStock s → NoneEmpty (runs_of x) → (page : ℕ) → page ≡ run.page
+      → IsRunOut (state_of x) page piece
+  whole-run_out is some page page_is =
       let origin : ◌≡◌ {A = Option _} (Some piece.origin) (Some x.origin) = sym out.piece_is.origin ∙ place-origin s c x found in
-      let at : piece.start ≡ page_of s.classes * page = sym out.offset ∙ run.starts ∙ ap (λ (k : ℕ). page_of s.classes * k) (sym page_is) in
-      let size : length piece.bytes ≡ page_of s.classes * pages = out.piece_is.size ∙ run.ends ∙ ap (λ (k : ℕ). page_of s.classes * k) (sym pages_are) in (
-        record {
-          pages = pages;
-          run =
-              ap (λ (k : ℕ). run_at k (runs_of x)) page_is
-              ∙ run_at-Begins (runs_of x) run.page (Used run.pages Whole) some whole-begins
-              ∙ ap (λ (k : ℕ). Some (Used k Whole)) (sym pages_are);
-          piece = record { origin = cc origin; start = at; size = size };
-        },
-        refl,
-      )
+      let sizes : s.classes ≡ x.geometry = sym (place-geometry s c x found is) in
+      record {
+        pages = run.pages;
+        run =
+            ap (λ (k : ℕ). run_at k (runs_of x)) page_is
+            ∙ run_at-Begins (runs_of x) run.page (Used run.pages Whole) some whole-begins;
+        piece =
+            record {
+              origin = cc origin;
+              start = sym out.offset ∙ run.starts ∙ ap₂ (λ (g : Geometry) (k : ℕ). page_of g * k) sizes (sym page_is);
+              size = out.piece_is.size ∙ run.ends ∙ ap (λ (g : Geometry). page_of g * run.pages) sizes;
+            };
+      }
 
 -- what a normal class gives back
 pub by-run : (g : Geometry) (class c page offset : ℕ) (a : Arena) → is_small g class ≡ false → offset / page_of g ≡ page → given_place g a class c offset ≡ run_given g a c page

@@ -1,9 +1,9 @@
 -- What is wanted, from the first chunk that has it or from a new one.
-use Rattle.std.proofs.Common.{◌≡◌, ℕ, ◌≤◌, List, [], ◌∷◌, refl, sym, ap, ◌∙◌, subst, true, Some, None, arith, eq-eqb}
+use Rattle.std.proofs.Common.{◌≡◌, ℕ, ◌*◌, ◌≤◌, List, [], ◌∷◌, refl, sym, ap, ◌∙◌, subst, true, Some, None, arith, eq-eqb}
 use Rattle.std.specs.Prelude.{Option, option_map, slice_get, unwrap_or, nat_le, ◌==◌}
 use Rattle.std.proofs.Math.Nat.{pow-le-pow_right}
 use Rattle.std.proofs.lemmas.Bool.Decides.{nat_tests}
-use Rattle.size_classes.specs.Sizes.{Geometry, IsPage, chunk_pages, page_class_under}
+use Rattle.size_classes.specs.Sizes.{Geometry, IsPage, page_of, chunk_pages, page_class_under}
 use Rattle.size_classes.specs.Pages.{Span, free_runs, chosen, NoneEmpty}
 use Rattle.size_classes.proofs.Subpages.{subpage_pages_within}
 use Rattle.pool_law.specs.declared.id.RegionId.{RegionId}
@@ -95,12 +95,17 @@ module _ (old mid : StockState) (o : IsOrderly old.geometry (arena_in old)) (wan
   pub mid-has : found_in mid c wanted ≡ None → ⊥
   mid-has none = absurd (cc (sym mid-found ∙ none))
 
-  cut-same : (s t : StockState) (chunk : ℕ) (w : Wanted) (page : ℕ) (cut : Cut) → t.grounds ≡ s.grounds → IsCutIn t chunk w page cut → IsCutIn s chunk w page cut
-  cut-same s t chunk (Wanted.Run pages) page (Cut.Run piece) same at =
-      record { origin = ap (λ os. slice_get os chunk) (sym same) ∙ at.origin; start = at.start; size = at.size }
-  cut-same s t chunk (Wanted.Run pages) page (Cut.Subpage first) same at = at
-  cut-same s t chunk (Wanted.Subpage class) page (Cut.Run piece) same at = at
-  cut-same s t chunk (Wanted.Subpage class) page (Cut.Subpage first) same at = at
+  cut-same : (s t : StockState) (chunk : ℕ) (w : Wanted) (page : ℕ) (cut : Cut) → t.grounds ≡ s.grounds
+      → t.geometry ≡ s.geometry → IsCutIn t chunk w page cut → IsCutIn s chunk w page cut
+  cut-same s t chunk (Wanted.Run pages) page (Cut.Run piece) grounds geometry at =
+      record {
+        origin = ap (λ os. slice_get os chunk) (sym grounds) ∙ at.origin;
+        start = at.start ∙ ap (λ (g : Geometry). page_of g * page) geometry;
+        size = at.size ∙ ap (λ (g : Geometry). page_of g * pages) geometry;
+      }
+  cut-same s t chunk (Wanted.Run pages) page (Cut.Subpage first) grounds geometry at = at
+  cut-same s t chunk (Wanted.Subpage class) page (Cut.Run piece) grounds geometry at = at
+  cut-same s t chunk (Wanted.Subpage class) page (Cut.Subpage first) grounds geometry at = at
 
   -- and gives it
   pub cuts-new : (new : StockState) (cut : Cut) → FindsNone old wanted → CutsFrom mid c wanted new cut → CutsOff old wanted new c cut
@@ -119,7 +124,7 @@ module _ (old mid : StockState) (o : IsOrderly old.geometry (arena_in old)) (wan
               grounds = cuts.becomes.grounds ∙ becomes.grounds;
             };
         fronts = ap (λ (a : Arena). a.fronts) (sym (law 0 [])) ∙ ap (λ (a : Arena). a.fronts) (sym (becomes.law 0 []));
-        given = cut-same old mid c wanted cuts.page cut becomes.grounds cuts.given;
+        given = cut-same old mid c wanted cuts.page cut becomes.grounds becomes.geometry cuts.given;
       }
     where
       g : Geometry

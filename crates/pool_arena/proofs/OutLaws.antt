@@ -36,17 +36,19 @@ has-out g number a out geometry number_is holds covered =
 
 -- ---- what is out after each call
 
-pub new-out : (number order page chunks : ℕ) (a : ArenaState) → IsPage page → IsNew number order page chunks a → HasOut a []
-new-out number order page chunks a is_page is =
+pub new-out : (number page order chunks : ℕ) (a : ArenaState) → IsPage page → IsNew number page order chunks a
+    → HasOut a []
+new-out number page order chunks a is_page is =
     has-out (of_pages order page) number a [] is.geometry is.number_is
     (subst (λ (x : Arena). ArenaHolds (of_pages order page) number x) (sym is.law) (new-holds (of_pages order page) number is_page chunks))
     (subst (λ (x : Arena). IsCovered (of_pages order page) x) (sym is.law) (new-covered (of_pages order page) chunks))
 
-pub new-places : (number order page chunks : ℕ) (a : ArenaState) → IsNew number order page chunks a → length a.chunks ≡ chunks
-new-places number order page chunks a is = ap (λ (x : Arena). length x.chunks) is.law ∙ length-replicate chunks None
+pub new-places : (number page order chunks : ℕ) (a : ArenaState) → IsNew number page order chunks a
+    → length a.chunks ≡ chunks
+new-places number page order chunks a is = ap (λ (x : Arena). length x.chunks) is.law ∙ length-replicate chunks None
 
-pub new-takings : (number order page chunks : ℕ) (a : ArenaState) → IsNew number order page chunks a → a.takings ≡ 0
-new-takings number order page chunks a is = ap (λ (x : Arena). x.takings) is.law
+pub new-takings : (number page order chunks : ℕ) (a : ArenaState) → IsNew number page order chunks a → a.takings ≡ 0
+new-takings number page order chunks a is = ap (λ (x : Arena). x.takings) is.law
 
 module _ (old new : ArenaState) (class owner : ℕ) (r : RegionId) (out : List RegionId) (has : HasOut old out) (takes : Takes old class owner new r) where
   pub take-out : HasOut new (out ++ r ∷ [])

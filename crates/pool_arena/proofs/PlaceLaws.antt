@@ -1,13 +1,23 @@
 -- A chunk place, by its fields.
-use Rattle.std.proofs.Common.{◌≡◌, ℕ, ◌*◌, ◌-◌, ◌/◌, ◌≤◌, ◌^◌, [], refl, sym, ap, ◌∙◌, subst, Bool, true, false, Some, arith, ap₂, ne_eqb}
-use Rattle.std.specs.Prelude.{IsSome, unwrap_or, ◌==◌, if◌then◌else◌}
-use Rattle.std.proofs.Math.Nat.{pow-le-pow_right}
-use Rattle.size_classes.specs.Sizes.{Geometry, chunk_bytes}
+use Rattle.std.proofs.Common.{◌≡◌, ℕ, ◌*◌, ◌-◌, ◌/◌, ◌^◌, [], refl, sym, ap, ◌∙◌, subst, Bool, true, false, Some, ap₂, ne_eqb}
+use Rattle.std.specs.Prelude.{IsSome, length, replicate, unwrap_or, ◌==◌, if◌then◌else◌}
+use Rattle.std.proofs.Math.Nat.{mul-div_cancel}
+use Rattle.std.proofs.lemmas.List.{length-replicate}
+use lib.Pow.{pow_pos}
+use Rattle.ground.specs.Ground.{Segment}
+use Rattle.size_classes.specs.Sizes.{Geometry, of_pages, chunk_bytes}
 use Rattle.size_classes.specs.Pages.{Run, run_at}
 use Rattle.pool_law.specs.Chunks.{Chunk, Use, free_bytes, usage}
-use Rattle.pool_chunk.specs.ChunkStates.{ChunkState, with_runs}
+use Rattle.pool_chunk.specs.ChunkStates.{ChunkState, with_runs, geometry_on}
 use Rattle.pool_arena.specs.Places.{PlaceState, with_chunk, runs_of, state_of, if_used, place_in, IsPlace}
 use Rattle.pool_arena.specs.declared.place.ChunkPlace.TheInside.{Inside}
+
+-- a ground of the bytes of so many pages has the sizes that they make
+pub ground-geometry : (order page n : ℕ) (s : Segment) → s.bytes ≡ replicate n 0 → n ≡ page * 2 ^ order
+    → geometry_on order s ≡ of_pages order page
+ground-geometry order page n s bytes size =
+    ap (λ (k : ℕ). of_pages order (k / 2 ^ order)) (ap length bytes ∙ length-replicate n 0 ∙ size)
+    ∙ ap (of_pages order) (mul-div_cancel page (pow_pos order))
 
 -- where there is a chunk the place is in use
 some-used : (used : Bool) (runs : Chunk) → IsSome (if_used used runs) → used ≡ true

@@ -79,8 +79,9 @@ gives-stands old new r gives grounds h n is stands is_out =
     (ap (λ (b : Bool). if b then Some (give old.geometry (law_of old stands.out) r) else None) is_out ∙ ap Some (gives.step stands.out))
 
 -- a new arena stands for no notes
-pub stands_new : (grounds : Grounds) (number order chunks : ℕ) (a : ArenaState) → IsNew number order chunks a → AreGroundsOf grounds a → StandsFor grounds [] a
-stands_new grounds number order chunks a is on =
+pub stands_new : (grounds : Grounds) (number page order chunks : ℕ) (a : ArenaState) → IsNew number page order chunks a
+    → AreGroundsOf grounds a → StandsFor grounds [] a
+stands_new grounds number page order chunks a is on =
     let places : length a.chunks ≡ chunks = ap (λ (x : Arena). length x.chunks) is.law ∙ length-replicate chunks None in
     record {
       out = [];

@@ -48,11 +48,11 @@ place-of s c runs there =
 
 -- ---- one place is written
 
--- the second has another place at one chunk, on the same ground
 -- the sizes that it holds
 abbrev pub sizes_of : Inside → Geometry × ℕ
 sizes_of s = (s.classes, s.page)
 
+-- the second has another place at one chunk, on the same ground
 pub record Written (s t : Inside) (c : ℕ) (x q : PlaceState) : Type 0 where
   pub found : slice_get s.places.items c ≡ Some x
   pub items : t.places.items ≡ slice_set s.places.items c q

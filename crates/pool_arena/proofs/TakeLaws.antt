@@ -1,7 +1,7 @@
 -- A run that is taken as a whole.
-use Rattle.std.proofs.Common.{◌≡◌, ℕ, ◌*◌, ◌<◌, refl, sym, ap, ◌∙◌, Bool, false, Some, arith}
+use Rattle.std.proofs.Common.{◌≡◌, ℕ, ◌*◌, refl, sym, ap, ◌∙◌, Bool, false, Some, arith}
 use Rattle.std.specs.Prelude.{option_map, if◌then◌else◌}
-use Rattle.size_classes.specs.Sizes.{Geometry, IsGeometry, IsPageClass, page_of, class_count, is_small, pages_of, size_at}
+use Rattle.size_classes.specs.Sizes.{Geometry, IsGeometry, IsPageClass, page_of, is_small, pages_of, size_at}
 use Rattle.size_classes.proofs.PageClasses.{page_class-within}
 use Rattle.ground.specs.Ground.{Segment}
 use Rattle.pool_law.specs.Chunks.{Whole}

@@ -1,5 +1,5 @@
 -- A trial is one after each taking, and after its oldest region came back.
-use Rattle.std.proofs.Common.{◌≡◌, ℕ, ◌<◌, List, [], ◌∷◌, ◌++◌, refl, sym, ap, ◌∙◌, subst, Bool, true, false, Some, inl, lit<}
+use Rattle.std.proofs.Common.{◌≡◌, ℕ, ◌<◌, List, [], ◌∷◌, ◌++◌, refl, sym, ap, ◌∙◌, subst, Bool, true, false, Some, inl, inr, lit<}
 use Rattle.std.specs.Prelude.{map, slice_get, if◌then◌else◌, not}
 use Rattle.std.proofs.lemmas.List.{map-append}
 use Rattle.ground.specs.Ground.{Origin, Segment}
@@ -17,9 +17,15 @@ use Rattle.pool_arena.proofs.OutLaws.{new-out, new-places, take-out, out-of, giv
 abbrev id_of : Region → RegionId
 id_of r = r.id
 
-pub new-trial : (a : ArenaState) → IsNew 0 9 1 a → IsTrial a []
+pub new-trial : (a : ArenaState) → IsNew 0 8192 9 1 a → IsTrial a []
 new-trial a is =
-    record { number = is.number_is; geometry = is.geometry; places = new-places 0 9 1 a is; out = new-out 0 9 1 a is; placed = tt }
+    record {
+      number = is.number_is;
+      geometry = is.geometry;
+      places = new-places 0 8192 9 1 a is;
+      out = new-out 0 8192 9 1 a (inr (inl refl)) is;
+      placed = tt;
+    }
 
 -- what is in place stays there
 in-place : (old new : ArenaState) (r : RegionId) (piece : Segment) → IsSameArena old new → IsInPlaceUnder old r piece → IsInPlaceUnder new r piece

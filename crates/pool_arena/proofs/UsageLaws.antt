@@ -134,11 +134,24 @@ all-free (Free n ∷ Free m ∷ rs) ne apart all some = absurd (cc apart.0)
 all-free (Free n ∷ Used m w ∷ rs) ne apart all some = absurd (omega (arith, ne.1.0, all, free-all rs))
 all-free (Used n w ∷ rs) ne apart all some = absurd (omega (arith, ne.0, all, free-all rs))
 
--- a chunk that is used for nothing is one free run
+-- a chunk that is used for nothing has bytes
+used-some : (g : Geometry) (rs : Chunk) → usage g rs < 1 → 0 < page_of g
+used-some g rs none = by (page_of g) refl
+  where
+    by : (page : ℕ) → page_of g ≡ page → 0 < page_of g
+    by zero is =
+        let free : free_bytes g rs ≡ 0 = ap (λ (page : ℕ). page * free_pages rs) is ∙ omega arith in
+        let all : usage g rs ≡ 100 = ap (λ (n : ℕ). usage_of n (chunk_bytes g)) free in
+        absurd (omega (arith, none, all))
+    by (suc page) is = omega (arith, is)
+
+-- it is one free run
 pub unused-free : (g : Geometry) (rs : Chunk) → IsChunk g rs → usage g rs < 1 → rs ≡ new_chunk g
 unused-free g rs is none =
-    let size : chunk_bytes g ≤ free_bytes g rs = usage-nothing (free_bytes g rs) (chunk_bytes g) (size-some g is.sizes.page) none in
-    let pages : chunk_pages g ≤ free_pages rs = le_of_mul-le-mul_left size (page-some g is.sizes.page) in
+    let some = used-some g rs none in
+    let size : chunk_bytes g ≤ free_bytes g rs =
+    usage-nothing (free_bytes g rs) (chunk_bytes g) (mul-pos some (pow_pos g.order)) none in
+    let pages : chunk_pages g ≤ free_pages rs = le_of_mul-le-mul_left size some in
     all-free rs is.none_empty is.none_side_by_side (omega (arith, pages, is.covers)) (omega (arith, is.covers, pow_pos g.order))
     ∙ ap (λ (k : ℕ). Free k ∷ []) is.covers
 

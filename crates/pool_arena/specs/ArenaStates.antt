@@ -35,7 +35,7 @@ law_of a out =
     }
 
 -- an arena at first: so many chunk places, each with a ground
-pub record IsNew (number order page chunks : ℕ) (a : ArenaState) : Type 0 where
+pub record IsNew (number page order chunks : ℕ) (a : ArenaState) : Type 0 where
   pub number_is : a.number ≡ number
   pub geometry : a.geometry ≡ of_pages order page
   pub grounds : length a.grounds ≡ chunks

@@ -41,16 +41,16 @@ impl Arena {
     pub fn new(
         alloc: Global,
         number: u32,
-        order: u32,
         page: u32,
+        order: u32,
         chunks: u32,
     ) -> Result<Arena, AllocError>
         requires number { number < 8 }
         requires sizes { IsGeometry (of_pages order page) }
         requires chunks { (1 ≤ chunks) × (chunks ≤ 8) }
-        ensures { IfOk result (λ arena. IsNew number order page chunks arena) }
+        ensures { IfOk result (λ arena. IsNew number page order chunks arena) }
     {
-        let stock = Stock::new(alloc, order, page, chunks)?;
+        let stock = Stock::new(alloc, page, order, chunks)?;
         Ok(Arena {
             number,
             stock,

@@ -10,7 +10,7 @@ ghost use Rattle.pool_chunk.specs.Outcomes.{element_back};
 ghost use Rattle.pool_arena.specs.Closing.{IsAllFree};
 
 use ground::{Deed, Ground, Piece};
-use pool_chunk::{Chunk, Freed, place_pack};
+use pool_chunk::{Chunk, Freed};
 use std::alloc::{AllocError, Global};
 use std::marker::Model;
 
@@ -52,7 +52,7 @@ impl ChunkPlace {
     ghost use Rattle.pool_arena.specs.Places.{with_chunk, runs_of, state_of, Cuts, HasNone, HandsOut, IsWanted};
 
     /// An unused place, with the memory of a chunk of `2^order` pages of so many bytes.
-    pub(crate) fn new(alloc: Global, order: u32, page: u32) -> Result<ChunkPlace, AllocError>
+    pub(crate) fn new(alloc: Global, page: u32, order: u32) -> Result<ChunkPlace, AllocError>
         requires { IsGeometry (of_pages order page) }
         ensures geometry { IfOk result (λ place. place.geometry ≡ of_pages order page) }
         ensures unused { IfOk result (λ place. place.chunk ≡ None) }
@@ -180,29 +180,25 @@ impl ChunkPlace {
         self.chunk.start_of(page)
     }
 
-    /// A run comes back, that begins at a page and has so many.
-    pub(crate) fn give_run(&mut self, piece: Piece, page: u32, pages: u32)
-        requires { (out : IsRunOut (state_of self.old) page piece) × (out.pages ≡ pages) }
+    /// A run comes back, that begins at a page.
+    pub(crate) fn give_run(&mut self, piece: Piece, page: u32)
+        requires { IsRunOut (state_of self.old) page piece }
         ensures { self.new ≡ with_chunk self.old (Some (given_at page (runs_of self.old))) }
     {
-        let word = place_pack(page, pages, true, false, 0);
-        let _run = self.chunk.give(piece, word);
+        self.chunk.give_run(piece, page);
     }
 
-    /// An element comes back, of the subpage of so many pages that begins at a page.
+    /// An element comes back, of the subpage that begins at a page.
     /// Answers whether none is out any more.
-    pub(crate) fn give_element(&mut self, piece: Piece, page: u32, pages: u32, index: u32) -> bool
-        requires out { (out : IsElementOut (state_of self.old) page index piece)
-            × (out.subpage.pages ≡ pages) }
-        requires word { (page < 2 ^ 15) × (pages < 2 ^ 15) }
+    pub(crate) fn give_element(&mut self, piece: Piece, page: u32, index: u32) -> bool
+        requires { IsElementOut (state_of self.old) page index piece }
         ensures idle { (out : IsElementOut (state_of self.old) page index piece)
             → result ≡ is_idle (with_back out.subpage.elements index) }
         ensures chunk { (out : IsElementOut (state_of self.old) page index piece)
             → self.new ≡ with_chunk self.old
             (Some (element_back (state_of self.old) page out.subpage index).runs) }
     {
-        let word = place_pack(page, pages, true, true, index);
-        match self.chunk.give(piece, word) {
+        match self.chunk.give_element(piece, page, index) {
             Freed::Idle => true,
             Freed::Element => false,
             Freed::Run => false,

@@ -54,21 +54,22 @@ impl Stock {
     /// Chunk places with chunks of `2^order` pages of so many bytes, none of them in use.
     pub(crate) fn new(
         alloc: Global,
-        order: u32,
         page: u32,
+        order: u32,
         chunks: u32,
     ) -> Result<Stock, AllocError>
         requires sizes { IsGeometry (of_pages order page) }
         requires chunks { (1 ≤ chunks) × (chunks ≤ 8) }
         ensures geometry { IfOk result (λ stock. stock.geometry ≡ of_pages order page) }
         ensures grounds { IfOk result (λ stock. length stock.grounds ≡ chunks) }
-        ensures new { IfOk result (λ stock. arena_in stock ≡ new_arena (of_pages order page) chunks) }
+        ensures new { IfOk result (λ stock.
+            arena_in stock ≡ new_arena (of_pages order page) chunks) }
     {
         let classes = SizeClasses::new(alloc, order, page)?;
         let lists = ChunkLists::new(alloc, chunks)?;
         let room = chunks as usize * 2usize.pow(order);
         let fronts = new_fronts(alloc, &classes, room)?;
-        let places = new_places(alloc, order, page, chunks)?;
+        let places = new_places(alloc, page, order, chunks)?;
         Ok(Stock {
             classes,
             page,
@@ -287,9 +288,8 @@ impl Stock {
             (λ a. given_place self.old.geometry a class chunk piece.start) self.new }
     {
         let page = piece.start() as u32 / self.page;
-        let pages = piece.len() as u32 / self.page;
         let place = &mut self.places[chunk as usize];
-        place.give_run(piece, page, pages);
+        place.give_run(piece, page);
         settle(place, &mut self.lists, chunk);
     }
 
@@ -322,7 +322,6 @@ impl Stock {
         requires class { (class < class_count self.old.geometry)
             × (is_small self.old.geometry class ≡ true) }
         requires out { IsElementOutOf self.old class spot.chunk spot.page index piece }
-        requires word { spot.page < 2 ^ 15 }
         requires some { NoneEmpty (chunk_at (arena_in self.old) spot.chunk) }
         ensures idle { (out : IsElementOutOf self.old class spot.chunk spot.page index piece)
             → result ≡ is_idle (with_back out.elements index) }
@@ -330,10 +329,9 @@ impl Stock {
             → Becomes self.old
             (element_back class spot.chunk spot.page index out.elements) self.new }
     {
-        let pages = self.classes.subpage_pages(class);
         let place = &mut self.places[spot.chunk as usize];
         let was_full = place.is_full(spot.page);
-        let idle = place.give_element(piece, spot.page, pages, index);
+        let idle = place.give_element(piece, spot.page, index);
         if was_full {
             self.fronts[class as usize].enter(spot);
         }
@@ -460,8 +458,8 @@ fn new_fronts(alloc: Global, classes: &SizeClasses, room: usize) -> Result<Vec<F
 // So many unused chunk places.
 fn new_places(
     alloc: Global,
-    order: u32,
     page: u32,
+    order: u32,
     chunks: u32,
 ) -> Result<Vec<ChunkPlace>, AllocError>
     requires { IsGeometry (of_pages order page) }
@@ -471,7 +469,7 @@ fn new_places(
 {
     let mut places = Vec::with_capacity(alloc, chunks as usize)?;
     for _ in 0..chunks {
-        match ChunkPlace::new(alloc, order, page) {
+        match ChunkPlace::new(alloc, page, order) {
             Ok(place) => match places.push(place) {
                 Ok(()) => {}
                 Err(_) => unreachable!(),

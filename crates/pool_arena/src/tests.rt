@@ -1,7 +1,7 @@
 //! An arena as a caller uses it.
 
 ghost use Rattle.std.specs.Prelude.{◌≡◌, ℕ, ◌≤◌, ◌<◌, ◌^◌, length};
-ghost use Rattle.size_classes.specs.Sizes.{of_order, class_count};
+ghost use Rattle.size_classes.specs.Sizes.{of_order, of_pages, IsGeometry, class_count};
 ghost use Rattle.pool_arena.specs.ArenaStates.{IsNew, Takes, IsInPlaceAt};
 ghost use Rattle.pool_arena.specs.Trials.{IsTrial};
 
@@ -20,13 +20,22 @@ fn crosses<T: Send>(x: T) -> T
     x
 }
 
+fn arena_of(rt: &impl Abort, alloc: Global, page: u32, order: u32, chunks: u32) -> Arena
+    requires sizes { IsGeometry (of_pages order page) }
+    requires chunks { (1 ≤ chunks) × (chunks ≤ 8) }
+    ensures geometry { result.geometry ≡ of_pages order page }
+    ensures new { IsNew 0 page order chunks result }
+{
+    crosses(Arena::new(alloc, 0, page, order, chunks).expect(rt, "ample memory"))
+}
+
 fn new_arena(rt: &impl Abort, alloc: Global, order: u32, chunks: u32) -> Arena
     requires order { (3 ≤ order) × (order ≤ 11) }
     requires chunks { (1 ≤ chunks) × (chunks ≤ 8) }
     ensures geometry { result.geometry ≡ of_order order }
-    ensures new { IsNew 0 order DEFAULT_PAGE chunks result }
+    ensures new { IsNew 0 DEFAULT_PAGE order chunks result }
 {
-    crosses(Arena::new(alloc, 0, order, DEFAULT_PAGE, chunks).expect(rt, "ample memory"))
+    arena_of(rt, alloc, DEFAULT_PAGE, order, chunks)
 }
 
 fn leave(region: Region) {
@@ -132,25 +141,75 @@ fn the_whole_chunk_is_taken_once(rt: HostRuntime) {
     arena.leave();
 }
 
-#[test]
-fn the_last_small_class_and_the_first_normal(rt: HostRuntime) {
-    let mut arena = new_arena(&rt, rt.alloc(), 9, 4);
+// The last small class and the first normal one of an arena of `2^9` pages: where a region of each
+// lies, and the used and the free bytes of the chunk once both came back.
+#[derive(Clone, Copy, Drop)]
+struct Edge {
+    page: u32,
+    classes: (u32, u32),
+    small: (u32, u32),
+    normal: (u32, u32),
+    end: (u32, u32),
+}
+
+fn try_edge(rt: &impl Abort, alloc: Global, edge: Edge)
+    requires page { IsGeometry (of_pages 9 edge.page) }
+    requires small { edge.classes.0 < class_count (of_pages 9 edge.page) }
+    requires normal { edge.classes.1 < class_count (of_pages 9 edge.page) }
+{
+    let mut arena = arena_of(rt, alloc, edge.page, 9, 4);
     assert_eq!(rt; arena.chunk_now(1), None);
-    let a = take(&rt, &mut arena, 38);
-    let b = take(&rt, &mut arena, 39);
-    assert_eq!(rt; (a.id.place.offset, a.id.place.len), (0, 28672));
-    assert_eq!(rt; (b.id.place.offset, b.id.place.len), (57344, 32768));
+    let a = take(rt, &mut arena, edge.classes.0);
+    let b = take(rt, &mut arena, edge.classes.1);
+    assert_eq!(rt; (a.id.place.offset, a.id.place.len), edge.small);
+    assert_eq!(rt; (b.id.place.offset, b.id.place.len), edge.normal);
     arena.give(b);
     arena.give(a);
     let end = ChunkEnd {
         arena: 0,
         chunk: 0,
         list: ListName::QInit,
-        used: 57344,
-        free: 4136960,
+        used: edge.end.0,
+        free: edge.end.1,
     };
     assert_eq!(rt; arena.chunk_now(0), Some(end));
     arena.close();
+}
+
+#[test]
+fn the_last_small_class_and_the_first_normal(rt: HostRuntime) {
+    let edge = Edge {
+        page: DEFAULT_PAGE,
+        classes: (38, 39),
+        small: (0, 28672),
+        normal: (57344, 32768),
+        end: (57344, 4136960),
+    };
+    try_edge(&rt, rt.alloc(), edge);
+}
+
+#[test]
+fn the_last_small_class_of_the_least_page(rt: HostRuntime) {
+    let edge = Edge {
+        page: 4096,
+        classes: (34, 35),
+        small: (0, 14336),
+        normal: (28672, 16384),
+        end: (28672, 2068480),
+    };
+    try_edge(&rt, rt.alloc(), edge);
+}
+
+#[test]
+fn the_last_small_class_of_the_greatest_page(rt: HostRuntime) {
+    let edge = Edge {
+        page: 32768,
+        classes: (46, 47),
+        small: (0, 114688),
+        normal: (229376, 131072),
+        end: (229376, 16547840),
+    };
+    try_edge(&rt, rt.alloc(), edge);
 }
 
 #[test]

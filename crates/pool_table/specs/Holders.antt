@@ -11,6 +11,7 @@ use Rattle.pool_law.specs.declared.id.RootId.{RootId}
 use Rattle.pool_law.specs.declared.note.Object.{Object}
 use Rattle.pool_law.specs.declared.note.Object.TheVariants.{Arena, Cache, Bin, Root}
 use Rattle.pool_law.specs.Homes.{IsObjectOf}
+use Rattle.pool_law.specs.Limits.{cached_classes}
 use Rattle.pool_law.specs.Arenas.{Arena as ArenaState}
 use Rattle.pool_law.specs.Caches.{Cache as CacheState}
 use Rattle.pool_law.specs.Roots.{RootPlace}
@@ -46,7 +47,10 @@ region_at x = option_map (λ q. q.region) x.present
 
 -- what all caches have, and all root places, by a weight of regions
 abbrev pub in_caches : Shape → (RegionId → ℕ) → (ℕ → ℕ → CacheState) → ℕ
-in_caches s w caches = sum_to (s.lanes * 40) (λ i. sum_by w (caches (i / 40) (i % 40)).regions)
+in_caches s w caches =
+    sum_to
+    (s.lanes * cached_classes)
+    (λ i. sum_by w (caches (i / cached_classes) (i % cached_classes)).regions)
 
 abbrev pub at_places : Shape → (RegionId → ℕ) → (ℕ → RootPlace) → ℕ
 at_places s w places = sum_to (s.lanes * s.handles) (λ p. weight_or w (region_at (places p)))

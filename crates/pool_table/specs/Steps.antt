@@ -36,6 +36,7 @@ no_layout =
     record {
       shape =
           record {
+            page = 0;
             order = 0;
             arenas = 0;
             chunks = 0;

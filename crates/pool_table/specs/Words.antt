@@ -4,14 +4,14 @@
 use Rattle.std.specs.Prelude.{◌≡◌, ℕ, ◌+◌, ◌-◌, ◌*◌, ◌/◌, ◌%◌, ◌<◌, nat_lt, cond, List, length, slice_index}
 use Rattle.pool_law.specs.declared.run.Shape.{Shape}
 use Rattle.pool_law.specs.declared.note.Object.{Object}
-use Rattle.pool_law.specs.Homes.{home_of, objects_of}
+use Rattle.pool_law.specs.Homes.{lane_homes, home_of, objects_of}
 
 abbrev pub listed_of : Shape → ℕ
 listed_of s = objects_of s + s.lanes * s.handles
 
 -- the words of arenas, caches, bins and mails
 abbrev pub single_of : Shape → ℕ
-single_of s = s.arenas + s.lanes * 41 + s.lanes * s.lanes
+single_of s = s.arenas + s.lanes * lane_homes + s.lanes * s.lanes
 
 -- what a lane's root places leave free of the last 16 words
 abbrev pub padding : Shape → ℕ

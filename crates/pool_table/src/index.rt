@@ -8,6 +8,13 @@ ghost use Rattle.pool_table.specs.Slots.{gap_of, slot_at, slot_of, slots_of};
 
 use crate::table::Slot;
 use pool_law::{Object, Shape};
+use size_classes::CACHED_CLASSES;
+
+// How many homes a lane has for its caches.
+const CACHES: usize = CACHED_CLASSES as usize;
+
+// How many it has for its caches and its bin.
+const LANE_HOMES: usize = CACHES + 1;
 
 #[inline(always)]
 pub(crate) fn home_index(shape: &Shape, object: Object) -> usize
@@ -19,10 +26,12 @@ pub(crate) fn home_index(shape: &Shape, object: Object) -> usize
     let arenas = shape.arenas as usize;
     match object {
         Object::Arena(a) => a as usize,
-        Object::Cache { lane, class } => arenas + lane as usize * 40 + class as usize,
-        Object::Bin(lane) => arenas + lanes * 40 + lane as usize,
-        Object::Mail { from, to } => arenas + lanes * 41 + (from as usize * lanes + to as usize),
-        Object::Root(place) => arenas + lanes * 41 + lanes * lanes + place as usize,
+        Object::Cache { lane, class } => arenas + lane as usize * CACHES + class as usize,
+        Object::Bin(lane) => arenas + lanes * CACHES + lane as usize,
+        Object::Mail { from, to } => arenas
+            + lanes * LANE_HOMES
+            + (from as usize * lanes + to as usize),
+        Object::Root(place) => arenas + lanes * LANE_HOMES + lanes * lanes + place as usize,
     }
 }
 
@@ -32,7 +41,7 @@ pub(crate) fn object_count(shape: &Shape) -> usize
     ensures { result ≡ objects_of shape.now }
 {
     let lanes = shape.lanes as usize;
-    shape.arenas as usize + lanes * 41 + lanes * lanes + lanes * shape.handles as usize
+    shape.arenas as usize + lanes * LANE_HOMES + lanes * lanes + lanes * shape.handles as usize
 }
 
 pub(crate) fn listed_count(shape: &Shape) -> usize
@@ -48,7 +57,7 @@ pub(crate) fn word_count(shape: &Shape) -> usize
 {
     let lanes = shape.lanes as usize;
     let handles = shape.handles as usize;
-    let single = shape.arenas as usize + lanes * 41 + lanes * lanes;
+    let single = shape.arenas as usize + lanes * LANE_HOMES + lanes * lanes;
     single * 16 + 2 * lanes * (handles + (16 - handles % 16) % 16)
 }
 
@@ -60,7 +69,7 @@ pub(crate) fn word_index(shape: &Shape, listed: usize) -> usize
     ensures { result ≡ word_at shape.now listed }
 {
     let lanes = shape.lanes as usize;
-    let single = shape.arenas as usize + lanes * 41 + lanes * lanes;
+    let single = shape.arenas as usize + lanes * LANE_HOMES + lanes * lanes;
     if listed < single {
         return listed * 16;
     }
@@ -95,7 +104,7 @@ fn single_count(shape: &Shape) -> usize
     ensures { result ≡ single_of shape.now }
 {
     let lanes = shape.lanes as usize;
-    shape.arenas as usize + lanes * 41 + lanes * lanes
+    shape.arenas as usize + lanes * LANE_HOMES + lanes * lanes
 }
 
 /// Where the slot of a number lies, and where the last one ends.

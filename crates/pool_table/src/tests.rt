@@ -7,6 +7,7 @@ ghost use Rattle.pool_table.specs.Opened.{IsFirstSeat};
 
 use crate::{Layout, PoolSeat, PoolTable, Section};
 use pool_law::{Did, Level, Named, Noted, Object, Shape};
+use size_classes::DEFAULT_PAGE;
 use std::alloc::{AllocError, Global};
 use std::marker::Brand;
 use std::test::Fail;
@@ -42,6 +43,7 @@ impl Told for Diary {
 // Two lanes with one handle each.
 const LAYOUT: Layout = Layout {
     shape: Shape {
+        page: DEFAULT_PAGE,
         order: 3,
         arenas: 1,
         chunks: 1,

@@ -17,7 +17,8 @@ fn crosses<T: Send>(x: T) -> T
 
 // A region of 16 bytes on a ground of its own.
 fn region_of(rt: &impl Abort, alloc: Global, taking: u64) -> Region {
-    let piece = Ground::new(alloc, 16).expect(rt, "ample memory");
+    let (piece, deed) = Ground::new(alloc, 16).expect(rt, "ample memory");
+    deed.leave();
     let place = Place {
         arena: 0,
         chunk: 0,
@@ -27,9 +28,9 @@ fn region_of(rt: &impl Abort, alloc: Global, taking: u64) -> Region {
     let id = RegionId {
         place,
         class: 0,
+        owner: 0,
         taking,
         uses: 0,
-        owner: 0,
     };
     Region::new(id, piece)
 }

@@ -8,6 +8,7 @@ use pool_law::{
     Parcel, Place, Records, RefDid, RegionId, Reply, ReplyList, RootId, Run, Shape, Trace,
     ViewData,
 };
+use size_classes::DEFAULT_PAGE;
 use std::alloc::{AllocError, Global};
 use std::str::from_utf8;
 use std::test::*;
@@ -22,9 +23,9 @@ const PLACE: Place = Place {
 const REGION: RegionId = RegionId {
     place: PLACE,
     class: 1,
+    owner: 0,
     taking: 7,
     uses: 3,
-    owner: 0,
 };
 
 const ROOT: RootId = RootId {
@@ -46,6 +47,7 @@ const PARCEL: Parcel = Parcel {
 const NOTHING: Parcel = Parcel { view: None };
 
 const SHAPE: Shape = Shape {
+    page: DEFAULT_PAGE,
     order: 9,
     arenas: 2,
     chunks: 4,

@@ -6,8 +6,8 @@ use Rattle.pool_law.specs.declared.note.Object.TheVariants.{Arena, Cache, Bin, M
 
 -- the kind of the object, its numbers, and the measures of the shape that it has
 abbrev pub measures_of : Shape → Object → List ℕ
-measures_of s (Arena a) = 0 ∷ a ∷ s.order ∷ s.chunks ∷ []
+measures_of s (Arena a) = 0 ∷ a ∷ s.order ∷ s.page ∷ s.chunks ∷ []
 measures_of s (Cache lane class) = 1 ∷ lane ∷ class ∷ []
 measures_of s (Bin lane) = 2 ∷ lane ∷ s.handles ∷ []
 measures_of s (Mail from to) = 3 ∷ from ∷ to ∷ s.lanes ∷ []
-measures_of s (Root place) = 4 ∷ place ∷ s.handles ∷ s.lanes ∷ s.order ∷ []
+measures_of s (Root place) = 4 ∷ place ∷ s.handles ∷ s.lanes ∷ s.order ∷ s.page ∷ []

@@ -22,7 +22,7 @@ abbrev Named : ℕ → Read Command → Type 0
 Named lanes read = IfSome read (λ p. names_lanes lanes p.0 ≡ true)
 
 -- what holds whatever a step gives
-through : {A B : Type 0} (P : B → Type 0) (o : Option A) (next : A → Option B) → ((a : A) → IfSome (next a) P) → IfSome (o >>= next) P
+pub through : {A B : Type 0} (P : B → Type 0) (o : Option A) (next : A → Option B) → ((a : A) → IfSome (next a) P) → IfSome (o >>= next) P
 through P None next h = tt
 through P (Some a) next h = h a
 

@@ -8,7 +8,7 @@ use Rattle.pool_law.specs.declared.command.Command.{Command}
 use Rattle.trace_text.specs.declared.TraceNo.{TraceNo}
 use Rattle.trace_text.specs.declared.TraceNo.TheVariants as refusals
 use Rattle.trace_text.specs.Lane.{LaneRead, commands_after, lane_in, with_row}
-use Rattle.trace_text.specs.Reading.{Gives, GivesAs, Reading, lanes_after}
+use Rattle.trace_text.specs.Reading.{GivesAs, GivesLanes, Reading, lanes_after}
 use Rattle.trace_text.specs.Steps.{TakesLane, TakesRow}
 
 -- ---- Rows.
@@ -36,6 +36,7 @@ row_refused refusals.Syntax lanes lane old new i rows row all h is before (none,
 row_refused (refusals.Shape l n) lanes lane old new i rows row all h is before (none, why) = rw (before, rest_at rows i row h is, none, why) refl
 row_refused (refusals.Limit limit) lanes lane old new i rows row all h is before (none, why) = rw (before, rest_at rows i row h is, none, why) refl
 row_refused (refusals.Stuck l n) lanes lane old new i rows row all h is before (none, why) = rw (before, rest_at rows i row h is, none, why) refl
+row_refused refusals.Options lanes lane old new i rows row all h is before (none, why) = rw (before, rest_at rows i row h is, none, why) refl
 
 -- ---- Lanes.
 
@@ -47,12 +48,13 @@ lane_taken lanes front new i values value all h is before (lane, (taken, more)) 
 
 -- a lane that has none
 pub lane_refused : (e : TraceNo) (lanes : ℕ) (front new : List (List Command)) (i : ℕ) (values : List Value) (value : Value) (all : Reading) → i < length values → value ≡ get_or values i value
-    → all ≡ lanes_after lanes front (drop i (map view values)) → TakesLane (Err e) front new (lane_in lanes (length front) (view value)) → Gives (Err e) all
+    → all ≡ lanes_after lanes front (drop i (map view values)) → TakesLane (Err e) front new (lane_in lanes (length front) (view value)) → GivesLanes (Err e) all
 lane_refused refusals.Memory lanes front new i values value all h is before refused = tt
 lane_refused refusals.Syntax lanes front new i values value all h is before refused = rw (before, rest_at values i value h is, refused) refl
 lane_refused (refusals.Shape l n) lanes front new i values value all h is before refused = rw (before, rest_at values i value h is, refused) refl
 lane_refused (refusals.Limit limit) lanes front new i values value all h is before refused = rw (before, rest_at values i value h is, refused) refl
 lane_refused (refusals.Stuck l n) lanes front new i values value all h is before refused = rw (before, rest_at values i value h is, refused) refl
+lane_refused refusals.Options lanes front new i values value all h is before refused = rw (before, rest_at values i value h is, refused) refl
 
 -- ---- Refusals.
 

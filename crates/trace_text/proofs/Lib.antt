@@ -8,3 +8,6 @@ pub mod FormSteps
 pub mod LaneFits
 pub mod ReadingFits
 pub mod LaneCounts
+pub mod Keys
+pub mod OptionSteps
+pub mod OptionFits

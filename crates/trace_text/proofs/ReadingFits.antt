@@ -1,23 +1,21 @@
 -- The lanes of a trace that was read are what a run needs.
-use Rattle.std.proofs.Common.{◌≡◌, ℕ, zero, suc, ◌+◌, ◌≤◌, List, [], ◌∷◌, ◌++◌, length, refl, sym, ◌∙◌, subst, arith, true, false, inl, inr, zero-add, length-append}
-use Rattle.std.specs.Prelude.{Option, Some, None, Result, Ok, Err, All, IfOk, Bool, nat_lt, if◌then◌else◌}
+use Rattle.std.proofs.Common.{◌≡◌, ℕ, zero, suc, ◌+◌, ◌≤◌, List, [], ◌∷◌, ◌++◌, length, refl, sym, ◌∙◌, subst, arith, inl, inr, zero-add, length-append}
+use Rattle.std.specs.Prelude.{Option, Some, None, Result, Ok, Err, All}
 use Rattle.std.specs.Option.{option_map_or}
 use Rattle.std.proofs.lemmas.Bool.{cases_lt}
 use Rattle.std.proofs.lemmas.Option.{slice_get-get_or, slice_get_past}
 use Rattle.std.proofs.lemmas.List.Elements.{All-push}
 use Rattle.serde_json.specs.Data.{Data}
 use Rattle.pool_law.specs.declared.command.Command.{Command}
-use Rattle.pool_law.specs.declared.command.Trace.{Trace}
 use Rattle.pool_law.specs.declared.run.Shape.{Shape}
 use Rattle.pool_law.specs.Logs.{of_lane}
 use Rattle.pool_law.specs.Stuck.{command_count, stuck_at}
-use Rattle.trace_text.specs.declared.Limit.TheVariants.{Text}
 use Rattle.trace_text.specs.declared.TraceNo.{TraceNo}
 use Rattle.trace_text.specs.declared.TraceNo.TheVariants as refusals
 use Rattle.trace_text.specs.Items.{array_in}
 use Rattle.trace_text.specs.Lane.{lane_in}
 use Rattle.pool_law.specs.Traces.{command_limit}
-use Rattle.trace_text.specs.Reading.{◌>>=◌, Gives, Reading, limited, unstuck, lanes_after, lanes_in, trace_in, value_of, reading_of, text_limit}
+use Rattle.trace_text.specs.Reading.{◌>>=◌, accepted, limited, unstuck, lanes_after, lanes_in, trace_in}
 use Rattle.pool_law.specs.Traces.{AreLanes}
 use Rattle.trace_text.proofs.LaneFits.{FitsSo, lane_fits}
 
@@ -69,9 +67,11 @@ lane_fit shape lanes k fit = elim (cases_lt k (length lanes)) [
   | inr past ↦ rw (slice_get_past lanes k past) refl
 ]
 
--- ---- Readings.
+-- ---- What is accepted.
 
-in_turn : {A B : Type 0} (r : Result A TraceNo) (next : A → Result B TraceNo) (b : B) → (r >>= next) ≡ Ok b → (a : A) × ((r ≡ Ok a) × (next a ≡ Ok b))
+-- a step that was not refused, and what follows it
+pub in_turn : {A B : Type 0} (r : Result A TraceNo) (next : A → Result B TraceNo) (b : B) → (r >>= next) ≡ Ok b
+    → (a : A) × ((r ≡ Ok a) × (next a ≡ Ok b))
 in_turn (Ok a) next b is = (a, (refl, is))
 in_turn (Err why) next b is = cc
 
@@ -87,29 +87,22 @@ unstuck_so lanes found is =
       | Some place ↦ λ e. cc
     ] is
 
-short_so : (long : Bool) (rest : Reading) (lanes : List (List Command)) → (if long then Err (refusals.Limit Text) else rest) ≡ Ok lanes → rest ≡ Ok lanes
-short_so true rest lanes is = cc
-short_so false rest lanes is = is
+-- the lanes of a value as they had their form, and as they passed the limits
+pub accepted_so : (d : Data) (lanes : List (List Command)) → accepted d ≡ Ok lanes
+    → (formed : List (List Command)) × ((trace_in d ≡ Ok formed) × (limited formed ≡ Ok lanes))
+unfolding accepted
+accepted_so d lanes is =
+    let (few, (few_is, moves)) = in_turn (trace_in d >>= limited) unstuck lanes is in
+    let (formed, (formed_is, in_limits)) = in_turn (trace_in d) limited few few_is in
+    let bounded = subst (λ (found : List (List Command)). limited formed ≡ Ok found) (unstuck_so few lanes moves) in_limits in
+    (formed, (formed_is, bounded))
 
-accepted : (d : Data) (formed few lanes : List (List Command)) → trace_in d ≡ Ok formed → limited formed ≡ Ok few → unstuck few ≡ Ok lanes → AreLanes lanes
-accepted d formed few lanes has_form in_limits moves shape count lane =
-    let (same, bound) = limited_so formed few in_limits in
-    let all : formed ≡ lanes = same ∙ unstuck_so few lanes moves in
+-- the lanes that are accepted are what a run needs
+pub accepted_fits : (d : Data) (lanes : List (List Command)) → accepted d ≡ Ok lanes → AreLanes lanes
+accepted_fits d lanes is shape count lane =
+    let (formed, (has_form, in_limits)) = accepted_so d lanes is in
+    let (all, bound) = limited_so formed lanes in_limits in
     let fit : All (FitsSo shape) lanes = trace_fits shape d lanes (rw all at has_form) count in
     let total : command_count lanes ≤ command_limit = rw all at bound in
     let short = lane_short lanes lane in
     record { few = omega (arith, total, short); fit = lane_fit shape lanes lane fit }
-
--- a reading that is no refusal
-pub reading_fits : (text : List ℕ) (lanes : List (List Command)) → reading_of text ≡ Ok lanes → AreLanes lanes
-unfolding reading_of
-reading_fits text lanes is =
-    let rest = short_so (nat_lt text_limit (length text)) (value_of text >>= trace_in >>= limited >>= unstuck) lanes is in
-    let (few, (few_is, moves)) = in_turn (value_of text >>= trace_in >>= limited) unstuck lanes rest in
-    let (formed, (formed_is, in_limits)) = in_turn (value_of text >>= trace_in) limited few few_is in
-    let (d, (value_is, has_form)) = in_turn (value_of text) trace_in formed formed_is in
-    accepted d formed few lanes has_form in_limits moves
-
-pub given_fits : (r : Result Trace TraceNo) (text : List ℕ) → Gives r (reading_of text) → IfOk r (λ trace. AreLanes trace.lanes)
-given_fits (Ok trace) text given = reading_fits text trace.lanes given
-given_fits (Err why) text given = tt

@@ -1,5 +1,5 @@
 -- What a trace of version 2 asks of the pool.
-use Rattle.std.specs.Prelude.{ℕ, ◌==◌, ◌&&◌, ◌||◌, nat_le, ◌≤◌, Bool, false, if◌then◌else◌, List, [], ◌∷◌, codes, find, Option, Some, None, IfSome, option_map, unwrap_or, Result, Ok}
+use Rattle.std.specs.Prelude.{ℕ, ◌==◌, ◌&&◌, ◌||◌, nat_le, ◌≤◌, Bool, false, List, [], ◌∷◌, codes, find, Option, Some, None, IfSome, option_map, unwrap_or, Result, Ok}
 use Rattle.std.specs.List.{list_all, list_any}
 use Rattle.std.specs.Option.{option_map_or, ok_or}
 use Rattle.std.specs.Str.{bytes_eq}

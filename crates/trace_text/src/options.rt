@@ -1,13 +1,15 @@
 //! What a trace of version 2 asks of the pool.
 ghost use Rattle.std.specs.Prelude.{◌≡◌, codes, map, option_map};
 ghost use Rattle.serde_json.specs.Find.{get};
-ghost use Rattle.serde_json.specs.View.{view};
-ghost use Rattle.trace_text.specs.Options.{has_keys_of, level_from, level_named, level_word, may_be, number_from, options_from, page_from, parts_of, version_two};
+ghost use Rattle.serde_json.specs.View.{members_view, view};
+ghost use Rattle.std.specs.List.{list_all, list_any};
+ghost use Rattle.std.specs.Str.{bytes_eq};
+ghost use Rattle.trace_text.specs.Options.{has_keys_of, keys_of, level_from, level_named, level_word, may_be, number_from, options_from, page_from, parts_of, version_two};
 ghost use Rattle.trace_text.specs.Reading.{GivesAs};
 
 use crate::TraceNo;
 use pool_law::{Level, Options};
-use serde_json::Value;
+use serde_json::{Map, Value};
 
 /// All levels, in their order.
 const LEVELS: [Level; 4] = [
@@ -111,9 +113,23 @@ fn has_keys_of(known: &[&str], value: &Value) -> bool
     ensures { result ≡ has_keys_of (map (λ key. key.now) known.now) (view value.now) }
 {
     match value.as_object() {
-        Some(members) => members.keys().all(|key| known.contains(&key.as_str())),
+        Some(members) => are_known(known, members),
         None => false,
     }
+}
+
+/// Whether all keys of an object's members are among these.
+fn are_known(known: &[&str], members: &Map<String, Value>) -> bool
+    ensures { result ≡ list_all (λ key. list_any (bytes_eq key) (map (λ key. key.now) known.now))
+        (keys_of (members_view members.now.entries)) }
+{
+    members.keys().all(|key| is_known(known, key.as_str()))
+}
+
+fn is_known(known: &[&str], key: &str) -> bool
+    ensures { result ≡ list_any (bytes_eq key.now) (map (λ key. key.now) known.now) }
+{
+    known.contains(&key)
 }
 
 /// The page at the key `page`, and nothing where that key isn't there.

@@ -6,9 +6,9 @@ use Rattle.pool_arena.proofs.OutLaws.{new-out, new-takings, take-out, out-of, gi
 use Rattle.pool_arena.proofs.tests.a_whole_chunk_is_destroyed.Goals as goal
 
 -- the one taking of a new arena
-module _ (a b : ArenaState) (order chunks class owner : ℕ) (is : IsNew 0 order 8192 chunks a) (r : RegionId) (takes : Takes a class owner b r) where
+module _ (a b : ArenaState) (order chunks class owner : ℕ) (is : IsNew 0 8192 order chunks a) (r : RegionId) (takes : Takes a class owner b r) where
   has : HasOut b (r ∷ [])
-  has = take-out a b class owner r [] (new-out 0 order 8192 chunks a (inr (inl refl)) is) takes
+  has = take-out a b class owner r [] (new-out 0 8192 order chunks a (inr (inl refl)) is) takes
 
   its_out : IsOutOf b r
   its_out = out-of b r (r ∷ []) has (inl refl)
@@ -19,7 +19,7 @@ module _ (a b : ArenaState) (order chunks class owner : ℕ) (is : IsNew 0 order
 
 pub take-a-requires-clause-takings : goal.take-a-requires-clause-takings
 take-a-requires-clause-takings g c =
-    omega (arith, new-takings 0 9 8192 4 c.new_arena-arena.result c.new_arena-arena.ensures.new)
+    omega (arith, new-takings 0 8192 9 4 c.new_arena-arena.result c.new_arena-arena.ensures.new)
 
 pub list_now-requires : goal.list_now-requires
 list_now-requires g c =

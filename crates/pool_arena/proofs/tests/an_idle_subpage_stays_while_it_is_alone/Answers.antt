@@ -7,14 +7,14 @@ use Rattle.pool_arena.proofs.OutLaws.{new-out, new-takings, take-out, take-takin
 use Rattle.pool_arena.proofs.tests.an_idle_subpage_stays_while_it_is_alone.Goals as goal
 
 -- three takings of a new arena, of which the first and the last come back before a fourth
-module _ (n a : ArenaState) (is : IsNew 0 4 8192 1 n) (r : RegionId) (one : Takes n 38 0 a r) where
+module _ (n a : ArenaState) (is : IsNew 0 8192 4 1 n) (r : RegionId) (one : Takes n 38 0 a r) where
   has_one : HasOut a (r ∷ [])
-  has_one = take-out n a 38 0 r [] (new-out 0 4 8192 1 n (inr (inl refl)) is) one
+  has_one = take-out n a 38 0 r [] (new-out 0 8192 4 1 n (inr (inl refl)) is) one
 
   one_taking : (a.takings ≡ 1) × (r.taking ≡ 1)
   one_taking = (
-    omega (arith, new-takings 0 4 8192 1 n is, take-takings n a 38 0 r [] (new-out 0 4 8192 1 n (inr (inl refl)) is) one),
-    omega (arith, new-takings 0 4 8192 1 n is, taken-number n a 38 0 r [] (new-out 0 4 8192 1 n (inr (inl refl)) is) one),
+    omega (arith, new-takings 0 8192 4 1 n is, take-takings n a 38 0 r [] (new-out 0 8192 4 1 n (inr (inl refl)) is) one),
+    omega (arith, new-takings 0 8192 4 1 n is, taken-number n a 38 0 r [] (new-out 0 8192 4 1 n (inr (inl refl)) is) one),
   )
 
   module _ (b : ArenaState) (s : RegionId) (two : Takes a 38 0 b s) where
@@ -95,7 +95,7 @@ module _ (n a : ArenaState) (is : IsNew 0 4 8192 1 n) (r : RegionId) (one : Take
                 has_places = omega (arith, some-places u q fourth_out, last.same.places)
 
 pub take-a-requires-clause-takings : goal.take-a-requires-clause-takings
-take-a-requires-clause-takings g c = omega (arith, new-takings 0 4 8192 1 c.new_arena-arena.result c.new_arena-arena.ensures.new)
+take-a-requires-clause-takings g c = omega (arith, new-takings 0 8192 4 1 c.new_arena-arena.result c.new_arena-arena.ensures.new)
 
 pub take-b-requires-clause-class : goal.take-b-requires-clause-class
 take-b-requires-clause-class g c =

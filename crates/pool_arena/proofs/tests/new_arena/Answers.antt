@@ -2,8 +2,8 @@ use Rattle.std.proofs.Common.{arith, inl, inr, refl}
 use Rattle.std.proofs.Math.Nat.{pow-le-pow_right}
 use Rattle.pool_arena.proofs.tests.new_arena.Goals as goal
 
-pub new-requires-clause-sizes : goal.new-requires-clause-sizes
-new-requires-clause-sizes c =
+pub arena_of-requires-clause-sizes : goal.arena_of-requires-clause-sizes
+arena_of-requires-clause-sizes g c =
     record {
       least = c.requires.order.0;
       most = c.requires.order.1;

@@ -8,12 +8,12 @@ use Rattle.pool_arena.proofs.OutLaws.{new-out, new-takings, take-out, take-takin
 use Rattle.pool_arena.proofs.tests.runs_that_meet_are_merged.Goals as goal
 
 -- three takings of a new arena, of which the first two come back before a fourth
-module _ (n a : ArenaState) (is : IsNew 0 4 8192 1 n) (r : RegionId) (one : Takes n 40 0 a r) where
+module _ (n a : ArenaState) (is : IsNew 0 8192 4 1 n) (r : RegionId) (one : Takes n 40 0 a r) where
   has_one : HasOut a (r ∷ [])
-  has_one = take-out n a 40 0 r [] (new-out 0 4 8192 1 n (inr (inl refl)) is) one
+  has_one = take-out n a 40 0 r [] (new-out 0 8192 4 1 n (inr (inl refl)) is) one
 
   one_taking : a.takings ≡ 1
-  one_taking = omega (arith, new-takings 0 4 8192 1 n is, take-takings n a 40 0 r [] (new-out 0 4 8192 1 n (inr (inl refl)) is) one)
+  one_taking = omega (arith, new-takings 0 8192 4 1 n is, take-takings n a 40 0 r [] (new-out 0 8192 4 1 n (inr (inl refl)) is) one)
 
   module _ (b : ArenaState) (s : RegionId) (two : Takes a 40 0 b s) where
     has_two : HasOut b (r ∷ s ∷ [])
@@ -24,7 +24,7 @@ module _ (n a : ArenaState) (is : IsNew 0 4 8192 1 n) (r : RegionId) (one : Take
 
     apart : r.taking ≢ s.taking
     apart e =
-        omega (arith, e, taken-number n a 40 0 r [] (new-out 0 4 8192 1 n (inr (inl refl)) is) one, taken-number a b 40 0 s (r ∷ []) has_one two, one_taking, new-takings 0 4 8192 1 n is)
+        omega (arith, e, taken-number n a 40 0 r [] (new-out 0 8192 4 1 n (inr (inl refl)) is) one, taken-number a b 40 0 s (r ∷ []) has_one two, one_taking, new-takings 0 8192 4 1 n is)
 
     module _ (d : ArenaState) (t : RegionId) (three : Takes b 40 0 d t) where
       has_three : HasOut d (r ∷ s ∷ t ∷ [])
@@ -63,7 +63,7 @@ module _ (n a : ArenaState) (is : IsNew 0 4 8192 1 n) (r : RegionId) (one : Take
               out-of z q (out ++ q ∷ []) (take-out y z 44 0 q out has_last four) (taken-last q out)
 
 pub take-a-requires-clause-takings : goal.take-a-requires-clause-takings
-take-a-requires-clause-takings g c = omega (arith, new-takings 0 4 8192 1 c.new_arena-arena.result c.new_arena-arena.ensures.new)
+take-a-requires-clause-takings g c = omega (arith, new-takings 0 8192 4 1 c.new_arena-arena.result c.new_arena-arena.ensures.new)
 
 pub take-b-requires-clause-class : goal.take-b-requires-clause-class
 take-b-requires-clause-class g c =

@@ -25,13 +25,13 @@ is_full-was_full-requires c =
     let found = out-found s c.args.class c.args.spot.chunk c.args.spot.page c.args.index c.args.piece x o c.index_mut-place.ensures.value in
     out-sub s c.args.class c.args.spot.chunk c.args.spot.page c.args.index c.args.piece x o found
 
-pub give_element-idle-requires-clause-out : goal.give_element-idle-requires-clause-out
-give_element-idle-requires-clause-out c =
+pub give_element-idle-requires : goal.give_element-idle-requires
+give_element-idle-requires c =
     let s = c.self.inside in
     let x = c.index_mut-place.result.now in
     let o = subst (λ (w : StockState). IsElementOutOf w c.args.class c.args.spot.chunk c.args.spot.page c.args.index c.args.piece) (sym c.self.view_is) c.requires.out in
     let found = out-found s c.args.class c.args.spot.chunk c.args.spot.page c.args.index c.args.piece x o c.index_mut-place.ensures.value in
-    (out-element s c.args.class c.args.spot.chunk c.args.spot.page c.args.index c.args.piece x o found, o.pages_are ∙ sym c.subpage_pages-pages.ensures.pages)
+    out-element s c.self.invariant c.args.class c.args.spot.chunk c.args.spot.page c.args.index c.args.piece x o found
 
 pub enter-requires : goal.enter-requires
 enter-requires c =
@@ -79,7 +79,7 @@ invariant_of-self c =
     let front = front-found s c.self.invariant c.args.self.now.geometry c.args.class c.index_mut.result.now g c.requires.class.0 c.index_mut.ensures.value in
     elements-held s (entered c) c.self.invariant c.args.spot.chunk x c.give_element-idle.new.self c.args.spot.page found
     (out-sub s c.args.class c.args.spot.chunk c.args.spot.page c.args.index c.args.piece x o found) (with_back o.elements c.args.index)
-    (c.give_element-idle.ensures.chunk (out-element s c.args.class c.args.spot.chunk c.args.spot.page c.args.index c.args.piece x o found)) refl refl refl
+    (c.give_element-idle.ensures.chunk (out-element s c.self.invariant c.args.class c.args.spot.chunk c.args.spot.page c.args.index c.args.piece x o found)) refl refl refl
     (some_at s c.args.self.now c.args.spot.chunk x c.self.view_is found c.requires.some)
     (rooms-set (length s.places.items * chunk_pages s.classes) s.classes s.fronts.items c.args.class c.index_mut.result.now c.enter.new.self c.self.invariant.fronts front
     (ap (λ (f : FrontState). f.room) c.enter.ensures))
@@ -92,7 +92,7 @@ invariant_of-self-else-was_full c =
     let found = out-found s c.args.class c.args.spot.chunk c.args.spot.page c.args.index c.args.piece x o c.index_mut-place.ensures.value in
     elements-held s (stays c) c.self.invariant c.args.spot.chunk x c.give_element-idle.new.self c.args.spot.page found
     (out-sub s c.args.class c.args.spot.chunk c.args.spot.page c.args.index c.args.piece x o found) (with_back o.elements c.args.index)
-    (c.give_element-idle.ensures.chunk (out-element s c.args.class c.args.spot.chunk c.args.spot.page c.args.index c.args.piece x o found)) refl refl refl
+    (c.give_element-idle.ensures.chunk (out-element s c.self.invariant c.args.class c.args.spot.chunk c.args.spot.page c.args.index c.args.piece x o found)) refl refl refl
     (some_at s c.args.self.now c.args.spot.chunk x c.self.view_is found c.requires.some) c.self.invariant.fronts
 
 pub returns-then-was_full-clause-idle : goal.returns-then-was_full-clause-idle
@@ -102,7 +102,7 @@ returns-then-was_full-clause-idle c =
     subst (λ (w : StockState). (o : IsElementOutOf w c.args.class c.args.spot.chunk c.args.spot.page c.args.index c.args.piece) → c.give_element-idle.result ≡ is_idle (with_back o.elements c.args.index))
     c.self.view_is
     (λ o. c.give_element-idle.ensures.idle
-    (out-element s c.args.class c.args.spot.chunk c.args.spot.page c.args.index c.args.piece x o
+    (out-element s c.self.invariant c.args.class c.args.spot.chunk c.args.spot.page c.args.index c.args.piece x o
     (out-found s c.args.class c.args.spot.chunk c.args.spot.page c.args.index c.args.piece x o c.index_mut-place.ensures.value)))
 
 pub returns-else-was_full-clause-idle : goal.returns-else-was_full-clause-idle
@@ -112,7 +112,7 @@ returns-else-was_full-clause-idle c =
     subst (λ (w : StockState). (o : IsElementOutOf w c.args.class c.args.spot.chunk c.args.spot.page c.args.index c.args.piece) → c.give_element-idle.result ≡ is_idle (with_back o.elements c.args.index))
     c.self.view_is
     (λ o. c.give_element-idle.ensures.idle
-    (out-element s c.args.class c.args.spot.chunk c.args.spot.page c.args.index c.args.piece x o
+    (out-element s c.self.invariant c.args.class c.args.spot.chunk c.args.spot.page c.args.index c.args.piece x o
     (out-found s c.args.class c.args.spot.chunk c.args.spot.page c.args.index c.args.piece x o c.index_mut-place.ensures.value)))
 
 pub returns-then-was_full-clause-back : goal.returns-then-was_full-clause-back
@@ -129,7 +129,7 @@ returns-then-was_full-clause-back c =
     let found = out-found s c.args.class c.args.spot.chunk c.args.spot.page c.args.index c.args.piece x o c.index_mut-place.ensures.value in
     let full = sym (c.is_full-was_full.ensures (out-sub s c.args.class c.args.spot.chunk c.args.spot.page c.args.index c.args.piece x o found)) ∙ c.if-was_full.true in
     back-law s (entered c) c.self.invariant c.args.class c.args.spot.chunk c.args.spot.page c.args.index c.args.piece x c.give_element-idle.new.self o found
-    (c.give_element-idle.ensures.chunk (out-element s c.args.class c.args.spot.chunk c.args.spot.page c.args.index c.args.piece x o found)) refl refl refl
+    (c.give_element-idle.ensures.chunk (out-element s c.self.invariant c.args.class c.args.spot.chunk c.args.spot.page c.args.index c.args.piece x o found)) refl refl refl
     (full-back s c.args.class c.args.spot.chunk c.args.spot.page o.elements c.index_mut.result.now c.enter.new.self
     (with_item s.fronts c.args.class c.enter.new.self).items front (ap (λ (f : FrontState). f.spots) c.enter.ensures) refl full))
 
@@ -145,5 +145,5 @@ returns-else-was_full-clause-back c =
     let found = out-found s c.args.class c.args.spot.chunk c.args.spot.page c.args.index c.args.piece x o c.index_mut-place.ensures.value in
     let other = sym (c.is_full-was_full.ensures (out-sub s c.args.class c.args.spot.chunk c.args.spot.page c.args.index c.args.piece x o found)) ∙ c.if-was_full.false in
     back-law s (stays c) c.self.invariant c.args.class c.args.spot.chunk c.args.spot.page c.args.index c.args.piece x c.give_element-idle.new.self o found
-    (c.give_element-idle.ensures.chunk (out-element s c.args.class c.args.spot.chunk c.args.spot.page c.args.index c.args.piece x o found)) refl refl refl
+    (c.give_element-idle.ensures.chunk (out-element s c.self.invariant c.args.class c.args.spot.chunk c.args.spot.page c.args.index c.args.piece x o found)) refl refl refl
     (other-back s c.args.class c.args.spot.chunk c.args.spot.page o.elements other))

@@ -2,7 +2,7 @@ use Rattle.std.proofs.Common.{◌≡◌, ◌^◌, ℕ, ◌/◌, ◌≤◌, refl,
 use Rattle.std.specs.Vec.{with_item}
 use Rattle.std.specs.Prelude.{slice_get, slice_index_or}
 use Rattle.ground.specs.Ground.{Segment}
-use Rattle.size_classes.specs.Sizes.{Geometry, page_of, chunk_bytes, is_small}
+use Rattle.size_classes.specs.Sizes.{Geometry, chunk_bytes, is_small}
 use Rattle.size_classes.proofs.SmallClasses.{page-some}
 use Rattle.size_classes.specs.Pages.{Used, NoneEmpty}
 use Rattle.size_classes.specs.Runs.{Begins}
@@ -17,7 +17,7 @@ use Rattle.pool_arena.specs.declared.stock.Stock.TheInside.{Inside}
 use Rattle.pool_arena.proofs.ListLaws.{found-is}
 use Rattle.pool_arena.proofs.StockLaws.{place-chunk_at, place-geometry}
 use Rattle.pool_arena.proofs.SettleLaws.{Settles, settles-of, settle-held}
-use Rattle.pool_arena.proofs.GiveLaws.{given-law, begins-within, begins-name, whole-out, whole-page_is, whole-pages_are, whole-begins, whole-run_out, by-run}
+use Rattle.pool_arena.proofs.GiveLaws.{given-law, begins-within, begins-name, whole-out, whole-page_is, whole-begins, whole-run_out, by-run}
 use Rattle.pool_arena.proofs.stock.Stock.give_run.Goals as goal
 
 -- what is asked, by the fields
@@ -50,10 +50,9 @@ give_run-requires c =
     let r = run s c.self.invariant v c.args.class c.args.chunk c.args.piece c.self.view_is c.requires.whole c.requires.orderly c.requires.out x c.index_mut-place.ensures.value in
     whole-run_out s c.args.class c.args.chunk c.args.piece o r x
     (found s c.self.invariant v c.args.class c.args.chunk c.args.piece c.self.view_is c.requires.whole c.requires.orderly c.requires.out x c.index_mut-place.ensures.value)
-    (some s c.self.invariant v c.args.class c.args.chunk c.args.piece c.self.view_is c.requires.whole c.requires.orderly c.requires.out x c.index_mut-place.ensures.value)
-    (c.start.result / s.page) (c.len.result / s.page)
+    c.self.invariant (some s c.self.invariant v c.args.class c.args.chunk c.args.piece c.self.view_is c.requires.whole c.requires.orderly c.requires.out x c.index_mut-place.ensures.value)
+    (c.start.result / s.page)
     (ap₂ (λ n p. n / p) c.start.ensures.start c.self.invariant.page ∙ whole-page_is (stock_in s) (page-some s.classes c.self.invariant.sizes.page) c.args.class c.args.chunk c.args.piece o r)
-    (ap₂ (λ n p. n / p) c.len.ensures.len c.self.invariant.page ∙ whole-pages_are (stock_in s) (page-some s.classes c.self.invariant.sizes.page) c.args.class c.args.chunk c.args.piece o r)
 
 pub settle-requires-clause-bytes : goal.settle-requires-clause-bytes
 settle-requires-clause-bytes c =
@@ -99,7 +98,9 @@ returns c =
     let r = run s c.self.invariant v c.args.class c.args.chunk c.args.piece c.self.view_is c.requires.whole c.requires.orderly c.requires.out x c.index_mut-place.ensures.value in
     let at =
     found s c.self.invariant v c.args.class c.args.chunk c.args.piece c.self.view_is c.requires.whole c.requires.orderly c.requires.out x c.index_mut-place.ensures.value in
-    let page_is : page ≡ r.page = ap₂ (λ n p. n / p) c.start.ensures.start c.self.invariant.page ∙ whole-page_is (stock_in s) (page-some s.classes c.self.invariant.sizes.page) c.args.class c.args.chunk c.args.piece o r in
+    let page_is : page ≡ r.page =
+    ap₂ (λ n p. n / p) c.start.ensures.start c.self.invariant.page
+    ∙ whole-page_is (stock_in s) (page-some s.classes c.self.invariant.sizes.page) c.args.class c.args.chunk c.args.piece o r in
     let begins = subst (λ (n : ℕ). Begins n (Used r.pages Whole) (runs_of x)) (sym page_is) (whole-begins s c.args.class c.args.chunk c.args.piece o r x at) in
     let becomes =
     given-law s (after c) c.self.invariant c.args.chunk page r.pages Whole x c.give_run.new.self c.settle.new.place begins
