@@ -11,6 +11,7 @@ use crate::{Nest, NestEnd, NestNo};
 use pool_law::{Level, RootId, Shape};
 use pool_table::Layout;
 use shared_pool::{PoolSeat, SharedPool, Went};
+use size_classes::DEFAULT_PAGE;
 use std::alloc::{AllocError, Global};
 use std::mem::ManuallyDrop;
 use std::process::Abort;
@@ -19,6 +20,7 @@ use std::test::Fail;
 // One lane with one handle, over one chunk of 65,536 bytes.
 const LAYOUT: Layout = Layout {
     shape: Shape {
+        page: DEFAULT_PAGE,
         order: 3,
         arenas: 1,
         chunks: 1,

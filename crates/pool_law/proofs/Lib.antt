@@ -4,3 +4,4 @@ pub mod SameLemmas
 pub mod HistoryLemmas
 pub mod PatternLemmas
 pub mod CompositeLemmas
+pub mod ShapeLemmas

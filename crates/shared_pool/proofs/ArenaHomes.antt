@@ -17,6 +17,7 @@ use Rattle.table_law.specs.Measures.{measures_of}
 use Rattle.table_law.proofs.Names.{same_taking-refl}
 use Rattle.table_law.proofs.Runs.{right_push}
 use Rattle.ground.specs.Ground.{Segment}
+use Rattle.size_classes.specs.Sizes.{IsPage, of_pages}
 use Rattle.pool_law.specs.Places.{IsInPlace}
 use Rattle.std.proofs.lemmas.List.{length-map}
 use Rattle.arena_law.specs.Slots.{ArenaHolds}
@@ -47,7 +48,7 @@ pub stood_more : (measures : List ℕ) (setting : Setting) (h : List Noted) (n :
     (at : IsArenaAt measures setting h old) → IsOutIfGiven (law_of old at.stands.out) d → IsArenaAt measures setting (h ++ n ∷ []) new
 stood_more measures setting h n d old new is same more at out =
     record {
-      measured = at.measured ∙ (λ i. 0 ∷ sym same.number i ∷ (sym same.geometry i).order ∷ sym same.places i ∷ []);
+      measured = at.measured ∙ (λ i. 0 ∷ sym same.number i ∷ (sym same.geometry i).order ∷ (sym same.geometry i).page ∷ sym same.places i ∷ []);
       stands = more setting.grounds h n is at.stands out;
     }
 
@@ -57,23 +58,26 @@ takings-most number n [] m is = omega (arith, is)
 takings-most number n (Take class r ∷ ds) m is = let a = takings-most number (n + 1) ds m is.1 in omega (arith, a)
 takings-most number n (d ∷ ds) m is = let a = takings-most number n ds m is in omega (arith, a)
 
-pub is_arena : (setting : Setting) (h : List Noted) (number order chunks : ℕ) (home : Home) → HomeStands (0 ∷ number ∷ order ∷ chunks ∷ []) setting h home → IsArena home
-is_arena setting h number order chunks (Arena a) at = tt
-is_arena setting h number order chunks (Cache q) at = absurd (cc at.measured)
-is_arena setting h number order chunks (Bin b) at = absurd (cc at.measured)
-is_arena setting h number order chunks (Mail m) at = absurd (cc at.measured)
-is_arena setting h number order chunks (Root s) at = absurd (cc at.measured)
+pub is_arena : (setting : Setting) (h : List Noted) (number order page chunks : ℕ) (home : Home) → HomeStands (0 ∷ number ∷ order ∷ page ∷ chunks ∷ []) setting h home → IsArena home
+is_arena setting h number order page chunks (Arena a) at = tt
+is_arena setting h number order page chunks (Cache q) at = absurd (cc at.measured)
+is_arena setting h number order page chunks (Bin b) at = absurd (cc at.measured)
+is_arena setting h number order page chunks (Mail m) at = absurd (cc at.measured)
+is_arena setting h number order page chunks (Root s) at = absurd (cc at.measured)
 
 -- the law's arena of the object is the one for which the value stands
 pub as_told : (s : Shape) (setting : Setting) (number : ℕ) (h : List Noted) (a : ArenaState) → (at : IsArenaAt (measures_of s (ArenaOf number)) setting h a) → IsArenaAfter s number h (law_of a at.stands.out)
 as_told s setting number h a at =
-    subst (λ (x : ℕ × ℕ × ℕ). arena_told (record { order = x.1 }) x.0 x.2 h ≡ Some (law_of a at.stands.out)) (λ i. (sym number_is i, sym order_is i, sym chunks_is i)) at.stands.told
+    subst (λ (x : ℕ × ℕ × ℕ × ℕ). arena_told (of_pages x.1 x.2) x.0 x.3 h ≡ Some (law_of a at.stands.out)) (λ i. (sym number_is i, sym order_is i, sym page_is i, sym chunks_is i)) at.stands.told
   where
     number_is : number ≡ a.number
     number_is = cc at.measured
 
     order_is : s.order ≡ a.geometry.order
     order_is = cc at.measured
+
+    page_is : s.page ≡ a.geometry.page
+    page_is = cc at.measured
 
     chunks_is : s.chunks ≡ length a.chunks
     chunks_is = cc at.measured
@@ -132,14 +136,15 @@ module _ {G : Ghosts Home Noted} (l : Layout) (number : ℕ) (old new : PoolSeat
       go (Root x) y was arena gives at = absurd was
 
   -- and it is a run or an element in use there
-  pub out_of : (r : RegionId) → r.place.arena ≡ number → HasTaking r (view_of old) → IfArena section.home (λ a. IsOutOf a r)
-  out_of r here hand = go section.home at_history
+  pub out_of : IsPage l.shape.page → (r : RegionId) → r.place.arena ≡ number → HasTaking r (view_of old) → IfArena section.home (λ a. IsOutOf a r)
+  out_of page r here hand = go section.home at_history
     where
       go : (x : Home) → HomeStands (measures_of l.shape (ArenaOf number)) setting got.history x → IfArena x (λ a. IsOutOf a r)
       go (Arena a) at =
           let s : ArenaState = a.value in let x : ArenaLaw = law_of s at.stands.out in
           let number_is : number ≡ s.number = cc at.measured in
-          let holds : ArenaHolds s.geometry s.number x = after-holds s.geometry s.number (noted_dids got.history) (new_arena s.geometry (length s.chunks)) x (new-holds s.geometry s.number (length s.chunks)) at.stands.told in
+          let page_is : l.shape.page ≡ s.geometry.page = cc at.measured in
+          let holds : ArenaHolds s.geometry s.number x = after-holds s.geometry s.number (noted_dids got.history) (new_arena s.geometry (length s.chunks)) x (new-holds s.geometry s.number (subst IsPage page_is page) (length s.chunks)) at.stands.told in
           (here ∙ number_is, out-slot s.geometry s.number x r holds (is_out r here hand s at))
       go (Mail x) at = tt
       go (Cache x) at = tt
@@ -153,7 +158,7 @@ module _ {G : Ghosts Home Noted} (l : Layout) (number : ℕ) (old new : PoolSeat
       go : (x : Home) → HomeStands (measures_of l.shape (ArenaOf number)) setting got.history x → IfArena x (λ a. a.takings < 9223372036854775808)
       go (Arena a) at =
           let s : ArenaState = a.value in
-          let order = after-numbers s.geometry s.number (noted_dids got.history) (new_arena s.geometry (length s.chunks)) (law_of s at.stands.out) (new-holds s.geometry s.number (length s.chunks)) at.stands.told in
+          let order = after-numbers s.geometry s.number (noted_dids got.history) (new_arena s.geometry (length s.chunks)) (law_of s at.stands.out) at.stands.told in
           let most = takings-most s.number 0 (noted_dids got.history) s.takings order in
           let many = length-map got.history (λ (n : Noted). n.did) in
           let short = got.learned.short in omega (arith, most, many, short)

@@ -4,6 +4,7 @@ use Rattle.std.specs.Prelude.{Option, Some, None, IfSome, IsTrue, is_some, optio
 use Rattle.step_law.specs.Settings.{Setting}
 use Rattle.step_law.specs.declared.Told.{Ghosts}
 use Rattle.size_classes.specs.Sizes.{class_count}
+use Rattle.size_classes.proofs.Geometries.{page_shift-is}
 use Rattle.pool_law.specs.declared.run.Shape.{Shape}
 use Rattle.pool_law.specs.declared.id.Region.{Region}
 use Rattle.pool_law.specs.declared.id.RegionId.{RegionId}
@@ -114,12 +115,12 @@ module _ {G : Ghosts Home Noted} (pool : SharedPool) (lane class : ℕ) (old new
       let of : OfCache lane class (x.id ∷ step.1.regions) = subst (OfCache lane class) (front step.0 step.1 step.3) (cache_own s lane class got.history step.0 got.learned.accepted step.2) in
       let one = one_of x.id in let c = out.cache (is_taking x.id) in
       let down = got.learned.free x.id n follows (omega (arith, one, c)) in
-      let order = shape.order_least in (
+      let order = shape.order_least in let shift = (page_shift-is s.page shape.page).least in (
         record {
           hand = subst (HasRegion x.id) (sym seen) (taken_up v x.id (CacheOf lane class) number turns n out down);
           here = subst (λ (y : Option Setting). IfSome y (λ t. IsInPlace t.grounds x.id.place x.piece)) (sym (ap (λ (w : SeatView). w.setting) seen ∙ known)) whole.0;
           owner = subst (λ (k : ℕ). k < s.lanes) (sym of.0.0) below;
-          class = subst (λ (k : ℕ). k < class_count (geometry_of s)) (sym of.0.1) (omega (arith, cached, order));
+          class = subst (λ (k : ℕ). k < class_count (geometry_of s)) (sym of.0.1) (omega (arith, cached, order, shift));
           len = whole.1;
         },
         of.0.0,

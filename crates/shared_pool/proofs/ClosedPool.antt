@@ -1,13 +1,14 @@
 -- What is known of a pool as it closes, from what the table's close told.
-use Rattle.std.proofs.Common.{◌≡◌, ℕ, ◌+◌, ◌*◌, List, ap, ◌∙◌, subst, refl, arith, Some, None}
+use Rattle.std.proofs.Common.{◌≡◌, ℕ, ◌+◌, ◌*◌, List, sym, ap, ◌∙◌, subst, refl, arith, Some, None}
 use Rattle.std.specs.Prelude.{◌≤◌, Option, length}
 use Rattle.step_law.specs.Settings.{Setting}
 use Rattle.step_law.specs.declared.Told.{Ghosts}
-use Rattle.size_classes.specs.Sizes.{below}
+use Rattle.size_classes.specs.Sizes.{IsPage, below}
 use Rattle.pool_law.specs.declared.note.Noted.{Noted}
 use Rattle.pool_law.specs.declared.run.Shape.{Shape}
 use Rattle.pool_law.specs.Legal.{ends_from}
 use Rattle.pool_table.specs.declared.table.PoolSeat.{PoolSeat}
+use Rattle.pool_table.specs.declared.views.Layout.{Layout}
 use Rattle.pool_table.specs.declared.views.Part.{Part}
 use Rattle.pool_table.specs.declared.views.SeatView.{SeatView}
 use Rattle.pool_table.specs.Closed.{IsClosed}
@@ -69,4 +70,4 @@ module _ {G : Ghosts Home Noted} (pool : SharedPool) (seats : List (PoolSeat Hom
   many = let x : ℕ = shape.lanes * shape.lanes in let y : ℕ = shape.lanes * shape.handles in let e : length homes ≡ shape.arenas + shape.lanes * 41 + x + y = closed.home_count in omega (arith, e)
 
   pub out : AreOut shape.arenas homes (left_of homes)
-  out = are_out pool.table.layout v homes words closed lanes found.0 found.1 found.2 (takings_joined pool seats done v parts)
+  out = are_out pool.table.layout v homes words closed lanes found.0 found.1 (subst (λ (y : Layout). IsPage y.shape.page) (sym pool.same_layout) pool.shape.page) found.2 (takings_joined pool seats done v parts)

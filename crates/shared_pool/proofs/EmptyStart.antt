@@ -7,6 +7,7 @@ use Rattle.std.proofs.lemmas.Option.{slice_get_within}
 use mathlib.Core.Logic.{dite}
 use native.Mathlib.Decide.{dec_le}
 use Rattle.step_law.specs.Settings.{Setting}
+use Rattle.size_classes.specs.Sizes.{IsPage}
 use Rattle.ground.specs.Ground.{Origin, Segment}
 use Rattle.ground.specs.Grounds.{Grounds}
 use Rattle.pool_law.specs.declared.id.Place.{Place}
@@ -221,7 +222,7 @@ module _ (s : Shape) where
 -- ---- The home values of a closed table.
 
 module _ (l : Layout) (v : SeatView) (homes : List (Option Home)) (words : List ℕ)
-    (closed : IsClosed HomeStands l v homes words) (lanes : AreLanes l.shape (parts_of v)) (setting : Setting) (known : v.setting ≡ Some setting) where
+    (closed : IsClosed HomeStands l v homes words) (lanes : AreLanes l.shape (parts_of v)) (setting : Setting) (known : v.setting ≡ Some setting) (page : IsPage l.shape.page) where
   abbrev s : Shape
   s = l.shape
 
@@ -245,8 +246,9 @@ module _ (l : Layout) (v : SeatView) (homes : List (Option Home)) (words : List 
   arena_there k fits (Arena a) at =
       let state : ArenaState = a.value in let law : ArenaLaw = law_of state at.stands.out in let h : List Noted = told (ArenaOf k) fits in
       let number_is : k ≡ state.number = cc at.measured in
+      let page_is : s.page ≡ state.geometry.page = cc at.measured in
       let first : ArenaLaw = new_arena state.geometry (length state.chunks) in
-      let holds : ArenaHolds state.geometry state.number first = new-holds state.geometry state.number (length state.chunks) in
+      let holds : ArenaHolds state.geometry state.number first = new-holds state.geometry state.number (subst IsPage page_is page) (length state.chunks) in
       let after : IsArenaAfter s k h law = as_told s setting k h state at in
       let out_is : out k ≡ at.stands.out = ap out_after (ap (arena_after s k) (dids_at HomeStands l v homes words closed lanes (ArenaOf k) fits) ∙ after) in
       record {
@@ -307,7 +309,7 @@ module _ (l : Layout) (v : SeatView) (homes : List (Option Home)) (words : List 
 
     at_arena : (k : ℕ) → k < s.arenas → at k ≡ 0
     at_arena k lt = let t = here (ArenaOf k) lt in
-        ap (weighs w) t.here ∙ ap (λ (xs : List Left). sum_by (λ (y : Left). w y.0) xs) (quiet 0 (k ∷ s.order ∷ s.chunks ∷ []) setting (told (ArenaOf k) lt) t.value (λ e. absurd (omega (arith, e))) (λ e. absurd (omega (arith, e))) t.stands)
+        ap (weighs w) t.here ∙ ap (λ (xs : List Left). sum_by (λ (y : Left). w y.0) xs) (quiet 0 (k ∷ s.order ∷ s.page ∷ s.chunks ∷ []) setting (told (ArenaOf k) lt) t.value (λ e. absurd (omega (arith, e))) (λ e. absurd (omega (arith, e))) t.stands)
 
     at_cache : (i : ℕ) → i < s.lanes * 40 → at (s.arenas + i) ≡ sum_by w (caches (i / 40) (i % 40)).regions
     at_cache i lt =

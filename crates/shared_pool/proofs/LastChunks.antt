@@ -105,9 +105,10 @@ module _ (l : Layout) (v : SeatView) (homes : List (Option Home)) (words : List 
       let out : List RegionId = at.stands.out in
       let number_is : k ≡ state.number = cc at.measured in
       let order_is : l.shape.order ≡ state.geometry.order = cc at.measured in
+      let page_is : l.shape.page ≡ state.geometry.page = cc at.measured in
       let chunks_is : l.shape.chunks ≡ length state.chunks = cc at.measured in
       let told = ap (arena_after l.shape k) (dids_at HomeStands l v homes words closed lanes (ArenaOf k) fits) ∙ as_told l.shape setting k (closed.objects (ArenaOf k) fits).history state at in
-      let geometry : state.geometry ≡ geometry_of l.shape = λ i. record { order = sym order_is i } in
+      let geometry : state.geometry ≡ geometry_of l.shape = λ i. record { order = sym order_is i; page = sym page_is i } in
       let named : chunk_ends state.geometry state.number (law_of state out) ≡ chunk_ends (geometry_of l.shape) k (law_of state out) = λ i. chunk_ends (geometry i) (sym number_is i) (law_of state out) in
       (chunks_is, sym (ends_out state out 0 state.chunks) ∙ named ∙ sym (ap (ends_of l.shape k) told))
   arena_at k fits (Cache q) at = absurd (cc at.measured)

@@ -29,13 +29,13 @@ use Rattle.shared_pool.proofs.Openings.{added, there_at, kept, longer_by, silent
 
 -- ---- A new value stands for no notes.
 
-chunks_are : (s : Shape) (k : ℕ) (a : ArenaState) → IsNew k s.order s.chunks a → length a.chunks ≡ s.chunks
+chunks_are : (s : Shape) (k : ℕ) (a : ArenaState) → IsNew k s.page s.order s.chunks a → length a.chunks ≡ s.chunks
 chunks_are s k a new = ap (λ (x : ArenaLaw). length x.chunks) new.law ∙ length-replicate s.chunks None
 
-arena_stands : (s : Shape) (g : Setting) (k : ℕ) (a : ArenaState) → IsNew k s.order s.chunks a → slice_get g.grounds k ≡ Some a.grounds → IsArenaAt (measures_of s (ArenaOf k)) g [] a
+arena_stands : (s : Shape) (g : Setting) (k : ℕ) (a : ArenaState) → IsNew k s.page s.order s.chunks a → slice_get g.grounds k ≡ Some a.grounds → IsArenaAt (measures_of s (ArenaOf k)) g [] a
 arena_stands s g k a new here =
     record {
-      measured = λ i. 0 ∷ sym new.number_is i ∷ (sym new.geometry i).order ∷ sym (chunks_are s k a new) i ∷ [];
+      measured = λ i. 0 ∷ sym new.number_is i ∷ (sym new.geometry i).order ∷ (sym new.geometry i).page ∷ sym (chunks_are s k a new) i ∷ [];
       stands = record {
         out = [];
         told = ap (λ (x : ArenaLaw). Some x) ((λ i. new_arena (new.geometry i) (chunks_are s k a new i)) ∙ sym new.law);
@@ -79,8 +79,8 @@ mail_stands s g sender receiver room (Root r) here is = absurd is
 
 root_stands : (s : Shape) (g : Setting) (place : ℕ) (x : Home) → IsNewRoot x → HomeStands (measures_of s (RootOf place)) g [] x
 root_stands s g place (Root r) is =
-    subst (IsPlaceAt (4 ∷ place ∷ s.handles ∷ s.lanes ∷ s.order ∷ []) g []) (sym is)
-    (record { place = place; handles = s.handles; lanes = s.lanes; order = s.order; measured = refl; stands = record { told = refl; root = tt }; region = tt })
+    subst (IsPlaceAt (4 ∷ place ∷ s.handles ∷ s.lanes ∷ s.order ∷ s.page ∷ []) g []) (sym is)
+    (record { place = place; handles = s.handles; lanes = s.lanes; order = s.order; page = s.page; measured = refl; stands = record { told = refl; root = tt }; region = tt })
 root_stands s g place (Arena a) is = absurd is
 root_stands s g place (Cache q) is = absurd is
 root_stands s g place (Bin b) is = absurd is

@@ -102,6 +102,7 @@ home_born s setting p h n (Root y) (Root t) root region handle watch at po pn ma
       handles = s.handles;
       lanes = s.lanes;
       order = s.order;
+      page = s.page;
       measured = refl;
       stands = birth_stands setting.grounds p s.handles h n y.value root region handle watch (place_at s setting p h (Root y) at) may.vacant place next fits in_place handle_place handle_lane is watch_is;
       region = (owner, class, len);

@@ -45,7 +45,7 @@ module _ {G : Ghosts Home Noted} (l : Layout) (p : ℕ) (old new : PoolSeat Home
   stands_here = stood l (RootOf p) old new section got setting known
 
   pub place_here : IsPlace section.home
-  place_here = is_place setting got.history p l.shape.handles l.shape.lanes l.shape.order section.home stands_here
+  place_here = is_place setting got.history p l.shape.handles l.shape.lanes l.shape.order l.shape.page section.home stands_here
 
   -- a place in hand may bear a root
   pub bears_here : InHand p (view_of old) → NoneWaits p (view_of old) → IfPlace section.home MayBear

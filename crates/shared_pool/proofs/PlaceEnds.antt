@@ -64,8 +64,9 @@ taken_out s setting p h root y region handle whole at is out =
     let here : IsRootAt setting.grounds p s.handles h r = subst (λ (o : Option RootState). IfSome o (IsRootAt setting.grounds p s.handles h)) there.1 at.root in
     let got : TakenOut region handle r = subst (λ (o : Option RootState). IfSome o (TakenOut region handle)) there.1 out in
     let lanes_is : whole.lanes ≡ s.lanes = cc whole.measured in let order_is : whole.order ≡ s.order = cc whole.measured in
-    let known : Fits s.lanes s.order r =
-    subst (λ (m : ℕ × ℕ). Fits m.0 m.1 r) (λ i. (lanes_is i, order_is i)) (subst (λ (o : Option RootState). IfSome o (Fits whole.lanes whole.order)) there.1 whole.region) in
+    let page_is : whole.page ≡ s.page = cc whole.measured in
+    let known : Fits s.lanes s.order s.page r =
+    subst (λ (m : ℕ × ℕ × ℕ). Fits m.0 m.1 m.2 r) (λ i. (lanes_is i, order_is i, page_is i)) (subst (λ (o : Option RootState). IfSome o (Fits whole.lanes whole.order whole.page)) there.1 whole.region) in
     record {
       right = (refl, ap Some got.0 ∙ sym (ap (λ (o : Option RootPlace). option_map (λ (q : Present). q.region) (present_in o)) at.told ∙ ap (λ (o : Option RootState). option_map (λ (q : Present). q.region) (option_map law_root o)) there.1), refl);
       in_place = subst (λ (x : RegionId × _). IsInPlace setting.grounds x.0.place x.1) (λ i. (sym got.0 i, sym got.1 i)) here.in_place;
@@ -104,7 +105,7 @@ home_vacated s setting p h n root (Root y) (Root t) at po pn is did made =
     let step : place_step p (law_place y.value) (Did.End r.root) ≡ Some (law_place (vacated y.value)) = law_ends y.value r there.1 (fitting r here) p in
     let told = after-noted (place_step p) new_place h n ∙ ap (option_and_then (λ t. place_step p t n.did)) stands.told ∙ ap (place_step p (law_place y.value)) (did ∙ ap Did.End (sym there.2)) ∙ step in
     subst (λ (z : PlaceState). IsPlaceAt (measures_of s (RootOf p)) setting (h ++ n ∷ []) z) (sym made)
-    (record { place = p; handles = s.handles; lanes = s.lanes; order = s.order; measured = refl; stands = record { told = told; root = tt }; region = tt })
+    (record { place = p; handles = s.handles; lanes = s.lanes; order = s.order; page = s.page; measured = refl; stands = record { told = told; root = tt }; region = tt })
   where
     fitting : (r : RootState) → IsRootAt setting.grounds p s.handles h r → r.root.capacity ≤ length r.piece.bytes
     fitting r here = let a = here.fits in let b = here.in_place.size in omega (arith, a, b)
@@ -122,7 +123,7 @@ module _ {G : Ghosts Home Noted} (l : Layout) (p : ℕ) (old new : PoolSeat Home
   stands_here = stood l (RootOf p) old new section got setting known
 
   pub place_there : IsPlace section.home
-  place_there = is_place setting got.history p l.shape.handles l.shape.lanes l.shape.order section.home stands_here
+  place_there = is_place setting got.history p l.shape.handles l.shape.lanes l.shape.order l.shape.page section.home stands_here
 
   pub ends_here : IfPlace section.home MayEnd
   ends_here = home_ends l.shape setting p got.history root section.home stands_here is

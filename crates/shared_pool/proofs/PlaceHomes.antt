@@ -22,7 +22,7 @@ use Rattle.table_law.specs.Measures.{measures_of}
 use Rattle.table_law.proofs.Runs.{right_push}
 use Rattle.leak_records.specs.Records.{Tracked, HasRecords, with_access, with_last, is_keeping}
 use Rattle.leak_records.proofs.RecordLaws.{records_more, dropped-most}
-use Rattle.size_classes.specs.Sizes.{of_order, class_count}
+use Rattle.size_classes.specs.Sizes.{of_pages, class_count}
 use Rattle.pool_table.specs.declared.views.Layout.{Layout}
 use Rattle.pool_table.specs.declared.table.PoolSeat.{PoolSeat}
 use Rattle.pool_table.specs.declared.table.Section.{Section}
@@ -40,12 +40,12 @@ use Rattle.shared_pool.proofs.PlaceLaws.{same_root-refl}
 use Rattle.shared_pool.proofs.PlaceRecords.{access_in, is_at, accesses_more, watch_same, short}
 use Rattle.shared_pool.proofs.Endings.{stood, IsNext}
 
-pub is_place : (setting : Setting) (h : List Noted) (place handles lanes order : ℕ) (home : Home) → HomeStands (4 ∷ place ∷ handles ∷ lanes ∷ order ∷ []) setting h home → IsPlace home
-is_place setting h place handles lanes order (Arena a) at = absurd (cc at.measured)
-is_place setting h place handles lanes order (Cache q) at = absurd (cc at.measured)
-is_place setting h place handles lanes order (Bin b) at = absurd (cc at.measured)
-is_place setting h place handles lanes order (Mail m) at = absurd (cc at.measured)
-is_place setting h place handles lanes order (Root s) at = tt
+pub is_place : (setting : Setting) (h : List Noted) (place handles lanes order page : ℕ) (home : Home) → HomeStands (4 ∷ place ∷ handles ∷ lanes ∷ order ∷ page ∷ []) setting h home → IsPlace home
+is_place setting h place handles lanes order page (Arena a) at = absurd (cc at.measured)
+is_place setting h place handles lanes order page (Cache q) at = absurd (cc at.measured)
+is_place setting h place handles lanes order page (Bin b) at = absurd (cc at.measured)
+is_place setting h place handles lanes order page (Mail m) at = absurd (cc at.measured)
+is_place setting h place handles lanes order page (Root s) at = tt
 
 -- what a root place tells, by its measures
 pub place_at : (s : Shape) (setting : Setting) (p : ℕ) (h : List Noted) (home : Home) → HomeStands (measures_of s (RootOf p)) setting h home →
@@ -119,8 +119,8 @@ access_stands grounds p handles h n access old new at a is =
     record { told = told; root = subst (λ (y : PlaceState). IfSome y.present (IsRootAt grounds p handles longer_h)) (sym a.is) there }
 
 -- what a root place's measures tell of its region
-abbrev pub Fits : ℕ → ℕ → RootState → Type 0
-Fits lanes order r = (r.region.owner < lanes) × (r.region.class < class_count (of_order order)) × HasClassLength r.region
+abbrev pub Fits : ℕ → ℕ → ℕ → RootState → Type 0
+Fits lanes order page r = (r.region.owner < lanes) × (r.region.class < class_count (of_pages order page)) × HasClassLength r.region
 
 -- the same, of the home value
 pub place_more : (measures : List ℕ) (setting : Setting) (h : List Noted) (n : Noted) (access : Access) (old new : PlaceState) → IsPlaceAt measures setting h old → Accesses old n.did access new →
@@ -131,9 +131,10 @@ place_more measures setting h n access old new at a is =
       handles = at.handles;
       lanes = at.lanes;
       order = at.order;
+      page = at.page;
       measured = at.measured;
       stands = access_stands setting.grounds at.place at.handles h n access old new at.stands a is;
-      region = subst (λ (y : PlaceState). IfSome y.present (Fits at.lanes at.order)) (sym a.is) (subst (λ (o : Option RootState). IfSome o (Fits at.lanes at.order)) a.was at.region);
+      region = subst (λ (y : PlaceState). IfSome y.present (Fits at.lanes at.order at.page)) (sym a.is) (subst (λ (o : Option RootState). IfSome o (Fits at.lanes at.order at.page)) a.was at.region);
     }
 
 pub home_more : (measures : List ℕ) (setting : Setting) (h : List Noted) (n : Noted) (access : Access) (old new : Home) → IsPlace old → IsPlace new → IsAccessed old n.did access new →
@@ -160,7 +161,7 @@ place_follows s setting p h n (Mail m) t is at right = absurd is
 -- a section of a root place whose root the seat counts
 module _ {G : Ghosts Home Noted} (l : Layout) (root : RootId) (old new : PoolSeat Home G) (section : Section Home) (got : GotSection HomeStands l (RootOf root.place) old new section) (setting : Setting) (known : (view_of old).setting ≡ Some setting) (counted : root_after root.place got.history ≡ Some root) where
   pub here : IsPlace section.home
-  here = is_place setting got.history root.place l.shape.handles l.shape.lanes l.shape.order section.home (stood l (RootOf root.place) old new section got setting known)
+  here = is_place setting got.history root.place l.shape.handles l.shape.lanes l.shape.order l.shape.page section.home (stood l (RootOf root.place) old new section got setting known)
 
   -- it may be accessed
   pub accessible : (offset n : ℕ) → offset + n ≤ root.capacity → IfPlace section.home (MayAccess offset n)

@@ -5,7 +5,7 @@ use Rattle.pool_law.specs.declared.report.ChunkEnd.{ChunkEnd}
 use Rattle.pool_law.specs.declared.report.Watch.{Watch}
 use Rattle.pool_law.specs.declared.run.Shape.{Shape}
 use Rattle.pool_law.specs.Arenas.{listed, chunk_ends}
-use Rattle.pool_law.specs.Homes.{objects_of}
+use Rattle.pool_law.specs.Homes.{lane_homes, objects_of}
 use Rattle.leak_records.specs.declared.live.LiveRoot.{LiveRoot}
 use Rattle.pool_arena.specs.ArenaStates.{ArenaState, law_of}
 use Rattle.shared_pool.specs.RootPlaces.{RootState, PlaceState}
@@ -78,7 +78,7 @@ IsPlaceHere _ = ⊥
 
 -- where the first root place stands among the home values
 abbrev pub first_place : Shape → ℕ
-first_place s = s.arenas + s.lanes * 41 + s.lanes * s.lanes
+first_place s = s.arenas + s.lanes * lane_homes + s.lanes * s.lanes
 
 -- what is told of the root places with these numbers
 abbrev pub told_from : Shape → List (Option Home) → List ℕ → List ℕ → List LiveRoot

@@ -3,7 +3,7 @@ use Rattle.std.specs.Prelude.{◌≡◌, ℕ, ◌*◌, ◌%◌, ◌<◌, List, [
 use Rattle.step_law.specs.declared.Told.{Ghosts}
 use Rattle.pool_law.specs.declared.note.Noted.{Noted}
 use Rattle.pool_law.specs.declared.run.Shape.{Shape}
-use Rattle.pool_law.specs.Limits.{cache_capacity}
+use Rattle.pool_law.specs.Limits.{cached_classes, cache_capacity}
 use Rattle.pool_arena.specs.ArenaStates.{IsNew}
 use Rattle.region_cache.specs.Queues.{new_queue}
 use Rattle.handle_bin.specs.Bins.{full_bin}
@@ -19,7 +19,7 @@ use Rattle.shared_pool.specs.Seats.{IsPoolSeat}
 
 -- the value is that of the k-th arena, cache, bin, mail or root place, at first
 abbrev pub IsFirstArena : Shape → ℕ → Home → Type 0
-IsFirstArena s k (Arena a) = IsNew k s.order s.chunks a.value
+IsFirstArena s k (Arena a) = IsNew k s.page s.order s.chunks a.value
 IsFirstArena s k _ = ⊥
 
 abbrev pub IsCacheOf : ℕ → Home → Type 0
@@ -27,7 +27,7 @@ IsCacheOf class (Cache q) = q.value ≡ new_queue (cache_capacity class)
 IsCacheOf class _ = ⊥
 
 abbrev pub IsFirstCache : ℕ → Home → Type 0
-IsFirstCache k x = IsCacheOf (k % 40) x
+IsFirstCache k x = IsCacheOf (k % cached_classes) x
 
 abbrev pub IsFirstBin : ℕ → ℕ → Home → Type 0
 IsFirstBin handles k (Bin b) = b.value ≡ full_bin k handles
@@ -58,7 +58,7 @@ pub record AreFirst (s : Shape) (mail : List ℕ) (homes : List Home) : Type 0 w
   pub third : List Home
   pub fourth : List Home
   pub arenas : Adds (IsFirstArena s) s.arenas [] first
-  pub caches : Adds IsFirstCache (s.lanes * 40) first second
+  pub caches : Adds IsFirstCache (s.lanes * cached_classes) first second
   pub bins : Adds (IsFirstBin s.handles) s.lanes second third
   pub mails : Adds (IsFirstMail mail) (s.lanes * s.lanes) third fourth
   pub roots : Adds (λ k. IsNewRoot) (s.lanes * s.handles) fourth homes

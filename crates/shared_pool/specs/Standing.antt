@@ -4,7 +4,7 @@ use Rattle.step_law.specs.Settings.{Setting}
 use Rattle.pool_law.specs.declared.id.RegionId.{RegionId}
 use Rattle.pool_law.specs.declared.note.Did.{Did}
 use Rattle.pool_law.specs.declared.note.Noted.{Noted}
-use Rattle.size_classes.specs.Sizes.{of_order, class_count, size_at}
+use Rattle.size_classes.specs.Sizes.{of_pages, class_count, size_at}
 use Rattle.pool_law.specs.Limits.{cache_capacity}
 use Rattle.pool_law.specs.Views.{IsView}
 use Rattle.pool_arena.specs.ArenaStates.{ArenaState}
@@ -21,7 +21,8 @@ use Rattle.shared_pool.specs.declared.home.Home.TheVariants.{Arena, Cache, Bin, 
 -- the arena of these measures, and its history
 pub record IsArenaAt
     (measures : List ℕ) (setting : Setting) (h : List Noted) (a : ArenaState) : Type 0 where
-  pub measured : measures ≡ 0 ∷ a.number ∷ a.geometry.order ∷ length a.chunks ∷ []
+  pub measured : measures
+      ≡ 0 ∷ a.number ∷ a.geometry.order ∷ a.geometry.page ∷ length a.chunks ∷ []
   pub stands : ArenaStandsFor setting.grounds h a
 
 -- the region is as long as its class says
@@ -62,10 +63,11 @@ pub record IsPlaceAt
   pub handles : ℕ
   pub lanes : ℕ
   pub order : ℕ
-  pub measured : measures ≡ 4 ∷ place ∷ handles ∷ lanes ∷ order ∷ []
+  pub page : ℕ
+  pub measured : measures ≡ 4 ∷ place ∷ handles ∷ lanes ∷ order ∷ page ∷ []
   pub stands : PlaceStandsFor setting.grounds place handles h s
   pub region : IfSome s.present (λ r. (r.region.owner < lanes)
-      × (r.region.class < class_count (of_order order)) × HasClassLength r.region)
+      × (r.region.class < class_count (of_pages order page)) × HasClassLength r.region)
 
 -- the value is that of the object with these measures, and stands for its history
 abbrev pub HomeStands : List ℕ → Setting → List Noted → Home → Type 0

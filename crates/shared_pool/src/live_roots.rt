@@ -15,6 +15,7 @@ use crate::root_place::{Root, RootPlace};
 use leak_records::{LiveRoot, Tracker};
 use pool_law::list::Items;
 use pool_law::{Access, Shape};
+use size_classes::CACHED_CLASSES;
 
 // The watched roots that are present, by root place, in a vector that has room. Each gets one of
 // the spare vectors for its records.
@@ -56,7 +57,7 @@ fn first_place(shape: &Shape) -> usize
     ensures { result ≡ first_place shape.now }
 {
     let lanes = shape.lanes as usize;
-    shape.arenas as usize + lanes * 41 + lanes * lanes
+    shape.arenas as usize + lanes * (CACHED_CLASSES as usize + 1) + lanes * lanes
 }
 
 // The count in the word of a root's count.

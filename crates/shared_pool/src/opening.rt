@@ -1,7 +1,7 @@
 //! How a pool is made: one home value for each object, in the order of the objects.
 
 ghost use Rattle.std.specs.Prelude.{◌≡◌, ◌*◌, ◌<◌, ◌≤◌, ◌^◌, ◌++◌, ◌∷◌, [], length, IfOk};
-ghost use Rattle.pool_law.specs.Limits.{IsShape, cache_capacity};
+ghost use Rattle.pool_law.specs.Limits.{IsShape, cached_classes, cache_capacity};
 ghost use Rattle.shared_pool.specs.Opening.{IsFirstArena, IsCacheOf, IsFirstCache, IsFirstBin, IsMailOf, IsFirstMail, IsNewRoot, Adds, AreFirst, AreOpened};
 
 use crate::home::Home;
@@ -13,6 +13,7 @@ use pool_arena::Arena;
 use pool_law::Shape;
 use pool_table::{Layout, PoolTable};
 use region_cache::Cache;
+use size_classes::{CACHED_CLASSES, NORMAL_CACHE_CAPACITY, SMALL_CACHE_CAPACITY};
 use std::alloc::{AllocError, AllocFailed, Global};
 
 impl SharedPool {
@@ -76,10 +77,10 @@ fn add_arenas(alloc: Global, shape: &Shape, homes: &mut Vec<Home>) -> Result<(),
 fn add_caches(alloc: Global, shape: &Shape, homes: &mut Vec<Home>) -> Result<(), AllocError>
     requires { IsShape shape.now }
     ensures { IfOk result (λ u.
-        Adds IsFirstCache (shape.now.lanes * 40) homes.old.items homes.new.items) }
+        Adds IsFirstCache (shape.now.lanes * cached_classes) homes.old.items homes.new.items) }
 {
-    for index in 0..shape.lanes * 40 {
-        let home = cache_home(alloc, index % 40)?;
+    for index in 0..shape.lanes * CACHED_CLASSES {
+        let home = cache_home(alloc, index % CACHED_CLASSES)?;
         add(homes, home)?;
     }
     Ok(())
@@ -139,7 +140,7 @@ fn arena_home(alloc: Global, shape: &Shape, number: u32) -> Result<Home, AllocEr
     requires number { number < shape.now.arenas }
     ensures { IfOk result (IsFirstArena shape.now number) }
 {
-    let arena = Arena::new(alloc, number, shape.order, shape.chunks)?;
+    let arena = Arena::new(alloc, number, shape.page, shape.order, shape.chunks)?;
     match Box::new(alloc, arena) {
         Ok(arena) => Ok(Home::Arena(arena)),
         Err(AllocFailed { value }) => {
@@ -150,7 +151,7 @@ fn arena_home(alloc: Global, shape: &Shape, number: u32) -> Result<Home, AllocEr
 }
 
 fn cache_home(alloc: Global, class: u32) -> Result<Home, AllocError>
-    requires { class < 40 }
+    requires { class < cached_classes }
     ensures { IfOk result (IsCacheOf class) }
 {
     let cache = Cache::new(alloc, capacity(class))?;
@@ -167,7 +168,11 @@ fn cache_home(alloc: Global, class: u32) -> Result<Home, AllocError>
 fn capacity(class: u32) -> u32
     ensures { result ≡ cache_capacity class }
 {
-    if class < 39 { 256 } else { 64 }
+    if class < CACHED_CLASSES - 1 {
+        SMALL_CACHE_CAPACITY
+    } else {
+        NORMAL_CACHE_CAPACITY
+    }
 }
 
 fn bin_home(alloc: Global, lane: u32, handles: u32) -> Result<Home, AllocError>

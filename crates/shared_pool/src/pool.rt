@@ -2,6 +2,7 @@
 
 ghost use Rattle.std.specs.Prelude.{◌≡◌, ◌-◌, ◌+◌, ◌<◌, Some, IfSome, IsSome};
 ghost use Rattle.pool_law.specs.Limits.{IsShape};
+ghost use Rattle.pool_law.proofs.ShapeLemmas.{shape-prop};
 ghost use Rattle.pool_law.specs.Naming.{noted_by};
 ghost use Rattle.pool_law.specs.NotedHistories.{MayNote};
 ghost use Rattle.pool_table.specs.declared.views.Entry.TheVariants.{At};
@@ -27,7 +28,7 @@ pub struct SharedPool {
     pub(crate) table: PoolTable<Home>,
     pub(crate) layout: Layout,
     ghost same_layout: { table.layout ≡ layout },
-    ghost shape: { IsShape layout.shape },
+    ghost shape: { IsShape layout.shape } by { shape-prop layout.shape },
 }
 
 // Ends a section with this note, and answers its number.

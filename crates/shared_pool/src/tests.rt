@@ -11,6 +11,7 @@ mod rounds;
 use crate::{PoolEnd, PoolSeat, SharedPool, Went};
 use pool_law::{Level, Shape};
 use pool_table::Layout;
+use size_classes::DEFAULT_PAGE;
 use std::alloc::{AllocError, Global};
 use std::mem::ManuallyDrop;
 use std::test::Fail;
@@ -18,6 +19,7 @@ use std::test::Fail;
 // One lane with one handle, over one chunk of 65,536 bytes.
 const LAYOUT: Layout = Layout {
     shape: Shape {
+        page: DEFAULT_PAGE,
         order: 3,
         arenas: 1,
         chunks: 1,

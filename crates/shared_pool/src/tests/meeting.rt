@@ -10,6 +10,7 @@ use crate::tests::rounds::{done, stock};
 use crate::{Fetched, PoolSeat, SharedPool, Went};
 use pool_law::{Held, Level, Object, Parcel, RootId, Shape, ViewData};
 use pool_table::Layout;
+use size_classes::DEFAULT_PAGE;
 use std::alloc::{AllocError, Global};
 use std::mem::ManuallyDrop;
 use std::process::Abort;
@@ -20,6 +21,7 @@ use std::thread::{Threads, join_mut, yield_now};
 // Two lanes with one handle each.
 const LAYOUT: Layout = Layout {
     shape: Shape {
+        page: DEFAULT_PAGE,
         order: 3,
         arenas: 1,
         chunks: 1,

@@ -14,6 +14,7 @@ use crate::{PoolSeat, Put, Release, Retired, SharedPool, Went};
 use handle_bin::Handle;
 use pool_law::{Region, RootId};
 use pool_table::EndToken;
+use size_classes::CACHED_CLASSES;
 use std::process::Abort;
 use std::test::Fail;
 
@@ -136,7 +137,7 @@ fn come_home(
         }
     }
     let class = region.id.class;
-    assert!(rt; class < 40);
+    assert!(rt; class < CACHED_CLASSES);
     match pool.put_cached(seat, region) {
         Went::Did(number, Put::Kept) => assert_eq!(rt; number, 2),
         Went::Did(_, Put::Back(region, _)) => {

@@ -58,7 +58,7 @@ returns-clause-region c =
 
     was : IsArena c.in-Ok.section.home
     was =
-        is_arena c.requires.seat.setting c.in-Ok.ensures.got.history number l.shape.order l.shape.chunks c.in-Ok.section.home
+        is_arena c.requires.seat.setting c.in-Ok.ensures.got.history number l.shape.order l.shape.page l.shape.chunks c.in-Ok.section.home
         (stood l (Arena number) c.args.seat.now c.claim.new.seat c.in-Ok.section c.in-Ok.ensures.got c.requires.seat.setting c.requires.seat.settled)
 
     below : lane_of c.args.seat.now < l.shape.lanes
