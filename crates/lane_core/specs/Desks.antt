@@ -1,6 +1,6 @@
 -- What a lane works with, and what a turn of it does.
 use Rattle.std.specs.Prelude.{◌≡◌, ◌≢◌, ℕ, ◌+◌, ◌*◌, ◌<◌, ◌≤◌, ◌==◌, if◌then◌else◌, true, false, ⊤, List, [], ◌∷◌, ◌++◌, length, map, Some, None, IfSome, slice_get, vec_capacity}
-use Rattle.size_classes.specs.Sizes.{of_order, class_of}
+use Rattle.size_classes.specs.Sizes.{class_of}
 use Rattle.pool_law.specs.declared.command.Command.{Command}
 use Rattle.pool_law.specs.declared.note.Held.{Held}
 use Rattle.pool_law.specs.declared.run.Reply.{Reply}
@@ -55,7 +55,7 @@ entries_of d = map entry_of (notes_of d)
 -- what its seat noted
 pub record IsDesk (pool : SharedPool) (hand : Hand) (d : Desk) : Type 0 where
   pub shape : d.shape ≡ pool.table.layout.shape
-  pub classes : d.classes ≡ of_order d.shape.order
+  pub classes : d.classes ≡ geometry_of d.shape
   pub seat : IsPoolSeat pool d.seat
   pub held : IsHeld hand (view_of d.seat)
   pub log : d.notes.items ≡ map note_of (notes_of d)

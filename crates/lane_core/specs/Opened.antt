@@ -1,14 +1,13 @@
 -- The seat and the commands of a new lane.
 use Rattle.std.specs.Prelude.{◌≡◌, ℕ, ◌+◌, ◌*◌, ◌<◌, ◌≤◌, ⊤, List, [], length, replicate, All, Some, None, IfSome, slice_get, vec_capacity}
 use Rattle.step_law.specs.declared.Told.{Ghosts}
-use Rattle.size_classes.specs.Sizes.{of_order}
 use Rattle.pool_law.specs.declared.command.Command.{Command}
 use Rattle.pool_law.specs.declared.id.RootId.{RootId}
 use Rattle.pool_law.specs.declared.note.Noted.{Noted}
 use Rattle.pool_law.specs.declared.run.Shape.{Shape}
 use Rattle.pool_law.specs.Bounds.{note_bound}
 use Rattle.pool_law.specs.Legal.{AreCommands}
-use Rattle.pool_law.specs.Limits.{IsShape}
+use Rattle.pool_law.specs.Limits.{IsShape, geometry_of}
 use Rattle.leak_records.specs.Records.{new_sampler}
 use Rattle.pool_table.specs.declared.table.PoolSeat.{PoolSeat}
 use Rattle.pool_table.specs.Seats.{view_of}
@@ -52,7 +51,7 @@ pub record AreFirst (shape : Shape) (commands : List Command) : Type 0 where
 -- what a new lane of this number is made of, beside its commands and its seat: none of its names is
 -- bound, it counts no root, and there is room for its log
 pub record AreParts (shape : Shape) (lane : ℕ) (commands : List Command) (p : Parts) : Type 0 where
-  pub classes : p.classes ≡ of_order shape.order
+  pub classes : p.classes ≡ geometry_of shape
   pub names : p.names ≡ replicate (length p.names) None
   pub below : All (ChangesBelow (length p.names)) commands
   pub counts : (root : RootId) → counted p.counts root ≡ 0

@@ -14,6 +14,7 @@ use handle_bin::Handle;
 use leak_records::Sampler;
 use pool_law::{Did, Held, Note, Object, RefDid, Region, RegionId, RootId, Shape};
 use shared_pool::{PoolSeat, SharedPool, Went};
+use size_classes::CACHED_CLASSES;
 
 /// What is to be done next in an allocation.
 pub enum Allotting {
@@ -41,9 +42,6 @@ pub enum Allots {
     /// The arena was full.
     Full,
 }
-
-/// The classes below this one have a cache.
-pub const CACHED_CLASSES: u32 = 40;
 
 /// Does the next thing of an allocation of `size` bytes, whose class is `class`, and writes its
 /// notes into the log.

@@ -56,7 +56,7 @@ pub(crate) struct Desk {
 }
 
 /// A lane sweeps its caches once so many allocations asked one.
-const SWEEP_PERIOD: u32 = 8192;
+pub(crate) const SWEEP_PERIOD: u32 = 8192;
 
 /// What a command has still to do once it has begun.
 pub(crate) enum Stage {

@@ -14,10 +14,10 @@ ghost use Rattle.shared_pool.specs.Seats.{IsPoolSeat, IsNoted, FoundBusy};
 ghost use Rattle.lane_core.specs.declared.draining.Draining.TheVariants.{Ask, Shed, Give, Done};
 ghost use Rattle.lane_core.specs.Drainings.{MayDrain, HasDrained, IsNext, IsReadNext, quota_note, hand_of, left_of};
 
-use crate::allotment::CACHED_CLASSES;
 use crate::notes::{at, lane_of, write};
 use pool_law::{Did, Held, Note, Object, Region};
 use shared_pool::{PoolSeat, SharedPool, Went};
+use size_classes::CACHED_CLASSES;
 
 /// What each cache is asked for: what it doesn't need, or all that it has.
 #[derive(Clone, Copy)]

@@ -324,7 +324,7 @@ fn equipped(
     requires lane { IsSome (view_of seat.now).own.number }
     ensures { IfOk result (AreParts shape.now (lane_of seat.now) commands.now) }
 {
-    let classes = SizeClasses::new(alloc, shape.order)?;
+    let classes = SizeClasses::new(alloc, shape.order, shape.page)?;
     let names = Names::new(alloc, name_count(commands.items()))?;
     let counts = OwnCounts::new(alloc, shape.lanes * shape.handles)?;
     let replies = Vec::with_capacity(alloc, commands.items().len())?;

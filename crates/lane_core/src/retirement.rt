@@ -6,12 +6,12 @@ ghost use Rattle.std.specs.Prelude.{◌+◌, ◌<◌, ◌≤◌, length, vec_cap
 ghost use Rattle.lane_core.specs.declared.retirement.Ending.{Ending};
 ghost use Rattle.lane_core.specs.Endings.{MayEnd, HasEnded, left_of};
 
-use crate::allotment::CACHED_CLASSES;
 use crate::notes::{at, to, write};
 use handle_bin::Handle;
 use pool_law::{Did, Held, Note, Object, RefDid, Region};
 use pool_table::EndToken;
 use shared_pool::{PoolSeat, Put, Retired, SharedPool, Went};
+use size_classes::CACHED_CLASSES;
 
 /// What is to be done next at the end of a root.
 pub enum Ending {

@@ -5,7 +5,13 @@ ghost use Rattle.pool_law.specs.Bounds.{may_ask, most_notes, note_bound};
 ghost use Rattle.lane_core.specs.Named.{ChangesBelow};
 ghost use Rattle.lane_core.specs.Opened.{IsPlain};
 
+use crate::desk::SWEEP_PERIOD;
 use pool_law::Command;
+use size_classes::CACHED_CLASSES;
+
+// How many caches a lane has, and how many asks it sweeps them behind.
+const CACHES: usize = CACHED_CLASSES as usize;
+const PERIOD: usize = SWEEP_PERIOD as usize;
 
 /// One more than the greatest name of the commands, or none.
 pub(crate) fn name_count(commands: &[Command]) -> usize
@@ -49,13 +55,13 @@ pub(crate) fn note_bound(commands: &[Command]) -> usize
     ensures bound { result ≡ note_bound commands.now }
     ensures most { result ≤ 1048576 }
 {
-    let mut bound = 40;
+    let mut bound = CACHES;
     let mut asks = 0;
     for command in commands {
         bound += bound_of(command);
         asks += asks_of(command);
     }
-    bound + 40 * (asks / 8192) + 2 * asks
+    bound + CACHES * (asks / PERIOD) + 2 * asks
 }
 
 // The most notes of one command.

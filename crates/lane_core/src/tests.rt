@@ -12,6 +12,7 @@ use crate::{Gate, Lane, Pass, Played, Stepped, finish};
 use pool_law::{Bytes, Command, CommandList, Did, Level, Note, Object, Shape};
 use pool_table::Layout;
 use shared_pool::{PoolSeat, SharedPool};
+use size_classes::DEFAULT_PAGE;
 use std::alloc::{AllocError, Global};
 use std::mem::ManuallyDrop;
 use std::process::Abort;
@@ -30,6 +31,7 @@ impl Gate for OpenGate {
 // One lane with four handles, over one chunk of 4,194,304 bytes.
 const LAYOUT: Layout = Layout {
     shape: Shape {
+        page: DEFAULT_PAGE,
         order: 9,
         arenas: 1,
         chunks: 1,

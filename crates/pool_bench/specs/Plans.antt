@@ -1,5 +1,6 @@
 -- What the words may ask for, and the pool for it.
 use Rattle.std.specs.Prelude.{◌≡◌, ◌*◌, ◌<◌, ◌≤◌}
+use Rattle.size_classes.specs.declared.TheConstants.{DEFAULT_PAGE}
 use Rattle.pool_table.specs.declared.views.Layout.{Layout}
 use Rattle.pool_bench.specs.declared.words.Plan.{Plan}
 use Rattle.pool_bench.specs.Works.{block_turns, block_moves}
@@ -19,6 +20,7 @@ pub record IsPlan (p : Plan) : Type 0 where
 
 -- a lane for each thread, with the turns and moves of its blocks
 pub record IsLayoutOf (p : Plan) (l : Layout) : Type 0 where
+  pub page : l.shape.page ≡ DEFAULT_PAGE
   pub order : l.shape.order ≡ 9
   pub arenas : l.shape.arenas ≡ p.arenas
   pub chunks : l.shape.chunks ≡ p.chunks

@@ -107,9 +107,9 @@ fn measure<R: Threads + Wait + Sync + Clock + AllocGlobal>(
     requires { IsPlan plan.now }
 {
     let mail = mail_for(rt.alloc(), plan)?;
-    let sizes = SizeClasses::new(rt.alloc(), 9)?;
     let layout = layout_of(plan);
     let shape = layout.shape;
+    let sizes = SizeClasses::new(rt.alloc(), shape.order, shape.page)?;
     let rooms = rooms_for(rt.alloc(), plan.threads)?;
     let (pool, seats) = SharedPool::new(rt.alloc(), layout, mail.as_slice())?;
     let (mut runners, spare) = match runners_of(rt.alloc(), seats, rooms) {

@@ -8,6 +8,7 @@ use crate::passed::next_lane;
 use crate::work::Workload;
 use pool_law::{Level, Shape};
 use pool_table::Layout;
+use size_classes::DEFAULT_PAGE;
 use std::alloc::{AllocError, Global};
 
 /// What the words ask for.
@@ -154,6 +155,7 @@ pub fn layout_of(plan: &Plan) -> Layout
 {
     Layout {
         shape: Shape {
+            page: DEFAULT_PAGE,
             order: 9,
             arenas: plan.arenas,
             chunks: plan.chunks,
