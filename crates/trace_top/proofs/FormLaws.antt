@@ -14,8 +14,9 @@ use Rattle.trace_top.specs.declared.settings.Setting.{Setting}
 use Rattle.trace_top.specs.declared.settings.Setting.TheVariants.{Order, Arenas, Chunks, Handles, Workers, Interval, Generate, Lanes, Commands}
 use Rattle.trace_top.specs.declared.words.Given.{Given}
 use Rattle.trace_top.specs.declared.words.Given.TheVariants as givens
-use Rattle.trace_top.specs.declared.words.Options.{Options}
-use Rattle.trace_top.specs.Settings.{history_name, is_numeral, is_within, level_name, level_named, level_word, levels, named, number_for, row_of, settings}
+use Rattle.trace_top.specs.declared.words.RunOptions.{RunOptions}
+use Rattle.trace_text.specs.Options.{level_named, level_word, levels}
+use Rattle.trace_top.specs.Settings.{history_name, is_numeral, is_within, level_name, named, number_for, row_of, settings}
 use Rattle.trace_top.specs.Words.{given_alone, given_by, givens_in, has_sign, is_flag, is_sign, is_whole, level_given, number_given, options_given, options_of, with_given}
 use Rattle.trace_top.proofs.WordLaws.{inside, kept}
 use Rattle.trace_top.specs.WordForm.{HasForm, IsNumberFor, IsValued, OfHistory, OfLevel, OfNumber, Written, given_of, name_and_value, words_of}
@@ -366,7 +367,7 @@ spelled (word ∷ next ∷ words) gs e =
 
 -- ---- both ways
 
-pub form_from : (words : List (List ℕ)) (options : Options) → options_of words ≡ Some options → HasForm words options
+pub form_from : (words : List (List ℕ)) (options : RunOptions) → options_of words ≡ Some options → HasForm words options
 unfolding options_of
 form_from words options e =
     elim (givens_in words) as (λ (gs : Option (List Given)). givens_in words ≡ gs
@@ -377,6 +378,6 @@ form_from words options e =
           record { written = s.written; spelling = s.spelling; values = s.values; asked = rw s.giving f }
     ] refl e
 
-pub form_to : (words : List (List ℕ)) (options : Options) → HasForm words options → options_of words ≡ Some options
+pub form_to : (words : List (List ℕ)) (options : RunOptions) → HasForm words options → options_of words ≡ Some options
 unfolding options_of
 form_to words options h = rw (h.spelling, read_back h.written h.values) h.asked

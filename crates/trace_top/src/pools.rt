@@ -1,5 +1,5 @@
 //! What the words and a trace ask of the pool, and the pool that this gives.
-ghost use Rattle.std.specs.Prelude.{◌≡◌, ◌≤◌, IfOk, IfSome};
+ghost use Rattle.std.specs.Prelude.{◌≡◌, ◌≤◌, true};
 ghost use Rattle.size_classes.specs.Sizes.{IsPage};
 ghost use Rattle.pool_law.specs.Traces.{AreLanes};
 ghost use Rattle.trace_text.specs.Options.{AreOptions};

@@ -72,6 +72,7 @@ pub struct Asked {
 
 impl Asked {
     ghost use Rattle.std.specs.Prelude.{◌≡◌, IfSome};
+    ghost use Rattle.trace_text.specs.Options.{AreOptions};
     ghost use Rattle.trace_top.specs.Words.{AreWithin, IsInRange, IsWithin, asked_with, generated_from, is_for_generated, is_for_source, nothing, options_for, origin_for, pool_asked, with_number};
 
     // Nothing is asked for.
@@ -166,7 +167,8 @@ impl Asked {
     // What is asked of the run; None where two options have no form together.
     fn options(self) -> Option<RunOptions>
         requires { AreWithin self }
-        ensures { result ≡ options_for self }
+        ensures value { result ≡ options_for self }
+        ensures within { IfSome result (λ options. AreOptions options.pool) }
     {
         let origin = self.origin()?;
         Some(RunOptions {
@@ -180,7 +182,8 @@ impl Asked {
     // What is asked of the pool; no word speaks of the page.
     fn pool_asked(self) -> Options
         requires { AreWithin self }
-        ensures { result ≡ pool_asked self }
+        ensures value { result ≡ pool_asked self }
+        ensures within { AreOptions result }
     {
         Options {
             page: None,
