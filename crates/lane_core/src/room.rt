@@ -9,8 +9,10 @@ use crate::desk::SWEEP_PERIOD;
 use pool_law::Command;
 use size_classes::CACHED_CLASSES;
 
-// How many caches a lane has, and how many asks it sweeps them behind.
+// How many caches a lane has.
 const CACHES: usize = CACHED_CLASSES as usize;
+
+// After how many asks it sweeps them.
 const PERIOD: usize = SWEEP_PERIOD as usize;
 
 /// One more than the greatest name of the commands, or none.
