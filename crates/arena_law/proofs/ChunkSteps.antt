@@ -20,7 +20,9 @@ use lib.Pow.{pow_pos}
 -- every class has a size
 pub size_at-pos : (class : ℕ) → 0 < size_at class
 size_at-pos class =
-    cond_both (nat_lt class 4) (16 * (class + 1)) (2 ^ (6 + (class - 4) / 4) + ((class - 4) % 4 + 1) * 2 ^ (4 + (class - 4) / 4)) (λ n. 0 < n) (λ _. omega arith) (λ _. omega (arith, pow_pos (6 + (class - 4) / 4)))
+    cond_both (nat_lt class 4) (16 * (class + 1))
+    (2 ^ (6 + (class - 4) / 4) + ((class - 4) % 4 + 1) * 2 ^ (4 + (class - 4) / 4)) (λ n. 0 < n) (λ _. omega arith)
+    (λ _. omega (arith, pow_pos (6 + (class - 4) / 4)))
 
 -- no run is empty, said of each run
 pub EachRun-NoneEmpty : (rs : Chunk) → NoneEmpty rs → EachRun (λ r. 0 < pages_in r) rs
@@ -32,13 +34,17 @@ NoneEmpty-EachRun [] h = tt
 NoneEmpty-EachRun (r ∷ rs) h = (h.0, NoneEmpty-EachRun rs h.1)
 
 -- a byte in two runs of a chunk is in one
-pub one-page : (g : Geometry) (chunk : Chunk) (p m q n x y : ℕ) (v w : Run Use) → Begins p v chunk → Begins q w chunk → pages_in v ≡ m → pages_in w ≡ n →
+pub one-page : (g : Geometry) (chunk : Chunk) (p m q n x y : ℕ) (v w : Run Use) → Begins p v chunk → Begins q w chunk
+    → pages_in v ≡ m → pages_in w ≡ n →
     page_of g * p + x ≡ page_of g * q + y → x < page_of g * m → y < page_of g * n → p ≡ q
 one-page g chunk p m q n x y v w b c pm pn e hx hy =
     ⊎_elim
-    (λ lt. let before : page_of g * p + page_of g * m ≤ page_of g * q = pages-below (page_of g) p m q (subst (λ (k : ℕ). p + k ≤ q) pm (Begins-apart chunk p q v w b c lt)) in
+    (λ lt. let before : page_of g * p + page_of g * m ≤ page_of g * q =
+    pages-below (page_of g) p m q (subst (λ (k : ℕ). p + k ≤ q) pm (Begins-apart chunk p q v w b c lt)) in
     absurd (omega (arith, before, e, hx)))
-    (λ rest. ⊎_elim (λ same. same) (λ gt. let before : page_of g * q + page_of g * n ≤ page_of g * p = pages-below (page_of g) q n p (subst (λ (k : ℕ). q + k ≤ p) pn (Begins-apart chunk q p w v c b gt)) in
+    (λ rest. ⊎_elim (λ same. same)
+    (λ gt. let before : page_of g * q + page_of g * n ≤ page_of g * p =
+    pages-below (page_of g) q n p (subst (λ (k : ℕ). q + k ≤ p) pn (Begins-apart chunk q p w v c b gt)) in
     absurd (omega (arith, before, e, hy))) rest)
     (three p q)
 
@@ -89,10 +95,12 @@ Always r = Unit {0}
 
 -- a taking of pages at the front of a free run
 module _ (g : Geometry) (chunk : Chunk) (sound : IsSound g chunk) (at n pages : ℕ) (what : Use)
-    (here : Begins at (Free n) chunk) (fits : pages ≤ n) (some_pages : 0 < pages) (good : ElementsFit g (Used pages what)) where
+    (here : Begins at (Free n) chunk) (fits : pages ≤ n) (some_pages : 0 < pages)
+    (good : ElementsFit g (Used pages what)) where
   pub run_taken-total : total_pages (taken_at at pages what chunk) ≡ total_pages chunk
   run_taken-total =
-      replaced-total chunk at (front_used pages what) (Free n) sound.none_empty here (omega (arith, rest_of-total Use (n - pages), fits))
+      replaced-total chunk at (front_used pages what) (Free n) sound.none_empty here
+      (omega (arith, rest_of-total Use (n - pages), fits))
 
   pub run_taken-sound : IsSound g (taken_at at pages what chunk)
   run_taken-sound =
@@ -129,7 +137,9 @@ module _ (g : Geometry) (chunk : Chunk) (sound : IsSound g chunk) (at n pages : 
         ends = s.ends;
         out = s.out;
         kind = s.kind;
-        begins = taken_at-keeps chunk at n sound.none_empty here pages what s.page s.pages (Sub r.class s.elements) fits s.begins;
+        begins =
+            taken_at-keeps chunk at n sound.none_empty here pages what s.page s.pages (Sub r.class s.elements) fits
+            s.begins;
       })
 
   pub run_taken-keeps : Keeps g chunk (taken_at at pages what chunk) Always
@@ -140,14 +150,18 @@ module _ (g : Geometry) (chunk : Chunk) (sound : IsSound g chunk) (at n pages : 
   run_taken-fresh r x e =
       let s : Starts g chunk r = starts g chunk sound r x in
       let free_pages : 0 < n = pages-pos g chunk sound at (Free n) here in
-      let same : s.page ≡ at = one-page g chunk s.page s.pages at n s.from 0 (Used s.pages s.what) (Free n) s.begins here refl refl (omega (arith, s.starts, e)) s.inside (mul-pos (page-some g sound.page) free_pages) in
-      free-unused chunk at n sound.none_empty here s.pages s.what (subst (λ p. Begins p (Used s.pages s.what) chunk) same s.begins)
+      let same : s.page ≡ at = one-page g chunk s.page s.pages at n s.from 0 (Used s.pages s.what) (Free n) s.begins
+      here refl refl (omega (arith, s.starts, e)) s.inside (mul-pos (page-some g sound.page) free_pages) in
+      free-unused chunk at n sound.none_empty here s.pages s.what
+      (subst (λ p. Begins p (Used s.pages s.what) chunk) same s.begins)
 
 -- a run that is given back: all but its own slots stay
-module _ (g : Geometry) (chunk : Chunk) (sound : IsSound g chunk) (page m : ℕ) (what : Use) (here : Begins page (Used m what) chunk) where
+module _ (g : Geometry) (chunk : Chunk) (sound : IsSound g chunk) (page m : ℕ) (what : Use)
+    (here : Begins page (Used m what) chunk) where
   pub run_given-total : total_pages (given_at page chunk) ≡ total_pages chunk
   run_given-total =
-      merged-total (replaced page freed chunk) ∙ replaced-total chunk page freed (Used m what) sound.none_empty here (omega arith)
+      merged-total (replaced page freed chunk) ∙ replaced-total chunk page freed (Used m what) sound.none_empty here
+      (omega arith)
 
   pub run_given-sound : IsSound g (given_at page chunk)
   run_given-sound =
@@ -161,12 +175,15 @@ module _ (g : Geometry) (chunk : Chunk) (sound : IsSound g chunk) (page m : ℕ)
         page = sound.page;
         elements_fit =
             merged-EachRun (ElementsFit g) (replaced page freed chunk) (λ n. tt)
-            (replaced-EachRun (ElementsFit g) chunk page freed (Used m what) sound.none_empty here (tt, tt) sound.elements_fit);
+            (replaced-EachRun (ElementsFit g) chunk page freed (Used m what) sound.none_empty here (tt, tt)
+            sound.elements_fit);
       }
 
-  pub run_given-begins : (p n : ℕ) (w : Use) → p ≢ page → Begins p (Used n w) chunk → Begins p (Used n w) (given_at page chunk)
+  pub run_given-begins : (p n : ℕ) (w : Use) → p ≢ page → Begins p (Used n w) chunk
+      → Begins p (Used n w) (given_at page chunk)
   run_given-begins p n w other b =
-      merged-keeps (replaced page freed chunk) p n w (replaced-keeps chunk page p freed (Used m what) (Used n w) sound.none_empty here (omega arith) b other)
+      merged-keeps (replaced page freed chunk) p n w
+      (replaced-keeps chunk page p freed (Used m what) (Used n w) sound.none_empty here (omega arith) b other)
 
   -- a slot that is not in this run
   abbrev pub Elsewhere : RegionId → Type 0
@@ -199,33 +216,40 @@ module _ (g : Geometry) (chunk : Chunk) (sound : IsSound g chunk) (page m : ℕ)
   run_given-keeps = record { sound = run_given-sound; total = run_given-total; slots = run_given-slots }
 
 pub same_or-not : (a b : ℕ) → (a ≡ b) ⊎ (a ≢ b)
-same_or-not a b = ⊎_elim (λ lt. inr (λ e. omega (arith, e))) (λ rest. ⊎_elim (λ e. inl e) (λ gt. inr (λ e. omega (arith, e))) rest) (three a b)
+same_or-not a b =
+    ⊎_elim (λ lt. inr (λ e. omega (arith, e))) (λ rest. ⊎_elim (λ e. inl e) (λ gt. inr (λ e. omega (arith, e))) rest)
+    (three a b)
 
 -- a subpage gets other elements
 abbrev pub elements_to : ℕ → Elements → Run Use → List (Run Use)
 elements_to class e r = Used (pages_in r) (Sub class e) ∷ []
 
 module _ (g : Geometry) (chunk : Chunk) (sound : IsSound g chunk) (page m class : ℕ) (e f : Elements)
-    (here : Begins page (Used m (Sub class e)) chunk) (as_many : length f.out ≡ length e.out) (good : RemembersFree f f.remembered) where
+    (here : Begins page (Used m (Sub class e)) chunk) (as_many : length f.out ≡ length e.out)
+    (good : RemembersFree f f.remembered) where
   pub elements-fit : ElementsFit g (Used m (Sub class f))
   elements-fit =
-      let old : ElementsFit g (Used m (Sub class e)) = EachRun-Begins (ElementsFit g) chunk page (Used m (Sub class e)) sound.elements_fit here in
+      let old : ElementsFit g (Used m (Sub class e)) =
+      EachRun-Begins (ElementsFit g) chunk page (Used m (Sub class e)) sound.elements_fit here in
       (rw as_many old.0, good)
 
   pub elements-total : total_pages (replaced page (elements_to class f) chunk) ≡ total_pages chunk
-  elements-total = replaced-total chunk page (elements_to class f) (Used m (Sub class e)) sound.none_empty here (omega arith)
+  elements-total =
+      replaced-total chunk page (elements_to class f) (Used m (Sub class e)) sound.none_empty here (omega arith)
 
   pub elements-sound : IsSound g (replaced page (elements_to class f) chunk)
   elements-sound =
       record {
         none_empty =
             NoneEmpty-EachRun (replaced page (elements_to class f) chunk)
-            (replaced-EachRun (λ r. 0 < pages_in r) chunk page (elements_to class f) (Used m (Sub class e)) sound.none_empty here
+            (replaced-EachRun (λ r. 0 < pages_in r) chunk page (elements_to class f) (Used m (Sub class e))
+            sound.none_empty here
             (pages-pos g chunk sound page (Used m (Sub class e)) here, tt)
             (EachRun-NoneEmpty chunk sound.none_empty));
         page = sound.page;
         elements_fit =
-            replaced-EachRun (ElementsFit g) chunk page (elements_to class f) (Used m (Sub class e)) sound.none_empty here
+            replaced-EachRun (ElementsFit g) chunk page (elements_to class f) (Used m (Sub class e)) sound.none_empty
+            here
             (elements-fit, tt)
             sound.elements_fit;
       }
@@ -233,22 +257,29 @@ module _ (g : Geometry) (chunk : Chunk) (sound : IsSound g chunk) (page m class 
   pub elements-here : Begins page (Used m (Sub class f)) (replaced page (elements_to class f) chunk)
   elements-here =
       subst (λ k. Begins k (Used m (Sub class f)) (replaced page (elements_to class f) chunk)) (omega arith)
-      (replaced-new chunk page 0 (elements_to class f) (Used m (Sub class e)) (Used m (Sub class f)) sound.none_empty here (inl (refl, refl)))
+      (replaced-new chunk page 0 (elements_to class f) (Used m (Sub class e)) (Used m (Sub class f)) sound.none_empty
+      here (inl (refl, refl)))
 
-  pub elements-elsewhere : (p n : ℕ) (w : Use) → p ≢ page → Begins p (Used n w) chunk → Begins p (Used n w) (replaced page (elements_to class f) chunk)
+  pub elements-elsewhere : (p n : ℕ) (w : Use) → p ≢ page → Begins p (Used n w) chunk
+      → Begins p (Used n w) (replaced page (elements_to class f) chunk)
   elements-elsewhere p n w other b =
-      replaced-keeps chunk page p (elements_to class f) (Used m (Sub class e)) (Used n w) sound.none_empty here (omega arith) b other
+      replaced-keeps chunk page p (elements_to class f) (Used m (Sub class e)) (Used n w) sound.none_empty here
+      (omega arith) b other
 
   -- an element of this subpage that is still out
   abbrev pub StillOut : RegionId → Type 0
   StillOut r = (x : IsElement g chunk r) → x.page ≡ page → slice_get f.out x.at ≡ Some true
 
   pub run-here : (p n : ℕ) (w : Use) → p ≡ page → Begins p (Used n w) chunk → Used n w ≡ Used m (Sub class e)
-  run-here p n w same b = Begins-one chunk page (Used n w) (Used m (Sub class e)) sound.none_empty (subst (λ k. Begins k (Used n w) chunk) same b) here
+  run-here p n w same b =
+      Begins-one chunk page (Used n w) (Used m (Sub class e)) sound.none_empty
+      (subst (λ k. Begins k (Used n w) chunk) same b) here
 
-  pub element-moved : (r : RegionId) → (s : IsElement g chunk r) → slice_get f.out s.at ≡ Some true → s.page ≡ page → IsElement g (replaced page (elements_to class f) chunk) r
+  pub element-moved : (r : RegionId) → (s : IsElement g chunk r) → slice_get f.out s.at ≡ Some true → s.page ≡ page
+      → IsElement g (replaced page (elements_to class f) chunk) r
   element-moved r s out same =
-      let run : Used s.pages (Sub r.class s.elements) ≡ Used m (Sub class e) = run-here s.page s.pages (Sub r.class s.elements) same s.begins in
+      let run : Used s.pages (Sub r.class s.elements)
+      ≡ Used m (Sub class e) = run-here s.page s.pages (Sub r.class s.elements) same s.begins in
       let classes : class ≡ r.class = cc run in
       record {
         page = page;
@@ -259,10 +290,13 @@ module _ (g : Geometry) (chunk : Chunk) (sound : IsSound g chunk) (page m class 
         ends = s.ends;
         out = out;
         kind = s.kind;
-        begins = subst (λ c. Begins page (Used m (Sub c f)) (replaced page (elements_to class f) chunk)) classes elements-here;
+        begins =
+            subst (λ c. Begins page (Used m (Sub c f)) (replaced page (elements_to class f) chunk)) classes
+            elements-here;
       }
 
-  pub elements-slots : (r : RegionId) → StillOut r → IsSlot g chunk r → IsSlot g (replaced page (elements_to class f) chunk) r
+  pub elements-slots : (r : RegionId) → StillOut r → IsSlot g chunk r
+      → IsSlot g (replaced page (elements_to class f) chunk) r
   elements-slots r still (inl s) =
       inl (record {
         page = s.page;
@@ -270,7 +304,8 @@ module _ (g : Geometry) (chunk : Chunk) (sound : IsSound g chunk) (page m class 
         starts = s.starts;
         ends = s.ends;
         kind = s.kind;
-        begins = elements-elsewhere s.page s.pages Whole (λ same. cc (run-here s.page s.pages Whole same s.begins)) s.begins;
+        begins =
+            elements-elsewhere s.page s.pages Whole (λ same. cc (run-here s.page s.pages Whole same s.begins)) s.begins;
       })
   elements-slots r still (inr s) =
       ⊎_elim
@@ -301,15 +336,18 @@ got-false (b ∷ bs) (suc k) h e = got-false bs k (omega (arith, h)) e
 pub first_free-is : (bs : List Bool) (k : ℕ) → first_free bs ≡ Some k → slice_get bs k ≡ Some false
 first_free-is bs k h = let found = position-Some not bs k true h in got-false bs k found.0 found.1
 
-pub unwrap-false : (bs : List Bool) (k : ℕ) → k < length bs → unwrap_or (slice_get bs k) false ≡ false → slice_get bs k ≡ Some false
+pub unwrap-false : (bs : List Bool) (k : ℕ) → k < length bs → unwrap_or (slice_get bs k) false ≡ false
+    → slice_get bs k ≡ Some false
 unwrap-false [] k h e = absurd (omega arith)
 unwrap-false (b ∷ bs) zero h e = ap Some e
 unwrap-false (b ∷ bs) (suc k) h e = unwrap-false bs k (omega arith) e
 
-pub next_element-is : (e : Elements) (k : ℕ) → RemembersFree e e.remembered → next_element e ≡ Some k → slice_get e.out k ≡ Some false
+pub next_element-is : (e : Elements) (k : ℕ) → RemembersFree e e.remembered → next_element e ≡ Some k
+    → slice_get e.out k ≡ Some false
 next_element-is e k good h = go e.remembered good h
   where
-    go : (o : Option ℕ) → RemembersFree e o → first_of_two o (first_free e.out) ≡ Some k → slice_get e.out k ≡ Some false
+    go : (o : Option ℕ) → RemembersFree e o → first_of_two o (first_free e.out) ≡ Some k
+        → slice_get e.out k ≡ Some false
     go None free is = first_free-is e.out k is
     go (Some j) free is =
         let same : j ≡ k = cc is in
@@ -318,40 +356,55 @@ next_element-is e k good h = go e.remembered good h
 -- places of elements of one size are different where their numbers are
 pub times-one : (k j s : ℕ) → 0 < s → k * s ≡ j * s → k ≡ j
 times-one k j s pos e =
-    ⊎_elim (λ lt. absurd (omega (arith, times-next k j s lt))) (λ rest. ⊎_elim (λ same. same) (λ gt. absurd (omega (arith, times-next j k s gt))) rest) (three k j)
+    ⊎_elim (λ lt. absurd (omega (arith, times-next k j s lt)))
+    (λ rest. ⊎_elim (λ same. same) (λ gt. absurd (omega (arith, times-next j k s gt))) rest) (three k j)
 
 module _ (g : Geometry) (chunk : Chunk) (sound : IsSound g chunk) (page m class : ℕ) (e : Elements)
     (here : Begins page (Used m (Sub class e)) chunk) where
   -- a slot at an element's first byte is this element
-  pub element-at : (r : RegionId) → (x : IsSlot g chunk r) → (k : ℕ) → k < length e.out → r.place.offset ≡ page_of g * page + k * size_at class →
+  pub element-at : (r : RegionId) → (x : IsSlot g chunk r) → (k : ℕ) → k < length e.out
+      → r.place.offset ≡ page_of g * page + k * size_at class →
       (s : IsElement g chunk r) × (x ≡ inr s) × (s.page ≡ page) × (s.at ≡ k) × (r.class ≡ class) × (s.elements ≡ e)
   element-at r x k below is = go x (at_page x)
     where
       inside : k * size_at class < page_of g * m
       inside =
-          let fits : length e.out * size_at class ≤ page_of g * m = (EachRun-Begins (ElementsFit g) chunk page (Used m (Sub class e)) sound.elements_fit here).0 in
+          let fits : length e.out * size_at class ≤ page_of g * m =
+          (EachRun-Begins (ElementsFit g) chunk page (Used m (Sub class e)) sound.elements_fit here).0 in
           omega (arith, times-next k (length e.out) (size_at class) below, size_at-pos class)
 
       at_page : (y : IsSlot g chunk r) → (starts g chunk sound r y).page ≡ page
       at_page y =
           let s : Starts g chunk r = starts g chunk sound r y in
-          one-page g chunk s.page s.pages page m s.from (k * size_at class) (Used s.pages s.what) (Used m (Sub class e)) s.begins here refl refl (omega (arith, s.starts, is)) s.inside inside
+          one-page g chunk s.page s.pages page m s.from (k * size_at class) (Used s.pages s.what) (Used m (Sub class e))
+          s.begins here refl refl (omega (arith, s.starts, is)) s.inside inside
 
       go : (y : IsSlot g chunk r) → (starts g chunk sound r y).page ≡ page →
           (s : IsElement g chunk r) × (y ≡ inr s) × (s.page ≡ page) × (s.at ≡ k) × (r.class ≡ class) × (s.elements ≡ e)
       go (inl s) same =
-          absurd (cc (Begins-one chunk page (Used s.pages Whole) (Used m (Sub class e)) sound.none_empty (subst (λ p. Begins p (Used s.pages Whole) chunk) same s.begins) here))
+          absurd (cc (Begins-one chunk page (Used s.pages Whole) (Used m (Sub class e)) sound.none_empty
+          (subst (λ p. Begins p (Used s.pages Whole) chunk) same s.begins) here))
       go (inr s) same =
-          let run : Used s.pages (Sub r.class s.elements) ≡ Used m (Sub class e) = Begins-one chunk page (Used s.pages (Sub r.class s.elements)) (Used m (Sub class e)) sound.none_empty (subst (λ p. Begins p (Used s.pages (Sub r.class s.elements)) chunk) same s.begins) here in
+          let run : Used s.pages (Sub r.class s.elements)
+          ≡ Used m (Sub class e) =
+          Begins-one chunk page (Used s.pages (Sub r.class s.elements)) (Used m (Sub class e)) sound.none_empty
+          (subst (λ p. Begins p (Used s.pages (Sub r.class s.elements)) chunk) same s.begins) here in
           let classes : r.class ≡ class = cc run in
           let elements : s.elements ≡ e = cc run in
-          let product : s.at * size_at class ≡ k * size_at class = (let eq : page_of g * page + s.at * size_at class ≡ page_of g * page + k * size_at class = sym (s.starts ∙ ap (λ p. page_of g * p + s.at * size_at r.class) same ∙ ap (λ c. page_of g * page + s.at * size_at c) classes) ∙ is in omega (arith, eq)) in
+          let product : s.at * size_at class ≡ k * size_at class =
+          (let eq : page_of g * page + s.at * size_at class
+          ≡ page_of g * page + k * size_at class =
+          sym (s.starts ∙ ap (λ p. page_of g * p + s.at * size_at r.class) same
+          ∙ ap (λ c. page_of g * page + s.at * size_at c) classes) ∙ is in omega (arith, eq)) in
           (s, refl, same, times-one s.at k (size_at class) (size_at-pos class) product, classes, elements)
 
   -- no slot lay at an element that was not out
-  pub element-fresh : (k : ℕ) → slice_get e.out k ≡ Some false → (r : RegionId) → IsSlot g chunk r → r.place.offset ≢ page_of g * page + k * size_at class
+  pub element-fresh : (k : ℕ) → slice_get e.out k ≡ Some false → (r : RegionId) → IsSlot g chunk r
+      → r.place.offset ≢ page_of g * page + k * size_at class
   element-fresh k free r x is =
-      let found : (s : IsElement g chunk r) × (x ≡ inr s) × (s.page ≡ page) × (s.at ≡ k) × (r.class ≡ class) × (s.elements ≡ e) = element-at r x k (slice_get-below e.out k false free) is in
-      let out : slice_get e.out k ≡ Some true = subst (λ f. slice_get f.out k ≡ Some true) found.5 (subst (λ j. slice_get found.0.elements.out j ≡ Some true) found.3 found.0.out) in
+      let found : (s : IsElement g chunk r) × (x ≡ inr s) × (s.page ≡ page) × (s.at ≡ k) × (r.class ≡ class)
+      × (s.elements ≡ e) = element-at r x k (slice_get-below e.out k false free) is in
+      let out : slice_get e.out k ≡ Some true = subst (λ f. slice_get f.out k ≡ Some true) found.5
+      (subst (λ j. slice_get found.0.elements.out j ≡ Some true) found.3 found.0.out) in
       let both : Some true ≡ Some false = sym out ∙ free in
       cc both

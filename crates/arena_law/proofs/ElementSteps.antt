@@ -18,10 +18,13 @@ not-full (true ∷ bs) (suc k) e = not-full bs k e
 not-full (false ∷ bs) (suc k) e = refl
 
 -- and the other way round
-pub one-free : (bs : List Bool) → list_all (λ out. out) bs ≡ false → (k : ℕ) × (k < length bs) × (get_or bs k true ≡ false)
+pub one-free : (bs : List Bool) → list_all (λ out. out) bs ≡ false
+    → (k : ℕ) × (k < length bs) × (get_or bs k true ≡ false)
 one-free [] e = absurd (cc e)
 one-free (false ∷ bs) e = (0, omega arith, refl)
-one-free (true ∷ bs) e = let more : (k : ℕ) × (k < length bs) × (get_or bs k true ≡ false) = one-free bs e in (suc more.0, omega (arith, more.1), more.2)
+one-free (true ∷ bs) e =
+    let more : (k : ℕ) × (k < length bs) × (get_or bs k true ≡ false) = one-free bs e in
+    (suc more.0, omega (arith, more.1), more.2)
 
 -- a search for one that is not out finds one, where there is one
 pub found-free : (bs : List Bool) → list_all (λ out. out) bs ≡ false → first_free bs ≡ None → ⊥
@@ -30,11 +33,13 @@ found-free bs some e = go (nat_lt (position_or_len not bs) (length bs)) refl e
     free : (k : ℕ) × (k < length bs) × (get_or bs k true ≡ false)
     free = one-free bs some
 
-    go : (b : Bool) → nat_lt (position_or_len not bs) (length bs) ≡ b → (if b then Some (position_or_len not bs) else None) ≡ None → ⊥
+    go : (b : Bool) → nat_lt (position_or_len not bs) (length bs) ≡ b
+        → (if b then Some (position_or_len not bs) else None) ≡ None → ⊥
     go true is e = cc e
     go false is e =
         let past : length bs ≤ position_or_len not bs = ltb-false (position_or_len not bs) (length bs) is in
-        let out : not (not (get_or bs free.0 true)) ≡ true = prefix_len_passes (λ x. not (not x)) bs free.0 true (omega (arith, past, free.1)) in
+        let out : not (not (get_or bs free.0 true))
+        ≡ true = prefix_len_passes (λ x. not (not x)) bs free.0 true (omega (arith, past, free.1)) in
         let none : false ≡ true = sym (ap (λ b. not (not b)) free.2) ∙ out in
         cc none
 
@@ -74,7 +79,8 @@ pub some-elements : (g : Geometry) → IsPage g.page → (class : ℕ) → is_sm
 some-elements g page class small =
     ltb-true 0 (element_count g class) (some_below g.page page class (small_below g page class small))
 
-pub new-has_room : (g : Geometry) → IsPage g.page → (class : ℕ) → is_small g class ≡ true → is_full (new_elements (element_count g class)) ≡ false
+pub new-has_room : (g : Geometry) → IsPage g.page → (class : ℕ) → is_small g class ≡ true
+    → is_full (new_elements (element_count g class)) ≡ false
 new-has_room g page class small = new-room (element_count g class) (some-elements g page class small)
 
 -- a subpage of which no element is out is idle

@@ -21,7 +21,9 @@ has-without_same c (x ∷ xs) = go (x == c) refl (has-without_same c xs)
   where
     go : (b : Bool) → (x == c) ≡ b → has c (without c xs) ≡ false → has c (without c (x ∷ xs)) ≡ false
     go true is rest = ap (λ b. has c (if not b then x ∷ without c xs else without c xs)) is ∙ rest
-    go false is rest = ap (λ b. has c (if not b then x ∷ without c xs else without c xs)) is ∙ ap (λ b. b || has c (without c xs)) is ∙ rest
+    go false is rest =
+        ap (λ b. has c (if not b then x ∷ without c xs else without c xs)) is ∙ ap (λ b. b || has c (without c xs)) is
+        ∙ rest
 
 pub has-without_other : (c d : ℕ) (xs : List ℕ) → d ≢ c → has d (without c xs) ≡ has d xs
 has-without_other c d [] other = refl
@@ -40,7 +42,8 @@ has-without_other c d (x ∷ xs) other = go (x == c) refl (has-without_other c d
 pub in-none : (l : Lists) (c : ℕ) → list_of l c ≡ None → (name : ListName) → has c (list_named l name) ≡ false
 in-none l c e = named
   where
-    not-here : (b : Bool) (here : ListName) (rest : Option ListName) → (if b then Some here else rest) ≡ None → (b ≡ false) × (rest ≡ None)
+    not-here : (b : Bool) (here : ListName) (rest : Option ListName) → (if b then Some here else rest) ≡ None
+        → (b ≡ false) × (rest ≡ None)
     not-here true here rest e = absurd (cc e)
     not-here false here rest e = (refl, e)
 
@@ -89,7 +92,8 @@ in-none l c e = named
     named Q100 = n5.0
 
 -- the list of a chunk is found by which of them have it
-pub list_of-same : (l k : Lists) (c : ℕ) → ((name : ListName) → has c (list_named l name) ≡ has c (list_named k name)) → list_of l c ≡ list_of k c
+pub list_of-same : (l k : Lists) (c : ℕ) → ((name : ListName) → has c (list_named l name) ≡ has c (list_named k name))
+    → list_of l c ≡ list_of k c
 list_of-same l k c same = rw (same QInit, same Q000, same Q025, same Q050, same Q075, same Q100) refl
 
 pub list_of-none : (l : Lists) (c : ℕ) → ((name : ListName) → has c (list_named l name) ≡ false) → list_of l c ≡ None
@@ -103,7 +107,8 @@ entered-here l c Q050 = has-first c l.q050
 entered-here l c Q075 = has-first c l.q075
 entered-here l c Q100 = has-first c l.q100
 
-pub entered-others : (l : Lists) (c d : ℕ) → d ≢ c → (name there : ListName) → has d (list_named (entered l name c) there) ≡ has d (list_named l there)
+pub entered-others : (l : Lists) (c d : ℕ) → d ≢ c → (name there : ListName)
+    → has d (list_named (entered l name c) there) ≡ has d (list_named l there)
 entered-others l c d other QInit QInit = has-later c d l.init other
 entered-others l c d other Q000 Q000 = has-later c d l.q000 other
 entered-others l c d other Q025 Q025 = has-later c d l.q025 other
@@ -120,7 +125,8 @@ left-here l c Q050 = has-without_same c l.q050
 left-here l c Q075 = has-without_same c l.q075
 left-here l c Q100 = has-without_same c l.q100
 
-pub left-others : (l : Lists) (c d : ℕ) → d ≢ c → (name : ListName) → has d (list_named (left l c) name) ≡ has d (list_named l name)
+pub left-others : (l : Lists) (c d : ℕ) → d ≢ c → (name : ListName)
+    → has d (list_named (left l c) name) ≡ has d (list_named l name)
 left-others l c d other QInit = has-without_other c d l.init other
 left-others l c d other Q000 = has-without_other c d l.q000 other
 left-others l c d other Q025 = has-without_other c d l.q025 other
@@ -145,27 +151,32 @@ pub left-other : (l : Lists) (c d : ℕ) → d ≢ c → list_of (left l c) d �
 left-other l c d other = list_of-same (left l c) l d (left-others l c d other)
 
 -- a chunk that moved is in a list
-pub moved-in : (l : Lists) (c : ℕ) (here there : ListName) → (list_of l c ≡ None → ⊥) → list_of (moved_to l c here there) c ≡ None → ⊥
+pub moved-in : (l : Lists) (c : ℕ) (here there : ListName) → (list_of l c ≡ None → ⊥)
+    → list_of (moved_to l c here there) c ≡ None → ⊥
 moved-in l c here there was =
     cond_both (same_list here there) l (entered (left l c) there c) (λ k. list_of k c ≡ None → ⊥) (λ _. was)
     (λ _. entered-in (left l c) c there)
 
-pub moved-other : (l : Lists) (c d : ℕ) (here there : ListName) → d ≢ c → list_of (moved_to l c here there) d ≡ list_of l d
+pub moved-other : (l : Lists) (c d : ℕ) (here there : ListName) → d ≢ c
+    → list_of (moved_to l c here there) d ≡ list_of l d
 moved-other l c d here there other =
     cond_both (same_list here there) l (entered (left l c) there c) (λ k. list_of k d ≡ list_of l d) (λ _. refl)
     (λ _. entered-other (left l c) c d there other ∙ left-other l c d other)
 
 -- so is one that settled upwards
-pub up-in : (l : Lists) (c percent : ℕ) (o : Option ListName) → (list_of l c ≡ None → ⊥) → list_of (settled_up l c percent o) c ≡ None → ⊥
+pub up-in : (l : Lists) (c percent : ℕ) (o : Option ListName) → (list_of l c ≡ None → ⊥)
+    → list_of (settled_up l c percent o) c ≡ None → ⊥
 up-in l c percent None was = was
 up-in l c percent (Some here) was = moved-in l c here (risen percent here (lists_above here)) was
 
-pub up-other : (l : Lists) (c d percent : ℕ) (o : Option ListName) → d ≢ c → list_of (settled_up l c percent o) d ≡ list_of l d
+pub up-other : (l : Lists) (c d percent : ℕ) (o : Option ListName) → d ≢ c
+    → list_of (settled_up l c percent o) d ≡ list_of l d
 up-other l c d percent None other = refl
 up-other l c d percent (Some here) other = moved-other l c d here (risen percent here (lists_above here)) other
 
 -- and one that settled downwards, where it was not destroyed
-pub down-other : (l : Lists) (c d : ℕ) (o there : Option ListName) → d ≢ c → list_of (settled_down l c o there) d ≡ list_of l d
+pub down-other : (l : Lists) (c d : ℕ) (o there : Option ListName) → d ≢ c
+    → list_of (settled_down l c o there) d ≡ list_of l d
 down-other l c d None there other = refl
 down-other l c d (Some here) None other = left-other l c d other
 down-other l c d (Some here) (Some there) other = moved-other l c d here there other

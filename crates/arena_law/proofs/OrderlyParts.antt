@@ -31,18 +31,22 @@ abbrev pub Listed : Arena → Type 0
 Listed a = (c : ℕ) → (list_of a.lists c ≡ None) ↔ (chunk_of a c ≡ None)
 
 -- a chunk of which a run begins is in a list
-pub begins-listed : (a : Arena) (c p : ℕ) (r : Run Use) → Listed a → Begins p r (chunk_at a c) → list_of a.lists c ≡ None → ⊥
+pub begins-listed : (a : Arena) (c p : ℕ) (r : Run Use) → Listed a → Begins p r (chunk_at a c)
+    → list_of a.lists c ≡ None → ⊥
 begins-listed a c p r listed b e = not_empty (chunk_at a c) p r b (ap (λ o. unwrap_or o []) ((listed c).0 e))
 
-pub chunk_of-other : (a b : Arena) (c d : ℕ) (o : Option Chunk) → b.chunks ≡ slice_set a.chunks c o → d ≢ c → chunk_of b d ≡ chunk_of a d
+pub chunk_of-other : (a b : Arena) (c d : ℕ) (o : Option Chunk) → b.chunks ≡ slice_set a.chunks c o → d ≢ c
+    → chunk_of b d ≡ chunk_of a d
 chunk_of-other a b c d o is other = rw is (ap (λ x. unwrap_or x None) (slice_get-set_other a.chunks c d o other))
 
-pub chunk_of-same : (a b : Arena) (c : ℕ) (o : Option Chunk) → b.chunks ≡ slice_set a.chunks c o → c < length a.chunks → chunk_of b c ≡ o
+pub chunk_of-same : (a b : Arena) (c : ℕ) (o : Option Chunk) → b.chunks ≡ slice_set a.chunks c o → c < length a.chunks
+    → chunk_of b c ≡ o
 chunk_of-same a b c o is below = rw is (ap (λ x. unwrap_or x None) (slice_get-set_same a.chunks c o below))
 
 -- after one chunk place is written
 pub listed-with : (a b : Arena) (c : ℕ) (o : Option Chunk) → b.chunks ≡ slice_set a.chunks c o → c < length a.chunks →
-    ((d : ℕ) → d ≢ c → list_of b.lists d ≡ list_of a.lists d) → ((list_of b.lists c ≡ None) ↔ (o ≡ None)) → Listed a → Listed b
+    ((d : ℕ) → d ≢ c → list_of b.lists d ≡ list_of a.lists d) → ((list_of b.lists c ≡ None) ↔ (o ≡ None)) → Listed a
+    → Listed b
 listed-with a b c o is below others now listed d =
     ⊎_elim
     (λ e. subst (λ k. (list_of b.lists k ≡ None) ↔ (chunk_of b k ≡ None)) (sym e) (
@@ -66,22 +70,28 @@ pub record Roomy (a : Arena) (class c page : ℕ) : Type 0 where
 
 pub roomy-of : (a : Arena) (class c page : ℕ) → HasRoom a class c page → Roomy a class c page
 roomy-of a class c page h =
-    let found : (m : ℕ) × Begins page (Used m (Sub class h.elements)) (chunk_at a c) = elements_at-is a class c page h.elements h.here in
+    let found : (m : ℕ) × Begins page (Used m (Sub class h.elements)) (chunk_at a c) =
+    elements_at-is a class c page h.elements h.here in
     record { pages = found.0; elements = h.elements; begins = found.1; room = h.room }
 
 -- what a search for the elements of a class finds at a subpage
-pub elements-found : (a : Arena) (class c page m : ℕ) (e : Elements) → NoneEmpty (chunk_at a c) → UsedAt a c page m (Sub class e) → elements_at a class c page ≡ Some e
+pub elements-found : (a : Arena) (class c page m : ℕ) (e : Elements) → NoneEmpty (chunk_at a c)
+    → UsedAt a c page m (Sub class e) → elements_at a class c page ≡ Some e
 elements-found a class c page m e ne b =
-    ap (elements_in class) (run_at-Begins (chunk_at a c) page (Used m (Sub class e)) ne b) ∙ ap (λ t. if t then Some e else None) (eq-eqb class class refl)
+    ap (elements_in class) (run_at-Begins (chunk_at a c) page (Used m (Sub class e)) ne b)
+    ∙ ap (λ t. if t then Some e else None) (eq-eqb class class refl)
 
 pub has-room : (a : Arena) (class c page : ℕ) → NoneEmpty (chunk_at a c) → Roomy a class c page → HasRoom a class c page
-has-room a class c page ne r = record { elements = r.elements; here = elements-found a class c page r.pages r.elements ne r.begins; room = r.room }
+has-room a class c page ne r =
+    record { elements = r.elements; here = elements-found a class c page r.pages r.elements ne r.begins; room = r.room }
 
 abbrev pub Spotted : Geometry → Arena → Type 0
-Spotted g a = (class c page : ℕ) → is_small g class ≡ true → (has_spot c page (front_of a class) ≡ true) ↔ Roomy a class c page
+Spotted g a =
+    (class c page : ℕ) → is_small g class ≡ true → (has_spot c page (front_of a class) ≡ true) ↔ Roomy a class c page
 
 -- a small class has a list
-pub small-below : (g : Geometry) (a : Arena) (class : ℕ) → IsOrderly g a → is_small g class ≡ true → class < length a.fronts
+pub small-below : (g : Geometry) (a : Arena) (class : ℕ) → IsOrderly g a → is_small g class ≡ true
+    → class < length a.fronts
 small-below g a class o small =
     let page : IsPage g.page = (o.sound 0).page in
     let shift = page_shift-is g.page page in
@@ -93,24 +103,30 @@ OnlyOf a c page class = (k n : ℕ) (e : Elements) → UsedAt a c page n (Sub k 
 
 module _ (g : Geometry) (a b : Arena) (class c page : ℕ) (spotted : Spotted g a) (same : SameBut a b c page)
     (only_before : OnlyOf a c page class) (only_after : OnlyOf b c page class)
-    (fronts : (k d p : ℕ) → ((k ≡ class) × Here c page d p → ⊥) → has_spot d p (front_of b k) ≡ has_spot d p (front_of a k))
+    (fronts : (k d p : ℕ) → ((k ≡ class) × Here c page d p → ⊥)
+    → has_spot d p (front_of b k) ≡ has_spot d p (front_of a k))
     (now : is_small g class ≡ true → (has_spot c page (front_of b class) ≡ true) ↔ Roomy b class c page) where
-  at-here : (k d p : ℕ) → k ≡ class → d ≡ c → p ≡ page → is_small g k ≡ true → (has_spot d p (front_of b k) ≡ true) ↔ Roomy b k d p
+  at-here : (k d p : ℕ) → k ≡ class → d ≡ c → p ≡ page → is_small g k ≡ true
+      → (has_spot d p (front_of b k) ≡ true) ↔ Roomy b k d p
   at-here k d p ek ed ep small =
       subst (λ j. (has_spot d p (front_of b j) ≡ true) ↔ Roomy b j d p) (sym ek)
       (subst (λ j. (has_spot j p (front_of b class) ≡ true) ↔ Roomy b class j p) (sym ed)
       (subst (λ j. (has_spot c j (front_of b class) ≡ true) ↔ Roomy b class c j) (sym ep)
       (now (subst (λ j. is_small g j ≡ true) ek small))))
 
-  only-here : (x : Arena) → OnlyOf x c page class → (k d p n : ℕ) (e : Elements) → Here c page d p → UsedAt x d p n (Sub k e) → k ≡ class
-  only-here x only k d p n e h u = only k n e (subst (λ j. UsedAt x j page n (Sub k e)) h.0 (subst (λ j. UsedAt x d j n (Sub k e)) h.1 u))
+  only-here : (x : Arena) → OnlyOf x c page class → (k d p n : ℕ) (e : Elements) → Here c page d p
+      → UsedAt x d p n (Sub k e) → k ≡ class
+  only-here x only k d p n e h u =
+      only k n e (subst (λ j. UsedAt x j page n (Sub k e)) h.0 (subst (λ j. UsedAt x d j n (Sub k e)) h.1 u))
 
   roomy-keeps : (k d p : ℕ) → ((k ≡ class) × Here c page d p → ⊥) → Roomy a k d p → Roomy b k d p
   roomy-keeps k d p apart r =
       record {
         pages = r.pages;
         elements = r.elements;
-        begins = same.keeps d p r.pages (Sub k r.elements) (λ h. apart (only-here a only_before k d p r.pages r.elements h r.begins, h)) r.begins;
+        begins =
+            same.keeps d p r.pages (Sub k r.elements)
+            (λ h. apart (only-here a only_before k d p r.pages r.elements h r.begins, h)) r.begins;
         room = r.room;
       }
 
@@ -119,11 +135,14 @@ module _ (g : Geometry) (a b : Arena) (class c page : ℕ) (spotted : Spotted g 
       record {
         pages = r.pages;
         elements = r.elements;
-        begins = same.back d p r.pages (Sub k r.elements) (λ h. apart (only-here b only_after k d p r.pages r.elements h r.begins, h)) r.begins;
+        begins =
+            same.back d p r.pages (Sub k r.elements)
+            (λ h. apart (only-here b only_after k d p r.pages r.elements h r.begins, h)) r.begins;
         room = r.room;
       }
 
-  elsewhere : (k d p : ℕ) → ((k ≡ class) × Here c page d p → ⊥) → is_small g k ≡ true → (has_spot d p (front_of b k) ≡ true) ↔ Roomy b k d p
+  elsewhere : (k d p : ℕ) → ((k ≡ class) × Here c page d p → ⊥) → is_small g k ≡ true
+      → (has_spot d p (front_of b k) ≡ true) ↔ Roomy b k d p
   elsewhere k d p apart small = (
     (λ h. roomy-keeps k d p apart ((spotted k d p small).0 (sym (fronts k d p apart) ∙ h))),
     λ r. fronts k d p apart ∙ (spotted k d p small).1 (roomy-back k d p apart r),
@@ -133,7 +152,8 @@ module _ (g : Geometry) (a b : Arena) (class c page : ℕ) (spotted : Spotted g 
   pub spotted-step : Spotted g b
   spotted-step k d p small =
       ⊎_elim
-      (λ ek. ⊎_elim (λ h. at-here k d p ek h.0 h.1 small) (λ apart. elsewhere k d p (λ x. apart x.1) small) (here-or_not c page d p))
+      (λ ek. ⊎_elim (λ h. at-here k d p ek h.0 h.1 small) (λ apart. elsewhere k d p (λ x. apart x.1) small)
+      (here-or_not c page d p))
       (λ other. elsewhere k d p (λ x. other x.0) small)
       (same_or-not k class)
 
@@ -145,7 +165,8 @@ spotted-of g a o class c page small = (
   λ r. (o.spotted class c page small).1 (has-room a class c page (o.sound c).none_empty r),
 )
 
-pub orderly-from : (g : Geometry) (a : Arena) → 3 ≤ g.order → Sounds g a → Wholes g a → Listed a → length a.fronts ≡ class_count g → Spotted g a →
+pub orderly-from : (g : Geometry) (a : Arena) → 3 ≤ g.order → Sounds g a → Wholes g a → Listed a
+    → length a.fronts ≡ class_count g → Spotted g a →
     ((class : ℕ) → SpotsDiffer (front_of a class)) → IsOrderly g a
 orderly-from g a order sound whole listed fronts spotted once =
     record {
@@ -162,7 +183,8 @@ orderly-from g a order sound whole listed fronts spotted once =
     }
 
 -- neither the number of the takings nor those that are out are read
-pub orderly-same : (g : Geometry) (a b : Arena) → b.chunks ≡ a.chunks → b.lists ≡ a.lists → b.fronts ≡ a.fronts → IsOrderly g a → IsOrderly g b
+pub orderly-same : (g : Geometry) (a b : Arena) → b.chunks ≡ a.chunks → b.lists ≡ a.lists → b.fronts ≡ a.fronts
+    → IsOrderly g a → IsOrderly g b
 orderly-same g a b chunks lists fronts o =
     subst (IsOrderly g) path
     (record {
@@ -172,11 +194,20 @@ orderly-same g a b chunks lists fronts o =
       listed = o.listed;
       fronts = o.fronts;
       spotted = λ class c page small. (
-        (λ h. let r : HasRoom a class c page = (o.spotted class c page small).0 h in record { elements = r.elements; here = r.here; room = r.room }),
+        (λ h. let r : HasRoom a class c page = (o.spotted class c page small).0 h in
+            record { elements = r.elements; here = r.here; room = r.room }),
         λ r. (o.spotted class c page small).1 (record { elements = r.elements; here = r.here; room = r.room }),
       );
       once = o.once;
     })
   where
     path : record a { takings = b.takings; out = b.out } ≡ b
-    path = λ i. record { chunks = sym chunks i; lists = sym lists i; fronts = sym fronts i; takings = b.takings; out = b.out }
+    path =
+        λ i. record {
+          chunks = sym chunks i;
+          lists = sym lists i;
+          fronts = sym fronts i;
+          takings = b.takings;
+          out =
+              b.out;
+        }

@@ -21,7 +21,8 @@ replaced-back [] at p by s r ne b t c = absurd b
 replaced-back (u ∷ us) at p by s r ne (inl b) t c =
     let is_zero : (at == 0) ≡ true = eq-eqb at 0 b.0 in
     let pages : total_pages (by u) ≡ pages_in u = subst (λ x. total_pages (by x) ≡ pages_in x) b.1 t in
-    let d : Begins p r (by u ++ us) = subst (λ z. Begins p r (if z then by u ++ us else u ∷ replaced (at - pages_in u) by us)) is_zero c in
+    let d : Begins p r (by u ++ us) = subst
+    (λ z. Begins p r (if z then by u ++ us else u ∷ replaced (at - pages_in u) by us)) is_zero c in
     ⊎_elim
     (λ e. inl (p, omega (arith, b.0), subst (λ x. Begins p r (by x)) (sym b.1) e))
     (λ e. inr ((λ same. omega (arith, same, b.0, e.1, pages, ne.0)), inr (e.0, omega (arith, e.1, pages), e.2)))
@@ -29,7 +30,8 @@ replaced-back (u ∷ us) at p by s r ne (inl b) t c =
 replaced-back (u ∷ us) at p by s r ne (inr b) t c =
     let not_zero : (at == 0) ≡ false = ne_eqb at 0 (λ e. omega (arith, ne.0, b.1)) in
     let rest : at - pages_in u ≡ b.0 = omega (arith, b.1) in
-    let d : Begins p r (u ∷ replaced (at - pages_in u) by us) = subst (λ z. Begins p r (if z then by u ++ us else u ∷ replaced (at - pages_in u) by us)) not_zero c in
+    let d : Begins p r (u ∷ replaced (at - pages_in u) by us) =
+    subst (λ z. Begins p r (if z then by u ++ us else u ∷ replaced (at - pages_in u) by us)) not_zero c in
     ⊎_elim
     (λ e. inr ((λ same. omega (arith, same, e.0, b.1, ne.0)), inl e))
     (λ e. ⊎_elim
@@ -65,9 +67,11 @@ module _ {U : Type 0} (rs : List (Run U)) (ne : NoneEmpty rs) where
       ((p ≡ at) × (Used m w ≡ Used pages what)) ⊎ ((p ≢ at) × Begins p (Used m w) rs)
   taken-back at n pages what here fits p m w b =
       ⊎_elim (λ c. inl (front c.0 c.1 c.2)) (λ c. inr c)
-      (replaced-back rs at p (front_used pages what) (Free n) (Used m w) ne here (omega (arith, rest_of-total U (n - pages), fits)) b)
+      (replaced-back rs at p (front_used pages what) (Free n) (Used m w) ne here
+      (omega (arith, rest_of-total U (n - pages), fits)) b)
     where
-      front : (k : ℕ) → p ≡ at + k → Begins k (Used m w) (Used pages what ∷ rest_of (n - pages)) → (p ≡ at) × (Used m w ≡ Used pages what)
+      front : (k : ℕ) → p ≡ at + k → Begins k (Used m w) (Used pages what ∷ rest_of (n - pages))
+          → (p ≡ at) × (Used m w ≡ Used pages what)
       front k is (inl c) = (omega (arith, is, c.0), c.1)
       front k is (inr c) = absurd (no-used (n - pages) c.0 m w c.2)
 
@@ -76,7 +80,8 @@ module _ {U : Type 0} (rs : List (Run U)) (ne : NoneEmpty rs) where
       Begins p (Used n w) (given_at page rs) → (p ≢ page) × Begins p (Used n w) rs
   given-back page m what here p n w b =
       ⊎_elim (λ c. absurd (none c.0 c.2)) (λ c. c)
-      (replaced-back rs page p freed (Used m what) (Used n w) ne here (omega arith) (merged-back (replaced page freed rs) p n w b))
+      (replaced-back rs page p freed (Used m what) (Used n w) ne here (omega arith)
+      (merged-back (replaced page freed rs) p n w b))
     where
       none : (k : ℕ) → Begins k (Used n w) (Free m ∷ []) → ⊥
       none k (inl c) = cc c.1

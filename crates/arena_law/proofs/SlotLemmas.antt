@@ -25,15 +25,20 @@ lesser a b ne = grind arith
 
 module _ (g : Geometry) (chunk : Chunk) (sound : IsSound g chunk) where
   -- the end of an element lies in the pages of its subpage
-  pub element-inside : (r : RegionId) → (s : IsElement g chunk r) → s.at * size_at r.class + size_at r.class ≤ page_of g * s.pages
+  pub element-inside : (r : RegionId) → (s : IsElement g chunk r)
+      → s.at * size_at r.class + size_at r.class ≤ page_of g * s.pages
   element-inside r s =
-      let fits : length s.elements.out * size_at r.class ≤ page_of g * s.pages = (EachRun-Begins (ElementsFit g) chunk s.page (Used s.pages (Sub r.class s.elements)) sound.elements_fit s.begins).0 in
+      let fits : length s.elements.out * size_at r.class ≤ page_of g * s.pages =
+      (EachRun-Begins (ElementsFit g) chunk s.page (Used s.pages (Sub r.class s.elements)) sound.elements_fit
+      s.begins).0 in
       let below : s.at < length s.elements.out = slice_get-below s.elements.out s.at true s.out in
-      let next : s.at * size_at r.class + size_at r.class ≤ length s.elements.out * size_at r.class = times-next s.at (length s.elements.out) (size_at r.class) below in
+      let next : s.at * size_at r.class + size_at r.class ≤ length s.elements.out * size_at r.class =
+      times-next s.at (length s.elements.out) (size_at r.class) below in
       omega arith
 
   -- slots in two runs, of which one begins before the other
-  pub runs-apart : (p m q n : ℕ) (v w : Use) → Begins p (Used m v) chunk → Begins q (Used n w) chunk → p < q → page_of g * p + page_of g * m ≤ page_of g * q
+  pub runs-apart : (p m q n : ℕ) (v w : Use) → Begins p (Used m v) chunk → Begins q (Used n w) chunk → p < q
+      → page_of g * p + page_of g * m ≤ page_of g * q
   runs-apart p m q n v w b c h = let le : p + m ≤ q = Begins-apart chunk p q (Used m v) (Used n w) b c h in
       pages-below (page_of g) p m q le
 
@@ -83,30 +88,43 @@ module _ (g : Geometry) (chunk : Chunk) (sound : IsSound g chunk) where
   lies r (inl s) = whole-lies r s
   lies r (inr s) = element-lies r s
 
-  pub apart-by-page : (r s : RegionId) → (a : Lies g chunk r) → (b : Lies g chunk s) → a.page < b.page → r.place.offset + r.place.len ≤ s.place.offset
+  pub apart-by-page : (r s : RegionId) → (a : Lies g chunk r) → (b : Lies g chunk s) → a.page < b.page
+      → r.place.offset + r.place.len ≤ s.place.offset
   apart-by-page r s a b h =
-      let le : page_of g * a.page + page_of g * a.pages ≤ page_of g * b.page = runs-apart g chunk sound a.page a.pages b.page b.pages a.what b.what a.begins b.begins h in
+      let le : page_of g * a.page + page_of g * a.pages ≤ page_of g * b.page =
+      runs-apart g chunk sound a.page a.pages b.page b.pages a.what b.what a.begins b.begins h in
       omega (arith, a.starts, a.ends, b.starts)
 
   -- elements of one subpage
-  pub elements-apart : (r s : RegionId) → (a : IsElement g chunk r) → (b : IsElement g chunk s) → a.page ≡ b.page → r.class ≡ s.class → r.place.offset ≢ s.place.offset → AreApart r.place s.place
+  pub elements-apart : (r s : RegionId) → (a : IsElement g chunk r) → (b : IsElement g chunk s) → a.page ≡ b.page
+      → r.class ≡ s.class → r.place.offset ≢ s.place.offset → AreApart r.place s.place
   elements-apart r s a b page class ne =
       ⊎_elim
-      (λ lt. let next : a.at * size_at r.class + size_at r.class ≤ b.at * size_at r.class = times-next a.at b.at (size_at r.class) lt in
+      (λ lt. let next : a.at * size_at r.class + size_at r.class ≤ b.at * size_at r.class =
+      times-next a.at b.at (size_at r.class) lt in
       inl (rw (a.starts, a.ends, b.starts, ← page, ← class) (omega (arith, next))))
-      (λ gt. let next : b.at * size_at r.class + size_at r.class ≤ a.at * size_at r.class = times-next b.at a.at (size_at r.class) gt in
+      (λ gt. let next : b.at * size_at r.class + size_at r.class ≤ a.at * size_at r.class =
+      times-next b.at a.at (size_at r.class) gt in
       inr (rw (a.starts, b.ends, b.starts, ← page, ← class) (omega (arith, next))))
       (lesser a.at b.at (λ e. ne (rw (a.starts, b.starts, page, class, e) refl)))
 
-  pub same-page : (r s : RegionId) → (x : IsSlot g chunk r) → (y : IsSlot g chunk s) → (lies r x).page ≡ (lies s y).page → r.place.offset ≢ s.place.offset → AreApart r.place s.place
+  pub same-page : (r s : RegionId) → (x : IsSlot g chunk r) → (y : IsSlot g chunk s) → (lies r x).page ≡ (lies s y).page
+      → r.place.offset ≢ s.place.offset → AreApart r.place s.place
   same-page r s (inl a) (inl b) page ne = absurd (ne (rw (a.starts, b.starts, page) refl))
-  same-page r s (inl a) (inr b) page ne = absurd (cc (one-run g chunk sound b.page a.pages b.pages Whole (Sub s.class b.elements) (subst (λ p. Begins p (Used a.pages Whole) chunk) page a.begins) b.begins))
-  same-page r s (inr a) (inl b) page ne = absurd (cc (one-run g chunk sound b.page a.pages b.pages (Sub r.class a.elements) Whole (subst (λ p. Begins p (Used a.pages (Sub r.class a.elements)) chunk) page a.begins) b.begins))
+  same-page r s (inl a) (inr b) page ne =
+      absurd (cc (one-run g chunk sound b.page a.pages b.pages Whole (Sub s.class b.elements)
+      (subst (λ p. Begins p (Used a.pages Whole) chunk) page a.begins) b.begins))
+  same-page r s (inr a) (inl b) page ne =
+      absurd (cc (one-run g chunk sound b.page a.pages b.pages (Sub r.class a.elements) Whole
+      (subst (λ p. Begins p (Used a.pages (Sub r.class a.elements)) chunk) page a.begins) b.begins))
   same-page r s (inr a) (inr b) page ne =
-      elements-apart r s a b page (cc (one-run g chunk sound b.page a.pages b.pages (Sub r.class a.elements) (Sub s.class b.elements) (subst (λ p. Begins p (Used a.pages (Sub r.class a.elements)) chunk) page a.begins) b.begins)) ne
+      elements-apart r s a b page (cc
+      (one-run g chunk sound b.page a.pages b.pages (Sub r.class a.elements) (Sub s.class b.elements)
+      (subst (λ p. Begins p (Used a.pages (Sub r.class a.elements)) chunk) page a.begins) b.begins)) ne
 
   -- two slots that begin at different bytes have no byte in common
-  pub slots-apart : (r s : RegionId) → IsSlot g chunk r → IsSlot g chunk s → r.place.offset ≢ s.place.offset → AreApart r.place s.place
+  pub slots-apart : (r s : RegionId) → IsSlot g chunk r → IsSlot g chunk s → r.place.offset ≢ s.place.offset
+      → AreApart r.place s.place
   slots-apart r s x y ne =
       ⊎_elim
       (λ lt. inl (apart-by-page r s (lies r x) (lies s y) lt))

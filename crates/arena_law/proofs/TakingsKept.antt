@@ -32,35 +32,42 @@ module _ (g : Geometry) (a : Arena) (pages : ℕ) (what : Use) where
   take_run-takings = run_taken-takings (first_holding g a pages (walk a.lists))
 
 module _ (g : Geometry) (class : ℕ) where
-  element_taken-takings : (a : Arena) (spot : ℕ × ℕ) (e : Elements) (k : ℕ) → (element_taken g a class spot e k).2.takings ≡ a.takings
+  element_taken-takings : (a : Arena) (spot : ℕ × ℕ) (e : Elements) (k : ℕ)
+      → (element_taken g a class spot e k).2.takings ≡ a.takings
   element_taken-takings a spot e k =
       let b : Arena = with_elements a spot.0 spot.1 class (with_out e k) in
       cond_both (is_full (with_out e k)) (with_front b class (without_spot spot.0 spot.1 (front_of b class))) b
       (λ (x : Arena). x.takings ≡ a.takings) (λ _. refl) (λ _. refl)
 
-  take_element-takings : (a : Arena) (spot : ℕ × ℕ) (t : Spotted) → take_element g a class spot ≡ Some t → t.2.takings ≡ a.takings
+  take_element-takings : (a : Arena) (spot : ℕ × ℕ) (t : Spotted) → take_element g a class spot ≡ Some t
+      → t.2.takings ≡ a.takings
   take_element-takings a spot t is = outer (elements_at a class spot.0 spot.1) is
     where
-      inner : (e : Elements) (o : Option ℕ) → option_map (λ k. element_taken g a class spot e k) o ≡ Some t → t.2.takings ≡ a.takings
+      inner : (e : Elements) (o : Option ℕ) → option_map (λ k. element_taken g a class spot e k) o ≡ Some t
+          → t.2.takings ≡ a.takings
       inner e None is = absurd (cc is)
       inner e (Some k) is =
           let same : element_taken g a class spot e k ≡ t = cc is in
           sym (ap (λ (x : Spotted). x.2.takings) same) ∙ element_taken-takings a spot e k
 
-      outer : (o : Option Elements) → option_and_then (λ e. option_map (λ k. element_taken g a class spot e k) (next_element e)) o ≡ Some t →
+      outer : (o : Option Elements) → option_and_then
+          (λ e. option_map (λ k. element_taken g a class spot e k) (next_element e)) o ≡ Some t →
           t.2.takings ≡ a.takings
       outer None is = absurd (cc is)
       outer (Some e) is = inner e (next_element e) is
 
-  take_small-takings : (a : Arena) (spots : List (ℕ × ℕ)) (t : Spotted) → take_small g a class spots ≡ Some t → t.2.takings ≡ a.takings
+  take_small-takings : (a : Arena) (spots : List (ℕ × ℕ)) (t : Spotted) → take_small g a class spots ≡ Some t
+      → t.2.takings ≡ a.takings
   take_small-takings a (spot ∷ spots) t e = take_element-takings a spot t e
-  take_small-takings a [] t e = go (take_run g a (subpage_pages g class) what) (take_run-takings g a (subpage_pages g class) what) e
+  take_small-takings a [] t e =
+      go (take_run g a (subpage_pages g class) what) (take_run-takings g a (subpage_pages g class) what) e
     where
       what : Use
       what = Sub class (new_elements (element_count g class))
 
       go : (o : Option Spotted) → ((u : Spotted) → o ≡ Some u → u.2.takings ≡ a.takings) →
-          option_and_then (λ u. take_element g (with_subpage class u) class (u.0, u.1)) o ≡ Some t → t.2.takings ≡ a.takings
+          option_and_then (λ u. take_element g (with_subpage class u) class (u.0, u.1)) o ≡ Some t
+          → t.2.takings ≡ a.takings
       go None found is = absurd (cc is)
       go (Some u) found is = take_element-takings (with_subpage class u) (u.0, u.1) t is ∙ found u refl
 
@@ -85,10 +92,12 @@ module _ (g : Geometry) (class : ℕ) where
 module _ (g : Geometry) (class c : ℕ) where
   idle_given-takings : (a : Arena) (page : ℕ) → (idle_given g a class c page).takings ≡ a.takings
   idle_given-takings a page =
-      cond_both (is_alone (front_of a class)) a (run_given g (with_front a class (without_spot c page (front_of a class))) c page)
+      cond_both (is_alone (front_of a class)) a
+      (run_given g (with_front a class (without_spot c page (front_of a class))) c page)
       (λ (x : Arena). x.takings ≡ a.takings) (λ _. refl) (λ _. refl)
 
-  element_given-takings : (a : Arena) (page k : ℕ) (e : Elements) → (element_given g a class c page k e).takings ≡ a.takings
+  element_given-takings : (a : Arena) (page k : ℕ) (e : Elements)
+      → (element_given g a class c page k e).takings ≡ a.takings
   element_given-takings a page k e =
       cond_both (is_idle (with_back e k)) (idle_given g d class c page) d (λ (x : Arena). x.takings ≡ a.takings)
       (λ _. idle_given-takings d page ∙ same) (λ _. same)

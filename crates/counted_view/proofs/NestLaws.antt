@@ -11,7 +11,8 @@ fold_push f a [] x = refl
 fold_push f a (y ∷ ys) x = fold_push f (f a y) ys x
 
 -- one accepted call more
-pub nest_after-push : (root : RootId) (bound : ℕ) (calls : List NestCall) (call : NestCall) → nest_after root bound (calls ++ call ∷ []) ≡ after_call (nest_after root bound calls) call
+pub nest_after-push : (root : RootId) (bound : ℕ) (calls : List NestCall) (call : NestCall)
+    → nest_after root bound (calls ++ call ∷ []) ≡ after_call (nest_after root bound calls) call
 nest_after-push root bound calls call = fold_push after_call (new_nest root bound) calls call
 
 -- ---- A slice of a slice, let go from the root on.

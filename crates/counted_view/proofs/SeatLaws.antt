@@ -28,7 +28,8 @@ use Rattle.counted_view.proofs.RowLaws.{one}
 
 -- ---- A step on the root's word.
 
-weigh_ref : (f : Entry → ℕ) (v : SeatView) (r : RootId) (d : RefDid) (moves : ℕ) → weigh f (with_ref v r d moves) ≡ weigh f v + f (Ref r d)
+weigh_ref : (f : Entry → ℕ) (v : SeatView) (r : RootId) (d : RefDid) (moves : ℕ)
+    → weigh f (with_ref v r d moves) ≡ weigh f v + f (Ref r d)
 weigh_ref f v r d moves =
     let part : Part → ℕ = λ p. sum_by f p.notes in
     let own : Part = record { number = v.own.number; notes = v.own.notes ++ Ref r d ∷ [] } in
@@ -37,53 +38,67 @@ weigh_ref f v r d moves =
     let more = sum_by_push f v.own.notes (Ref r d) in
     omega (arith, new, old, more)
 
-gained_ref : (v : SeatView) (r : RootId) (d : RefDid) (moves : ℕ) → gained_of r (with_ref v r d moves) ≡ gained_of r v + ref_gain d
+gained_ref : (v : SeatView) (r : RootId) (d : RefDid) (moves : ℕ)
+    → gained_of r (with_ref v r d moves) ≡ gained_of r v + ref_gain d
 gained_ref v r d moves =
     let words = weigh_ref (on_this ref_gain r) v r d moves in
     let mails = weigh_ref (fetches r) v r d moves in
-    let this : on_this ref_gain r (Ref r d) ≡ ref_gain d = ap (λ (b : Bool). cond {A = ℕ} b (ref_gain d) 0) (same_root-refl r) in
+    let this : on_this ref_gain r (Ref r d) ≡ ref_gain d =
+    ap (λ (b : Bool). cond {A = ℕ} b (ref_gain d) 0) (same_root-refl r) in
     omega (arith, words, mails, this)
 
-lost_ref : (v : SeatView) (r : RootId) (d : RefDid) (moves : ℕ) → lost_of r (with_ref v r d moves) ≡ lost_of r v + ref_loss d
+lost_ref : (v : SeatView) (r : RootId) (d : RefDid) (moves : ℕ)
+    → lost_of r (with_ref v r d moves) ≡ lost_of r v + ref_loss d
 lost_ref v r d moves =
     let words = weigh_ref (on_this ref_loss r) v r d moves in
     let mails = weigh_ref (posts r) v r d moves in
-    let this : on_this ref_loss r (Ref r d) ≡ ref_loss d = ap (λ (b : Bool). cond {A = ℕ} b (ref_loss d) 0) (same_root-refl r) in
+    let this : on_this ref_loss r (Ref r d) ≡ ref_loss d =
+    ap (λ (b : Bool). cond {A = ℕ} b (ref_loss d) 0) (same_root-refl r) in
     omega (arith, words, mails, this)
 
 -- the view counts the root so often
 abbrev Counts : RootId → ℕ → SeatView → Type 0
 Counts root times v = gained_of root v ≡ lost_of root v + times
 
-counts_ref : (v w : SeatView) (root : RootId) (d : RefDid) (moves before after : ℕ) → w ≡ with_ref v root d moves → before + ref_gain d ≡ after + ref_loss d → Counts root before v → Counts root after w
+counts_ref : (v w : SeatView) (root : RootId) (d : RefDid) (moves before after : ℕ) → w ≡ with_ref v root d moves
+    → before + ref_gain d ≡ after + ref_loss d → Counts root before v → Counts root after w
 counts_ref v w root d moves before after is sum counts =
     subst (Counts root after) (sym is)
-    (let gain = gained_ref v root d moves in let loss = lost_ref v root d moves in omega (arith, gain, loss, sum, counts))
+    (let gain = gained_ref v root d moves in let loss = lost_ref v root d moves in
+    omega (arith, gain, loss, sum, counts))
 
 pub counts_some : (v : SeatView) (root : RootId) (times : ℕ) → Counts root times v → 0 < times → HasCount root v
 counts_some v root times counts some = omega (arith, counts, some)
 
 module _ {G : Ghosts Home Noted} (root : RootId) (old new : PoolSeat Home G) where
-  counted_by : (b : Bool) (times : ℕ) → MatchBool b (IsRetained root old new) (new ≡ old) → Counts root times (view_of old) → Counts root (times + one b) (view_of new)
+  counted_by : (b : Bool) (times : ℕ) → MatchBool b (IsRetained root old new) (new ≡ old)
+      → Counts root times (view_of old) → Counts root (times + one b) (view_of new)
   counted_by true times did counts =
-      counts_ref (view_of old) (view_of new) root steps.Retain ((view_of old).moves - 1) times (times + 1) (ap (λ m. m.0) did) (omega arith) counts
+      counts_ref (view_of old) (view_of new) root steps.Retain ((view_of old).moves - 1) times (times + 1)
+      (ap (λ m. m.0) did) (omega arith) counts
   counted_by false times did counts =
       subst (λ (s : PoolSeat Home G). Counts root (times + 0) (view_of s)) (sym did) (omega (arith, counts))
 
   -- one hold more is counted where it is one of view 0
-  pub counted_in : (number times : ℕ) → IsCountedIn number root old new → Counts root times (view_of old) → Counts root (times + one (number == 0)) (view_of new)
+  pub counted_in : (number times : ℕ) → IsCountedIn number root old new → Counts root times (view_of old)
+      → Counts root (times + one (number == 0)) (view_of new)
   counted_in number times did counts = counted_by (number == 0) times did counts
 
-  lost_by : (token : Option EndToken) (times : ℕ) → IsReleasedAs (release_of token) root old new → Counts root (times + 1) (view_of old) → Counts root times (view_of new)
+  lost_by : (token : Option EndToken) (times : ℕ) → IsReleasedAs (release_of token) root old new
+      → Counts root (times + 1) (view_of old) → Counts root times (view_of new)
   lost_by None times did counts =
-      counts_ref (view_of old) (view_of new) root steps.Kept (view_of old).moves (times + 1) times (ap (λ m. m.0) did) (omega arith) counts
+      counts_ref (view_of old) (view_of new) root steps.Kept (view_of old).moves (times + 1) times (ap (λ m. m.0) did)
+      (omega arith) counts
   lost_by (Some token) times did counts =
-      counts_ref (view_of old) (view_of new) root steps.Ended (view_of old).moves (times + 1) times (ap (λ m. m.0) did.2) (omega arith) counts
+      counts_ref (view_of old) (view_of new) root steps.Ended (view_of old).moves (times + 1) times
+      (ap (λ m. m.0) did.2) (omega arith) counts
 
   -- and one less where the root was released
-  pub released_if : (lost : Bool) (token : Option EndToken) (times : ℕ) → IsReleasedIf lost root token old new → Counts root (times + one lost) (view_of old) → Counts root times (view_of new)
+  pub released_if : (lost : Bool) (token : Option EndToken) (times : ℕ) → IsReleasedIf lost root token old new
+      → Counts root (times + one lost) (view_of old) → Counts root times (view_of new)
   released_if true token times did counts = lost_by token times did counts
-  released_if false token times did counts = subst (λ (s : PoolSeat Home G). Counts root times (view_of s)) (sym did.1) (omega (arith, counts))
+  released_if false token times did counts =
+      subst (λ (s : PoolSeat Home G). Counts root times (view_of s)) (sym did.1) (omega (arith, counts))
 
 -- ---- What the answers say of a nest.
 
@@ -103,13 +118,15 @@ pub some_if_sliced : (full : Bool) (o : Option NestedView) (start len : ℕ) →
 some_if_sliced full None start len e = absurd (cc e)
 some_if_sliced full (Some x) start len e = refl
 
-room_by : (full inside : Bool) → ◌≡◌ {A = Option NestNo} (if inside then (if full then Some Full else None) else Some Range) None → full ≡ false
+room_by : (full inside : Bool) → ◌≡◌ {A = Option NestNo}
+    (if inside then (if full then Some Full else None) else Some Range) None → full ≡ false
 room_by true true e = absurd (cc e)
 room_by false true e = refl
 room_by true false e = absurd (cc e)
 room_by false false e = refl
 
-pub room_if_sliced : (full : Bool) (o : Option NestedView) (start len : ℕ) → slice_no full o start len ≡ None → full ≡ false
+pub room_if_sliced : (full : Bool) (o : Option NestedView) (start len : ℕ) → slice_no full o start len ≡ None
+    → full ≡ false
 room_if_sliced full None start len e = absurd (cc e)
 room_if_sliced full (Some x) start len e = room_by full (in_range x.at start len) e
 
@@ -124,31 +141,41 @@ lost_is false new old e = le-ltb new old (omega arith)
 
 -- ---- The nest and the seat.
 
-module _ {G : Ghosts Home Noted} (s t : NestState) (root : RootId) (old new : PoolSeat Home G) (is : root ≡ s.root) (same : t.root ≡ s.root) where
+module _ {G : Ghosts Home Noted} (s t : NestState) (root : RootId) (old new : PoolSeat Home G) (is : root ≡ s.root)
+    (same : t.root ≡ s.root) where
   moved : (k : ℕ) → k ≡ root_counts t → Counts root k (view_of new) → CountsRoot t new
-  moved k sum counts = subst (λ (r : RootId). Counts r (root_counts t) (view_of new)) (is ∙ sym same) (subst (λ (n : ℕ). Counts root n (view_of new)) sum counts)
+  moved k sum counts =
+      subst (λ (r : RootId). Counts r (root_counts t) (view_of new)) (is ∙ sym same)
+      (subst (λ (n : ℕ). Counts root n (view_of new)) sum counts)
 
   was : CountsRoot s old → Counts root (root_counts s) (view_of old)
   was counts = subst (λ (r : RootId). Counts r (root_counts s) (view_of old)) (sym is) counts
 
   -- the nest and the seat count the root once more, or as often
-  pub CountsRoot-more : (number : ℕ) → root_counts t ≡ root_counts s + one (number == 0) → IsCountedIn number root old new → CountsRoot s old → CountsRoot t new
+  pub CountsRoot-more : (number : ℕ) → root_counts t ≡ root_counts s + one (number == 0)
+      → IsCountedIn number root old new → CountsRoot s old → CountsRoot t new
   CountsRoot-more number sum did counts =
-      moved (root_counts s + one (number == 0)) (sym sum) (counted_in root old new number (root_counts s) did (was counts))
+      moved (root_counts s + one (number == 0)) (sym sum)
+      (counted_in root old new number (root_counts s) did (was counts))
 
   -- and once less, or as often
-  pub CountsRoot-less : (lost : Bool) (token : Option EndToken) → root_counts t + one lost ≡ root_counts s → IsReleasedIf lost root token old new → CountsRoot s old → CountsRoot t new
+  pub CountsRoot-less : (lost : Bool) (token : Option EndToken) → root_counts t + one lost ≡ root_counts s
+      → IsReleasedIf lost root token old new → CountsRoot s old → CountsRoot t new
   CountsRoot-less lost token sum did counts =
-      moved (root_counts t) refl (released_if root old new lost token (root_counts t) did (subst (λ (n : ℕ). Counts root n (view_of old)) (sym sum) (was counts)))
+      moved (root_counts t) refl (released_if root old new lost token (root_counts t) did
+      (subst (λ (n : ℕ). Counts root n (view_of old)) (sym sum) (was counts)))
 
   -- a nest that counts its root less counted it
-  pub HasCount-lost : (lost : Bool) → root_counts t + one lost ≡ root_counts s → lost ≡ true → CountsRoot s old → HasCount root (view_of old)
+  pub HasCount-lost : (lost : Bool) → root_counts t + one lost ≡ root_counts s → lost ≡ true → CountsRoot s old
+      → HasCount root (view_of old)
   HasCount-lost lost sum is_lost counts =
       let counts_one : one lost ≡ 1 = ap one is_lost in
       counts_some (view_of old) root (root_counts s) (was counts) (omega (arith, sum))
 
 -- a seat that counts the root of a nest whose view 0 is held
-pub HasCount-held : {G : Ghosts Home Noted} (s : NestState) (root : RootId) (seat : PoolSeat Home G) (number : ℕ) → root ≡ s.root → number ≡ 0 → IsSome (held_view s number) → CountsRoot s seat → HasCount root (view_of seat)
+pub HasCount-held : {G : Ghosts Home Noted} (s : NestState) (root : RootId) (seat : PoolSeat Home G) (number : ℕ)
+    → root ≡ s.root → number ≡ 0 → IsSome (held_view s number) → CountsRoot s seat → HasCount root (view_of seat)
 HasCount-held s root seat number is zero held counts =
     let at_zero : IsSome (held_view s 0) = subst (λ (n : ℕ). IsSome (held_view s n)) zero held in
-    subst (λ (r : RootId). HasCount r (view_of seat)) (sym is) (counts_some (view_of seat) s.root (root_counts s) counts (root_counts-held s at_zero))
+    subst (λ (r : RootId). HasCount r (view_of seat)) (sym is)
+    (counts_some (view_of seat) s.root (root_counts s) counts (root_counts-held s at_zero))

@@ -22,7 +22,8 @@ u8-sync : IsSync u8
 u8-sync = search sendable
 
 pub raw_bytes_owns-keyless : (p : Ptr) (xs : List ℕ) → Keyless (raw_bytes_owns p xs)
-raw_bytes_owns-keyless (block_ptr b o) xs = part_keyless (Array u8 (length xs)) (array_send u8 (length xs) u8-send) full_share xs b o
+raw_bytes_owns-keyless (block_ptr b o) xs =
+    part_keyless (Array u8 (length xs)) (array_send u8 (length xs) u8-send) full_share xs b o
 raw_bytes_owns-keyless null_ptr xs = tt
 
 pub sole-send : (A : RattleType) (g : Ghosts A.Denot) → IsSend A → Frees g g.dealloc_token → IsSend (Sole.the_row A g)
@@ -33,7 +34,8 @@ sole-send A g s f = record {
       tt,
       λ xs. (
         (tt, raw_bytes_owns-keyless e.ptr xs),
-        (struct_send (declared.shape (Inside.the_type A g)) (Vec-send u8 A g u8-send s f, tt)).owned (with_items v.vec xs, tt) vs,
+        (struct_send (declared.shape (Inside.the_type A g)) (Vec-send u8 A g u8-send s f, tt)).owned
+            (with_items v.vec xs, tt) vs,
       ),
     ),
   );

@@ -11,7 +11,8 @@ length-cells_of n (suc k) bs = ap suc (length-cells_of n k (drop n bs))
 
 pub cells_fit : (n k : ℕ) (bs : List ℕ) → length bs ≡ k * n → Fits n (cells_of n k bs)
 cells_fit n zero bs e = tt
-cells_fit n (suc k) bs e = (length-take-le n bs (omega (arith, e)), cells_fit n k (drop n bs) (omega (arith, length-drop n bs, e)))
+cells_fit n (suc k) bs e =
+    (length-take-le n bs (omega (arith, e)), cells_fit n k (drop n bs) (omega (arith, length-drop n bs, e)))
 
 pub length-with_cell : (i : ℕ) (c : Cell) (cs : List Cell) → length (with_cell i c cs) ≡ length cs
 length-with_cell i c [] = refl
@@ -54,7 +55,8 @@ all_in_bytes n (Some b ∷ cs) bs h =
     let next : suc (length cs) * n ≡ n + length cs * n = omega arith in
     omega (arith, all, rest, h.1, next)
 
-pub fits_with : (n i : ℕ) (b : List ℕ) (cs : List Cell) → length b ≡ n → HasCell i None cs → Fits n cs → Fits n (with_cell i (Some b) cs)
+pub fits_with : (n i : ℕ) (b : List ℕ) (cs : List Cell) → length b ≡ n → HasCell i None cs → Fits n cs
+    → Fits n (with_cell i (Some b) cs)
 fits_with n i b [] e h f = f
 fits_with n zero b (None ∷ cs) e h f = (e, f)
 fits_with n zero b (Some a ∷ cs) e h f = (e, f.1)
@@ -75,7 +77,8 @@ all_in_bytes_are n (None ∷ cs) bs h = absurd h
 all_in_bytes_are n (Some b ∷ cs) bs h = h.0 ∙ ap (λ (l : List ℕ). b ++ l) (all_in_bytes_are n cs (drop n bs) h.2)
 
 -- what putting all together asks
-pub first_in : (n : ℕ) (cs : List Cell) → 0 < length cs → AllIn cs → Fits n cs → (b : List ℕ) × (rest : List Cell) × (bs : List ℕ) × (cs ≡ Some b ∷ rest) × AreAllIn n cs bs
+pub first_in : (n : ℕ) (cs : List Cell) → 0 < length cs → AllIn cs → Fits n cs
+    → (b : List ℕ) × (rest : List Cell) × (bs : List ℕ) × (cs ≡ Some b ∷ rest) × AreAllIn n cs bs
 first_in n [] some h f = absurd (omega arith)
 first_in n (None ∷ cs) some h f = absurd h
 first_in n (Some b ∷ cs) some h f = (b, cs, bytes_of (Some b ∷ cs), refl, all_in_is n (Some b ∷ cs) h f)

@@ -10,8 +10,10 @@ use Rattle.ground.specs.declared.piece.Piece.TheInside.{Inside}
 use Rattle.ground.proofs.RackLaws.{length-cells_of, cells_fit}
 
 pub rack_made : (raw_rack : RawRack) (p : Inside) (at : Ptr) (each len k : ℕ) (bs : List ℕ)
-    → raw_rack.ptr ≡ at → raw_rack.start ≡ p.start → raw_rack.each ≡ each → raw_rack.size ≡ p.claim.size → raw_rack.cells ≡ cells_of each k bs
-    → length bs ≡ len → k * each ≡ len → 0 < len → 0 < each → at ≡ p.bytes.ptr → IsPlaced at → p.start ≤ count_of at → p.start + len ≤ p.claim.size → p.claim.size ≤ 2 ^ 24
+    → raw_rack.ptr ≡ at → raw_rack.start ≡ p.start → raw_rack.each ≡ each → raw_rack.size ≡ p.claim.size
+    → raw_rack.cells ≡ cells_of each k bs
+    → length bs ≡ len → k * each ≡ len → 0 < len → 0 < each → at ≡ p.bytes.ptr → IsPlaced at → p.start ≤ count_of at
+    → p.start + len ≤ p.claim.size → p.claim.size ≤ 2 ^ 24
     → IsRack (record { raw_rack = Some raw_rack; at = at; start = p.start; len = len; each = each })
 rack_made raw_rack p at each len k bs ptr start size whole cells long all some positive same placed above within small =
     let many : length raw_rack.cells ≡ k = ap length cells ∙ length-cells_of each k bs in

@@ -15,7 +15,8 @@ use Rattle.ground.proofs.RackLaws.{length-with_cell, cell_within, cell_fits, fit
 pub opened : (r : Inside) (sh : RawRack) → IsRack r → r.raw_rack ≡ Some sh → IsRack (record r { raw_rack = Some sh })
 opened r sh is e = let P : Option RawRack → Type 0 = λ o. IsRack (record r { raw_rack = o }) in subst P e is
 
-left_over : (r : Inside) (sh : RawRack) (i : ℕ) (bs : List ℕ) → IsRack r → r.raw_rack ≡ Some sh → HasCell i (Some bs) sh.cells
+left_over : (r : Inside) (sh : RawRack) (i : ℕ) (bs : List ℕ) → IsRack r → r.raw_rack ≡ Some sh
+    → HasCell i (Some bs) sh.cells
     → IsRack (record r { raw_rack = Some (record sh { cells = with_cell i None sh.cells }) })
 left_over r sh i bs is e h =
     let o = opened r sh is e in
@@ -31,7 +32,8 @@ left_over r sh i bs is e h =
       small = o.small;
     }
 
-pub rack_left : (r : Inside) (sh sh' : RawRack) (after : Option RawRack) (i : ℕ) (bs : List ℕ) → IsRack r → r.raw_rack ≡ Some sh → HasCell i (Some bs) sh.cells
+pub rack_left : (r : Inside) (sh sh' : RawRack) (after : Option RawRack) (i : ℕ) (bs : List ℕ) → IsRack r
+    → r.raw_rack ≡ Some sh → HasCell i (Some bs) sh.cells
     → after ≡ Some sh' → sh' ≡ record sh { cells = with_cell i None sh.cells } → IsRack (record r { raw_rack = after })
 rack_left r sh sh' after i bs is e h a s =
     let P : Option RawRack → Type 0 = λ x. IsRack (record r { raw_rack = x }) in
@@ -59,14 +61,17 @@ element_end i each len m h e =
     let next : suc i * each ≡ i * each + each = omega arith in
     omega (arith, product, next, e)
 
-pub element_is : (r : Inside) (sh : RawRack) (i : ℕ) (bs : List ℕ) (bytes : Vec ℕ Lodged) (claim : Claim) → IsRack r → r.raw_rack ≡ Some sh → HasCell i (Some bs) sh.cells
-    → bytes.ptr ≡ (r.at +ₚ i * r.each) → bytes.len ≡ r.each → claim.start ≡ r.start + i * r.each → claim.len ≡ r.each → claim.size ≡ sh.size
+pub element_is : (r : Inside) (sh : RawRack) (i : ℕ) (bs : List ℕ) (bytes : Vec ℕ Lodged) (claim : Claim) → IsRack r
+    → r.raw_rack ≡ Some sh → HasCell i (Some bs) sh.cells
+    → bytes.ptr ≡ (r.at +ₚ i * r.each) → bytes.len ≡ r.each → claim.start ≡ r.start + i * r.each → claim.len ≡ r.each
+    → claim.size ≡ sh.size
     → IsPiece (record { bytes = bytes; start = r.start + i * r.each; claim = claim })
 element_is r sh i bs bytes claim is e h ptr len from long whole =
     let o = opened r sh is e in
     let end = element_end i r.each r.len (length sh.cells) (cell_within i (Some bs) sh.cells h) o.filled.1 in
     let L : Ptr → Type 0 = λ q. IsPlaced q in
-    let count : count_of bytes.ptr ≡ count_of r.at + i * r.each = ap count_of ptr ∙ placed_count r.at (i * r.each) o.placed in
+    let count : count_of bytes.ptr ≡ count_of r.at + i * r.each = ap count_of ptr
+    ∙ placed_count r.at (i * r.each) o.placed in
     record {
       placed = subst L (sym ptr) (moved_placed r.at (i * r.each) o.placed);
       some = omega (arith, len, o.some);
@@ -76,14 +81,23 @@ element_is r sh i bs bytes claim is e h ptr len from long whole =
       small = omega (arith, whole, o.small);
     }
 
-pub element_far : (r : Inside) (sh : RawRack) (i : ℕ) (bs : List ℕ) → IsRack r → r.raw_rack ≡ Some sh → HasCell i (Some bs) sh.cells → r.start + i * r.each ≤ 2 ^ 24
+pub element_far : (r : Inside) (sh : RawRack) (i : ℕ) (bs : List ℕ) → IsRack r → r.raw_rack ≡ Some sh
+    → HasCell i (Some bs) sh.cells → r.start + i * r.each ≤ 2 ^ 24
 element_far r sh i bs is e h =
     let o = opened r sh is e in
     let end = element_end i r.each r.len (length sh.cells) (cell_within i (Some bs) sh.cells h) o.filled.1 in
     omega (arith, end, o.within, o.small)
 
-pub element_bytes : (r : Inside) (sh : RawRack) (i : ℕ) (bs : List ℕ) → IsRack r → r.raw_rack ≡ Some sh → HasCell i (Some bs) sh.cells → (length bs ≡ r.each) × (0 < r.each) × (r.each ≤ 2 ^ 24) × (sh.ptr ≡ r.at) × (sh.start ≡ r.start) × (sh.each ≡ r.each)
+pub element_bytes : (r : Inside) (sh : RawRack) (i : ℕ) (bs : List ℕ) → IsRack r → r.raw_rack ≡ Some sh
+    → HasCell i (Some bs) sh.cells → (length bs ≡ r.each) × (0 < r.each) × (r.each ≤ 2 ^ 24) × (sh.ptr ≡ r.at)
+    × (sh.start ≡ r.start) × (sh.each ≡ r.each)
 element_bytes r sh i bs is e h =
     let o = opened r sh is e in
-    let end = element_end i r.each r.len (length sh.cells) (cell_within i (Some bs) sh.cells h) o.filled.1 in
-    (cell_fits r.each i bs sh.cells h o.fits, o.some, omega (arith, end, o.within, o.small), o.raw_rack.0, o.raw_rack.1, o.raw_rack.2)
+    let end = element_end i r.each r.len (length sh.cells) (cell_within i (Some bs) sh.cells h) o.filled.1 in (
+      cell_fits r.each i bs sh.cells h o.fits,
+      o.some,
+      omega (arith, end, o.within, o.small),
+      o.raw_rack.0,
+      o.raw_rack.1,
+      o.raw_rack.2,
+    )

@@ -15,12 +15,14 @@ index_of start from i each e some =
     let far : start - from ≡ i * each = omega (arith, e) in
     ap (λ (m : ℕ). m / each) far ∙ mul-div_cancel i some
 
-pub at_pointer : (p q : Ptr) (k : ℕ) → IsPlaced p → IsPlaced q → block_of p ≡ block_of q → count_of p ≡ count_of q + k → p ≡ (q +ₚ k)
+pub at_pointer : (p q : Ptr) (k : ℕ) → IsPlaced p → IsPlaced q → block_of p ≡ block_of q → count_of p ≡ count_of q + k
+    → p ≡ (q +ₚ k)
 at_pointer null_ptr q k hp hq b c = absurd (null_not_placed hp)
 at_pointer (block_ptr x o) null_ptr k hp hq b c = absurd (null_not_placed hq)
 at_pointer (block_ptr x o) (block_ptr y u) k hp hq b c = ap₂ block_ptr b c
 
-pub rack_with : (r : Inside) (sh sh' : RawRack) (now : Option RawRack) (i : ℕ) (b : List ℕ) → IsRack r → r.raw_rack ≡ Some sh → HasCell i None sh.cells
+pub rack_with : (r : Inside) (sh sh' : RawRack) (now : Option RawRack) (i : ℕ) (b : List ℕ) → IsRack r
+    → r.raw_rack ≡ Some sh → HasCell i None sh.cells
     → now ≡ Some sh' → sh' ≡ record sh { cells = with_cell i (Some b) sh.cells } → length b ≡ r.each
     → IsRack (record r { raw_rack = now })
 rack_with r sh sh' now i b is e h n s long =
@@ -38,9 +40,11 @@ rack_with r sh sh' now i b is e h n s long =
       small = o.small;
     })
 
-pub view_with : (r : Inside) (sh sh' : RawRack) (now : Option RawRack) (j i : ℕ) (b bs : List ℕ) → r.raw_rack ≡ Some sh → now ≡ Some sh' → sh' ≡ record sh { cells = with_cell j (Some b) sh.cells } → j ≡ i → b ≡ bs
+pub view_with : (r : Inside) (sh sh' : RawRack) (now : Option RawRack) (j i : ℕ) (b bs : List ℕ) → r.raw_rack ≡ Some sh
+    → now ≡ Some sh' → sh' ≡ record sh { cells = with_cell j (Some b) sh.cells } → j ≡ i → b ≡ bs
     → rack_of (record r { raw_rack = now }) ≡ with_element (rack_of r) i bs
 view_with r sh sh' now j i b bs e n s at same =
     ap (λ (x : Option RawRack). rack_of (record r { raw_rack = x })) (n ∙ ap (λ (x : RawRack). Some x) s)
-    ∙ ap₂ (λ (k : ℕ) (y : List ℕ). rack_of (record r { raw_rack = Some (record sh { cells = with_cell k (Some y) sh.cells }) })) at same
+    ∙ ap₂ (λ (k : ℕ) (y : List ℕ). rack_of
+    (record r { raw_rack = Some (record sh { cells = with_cell k (Some y) sh.cells }) })) at same
     ∙ ap (λ (x : Option RawRack). with_element (rack_of (record r { raw_rack = x })) i bs) (sym e)

@@ -22,24 +22,35 @@ use Rattle.ground.specs.Ownership.{raw_bytes_owns}
 use Rattle.ground.specs.contracts.raw_bytes.Block as Sole
 use Rattle.ground.proofs.Walks.{plainly, one, one_made}
 
-module _ (P : RattleType) (g : Ghosts P.Denot) {M : Type 1} {𝓤 : Ura M} (𝓛 : Logic 𝓤) (v : Vec ℕ P.Denot) (u : Val) where
-  pub carve : 0 < v.len → ent 𝓤 (sem 𝓛 ((V.the_row u8 P g).own_val v (u ∷ []))) (sep 𝓤 (sem 𝓛 (raw_bytes_owns v.ptr v.items)) (sem 𝓛 (Sole.the_own P g (record { ptr = v.ptr; len = v.len }) (one u ∷ []))))
-  carve some =
-      let live : has_block v.cap ≡ true = not_from_false _ (ne_eqb v.cap 0 (λ e. omega (arith, v.ok.1))) in
-      let t = g.dealloc_token v.alloc in
-      let Blk = λ (p : Ptr) (xs : List ℕ). block_with_items t u8 p v.len v.cap xs in
-      let Given = λ (ys : List ℕ). fsep (feq ℕ (length ys) v.len) (raw_bytes_owns v.ptr ys) in
-      let Whole = λ (ys : List ℕ). (plainly (V.the_row u8 P g ∷ [])).own_val (with_items v ys, tt) (one u ∷ []) in
-      qed 𝓛 (‵ ((V.the_row u8 P g).own_val v (u ∷ [])) ∷ []) ∵ fsplit ! $ move ! (1 ∷ []) $ fsplit ! $ move ! (1 ∷ []) $
-      in_a_block ! v.ptr (λ p. in_block p (owns_if (has_block v.cap) (Blk p v.items))) (id⊢ 𝓤 (never 𝓤)) (λ b o at.
-      rewrite ! 0 (λ y. ‵ (owns_if y (Blk (block_ptr b o) v.items))) live refl $ rewrite ! 0 (λ p. ‵ (Blk p v.items)) (sym at) refl $ fsplit ! $
-      rewrite ! 0 (λ n. ‵ (lies_at (Array u8 n) full_share v.ptr v.items)) v.ok.0 refl $ frame ! $
-      -- [the spare room and the right to free; the bound; the fields]
-      show ! (λ i. sem 𝓛 (fsep (feq ℕ i.vec.len v.len) (fall (List ℕ) (λ ys. fwand (Given ys) ((plainly (V.the_row u8 P g ∷ [])).own_val (with_items i.vec ys, tt) (one u ∷ [])))))) (record { vec = v }) $
-      feq_i ! ℕ v.len v.len refl $ frame ! $ each ! (λ ys. wand 𝓤 (sem 𝓛 (Given ys)) (sem 𝓛 (Whole ys))) (λ ys. assume ! (‵ (Given ys)) $ fsplit ! $ feq_l ! (λ long.
-      rewrite ! 0 (λ n. ‵ (lies_at (Array u8 n) full_share v.ptr ys)) long refl $ fjoin ! $
-      rewrite ! 0 (λ xs. ‵ (Blk v.ptr xs)) (sym (with_items_is v ys long)) refl $
-      let zs = (with_items v ys).items in
-      rewrite ! 0 (λ p. ‵ (Blk p zs)) at refl $ rewrite ! 0 (λ y. ‵ (owns_if y (Blk (block_ptr b o) zs))) (sym live) refl $
-      rewrite ! 0 (λ p. ‵ (in_block p (owns_if (has_block v.cap) (Blk p zs)))) (sym at) refl $
-      move ! (1 ∷ 0 ∷ []) $ fjoin ! $ move ! (1 ∷ 0 ∷ []) $ fjoin ! $ one_made ! (V.the_row u8 P g) (with_items v ys) u $ done !)))
+module _ (P : RattleType) (g : Ghosts P.Denot) {M : Type 1} {𝓤 : Ura M} (𝓛 : Logic 𝓤) (v : Vec ℕ P.Denot) (u : Val)
+  where
+    pub carve : 0 < v.len → ent 𝓤 (sem 𝓛 ((V.the_row u8 P g).own_val v (u ∷ [])))
+        (sep 𝓤 (sem 𝓛 (raw_bytes_owns v.ptr v.items))
+        (sem 𝓛 (Sole.the_own P g (record { ptr = v.ptr; len = v.len }) (one u ∷ []))))
+    carve some =
+        let live : has_block v.cap ≡ true = not_from_false _ (ne_eqb v.cap 0 (λ e. omega (arith, v.ok.1))) in
+        let t = g.dealloc_token v.alloc in
+        let Blk = λ (p : Ptr) (xs : List ℕ). block_with_items t u8 p v.len v.cap xs in
+        let Given = λ (ys : List ℕ). fsep (feq ℕ (length ys) v.len) (raw_bytes_owns v.ptr ys) in
+        let Whole = λ (ys : List ℕ). (plainly (V.the_row u8 P g ∷ [])).own_val (with_items v ys, tt) (one u ∷ []) in
+        qed 𝓛 (‵ ((V.the_row u8 P g).own_val v (u ∷ [])) ∷ []) ∵
+        fsplit ! $ move ! (1 ∷ []) $ fsplit ! $ move ! (1 ∷ []) $
+        in_a_block ! v.ptr (λ p. in_block p (owns_if (has_block v.cap) (Blk p v.items))) (id⊢ 𝓤 (never 𝓤)) (λ b o at.
+        rewrite ! 0 (λ y. ‵ (owns_if y (Blk (block_ptr b o) v.items))) live refl $ rewrite ! 0 (λ p. ‵ (Blk p v.items))
+        (sym at) refl $ fsplit ! $
+        rewrite ! 0 (λ n. ‵ (lies_at (Array u8 n) full_share v.ptr v.items)) v.ok.0 refl $ frame ! $
+        -- [the spare room and the right to free; the bound; the fields]
+        show ! (λ i. sem 𝓛 (fsep (feq ℕ i.vec.len v.len)
+        (fall (List ℕ) (λ ys. fwand (Given ys)
+        ((plainly (V.the_row u8 P g ∷ [])).own_val (with_items i.vec ys, tt) (one u ∷ []))))))
+        (record { vec = v }) $
+        feq_i ! ℕ v.len v.len refl $ frame ! $ each ! (λ ys. wand 𝓤 (sem 𝓛 (Given ys)) (sem 𝓛 (Whole ys)))
+        (λ ys. assume ! (‵ (Given ys)) $ fsplit ! $ feq_l ! (λ long.
+        rewrite ! 0 (λ n. ‵ (lies_at (Array u8 n) full_share v.ptr ys)) long refl $ fjoin ! $
+        rewrite ! 0 (λ xs. ‵ (Blk v.ptr xs)) (sym (with_items_is v ys long)) refl $
+        let zs = (with_items v ys).items in
+        rewrite ! 0 (λ p. ‵ (Blk p zs)) at refl $ rewrite ! 0 (λ y. ‵ (owns_if y (Blk (block_ptr b o) zs))) (sym live)
+        refl $
+        rewrite ! 0 (λ p. ‵ (in_block p (owns_if (has_block v.cap) (Blk p zs)))) (sym at) refl $
+        move ! (1 ∷ 0 ∷ []) $ fjoin ! $ move ! (1 ∷ 0 ∷ []) $ fjoin ! $ one_made ! (V.the_row u8 P g) (with_items v ys)
+        u $ done !)))

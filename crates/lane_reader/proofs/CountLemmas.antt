@@ -58,7 +58,8 @@ count-append root k [] ys = refl
 count-append root k (x ∷ xs) ys = count-append root (count_step root k x) xs ys
 
 -- the count after one note more
-pub count-next : (root : RootId) (k : ℕ) (notes : List Note) (told : List Told) (i : ℕ) (note : Note) → i < length notes →
+pub count-next : (root : RootId) (k : ℕ) (notes : List Note) (told : List Told) (i : ℕ) (note : Note) → i < length notes
+    →
     note ≡ get_or notes i note →
     count_from root k (take (i + 1) (entries_in notes told))
     ≡ count_after root (count_from root k (take i (entries_in notes told))) note

@@ -32,8 +32,10 @@ pub drain-is : (lane : ℕ) (kind : Did → Option ℕ) (class : ℕ) (classes :
 drain-is lane kind class classes log = go (note (Cache lane class) kind log)
   where
     go : (o : Option (ℕ × Log)) →
-        option_and_then (λ got. option_and_then (λ shed. drain lane kind classes shed.1) (sheds lane class got.0 got.1)) o
-        ≡ option_and_then (λ got. drain lane kind classes got.1) (option_and_then (λ got. sheds lane class got.0 got.1) o)
+        option_and_then (λ got. option_and_then (λ shed. drain lane kind classes shed.1) (sheds lane class got.0 got.1))
+        o
+        ≡ option_and_then (λ got. drain lane kind classes got.1)
+        (option_and_then (λ got. sheds lane class got.0 got.1) o)
     go None = refl
     go (Some p) = refl
 
@@ -41,10 +43,12 @@ drain-is lane kind class classes log = go (note (Cache lane class) kind log)
 abbrev KeepsAsked : {A : Type 0} → Reader A → Type 0
 KeepsAsked {A} r = (log after : Log) (a : A) → r log ≡ Some (a, after) → after.asked ≡ log.asked
 
-keeps-then : {A B : Type 0} (r : Reader A) (f : A → Reader B) → KeepsAsked r → ((a : A) → KeepsAsked (f a)) → KeepsAsked (r >>= f)
+keeps-then : {A B : Type 0} (r : Reader A) (f : A → Reader B) → KeepsAsked r → ((a : A) → KeepsAsked (f a))
+    → KeepsAsked (r >>= f)
 keeps-then {A} {B} r f first second log after b is = go (r log) refl is
   where
-    go : (o : Option (A × Log)) → r log ≡ o → option_and_then (λ got. f got.0 got.1) o ≡ Some (b, after) → after.asked ≡ log.asked
+    go : (o : Option (A × Log)) → r log ≡ o → option_and_then (λ got. f got.0 got.1) o ≡ Some (b, after)
+        → after.asked ≡ log.asked
     go None was h = absurd (cc h)
     go (Some p) was h = second p.0 p.1 after b h ∙ first log p.1 p.0 was
 
@@ -60,7 +64,8 @@ keeps-sheds lane class zero =
 keeps-sheds lane class (suc n) =
     keeps-then (note (Cache lane class) says.shed) (λ region. give_back region >> sheds lane class n)
     (keeps-note (Cache lane class) says.shed)
-    (λ region. keeps-then (give_back region) (λ _. sheds lane class n) (keeps-given region) (λ _. keeps-sheds lane class n))
+    (λ region. keeps-then (give_back region) (λ _. sheds lane class n) (keeps-given region)
+    (λ _. keeps-sheds lane class n))
 
 pub keeps-drain : (lane : ℕ) (kind : Did → Option ℕ) (classes : List ℕ) → KeepsAsked (drain lane kind classes)
 keeps-drain lane kind [] =
@@ -68,20 +73,24 @@ keeps-drain lane kind [] =
 keeps-drain lane kind (class ∷ classes) =
     keeps-then (note (Cache lane class) kind) (λ quota. sheds lane class quota >> drain lane kind classes)
     (keeps-note (Cache lane class) kind)
-    (λ quota. keeps-then (sheds lane class quota) (λ _. drain lane kind classes) (keeps-sheds lane class quota) (λ _. keeps-drain lane kind classes))
+    (λ quota. keeps-then (sheds lane class quota) (λ _. drain lane kind classes) (keeps-sheds lane class quota)
+    (λ _. keeps-drain lane kind classes))
 
 -- where no allocation asked a cache yet, few did behind a drain
-pub drained-few : (lane : ℕ) (kind : Did → Option ℕ) (classes : List ℕ) (log : Rattle.lane_reader.specs.declared.log.Log.Log)
+pub drained-few : (lane : ℕ) (kind : Did → Option ℕ) (classes : List ℕ)
+    (log : Rattle.lane_reader.specs.declared.log.Log.Log)
     (at : At) (o : Option At) → at.asked ≡ 0 →
     drain lane kind classes (log_from [] log at) ≡ passes [] log o → IfSome o (λ behind. behind.asked < sweep_period)
 drained-few lane kind classes log at None none is = tt
 drained-few lane kind classes log at (Some behind) none is =
-    let kept : behind.asked ≡ at.asked = keeps-drain lane kind classes (log_from [] log at) (log_from [] log behind) tt is in
+    let kept : behind.asked ≡ at.asked = keeps-drain lane kind classes (log_from [] log at) (log_from [] log behind) tt
+    is in
     omega (arith, kept, none)
 
 -- the first forty numbers
 below-at : (k : ℕ) → k < 40 → get_or (below 40) k 0 ≡ k
-below-at k h = eqb-true (get_or (below 40) k 0) k (agree_below_at (λ k. get_or (below 40) k 0 == k) (λ _. true) 40 k refl h)
+below-at k h =
+    eqb-true (get_or (below 40) k 0) k (agree_below_at (λ k. get_or (below 40) k 0 == k) (λ _. true) 40 k refl h)
 
 pub classes-from : (classes : List ℕ) (k : ℕ) → classes ≡ below 40 → k < 40 → drop k classes ≡ k ∷ drop (k + 1) classes
 classes-from classes k e h =

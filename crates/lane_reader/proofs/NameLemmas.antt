@@ -36,7 +36,8 @@ lookup-without n name (x ∷ xs) = go (x.0 == name) (name == n) (x.0 == n) refl 
     go false false true here there both rest = rw (here, there, both) refl
     go false false false here there both rest = rw (here, there, both) (rest ∙ rw there refl)
 
-module _ (names : Names) (f g : ℕ → Option Bound) (old : (q : ℕ) → lookup q names ≡ option_map bound_of (f q)) (name : ℕ) where
+module _ (names : Names) (f g : ℕ → Option Bound) (old : (q : ℕ) → lookup q names ≡ option_map bound_of (f q))
+    (name : ℕ) where
   pub after_bind : (bound : Bound) → ((q : ℕ) → g q ≡ cond (is_at (nat_cmp name) q) (Some bound) (f q)) → (q : ℕ) →
       lookup q (bind name (bound_of bound) names) ≡ option_map bound_of (g q)
   after_bind bound new q = go (name == q) refl

@@ -37,7 +37,8 @@ pub copy_parts-is : (root : RootId) (at : ℕ) (p : Part) (ps : List Part) (log 
 copy_parts-is root at p ps log = go (p.len == 0) refl
   where
     inner : (o : Option (List ℕ × Log)) →
-        option_and_then (λ got. option_and_then (λ set. copy_parts root (at + p.len) (filled ps) set.1) (access root (says.set at got.0) got.1)) o
+        option_and_then (λ got. option_and_then (λ set. copy_parts root (at + p.len) (filled ps) set.1)
+        (access root (says.set at got.0) got.1)) o
         ≡ option_and_then (λ got. copy_parts root (at + p.len) (filled ps) got.1)
         (option_and_then (λ got. access root (says.set at got.0) got.1) o)
     inner None = refl
@@ -80,7 +81,8 @@ got-len : (root : RootId) (offset len : ℕ) (log : Log) (q : List ℕ × Log) �
     access root (says.get offset len) log ≡ Some q → length q.0 ≡ len
 got-len root offset len log q is = go (access root Some log) (sym (access_says root (says.get offset len) log) ∙ is)
   where
-    inner : (did : Did) (l : Log) (o : Option (List ℕ)) → says.get offset len did ≡ o → option_map (with l) o ≡ Some q → length q.0 ≡ len
+    inner : (did : Did) (l : Log) (o : Option (List ℕ)) → says.get offset len did ≡ o → option_map (with l) o ≡ Some q
+        → length q.0 ≡ len
     inner did l None was h = absurd (cc h)
     inner did l (Some bytes) was h =
         let same : ◌≡◌ {A = List ℕ × Log} (bytes, l) q = cc h in
@@ -127,8 +129,10 @@ pub get_parts-is : (these : List ℕ) (p : Part) (ps : List Part) (log : Log) �
 get_parts-is these p ps log = go (p.len == 0) refl
   where
     inner : (o : Option (List ℕ × Log)) → access p.root (says.get p.offset p.len) log ≡ o →
-        where_same these (option_and_then (λ first. option_and_then (λ rest. Some (first.0 ++ rest.0, rest.1)) (get_parts (filled ps) first.1)) o)
-        ≡ option_and_then (λ got. where_same (drop p.len these) (get_parts (filled ps) got.1)) (where_same (take p.len these) o)
+        where_same these (option_and_then
+        (λ first. option_and_then (λ rest. Some (first.0 ++ rest.0, rest.1)) (get_parts (filled ps) first.1)) o)
+        ≡ option_and_then (λ got. where_same (drop p.len these) (get_parts (filled ps) got.1))
+        (where_same (take p.len these) o)
     inner None was = refl
     inner (Some q) was =
         pieces these p.len q.0 q.1 (get_parts (filled ps) q.1) (got-len p.root p.offset p.len log q was)
@@ -156,15 +160,18 @@ module _ (parts : List Range) (k : ℕ) (part : Range) (there : k < length parts
   from-part =
       ap (map part_of) (drop_more parts k part there ∙ ap (λ (r : Range). r ∷ drop (k + 1) parts) (sym is))
 
-  pub copied-on : (root : RootId) (at : ℕ) (log : Log) (o : Option (Unit {0} × Log)) → copy_filled root at (part_of part) log ≡ o →
+  pub copied-on : (root : RootId) (at : ℕ) (log : Log) (o : Option (Unit {0} × Log))
+      → copy_filled root at (part_of part) log ≡ o →
       copy_parts root at (filled (map part_of (drop k parts))) log
       ≡ option_and_then (λ got. copy_parts root (at + part.len) (filled (map part_of (drop (k + 1) parts))) got.1) o
   copied-on root at log o was =
       ap (λ (ps : List Part). copy_parts root at (filled ps) log) from-part
       ∙ copy_parts-is root at (part_of part) (map part_of (drop (k + 1) parts)) log
-      ∙ ap (option_and_then (λ got. copy_parts root (at + part.len) (filled (map part_of (drop (k + 1) parts))) got.1)) was
+      ∙ ap (option_and_then (λ got. copy_parts root (at + part.len) (filled (map part_of (drop (k + 1) parts))) got.1))
+      was
 
-  pub released-on : (shape : Shape) (log : Log) (o : Option (Unit {0} × Log)) → release_part shape (part_of part) log ≡ o →
+  pub released-on : (shape : Shape) (log : Log) (o : Option (Unit {0} × Log))
+      → release_part shape (part_of part) log ≡ o →
       release_parts shape (map part_of (drop k parts)) log
       ≡ option_and_then (λ got. release_parts shape (map part_of (drop (k + 1) parts)) got.1) o
   released-on shape log o was =
@@ -193,13 +200,15 @@ module _ (parts : List Range) (k : ℕ) (part : Range) (there : k < length parts
         ap (λ (p : Part). set_filled p rest log) (sym cut_is) ∙ was in
         ap (λ (ps : List Part). set_parts (ranges ps i n) rest log) from-part
         ∙ set_parts-is (cut (part_of part) (min i part.len) t) (cuts others (i - min i part.len) (n - t)) rest log
-        ∙ (λ j. option_and_then (λ got. set_parts (filled (cuts others (skipped i' further j) (fewer j))) (left j) got.1) (first j))
+        ∙ (λ j. option_and_then (λ got. set_parts (filled (cuts others (skipped i' further j) (fewer j))) (left j)
+        got.1) (first j))
 
     pub get-on : (these these' : List ℕ) (i' n' : ℕ) (log : Log) (o : Option (Unit {0} × Log)) →
         i' ≡ i - part.len → n' ≡ n - piece.len → these' ≡ drop piece.len these →
         where_same (take piece.len these) (get_filled (part_of piece) log) ≡ o →
         where_same these (get_parts (ranges (map part_of (drop k parts)) i n) log)
-        ≡ option_and_then (λ got. where_same these' (get_parts (ranges (map part_of (drop (k + 1) parts)) i' n') got.1)) o
+        ≡ option_and_then (λ got. where_same these' (get_parts (ranges (map part_of (drop (k + 1) parts)) i' n') got.1))
+        o
     get-on these these' i' n' log o further fewer behind was =
         let others : List Part = map part_of (drop (k + 1) parts) in
         let t : ℕ = min n (part.len - min i part.len) in
@@ -209,7 +218,8 @@ module _ (parts : List Range) (k : ℕ) (part : Range) (there : k < length parts
         (λ j. where_same (take (taken j) these) (get_filled (sym cut_is j) log)) ∙ was in
         ap (λ (ps : List Part). where_same these (get_parts (ranges ps i n) log)) from-part
         ∙ get_parts-is these (cut (part_of part) (min i part.len) t) (cuts others (i - min i part.len) (n - t)) log
-        ∙ (λ j. option_and_then (λ got. where_same (left j) (get_parts (filled (cuts others (skipped i' further j) (less j))) got.1)) (first j))
+        ∙ (λ j. option_and_then (λ got. where_same (left j)
+        (get_parts (filled (cuts others (skipped i' further j) (less j))) got.1)) (first j))
 
 -- a composite is moved once its parts are copied and released
 pub moved-then : (shape : Shape) (c : Composite) (new : New) (log : Log) →

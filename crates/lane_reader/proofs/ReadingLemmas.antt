@@ -100,7 +100,8 @@ pub next-asked : {A : Type 0} (read : Entry → Option A) (log after : Rattle.po
     next read log ≡ Some (a, after) → after.asked ≡ log.asked
 next-asked {A} read log after a is = go log.left is
   where
-    inner : (e : Entry) (es : Entries) (o : Option A) → option_map (with (behind_entry log e es)) o ≡ Some (a, after) → after.asked ≡ log.asked
+    inner : (e : Entry) (es : Entries) (o : Option A) → option_map (with (behind_entry log e es)) o ≡ Some (a, after)
+        → after.asked ≡ log.asked
     inner e es None h = absurd (cc h)
     inner e es (Some x) h =
         let same : ◌≡◌ {A = A × Rattle.pool_law.specs.Readers.Log} (x, behind_entry log e es) (a, after) = cc h in
@@ -136,7 +137,8 @@ access_says {A} root says log = go log.left
 
 -- a piece that may be cut short by the end
 pub take-min : {X : Type 0} (xs : List X) (n m : ℕ) → m ≡ min (length xs) n → take m xs ≡ take n xs
-take-min {X} xs n m is = ⊎_elim (λ short. go short) (λ long. ap (λ (k : ℕ). take k xs) (omega (arith, is, long))) (order (length xs) n)
+take-min {X} xs n m is =
+    ⊎_elim (λ short. go short) (λ long. ap (λ (k : ℕ). take k xs) (omega (arith, is, long))) (order (length xs) n)
   where
     order : (a b : ℕ) → (a ≤ b) ⊎ (b ≤ a)
     order a b = grind arith
@@ -145,7 +147,8 @@ take-min {X} xs n m is = ⊎_elim (λ short. go short) (λ long. ap (λ (k : ℕ
     go short = let whole : length xs ≤ m = omega (arith, is, short) in take_all m xs whole ∙ sym (take_all n xs short)
 
 pub drop-min : {X : Type 0} (xs : List X) (n m : ℕ) → m ≡ min (length xs) n → drop m xs ≡ drop n xs
-drop-min {X} xs n m is = ⊎_elim (λ short. go short) (λ long. ap (λ (k : ℕ). drop k xs) (omega (arith, is, long))) (order (length xs) n)
+drop-min {X} xs n m is =
+    ⊎_elim (λ short. go short) (λ long. ap (λ (k : ℕ). drop k xs) (omega (arith, is, long))) (order (length xs) n)
   where
     order : (a b : ℕ) → (a ≤ b) ⊎ (b ≤ a)
     order a b = grind arith

@@ -34,7 +34,8 @@ impl Log<'_> {
 
     /// The region of a take of the class.
     pub(crate) fn take(&self, at: At, object: &Object, class: u32) -> Option<(RegionId, At)>
-        ensures { (before : Entries) → note object.now (says.take class) (log_from before self.now at)
+        ensures { (before : Entries) →
+            note object.now (says.take class) (log_from before self.now at)
             ≡ reads before self.now result }
     {
         match self.note(at, object)? {
@@ -51,7 +52,8 @@ impl Log<'_> {
 
     /// The arena has nothing of the class.
     pub(crate) fn full(&self, at: At, object: &Object, class: u32) -> Option<At>
-        ensures { (before : Entries) → note object.now (says.full class) (log_from before self.now at)
+        ensures { (before : Entries) →
+            note object.now (says.full class) (log_from before self.now at)
             ≡ passes before self.now result }
     {
         match self.note(at, object)? {
@@ -84,7 +86,8 @@ impl Log<'_> {
 
     /// This place comes home.
     pub(crate) fn home(&self, at: At, object: &Object, place: u32) -> Option<At>
-        ensures { (before : Entries) → note object.now (says.home place) (log_from before self.now at)
+        ensures { (before : Entries) →
+            note object.now (says.home place) (log_from before self.now at)
             ≡ passes before self.now result }
     {
         match self.note(at, object)? {
@@ -94,8 +97,10 @@ impl Log<'_> {
     }
 
     /// This region comes back.
+    #[tactic(auto, using(crate::proofs::ReadingLemmas::note_says, crate::proofs::RegionLemmas::region_tests))]
     pub(crate) fn given(&self, at: At, object: &Object, region: &RegionId) -> Option<At>
-        ensures { (before : Entries) → note object.now (says.give region.now) (log_from before self.now at)
+        ensures { (before : Entries) →
+            note object.now (says.give region.now) (log_from before self.now at)
             ≡ passes before self.now result }
     {
         match self.note(at, object)? {
@@ -105,8 +110,10 @@ impl Log<'_> {
     }
 
     /// This region is kept.
+    #[tactic(auto, using(crate::proofs::ReadingLemmas::note_says, crate::proofs::RegionLemmas::region_tests))]
     pub(crate) fn kept(&self, at: At, object: &Object, region: &RegionId) -> Option<At>
-        ensures { (before : Entries) → note object.now (says.kept region.now) (log_from before self.now at)
+        ensures { (before : Entries) →
+            note object.now (says.kept region.now) (log_from before self.now at)
             ≡ passes before self.now result }
     {
         match self.note(at, object)? {
@@ -117,7 +124,8 @@ impl Log<'_> {
 
     /// This region is sent back.
     pub(crate) fn back(&self, at: At, object: &Object, region: &RegionId) -> Option<At>
-        ensures { (before : Entries) → note object.now (says.back region.now) (log_from before self.now at)
+        ensures { (before : Entries) →
+            note object.now (says.back region.now) (log_from before self.now at)
             ≡ passes before self.now result }
     {
         match self.note(at, object)? {
@@ -167,7 +175,8 @@ impl Log<'_> {
 
     /// This parcel is posted.
     pub(crate) fn post(&self, at: At, object: &Object, parcel: &Parcel) -> Option<At>
-        ensures { (before : Entries) → note object.now (says.post parcel.now) (log_from before self.now at)
+        ensures { (before : Entries) →
+            note object.now (says.post parcel.now) (log_from before self.now at)
             ≡ passes before self.now result }
     {
         match self.note(at, object)? {

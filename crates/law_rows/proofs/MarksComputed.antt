@@ -53,7 +53,8 @@ MarksFit-passes object had least (At other number did ∷ ns) e =
     (λ h. MarksFit-passes object (max had number) least ns h) (λ h. MarksFit-passes object had least ns h)
   where
     go : (b : Bool) →
-        (if b then nat_le least number && marks_fit object (max had number) least ns else marks_fit object had least ns) ≡ true →
+        (if b then nat_le least number && marks_fit object (max had number) least ns else marks_fit object had least ns)
+        ≡ true →
         (marks_fit object (max had number) least ns ≡ true → MarksFit object (max had number) least ns) →
         (marks_fit object had least ns ≡ true → MarksFit object had least ns) →
         MatchBool b ((least ≤ number) × MarksFit object (max had number) least ns) (MarksFit object had least ns)
@@ -64,10 +65,12 @@ MarksFit-passes object had least (Busy held ∷ ns) e =
     (λ h. MarksFit-passes object held.number (held.number + 1) ns h) (λ h. MarksFit-passes object had least ns h)
   where
     go : (b : Bool) →
-        (if b then nat_le had held.number && marks_fit object held.number (held.number + 1) ns else marks_fit object had least ns) ≡ true →
+        (if b then nat_le had held.number && marks_fit object held.number (held.number + 1) ns else marks_fit object had
+        least ns) ≡ true →
         (marks_fit object held.number (held.number + 1) ns ≡ true → MarksFit object held.number (held.number + 1) ns) →
         (marks_fit object had least ns ≡ true → MarksFit object had least ns) →
-        MatchBool b ((had ≤ held.number) × MarksFit object held.number (held.number + 1) ns) (MarksFit object had least ns)
+        MatchBool b ((had ≤ held.number) × MarksFit object held.number (held.number + 1) ns)
+        (MarksFit object had least ns)
     go true h here past = (leb-true had held.number (and-first _ _ h), here (and-second _ _ h))
     go false h here past = past h
 MarksFit-passes object had least (Ref root did ∷ ns) e = MarksFit-passes object had least ns e

@@ -37,7 +37,8 @@ pub fn compose_and_add()
     ensures add { answers (Add 3 0) []
         ≡ binds (Reply.OkNumber 8) 3 (Composed (composite (held_part ∷ held_part ∷ []) 1 8)) }
     ensures add_to_two_counts { answers (Add 7 0) []
-        ≡ binds (Reply.OkNumber 40004) 7 (Composed (composite (large_part ∷ held_part ∷ []) 2 40004)) }
+        ≡ binds (Reply.OkNumber 40004) 7
+        (Composed (composite (large_part ∷ held_part ∷ []) 2 40004)) }
 {}
 
 /// Seventeen parts are copied to a new root. Then each is released, as long as the lane counts its

@@ -41,7 +41,8 @@ run_at-replaced at by (x ∷ xs) r new rest found made =
     go (at == 0) (nat_lt at (pages_in x)) refl refl (λ h. run_at-replaced (at - pages_in x) by xs r new rest h made)
   where
     go : (b c : Bool) → (at == 0) ≡ b → nat_lt at (pages_in x) ≡ c →
-        (run_at (at - pages_in x) xs ≡ Some r → run_at (at - pages_in x) (replaced (at - pages_in x) by xs) ≡ Some new) →
+        (run_at (at - pages_in x) xs ≡ Some r → run_at (at - pages_in x) (replaced (at - pages_in x) by xs) ≡ Some new)
+        →
         run_at at (replaced at by (x ∷ xs)) ≡ Some new
     go true c here inside later =
         let zero_is : at ≡ 0 = eqb-true at 0 here in
@@ -53,14 +54,16 @@ run_at-replaced at by (x ∷ xs) r new rest found made =
 pub chunk_at-set : (a b : Arena) (c : ℕ) (new : Chunk) → c < length a.chunks →
     b.chunks ≡ slice_set a.chunks c (Some new) → chunk_at b c ≡ new
 chunk_at-set a b c new there e =
-    let same : slice_get (slice_set a.chunks c (Some new)) c ≡ Some (Some new) = slice_get-set_same a.chunks c (Some new) there in
+    let same : slice_get (slice_set a.chunks c (Some new)) c
+    ≡ Some (Some new) = slice_get-set_same a.chunks c (Some new) there in
     rw (e, same) refl
 
 pub run-begins : (g : Geometry) (a : Arena) (c at pages : ℕ) (what : Use) → HasRoomAt a c at pages →
     run_at at (chunk_at (with_run g a c at pages what) c) ≡ Some (Used pages what)
 run-begins g a c at pages what h =
     let new : Chunk = taken_at at pages what (chunk_at a c) in
-    let is : chunk_at (with_run g a c at pages what) c ≡ new = chunk_at-set a (with_run g a c at pages what) c new h.chunk refl in
+    let is : chunk_at (with_run g a c at pages what) c
+    ≡ new = chunk_at-set a (with_run g a c at pages what) c new h.chunk refl in
     ap (run_at at) is
     ∙ run_at-replaced at (front_used pages what) (chunk_at a c) (Free h.room.free) (Used pages what)
     (rest_of (h.room.free - pages)) h.room.found refl
@@ -85,7 +88,8 @@ fresh-chosen g wanted n = go (nat_le wanted n) refl
     go : (b : Bool) → nat_le wanted n ≡ b →
         chosen g wanted ((0, n) ∷ []) ≡ (if nat_le wanted n then Some (0, n) else None)
     go true holds =
-        let same : (page_class_under g n == page_class_under g n) ≡ true = eq-eqb (page_class_under g n) (page_class_under g n) refl in
+        let same : (page_class_under g n == page_class_under g n)
+        ≡ true = eq-eqb (page_class_under g n) (page_class_under g n) refl in
         rw (holds, same) refl
     go false holds = rw holds refl
 
@@ -103,7 +107,8 @@ module _ (g : Geometry) (a : Arena) (wanted : ℕ) (what : Use) where
   pub gives-held : (spot : ℕ × ℕ) (pages : ℕ) (new : Arena) → first_holding g a wanted (walk a.lists) ≡ Some spot →
       wanted ≡ pages → new ≡ with_run g a spot.0 spot.1 pages what →
       GivesSpot (take_run g a wanted what) a new (Some spot)
-  gives-held spot pages new held same made = rw held (refl, made ∙ ap (λ n. with_run g a spot.0 spot.1 n what) (sym same))
+  gives-held spot pages new held same made =
+      rw held (refl, made ∙ ap (λ n. with_run g a spot.0 spot.1 n what) (sym same))
 
   pub gives-too_many : (c : ℕ) → first_holding g a wanted (walk a.lists) ≡ None → first_unused a.chunks ≡ Some c →
       c < length a.chunks → chunk_pages g < wanted → GivesSpot (take_run g a wanted what) a a None

@@ -36,7 +36,8 @@ other-number a b other = go (a == b) refl
     go true e = absurd (other (eqb-true a b e))
 
 -- one more place is among these just where it was, or is the new one
-has-more : (p new : ℕ) (places : List ℕ) → has_place p (places ++ new ∷ []) ≡ (has_place p places || ((new == p) || false))
+has-more : (p new : ℕ) (places : List ℕ) → has_place p (places ++ new ∷ [])
+    ≡ (has_place p places || ((new == p) || false))
 has-more p new places = list_any-append (λ q. q == p) places (new ∷ [])
 
 -- a place behind these is not among them
@@ -45,7 +46,11 @@ place-behind first zero m behind = refl
 place-behind first (suc n) m behind =
     ap (has_place (first + m)) (map-append (λ k. first + k) (below n) (n ∷ []))
     ∙ has-more (first + m) (first + n) (places_from first n)
-    ∙ rw (place-behind first n m (omega (arith, behind)), other-number (first + n) (first + m) (λ same. omega (arith, same, behind))) refl
+    ∙ rw (
+      place-behind first n m (omega (arith, behind)),
+      other-number (first + n) (first + m)
+          (λ same. omega (arith, same, behind)),
+    ) refl
 
 pub next-other : (first n : ℕ) (places : List ℕ) → places ≡ places_from first n → has_place (first + n) places ≡ false
 next-other first n places e = ap (has_place (first + n)) e ∙ place-behind first n n (omega arith)
@@ -71,7 +76,8 @@ once-more (p ∷ places) new once other =
     )
 
 -- the set with one more place
-pub home-more : (home next : BTreeSet ℕ) (places : List ℕ) (new : ℕ) → AreAtHome home places → has_place new places ≡ false →
+pub home-more : (home next : BTreeSet ℕ) (places : List ℕ) (new : ℕ) → AreAtHome home places
+    → has_place new places ≡ false →
     ((q : ℕ) → contains nat_cmp next q ≡ cond (is_at (nat_cmp new) q) true (contains nat_cmp home q)) →
     AreAtHome next (places ++ new ∷ [])
 home-more home next places new at other updates = (once-more places new at.0 other, same)

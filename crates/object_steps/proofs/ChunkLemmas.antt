@@ -19,7 +19,8 @@ pub merged-onto : (rs : Chunk) → merged rs ≡ joined_onto rs []
 merged-onto [] = refl
 merged-onto (r ∷ rs) = ap (joined r) (merged-onto rs)
 
-pub onto-last : (rs : Chunk) (r : Run Use) (new : Chunk) → joined_onto (rs ++ r ∷ []) new ≡ joined_onto rs (joined r new)
+pub onto-last : (rs : Chunk) (r : Run Use) (new : Chunk)
+    → joined_onto (rs ++ r ∷ []) new ≡ joined_onto rs (joined r new)
 onto-last [] r new = refl
 onto-last (x ∷ rs) r new = ap (joined x) (onto-last rs r new)
 

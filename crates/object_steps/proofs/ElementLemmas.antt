@@ -66,7 +66,8 @@ moved class page rs new f e next there turns is =
     ∙ run_at-replaced page (λ r. f r ∷ []) rs (Used n (Sub class e)) (Used n (Sub class next)) [] found.1 one in
     let same : (class == class) ≡ true = eq-eqb class class refl in (
       is
-          ∙ replaced-same page (λ r. f r ∷ []) (λ r. Used (pages_in r) (Sub class next) ∷ []) rs (Used n (Sub class e)) found.1 one,
+          ∙ replaced-same page (λ r. f r ∷ []) (λ r. Used (pages_in r) (Sub class next) ∷ []) rs (Used n (Sub class e))
+          found.1 one,
       rw (after, same) refl,
     )
 
@@ -75,7 +76,8 @@ moved class page rs new f e next there turns is =
 new-next : (count : ℕ) → 0 < count → next_element (new_elements count) ≡ Some 0
 new-next zero some = absurd (omega (arith, some))
 new-next (suc n) some =
-    let there : nat_lt 0 (length (false ∷ replicate n false)) ≡ true = lt-ltb 0 (length (false ∷ replicate n false)) (omega arith) in
+    let there : nat_lt 0 (length (false ∷ replicate n false))
+    ≡ true = lt-ltb 0 (length (false ∷ replicate n false)) (omega arith) in
     rw there refl
 
 module _ (g : Geometry) (a : Arena) (class : ℕ) where
@@ -94,13 +96,15 @@ module _ (g : Geometry) (a : Arena) (class : ℕ) where
       here : elements_at mid class place page ≡ Some (new_elements count)
       here = rw (made, begins, eq-eqb class class refl) refl
 
-      there : (o : Option Spotted) → take_element g mid class (place, page) ≡ o → GivesSpot o mid new r → GivesSpot o a new r
+      there : (o : Option Spotted) → take_element g mid class (place, page) ≡ o → GivesSpot o mid new r
+          → GivesSpot o a new r
       there None e h = absurd (cc (rw (here, new-next count some) at e))
       there (Some u) e h = h
 
       go : (o : Option Spotted) → GivesSpot o a next (Some (place, page)) →
           GivesSpot
-          (option_and_then (λ t. take_element g (with_front t.2 class ((t.0, t.1) ∷ front_of t.2 class)) class (t.0, t.1)) o)
+          (option_and_then (λ t. take_element g (with_front t.2 class ((t.0, t.1) ∷ front_of t.2 class)) class
+          (t.0, t.1)) o)
           a new r
       go None h = absurd (cc h.0)
       go (Some t) h =
@@ -120,12 +124,14 @@ module _ (g : Geometry) (number : ℕ) (a b : Arena) (class : ℕ) (region : Reg
   next = region_of number class region.owner (b.takings + 1) place offset
 
   step-is : arena_step g number a (Take class region)
-      ≡ (if same_region region next then Some (record b { takings = b.takings + 1; out = b.out ++ next ∷ [] }) else None)
+      ≡ (if same_region region next then Some (record b { takings = b.takings + 1; out = b.out ++ next ∷ [] }) else
+      None)
   step-is = go (take_class g a class) spot
     where
       go : (o : Option Spotted) → GivesSpot o a b (Some (place, offset)) →
           as_noted region (option_map (noted_taking number class region.owner) o)
-          ≡ (if same_region region next then Some (record b { takings = b.takings + 1; out = b.out ++ next ∷ [] }) else None)
+          ≡ (if same_region region next then Some (record b { takings = b.takings + 1; out = b.out ++ next ∷ [] }) else
+          None)
       go None h = absurd (cc h.0)
       go (Some t) h =
           let place_is : t.0 ≡ place = sym (ap (λ o. (spot_in o).0) h.0) in
@@ -137,7 +143,8 @@ module _ (g : Geometry) (number : ℕ) (a b : Arena) (class : ℕ) (region : Reg
   noted-other other = step-is ∙ rw other refl
 
   pub noted : same_region region next ≡ true →
-      arena_step g number a (Take class region) ≡ Some (record b { takings = region.taking; out = b.out ++ region ∷ [] })
+      arena_step g number a (Take class region) ≡ Some
+      (record b { takings = region.taking; out = b.out ++ region ∷ [] })
   noted same =
       let is : region ≡ next = same_region-is region next same in
       step-is ∙ rw same (λ i. Some (record b { takings = (sym is i).taking; out = b.out ++ (sym is i) ∷ [] }))
@@ -154,7 +161,8 @@ module _ (g : Geometry) (a b : Arena) (class : ℕ) (normal : is_small g class �
       go None h = absurd (cc h.0)
       go (Some t) h = (ap (option_map (λ (s : ℕ × ℕ). (s.0, page_of g * s.1))) h.0, h.1)
 
-  pub gives-no_normal : GivesSpot (take_run g a (pages_of g class) Whole) a b None → GivesSpot (take_class g a class) a b None
+  pub gives-no_normal : GivesSpot (take_run g a (pages_of g class) Whole) a b None
+      → GivesSpot (take_class g a class) a b None
   gives-no_normal h = rw normal (go (take_run g a (pages_of g class) Whole) h)
     where
       go : (o : Option Spotted) → GivesSpot o a b None →

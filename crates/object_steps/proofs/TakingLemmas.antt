@@ -17,7 +17,8 @@ other-taking a b other = go (same_taking a b) refl
     go false e = e
     go true e =
         let rest = (a.class == b.class) && ((a.taking == b.taking) && (a.owner == b.owner)) in
-        let last = and-second (a.class == b.class) ((a.taking == b.taking) && (a.owner == b.owner)) (and-second (same_place a.place b.place) rest e) in
+        let last = and-second (a.class == b.class) ((a.taking == b.taking) && (a.owner == b.owner))
+        (and-second (same_place a.place b.place) rest e) in
         absurd (other (eqb-true a.taking b.taking (and-first (a.taking == b.taking) (a.owner == b.owner) last)))
 
 pub kept : {X : Type 0} (test : X → Bool) (xs : List X) → list_any test xs ≡ false → xs ≡ filter (λ x. not (test x)) xs

@@ -18,7 +18,8 @@ told-more place dids i s t told did there is e =
     let rest : List Did = drop (i + 1) (dids_behind dids) in
     let one : told_of_each place s (drop i (dids_behind dids)) ≡ told_by did.now s.present ∷ told_of_each place t rest =
     ap (λ (ds : List Did). told_of_each place s ds) (at-did dids i did there is)
-    ∙ ap (λ (o : Option RootPlace). told_by did.now s.present ∷ unwrap_or (option_map (λ u. told_of_each place u rest) o) []) (sym e) in
+    ∙ ap (λ (o : Option RootPlace). told_by did.now s.present ∷ unwrap_or
+    (option_map (λ u. told_of_each place u rest) o) []) (sym e) in
     append_assoc told (told_by did.now s.present ∷ []) (told_of_each place t rest)
     ∙ ap (λ (xs : List Told). told ++ xs) (sym one)
 

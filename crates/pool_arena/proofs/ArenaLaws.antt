@@ -14,32 +14,41 @@ use Rattle.pool_arena.specs.Stocks.{StockState, arena_in, Yields, Becomes}
 use Rattle.pool_arena.proofs.KeptPlaces.{Keeps, class-keeps, place-keeps}
 
 -- a taking keeps the order
-pub taken-orderly : (old new : StockState) (class chunk at : ℕ) → IsOrderly old.geometry (arena_in old) → Yields old (λ a. take_class old.geometry a class) chunk at new
+pub taken-orderly : (old new : StockState) (class chunk at : ℕ) → IsOrderly old.geometry (arena_in old)
+    → Yields old (λ a. take_class old.geometry a class) chunk at new
     → IsOrderly new.geometry (arena_in new)
 taken-orderly old new class chunk at o yields =
     subst (λ (g : Geometry). IsOrderly g (arena_in new)) (sym yields.geometry)
     (take_class-orderly old.geometry (arena_in old) class o (chunk, at, arena_in new) (yields.law 0 []))
 
 -- a giving keeps it too
-pub given-orderly : (old new : StockState) (r : RegionId) (offset : ℕ) → IsOrderly old.geometry (arena_in old) → IsSlot old.geometry (chunk_at (arena_in old) r.place.chunk) r
-    → offset ≡ r.place.offset → Becomes old (λ a. given_place old.geometry a r.class r.place.chunk offset) new → IsOrderly new.geometry (arena_in new)
+pub given-orderly : (old new : StockState) (r : RegionId) (offset : ℕ) → IsOrderly old.geometry (arena_in old)
+    → IsSlot old.geometry (chunk_at (arena_in old) r.place.chunk) r
+    → offset ≡ r.place.offset → Becomes old (λ a. given_place old.geometry a r.class r.place.chunk offset) new
+    → IsOrderly new.geometry (arena_in new)
 given-orderly old new r offset o slot same becomes =
     subst (λ (g : Geometry). IsOrderly g (arena_in new)) (sym becomes.geometry)
     (subst (λ (a : Arena). IsOrderly old.geometry a) (becomes.law 0 [])
-    (subst (λ (n : ℕ). IsOrderly old.geometry (given_place old.geometry (arena_in old) r.class r.place.chunk n)) (sym same)
+    (subst (λ (n : ℕ). IsOrderly old.geometry (given_place old.geometry (arena_in old) r.class r.place.chunk n))
+    (sym same)
     (given_place-orderly old.geometry (arena_in old) r o slot)))
 
 -- neither changes the number of chunk places
-pub taken-places : (old new : StockState) (class chunk at : ℕ) → Yields old (λ a. take_class old.geometry a class) chunk at new → length new.chunks ≡ length old.chunks
+pub taken-places : (old new : StockState) (class chunk at : ℕ)
+    → Yields old (λ a. take_class old.geometry a class) chunk at new → length new.chunks ≡ length old.chunks
 taken-places old new class chunk at yields =
-    subst (λ (o : Option Spotted). IfSome o (Keeps (length old.chunks))) (yields.law 0 []) (class-keeps old.geometry (arena_in old) class)
+    subst (λ (o : Option Spotted). IfSome o (Keeps (length old.chunks))) (yields.law 0 [])
+    (class-keeps old.geometry (arena_in old) class)
 
-pub given-places : (old new : StockState) (class chunk offset : ℕ) → Becomes old (λ a. given_place old.geometry a class chunk offset) new → length new.chunks ≡ length old.chunks
+pub given-places : (old new : StockState) (class chunk offset : ℕ)
+    → Becomes old (λ a. given_place old.geometry a class chunk offset) new → length new.chunks ≡ length old.chunks
 given-places old new class chunk offset becomes =
-    ap (λ (x : Arena). length x.chunks) (sym (becomes.law 0 [])) ∙ place-keeps old.geometry (arena_in old) class chunk offset
+    ap (λ (x : Arena). length x.chunks) (sym (becomes.law 0 []))
+    ∙ place-keeps old.geometry (arena_in old) class chunk offset
 
 -- a number past the classes is that of no small class
-pub past-not_small : (g : Geometry) → IsPage g.page → (class : ℕ) → 3 ≤ g.order → class_count g ≤ class → is_small g class ≡ false
+pub past-not_small : (g : Geometry) → IsPage g.page → (class : ℕ) → 3 ≤ g.order → class_count g ≤ class
+    → is_small g class ≡ false
 past-not_small g page class order past = by (is_small g class) refl
   where
     by : (b : Bool) → is_small g class ≡ b → is_small g class ≡ false

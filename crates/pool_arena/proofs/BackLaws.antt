@@ -23,14 +23,17 @@ use Rattle.pool_arena.proofs.ElementLaws.{front-choice, elements-chunks, element
 use Rattle.pool_arena.proofs.GiveLaws.{begins-within}
 
 -- the place of an element that is out
-pub out-found : (s : Inside) (class c page index : ℕ) (piece : Segment) (x : PlaceState) → IsElementOutOf (stock_in s) class c page index piece → x ≡ slice_index_or s.places.items c x
+pub out-found : (s : Inside) (class c page index : ℕ) (piece : Segment) (x : PlaceState)
+    → IsElementOutOf (stock_in s) class c page index piece → x ≡ slice_index_or s.places.items c x
     → slice_get s.places.items c ≡ Some x
 out-found s class c page index piece x o here =
     found-is s.places.items c x
-    (begins-within s c page (Used o.pages (Sub class o.elements)) (Begins-run_at (chunk_at (arena_in (stock_in s)) c) page (Used o.pages (Sub class o.elements)) o.run)) here
+    (begins-within s c page (Used o.pages (Sub class o.elements))
+    (Begins-run_at (chunk_at (arena_in (stock_in s)) c) page (Used o.pages (Sub class o.elements)) o.run)) here
 
 -- its subpage
-abbrev pub out-sub : (s : Inside) (class c page index : ℕ) (piece : Segment) (x : PlaceState) → IsElementOutOf (stock_in s) class c page index piece
+abbrev pub out-sub : (s : Inside) (class c page index : ℕ) (piece : Segment) (x : PlaceState)
+    → IsElementOutOf (stock_in s) class c page index piece
     → slice_get s.places.items c ≡ Some x → HasSubpage (state_of x) page
 out-sub s class c page index piece x o found =
     record {
@@ -63,12 +66,15 @@ out-element s is class c page index piece x o found =
     }
 
 -- there is room for a subpage that was full
-pub back-room : (s : Inside) (is : IsStock s) (class c page index : ℕ) (piece : Segment) (f : FrontState) → IsElementOutOf (stock_in s) class c page index piece
-    → slice_get s.fronts.items class ≡ Some f → is_small s.classes class ≡ true → (o : IsElementOutOf (stock_in s) class c page index piece) → is_full o.elements ≡ true
+pub back-room : (s : Inside) (is : IsStock s) (class c page index : ℕ) (piece : Segment) (f : FrontState)
+    → IsElementOutOf (stock_in s) class c page index piece
+    → slice_get s.fronts.items class ≡ Some f → is_small s.classes class ≡ true
+    → (o : IsElementOutOf (stock_in s) class c page index piece) → is_full o.elements ≡ true
     → length f.spots < f.room
 back-room s is class c page index piece f _ found small o full =
     let room = is.fronts.room class f small found in
-    let spots : length (front_of (arena_in (stock_in s)) class) ≡ length f.spots = ap length (front_of-is s class f found) in
+    let spots : length (front_of (arena_in (stock_in s)) class)
+    ≡ length f.spots = ap length (front_of-is s class f found) in
     let places : length (stock_in s).chunks * chunk_pages s.classes ≡ length s.places.items * chunk_pages s.classes =
     ap (λ (n : ℕ). n * chunk_pages s.classes) (length-map s.places.items (λ (p : PlaceState). p.chunk)) in
     omega (arith, o.room full, spots, places, room)
@@ -78,33 +84,45 @@ abbrev pub fronts_back : StockState → ℕ → ℕ → ℕ → Elements → Lis
 fronts_back s class c page e =
     if is_full e then slice_set s.fronts class ((c, page) ∷ front_of (arena_in s) class) else s.fronts
 
-pub full-back : (s : Inside) (class c page : ℕ) (e : Elements) (f h : FrontState) (items : List FrontState) → slice_get s.fronts.items class ≡ Some f
+pub full-back : (s : Inside) (class c page : ℕ) (e : Elements) (f h : FrontState) (items : List FrontState)
+    → slice_get s.fronts.items class ≡ Some f
     → h.spots ≡ (c, page) ∷ f.spots → items ≡ slice_set s.fronts.items class h → is_full e ≡ true
     → map (λ (z : FrontState). z.spots) items ≡ fronts_back (stock_in s) class c page e
 full-back s class c page e f h items found entered is full =
     ap (map (λ (z : FrontState). z.spots)) is ∙ spots-set s.fronts.items class h
-    ∙ ap (slice_set (stock_in s).fronts class) (entered ∙ ap (λ (xs : List (ℕ × ℕ)). (c, page) ∷ xs) (sym (front_of-is s class f found)))
-    ∙ sym (ap (λ (b : Bool). if b then slice_set (stock_in s).fronts class ((c, page) ∷ front_of (arena_in (stock_in s)) class) else (stock_in s).fronts) full)
+    ∙ ap (slice_set (stock_in s).fronts class)
+    (entered ∙ ap (λ (xs : List (ℕ × ℕ)). (c, page) ∷ xs) (sym (front_of-is s class f found)))
+    ∙ sym (ap (λ (b : Bool). if b then slice_set (stock_in s).fronts class
+    ((c, page) ∷ front_of (arena_in (stock_in s)) class) else (stock_in s).fronts) full)
 
-pub other-back : (s : Inside) (class c page : ℕ) (e : Elements) → is_full e ≡ false → (stock_in s).fronts ≡ fronts_back (stock_in s) class c page e
+pub other-back : (s : Inside) (class c page : ℕ) (e : Elements) → is_full e ≡ false
+    → (stock_in s).fronts ≡ fronts_back (stock_in s) class c page e
 other-back s class c page e other =
-    sym (ap (λ (b : Bool). if b then slice_set (stock_in s).fronts class ((c, page) ∷ front_of (arena_in (stock_in s)) class) else (stock_in s).fronts) other)
+    sym (ap (λ (b : Bool). if b then slice_set (stock_in s).fronts class
+    ((c, page) ∷ front_of (arena_in (stock_in s)) class) else (stock_in s).fronts) other)
 
-module _ (s t : Inside) (is : IsStock s) (class c page index : ℕ) (piece : Segment) (x y : PlaceState) (o : IsElementOutOf (stock_in s) class c page index piece)
-    (found : slice_get s.places.items c ≡ Some x) (changed : y ≡ with_chunk x (Some (with_elements page class (with_back o.elements index) (runs_of x))))
-    (items : t.places.items ≡ slice_set s.places.items c y) (lists : t.lists ≡ s.lists) (sizes : sizes_of t ≡ sizes_of s)
+module _ (s t : Inside) (is : IsStock s) (class c page index : ℕ) (piece : Segment) (x y : PlaceState)
+    (o : IsElementOutOf (stock_in s) class c page index piece)
+    (found : slice_get s.places.items c ≡ Some x)
+    (changed : y ≡ with_chunk x (Some (with_elements page class (with_back o.elements index) (runs_of x))))
+    (items : t.places.items ≡ slice_set s.places.items c y) (lists : t.lists ≡ s.lists)
+    (sizes : sizes_of t ≡ sizes_of s)
     (fronts : (stock_in t).fronts ≡ fronts_back (stock_in s) class c page o.elements) where
   pub back-law : Becomes (stock_in s) (element_back class c page index o.elements) (stock_in t)
   back-law =
       let e = o.elements in
       let sub = out-sub s class c page index piece x o found in
-      let chunks : (stock_in t).chunks ≡ slice_set (stock_in s).chunks c (Some (with_elements page class (with_back e index) (chunk_at (arena_in (stock_in s)) c))) =
+      let chunks : (stock_in t).chunks ≡ slice_set (stock_in s).chunks c
+      (Some (with_elements page class (with_back e index) (chunk_at (arena_in (stock_in s)) c))) =
       elements-chunks s t is c x y page found sub (with_back e index) changed items lists sizes in
       record {
         law = λ takings out.
             let a : Arena = arena_with (stock_in s) takings out in
             front-choice (is_full e)
-            (record a { chunks = slice_set a.chunks c (Some (with_elements page class (with_back e index) (chunk_at a c))) })
+            (record a {
+              chunks = slice_set a.chunks c
+                  (Some (with_elements page class (with_back e index) (chunk_at a c)));
+            })
             (slice_set a.fronts class ((c, page) ∷ front_of a class))
             ∙ (λ i. record {
               chunks = sym chunks i;

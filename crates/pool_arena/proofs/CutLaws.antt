@@ -32,8 +32,10 @@ cut-given s is c x found (Wanted.Run pages) page (Cut.Subpage first) at = at
 cut-given s is c x found (Wanted.Subpage class) page (Cut.Run piece) at = at
 cut-given s is c x found (Wanted.Subpage class) page (Cut.Subpage first) at = at
 
-module _ (s t : Inside) (is : IsStock s) (c : ℕ) (x y q : PlaceState) (wanted : Wanted) (cut : Cut) (cuts : Cuts x wanted y cut)
-    (d : Settles s t c x q (runs_of y)) (fronts : t.fronts.items ≡ s.fronts.items) (some : NoneEmpty (chunk_at (arena_in (stock_in s)) c)) where
+module _ (s t : Inside) (is : IsStock s) (c : ℕ) (x y q : PlaceState) (wanted : Wanted) (cut : Cut)
+    (cuts : Cuts x wanted y cut)
+    (d : Settles s t c x q (runs_of y)) (fronts : t.fronts.items ≡ s.fronts.items)
+    (some : NoneEmpty (chunk_at (arena_in (stock_in s)) c)) where
   geometry : x.geometry ≡ s.classes
   geometry = place-geometry s c x d.written.found is
 
@@ -43,9 +45,11 @@ module _ (s t : Inside) (is : IsStock s) (c : ℕ) (x y q : PlaceState) (wanted 
   found : found_in (stock_in s) c wanted ≡ Some (cuts.page, cuts.long)
   found =
       ap (λ (rs : Chunk). chosen s.classes (pages_wanted s.classes wanted) (free_runs 0 rs)) before
-      ∙ subst (λ (g : Geometry). chosen g (pages_wanted g wanted) (free_runs 0 (runs_of x)) ≡ Some (cuts.page, cuts.long)) geometry cuts.run
+      ∙ subst (λ (g : Geometry). chosen g (pages_wanted g wanted) (free_runs 0 (runs_of x))
+      ≡ Some (cuts.page, cuts.long)) geometry cuts.run
 
-  runs-are : runs_of y ≡ taken_at cuts.page (pages_wanted s.classes wanted) (use_wanted s.classes wanted) (chunk_at (arena_in (stock_in s)) c)
+  runs-are : runs_of y ≡ taken_at cuts.page (pages_wanted s.classes wanted) (use_wanted s.classes wanted)
+      (chunk_at (arena_in (stock_in s)) c)
   runs-are =
       ap runs_of cuts.rest
       ∙ ap (λ (g : Geometry). taken_at cuts.page (pages_wanted g wanted) (use_wanted g wanted) (runs_of x)) geometry
@@ -53,10 +57,18 @@ module _ (s t : Inside) (is : IsStock s) (c : ℕ) (x y q : PlaceState) (wanted 
 
   risen : least d.here ≤ usage s.classes (runs_of y)
   risen =
-      let begins = chosen-begins s.classes (pages_wanted s.classes wanted) cuts.page cuts.long (chunk_at (arena_in (stock_in s)) c) found in
-      let free = taken-free (chunk_at (arena_in (stock_in s)) c) cuts.page cuts.long (pages_wanted s.classes wanted) (use_wanted s.classes wanted) some begins.0 begins.1 in
-      let less : free_pages (runs_of y) ≤ free_pages (chunk_at (arena_in (stock_in s)) c) = omega (arith, ap free_pages runs-are, free) in
-      omega (arith, (is.settled c d.here d.there).0, usage-rises s.classes is.sizes.page (runs_of y) (chunk_at (arena_in (stock_in s)) c) less)
+      let begins = chosen-begins s.classes (pages_wanted s.classes wanted) cuts.page cuts.long
+      (chunk_at (arena_in (stock_in s)) c) found in
+      let free = taken-free (chunk_at (arena_in (stock_in s)) c) cuts.page cuts.long (pages_wanted s.classes wanted)
+      (use_wanted s.classes wanted) some begins.0 begins.1 in
+      let less : free_pages (runs_of y) ≤ free_pages (chunk_at (arena_in (stock_in s)) c) =
+      omega (arith, ap free_pages runs-are, free) in
+      omega (
+        arith,
+        (is.settled c d.here d.there).0,
+        usage-rises s.classes is.sizes.page (runs_of y)
+            (chunk_at (arena_in (stock_in s)) c) less,
+      )
 
   pub cut-law : CutsFrom (stock_in s) c wanted (stock_in t) cut
   cut-law =
@@ -65,6 +77,7 @@ module _ (s t : Inside) (is : IsStock s) (c : ℕ) (x y q : PlaceState) (wanted 
         long = cuts.long;
         run = found;
         becomes =
-            settle-up s t c x q (runs_of y) d is fronts risen cuts.page (pages_wanted s.classes wanted) (use_wanted s.classes wanted) runs-are;
+            settle-up s t c x q (runs_of y) d is fronts risen cuts.page (pages_wanted s.classes wanted)
+            (use_wanted s.classes wanted) runs-are;
         given = cut-given s is c x d.written.found wanted cuts.page cut cuts.given;
       }

@@ -16,21 +16,27 @@ use Rattle.pool_arena.specs.Held.{stock_in, HasRoomAt, IsStock}
 use Rattle.pool_arena.specs.declared.stock.Stock.TheInside.{Inside}
 
 -- the subpages of a class
-pub front_of-is : (s : Inside) (class : ℕ) (f : FrontState) → slice_get s.fronts.items class ≡ Some f → front_of (arena_in (stock_in s)) class ≡ f.spots
+pub front_of-is : (s : Inside) (class : ℕ) (f : FrontState) → slice_get s.fronts.items class ≡ Some f
+    → front_of (arena_in (stock_in s)) class ≡ f.spots
 front_of-is s class f found =
-    ap (λ o. unwrap_or o []) (slice_get-map (λ (h : FrontState). h.spots) s.fronts.items class ∙ ap (option_map (λ (h : FrontState). h.spots)) found)
+    ap (λ o. unwrap_or o []) (slice_get-map (λ (h : FrontState). h.spots) s.fronts.items class
+    ∙ ap (option_map (λ (h : FrontState). h.spots)) found)
 
 -- a front with other subpages leaves the others room
-pub rooms-set : (pages : ℕ) (g : Geometry) (fs : List FrontState) (class : ℕ) (f h : FrontState) → HasRoomAt pages g fs → slice_get fs class ≡ Some f → h.room ≡ f.room
+pub rooms-set : (pages : ℕ) (g : Geometry) (fs : List FrontState) (class : ℕ) (f h : FrontState) → HasRoomAt pages g fs
+    → slice_get fs class ≡ Some f → h.room ≡ f.room
     → HasRoomAt pages g (slice_set fs class h)
 rooms-set pages g fs class f h has found same =
     record { count = length-set fs class h ∙ has.count; room = λ k x small at. by k x small at (same_or-not k class) }
   where
     here : (x : FrontState) → slice_get (slice_set fs class h) class ≡ Some x → h ≡ x
     here x at =
-        let both : ◌≡◌ {A = Option FrontState} (Some h) (Some x) = sym (slice_get-set_same fs class h (slice_get-below fs class f found)) ∙ at in cc both
+        let both : ◌≡◌ {A = Option FrontState} (Some h) (Some x) =
+        sym (slice_get-set_same fs class h (slice_get-below fs class f found)) ∙ at in
+        cc both
 
-    by : (k : ℕ) (x : FrontState) → is_small g k ≡ true → slice_get (slice_set fs class h) k ≡ Some x → (k ≡ class) ⊎ (k ≢ class) → pages ≤ x.room
+    by : (k : ℕ) (x : FrontState) → is_small g k ≡ true → slice_get (slice_set fs class h) k ≡ Some x
+        → (k ≡ class) ⊎ (k ≢ class) → pages ≤ x.room
     by k x small at (inl e) =
         let found_k = subst (λ n. slice_get fs n ≡ Some f) (sym e) found in
         let is = here x (subst (λ n. slice_get (slice_set fs class h) n ≡ Some x) e at) in
@@ -38,14 +44,17 @@ rooms-set pages g fs class f h has found same =
         omega (arith, has.room k f small found_k, room, same)
     by k x small at (inr ne) = has.room k x small (sym (slice_get-set_other fs class k h ne) ∙ at)
 
-pub spots-set : (fs : List FrontState) (class : ℕ) (h : FrontState) → map (λ (f : FrontState). f.spots) (slice_set fs class h) ≡ slice_set (map (λ (f : FrontState). f.spots) fs) class h.spots
+pub spots-set : (fs : List FrontState) (class : ℕ) (h : FrontState)
+    → map (λ (f : FrontState). f.spots) (slice_set fs class h)
+    ≡ slice_set (map (λ (f : FrontState). f.spots) fs) class h.spots
 spots-set fs class h = map-set (λ (f : FrontState). f.spots) fs class h
 
 -- an arena with other fronts
 abbrev pub with_fronts : Inside → Vec FrontState Global → Inside
 with_fronts s v = record { classes = s.classes; page = s.page; places = s.places; lists = s.lists; fronts = v }
 
-pub fronts-held : (s : Inside) (v : Vec FrontState Global) → IsStock s → HasRoomAt (length s.places.items * chunk_pages s.classes) s.classes v.items → IsStock (with_fronts s v)
+pub fronts-held : (s : Inside) (v : Vec FrontState Global) → IsStock s
+    → HasRoomAt (length s.places.items * chunk_pages s.classes) s.classes v.items → IsStock (with_fronts s v)
 fronts-held s v is rooms =
     record {
       least = is.least;
@@ -60,24 +69,28 @@ fronts-held s v is rooms =
     }
 
 -- a class has a front
-pub front-found : (s : Inside) (is : IsStock s) (g : Geometry) (class : ℕ) (f : FrontState) → s.classes ≡ g → class < class_count g → f ≡ get_or s.fronts.items class f
+pub front-found : (s : Inside) (is : IsStock s) (g : Geometry) (class : ℕ) (f : FrontState) → s.classes ≡ g
+    → class < class_count g → f ≡ get_or s.fronts.items class f
     → slice_get s.fronts.items class ≡ Some f
 front-found s is g class f same less here =
     let within : class < length s.fronts.items = omega (arith, is.fronts.count, less, ap class_count same) in
     found-is s.fronts.items class f within here
 
-pub front-index : (s : Inside) (is : IsStock s) (g : Geometry) (class : ℕ) → s.classes ≡ g → class < class_count g → class < vec_len s.fronts
+pub front-index : (s : Inside) (is : IsStock s) (g : Geometry) (class : ℕ) → s.classes ≡ g → class < class_count g
+    → class < vec_len s.fronts
 front-index s is g class same less = omega (arith, is.fronts.count, ap class_count same, less, s.fronts.ok.0)
 
 -- the subpages of a class, as a caller sees them
-pub front-seen : (s : Inside) (v : StockState) (class : ℕ) (f : FrontState) → IsStock s → stock_in s ≡ v → class < class_count v.geometry → f ≡ get_or s.fronts.items class f
+pub front-seen : (s : Inside) (v : StockState) (class : ℕ) (f : FrontState) → IsStock s → stock_in s ≡ v
+    → class < class_count v.geometry → f ≡ get_or s.fronts.items class f
     → front_of (arena_in v) class ≡ f.spots
 front-seen s v class f is same less here =
     ap (λ (w : StockState). front_of (arena_in w) class) (sym same)
     ∙ front_of-is s class f (front-found s is v.geometry class f (ap (λ (w : StockState). w.geometry) same) less here)
 
 -- a front without a subpage has room for one
-pub front-room : (s : Inside) (is : IsStock s) (class : ℕ) (f : FrontState) → slice_get s.fronts.items class ≡ Some f → is_small s.classes class ≡ true
+pub front-room : (s : Inside) (is : IsStock s) (class : ℕ) (f : FrontState) → slice_get s.fronts.items class ≡ Some f
+    → is_small s.classes class ≡ true
     → front_of (arena_in (stock_in s)) class ≡ [] → length f.spots < f.room
 front-room s is class f found small none =
     let empty : length f.spots ≡ 0 = ap length (sym (front_of-is s class f found) ∙ none) in
@@ -86,7 +99,8 @@ front-room s is class f found small none =
     omega (arith, empty, room, places, is.few.0)
 
 -- a subpage that enters is the front
-pub enter-law : (s : Inside) (class chunk page : ℕ) (f h : FrontState) (v : Vec FrontState Global) → slice_get s.fronts.items class ≡ Some f
+pub enter-law : (s : Inside) (class chunk page : ℕ) (f h : FrontState) (v : Vec FrontState Global)
+    → slice_get s.fronts.items class ≡ Some f
     → h ≡ with_spots f ((chunk, page) ∷ f.spots) → v.items ≡ slice_set s.fronts.items class h
     → Becomes (stock_in s) (λ a. with_subpage class (chunk, page, a)) (stock_in (with_fronts s v))
 enter-law s class chunk page f h v found is items =
@@ -95,7 +109,8 @@ enter-law s class chunk page f h v found is items =
         chunks = (stock_in s).chunks;
         lists = s.lists.lists;
         fronts =
-            (ap (λ (spots : List (ℕ × ℕ)). slice_set (stock_in s).fronts class ((chunk, page) ∷ spots)) (front_of-is s class f found)
+            (ap (λ (spots : List (ℕ × ℕ)). slice_set (stock_in s).fronts class ((chunk, page) ∷ spots))
+            (front_of-is s class f found)
             ∙ ap (λ (x : FrontState). slice_set (stock_in s).fronts class x.spots) (sym is)
             ∙ sym (ap (map (λ (x : FrontState). x.spots)) items ∙ spots-set s.fronts.items class h)) i;
         takings = takings;
@@ -106,16 +121,19 @@ enter-law s class chunk page f h v found is items =
     }
 
 -- and one that leaves is not among them
-pub leave-law : (s : Inside) (class chunk page : ℕ) (f h : FrontState) (v : Vec FrontState Global) → slice_get s.fronts.items class ≡ Some f
+pub leave-law : (s : Inside) (class chunk page : ℕ) (f h : FrontState) (v : Vec FrontState Global)
+    → slice_get s.fronts.items class ≡ Some f
     → h ≡ with_spots f (without_spot chunk page f.spots) → v.items ≡ slice_set s.fronts.items class h
-    → Becomes (stock_in s) (λ a. with_front a class (without_spot chunk page (front_of a class))) (stock_in (with_fronts s v))
+    → Becomes (stock_in s) (λ a. with_front a class (without_spot chunk page (front_of a class)))
+    (stock_in (with_fronts s v))
 leave-law s class chunk page f h v found is items =
     record {
       law = λ takings out i. record {
         chunks = (stock_in s).chunks;
         lists = s.lists.lists;
         fronts =
-            (ap (λ (spots : List (ℕ × ℕ)). slice_set (stock_in s).fronts class (without_spot chunk page spots)) (front_of-is s class f found)
+            (ap (λ (spots : List (ℕ × ℕ)). slice_set (stock_in s).fronts class (without_spot chunk page spots))
+            (front_of-is s class f found)
             ∙ ap (λ (x : FrontState). slice_set (stock_in s).fronts class x.spots) (sym is)
             ∙ sym (ap (map (λ (x : FrontState). x.spots)) items ∙ spots-set s.fronts.items class h)) i;
         takings = takings;

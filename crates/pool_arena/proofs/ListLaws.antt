@@ -9,21 +9,29 @@ use Rattle.pool_law.specs.Arenas.{first_unused}
 use Rattle.pool_arena.specs.Places.{PlaceState}
 
 -- the first place without a chunk
-pub unused-first : (ps : List PlaceState) → position (λ (p : PlaceState). not (is_some p.chunk)) ps ≡ first_unused (map (λ (p : PlaceState). p.chunk) ps)
+pub unused-first : (ps : List PlaceState) → position (λ (p : PlaceState). not (is_some p.chunk)) ps
+    ≡ first_unused (map (λ (p : PlaceState). p.chunk) ps)
 unused-first [] = refl
 unused-first (p ∷ ps) = by p.chunk refl (unused-first ps)
   where
-    shift : (n m : ℕ) → (if nat_lt (1 + n) (suc m) then Some (1 + n) else None) ≡ option_map (λ k. suc k) (if nat_lt n m then Some n else None)
+    shift : (n m : ℕ) → (if nat_lt (1 + n) (suc m) then Some (1 + n) else None)
+        ≡ option_map (λ k. suc k) (if nat_lt n m then Some n else None)
     shift n m =
-        cond_both (nat_lt n m) (Some n) None (λ z. (if nat_lt (1 + n) (suc m) then Some (1 + n) else None) ≡ option_map (λ k. suc k) z)
-        (λ lt. let up : nat_lt (1 + n) (suc m) ≡ true = lt-ltb (1 + n) (suc m) (omega (arith, ltb-true n m lt)) in rw up (ap Some (omega arith)))
-        (λ ge. let up : nat_lt (1 + n) (suc m) ≡ false = le-ltb (1 + n) (suc m) (omega (arith, ltb-false n m ge)) in rw up refl)
+        cond_both (nat_lt n m) (Some n) None
+        (λ z. (if nat_lt (1 + n) (suc m) then Some (1 + n) else None) ≡ option_map (λ k. suc k) z)
+        (λ lt. let up : nat_lt (1 + n) (suc m) ≡ true = lt-ltb (1 + n) (suc m) (omega (arith, ltb-true n m lt)) in
+        rw up (ap Some (omega arith)))
+        (λ ge. let up : nat_lt (1 + n) (suc m) ≡ false = le-ltb (1 + n) (suc m) (omega (arith, ltb-false n m ge)) in
+        rw up refl)
 
-    by : (o : Option Chunk) → p.chunk ≡ o → position (λ (q : PlaceState). not (is_some q.chunk)) ps ≡ first_unused (map (λ (q : PlaceState). q.chunk) ps)
-        → position (λ (q : PlaceState). not (is_some q.chunk)) (p ∷ ps) ≡ first_unused (map (λ (q : PlaceState). q.chunk) (p ∷ ps))
+    by : (o : Option Chunk) → p.chunk ≡ o → position (λ (q : PlaceState). not (is_some q.chunk)) ps
+        ≡ first_unused (map (λ (q : PlaceState). q.chunk) ps)
+        → position (λ (q : PlaceState). not (is_some q.chunk)) (p ∷ ps)
+        ≡ first_unused (map (λ (q : PlaceState). q.chunk) (p ∷ ps))
     by None is rest = rw is (ap (λ (b : Bool). if b then Some 0 else None) (lt-ltb 0 (suc (length ps)) (omega arith)))
     by (Some runs) is rest =
-        rw is (shift (position_or_len (λ (q : PlaceState). not (is_some q.chunk)) ps) (length ps) ∙ ap (option_map (λ k. suc k)) rest)
+        rw is (shift (position_or_len (λ (q : PlaceState). not (is_some q.chunk)) ps) (length ps)
+        ∙ ap (option_map (λ k. suc k)) rest)
 
 -- an element that is written, and the others
 pub All-set : {X : Type 0} (P : X → Type 0) (xs : List X) (i : ℕ) (x : X) → All P xs → P x → All P (slice_set xs i x)

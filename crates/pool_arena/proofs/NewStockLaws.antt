@@ -54,7 +54,8 @@ below-at (suc n) k d less = by (last-or k n less) (below-at n k d)
         let at : k ≡ length (below n) = e ∙ sym (length-below n) in
         ap (λ (j : ℕ). get_or (below n ++ n ∷ []) j d) at ∙ get_or-append_seam (below n) n [] d ∙ sym e
 
-no-spots : (g : Geometry) (room n : ℕ) → map (λ (f : FrontState). f.spots) (map (front_for g room) (below n)) ≡ replicate n []
+no-spots : (g : Geometry) (room n : ℕ) → map (λ (f : FrontState). f.spots) (map (front_for g room) (below n))
+    ≡ replicate n []
 no-spots g room zero = refl
 no-spots g room (suc n) =
     ap (map (λ (f : FrontState). f.spots)) (map-append (front_for g room) (below n) (n ∷ []))
@@ -69,10 +70,18 @@ new-rooms g room =
       count = length-map (below (class_count g)) (front_for g room) ∙ length-below (class_count g);
       room = λ class f small at.
           let less : class < class_count g =
-          omega (arith, slice_get-below (map (front_for g room) (below (class_count g))) class f at, length-map (below (class_count g)) (front_for g room), length-below (class_count g)) in
+          omega (
+            arith,
+            slice_get-below (map (front_for g room) (below (class_count g))) class f at,
+            length-map
+                (below (class_count g)) (front_for g room),
+            length-below (class_count g),
+          ) in
           let here : slice_get (map (front_for g room) (below (class_count g))) class ≡ Some (front_for g room class) =
           slice_get-map (front_for g room) (below (class_count g)) class
-          ∙ ap (option_map (front_for g room)) (slice_get-get_or (below (class_count g)) class 0 (omega (arith, length-below (class_count g), less)) ∙ ap Some (below-at (class_count g) class 0 less)) in
+          ∙ ap (option_map (front_for g room))
+          (slice_get-get_or (below (class_count g)) class 0 (omega (arith, length-below (class_count g), less))
+          ∙ ap Some (below-at (class_count g) class 0 less)) in
           let both : ◌≡◌ {A = Option FrontState} (Some (front_for g room class)) (Some f) = sym here ∙ at in
           let same : front_for g room class ≡ f = cc both in
           let rooms : (if is_small g class then room else 0) ≡ room = ap (λ b. if b then room else 0) small in
@@ -81,9 +90,11 @@ new-rooms g room =
 
 -- ---- the arena
 
-module _ (s : Inside) (order page chunks room : ℕ) (page_is : s.page ≡ page) (sizes : IsGeometry (of_pages order page)) (some : 1 ≤ chunks) (few : chunks ≤ 8) (classes : s.classes ≡ of_pages order page)
+module _ (s : Inside) (order page chunks room : ℕ) (page_is : s.page ≡ page) (sizes : IsGeometry (of_pages order page))
+    (some : 1 ≤ chunks) (few : chunks ≤ 8) (classes : s.classes ≡ of_pages order page)
     (lists : s.lists ≡ new_listing chunks) (count : length s.places.items ≡ chunks)
-    (unused : All (λ (p : PlaceState). (p.geometry ≡ of_pages order page) × (p.chunk ≡ None)) s.places.items) (room_is : room ≡ chunks * chunk_pages (of_pages order page))
+    (unused : All (λ (p : PlaceState). (p.geometry ≡ of_pages order page) × (p.chunk ≡ None)) s.places.items)
+    (room_is : room ≡ chunks * chunk_pages (of_pages order page))
     (fronts : s.fronts.items ≡ map (front_for s.classes room) (below (class_count s.classes))) where
   no_lists : s.lists.lists ≡ no_chunks
   no_lists = ap (λ (l : Listing). l.lists) lists
@@ -99,19 +110,25 @@ module _ (s : Inside) (order page chunks room : ℕ) (page_is : s.page ≡ page)
         lists = ap (λ (l : Listing). l.places) lists ∙ sym count;
         places = λ k d less. (unused k d less).0 ∙ sym classes;
         fronts =
-            subst (λ (fs : List FrontState). HasRoomAt (length s.places.items * chunk_pages s.classes) s.classes fs) (sym fronts)
+            subst (λ (fs : List FrontState). HasRoomAt (length s.places.items * chunk_pages s.classes) s.classes fs)
+            (sym fronts)
             (subst (λ (n : ℕ). HasRoomAt n s.classes (map (front_for s.classes room) (below (class_count s.classes))))
-            (room_is ∙ ap (λ (n : ℕ). n * chunk_pages (of_pages order page)) (sym count) ∙ ap (λ (g : Geometry). length s.places.items * chunk_pages g) (sym classes))
+            (room_is ∙ ap (λ (n : ℕ). n * chunk_pages (of_pages order page)) (sym count)
+            ∙ ap (λ (g : Geometry). length s.places.items * chunk_pages g) (sym classes))
             (new-rooms s.classes room));
-        settled = λ c name listed. absurd (cc (sym (nowhere c) ∙ ap (λ (l : Lists). list_of l c) (sym no_lists) ∙ listed));
+        settled =
+            λ c name listed. absurd (cc (sym (nowhere c) ∙ ap (λ (l : Lists). list_of l c) (sym no_lists) ∙ listed));
       }
 
   pub new-state : arena_in (stock_in s) ≡ new_arena (of_pages order page) chunks
   new-state = λ i. record {
-    chunks = (all-same (λ (p : PlaceState). p.chunk) None s.places.items (λ k d less. (unused k d less).1) ∙ ap (λ (n : ℕ). replicate n None) count) i;
+    chunks =
+        (all-same (λ (p : PlaceState). p.chunk) None s.places.items (λ k d less. (unused k d less).1)
+        ∙ ap (λ (n : ℕ). replicate n None) count) i;
     lists = no_lists i;
     fronts =
-        (ap (map (λ (f : FrontState). f.spots)) fronts ∙ no-spots s.classes room (class_count s.classes) ∙ ap (λ (g : Geometry). replicate (class_count g) []) classes) i;
+        (ap (map (λ (f : FrontState). f.spots)) fronts ∙ no-spots s.classes room (class_count s.classes)
+        ∙ ap (λ (g : Geometry). replicate (class_count g) []) classes) i;
     takings = 0;
     out = [];
   }

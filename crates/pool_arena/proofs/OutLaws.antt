@@ -24,7 +24,8 @@ use Rattle.arena_law.proofs.CoveredLaw.{covered-rests}
 use Rattle.pool_arena.specs.Trials.{HasOut}
 use Rattle.pool_arena.specs.ArenaStates.{ArenaState, IsNew, law_of, IsInPlaceAt, IsInPlaceUnder, IsOutOf, Takes, Gives, AtRest, without_taking}
 
-has-out : (g : Geometry) (number : ℕ) (a : ArenaState) (out : List RegionId) → a.geometry ≡ g → a.number ≡ number → ArenaHolds g number (law_of a out)
+has-out : (g : Geometry) (number : ℕ) (a : ArenaState) (out : List RegionId) → a.geometry ≡ g → a.number ≡ number
+    → ArenaHolds g number (law_of a out)
     → IsCovered g (law_of a out) → HasOut a out
 has-out g number a out geometry number_is holds covered =
     record {
@@ -40,7 +41,8 @@ pub new-out : (number page order chunks : ℕ) (a : ArenaState) → IsPage page 
     → HasOut a []
 new-out number page order chunks a is_page is =
     has-out (of_pages order page) number a [] is.geometry is.number_is
-    (subst (λ (x : Arena). ArenaHolds (of_pages order page) number x) (sym is.law) (new-holds (of_pages order page) number is_page chunks))
+    (subst (λ (x : Arena). ArenaHolds (of_pages order page) number x) (sym is.law)
+    (new-holds (of_pages order page) number is_page chunks))
     (subst (λ (x : Arena). IsCovered (of_pages order page) x) (sym is.law) (new-covered (of_pages order page) chunks))
 
 pub new-places : (number page order chunks : ℕ) (a : ArenaState) → IsNew number page order chunks a
@@ -50,24 +52,32 @@ new-places number page order chunks a is = ap (λ (x : Arena). length x.chunks) 
 pub new-takings : (number page order chunks : ℕ) (a : ArenaState) → IsNew number page order chunks a → a.takings ≡ 0
 new-takings number page order chunks a is = ap (λ (x : Arena). x.takings) is.law
 
-module _ (old new : ArenaState) (class owner : ℕ) (r : RegionId) (out : List RegionId) (has : HasOut old out) (takes : Takes old class owner new r) where
+module _ (old new : ArenaState) (class owner : ℕ) (r : RegionId) (out : List RegionId) (has : HasOut old out)
+    (takes : Takes old class owner new r) where
   pub take-out : HasOut new (out ++ r ∷ [])
   take-out =
       has-out old.geometry old.number new (out ++ r ∷ []) takes.same.geometry takes.same.number
-      (take-holds old.geometry old.number class (law_of old out) owner has.holds (r, law_of new (out ++ r ∷ [])) (takes.step out))
-      (take-covered old.geometry old.number (law_of old out) class owner has.holds has.covered (r, law_of new (out ++ r ∷ [])) (takes.step out))
+      (take-holds old.geometry old.number class (law_of old out) owner has.holds (r, law_of new (out ++ r ∷ []))
+      (takes.step out))
+      (take-covered old.geometry old.number (law_of old out) class owner has.holds has.covered
+      (r, law_of new (out ++ r ∷ [])) (takes.step out))
 
   pub take-takings : new.takings ≡ old.takings + 1
-  take-takings = (take-numbers old.geometry old.number (law_of old out) class owner (r, law_of new (out ++ r ∷ [])) (takes.step out)).1
+  take-takings =
+      (take-numbers old.geometry old.number (law_of old out) class owner (r, law_of new (out ++ r ∷ []))
+      (takes.step out)).1
 
   pub taken-number : r.taking ≡ old.takings + 1
-  taken-number = (take-numbers old.geometry old.number (law_of old out) class owner (r, law_of new (out ++ r ∷ [])) (takes.step out)).0.taking
+  taken-number =
+      (take-numbers old.geometry old.number (law_of old out) class owner (r, law_of new (out ++ r ∷ []))
+      (takes.step out)).0.taking
 
 -- one of these takings is out
 one-out : (r : RegionId) (out : List RegionId) → IsOne r out → list_any (λ other. same_taking r other) out ≡ true
 one-out r [] one = absurd one
 one-out r (s ∷ out) (inl e) =
-    ap (λ (b : Bool). b || list_any (λ other. same_taking r other) out) (subst (λ (x : RegionId). same_taking r x ≡ true) e (same_taking-refl r))
+    ap (λ (b : Bool). b || list_any (λ other. same_taking r other) out)
+    (subst (λ (x : RegionId). same_taking r x ≡ true) e (same_taking-refl r))
 one-out r (s ∷ out) (inr one) = ap (λ (b : Bool). same_taking r s || b) (one-out r out one) ∙ or-true (same_taking r s)
   where
     or-true : (b : Bool) → (b || true) ≡ true
@@ -100,7 +110,8 @@ none-out a has c = covered-rests a.geometry (law_of a []) has.covered refl c
 
 pub other_taking : (r s : RegionId) → r.taking ≢ s.taking → same_taking r s ≡ false
 other_taking r s other =
-    ap (λ (b : Bool). same_place r.place s.place && ((r.class == s.class) && (b && (r.owner == s.owner)))) (ne_eqb r.taking s.taking other)
+    ap (λ (b : Bool). same_place r.place s.place && ((r.class == s.class) && (b && (r.owner == s.owner))))
+    (ne_eqb r.taking s.taking other)
     ∙ and-false (same_place r.place s.place) (r.class == s.class)
   where
     and-false : (b d : Bool) → (b && (d && false)) ≡ false
@@ -110,11 +121,14 @@ other_taking r s other =
 
 -- the one that comes back is not
 pub left-first : (r : RegionId) (out : List RegionId) → without_taking r (r ∷ out) ≡ without_taking r out
-left-first r out = ap (λ (b : Bool). if not b then r ∷ without_taking r out else without_taking r out) (same_taking-refl r)
+left-first r out =
+    ap (λ (b : Bool). if not b then r ∷ without_taking r out else without_taking r out) (same_taking-refl r)
 
 -- another is
-pub left-other : (r s : RegionId) (out : List RegionId) → r.taking ≢ s.taking → without_taking r (s ∷ out) ≡ s ∷ without_taking r out
-left-other r s out other = ap (λ (b : Bool). if not b then s ∷ without_taking r out else without_taking r out) (other_taking r s other)
+pub left-other : (r s : RegionId) (out : List RegionId) → r.taking ≢ s.taking
+    → without_taking r (s ∷ out) ≡ s ∷ without_taking r out
+left-other r s out other =
+    ap (λ (b : Bool). if not b then s ∷ without_taking r out else without_taking r out) (other_taking r s other)
 
 -- the last one is one of them
 pub taken-last : (r : RegionId) (out : List RegionId) → IsOne r (out ++ r ∷ [])
@@ -122,10 +136,12 @@ taken-last r [] = inl refl
 taken-last r (s ∷ out) = inr (taken-last r out)
 
 -- and stays out
-pub stays-out : (r s : RegionId) (out : List RegionId) → r.taking ≢ s.taking → IsOne s out → IsOne s (without_taking r out)
+pub stays-out : (r s : RegionId) (out : List RegionId) → r.taking ≢ s.taking → IsOne s out
+    → IsOne s (without_taking r out)
 stays-out r s [] other one = absurd one
 stays-out r s (x ∷ out) other (inl e) =
-    subst (λ (xs : List RegionId). IsOne s xs) (sym (left-other r x out (λ same. other (same ∙ ap (λ (y : RegionId). y.taking) (sym e))))) (inl e)
+    subst (λ (xs : List RegionId). IsOne s xs)
+    (sym (left-other r x out (λ same. other (same ∙ ap (λ (y : RegionId). y.taking) (sym e))))) (inl e)
 stays-out r s (x ∷ out) other (inr one) =
     cond_both (not (same_taking r x)) (x ∷ without_taking r out) (without_taking r out) (λ z. IsOne s z)
     (λ _. inr (stays-out r s out other one)) (λ _. stays-out r s out other one)
@@ -136,12 +152,18 @@ some-places a r out = by out.1
   where
     by : IsSlot a.geometry (chunk_at (law_of a []) r.place.chunk) r → 0 < length a.chunks
     by (inl x) = omega (arith, chunk_at-below (law_of a []) r.place.chunk x.page (Used x.pages Whole) x.begins)
-    by (inr x) = omega (arith, chunk_at-below (law_of a []) r.place.chunk x.page (Used x.pages (Sub r.class x.elements)) x.begins)
+    by (inr x) =
+        omega (
+          arith,
+          chunk_at-below (law_of a []) r.place.chunk x.page (Used x.pages (Sub r.class x.elements))
+              x.begins,
+        )
 
 -- ---- the memory of a taking
 
 -- an arena numbered 0 has the first of a list of grounds
-pub first-place : (old new : ArenaState) (r : RegionId) (piece : Segment) → old.number ≡ 0 → new.number ≡ 0 → new.grounds ≡ old.grounds → IsInPlaceAt old r piece
+pub first-place : (old new : ArenaState) (r : RegionId) (piece : Segment) → old.number ≡ 0 → new.number ≡ 0
+    → new.grounds ≡ old.grounds → IsInPlaceAt old r piece
     → IsInPlaceUnder new r piece
 first-place old new r piece first number grounds there =
     record {

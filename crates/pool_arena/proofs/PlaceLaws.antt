@@ -29,7 +29,8 @@ place-used p v same some =
     some-used p.used p.chunk.runs (subst (λ (w : PlaceState). IsSome w.chunk) (sym same) some)
 
 -- and so it is where a run begins at a page
-pub run-used : (p : Inside) (v : PlaceState) (page : ℕ) (r : Run Use) → place_in p ≡ v → run_at page (runs_of v) ≡ Some r → p.used ≡ true
+pub run-used : (p : Inside) (v : PlaceState) (page : ℕ) (r : Run Use) → place_in p ≡ v
+    → run_at page (runs_of v) ≡ Some r → p.used ≡ true
 run-used p v page r same found =
     by p.used refl (subst (λ (w : PlaceState). run_at page (runs_of w) ≡ Some r) (sym same) found)
   where
@@ -43,11 +44,17 @@ run-used p v page r same found =
 -- the chunk of a place in use is that which is seen
 pub place-chunk : (p : Inside) (v : PlaceState) → place_in p ≡ v → p.used ≡ true → p.chunk ≡ state_of v
 place-chunk p v same used =
-    ap (λ (b : Bool). record { origin = p.chunk.origin; geometry = p.chunk.geometry; runs = unwrap_or (if_used b p.chunk.runs) [] }) (sym used)
+    ap (λ (b : Bool). record {
+      origin = p.chunk.origin;
+      geometry = p.chunk.geometry;
+      runs =
+          unwrap_or (if_used b p.chunk.runs) [];
+    }) (sym used)
     ∙ ap state_of same
 
 -- the place once its chunk has other runs
-pub place-after : (p : Inside) (v : PlaceState) (new : ChunkState) (runs : Chunk) → place_in p ≡ v → p.used ≡ true → new ≡ with_runs p.chunk runs
+pub place-after : (p : Inside) (v : PlaceState) (new : ChunkState) (runs : Chunk) → place_in p ≡ v → p.used ≡ true
+    → new ≡ with_runs p.chunk runs
     → place_in (record { chunk = new; deed = p.deed; used = p.used }) ≡ with_chunk v (Some runs)
 place-after p v new runs same used is =
     ap (λ (c : ChunkState). place_in (record { chunk = c; deed = p.deed; used = p.used })) is
@@ -55,8 +62,10 @@ place-after p v new runs same used is =
     ∙ ap (λ (w : PlaceState). with_chunk w (Some runs)) same
 
 -- the place once a step makes other runs of its own
-pub place-changed : (p : Inside) (v : PlaceState) (new : ChunkState) (step : Chunk → Chunk) → place_in p ≡ v → p.used ≡ true
-    → new ≡ with_runs p.chunk (step p.chunk.runs) → place_in (record { chunk = new; deed = p.deed; used = p.used }) ≡ with_chunk v (Some (step (runs_of v)))
+pub place-changed : (p : Inside) (v : PlaceState) (new : ChunkState) (step : Chunk → Chunk) → place_in p ≡ v
+    → p.used ≡ true
+    → new ≡ with_runs p.chunk (step p.chunk.runs) → place_in (record { chunk = new; deed = p.deed; used = p.used })
+    ≡ with_chunk v (Some (step (runs_of v)))
 place-changed p v new step same used is =
     place-after p v new (step p.chunk.runs) same used is
     ∙ ap (λ (c : ChunkState). with_chunk v (Some (step c.runs))) (place-chunk p v same used)
@@ -66,8 +75,10 @@ pub place-held : (p : Inside) → p.deed ≡ p.chunk.origin → p.used ≡ true 
 place-held p deed used = record { deed = deed; unused = λ unused. absurd (cc (used, unused)) }
 
 -- the usage of a chunk of which something is free
-pub usage-some : (g : Geometry) (runs : Chunk) (free size percent : ℕ) → free ≡ free_bytes g runs → size ≡ chunk_bytes g → (free ≡ 0 → ⊥)
+pub usage-some : (g : Geometry) (runs : Chunk) (free size percent : ℕ) → free ≡ free_bytes g runs → size ≡ chunk_bytes g
+    → (free ≡ 0 → ⊥)
     → percent ≡ (free * 100) / size → (if percent == 0 then 99 else 100 - percent) ≡ usage g runs
 usage-some g runs free size percent free_is size_is some percent_is =
     ap (λ (k : ℕ). if k == 0 then 99 else 100 - k) (percent_is ∙ ap₂ (λ (f s : ℕ). (f * 100) / s) free_is size_is)
-    ∙ sym (ap (λ (b : Bool). if b then 100 else if (free_bytes g runs * 100) / chunk_bytes g == 0 then 99 else 100 - (free_bytes g runs * 100) / chunk_bytes g) (ne_eqb (free_bytes g runs) 0 (λ e. some (free_is ∙ e))))
+    ∙ sym (ap (λ (b : Bool). if b then 100 else if (free_bytes g runs * 100) / chunk_bytes g == 0 then 99 else 100
+    - (free_bytes g runs * 100) / chunk_bytes g) (ne_eqb (free_bytes g runs) 0 (λ e. some (free_is ∙ e))))

@@ -46,17 +46,21 @@ run-rest : (rs : Chunk) (page : ℕ) (r : Run Use) → ChunkAtRest rs → Begins
 run-rest rs page r rest b = EachRun-Begins IsAtRest rs page r (each-rest rs rest) b
 
 -- so it is once a run comes back
-given-rest : (rs : Chunk) (page : ℕ) (r : Run Use) → NoneEmpty rs → Begins page r rs → ChunkAtRest rs → ChunkAtRest (given_at page rs)
+given-rest : (rs : Chunk) (page : ℕ) (r : Run Use) → NoneEmpty rs → Begins page r rs → ChunkAtRest rs
+    → ChunkAtRest (given_at page rs)
 given-rest rs page r ne b rest =
     rest-each (given_at page rs)
-    (merged-EachRun IsAtRest (replaced page freed rs) (λ n. tt) (replaced-EachRun IsAtRest rs page freed r ne b (tt, tt) (each-rest rs rest)))
+    (merged-EachRun IsAtRest (replaced page freed rs) (λ n. tt)
+    (replaced-EachRun IsAtRest rs page freed r ne b (tt, tt) (each-rest rs rest)))
 
-gone-rest : (here to : Option ListName) (rs : Chunk) → ChunkAtRest rs → ChunkAtRest (unwrap_or (unless_gone here to rs) [])
+gone-rest : (here to : Option ListName) (rs : Chunk) → ChunkAtRest rs
+    → ChunkAtRest (unwrap_or (unless_gone here to rs) [])
 gone-rest None to rs rest = rest
 gone-rest (Some here) None rs rest = tt
 gone-rest (Some here) (Some to) rs rest = rest
 
-back-rest : (g : Geometry) (a : Arena) (c page : ℕ) (r : Run Use) → NoneEmpty (chunk_at a c) → Begins page r (chunk_at a c) → ((d : ℕ) → ChunkAtRest (chunk_at a d))
+back-rest : (g : Geometry) (a : Arena) (c page : ℕ) (r : Run Use) → NoneEmpty (chunk_at a c)
+    → Begins page r (chunk_at a c) → ((d : ℕ) → ChunkAtRest (chunk_at a d))
     → (d : ℕ) → ChunkAtRest (chunk_at (run_given g a c page) d)
 back-rest g a c page r ne b rest d = by (same_or-not d c)
   where
@@ -69,29 +73,37 @@ back-rest g a c page r ne b rest d = by (same_or-not d c)
     by : (d ≡ c) ⊎ (d ≢ c) → ChunkAtRest (chunk_at (run_given g a c page) d)
     by (inl same) =
         subst (λ (k : ℕ). ChunkAtRest (chunk_at (run_given g a c page) k)) (sym same)
-        (subst (λ (o : Option Chunk). ChunkAtRest (unwrap_or o [])) (sym (chunk_of-same a (run_given g a c page) c left refl (chunk_at-below a c page r b)))
-        (gone-rest (list_of a.lists c) (down_to (usage g new) (list_of a.lists c)) new (given-rest (chunk_at a c) page r ne b (rest c))))
+        (subst (λ (o : Option Chunk). ChunkAtRest (unwrap_or o []))
+        (sym (chunk_of-same a (run_given g a c page) c left refl (chunk_at-below a c page r b)))
+        (gone-rest (list_of a.lists c) (down_to (usage g new) (list_of a.lists c)) new
+        (given-rest (chunk_at a c) page r ne b (rest c))))
     by (inr other) =
-        subst (λ (o : Option Chunk). ChunkAtRest (unwrap_or o [])) (sym (chunk_of-other a (run_given g a c page) c d left refl other)) (rest d)
+        subst (λ (o : Option Chunk). ChunkAtRest (unwrap_or o []))
+        (sym (chunk_of-other a (run_given g a c page) c d left refl other)) (rest d)
 
 -- ---- the first subpage of a class
 
-without-first : (c page : ℕ) (spots : List (ℕ × ℕ)) → without_spot c page ((c, page) ∷ spots) ≡ without_spot c page spots
+without-first : (c page : ℕ) (spots : List (ℕ × ℕ))
+    → without_spot c page ((c, page) ∷ spots) ≡ without_spot c page spots
 without-first c page spots =
-    ap (λ (b : Bool). if not b then (c, page) ∷ without_spot c page spots else without_spot c page spots) (test-here c page)
+    ap (λ (b : Bool). if not b then (c, page) ∷ without_spot c page spots else without_spot c page spots)
+    (test-here c page)
 
 without-length : (c page : ℕ) (spots : List (ℕ × ℕ)) → length (without_spot c page spots) ≤ length spots
 without-length c page [] = omega arith
 without-length c page (s ∷ spots) =
-    cond_both (not ((s.0 == c) && (s.1 == page))) (s ∷ without_spot c page spots) (without_spot c page spots) (λ z. length z ≤ length (s ∷ spots))
+    cond_both (not ((s.0 == c) && (s.1 == page))) (s ∷ without_spot c page spots) (without_spot c page spots)
+    (λ z. length z ≤ length (s ∷ spots))
     (λ _. omega (arith, without-length c page spots))
     (λ _. omega (arith, without-length c page spots))
 
-module _ (v : StockState) (resting : IsResting v) (class c page : ℕ) (spots : List (ℕ × ℕ)) (small : is_small v.geometry class ≡ true)
+module _ (v : StockState) (resting : IsResting v) (class c page : ℕ) (spots : List (ℕ × ℕ))
+    (small : is_small v.geometry class ≡ true)
     (front : front_of (arena_in v) class ≡ (c, page) ∷ spots) where
   roomy : Roomy (arena_in v) class c page
   roomy =
-      roomy-of (arena_in v) class c page ((resting.orderly.spotted class c page small).0 (ap (has_spot c page) front ∙ spot-first c page spots))
+      roomy-of (arena_in v) class c page
+      ((resting.orderly.spotted class c page small).0 (ap (has_spot c page) front ∙ spot-first c page spots))
 
   pub first-some : NoneEmpty (chunk_at (arena_in v) c)
   first-some = (resting.orderly.sound c).none_empty
@@ -101,13 +113,16 @@ module _ (v : StockState) (resting : IsResting v) (class c page : ℕ) (spots : 
       record {
         elements = roomy.elements;
         here = elements-found (arena_in v) class c page roomy.pages roomy.elements first-some roomy.begins;
-        idle = run-rest (chunk_at (arena_in v) c) page (Used roomy.pages (Sub class roomy.elements)) (resting.rest c) roomy.begins;
+        idle =
+            run-rest (chunk_at (arena_in v) c) page (Used roomy.pages (Sub class roomy.elements)) (resting.rest c)
+            roomy.begins;
       }
 
   pub first-there : HasChunk v c
   first-there =
       let o = resting.orderly in
-      let name = there (list_of v.lists c) (begins-listed (arena_in v) c page (Used roomy.pages (Sub class roomy.elements)) o.listed roomy.begins) in
+      let name = there (list_of v.lists c)
+      (begins-listed (arena_in v) c page (Used roomy.pages (Sub class roomy.elements)) o.listed roomy.begins) in
       let runs = there (chunk_of (arena_in v) c) (λ none. absurd (cc (sym name.1 ∙ (o.listed c).1 none))) in
       record { runs = runs.0; name = name.0; there = runs.1; listed = name.1 }
 
@@ -121,10 +136,12 @@ module _ (v : StockState) (resting : IsResting v) (class c page : ℕ) (spots : 
           orderly =
               subst (λ (g : Geometry). IsOrderly g (arena_in w)) (sym dropped.geometry)
               (subst (λ (a : Arena). IsOrderly v.geometry a) dropped-is
-              (subpage_given-orderly v.geometry (arena_in v) resting.orderly class c page roomy.pages roomy.elements small roomy.begins));
+              (subpage_given-orderly v.geometry (arena_in v) resting.orderly class c page roomy.pages roomy.elements
+              small roomy.begins));
           rest =
               subst (λ (a : Arena). (d : ℕ) → ChunkAtRest (chunk_at a d)) dropped-is
-              (back-rest v.geometry (record (arena_in v) { fronts = (subpage_given v.geometry class c page (arena_in v)).fronts }) c page
+              (back-rest v.geometry (record (arena_in v)
+              { fronts = (subpage_given v.geometry class c page (arena_in v)).fronts }) c page
               (Used roomy.pages (Sub class roomy.elements)) first-some roomy.begins resting.rest);
         }
 
@@ -139,7 +156,8 @@ module _ (v : StockState) (resting : IsResting v) (class c page : ℕ) (spots : 
 
     pub dropped-other : (k : ℕ) → k ≢ class → front_of (arena_in w) k ≡ front_of (arena_in v) k
     dropped-other k other =
-        ap (λ (a : Arena). front_of a k) (sym dropped-is) ∙ front-other (arena_in v) class k (without_spot c page (front_of (arena_in v) class)) other
+        ap (λ (a : Arena). front_of a k) (sym dropped-is)
+        ∙ front-other (arena_in v) class k (without_spot c page (front_of (arena_in v) class)) other
 
 -- ---- an arena without a front is all free
 
@@ -149,29 +167,39 @@ idle-room [] some idle = absurd (omega (arith, some))
 idle-room (true ∷ out) some idle = absurd (cc idle)
 idle-room (false ∷ out) some idle = refl
 
-all-pages : (rs : Chunk) → ((page : ℕ) (r : Run Use) → Begins page r rs → pages_in r ≤ free_in r) → total_pages rs ≤ free_pages rs
+all-pages : (rs : Chunk) → ((page : ℕ) (r : Run Use) → Begins page r rs → pages_in r ≤ free_in r)
+    → total_pages rs ≤ free_pages rs
 all-pages [] each = omega arith
 all-pages (r ∷ rs) each =
-    omega (arith, each 0 r (inl (refl, refl)), all-pages rs (λ page s b. each (pages_in r + page) s (inr (page, refl, b))))
+    omega (
+      arith,
+      each 0 r (inl (refl, refl)),
+      all-pages rs
+          (λ page s b. each (pages_in r + page) s (inr (page, refl, b))),
+    )
 
 module _ (g : Geometry) (a : Arena) (o : IsOrderly g a) (rest : (c : ℕ) → ChunkAtRest (chunk_at a c))
-    (none : (class : ℕ) → is_small g class ≡ true → front_of a class ≡ []) (c : ℕ) (whole : IsChunk g (chunk_at a c)) where
-  run-free : (page : ℕ) (r : Run Use) → Begins page r (chunk_at a c) → pages_in r ≤ free_in r
-  run-free page (Free n) b = omega arith
-  run-free page (Used n Whole) b = absurd (run-rest (chunk_at a c) page (Used n Whole) (rest c) b)
-  run-free page (Used n (Sub class e)) b =
-      let fits = subpage-fits g (chunk_at a c) page n class e whole b in
-      let idle : is_idle e ≡ true = run-rest (chunk_at a c) page (Used n (Sub class e)) (rest c) b in
-      let room : is_full e ≡ false = idle-room e.out (omega (arith, fits.elements, some-elements g (o.sound c).page class fits.small)) idle in
-      let listed = (o.spotted class c page fits.small).1 (has-room a class c page whole.none_empty (record { pages = n; elements = e; begins = b; room = room })) in
-      let both : false ≡ true = sym (ap (has_spot c page) (none class fits.small)) ∙ listed in
-      absurd (cc both)
+    (none : (class : ℕ) → is_small g class ≡ true → front_of a class ≡ []) (c : ℕ) (whole : IsChunk g (chunk_at a c))
+  where
+    run-free : (page : ℕ) (r : Run Use) → Begins page r (chunk_at a c) → pages_in r ≤ free_in r
+    run-free page (Free n) b = omega arith
+    run-free page (Used n Whole) b = absurd (run-rest (chunk_at a c) page (Used n Whole) (rest c) b)
+    run-free page (Used n (Sub class e)) b =
+        let fits = subpage-fits g (chunk_at a c) page n class e whole b in
+        let idle : is_idle e ≡ true = run-rest (chunk_at a c) page (Used n (Sub class e)) (rest c) b in
+        let room : is_full e ≡ false = idle-room e.out
+        (omega (arith, fits.elements, some-elements g (o.sound c).page class fits.small)) idle in
+        let listed = (o.spotted class c page fits.small).1
+        (has-room a class c page whole.none_empty (record { pages = n; elements = e; begins = b; room = room })) in
+        let both : false ≡ true = sym (ap (has_spot c page) (none class fits.small)) ∙ listed in
+        absurd (cc both)
 
-  pub chunk-free : total_pages (chunk_at a c) ≤ free_pages (chunk_at a c)
-  chunk-free = all-pages (chunk_at a c) run-free
+    pub chunk-free : total_pages (chunk_at a c) ≤ free_pages (chunk_at a c)
+    chunk-free = all-pages (chunk_at a c) run-free
 
 -- each place of such an arena
-pub places-free : (s : Inside) → IsStock s → IsResting (stock_in s) → HasNoFront (stock_in s) → All IsAllFree s.places.items
+pub places-free : (s : Inside) → IsStock s → IsResting (stock_in s) → HasNoFront (stock_in s)
+    → All IsAllFree s.places.items
 places-free s is resting none k d less =
     let x : PlaceState = get_or s.places.items k d in
     let found = slice_get-get_or s.places.items k d less in
@@ -186,4 +214,5 @@ places-free s is resting none k d less =
 -- a chunk of free pages is one free run
 pub whole-free : (g : Geometry) (rs : Chunk) → IsChunk g rs → total_pages rs ≤ free_pages rs → rs ≡ new_chunk g
 whole-free g rs is all =
-    all-free rs is.none_empty is.none_side_by_side all (omega (arith, is.covers, pow_pos g.order)) ∙ ap (λ (k : ℕ). Free k ∷ []) is.covers
+    all-free rs is.none_empty is.none_side_by_side all (omega (arith, is.covers, pow_pos g.order))
+    ∙ ap (λ (k : ℕ). Free k ∷ []) is.covers

@@ -27,7 +27,8 @@ one-chunk pages c d p q less more same = ((λ lt. below c d p q less same lt), (
     below : (c d p q : ℕ) → p < pages → c * pages + p ≡ d * pages + q → c < d → ⊥
     below c d p q less same lt = grind arith
 
-same-code : (chunks pages : ℕ) (s t : ℕ × ℕ) → s.1 < pages → t.1 < pages → code pages s ≡ code pages t → (s.0 ≡ t.0) × (s.1 ≡ t.1)
+same-code : (chunks pages : ℕ) (s t : ℕ × ℕ) → s.1 < pages → t.1 < pages → code pages s ≡ code pages t
+    → (s.0 ≡ t.0) × (s.1 ≡ t.1)
 same-code chunks pages s t less more same =
     let neither = one-chunk pages s.0 t.0 s.1 t.1 less more same in
     let chunk : s.0 ≡ t.0 = by (three s.0 t.0) neither.0 neither.1 in
@@ -55,46 +56,59 @@ both-true true b x y = y
 both-true false b x y = absurd (cc x)
 
 -- a subpage that is not there has another number than each that is
-has-code : (chunks pages : ℕ) (t : ℕ × ℕ) (spots : List (ℕ × ℕ)) → t.1 < pages → AreWithin chunks pages spots → has_spot t.0 t.1 spots ≡ false
+has-code : (chunks pages : ℕ) (t : ℕ × ℕ) (spots : List (ℕ × ℕ)) → t.1 < pages → AreWithin chunks pages spots
+    → has_spot t.0 t.1 spots ≡ false
     → has (code pages t) (map (code pages) spots) ≡ false
 has-code chunks pages t [] page within none = refl
 has-code chunks pages t (s ∷ spots) page within none =
     ap (λ (b : Bool). b || has (code pages t) (map (code pages) spots)) first
-    ∙ has-code chunks pages t spots page within.1 (or-second ((s.0 == t.0) && (s.1 == t.1)) (has_spot t.0 t.1 spots) none)
+    ∙ has-code chunks pages t spots page within.1
+    (or-second ((s.0 == t.0) && (s.1 == t.1)) (has_spot t.0 t.1 spots) none)
   where
     differ : (b : Bool) → (code pages s == code pages t) ≡ b → (code pages s == code pages t) ≡ false
     differ false e = e
     differ true same =
         let e = same-code chunks pages s t within.0.1 page (eqb-true (code pages s) (code pages t) same) in
-        absurd (cc (or-first ((s.0 == t.0) && (s.1 == t.1)) (has_spot t.0 t.1 spots) none, both-true (s.0 == t.0) (s.1 == t.1) (eq-eqb s.0 t.0 e.0) (eq-eqb s.1 t.1 e.1)))
+        absurd (cc (
+          or-first ((s.0 == t.0) && (s.1 == t.1)) (has_spot t.0 t.1 spots) none,
+          both-true (s.0 == t.0)
+              (s.1 == t.1) (eq-eqb s.0 t.0 e.0) (eq-eqb s.1 t.1 e.1),
+        ))
 
     first : (code pages s == code pages t) ≡ false
     first = differ (code pages s == code pages t) refl
 
-codes-differ : (chunks pages : ℕ) (spots : List (ℕ × ℕ)) → AreWithin chunks pages spots → SpotsDiffer spots → AreDifferent (map (code pages) spots)
+codes-differ : (chunks pages : ℕ) (spots : List (ℕ × ℕ)) → AreWithin chunks pages spots → SpotsDiffer spots
+    → AreDifferent (map (code pages) spots)
 codes-differ chunks pages [] within differ = tt
 codes-differ chunks pages (s ∷ spots) within differ =
     (has-code chunks pages s spots within.0.1 within.1 differ.0, codes-differ chunks pages spots within.1 differ.1)
 
-codes-below : (chunks pages : ℕ) (spots : List (ℕ × ℕ)) → AreWithin chunks pages spots → AreBelow (chunks * pages) (map (code pages) spots)
+codes-below : (chunks pages : ℕ) (spots : List (ℕ × ℕ)) → AreWithin chunks pages spots
+    → AreBelow (chunks * pages) (map (code pages) spots)
 codes-below chunks pages [] within = tt
-codes-below chunks pages (s ∷ spots) within = (code-below chunks pages s within.0.0 within.0.1, codes-below chunks pages spots within.1)
+codes-below chunks pages (s ∷ spots) within =
+    (code-below chunks pages s within.0.0 within.0.1, codes-below chunks pages spots within.1)
 
 -- so there is room for one more
-pub room-for : (chunks pages : ℕ) (t : ℕ × ℕ) (spots : List (ℕ × ℕ)) → t.0 < chunks → t.1 < pages → AreWithin chunks pages spots → SpotsDiffer spots
+pub room-for : (chunks pages : ℕ) (t : ℕ × ℕ) (spots : List (ℕ × ℕ)) → t.0 < chunks → t.1 < pages
+    → AreWithin chunks pages spots → SpotsDiffer spots
     → has_spot t.0 t.1 spots ≡ false → length spots < chunks * pages
 room-for chunks pages t spots chunk page within differ none =
     omega (
       arith,
       length-map spots (code pages),
-      has_room (chunks * pages) (code pages t) (map (code pages) spots) (codes-differ chunks pages spots within differ) (codes-below chunks pages spots within)
+      has_room (chunks * pages) (code pages t) (map (code pages) spots) (codes-differ chunks pages spots within differ)
+          (codes-below chunks pages spots within)
           (code-below chunks pages t chunk page) (has-code chunks pages t spots page within none),
     )
 
 -- where each that is there lies in a chunk, all do
-pub within-of : (chunks pages : ℕ) (spots : List (ℕ × ℕ)) → ((c p : ℕ) → has_spot c p spots ≡ true → (c < chunks) × (p < pages)) → AreWithin chunks pages spots
+pub within-of : (chunks pages : ℕ) (spots : List (ℕ × ℕ))
+    → ((c p : ℕ) → has_spot c p spots ≡ true → (c < chunks) × (p < pages)) → AreWithin chunks pages spots
 within-of chunks pages [] each = tt
 within-of chunks pages (s ∷ spots) each = (
   each s.0 s.1 (spot-first s.0 s.1 spots),
-  within-of chunks pages spots (λ c p there. each c p (ap (λ (b : Bool). ((s.0 == c) && (s.1 == p)) || b) there ∙ or-true ((s.0 == c) && (s.1 == p)))),
+  within-of chunks pages spots (λ c p there. each c p
+      (ap (λ (b : Bool). ((s.0 == c) && (s.1 == p)) || b) there ∙ or-true ((s.0 == c) && (s.1 == p)))),
 )

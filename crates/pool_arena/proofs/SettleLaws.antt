@@ -20,7 +20,8 @@ use Rattle.pool_arena.specs.declared.stock.Stock.TheInside.{Inside}
 use Rattle.pool_arena.proofs.StockLaws.{sizes_of, Written, place-geometry, written-grounds, written-chunks, written-held, written-settled}
 
 -- from the least usage of its list on a chunk goes to a list
-goes-there : (percent : ℕ) (here : ListName) → least here ≤ percent → (name : ListName) × (goes_to percent (Some here) ≡ Some name)
+goes-there : (percent : ℕ) (here : ListName) → least here ≤ percent
+    → (name : ListName) × (goes_to percent (Some here) ≡ Some name)
 goes-there percent here le = by (nat_le (greatest here) percent) refl
   where
     up : ListName
@@ -28,12 +29,18 @@ goes-there percent here le = by (nat_le (greatest here) percent) refl
 
     by : (b : Bool) → nat_le (greatest here) percent ≡ b → (name : ListName) × (goes_to percent (Some here) ≡ Some name)
     by true e = (up, ap (λ (b : Bool). if b then Some up else down_to percent (Some here)) e)
-    by false e = (here, ap (λ (b : Bool). if b then Some up else down_to percent (Some here)) e ∙ sunk_stays percent here (lists_below here) le)
+    by false e = (
+      here,
+      ap (λ (b : Bool). if b then Some up else down_to percent (Some here)) e
+          ∙ sunk_stays percent here (lists_below here) le,
+    )
 
 -- below the greatest usage of its list it goes down
-goes-down : (percent : ℕ) (here : ListName) → percent < greatest here → goes_to percent (Some here) ≡ down_to percent (Some here)
+goes-down : (percent : ℕ) (here : ListName) → percent < greatest here
+    → goes_to percent (Some here) ≡ down_to percent (Some here)
 goes-down percent here lt =
-    ap (λ (b : Bool). if b then Some (risen percent here (lists_above here)) else down_to percent (Some here)) (not-le (greatest here) percent lt)
+    ap (λ (b : Bool). if b then Some (risen percent here (lists_above here)) else down_to percent (Some here))
+    (not-le (greatest here) percent lt)
   where
     not-le : (n m : ℕ) → m < n → nat_le n m ≡ false
     not-le n m lt' = grind (arith, nat_tests)
@@ -43,7 +50,8 @@ pub record Settles (s t : Inside) (c : ℕ) (x q : PlaceState) (runs : Chunk) : 
   pub written : Written s t c x q
   pub here : ListName
   pub there : list_of s.lists.lists c ≡ Some here
-  pub chunk_is : q.chunk ≡ unless_gone (list_of s.lists.lists c) (goes_to (usage s.classes runs) (list_of s.lists.lists c)) runs
+  pub chunk_is : q.chunk ≡ unless_gone (list_of s.lists.lists c)
+      (goes_to (usage s.classes runs) (list_of s.lists.lists c)) runs
   pub lists_are : t.lists ≡ with_lists s.lists (settled s.lists.lists c (usage s.classes runs))
   pub list_is : list_of t.lists.lists c ≡ goes_to (usage s.classes runs) (list_of s.lists.lists c)
   pub within : (name : ListName) → list_of t.lists.lists c ≡ Some name → IsWithin (usage s.classes runs) name
@@ -56,7 +64,8 @@ module _ (s t : Inside) (c : ℕ) (x q : PlaceState) (runs : Chunk) (d : Settles
   lists-settled = ap (λ (l : Listing). l.lists) d.lists_are
 
   -- the chunk stays where it goes to a list
-  chunk-stays : (name : ListName) → goes_to (usage s.classes runs) (list_of s.lists.lists c) ≡ Some name → q.chunk ≡ Some runs
+  chunk-stays : (name : ListName) → goes_to (usage s.classes runs) (list_of s.lists.lists c) ≡ Some name
+      → q.chunk ≡ Some runs
   chunk-stays name goes =
       d.chunk_is ∙ ap (λ (o : Option ListName). unless_gone (list_of s.lists.lists c) o runs) goes
       ∙ ap (λ (o : Option ListName). unless_gone o (Some name) runs) d.there
@@ -64,17 +73,21 @@ module _ (s t : Inside) (c : ℕ) (x q : PlaceState) (runs : Chunk) (d : Settles
   settle-settled : AreSettled (stock_in t)
   settle-settled =
       written-settled s t c x q d.written is
-      (λ k other. ap (λ l. list_of l k) (lists-settled ∙ settled-is s.lists.lists c (usage s.classes runs) d.here d.there) ∙ down-other s.lists.lists c k (Some d.here) (goes_to (usage s.classes runs) (Some d.here)) other)
+      (λ k other. ap (λ l. list_of l k)
+      (lists-settled ∙ settled-is s.lists.lists c (usage s.classes runs) d.here d.there)
+      ∙ down-other s.lists.lists c k (Some d.here) (goes_to (usage s.classes runs) (Some d.here)) other)
       (λ name listed.
       let stays : q.chunk ≡ Some runs = chunk-stays name (sym d.list_is ∙ listed) in
-      subst (λ (rs : Chunk). IsWithin (usage s.classes rs) name) (sym (ap (λ (o : Option Chunk). unwrap_or o []) stays)) (d.within name listed))
+      subst (λ (rs : Chunk). IsWithin (usage s.classes rs) name) (sym (ap (λ (o : Option Chunk). unwrap_or o []) stays))
+      (d.within name listed))
 
   pub settle-held : HasRoomAt (length s.places.items * chunk_pages s.classes) s.classes t.fronts.items → IsStock t
   settle-held rooms = written-held s t c x q d.written is rooms settle-settled
 
   -- after a run is taken
   pub settle-up : t.fronts.items ≡ s.fronts.items → least d.here ≤ usage s.classes runs → (at pages : ℕ) (what : Use)
-      → runs ≡ taken_at at pages what (chunk_at (arena_in (stock_in s)) c) → Becomes (stock_in s) (λ a. with_run s.classes a c at pages what) (stock_in t)
+      → runs ≡ taken_at at pages what (chunk_at (arena_in (stock_in s)) c)
+      → Becomes (stock_in s) (λ a. with_run s.classes a c at pages what) (stock_in t)
   settle-up fronts le at pages what runs_are =
       let goes = goes-there (usage s.classes runs) d.here le in
       let stays : q.chunk ≡ Some runs = chunk-stays goes.0 (ap (goes_to (usage s.classes runs)) d.there ∙ goes.1) in
@@ -101,21 +114,31 @@ module _ (s t : Inside) (c : ℕ) (x q : PlaceState) (runs : Chunk) (d : Settles
       }
 
   -- after one comes back, among these fronts
-  pub settle-down : (fronts : List (List (ℕ × ℕ))) → map (λ (f : FrontState). f.spots) t.fronts.items ≡ fronts → usage s.classes runs < greatest d.here → (page : ℕ)
+  pub settle-down : (fronts : List (List (ℕ × ℕ))) → map (λ (f : FrontState). f.spots) t.fronts.items ≡ fronts
+      → usage s.classes runs < greatest d.here → (page : ℕ)
       → runs ≡ given_at page (chunk_at (arena_in (stock_in s)) c)
       → Becomes (stock_in s) (λ a. run_given s.classes (record a { fronts = fronts }) c page) (stock_in t)
   settle-down fronts fronts_are lt page runs_are =
-      let goes : goes_to (usage s.classes runs) (list_of s.lists.lists c) ≡ down_to (usage s.classes runs) (list_of s.lists.lists c) =
-      ap (goes_to (usage s.classes runs)) d.there ∙ goes-down (usage s.classes runs) d.here lt ∙ ap (down_to (usage s.classes runs)) (sym d.there) in
-      let down : t.lists.lists ≡ settled_down s.lists.lists c (list_of s.lists.lists c) (down_to (usage s.classes runs) (list_of s.lists.lists c)) =
+      let goes : goes_to (usage s.classes runs) (list_of s.lists.lists c)
+      ≡ down_to (usage s.classes runs) (list_of s.lists.lists c) =
+      ap (goes_to (usage s.classes runs)) d.there ∙ goes-down (usage s.classes runs) d.here lt
+      ∙ ap (down_to (usage s.classes runs)) (sym d.there) in
+      let down : t.lists.lists ≡ settled_down s.lists.lists c (list_of s.lists.lists c)
+      (down_to (usage s.classes runs) (list_of s.lists.lists c)) =
       lists-settled ∙ settled-down s.lists.lists c (usage s.classes runs) d.here d.there lt in
-      let left : q.chunk ≡ unless_gone (list_of s.lists.lists c) (down_to (usage s.classes runs) (list_of s.lists.lists c)) runs =
+      let left : q.chunk ≡ unless_gone (list_of s.lists.lists c)
+      (down_to (usage s.classes runs) (list_of s.lists.lists c)) runs =
       d.chunk_is ∙ ap (λ (o : Option ListName). unless_gone (list_of s.lists.lists c) o runs) goes in
       record {
         law = λ takings out.
             ap (λ (rs : Chunk). record {
-              chunks = slice_set (stock_in s).chunks c (unless_gone (list_of s.lists.lists c) (down_to (usage s.classes rs) (list_of s.lists.lists c)) rs);
-              lists = settled_down s.lists.lists c (list_of s.lists.lists c) (down_to (usage s.classes rs) (list_of s.lists.lists c));
+              chunks =
+                  slice_set (stock_in s).chunks c
+                  (unless_gone (list_of s.lists.lists c) (down_to (usage s.classes rs) (list_of s.lists.lists c))
+                  rs);
+              lists =
+                  settled_down s.lists.lists c (list_of s.lists.lists c)
+                  (down_to (usage s.classes rs) (list_of s.lists.lists c));
               fronts = fronts;
               takings = takings;
               out = out;
@@ -132,11 +155,13 @@ module _ (s t : Inside) (c : ℕ) (x q : PlaceState) (runs : Chunk) (d : Settles
       }
 
 -- what is said of a place that settles, in the words of what the arena has
-pub settles-of : (s t : Inside) (is : IsStock s) (c : ℕ) (x y q : PlaceState) (here : ListName) → slice_get s.places.items c ≡ Some x
+pub settles-of : (s t : Inside) (is : IsStock s) (c : ℕ) (x y q : PlaceState) (here : ListName)
+    → slice_get s.places.items c ≡ Some x
     → y.origin ≡ x.origin → y.geometry ≡ x.geometry → list_of s.lists.lists c ≡ Some here
     → t.places.items ≡ slice_set s.places.items c q → sizes_of t ≡ sizes_of s
     → t.lists ≡ with_lists s.lists (settled s.lists.lists c (usage y.geometry (runs_of y)))
-    → q ≡ with_chunk y (unless_gone (list_of s.lists.lists c) (goes_to (usage y.geometry (runs_of y)) (list_of s.lists.lists c)) (runs_of y))
+    → q ≡ with_chunk y (unless_gone (list_of s.lists.lists c)
+    (goes_to (usage y.geometry (runs_of y)) (list_of s.lists.lists c)) (runs_of y))
     → list_of t.lists.lists c ≡ goes_to (usage y.geometry (runs_of y)) (list_of s.lists.lists c)
     → ((name : ListName) → list_of t.lists.lists c ≡ Some name → IsWithin (usage y.geometry (runs_of y)) name)
     → Settles s t c x q (runs_of y)
@@ -156,9 +181,14 @@ settles-of s t is c x y q here found origin geometry there items sizes lists pla
       here = here;
       there = there;
       chunk_is =
-          subst (λ (h : Geometry). q.chunk ≡ unless_gone (list_of s.lists.lists c) (goes_to (usage h (runs_of y)) (list_of s.lists.lists c)) (runs_of y)) g
+          subst (λ (h : Geometry). q.chunk ≡ unless_gone (list_of s.lists.lists c)
+          (goes_to (usage h (runs_of y)) (list_of s.lists.lists c)) (runs_of y)) g
           (ap (λ (p : PlaceState). p.chunk) place);
-      lists_are = subst (λ (h : Geometry). t.lists ≡ with_lists s.lists (settled s.lists.lists c (usage h (runs_of y)))) g lists;
-      list_is = subst (λ (h : Geometry). list_of t.lists.lists c ≡ goes_to (usage h (runs_of y)) (list_of s.lists.lists c)) g list;
+      lists_are =
+          subst (λ (h : Geometry). t.lists ≡ with_lists s.lists (settled s.lists.lists c (usage h (runs_of y)))) g
+          lists;
+      list_is =
+          subst (λ (h : Geometry). list_of t.lists.lists c ≡ goes_to (usage h (runs_of y)) (list_of s.lists.lists c)) g
+          list;
       within = λ name listed. subst (λ (h : Geometry). IsWithin (usage h (runs_of y)) name) g (within name listed);
     }

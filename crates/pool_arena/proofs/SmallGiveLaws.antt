@@ -31,29 +31,39 @@ use Rattle.pool_arena.proofs.GiveLaws.{small-out}
 use Rattle.pool_arena.proofs.RoomLaws.{AreWithin, within-of, room-for}
 
 -- a small class is a class
-pub small-class : (g : Geometry) (a : Arena) (class : ℕ) → IsOrderly g a → is_small g class ≡ true → class < class_count g
-small-class g a class o small = omega (arith, small_below g (o.sound 0).page class small, o.order, (page_shift-is g.page (o.sound 0).page).least)
+pub small-class : (g : Geometry) (a : Arena) (class : ℕ) → IsOrderly g a → is_small g class ≡ true
+    → class < class_count g
+small-class g a class o small =
+    omega (arith, small_below g (o.sound 0).page class small, o.order, (page_shift-is g.page (o.sound 0).page).least)
 
 -- a run lies in the pages of its chunk
-pub run-inside : (g : Geometry) (a : Arena) (c p : ℕ) (r : Run Use) → IsOrderly g a → Begins p r (chunk_at a c) → p < chunk_pages g
+pub run-inside : (g : Geometry) (a : Arena) (c p : ℕ) (r : Run Use) → IsOrderly g a → Begins p r (chunk_at a c)
+    → p < chunk_pages g
 run-inside g a c p r o b =
     let some = run-some (chunk_at a c) p r (o.sound c).none_empty b in
     by (o.whole c) (Begins-inside (chunk_at a c) p r b) some
   where
-    by : (chunk_at a c ≡ []) ⊎ (total_pages (chunk_at a c) ≡ chunk_pages g) → p + pages_in r ≤ total_pages (chunk_at a c) → 0 < pages_in r → p < chunk_pages g
-    by (inl none) inside some = let empty : total_pages (chunk_at a c) ≡ 0 = ap total_pages none in absurd (omega (arith, inside, some, empty))
+    by : (chunk_at a c ≡ []) ⊎ (total_pages (chunk_at a c) ≡ chunk_pages g)
+        → p + pages_in r ≤ total_pages (chunk_at a c) → 0 < pages_in r → p < chunk_pages g
+    by (inl none) inside some =
+        let empty : total_pages (chunk_at a c) ≡ 0 = ap total_pages none in absurd (omega (arith, inside, some, empty))
     by (inr whole) inside some = omega (arith, inside, some, whole)
 
 -- the subpages of a class lie in the chunks
-pub fronts-within : (g : Geometry) (a : Arena) (class : ℕ) → IsOrderly g a → is_small g class ≡ true → AreWithin (length a.chunks) (chunk_pages g) (front_of a class)
+pub fronts-within : (g : Geometry) (a : Arena) (class : ℕ) → IsOrderly g a → is_small g class ≡ true
+    → AreWithin (length a.chunks) (chunk_pages g) (front_of a class)
 fronts-within g a class o small =
     within-of (length a.chunks) (chunk_pages g) (front_of a class)
     (λ c p there.
-    let r = roomy-of a class c p ((o.spotted class c p small).0 there) in
-    (chunk_at-below a c p (Used r.pages (Sub class r.elements)) r.begins, run-inside g a c p (Used r.pages (Sub class r.elements)) o r.begins))
+    let r = roomy-of a class c p ((o.spotted class c p small).0 there) in (
+      chunk_at-below a c p (Used r.pages (Sub class r.elements)) r.begins,
+      run-inside g a c p
+          (Used r.pages (Sub class r.elements)) o r.begins,
+    ))
 
 -- a full subpage is not among them
-pub full-absent : (g : Geometry) (a : Arena) (class c p : ℕ) (e : Elements) → IsOrderly g a → is_small g class ≡ true → elements_at a class c p ≡ Some e → is_full e ≡ true
+pub full-absent : (g : Geometry) (a : Arena) (class c p : ℕ) (e : Elements) → IsOrderly g a → is_small g class ≡ true
+    → elements_at a class c p ≡ Some e → is_full e ≡ true
     → has_spot c p (front_of a class) ≡ false
 full-absent g a class c p e o small here full = by (has_spot c p (front_of a class)) refl
   where
@@ -65,28 +75,42 @@ full-absent g a class c p e o small here full = by (has_spot c p (front_of a cla
         let is_same : r.elements ≡ e = cc same in
         absurd (cc (r.room, ap is_full is_same, full))
 
-module _ (v : StockState) (o : IsOrderly v.geometry (arena_in v)) (class c : ℕ) (piece : Segment) (asked : IsPlaceOut v class c piece) (small : is_small v.geometry class ≡ true) where
+module _ (v : StockState) (o : IsOrderly v.geometry (arena_in v)) (class c : ℕ) (piece : Segment)
+    (asked : IsPlaceOut v class c piece) (small : is_small v.geometry class ≡ true) where
   abbrev pub it : IsElement v.geometry (chunk_at (arena_in v) c) asked.id
   it = small-out v class c piece asked small
 
   pub it-begins : Begins it.page (Used it.pages (Sub class it.elements)) (chunk_at (arena_in v) c)
-  it-begins = subst (λ (k : ℕ). Begins it.page (Used it.pages (Sub k it.elements)) (chunk_at (arena_in v) c)) asked.class_is it.begins
+  it-begins =
+      subst (λ (k : ℕ). Begins it.page (Used it.pages (Sub k it.elements)) (chunk_at (arena_in v) c)) asked.class_is
+      it.begins
 
   pub it-starts : piece.start ≡ page_of v.geometry * it.page + it.at * size_at class
-  it-starts = sym asked.offset ∙ it.starts ∙ ap (λ (k : ℕ). page_of v.geometry * it.page + it.at * size_at k) asked.class_is
+  it-starts =
+      sym asked.offset ∙ it.starts ∙ ap (λ (k : ℕ). page_of v.geometry * it.page + it.at * size_at k) asked.class_is
 
   it-lies : (it.page ≤ piece.start / page_of v.geometry) × (piece.start / page_of v.geometry < it.page + it.pages)
   it-lies =
       let inside = element-inside v.geometry (chunk_at (arena_in v) c) (o.sound c) asked.id it in
-      let lies = page-of (page_of v.geometry) it.page it.pages (it.at * size_at class) (page-some v.geometry (o.sound c).page)
-      (omega (arith, subst (λ (k : ℕ). it.at * size_at k + size_at k ≤ page_of v.geometry * it.pages) asked.class_is inside, size_at-pos class)) in
-      subst (λ (n : ℕ). (it.page ≤ n / page_of v.geometry) × (n / page_of v.geometry < it.page + it.pages)) (sym it-starts) lies
+      let lies = page-of (page_of v.geometry) it.page it.pages (it.at * size_at class)
+      (page-some v.geometry (o.sound c).page)
+      (omega (
+        arith,
+        subst (λ (k : ℕ). it.at * size_at k + size_at k ≤ page_of v.geometry * it.pages) asked.class_is
+            inside,
+        size_at-pos class,
+      )) in
+      subst (λ (n : ℕ). (it.page ≤ n / page_of v.geometry) × (n / page_of v.geometry < it.page + it.pages))
+      (sym it-starts) lies
 
   pub it-run : run_at it.page (chunk_at (arena_in v) c) ≡ Some (Used it.pages (Sub class it.elements))
-  it-run = run_at-Begins (chunk_at (arena_in v) c) it.page (Used it.pages (Sub class it.elements)) (o.sound c).none_empty it-begins
+  it-run =
+      run_at-Begins (chunk_at (arena_in v) c) it.page (Used it.pages (Sub class it.elements)) (o.sound c).none_empty
+      it-begins
 
   -- its page is in use
-  pub it-in_use : (x : PlaceState) → chunk_at (arena_in v) c ≡ runs_of x → IsInUse (state_of x) (piece.start / page_of v.geometry)
+  pub it-in_use : (x : PlaceState) → chunk_at (arena_in v) c ≡ runs_of x
+      → IsInUse (state_of x) (piece.start / page_of v.geometry)
   it-in_use x same =
       record {
         start = it.page;
@@ -100,11 +124,13 @@ module _ (v : StockState) (o : IsOrderly v.geometry (arena_in v)) (class c : ℕ
   -- the page and the number that are found
   pub it-page : run_start (piece.start / page_of v.geometry) (chunk_at (arena_in v) c) ≡ it.page
   it-page =
-      run_start-Begins (chunk_at (arena_in v) c) it.page (piece.start / page_of v.geometry) (Used it.pages (Sub class it.elements)) it-begins it-lies.0 it-lies.1
+      run_start-Begins (chunk_at (arena_in v) c) it.page (piece.start / page_of v.geometry)
+      (Used it.pages (Sub class it.elements)) it-begins it-lies.0 it-lies.1
 
   pub it-index : (piece.start - page_of v.geometry * it.page) / size_at class ≡ it.at
   it-index =
-      ap (λ (n : ℕ). (n - page_of v.geometry * it.page) / size_at class) it-starts ∙ number-of (page_of v.geometry * it.page) it.at (size_at class) (size_at-pos class)
+      ap (λ (n : ℕ). (n - page_of v.geometry * it.page) / size_at class) it-starts
+      ∙ number-of (page_of v.geometry * it.page) it.at (size_at class) (size_at-pos class)
 
   pub it-here : elements_at (arena_in v) class c it.page ≡ Some it.elements
   it-here = elements-found (arena_in v) class c it.page it.pages it.elements (o.sound c).none_empty it-begins
@@ -116,7 +142,9 @@ module _ (v : StockState) (o : IsOrderly v.geometry (arena_in v)) (class c : ℕ
         pages = it.pages;
         elements = it.elements;
         run = it-run;
-        pages_are = (subpage-fits v.geometry (chunk_at (arena_in v) c) it.page it.pages class it.elements whole it-begins).whole;
+        pages_are =
+            (subpage-fits v.geometry (chunk_at (arena_in v) c) it.page it.pages class it.elements whole
+            it-begins).whole;
         out = ap (λ (x : Option Bool). unwrap_or x false) it.out;
         piece_is =
             record {
@@ -133,17 +161,23 @@ module _ (v : StockState) (o : IsOrderly v.geometry (arena_in v)) (class c : ℕ
       }
 
   -- what is given back is this element
-  by-element : (takings : ℕ) (out : List RegionId) → given_place v.geometry (arena_with v takings out) class c piece.start
+  by-element : (takings : ℕ) (out : List RegionId)
+      → given_place v.geometry (arena_with v takings out) class c piece.start
       ≡ element_given v.geometry (arena_with v takings out) class c it.page it.at it.elements
   by-element takings out =
       let a : Arena = arena_with v takings out in
       let P : ℕ → ℕ → ℕ → Type 0 =
-      λ k d n. (x : IsElement v.geometry (chunk_at a d) asked.id) → small_given v.geometry a k d n ≡ element_given v.geometry a k d x.page x.at x.elements in
-      let base : P asked.id.class asked.id.place.chunk asked.id.place.offset = λ x. small_given-element v.geometry a o.sound o.whole asked.id x in
-      let class_is : P class asked.id.place.chunk asked.id.place.offset = subst (λ (k : ℕ). P k asked.id.place.chunk asked.id.place.offset) asked.class_is base in
-      let chunk_is : P class c asked.id.place.offset = subst (λ (d : ℕ). P class d asked.id.place.offset) asked.chunk_is class_is in
+      λ k d n. (x : IsElement v.geometry (chunk_at a d) asked.id)
+      → small_given v.geometry a k d n ≡ element_given v.geometry a k d x.page x.at x.elements in
+      let base : P asked.id.class asked.id.place.chunk asked.id.place.offset =
+      λ x. small_given-element v.geometry a o.sound o.whole asked.id x in
+      let class_is : P class asked.id.place.chunk asked.id.place.offset =
+      subst (λ (k : ℕ). P k asked.id.place.chunk asked.id.place.offset) asked.class_is base in
+      let chunk_is : P class c asked.id.place.offset =
+      subst (λ (d : ℕ). P class d asked.id.place.offset) asked.chunk_is class_is in
       let offset : P class c piece.start = subst (λ (n : ℕ). P class c n) asked.offset chunk_is in
-      ap (λ (b : Bool). if b then small_given v.geometry a class c piece.start else run_given v.geometry a c (piece.start / page_of v.geometry)) small ∙ offset it
+      ap (λ (b : Bool). if b then small_given v.geometry a class c piece.start else run_given v.geometry a c
+      (piece.start / page_of v.geometry)) small ∙ offset it
 
   module _ (mid : StockState) (back : Becomes v (element_back class c it.page it.at it.elements) mid) where
     mid-is : element_back class c it.page it.at it.elements (arena_in v) ≡ arena_in mid
@@ -152,11 +186,13 @@ module _ (v : StockState) (o : IsOrderly v.geometry (arena_in v)) (class c : ℕ
     pub mid-orderly : IsOrderly v.geometry (arena_in mid)
     mid-orderly =
         subst (λ (a : Arena). IsOrderly v.geometry a) mid-is
-        (back_in-orderly v.geometry (arena_in v) o class c it.page it.pages it.at it.elements small it-begins (slice_get-below it.elements.out it.at true it.out))
+        (back_in-orderly v.geometry (arena_in v) o class c it.page it.pages it.at it.elements small it-begins
+        (slice_get-below it.elements.out it.at true it.out))
 
     mid-begins : Begins it.page (Used it.pages (Sub class (with_back it.elements it.at))) (chunk_at (arena_in mid) c)
     mid-begins =
-        subst (λ (a : Arena). Begins it.page (Used it.pages (Sub class (with_back it.elements it.at))) (chunk_at a c)) mid-is
+        subst (λ (a : Arena). Begins it.page (Used it.pages (Sub class (with_back it.elements it.at))) (chunk_at a c))
+        mid-is
         (back_in-here (arena_in v) class c it.page it.pages it.at it.elements (o.sound c).none_empty it-begins)
 
     pub mid-some : NoneEmpty (chunk_at (arena_in mid) c)
@@ -166,53 +202,68 @@ module _ (v : StockState) (o : IsOrderly v.geometry (arena_in v)) (class c : ℕ
     mid-idle idle =
         record {
           elements = with_back it.elements it.at;
-          here = elements-found (arena_in mid) class c it.page it.pages (with_back it.elements it.at) mid-some mid-begins;
+          here =
+              elements-found (arena_in mid) class c it.page it.pages (with_back it.elements it.at) mid-some mid-begins;
           idle = idle;
         }
 
     pub mid-there : HasChunk mid c
     mid-there =
-        let name = there (list_of mid.lists c) (begins-listed (arena_in mid) c it.page (Used it.pages (Sub class (with_back it.elements it.at))) mid-orderly.listed mid-begins) in
-        let runs = there (chunk_of (arena_in mid) c) (λ none. absurd (cc (sym name.1 ∙ (mid-orderly.listed c).1 none))) in
+        let name = there (list_of mid.lists c)
+        (begins-listed (arena_in mid) c it.page (Used it.pages (Sub class (with_back it.elements it.at)))
+        mid-orderly.listed mid-begins) in
+        let runs = there (chunk_of (arena_in mid) c)
+        (λ none. absurd (cc (sym name.1 ∙ (mid-orderly.listed c).1 none))) in
         record { runs = runs.0; name = name.0; there = runs.1; listed = name.1 }
 
     -- the subpage has others out
-    pub not-idle : is_idle (with_back it.elements it.at) ≡ false → Becomes v (λ a. given_place v.geometry a class c piece.start) mid
+    pub not-idle : is_idle (with_back it.elements it.at) ≡ false
+        → Becomes v (λ a. given_place v.geometry a class c piece.start) mid
     not-idle idle =
         record {
           law = λ takings out.
               by-element takings out
-              ∙ ap (λ (b : Bool). if b then idle_given v.geometry (element_back class c it.page it.at it.elements (arena_with v takings out)) class c it.page else element_back class c it.page it.at it.elements (arena_with v takings out)) idle
+              ∙ ap (λ (b : Bool). if b then idle_given v.geometry
+              (element_back class c it.page it.at it.elements (arena_with v takings out)) class c it.page else
+              element_back class c it.page it.at it.elements (arena_with v takings out)) idle
               ∙ back.law takings out;
           geometry = back.geometry;
           grounds = back.grounds;
         }
 
     -- it is idle
-    idle-is : is_idle (with_back it.elements it.at) ≡ true → (takings : ℕ) (out : List RegionId) → given_place v.geometry (arena_with v takings out) class c piece.start
+    idle-is : is_idle (with_back it.elements it.at) ≡ true → (takings : ℕ) (out : List RegionId)
+        → given_place v.geometry (arena_with v takings out) class c piece.start
         ≡ idle_given v.geometry (arena_with mid takings out) class c it.page
     idle-is idle takings out =
         by-element takings out
-        ∙ ap (λ (b : Bool). if b then idle_given v.geometry (element_back class c it.page it.at it.elements (arena_with v takings out)) class c it.page else element_back class c it.page it.at it.elements (arena_with v takings out)) idle
+        ∙ ap (λ (b : Bool). if b then idle_given v.geometry
+        (element_back class c it.page it.at it.elements (arena_with v takings out)) class c it.page else
+        element_back class c it.page it.at it.elements (arena_with v takings out)) idle
         ∙ ap (λ (a : Arena). idle_given v.geometry a class c it.page) (back.law takings out)
 
-    pub idle-alone : is_idle (with_back it.elements it.at) ≡ true → is_alone (front_of (arena_in mid) class) ≡ true → Becomes v (λ a. given_place v.geometry a class c piece.start) mid
+    pub idle-alone : is_idle (with_back it.elements it.at) ≡ true → is_alone (front_of (arena_in mid) class) ≡ true
+        → Becomes v (λ a. given_place v.geometry a class c piece.start) mid
     idle-alone idle alone =
         record {
           law = λ takings out.
               idle-is idle takings out
-              ∙ ap (λ (b : Bool). if b then arena_with mid takings out else subpage_given v.geometry class c it.page (arena_with mid takings out)) alone;
+              ∙ ap (λ (b : Bool). if b then arena_with mid takings out else subpage_given v.geometry class c it.page
+              (arena_with mid takings out)) alone;
           geometry = back.geometry;
           grounds = back.grounds;
         }
 
-    pub idle-dropped : (new : StockState) → is_idle (with_back it.elements it.at) ≡ true → is_alone (front_of (arena_in mid) class) ≡ false
-        → Becomes mid (subpage_given mid.geometry class c it.page) new → Becomes v (λ a. given_place v.geometry a class c piece.start) new
+    pub idle-dropped : (new : StockState) → is_idle (with_back it.elements it.at) ≡ true
+        → is_alone (front_of (arena_in mid) class) ≡ false
+        → Becomes mid (subpage_given mid.geometry class c it.page) new
+        → Becomes v (λ a. given_place v.geometry a class c piece.start) new
     idle-dropped new idle others dropped =
         record {
           law = λ takings out.
               idle-is idle takings out
-              ∙ ap (λ (b : Bool). if b then arena_with mid takings out else subpage_given v.geometry class c it.page (arena_with mid takings out)) others
+              ∙ ap (λ (b : Bool). if b then arena_with mid takings out else subpage_given v.geometry class c it.page
+              (arena_with mid takings out)) others
               ∙ ap (λ (g : Geometry). subpage_given g class c it.page (arena_with mid takings out)) (sym back.geometry)
               ∙ dropped.law takings out;
           geometry = dropped.geometry ∙ back.geometry;

@@ -37,24 +37,28 @@ new-usage g page =
     all-usage (free_bytes g (new_chunk g)) (chunk_bytes g) (ap (λ (n : ℕ). page_of g * n) all) (size-some g page)
 
 module _ (s t : Inside) (c : ℕ) (x q : PlaceState) (w : Written s t c x q) (is : IsStock s)
-    (chunk_is : q.chunk ≡ Some (new_chunk x.geometry)) (lists_are : t.lists ≡ with_lists s.lists (added s.lists.lists c 0))
+    (chunk_is : q.chunk ≡ Some (new_chunk x.geometry))
+    (lists_are : t.lists ≡ with_lists s.lists (added s.lists.lists c 0))
     (fronts : t.fronts.items ≡ s.fronts.items) (unlisted : list_of s.lists.lists c ≡ None) where
   chunk-new : q.chunk ≡ Some (new_chunk s.classes)
   chunk-new = chunk_is ∙ ap (λ (g : Geometry). Some (new_chunk g)) (place-geometry s c x w.found is)
 
   lists-entered : t.lists.lists ≡ entered s.lists.lists QInit c
-  lists-entered = ap (λ (l : Listing). l.lists) lists_are ∙ added-is s.lists.lists c 0 (in_none s.lists.lists c unlisted)
+  lists-entered =
+      ap (λ (l : Listing). l.lists) lists_are ∙ added-is s.lists.lists c 0 (in_none s.lists.lists c unlisted)
 
   pub start-held : (name : ListName) → list_of t.lists.lists c ≡ Some name → IsWithin 0 name → IsStock t
   start-held name listed within =
       written-held s t c x q w is
-      (subst (λ (fs : List FrontState). HasRoomAt (length s.places.items * chunk_pages s.classes) s.classes fs) (sym fronts) is.fronts)
+      (subst (λ (fs : List FrontState). HasRoomAt (length s.places.items * chunk_pages s.classes) s.classes fs)
+      (sym fronts) is.fronts)
       (written-settled s t c x q w is
       (λ d other. ap (λ l. list_of l d) lists-entered ∙ entered-other s.lists.lists c d QInit other)
       (λ n here.
       let same : ◌≡◌ {A = Option ListName} (Some name) (Some n) = sym listed ∙ here in
       let usage_is : 0 ≡ usage s.classes (runs_of q) =
-      sym (new-usage s.classes is.sizes.page) ∙ ap (λ (o : Option Chunk). usage s.classes (unwrap_or o [])) (sym chunk-new) in
+      sym (new-usage s.classes is.sizes.page) ∙ ap (λ (o : Option Chunk). usage s.classes (unwrap_or o []))
+      (sym chunk-new) in
       subst (λ (k : ListName). IsWithin (usage s.classes (runs_of q)) k) (cc same)
       (subst (λ (u : ℕ). IsWithin u name) usage_is within)))
 

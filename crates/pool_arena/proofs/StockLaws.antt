@@ -29,21 +29,28 @@ module _ (s : Inside) (c : ℕ) (x : PlaceState) (found : slice_get s.places.ite
 
   pub place-chunk_of : chunk_of (arena_in (stock_in s)) c ≡ x.chunk
   place-chunk_of =
-      ap (λ o. unwrap_or o None) (slice_get-map (λ (p : PlaceState). p.chunk) s.places.items c ∙ ap (option_map (λ (p : PlaceState). p.chunk)) found)
+      ap (λ o. unwrap_or o None) (slice_get-map (λ (p : PlaceState). p.chunk) s.places.items c
+      ∙ ap (option_map (λ (p : PlaceState). p.chunk)) found)
 
   pub place-chunk_at : chunk_at (arena_in (stock_in s)) c ≡ runs_of x
   place-chunk_at = ap (λ o. unwrap_or o []) place-chunk_of
 
   pub place-origin : slice_get (stock_in s).grounds c ≡ Some x.origin
-  place-origin = slice_get-map (λ (p : PlaceState). p.origin) s.places.items c ∙ ap (option_map (λ (p : PlaceState). p.origin)) found
+  place-origin =
+      slice_get-map (λ (p : PlaceState). p.origin) s.places.items c
+      ∙ ap (option_map (λ (p : PlaceState). p.origin)) found
 
   pub place-geometry : IsStock s → x.geometry ≡ s.classes
-  place-geometry is = subst (λ (p : PlaceState). p.geometry ≡ s.classes) (read-is s.places.items c x x found) (is.places c x place-within)
+  place-geometry is =
+      subst (λ (p : PlaceState). p.geometry ≡ s.classes) (read-is s.places.items c x x found)
+      (is.places c x place-within)
 
 -- a place that has a chunk
-pub place-of : (s : Inside) (c : ℕ) (runs : Chunk) → chunk_of (arena_in (stock_in s)) c ≡ Some runs → c < length s.places.items
+pub place-of : (s : Inside) (c : ℕ) (runs : Chunk) → chunk_of (arena_in (stock_in s)) c ≡ Some runs
+    → c < length s.places.items
 place-of s c runs there =
-    let chunks = slice_get-below (stock_in s).chunks c (Some runs) (some-of (slice_get (stock_in s).chunks c) runs there) in
+    let chunks = slice_get-below (stock_in s).chunks c (Some runs)
+    (some-of (slice_get (stock_in s).chunks c) runs there) in
     omega (arith, chunks, length-map s.places.items (λ (p : PlaceState). p.chunk))
 
 -- ---- one place is written
@@ -66,10 +73,12 @@ module _ (s t : Inside) (c : ℕ) (x q : PlaceState) (w : Written s t c x q) whe
   pub written-grounds : (stock_in t).grounds ≡ (stock_in s).grounds
   written-grounds =
       ap (map (λ (p : PlaceState). p.origin)) w.items
-      ∙ map-set_same (λ (p : PlaceState). p.origin) s.places.items c q x (w.origin ∙ ap (λ (p : PlaceState). p.origin) (sym (read-is s.places.items c x x w.found)))
+      ∙ map-set_same (λ (p : PlaceState). p.origin) s.places.items c q x
+      (w.origin ∙ ap (λ (p : PlaceState). p.origin) (sym (read-is s.places.items c x x w.found)))
 
   pub written-chunks : (stock_in t).chunks ≡ slice_set (stock_in s).chunks c q.chunk
-  written-chunks = ap (map (λ (p : PlaceState). p.chunk)) w.items ∙ map-set (λ (p : PlaceState). p.chunk) s.places.items c q
+  written-chunks =
+      ap (map (λ (p : PlaceState). p.chunk)) w.items ∙ map-set (λ (p : PlaceState). p.chunk) s.places.items c q
 
   pub written-length : length t.places.items ≡ length s.places.items
   written-length = ap length w.items ∙ length-set s.places.items c q
@@ -79,7 +88,8 @@ module _ (s t : Inside) (c : ℕ) (x q : PlaceState) (w : Written s t c x q) whe
   written-here =
       ap (λ (chunks : List (Option Chunk)). unwrap_or (slice_get chunks c) None) written-chunks
       ∙ ap (λ (o : Option (Option Chunk)). unwrap_or o None)
-      (slice_get-set_same (stock_in s).chunks c q.chunk (omega (arith, place-within s c x w.found, length-map s.places.items (λ (p : PlaceState). p.chunk))))
+      (slice_get-set_same (stock_in s).chunks c q.chunk
+      (omega (arith, place-within s c x w.found, length-map s.places.items (λ (p : PlaceState). p.chunk))))
 
   pub written-other : (d : ℕ) → d ≢ c → chunk_of (arena_in (stock_in t)) d ≡ chunk_of (arena_in (stock_in s)) d
   written-other d other =
@@ -87,7 +97,8 @@ module _ (s t : Inside) (c : ℕ) (x q : PlaceState) (w : Written s t c x q) whe
       ∙ ap (λ (o : Option (Option Chunk)). unwrap_or o None) (slice_get-set_other (stock_in s).chunks c d q.chunk other)
 
   -- what it keeps
-  pub written-held : IsStock s → HasRoomAt (length s.places.items * chunk_pages s.classes) s.classes t.fronts.items → AreSettled (stock_in t) → IsStock t
+  pub written-held : IsStock s → HasRoomAt (length s.places.items * chunk_pages s.classes) s.classes t.fronts.items
+      → AreSettled (stock_in t) → IsStock t
   written-held is rooms settled =
       let order = ap (λ (g : Geometry). g.order) w.classes in
       record {
@@ -99,24 +110,29 @@ module _ (s t : Inside) (c : ℕ) (x q : PlaceState) (w : Written s t c x q) whe
         lists = w.places ∙ is.lists ∙ sym written-length;
         places =
             subst (λ (ps : List PlaceState). All (λ (p : PlaceState). p.geometry ≡ t.classes) ps) (sym w.items)
-            (subst (λ (g : Geometry). All (λ (p : PlaceState). p.geometry ≡ g) (slice_set s.places.items c q)) (sym w.classes)
-            (All-set (λ (p : PlaceState). p.geometry ≡ s.classes) s.places.items c q is.places (w.geometry ∙ place-geometry s c x w.found is)));
+            (subst (λ (g : Geometry). All (λ (p : PlaceState). p.geometry ≡ g) (slice_set s.places.items c q))
+            (sym w.classes)
+            (All-set (λ (p : PlaceState). p.geometry ≡ s.classes) s.places.items c q is.places
+            (w.geometry ∙ place-geometry s c x w.found is)));
         fronts =
             subst (λ (n : ℕ). HasRoomAt (n * chunk_pages t.classes) t.classes t.fronts.items) (sym written-length)
-            (subst (λ (g : Geometry). HasRoomAt (length s.places.items * chunk_pages g) g t.fronts.items) (sym w.classes) rooms);
+            (subst (λ (g : Geometry). HasRoomAt (length s.places.items * chunk_pages g) g t.fronts.items)
+            (sym w.classes) rooms);
         settled = settled;
       }
 
 -- ---- the place is written as it was
 
-module _ (s t : Inside) (c : ℕ) (x q : PlaceState) (w : Written s t c x q) (same : q ≡ x) (lists : t.lists ≡ s.lists) (fronts : t.fronts.items ≡ s.fronts.items) where
+module _ (s t : Inside) (c : ℕ) (x q : PlaceState) (w : Written s t c x q) (same : q ≡ x) (lists : t.lists ≡ s.lists)
+    (fronts : t.fronts.items ≡ s.fronts.items) where
   pub unwritten-state : stock_in t ≡ stock_in s
   unwritten-state = λ i. record {
     geometry = w.classes i;
     grounds = written-grounds s t c x q w i;
     chunks =
         (ap (map (λ (p : PlaceState). p.chunk)) w.items
-        ∙ map-set_same (λ (p : PlaceState). p.chunk) s.places.items c q x (ap (λ (p : PlaceState). p.chunk) (same ∙ sym (read-is s.places.items c x x w.found)))) i;
+        ∙ map-set_same (λ (p : PlaceState). p.chunk) s.places.items c q x
+        (ap (λ (p : PlaceState). p.chunk) (same ∙ sym (read-is s.places.items c x x w.found)))) i;
     lists = ap (λ (l : Listing). l.lists) lists i;
     fronts = ap (map (λ (f : FrontState). f.spots)) fronts i;
   }
@@ -124,7 +140,8 @@ module _ (s t : Inside) (c : ℕ) (x q : PlaceState) (w : Written s t c x q) (sa
   pub unwritten-held : IsStock s → IsStock t
   unwritten-held is =
       written-held s t c x q w is
-      (subst (λ (fs : List FrontState). HasRoomAt (length s.places.items * chunk_pages s.classes) s.classes fs) (sym fronts) is.fronts)
+      (subst (λ (fs : List FrontState). HasRoomAt (length s.places.items * chunk_pages s.classes) s.classes fs)
+      (sym fronts) is.fronts)
       (subst AreSettled (sym unwritten-state) is.settled)
 
 -- ---- and its chunk settles
@@ -132,15 +149,19 @@ module _ (s t : Inside) (c : ℕ) (x q : PlaceState) (w : Written s t c x q) (sa
 module _ (s t : Inside) (c : ℕ) (x q : PlaceState) (w : Written s t c x q) (is : IsStock s) where
   -- each chunk is still in the list in which its usage lies, if this one is
   pub written-settled : ((d : ℕ) → d ≢ c → list_of t.lists.lists d ≡ list_of s.lists.lists d)
-      → ((name : ListName) → list_of t.lists.lists c ≡ Some name → IsWithin (usage s.classes (runs_of q)) name) → AreSettled (stock_in t)
+      → ((name : ListName) → list_of t.lists.lists c ≡ Some name → IsWithin (usage s.classes (runs_of q)) name)
+      → AreSettled (stock_in t)
   written-settled others here d name listed =
-      subst (λ (g : Geometry). IsWithin (usage g (chunk_at (arena_in (stock_in t)) d)) name) (sym w.classes) (by (same_or-not d c))
+      subst (λ (g : Geometry). IsWithin (usage g (chunk_at (arena_in (stock_in t)) d)) name) (sym w.classes)
+      (by (same_or-not d c))
     where
       by : (d ≡ c) ⊎ (d ≢ c) → IsWithin (usage s.classes (chunk_at (arena_in (stock_in t)) d)) name
       by (inl same) =
           subst (λ (k : ℕ). IsWithin (usage s.classes (chunk_at (arena_in (stock_in t)) k)) name) (sym same)
-          (subst (λ (runs : Chunk). IsWithin (usage s.classes runs) name) (sym (ap (λ (o : Option Chunk). unwrap_or o []) (written-here s t c x q w)))
+          (subst (λ (runs : Chunk). IsWithin (usage s.classes runs) name)
+          (sym (ap (λ (o : Option Chunk). unwrap_or o []) (written-here s t c x q w)))
           (here name (subst (λ (k : ℕ). list_of t.lists.lists k ≡ Some name) same listed)))
       by (inr other) =
-          subst (λ (runs : Chunk). IsWithin (usage s.classes runs) name) (sym (ap (λ (o : Option Chunk). unwrap_or o []) (written-other s t c x q w d other)))
+          subst (λ (runs : Chunk). IsWithin (usage s.classes runs) name)
+          (sym (ap (λ (o : Option Chunk). unwrap_or o []) (written-other s t c x q w d other)))
           (is.settled d name (sym (others d other) ∙ listed))

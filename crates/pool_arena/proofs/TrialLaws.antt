@@ -28,15 +28,19 @@ new-trial a is =
     }
 
 -- what is in place stays there
-in-place : (old new : ArenaState) (r : RegionId) (piece : Segment) → IsSameArena old new → IsInPlaceUnder old r piece → IsInPlaceUnder new r piece
+in-place : (old new : ArenaState) (r : RegionId) (piece : Segment) → IsSameArena old new → IsInPlaceUnder old r piece
+    → IsInPlaceUnder new r piece
 in-place old new r piece same here =
     record {
       grounds = here.grounds;
-      are = subst (λ (x : ℕ × List Origin). slice_get here.grounds x.0 ≡ Some x.1) (λ i. (sym same.number i, sym same.grounds i)) here.are;
+      are =
+          subst (λ (x : ℕ × List Origin). slice_get here.grounds x.0 ≡ Some x.1)
+          (λ i. (sym same.number i, sym same.grounds i)) here.are;
       place = here.place;
     }
 
-stay-placed : (old new : ArenaState) (rs : List Region) → IsSameArena old new → EachOf (λ r. IsInPlaceUnder old r.id r.piece) rs → EachOf (λ r. IsInPlaceUnder new r.id r.piece) rs
+stay-placed : (old new : ArenaState) (rs : List Region) → IsSameArena old new
+    → EachOf (λ r. IsInPlaceUnder old r.id r.piece) rs → EachOf (λ r. IsInPlaceUnder new r.id r.piece) rs
 stay-placed old new [] same each = tt
 stay-placed old new (r ∷ rs) same each = (in-place old new r.id r.piece same each.0, stay-placed old new rs same each.1)
 
@@ -48,14 +52,18 @@ and-last P (y ∷ ys) x each last = (each.0, and-last P ys x each.1 last)
 pub quarter-class : (a : ArenaState) (rs : List Region) → IsTrial a rs → 59 < class_count a.geometry
 quarter-class a rs t = subst (λ (g : Geometry). 59 < class_count g) (sym t.geometry) (lit< tt)
 
-pub taken-trial : (old new : ArenaState) (rs : List Region) (r : Region) → IsTrial old rs → Takes old 59 0 new r.id → IsInPlaceAt old r.id r.piece → IsTrial new (rs ++ r ∷ [])
+pub taken-trial : (old new : ArenaState) (rs : List Region) (r : Region) → IsTrial old rs → Takes old 59 0 new r.id
+    → IsInPlaceAt old r.id r.piece → IsTrial new (rs ++ r ∷ [])
 taken-trial old new rs r t takes here =
     record {
       number = takes.same.number ∙ t.number;
       geometry = takes.same.geometry ∙ t.geometry;
       places = takes.same.places ∙ t.places;
-      out = subst (HasOut new) (sym (map-append id_of rs (r ∷ []))) (take-out old new 59 0 r.id (map id_of rs) t.out takes);
-      placed = and-last (λ (x : Region). IsInPlaceUnder new x.id x.piece) rs r (stay-placed old new rs takes.same t.placed)
+      out =
+          subst (HasOut new) (sym (map-append id_of rs (r ∷ [])))
+          (take-out old new 59 0 r.id (map id_of rs) t.out takes);
+      placed =
+          and-last (λ (x : Region). IsInPlaceUnder new x.id x.piece) rs r (stay-placed old new rs takes.same t.placed)
           (first-place old new r.id r.piece t.number (takes.same.number ∙ t.number) takes.same.grounds here);
     }
 
@@ -69,7 +77,8 @@ others-left r (s ∷ out) each = by (others-left r out each.1) (same_taking r s)
         let place : r.place ≡ s.place = same_place-is r.place s.place (and-first (same_place r.place s.place) _ e) in
         absurd (each.0 (ap (λ (p : Place). p.chunk) place) (ap (λ (p : Place). p.offset) place))
     by rest false e =
-        ap (λ (b : Bool). if not b then s ∷ without_taking r out else without_taking r out) e ∙ ap (λ (xs : List RegionId). s ∷ xs) rest
+        ap (λ (b : Bool). if not b then s ∷ without_taking r out else without_taking r out) e
+        ∙ ap (λ (xs : List RegionId). s ∷ xs) rest
 
 module _ (old : ArenaState) (rs : List Region) (r : Region) (t : IsTrial old (r ∷ rs)) where
   pub oldest-out : IsOutOf old r.id
@@ -82,7 +91,8 @@ module _ (old : ArenaState) (rs : List Region) (r : Region) (t : IsTrial old (r 
         geometry = gives.same.geometry ∙ t.geometry;
         places = gives.same.places ∙ t.places;
         out =
-            subst (HasOut new) (left-first r.id (map id_of rs) ∙ others-left r.id (map id_of rs) t.out.holds.elsewhere.0)
+            subst (HasOut new) (left-first r.id (map id_of rs)
+            ∙ others-left r.id (map id_of rs) t.out.holds.elsewhere.0)
             (give-out old r.id (map id_of (r ∷ rs)) t.out (inl refl) new gives);
         placed = stay-placed old new rs gives.same t.placed.1;
       }

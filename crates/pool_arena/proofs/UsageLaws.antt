@@ -26,25 +26,30 @@ pub usage-most : (free size : ℕ) → usage_of free size ≤ 100
 usage-most free size =
     cond_both (free == 0) 100 (if (free * 100) / size == 0 then 99 else 100 - (free * 100) / size) (λ z. z ≤ 100)
     (λ _. omega arith)
-    (λ _. cond_both ((free * 100) / size == 0) 99 (100 - (free * 100) / size) (λ z. z ≤ 100) (λ _. omega arith) (λ _. omega arith))
+    (λ _. cond_both ((free * 100) / size == 0) 99 (100 - (free * 100) / size) (λ z. z ≤ 100) (λ _. omega arith)
+    (λ _. omega arith))
 
 -- with less that is free, no less is used
 pub usage-falls : (less free size : ℕ) → 0 < size → less ≤ free → usage_of free size ≤ usage_of less size
 usage-falls less free size pos le =
-    cond_both (less == 0) 100 (if (less * 100) / size == 0 then 99 else 100 - (less * 100) / size) (λ z. usage_of free size ≤ z)
+    cond_both (less == 0) 100 (if (less * 100) / size == 0 then 99 else 100 - (less * 100) / size)
+    (λ z. usage_of free size ≤ z)
     (λ _. usage-most free size)
     (λ some. cond_both ((less * 100) / size == 0) 99 (100 - (less * 100) / size) (λ z. usage_of free size ≤ z)
     (λ _. cond_both (free == 0) 100 (if (free * 100) / size == 0 then 99 else 100 - (free * 100) / size) (λ z. z ≤ 99)
     (λ none. absurd (none-less some none))
-    (λ _. cond_both ((free * 100) / size == 0) 99 (100 - (free * 100) / size) (λ z. z ≤ 99) (λ _. omega arith) (λ more. omega (arith, positive ((free * 100) / size) more))))
-    (λ more. cond_both (free == 0) 100 (if (free * 100) / size == 0 then 99 else 100 - (free * 100) / size) (λ z. z ≤ 100 - (less * 100) / size)
+    (λ _. cond_both ((free * 100) / size == 0) 99 (100 - (free * 100) / size) (λ z. z ≤ 99) (λ _. omega arith)
+    (λ more. omega (arith, positive ((free * 100) / size) more))))
+    (λ more. cond_both (free == 0) 100 (if (free * 100) / size == 0 then 99 else 100 - (free * 100) / size)
+    (λ z. z ≤ 100 - (less * 100) / size)
     (λ none. absurd (none-less some none))
     (λ _. cond_both ((free * 100) / size == 0) 99 (100 - (free * 100) / size) (λ z. z ≤ 100 - (less * 100) / size)
     (λ none. absurd (positive-not ((less * 100) / size) ((free * 100) / size) more none quotient))
     (λ _. omega (arith, quotient)))))
   where
     none-less : (less == 0) ≡ false → (free == 0) ≡ true → ⊥
-    none-less some none = let e : free ≡ 0 = eqb-true free 0 none in absurd (cc (some, eq-eqb less 0 (omega (arith, e, le))))
+    none-less some none =
+        let e : free ≡ 0 = eqb-true free 0 none in absurd (cc (some, eq-eqb less 0 (omega (arith, e, le))))
 
     positive : (n : ℕ) → (n == 0) ≡ false → 0 < n
     positive zero e = absurd (cc (e, eq-eqb 0 0 refl))
@@ -94,7 +99,8 @@ pub taken-free : (rs : Chunk) (at n pages : ℕ) (what : Use) → NoneEmpty rs �
 taken-free rs at n pages what ne b le =
     omega (arith, replaced-free rs at (front_used pages what) (Free n) ne b, rest-free (n - pages), le)
 
-pub given-free : (rs : Chunk) (at n : ℕ) (what : Use) → NoneEmpty rs → Begins at (Used n what) rs → free_pages (given_at at rs) ≡ free_pages rs + n
+pub given-free : (rs : Chunk) (at n : ℕ) (what : Use) → NoneEmpty rs → Begins at (Used n what) rs
+    → free_pages (given_at at rs) ≡ free_pages rs + n
 given-free rs at n what ne b =
     omega (arith, merged-free (replaced at freed rs), replaced-free rs at freed (Used n what) ne b)
 
@@ -109,7 +115,8 @@ pub size-some : (g : Geometry) → IsPage g.page → 0 < chunk_bytes g
 size-some g page = mul-pos (page-some g page) (pow_pos g.order)
 
 -- a chunk of which less is free is used no less
-pub usage-rises : (g : Geometry) → IsPage g.page → (less more : Chunk) → free_pages less ≤ free_pages more → usage g more ≤ usage g less
+pub usage-rises : (g : Geometry) → IsPage g.page → (less more : Chunk) → free_pages less ≤ free_pages more
+    → usage g more ≤ usage g less
 usage-rises g page less more le =
     usage-falls (free_bytes g less) (free_bytes g more) (chunk_bytes g) (size-some g page)
     (mul-le (page_of g) (free_pages less) (page_of g) (free_pages more) (omega arith) le)
@@ -122,12 +129,14 @@ usage-same g a b e = ap (λ (n : ℕ). usage_of (page_of g * n) (chunk_bytes g))
 -- a chunk that reaches the least usage of its list goes to a list
 pub goes-somewhere : (percent : ℕ) (here : ListName) → 1 ≤ percent → goes_to percent (Some here) ≡ None → ⊥
 goes-somewhere percent here some =
-    cond_both (nat_le (greatest here) percent) (Some (risen percent here (lists_above here))) (down_to percent (Some here)) (λ z. z ≡ None → ⊥)
+    cond_both (nat_le (greatest here) percent) (Some (risen percent here (lists_above here)))
+    (down_to percent (Some here)) (λ z. z ≡ None → ⊥)
     (λ _ e. absurd (cc e))
     (λ _ e. sunk-stays percent here (lists_below here) some (lists_below-low here) e)
 
 -- where all is free there is one free run
-pub all-free : (rs : Chunk) → NoneEmpty rs → NoneSideBySide rs → total_pages rs ≤ free_pages rs → 0 < total_pages rs → rs ≡ Free (total_pages rs) ∷ []
+pub all-free : (rs : Chunk) → NoneEmpty rs → NoneSideBySide rs → total_pages rs ≤ free_pages rs → 0 < total_pages rs
+    → rs ≡ Free (total_pages rs) ∷ []
 all-free [] ne apart all some = absurd (omega (arith, some))
 all-free (Free n ∷ []) ne apart all some = ap (λ (k : ℕ). Free k ∷ []) (omega arith)
 all-free (Free n ∷ Free m ∷ rs) ne apart all some = absurd (cc apart.0)
@@ -152,11 +161,13 @@ unused-free g rs is none =
     let size : chunk_bytes g ≤ free_bytes g rs =
     usage-nothing (free_bytes g rs) (chunk_bytes g) (mul-pos some (pow_pos g.order)) none in
     let pages : chunk_pages g ≤ free_pages rs = le_of_mul-le-mul_left size some in
-    all-free rs is.none_empty is.none_side_by_side (omega (arith, pages, is.covers)) (omega (arith, is.covers, pow_pos g.order))
+    all-free rs is.none_empty is.none_side_by_side (omega (arith, pages, is.covers))
+    (omega (arith, is.covers, pow_pos g.order))
     ∙ ap (λ (k : ℕ). Free k ∷ []) is.covers
 
 -- so is a chunk that goes nowhere
-pub gone-free : (g : Geometry) (rs : Chunk) (here : ListName) → IsChunk g rs → goes_to (usage g rs) (Some here) ≡ None → rs ≡ new_chunk g
+pub gone-free : (g : Geometry) (rs : Chunk) (here : ListName) → IsChunk g rs → goes_to (usage g rs) (Some here) ≡ None
+    → rs ≡ new_chunk g
 gone-free g rs here is gone = by (lt-or (usage g rs))
   where
     lt-or : (n : ℕ) → (n < 1) ⊎ (1 ≤ n)
@@ -181,7 +192,8 @@ some-runs None e = absurd (cc e)
 some-runs (Some runs) e = refl
 
 -- a chunk that is destroyed is one free run
-pub destroyed-free : (g : Geometry) (rs : Chunk) (l : Option ListName) → IsChunk g rs → IsSome l → answer_of (goes_to (usage g rs) l) ≡ Settled.Destroyed → rs ≡ new_chunk g
+pub destroyed-free : (g : Geometry) (rs : Chunk) (l : Option ListName) → IsChunk g rs → IsSome l
+    → answer_of (goes_to (usage g rs) l) ≡ Settled.Destroyed → rs ≡ new_chunk g
 destroyed-free g rs l is some gone =
     let there = some-name l some in
     gone-free g rs there.0 is (ap (goes_to (usage g rs)) (sym there.1) ∙ destroyed-none (goes_to (usage g rs) l) gone)

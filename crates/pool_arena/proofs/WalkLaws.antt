@@ -39,7 +39,8 @@ has-there (x ∷ xs) (suc k) c e = ap (λ b. (x == c) || b) (has-there xs k c e)
 has-append : (c : ℕ) (xs ys : List ℕ) → has c xs ≡ false → has c ys ≡ false → has c (xs ++ ys) ≡ false
 has-append c [] ys none rest = rest
 has-append c (x ∷ xs) ys none rest =
-    ap (λ b. b || has c (xs ++ ys)) (or-first (x == c) (has c xs) none) ∙ has-append c xs ys (or-second (x == c) (has c xs) none) rest
+    ap (λ b. b || has c (xs ++ ys)) (or-first (x == c) (has c xs) none)
+    ∙ has-append c xs ys (or-second (x == c) (has c xs) none) rest
   where
     or-first : (a b : Bool) → (a || b) ≡ false → a ≡ false
     or-first false b e = refl
@@ -57,7 +58,8 @@ walked l k c found none =
       has-there (walk l) k c found,
       has-append c l.q050 (l.q025 ++ (l.q000 ++ (l.init ++ l.q075))) (nowhere Q050)
           (has-append c l.q025 (l.q000 ++ (l.init ++ l.q075)) (nowhere Q025)
-          (has-append c l.q000 (l.init ++ l.q075) (nowhere Q000) (has-append c l.init l.q075 (nowhere QInit) (nowhere Q075)))),
+          (has-append c l.q000 (l.init ++ l.q075) (nowhere Q000)
+          (has-append c l.init l.q075 (nowhere QInit) (nowhere Q075)))),
     ))
 
 -- what is there where not nothing is
@@ -66,7 +68,8 @@ there None e = absurd (e refl)
 there (Some x) e = (x, refl)
 
 -- so it has a chunk
-pub walked-chunk : (s : StockState) → IsOrderly s.geometry (arena_in s) → (k c : ℕ) → slice_get (walk s.lists) k ≡ Some c → HasChunk s c
+pub walked-chunk : (s : StockState) → IsOrderly s.geometry (arena_in s) → (k c : ℕ)
+    → slice_get (walk s.lists) k ≡ Some c → HasChunk s c
 walked-chunk s o k c found =
     let name = there (list_of s.lists c) (walked s.lists k c found) in
     let runs = there (chunk_of (arena_in s) c) (λ none. walked s.lists k c found ((o.listed c).1 none)) in
@@ -84,17 +87,22 @@ module _ (s : StockState) (wanted : Wanted) (takings : ℕ) (out : List RegionId
   pub first-passed : (k c : ℕ) → slice_get (walk s.lists) k ≡ Some c → found_in s c wanted ≡ None
       → first_from s wanted k takings out ≡ first_from s wanted (suc k) takings out
   first-passed k c at none =
-      ap (first_holding s.geometry (arena_with s takings out) (pages_wanted s.geometry wanted)) (drop-step (walk s.lists) k c at)
-      ∙ ap (λ (o : Option Span). or_else (option_map (λ run. (c, run.0)) o) (first_from s wanted (suc k) takings out)) none
+      ap (first_holding s.geometry (arena_with s takings out) (pages_wanted s.geometry wanted))
+      (drop-step (walk s.lists) k c at)
+      ∙ ap (λ (o : Option Span). or_else (option_map (λ run. (c, run.0)) o) (first_from s wanted (suc k) takings out))
+      none
 
   -- one that has a run is the first
   pub first-found : (k c page long : ℕ) → slice_get (walk s.lists) k ≡ Some c → found_in s c wanted ≡ Some (page, long)
       → first_from s wanted k takings out ≡ Some (c, page)
   first-found k c page long at found =
-      ap (first_holding s.geometry (arena_with s takings out) (pages_wanted s.geometry wanted)) (drop-step (walk s.lists) k c at)
-      ∙ ap (λ (o : Option Span). or_else (option_map (λ run. (c, run.0)) o) (first_from s wanted (suc k) takings out)) found
+      ap (first_holding s.geometry (arena_with s takings out) (pages_wanted s.geometry wanted))
+      (drop-step (walk s.lists) k c at)
+      ∙ ap (λ (o : Option Span). or_else (option_map (λ run. (c, run.0)) o) (first_from s wanted (suc k) takings out))
+      found
 
   -- past the last there is none
   pub first-none : (k : ℕ) → slice_get (walk s.lists) k ≡ None → first_from s wanted k takings out ≡ None
   first-none k at =
-      ap (first_holding s.geometry (arena_with s takings out) (pages_wanted s.geometry wanted)) (drop-end (walk s.lists) k at)
+      ap (first_holding s.geometry (arena_with s takings out) (pages_wanted s.geometry wanted))
+      (drop-end (walk s.lists) k at)

@@ -48,15 +48,24 @@ fits-each g (Used n (Sub class e) ∷ rs) h = (h.0, fits-each g rs h.1)
 pub run-some : (rs : Chunk) (at : ℕ) (r : Run Use) → NoneEmpty rs → Begins at r rs → 0 < pages_in r
 run-some rs at r ne b = EachRun-Begins IsSome rs at r (each-some rs ne) b
 
-pub subpage-fits : (g : Geometry) (rs : Chunk) (at n class : ℕ) (e : Elements) → IsChunk g rs → Begins at (Used n (Sub class e)) rs → IsSubpage g n class e
-subpage-fits g rs at n class e is b = EachRun-Begins (Fits g) rs at (Used n (Sub class e)) (each-fits g rs is.subpages) b
+pub subpage-fits : (g : Geometry) (rs : Chunk) (at n class : ℕ) (e : Elements) → IsChunk g rs
+    → Begins at (Used n (Sub class e)) rs → IsSubpage g n class e
+subpage-fits g rs at n class e is b =
+    EachRun-Begins (Fits g) rs at (Used n (Sub class e)) (each-fits g rs is.subpages) b
 
 -- ---- the elements of a subpage
 
 -- a subpage fits with an element out
-pub out-fits : (g : Geometry) (n class k : ℕ) (e : Elements) → IsSubpage g n class e → IsSubpage g n class (with_out e k)
+pub out-fits : (g : Geometry) (n class k : ℕ) (e : Elements) → IsSubpage g n class e
+    → IsSubpage g n class (with_out e k)
 out-fits g n class k e fits =
-    record { small = fits.small; whole = fits.whole; elements = length-set e.out k true ∙ fits.elements; remembers = tt }
+    record {
+      small = fits.small;
+      whole = fits.whole;
+      elements = length-set e.out k true
+          ∙ fits.elements;
+      remembers = tt;
+    }
 
 is-back : (out : List Bool) (k : ℕ) → k < length out → unwrap_or (slice_get (slice_set out k false) k) false ≡ false
 is-back [] k h = absurd (omega arith)
@@ -64,7 +73,8 @@ is-back (b ∷ out) zero h = refl
 is-back (b ∷ out) (suc k) h = is-back out k (omega (arith, h))
 
 -- and with one back that was out
-pub back-fits : (g : Geometry) (n class k : ℕ) (e : Elements) → IsSubpage g n class e → is_out e k ≡ true → IsSubpage g n class (with_back e k)
+pub back-fits : (g : Geometry) (n class k : ℕ) (e : Elements) → IsSubpage g n class e → is_out e k ≡ true
+    → IsSubpage g n class (with_back e k)
 back-fits g n class k e fits out =
     let below : k < length e.out = out_within k e.out out in
     record {
@@ -80,22 +90,26 @@ now-out [] k h = absurd (omega arith)
 now-out (b ∷ out) zero h = refl
 now-out (b ∷ out) (suc k) h = now-out out k (omega (arith, h))
 
-next-below : (out : List Bool) (o : Option ℕ) (k : ℕ) → RemembersFree (record { out = out; remembered = o }) o → first_of_two o (first_free out) ≡ Some k → k < length out
+next-below : (out : List Bool) (o : Option ℕ) (k : ℕ) → RemembersFree (record { out = out; remembered = o }) o
+    → first_of_two o (first_free out) ≡ Some k → k < length out
 next-below out None k free e = (position-Some not out k true e).0
 next-below out (Some j) k free e = let same : j ≡ k = cc e in subst (λ n. n < length out) same free.0
 
-pub element-out : (e : Elements) (k : ℕ) → RemembersFree e e.remembered → next_element e ≡ Some k → is_out (with_out e k) k ≡ true
+pub element-out : (e : Elements) (k : ℕ) → RemembersFree e e.remembered → next_element e ≡ Some k
+    → is_out (with_out e k) k ≡ true
 element-out e k free next = now-out e.out k (next-below e.out e.remembered k free next)
 
 -- a new subpage of a small class fits
-pub new-fits : (g : Geometry) (class : ℕ) → is_small g class ≡ true → IsSubpage g (subpage_pages g class) class (new_elements (element_count g class))
+pub new-fits : (g : Geometry) (class : ℕ) → is_small g class ≡ true
+    → IsSubpage g (subpage_pages g class) class (new_elements (element_count g class))
 new-fits g class small =
     record { small = small; whole = refl; elements = length-replicate (element_count g class) false; remembers = tt }
 
 -- ---- free runs side by side
 
 -- a run that comes into use puts no two free runs side by side
-side-replaced : (rs : Chunk) (at : ℕ) (r : Run Use) (pages : Run Use → ℕ) (what : Use) (tail : Run Use → Chunk) → NoneEmpty rs → Begins at r rs
+side-replaced : (rs : Chunk) (at : ℕ) (r : Run Use) (pages : Run Use → ℕ) (what : Use) (tail : Run Use → Chunk)
+    → NoneEmpty rs → Begins at r rs
     → ((us : Chunk) → NoneSideBySide (r ∷ us) → NoneSideBySide (tail r ++ us)) → NoneSideBySide rs
     → NoneSideBySide (replaced at (λ q. Used (pages q) what ∷ tail q) rs)
 side-replaced [] at r pages what tail ne b keeps apart = absurd b
@@ -108,7 +122,8 @@ side-replaced (Free m ∷ rs) at r pages what tail ne (inr b) keeps apart =
     let rest : at - m ≡ b.0 = omega (arith, b.1) in
     rw (not_here, rest) (first rs b.0 apart.0, side-replaced rs b.0 r pages what tail ne.1 b.2 keeps apart.1)
   where
-    first : (us : Chunk) (k : ℕ) → begins_free us ≡ false → begins_free (replaced k (λ q. Used (pages q) what ∷ tail q) us) ≡ false
+    first : (us : Chunk) (k : ℕ) → begins_free us ≡ false
+        → begins_free (replaced k (λ q. Used (pages q) what ∷ tail q) us) ≡ false
     first [] k e = refl
     first (Free n ∷ us) k e = absurd (cc e)
     first (Used n w ∷ us) zero e = refl
@@ -122,10 +137,13 @@ side-replaced (Used m w ∷ rs) at r pages what tail ne (inr b) keeps apart =
 
 module _ (g : Geometry) (rs : Chunk) (at : ℕ) (is : IsChunk g rs) where
   -- the front of a free run comes into use
-  pub taken-chunk : (n pages : ℕ) (what : Use) → Begins at (Free n) rs → 0 < pages → pages ≤ n → Fits g (Used pages what) → IsChunk g (taken_at at pages what rs)
+  pub taken-chunk : (n pages : ℕ) (what : Use) → Begins at (Free n) rs → 0 < pages → pages ≤ n
+      → Fits g (Used pages what) → IsChunk g (taken_at at pages what rs)
   taken-chunk n pages what b some fits good =
       record {
-        covers = replaced-total rs at (front_used pages what) (Free n) is.none_empty b (omega (arith, rest_of-total Use (n - pages), fits)) ∙ is.covers;
+        covers =
+            replaced-total rs at (front_used pages what) (Free n) is.none_empty b
+            (omega (arith, rest_of-total Use (n - pages), fits)) ∙ is.covers;
         none_empty =
             some-each (taken_at at pages what rs)
             (replaced-EachRun IsSome rs at (front_used pages what) (Free n) is.none_empty b
@@ -147,28 +165,38 @@ module _ (g : Geometry) (rs : Chunk) (at : ℕ) (is : IsChunk g rs) where
   pub given-chunk : (n : ℕ) (what : Use) → Begins at (Used n what) rs → IsChunk g (given_at at rs)
   given-chunk n what b =
       let some = run-some rs at (Used n what) is.none_empty b in
-      let each : EachRun IsSome (replaced at freed rs) = replaced-EachRun IsSome rs at freed (Used n what) is.none_empty b (some, tt) (each-some rs is.none_empty) in
+      let each : EachRun IsSome (replaced at freed rs) =
+      replaced-EachRun IsSome rs at freed (Used n what) is.none_empty b (some, tt) (each-some rs is.none_empty) in
       record {
-        covers = merged-total (replaced at freed rs) ∙ replaced-total rs at freed (Used n what) is.none_empty b (omega arith) ∙ is.covers;
+        covers =
+            merged-total (replaced at freed rs) ∙ replaced-total rs at freed (Used n what) is.none_empty b (omega arith)
+            ∙ is.covers;
         none_empty = merged-NoneEmpty (replaced at freed rs) (some-each (replaced at freed rs) each);
         none_side_by_side = merged-apart (replaced at freed rs);
         subpages =
             fits-each g (given_at at rs)
             (merged-EachRun (Fits g) (replaced at freed rs) (λ _. tt)
-            (replaced-EachRun (Fits g) rs at freed (Used n what) is.none_empty b (tt, tt) (each-fits g rs is.subpages)));
+            (replaced-EachRun (Fits g) rs at freed (Used n what) is.none_empty b (tt, tt)
+            (each-fits g rs is.subpages)));
       }
 
   -- the elements of a subpage change
-  pub elements-chunk : (n class : ℕ) (e f : Elements) → Begins at (Used n (Sub class e)) rs → IsSubpage g n class f → IsChunk g (with_elements at class f rs)
+  pub elements-chunk : (n class : ℕ) (e f : Elements) → Begins at (Used n (Sub class e)) rs → IsSubpage g n class f
+      → IsChunk g (with_elements at class f rs)
   elements-chunk n class e f b good =
       let by : Run Use → Chunk = λ r. Used (pages_in r) (Sub class f) ∷ [] in
       let old : Run Use = Used n (Sub class e) in
       let some = run-some rs at old is.none_empty b in
       record {
         covers = replaced-total rs at by old is.none_empty b (omega arith) ∙ is.covers;
-        none_empty = some-each (with_elements at class f rs) (replaced-EachRun IsSome rs at by old is.none_empty b (some, tt) (each-some rs is.none_empty));
-        none_side_by_side = side-replaced rs at old pages_in (Sub class f) (λ _. []) is.none_empty b (λ us h. h) is.none_side_by_side;
-        subpages = fits-each g (with_elements at class f rs) (replaced-EachRun (Fits g) rs at by old is.none_empty b (good, tt) (each-fits g rs is.subpages));
+        none_empty =
+            some-each (with_elements at class f rs)
+            (replaced-EachRun IsSome rs at by old is.none_empty b (some, tt) (each-some rs is.none_empty));
+        none_side_by_side =
+            side-replaced rs at old pages_in (Sub class f) (λ _. []) is.none_empty b (λ us h. h) is.none_side_by_side;
+        subpages =
+            fits-each g (with_elements at class f rs)
+            (replaced-EachRun (Fits g) rs at by old is.none_empty b (good, tt) (each-fits g rs is.subpages));
       }
 
 -- ---- sums

@@ -16,11 +16,13 @@ use mathlib.Core.Logic.{inl, inr}
 abbrev nothing : Entry
 nothing = None
 
-runs_from-skip : (n : ℕ) (spans : List Span) (es : List Entry) → runs_from n spans (replicate n nothing ++ es) ≡ runs_from 0 spans es
+runs_from-skip : (n : ℕ) (spans : List Span) (es : List Entry)
+    → runs_from n spans (replicate n nothing ++ es) ≡ runs_from 0 spans es
 runs_from-skip zero spans es = refl
 runs_from-skip (suc n) spans es = runs_from-skip n spans es
 
-skipped : (n m : ℕ) (spans : List Span) (es : List Entry) → n ≡ m → runs_from n spans (replicate m nothing ++ es) ≡ runs_from 0 spans es
+skipped : (n m : ℕ) (spans : List Span) (es : List Entry) → n ≡ m
+    → runs_from n spans (replicate m nothing ++ es) ≡ runs_from 0 spans es
 skipped n m spans es e = ap (λ (k : ℕ). runs_from k spans (replicate m nothing ++ es)) e ∙ runs_from-skip m spans es
 
 -- the free runs and the entries of a chunk make the chunk
@@ -29,7 +31,8 @@ runs_from-entries from [] ne = refl
 runs_from-entries from (Free zero ∷ rs) ne = absurd (omega (arith, ne.0))
 runs_from-entries from (Free (suc n) ∷ rs) ne =
     ap (λ (xs : Chunk). Free (suc n) ∷ xs)
-    (skipped (suc n - 1) n (free_runs (from + suc n) rs) (entries rs) (omega arith) ∙ runs_from-entries (from + suc n) rs ne.1)
+    (skipped (suc n - 1) n (free_runs (from + suc n) rs) (entries rs) (omega arith)
+    ∙ runs_from-entries (from + suc n) rs ne.1)
 runs_from-entries from (Used n what ∷ rs) ne =
     ap (λ (xs : Chunk). Used n what ∷ xs)
     (runs_from-skip (n - 1) (free_runs (from + n) rs) (entries rs) ∙ runs_from-entries (from + n) rs ne.1)
@@ -43,7 +46,8 @@ length-entries_in (Used n what) h = omega (arith, length-replicate (n - 1) nothi
 -- there is one for each page
 pub length-entries : (rs : Chunk) → NoneEmpty rs → length (entries rs) ≡ total_pages rs
 length-entries [] ne = refl
-length-entries (r ∷ rs) ne = omega (arith, length-append (entries_in r) (entries rs), length-entries_in r ne.0, length-entries rs ne.1)
+length-entries (r ∷ rs) ne =
+    omega (arith, length-append (entries_in r) (entries rs), length-entries_in r ne.0, length-entries rs ne.1)
 
 -- the first entry of a run
 abbrev pub entry_in : Run Use → Entry
@@ -56,7 +60,8 @@ first_in (Free (suc n)) es d h = refl
 first_in (Used n what) es d h = refl
 
 -- the entry at the page at which a run begins
-pub entries-at : (rs : Chunk) (at : ℕ) (r : Run Use) (d : Entry) → NoneEmpty rs → Begins at r rs → get_or (entries rs) at d ≡ entry_in r
+pub entries-at : (rs : Chunk) (at : ℕ) (r : Run Use) (d : Entry) → NoneEmpty rs → Begins at r rs
+    → get_or (entries rs) at d ≡ entry_in r
 entries-at [] at r d ne b = absurd b
 entries-at (s ∷ rs) at r d ne (inl b) =
     ap (λ (k : ℕ). get_or (entries_in s ++ entries rs) k d) b.0 ∙ first_in s (entries rs) d ne.0 ∙ ap entry_in (sym b.1)
@@ -66,12 +71,14 @@ entries-at (s ∷ rs) at r d ne (inr b) =
     ∙ get_or-append-add (entries_in s) (entries rs) b.0 d ∙ entries-at rs b.0 r d ne.1 b.2
 
 -- no run begins at the other pages of one
-pub entries-inside : (rs : Chunk) (at k : ℕ) (r : Run Use) (d : Entry) → NoneEmpty rs → Begins at r rs → at < k → k < at + pages_in r
+pub entries-inside : (rs : Chunk) (at k : ℕ) (r : Run Use) (d : Entry) → NoneEmpty rs → Begins at r rs → at < k
+    → k < at + pages_in r
     → get_or (entries rs) k d ≡ None
 entries-inside [] at k r d ne b from within = absurd b
 entries-inside (s ∷ rs) at k r d ne (inl b) from within =
     let below : k < pages_in s = subst (λ (q : Run Use). k < pages_in q) b.1 (omega (arith, within, b.0)) in
-    get_or_append_left (entries_in s) (entries rs) d k (omega (arith, length-entries_in s ne.0, below)) ∙ in_run s k d (omega (arith, from, b.0)) below
+    get_or_append_left (entries_in s) (entries rs) d k (omega (arith, length-entries_in s ne.0, below))
+    ∙ in_run s k d (omega (arith, from, b.0)) below
   where
     in_run : (s : Run Use) (k : ℕ) (d : Entry) → 0 < k → k < pages_in s → get_or (entries_in s) k d ≡ None
     in_run (Free n) k d some below = get_or-replicate n k nothing d below
@@ -88,10 +95,13 @@ entries-inside (s ∷ rs) at k r d ne (inr b) from within =
 
 entries-append : (xs ys : Chunk) → entries (xs ++ ys) ≡ entries xs ++ entries ys
 entries-append [] ys = refl
-entries-append (x ∷ xs) ys = ap (λ (es : List Entry). entries_in x ++ es) (entries-append xs ys) ∙ sym (append_assoc (entries_in x) (entries xs) (entries ys))
+entries-append (x ∷ xs) ys =
+    ap (λ (es : List Entry). entries_in x ++ es) (entries-append xs ys)
+    ∙ sym (append_assoc (entries_in x) (entries xs) (entries ys))
 
 -- where others replace a run so that its first entry alone changes, just this entry changes
-pub entries-replaced : (rs : Chunk) (at : ℕ) (by : Run Use → List (Run Use)) (r : Run Use) (x : Entry) → NoneEmpty rs → Begins at r rs
+pub entries-replaced : (rs : Chunk) (at : ℕ) (by : Run Use → List (Run Use)) (r : Run Use) (x : Entry) → NoneEmpty rs
+    → Begins at r rs
     → entries (by r) ≡ slice_set (entries_in r) 0 x → entries (replaced at by rs) ≡ slice_set (entries rs) at x
 entries-replaced [] at by r x ne b change = absurd b
 entries-replaced (s ∷ rs) at by r x ne (inl b) change =
@@ -131,10 +141,12 @@ front-entries n pages what some fits =
     ∙ sym (set-first n (Some (pages, what)) (omega (arith, some, fits)))
 
 -- what begins at the page is what the front is taken for
-pub entries-taken : (rs : Chunk) (at n pages : ℕ) (what : Use) → NoneEmpty rs → Begins at (Free n) rs → 0 < pages → pages ≤ n
+pub entries-taken : (rs : Chunk) (at n pages : ℕ) (what : Use) → NoneEmpty rs → Begins at (Free n) rs → 0 < pages
+    → pages ≤ n
     → entries (taken_at at pages what rs) ≡ slice_set (entries rs) at (Some (pages, what))
 entries-taken rs at n pages what ne b some fits =
-    entries-replaced rs at (front_used pages what) (Free n) (Some (pages, what)) ne b (front-entries n pages what some fits)
+    entries-replaced rs at (front_used pages what) (Free n) (Some (pages, what)) ne b
+    (front-entries n pages what some fits)
 
 entries-joined : (r : Run Use) (rs : Chunk) → entries (joined r rs) ≡ entries_in r ++ entries rs
 entries-joined (Free n) (Free m ∷ rs) =
@@ -146,9 +158,11 @@ entries-joined (Used n what) rs = refl
 
 entries-merged : (rs : Chunk) → entries (merged rs) ≡ entries rs
 entries-merged [] = refl
-entries-merged (r ∷ rs) = entries-joined r (merged rs) ∙ ap (λ (es : List Entry). entries_in r ++ es) (entries-merged rs)
+entries-merged (r ∷ rs) =
+    entries-joined r (merged rs) ∙ ap (λ (es : List Entry). entries_in r ++ es) (entries-merged rs)
 
-freed-entries : (n : ℕ) (what : Use) → 0 < n → entries (freed (Used n what)) ≡ slice_set (entries_in (Used n what)) 0 nothing
+freed-entries : (n : ℕ) (what : Use) → 0 < n → entries (freed (Used n what))
+    ≡ slice_set (entries_in (Used n what)) 0 nothing
 freed-entries zero what h = absurd (omega arith)
 freed-entries (suc n) what h =
     let same : n ≡ suc n - 1 = omega arith in
@@ -158,11 +172,14 @@ freed-entries (suc n) what h =
 pub entries-given : (rs : Chunk) (at n : ℕ) (what : Use) → NoneEmpty rs → Begins at (Used n what) rs → 0 < n
     → entries (given_at at rs) ≡ slice_set (entries rs) at nothing
 entries-given rs at n what ne b some =
-    entries-merged (replaced at freed rs) ∙ entries-replaced rs at freed (Used n what) nothing ne b (freed-entries n what some)
+    entries-merged (replaced at freed rs) ∙ entries-replaced rs at freed (Used n what) nothing ne b
+    (freed-entries n what some)
 
 -- and at the page of a subpage begin its elements as they are then
-pub entries-elements : (rs : Chunk) (at n class : ℕ) (e f : Elements) → NoneEmpty rs → Begins at (Used n (Sub class e)) rs
+pub entries-elements : (rs : Chunk) (at n class : ℕ) (e f : Elements) → NoneEmpty rs
+    → Begins at (Used n (Sub class e)) rs
     → entries (with_elements at class f rs) ≡ slice_set (entries rs) at (Some (n, Sub class f))
 entries-elements rs at n class e f ne b =
-    entries-replaced rs at (λ r. Used (pages_in r) (Sub class f) ∷ []) (Used n (Sub class e)) (Some (n, Sub class f)) ne b
+    entries-replaced rs at (λ r. Used (pages_in r) (Sub class f) ∷ []) (Used n (Sub class e)) (Some (n, Sub class f)) ne
+    b
     (ap (λ (es : List Entry). Some (n, Sub class f) ∷ es) (append-nil (replicate (n - 1) nothing)))

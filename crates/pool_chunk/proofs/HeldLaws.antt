@@ -44,7 +44,8 @@ module _ (c d : Inside) (spans : List Span) (slots : List Slot) (runs : Chunk) (
   pub state-after : state_in d ≡ with_runs (state_in c) runs
   state-after =
       let origin = ap (λ (m : FreeRuns). m.origin) follows.map_is in
-      ap₂ (λ (m : FreeRuns) (g : Geometry). record { origin = m.origin; geometry = g; runs = runs_in d }) follows.map_is follows.classes
+      ap₂ (λ (m : FreeRuns) (g : Geometry). record { origin = m.origin; geometry = g; runs = runs_in d }) follows.map_is
+      follows.classes
       ∙ ap (λ (rs : Chunk). with_runs (state_in c) rs) (the-runs d.classes d.map.runs (entries_in d) runs are)
 
   -- and holds them
@@ -82,7 +83,8 @@ bytes-at c is page pages s run =
       size = run.size ∙ ap (λ (k : ℕ). pages * k) is.page ∙ mul_comm pages (page_of c.classes);
     }
 
-module _ (c : Inside) (is : IsHeld c) (m : FreeRuns) (pages page : ℕ) (piece : Segment) (taken : IsTaken c.map m pages piece page) where
+module _ (c : Inside) (is : IsHeld c) (m : FreeRuns) (pages page : ℕ) (piece : Segment)
+    (taken : IsTaken c.map m pages piece page) where
   -- the law chooses it too
   pub taken-chosen : chosen c.classes pages (free_runs 0 (runs_in c)) ≡ Some (page, taken.long)
   taken-chosen = chosen-same c pages is ∙ taken.run
@@ -94,32 +96,50 @@ module _ (c : Inside) (is : IsHeld c) (m : FreeRuns) (pages page : ℕ) (piece :
   -- the pages of the chunk are few
   pub taken-few : (page < 2 ^ 15) × (pages < 2 ^ 15)
   taken-few =
-      let few : 2 ^ c.classes.order ≤ 2048 = pow-le-pow_right {n = 2} (lit< tt) {i = c.classes.order} {j = 11} is.sizes.most in
+      let few : 2 ^ c.classes.order ≤ 2048 = pow-le-pow_right {n = 2} (lit< tt) {i = c.classes.order} {j = 11}
+      is.sizes.most in
       let inside = Begins-inside (runs_in c) page (Free taken.long) taken-begins.0 in (
-        omega (arith, few, inside, is.runs.chunk.covers, taken-begins.1, run-some (runs_in c) page (Free taken.long) is.runs.chunk.none_empty taken-begins.0),
+        omega (
+          arith,
+          few,
+          inside,
+          is.runs.chunk.covers,
+          taken-begins.1,
+          run-some (runs_in c) page (Free taken.long)
+              is.runs.chunk.none_empty taken-begins.0,
+        ),
         omega (arith, few, inside, is.runs.chunk.covers, taken-begins.1),
       )
 
-  module _ (d : Inside) (what : Use) (slot : Slot) (some : 0 < pages) (entry : entry_of slot ≡ Some (pages, what)) (fits : Fits c.classes (Used pages what))
+  module _ (d : Inside) (what : Use) (slot : Slot) (some : 0 < pages) (entry : entry_of slot ≡ Some (pages, what))
+      (fits : Fits c.classes (Used pages what))
       (follows : Follows c d (taken_from page pages c.map.runs) (slice_set c.slots.items page slot)) where
-    of : AreOf c.classes (taken_from page pages c.map.runs) (map entry_of (slice_set c.slots.items page slot)) (taken_at page pages what (runs_in c))
+    of : AreOf c.classes (taken_from page pages c.map.runs) (map entry_of (slice_set c.slots.items page slot))
+        (taken_at page pages what (runs_in c))
     of =
-        subst (λ (es : List Entry). AreOf c.classes (taken_from page pages c.map.runs) es (taken_at page pages what (runs_in c)))
+        subst (λ (es : List Entry). AreOf c.classes (taken_from page pages c.map.runs) es
+        (taken_at page pages what (runs_in c)))
         (sym (entries-set c.slots.items page slot (Some (pages, what)) entry))
-        (taken-of c.classes c.map.runs (entries_in c) (runs_in c) page is.runs taken.long pages what taken-begins.0 some taken-begins.1 fits)
+        (taken-of c.classes c.map.runs (entries_in c) (runs_in c) page is.runs taken.long pages what taken-begins.0 some
+        taken-begins.1 fits)
 
     -- the chunk is seen with its front taken, and holds it
     pub taken-state : state_in d ≡ with_runs (state_in c) (taken_at page pages what (runs_in c))
-    taken-state = state-after c d (taken_from page pages c.map.runs) (slice_set c.slots.items page slot) (taken_at page pages what (runs_in c)) follows of
+    taken-state =
+        state-after c d (taken_from page pages c.map.runs) (slice_set c.slots.items page slot)
+        (taken_at page pages what (runs_in c)) follows of
 
     pub taken-held : IsPlaced c.map.origin (page_of c.classes) page slot → IsHeld d
     taken-held placed =
-        held-after c d (taken_from page pages c.map.runs) (slice_set c.slots.items page slot) (taken_at page pages what (runs_in c)) follows of is
-        (placed-set c.map.origin (page_of c.classes) 0 page c.slots.items slot is.placed (subst (λ (i : ℕ). IsPlaced c.map.origin (page_of c.classes) i slot) (sym (zero-add page)) placed))
+        held-after c d (taken_from page pages c.map.runs) (slice_set c.slots.items page slot)
+        (taken_at page pages what (runs_in c)) follows of is
+        (placed-set c.map.origin (page_of c.classes) 0 page c.slots.items slot is.placed
+        (subst (λ (i : ℕ). IsPlaced c.map.origin (page_of c.classes) i slot) (sym (zero-add page)) placed))
 
 -- ---- giving back
 
-module _ (c : Inside) (is : IsHeld c) (page pages : ℕ) (what : Use) (piece : Segment) (begins : Begins page (Used pages what) (runs_in c))
+module _ (c : Inside) (is : IsHeld c) (page pages : ℕ) (what : Use) (piece : Segment)
+    (begins : Begins page (Used pages what) (runs_in c))
     (at : IsBytesAt (state_in c) (page_start (state_in c) page) (page_start (state_in c) pages) piece) where
   -- the bytes of a run are whole pages of the map
   pub given-span : span_of c.map.page piece ≡ (page, pages)
@@ -135,8 +155,12 @@ module _ (c : Inside) (is : IsHeld c) (page pages : ℕ) (what : Use) (piece : S
   given-pages =
       record {
         origin = at.origin;
-        start = ap₂ (λ (n k : ℕ). n % k) (at.start ∙ mul_comm (page_of c.classes) page) is.page ∙ mul-mod_left page (page_of c.classes);
-        size = ap₂ (λ (n k : ℕ). n % k) (at.size ∙ mul_comm (page_of c.classes) pages) is.page ∙ mul-mod_left pages (page_of c.classes);
+        start =
+            ap₂ (λ (n k : ℕ). n % k) (at.start ∙ mul_comm (page_of c.classes) page) is.page
+            ∙ mul-mod_left page (page_of c.classes);
+        size =
+            ap₂ (λ (n k : ℕ). n % k) (at.size ∙ mul_comm (page_of c.classes) pages) is.page
+            ∙ mul-mod_left pages (page_of c.classes);
       }
 
   -- and apart from those of the free runs
@@ -146,29 +170,38 @@ module _ (c : Inside) (is : IsHeld c) (page pages : ℕ) (what : Use) (piece : S
       (subst (λ (o : ℕ). IsOut (2 ^ o) c.map.runs (page, pages)) (sym is.same)
       (run-out c.classes c.map.runs (entries_in c) (runs_in c) page is.runs pages what begins))
 
-  module _ (d : Inside) (follows : Follows c d (given_back (span_of c.map.page piece) c.map.runs) (slice_set c.slots.items page Slot.Nothing)) where
-    given : AreOf c.classes (given_back (span_of c.map.page piece) c.map.runs) (map entry_of (slice_set c.slots.items page Slot.Nothing)) (given_at page (runs_in c))
+  module _ (d : Inside) (follows : Follows c d (given_back (span_of c.map.page piece) c.map.runs)
+      (slice_set c.slots.items page Slot.Nothing)) where
+    given : AreOf c.classes (given_back (span_of c.map.page piece) c.map.runs)
+        (map entry_of (slice_set c.slots.items page Slot.Nothing)) (given_at page (runs_in c))
     given =
-        subst (λ (x : Span). AreOf c.classes (given_back x c.map.runs) (map entry_of (slice_set c.slots.items page Slot.Nothing)) (given_at page (runs_in c))) (sym given-span)
-        (subst (λ (es : List Entry). AreOf c.classes (given_back (page, pages) c.map.runs) es (given_at page (runs_in c)))
+        subst (λ (x : Span). AreOf c.classes (given_back x c.map.runs)
+        (map entry_of (slice_set c.slots.items page Slot.Nothing)) (given_at page (runs_in c))) (sym given-span)
+        (subst (λ (es : List Entry). AreOf c.classes (given_back (page, pages) c.map.runs) es
+        (given_at page (runs_in c)))
         (sym (entries-set c.slots.items page Slot.Nothing None refl))
         (given-of c.classes c.map.runs (entries_in c) (runs_in c) page is.runs pages what begins))
 
     -- the chunk is seen with the run given back, and holds it
     pub given-state : state_in d ≡ with_runs (state_in c) (given_at page (runs_in c))
-    given-state = state-after c d (given_back (span_of c.map.page piece) c.map.runs) (slice_set c.slots.items page Slot.Nothing) (given_at page (runs_in c)) follows given
+    given-state =
+        state-after c d (given_back (span_of c.map.page piece) c.map.runs) (slice_set c.slots.items page Slot.Nothing)
+        (given_at page (runs_in c)) follows given
 
     pub given-held : IsHeld d
     given-held =
-        held-after c d (given_back (span_of c.map.page piece) c.map.runs) (slice_set c.slots.items page Slot.Nothing) (given_at page (runs_in c)) follows given is
+        held-after c d (given_back (span_of c.map.page piece) c.map.runs) (slice_set c.slots.items page Slot.Nothing)
+        (given_at page (runs_in c)) follows given is
         (placed-set c.map.origin (page_of c.classes) 0 page c.slots.items Slot.Nothing is.placed tt)
 
 -- ---- the fields of a word
 
 -- a run of the chunk has room in a word
-pub run-fields : (c : Inside) → IsHeld c → (page : ℕ) (r : Run Use) (index : ℕ) → Begins page r (runs_in c) → index < 2 ^ 32 → AreFields page (pages_in r) index
+pub run-fields : (c : Inside) → IsHeld c → (page : ℕ) (r : Run Use) (index : ℕ) → Begins page r (runs_in c)
+    → index < 2 ^ 32 → AreFields page (pages_in r) index
 run-fields c is page r index b small =
-    let few : 2 ^ c.classes.order ≤ 2048 = pow-le-pow_right {n = 2} (lit< tt) {i = c.classes.order} {j = 11} is.sizes.most in
+    let few : 2 ^ c.classes.order ≤ 2048 = pow-le-pow_right {n = 2} (lit< tt) {i = c.classes.order} {j = 11}
+    is.sizes.most in
     let inside = Begins-inside (runs_in c) page r b in
     let some = run-some (runs_in c) page r is.runs.chunk.none_empty b in
     record {
@@ -178,15 +211,19 @@ run-fields c is page r index b small =
     }
 
 -- so have the fields of a place
-pub place-fields : (c : Inside) → IsHeld c → (v : ChunkState) → state_in c ≡ v → (page : ℕ) (r : Run Use) (index : ℕ) → run_at page v.runs ≡ Some r
+pub place-fields : (c : Inside) → IsHeld c → (v : ChunkState) → state_in c ≡ v → (page : ℕ) (r : Run Use) (index : ℕ)
+    → run_at page v.runs ≡ Some r
     → index < 2 ^ 32 → AreFields page (pages_in r) index
 place-fields c is v same page r index at small =
-    run-fields c is page r index (Begins-run_at (runs_in c) page r (subst (λ (x : ChunkState). run_at page x.runs ≡ Some r) (sym same) at)) small
+    run-fields c is page r index (Begins-run_at (runs_in c) page r
+    (subst (λ (x : ChunkState). run_at page x.runs ≡ Some r) (sym same) at)) small
 
 -- ---- a new chunk
 
-module _ (d : Inside) (order : ℕ) (piece : Segment) (sizes : IsGeometry (geometry_on order piece)) (stands : IsChunkGround (geometry_on order piece) piece)
-    (map_is : d.map ≡ all_spans order piece) (classes : d.classes ≡ geometry_on order piece) (bytes : d.bytes ≡ length piece.bytes)
+module _ (d : Inside) (order : ℕ) (piece : Segment) (sizes : IsGeometry (geometry_on order piece))
+    (stands : IsChunkGround (geometry_on order piece) piece)
+    (map_is : d.map ≡ all_spans order piece) (classes : d.classes ≡ geometry_on order piece)
+    (bytes : d.bytes ≡ length piece.bytes)
     (slots : d.slots.items ≡ replicate (2 ^ order) Slot.Nothing) where
   new-runs : AreOf d.classes d.map.runs (entries_in d) (new_chunk (geometry_on order piece))
   new-runs =
@@ -201,22 +238,27 @@ module _ (d : Inside) (order : ℕ) (piece : Segment) (sizes : IsGeometry (geome
   pub new-state : state_in d ≡ all_free (geometry_on order piece) piece
   new-state =
       ap₂ (λ (m : FreeRuns) (g : Geometry). record { origin = m.origin; geometry = g; runs = runs_in d }) map_is classes
-      ∙ ap (λ (rs : Chunk). record { origin = piece.origin; geometry = geometry_on order piece; runs = rs }) (the-runs d.classes d.map.runs (entries_in d) (new_chunk (geometry_on order piece)) new-runs)
+      ∙ ap (λ (rs : Chunk). record { origin = piece.origin; geometry = geometry_on order piece; runs = rs })
+      (the-runs d.classes d.map.runs (entries_in d) (new_chunk (geometry_on order piece)) new-runs)
 
   pub new-held : IsHeld d
   new-held =
-      let page : piece.origin.size / 2 ^ order ≡ length piece.bytes / 2 ^ order = ap (λ (k : ℕ). k / 2 ^ order) (sym stands.0.1) in
+      let page : piece.origin.size / 2 ^ order ≡ length piece.bytes / 2 ^ order =
+      ap (λ (k : ℕ). k / 2 ^ order) (sym stands.0.1) in
       record {
         sizes = subst IsGeometry (sym classes) sizes;
         same = ap (λ (m : FreeRuns). m.order) map_is ∙ sym (ap (λ (g : Geometry). g.order) classes);
         page = ap (λ (m : FreeRuns). m.page) map_is ∙ page ∙ ap (λ (g : Geometry). g.page) (sym classes);
         bytes = bytes ∙ stands.1 ∙ ap chunk_bytes (sym classes);
         runs = of-runs d.classes d.map.runs (entries_in d) (new_chunk (geometry_on order piece)) new-runs;
-        placed = subst (λ (ss : List Slot). ArePlaced d.map.origin (page_of d.classes) 0 ss) (sym slots) (placed-nothing d.map.origin (page_of d.classes) 0 (2 ^ order));
+        placed =
+            subst (λ (ss : List Slot). ArePlaced d.map.origin (page_of d.classes) 0 ss) (sym slots)
+            (placed-nothing d.map.origin (page_of d.classes) 0 (2 ^ order));
       }
 
 -- a ground of the bytes of a chunk is whole pages
-pub ground-pages : (order : ℕ) (piece : Segment) → IsGeometry (geometry_on order piece) → IsChunkGround (geometry_on order piece) piece → IsPagesGround order piece
+pub ground-pages : (order : ℕ) (piece : Segment) → IsGeometry (geometry_on order piece)
+    → IsChunkGround (geometry_on order piece) piece → IsPagesGround order piece
 ground-pages order piece sizes stands =
     let page : ℕ = length piece.bytes / 2 ^ order in
     let size : piece.origin.size ≡ page * 2 ^ order = sym stands.0.1 ∙ stands.1 in

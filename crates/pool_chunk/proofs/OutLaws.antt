@@ -16,7 +16,8 @@ use Rattle.pool_chunk.proofs.Steps.{chosen-begins}
 use mathlib.Core.Logic.{inl, inr}
 
 -- where a run is replaced, the first of the others begins at its page
-run_at-replaced : (rs : Chunk) (at : ℕ) (by : Run Use → List (Run Use)) (r first : Run Use) (tail : Chunk) → NoneEmpty rs → Begins at r rs
+run_at-replaced : (rs : Chunk) (at : ℕ) (by : Run Use → List (Run Use)) (r first : Run Use) (tail : Chunk)
+    → NoneEmpty rs → Begins at r rs
     → by r ≡ first ∷ tail → run_at at (replaced at by rs) ≡ Some first
 run_at-replaced [] at by r first tail ne b is = absurd b
 run_at-replaced (s ∷ rs) at by r first tail ne (inl b) is =
@@ -39,7 +40,9 @@ module _ (before after : ChunkState) (is : IsChunk before.geometry before.runs) 
         page = t.page;
         run = record {
           pages = pages;
-          run = run_at-replaced before.runs t.page (front_used pages Whole) (Free t.long) (Used pages Whole) (rest_of (t.long - pages)) is.none_empty begins.0 refl;
+          run =
+              run_at-replaced before.runs t.page (front_used pages Whole) (Free t.long) (Used pages Whole)
+              (rest_of (t.long - pages)) is.none_empty begins.0 refl;
           piece = record { origin = t.piece.origin; start = t.piece.start; size = t.piece.size };
         };
         place = t.place;
@@ -56,11 +59,14 @@ module _ (before after : ChunkState) (is : IsChunk before.geometry before.runs) 
         pages = pages;
         class = class;
         elements = new_elements (element_count g class);
-        run = run_at-replaced before.runs page (front_used pages (new_subpage g class)) (Free t.long) (Used pages (new_subpage g class)) (rest_of (t.long - pages)) is.none_empty begins.0 refl;
+        run =
+            run_at-replaced before.runs page (front_used pages (new_subpage g class)) (Free t.long)
+            (Used pages (new_subpage g class)) (rest_of (t.long - pages)) is.none_empty begins.0 refl;
       })
 
   -- an element that was taken is out
-  pub element-place : (page : ℕ) (s : Segment) (word : ℕ) → TakesElement before after page s word → IsElementPlace after s word
+  pub element-place : (page : ℕ) (s : Segment) (word : ℕ) → TakesElement before after page s word
+      → IsElementPlace after s word
   element-place page s word t =
       let h = t.subpage in
       let old : Run Use = Used h.pages (Sub h.class h.elements) in
@@ -76,7 +82,10 @@ module _ (before after : ChunkState) (is : IsChunk before.geometry before.runs) 
             pages = h.pages;
             class = h.class;
             elements = with_out h.elements t.element;
-            run = run_at-replaced before.runs page (λ r. Used (pages_in r) (Sub h.class (with_out h.elements t.element)) ∷ []) old new [] is.none_empty begins refl;
+            run =
+                run_at-replaced before.runs page
+                (λ r. Used (pages_in r) (Sub h.class (with_out h.elements t.element)) ∷ []) old new [] is.none_empty
+                begins refl;
           };
           out = element-out h.elements t.element fits.remembers t.next;
           piece = record { origin = t.piece.origin; start = t.piece.start; size = t.piece.size };
@@ -85,7 +94,8 @@ module _ (before after : ChunkState) (is : IsChunk before.geometry before.runs) 
       })
 
 -- a subpage is idle where the give of an element said so
-pub idle-there : (c : ChunkState) (page : ℕ) (h : HasSubpage c page) (element : ℕ) → IsChunk c.geometry c.runs → freed_by h.elements element ≡ Freed.Idle
+pub idle-there : (c : ChunkState) (page : ℕ) (h : HasSubpage c page) (element : ℕ) → IsChunk c.geometry c.runs
+    → freed_by h.elements element ≡ Freed.Idle
     → HasIdleSubpage (element_back c page h element) page
 idle-there c page h element is said =
     let old : Run Use = Used h.pages (Sub h.class h.elements) in
@@ -96,7 +106,8 @@ idle-there c page h element is said =
         class = h.class;
         elements = back;
         run =
-            run_at-replaced c.runs page (λ r. Used (pages_in r) (Sub h.class back) ∷ []) old (Used h.pages (Sub h.class back)) [] is.none_empty
+            run_at-replaced c.runs page (λ r. Used (pages_in r) (Sub h.class back) ∷ []) old
+            (Used h.pages (Sub h.class back)) [] is.none_empty
             (Begins-run_at c.runs page old h.run) refl;
       };
       idle = by (is_idle back) said;

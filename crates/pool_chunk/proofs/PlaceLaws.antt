@@ -23,7 +23,8 @@ AreOnly word fields =
     (page pages index : ℕ) (used sub : Bool) → AreFields page pages index → word ≡ place_word page pages used sub index
     → ◌≡◌ {A = Fields} fields (page, pages, used, sub, index)
 
-module _ (c : Inside) (is : IsHeld c) (v : ChunkState) (same : state_in c ≡ v) (s : Segment) (word : ℕ) (fields : Fields) (only : AreOnly word fields) where
+module _ (c : Inside) (is : IsHeld c) (v : ChunkState) (same : state_in c ≡ v) (s : Segment) (word : ℕ)
+    (fields : Fields) (only : AreOnly word fields) where
   -- of a run they have its page, and say that it is none of a subpage
   run-word : (out : IsRunPlace v s word) → ◌≡◌ {A = Fields} fields (out.page, out.run.pages, true, false, 0)
   run-word out =
@@ -37,13 +38,21 @@ module _ (c : Inside) (is : IsHeld c) (v : ChunkState) (same : state_in c ≡ v)
   run-sub out = ap (λ (f : Fields). f.3) (run-word out)
 
   -- of an element they have its page and its number, and say that it is one of a subpage
-  element-word : (out : IsElementPlace v s word) → ◌≡◌ {A = Fields} fields (out.page, out.element.subpage.pages, true, true, out.index)
+  element-word : (out : IsElementPlace v s word) → ◌≡◌ {A = Fields} fields
+      (out.page, out.element.subpage.pages, true, true, out.index)
   element-word out =
       let h = out.element.subpage in
       let run : Run Use = Used h.pages (Sub h.class h.elements) in
-      let begins = Begins-run_at (runs_in c) out.page run (subst (λ (x : ChunkState). run_at out.page x.runs ≡ Some run) (sym same) h.run) in
+      let begins = Begins-run_at (runs_in c) out.page run
+      (subst (λ (x : ChunkState). run_at out.page x.runs ≡ Some run) (sym same) h.run) in
       let fits = subpage-fits c.classes (runs_in c) out.page h.pages h.class h.elements is.runs.chunk begins in
-      let few : out.index < 2 ^ 32 = omega (arith, out_within out.index h.elements.out out.element.out, fits.elements, few_elements c.classes is.sizes.page h.class fits.small) in
+      let few : out.index < 2 ^ 32 = omega (
+        arith,
+        out_within out.index h.elements.out out.element.out,
+        fits.elements,
+        few_elements c.classes
+            is.sizes.page h.class fits.small,
+      ) in
       only out.page h.pages out.index true true (place-fields c is v same out.page run out.index h.run few) out.place
 
   pub element-page : (out : IsElementPlace v s word) → fields.0 ≡ out.page

@@ -41,7 +41,8 @@ pub record Cuts (run : CutRun) (n class : ℕ) (e : Elements) : Type 0 where
   pub class_is : run.class ≡ class
   pub elements : run.subpage.elements ≡ e
 
-is-cut : (s : Slot) (n class : ℕ) (e : Elements) → entry_of s ≡ Some (n, Sub class e) → (run : CutRun) × (s ≡ Slot.Cut run) × Cuts run n class e
+is-cut : (s : Slot) (n class : ℕ) (e : Elements) → entry_of s ≡ Some (n, Sub class e)
+    → (run : CutRun) × (s ≡ Slot.Cut run) × Cuts run n class e
 is-cut Slot.Nothing n class e h = absurd (cc h)
 is-cut (Slot.Run pages) n class e h = absurd (cc ((both pages n Whole (Sub class e) h).1))
 is-cut (Slot.Cut run) n class e h =
@@ -51,9 +52,12 @@ is-cut (Slot.Cut run) n class e h =
 
 -- ---- the slots of a chunk
 
-module _ (g : Geometry) (spans : List Span) (slots : List Slot) (rs : Chunk) (of : AreOf g spans (map entry_of slots) rs) where
+module _ (g : Geometry) (spans : List Span) (slots : List Slot) (rs : Chunk)
+    (of : AreOf g spans (map entry_of slots) rs) where
   pub length-slots : length slots ≡ total_pages rs
-  length-slots = sym (length-map slots entry_of) ∙ ap (λ (es : List Entry). length es) (sym of.entries) ∙ length-entries rs of.chunk.none_empty
+  length-slots =
+      sym (length-map slots entry_of) ∙ ap (λ (es : List Entry). length es) (sym of.entries)
+      ∙ length-entries rs of.chunk.none_empty
 
   -- a run begins at a page that has a slot
   pub slot-within : (at : ℕ) (r : Run Use) → Begins at r rs → at < length slots
@@ -65,7 +69,8 @@ module _ (g : Geometry) (spans : List Span) (slots : List Slot) (rs : Chunk) (of
       ∙ entries-at rs at r (entry_of d) of.chunk.none_empty b
 
   -- a subpage that begins at a page is cut there
-  pub slot-cuts : (at n class : ℕ) (e : Elements) (x : Slot) (run : CutRun) → Begins at (Used n (Sub class e)) rs → x ≡ get_or slots at x → x ≡ Slot.Cut run
+  pub slot-cuts : (at n class : ℕ) (e : Elements) (x : Slot) (run : CutRun) → Begins at (Used n (Sub class e)) rs
+      → x ≡ get_or slots at x → x ≡ Slot.Cut run
       → Cuts run n class e
   slot-cuts at n class e x run b here cut =
       let entry : ◌≡◌ {A = Entry} (Some (run.pages, Sub run.class run.subpage.elements)) (Some (n, Sub class e)) =
@@ -83,16 +88,23 @@ module _ (g : Geometry) (spans : List Span) (slots : List Slot) (rs : Chunk) (of
   pub slot-cut : (at n class : ℕ) (e : Elements) → Begins at (Used n (Sub class e)) rs
       → (run : CutRun) × ((d : Slot) → get_or slots at d ≡ Slot.Cut run) × Cuts run n class e
   slot-cut at n class e b =
-      let found = is-cut (get_or slots at Slot.Nothing) n class e (slot-entry at (Used n (Sub class e)) Slot.Nothing b) in
-      (found.0, (λ d. get_or_default slots at d Slot.Nothing (slot-within at (Used n (Sub class e)) b) ∙ found.1), found.2)
+      let found = is-cut (get_or slots at Slot.Nothing) n class e
+      (slot-entry at (Used n (Sub class e)) Slot.Nothing b) in (
+        found.0,
+        (λ d. get_or_default slots at d Slot.Nothing (slot-within at (Used n (Sub class e)) b) ∙ found.1),
+        found.2,
+      )
 
   -- something begins at the page of a run in use, and nothing at its other pages
-  pub slot-some : (at n : ℕ) (what : Use) (x : Slot) → Begins at (Used n what) rs → x ≡ get_or slots at x → x ≡ Slot.Nothing → ⊥
+  pub slot-some : (at n : ℕ) (what : Use) (x : Slot) → Begins at (Used n what) rs → x ≡ get_or slots at x
+      → x ≡ Slot.Nothing → ⊥
   slot-some at n what x b here nothing =
-      let entry : ◌≡◌ {A = Entry} None (Some (n, what)) = ap entry_of (sym nothing) ∙ ap entry_of here ∙ slot-entry at (Used n what) x b in
+      let entry : ◌≡◌ {A = Entry} None (Some (n, what)) = ap entry_of (sym nothing) ∙ ap entry_of here
+      ∙ slot-entry at (Used n what) x b in
       absurd (cc entry)
 
-  pub slot-inside : (at k n : ℕ) (what : Use) (x : Slot) → Begins at (Used n what) rs → at < k → k < at + n → x ≡ get_or slots k x → x ≡ Slot.Nothing
+  pub slot-inside : (at k n : ℕ) (what : Use) (x : Slot) → Begins at (Used n what) rs → at < k → k < at + n
+      → x ≡ get_or slots k x → x ≡ Slot.Nothing
   slot-inside at k n what x b from within here =
       is-nothing x (
       ap entry_of here
@@ -101,11 +113,13 @@ module _ (g : Geometry) (spans : List Span) (slots : List Slot) (rs : Chunk) (of
       )
 
 -- the entries once a slot changes
-pub entries-set : (slots : List Slot) (at : ℕ) (s : Slot) (x : Entry) → entry_of s ≡ x → map entry_of (slice_set slots at s) ≡ slice_set (map entry_of slots) at x
+pub entries-set : (slots : List Slot) (at : ℕ) (s : Slot) (x : Entry) → entry_of s ≡ x
+    → map entry_of (slice_set slots at s) ≡ slice_set (map entry_of slots) at x
 entries-set slots at s x e = map-set entry_of slots at s ∙ ap (λ (y : Entry). slice_set (map entry_of slots) at y) e
 
 -- the slots of a vector once one of them is written
-pub written : (v : Vec Slot Global) (looked new : List Slot) (at : ℕ) (s : Slot) → looked ≡ v.items → new ≡ slice_set looked at s
+pub written : (v : Vec Slot Global) (looked new : List Slot) (at : ℕ) (s : Slot) → looked ≡ v.items
+    → new ≡ slice_set looked at s
     → (with_items v new).items ≡ slice_set v.items at s
 written v looked new at s same is =
     let items = is ∙ ap (λ (slots : List Slot). slice_set slots at s) same in
@@ -113,19 +127,22 @@ written v looked new at s same is =
 
 -- ---- where they lie
 
-pub placed-set : (o : Origin) (page from at : ℕ) (slots : List Slot) (s : Slot) → ArePlaced o page from slots → IsPlaced o page (from + at) s
+pub placed-set : (o : Origin) (page from at : ℕ) (slots : List Slot) (s : Slot) → ArePlaced o page from slots
+    → IsPlaced o page (from + at) s
     → ArePlaced o page from (slice_set slots at s)
 placed-set o page from at [] s h k = h
 placed-set o page from zero (t ∷ slots) s h k = (subst (λ (i : ℕ). IsPlaced o page i s) (omega arith) k, h.1)
 placed-set o page from (suc at) (t ∷ slots) s h k =
     (h.0, placed-set o page (from + 1) at slots s h.1 (subst (λ (i : ℕ). IsPlaced o page i s) (omega arith) k))
 
-pub placed-get : (o : Origin) (page from at : ℕ) (slots : List Slot) (d : Slot) → ArePlaced o page from slots → at < length slots
+pub placed-get : (o : Origin) (page from at : ℕ) (slots : List Slot) (d : Slot) → ArePlaced o page from slots
+    → at < length slots
     → IsPlaced o page (from + at) (get_or slots at d)
 placed-get o page from at [] d h less = absurd (omega arith)
 placed-get o page from zero (t ∷ slots) d h less = subst (λ (i : ℕ). IsPlaced o page i t) (omega arith) h.0
 placed-get o page from (suc at) (t ∷ slots) d h less =
-    subst (λ (i : ℕ). IsPlaced o page i (get_or slots at d)) (omega arith) (placed-get o page (from + 1) at slots d h.1 (omega (arith, less)))
+    subst (λ (i : ℕ). IsPlaced o page i (get_or slots at d)) (omega arith)
+    (placed-get o page (from + 1) at slots d h.1 (omega (arith, less)))
 
 -- slots at which nothing begins
 pub entries-nothing : (n : ℕ) → map entry_of (replicate n Slot.Nothing) ≡ replicate n None
@@ -137,7 +154,8 @@ placed-nothing o page from zero = tt
 placed-nothing o page from (suc n) = (tt, placed-nothing o page (from + 1) n)
 
 -- and the other way round
-pub all-nothing : (n : ℕ) (slots : List Slot) → map entry_of slots ≡ replicate n None → (k : ℕ) (d : Slot) → k < length slots → get_or slots k d ≡ Slot.Nothing
+pub all-nothing : (n : ℕ) (slots : List Slot) → map entry_of slots ≡ replicate n None → (k : ℕ) (d : Slot)
+    → k < length slots → get_or slots k d ≡ Slot.Nothing
 all-nothing n [] e k d less = absurd (omega arith)
 all-nothing zero (s ∷ slots) e k d less = absurd (cc e)
 all-nothing (suc n) (s ∷ slots) e zero d less = is-nothing s (cc e)

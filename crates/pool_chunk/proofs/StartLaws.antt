@@ -29,7 +29,8 @@ module _ (c : Inside) (is : IsHeld c) (page : ℕ) (h : IsInUse (state_in c) pag
       )
 
   -- a page at which nothing begins is behind the start
-  pub start-behind : (at : ℕ) (x : Slot) → h.start ≤ at → x ≡ get_or c.slots.items at x → x ≡ Slot.Nothing → h.start < at
+  pub start-behind : (at : ℕ) (x : Slot) → h.start ≤ at → x ≡ get_or c.slots.items at x → x ≡ Slot.Nothing
+      → h.start < at
   start-behind at x from here nothing = by (cases_lt h.start at)
     where
       by : (h.start < at) ⊎ (at ≤ h.start) → h.start < at
@@ -40,13 +41,15 @@ module _ (c : Inside) (is : IsHeld c) (page : ℕ) (h : IsInUse (state_in c) pag
           (subst (λ (k : ℕ). x ≡ get_or c.slots.items k x) same here) nothing)
 
   -- the first at which something does, from the page down, is the start
-  pub start-found : (at : ℕ) (x : Slot) → h.start ≤ at → at ≤ page → x ≡ get_or c.slots.items at x → (x ≡ Slot.Nothing → ⊥)
+  pub start-found : (at : ℕ) (x : Slot) → h.start ≤ at → at ≤ page → x ≡ get_or c.slots.items at x
+      → (x ≡ Slot.Nothing → ⊥)
       → at ≡ run_start page (runs_in c)
   start-found at x from le here some = by (cases_lt h.start at)
     where
       by : (h.start < at) ⊎ (at ≤ h.start) → at ≡ run_start page (runs_in c)
       by (inl lt) =
-          absurd (some (slot-inside c.classes c.map.runs c.slots.items (runs_in c) is.runs h.start at h.pages h.what x start-begins lt (omega (arith, le, h.within)) here))
+          absurd (some (slot-inside c.classes c.map.runs c.slots.items (runs_in c) is.runs h.start at h.pages h.what x
+          start-begins lt (omega (arith, le, h.within)) here))
       by (inr low) =
           let same : at ≡ h.start = omega (arith, low, from) in
           same ∙ sym (run_start-Begins (runs_in c) h.start page (Used h.pages h.what) start-begins h.from h.within)

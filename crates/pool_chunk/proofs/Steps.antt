@@ -20,26 +20,31 @@ use Rattle.pool_chunk.proofs.ChunkLaws.{Fits, run-some, taken-chunk, given-chunk
 use mathlib.Core.Logic.{inl, inr}
 
 -- the runs are those that their free runs and entries make
-pub the-runs : (g : Geometry) (spans : List Span) (es : List Entry) (rs : Chunk) → AreOf g spans es rs → runs_from 0 spans es ≡ rs
+pub the-runs : (g : Geometry) (spans : List Span) (es : List Entry) (rs : Chunk) → AreOf g spans es rs
+    → runs_from 0 spans es ≡ rs
 the-runs g spans es rs of =
     ap (λ (ss : List Span). runs_from 0 ss es) (sym of.free)
     ∙ ap (λ (xs : List Entry). runs_from 0 (free_runs 0 rs) xs) (sym of.entries)
     ∙ runs_from-entries 0 rs of.chunk.none_empty
 
 -- so what is of the runs is of those
-pub of-runs : (g : Geometry) (spans : List Span) (es : List Entry) (rs : Chunk) → AreOf g spans es rs → AreOf g spans es (runs_from 0 spans es)
+pub of-runs : (g : Geometry) (spans : List Span) (es : List Entry) (rs : Chunk) → AreOf g spans es rs
+    → AreOf g spans es (runs_from 0 spans es)
 of-runs g spans es rs of = subst (λ (xs : Chunk). AreOf g spans es xs) (sym (the-runs g spans es rs of)) of
 
 -- the free runs don't change with the elements of a subpage
-free_runs-elements : (rs : Chunk) (from at n class : ℕ) (e f : Elements) → NoneEmpty rs → Begins at (Used n (Sub class e)) rs
+free_runs-elements : (rs : Chunk) (from at n class : ℕ) (e f : Elements) → NoneEmpty rs
+    → Begins at (Used n (Sub class e)) rs
     → free_runs from (with_elements at class f rs) ≡ free_runs from rs
 free_runs-elements [] from at n class e f ne b = absurd b
 free_runs-elements (Free m ∷ rs) from at n class e f ne (inl b) = absurd (cc b.1)
-free_runs-elements (Used m w ∷ rs) from at n class e f ne (inl b) = let here : (at == 0) ≡ true = eq-eqb at 0 b.0 in rw here refl
+free_runs-elements (Used m w ∷ rs) from at n class e f ne (inl b) =
+    let here : (at == 0) ≡ true = eq-eqb at 0 b.0 in rw here refl
 free_runs-elements (r ∷ rs) from at n class e f ne (inr b) =
     let not_here : (at == 0) ≡ false = ne_eqb at 0 (λ h. omega (arith, h, ne.0, b.1)) in
     let rest : at - pages_in r ≡ b.0 = omega (arith, b.1) in
-    rw (not_here, rest) (ap (λ (ss : List Span). add_free from r ss) (free_runs-elements rs (from + pages_in r) b.0 n class e f ne.1 b.2))
+    rw (not_here, rest) (ap (λ (ss : List Span). add_free from r ss)
+    (free_runs-elements rs (from + pages_in r) b.0 n class e f ne.1 b.2))
 
 module _ (g : Geometry) (spans : List Span) (es : List Entry) (rs : Chunk) (at : ℕ) (of : AreOf g spans es rs) where
   -- the front of a free run comes into use
@@ -47,17 +52,24 @@ module _ (g : Geometry) (spans : List Span) (es : List Entry) (rs : Chunk) (at :
       → AreOf g (taken_from at pages spans) (slice_set es at (Some (pages, what))) (taken_at at pages what rs)
   taken-of n pages what b some fits good =
       record {
-        free = free_runs-taken rs 0 at n pages what of.chunk.none_empty b fits ∙ ap (λ (k : ℕ). taken_from k pages (free_runs 0 rs)) (zero-add at)
+        free =
+            free_runs-taken rs 0 at n pages what of.chunk.none_empty b fits
+            ∙ ap (λ (k : ℕ). taken_from k pages (free_runs 0 rs)) (zero-add at)
             ∙ ap (λ (ss : List Span). taken_from at pages ss) of.free;
-        entries = entries-taken rs at n pages what of.chunk.none_empty b some fits ∙ ap (λ (xs : List Entry). slice_set xs at (Some (pages, what))) of.entries;
+        entries =
+            entries-taken rs at n pages what of.chunk.none_empty b some fits
+            ∙ ap (λ (xs : List Entry). slice_set xs at (Some (pages, what))) of.entries;
         chunk = taken-chunk g rs at of.chunk n pages what b some fits good;
       }
 
   -- a run in use is given back
-  pub given-of : (n : ℕ) (what : Use) → Begins at (Used n what) rs → AreOf g (given_back (at, n) spans) (slice_set es at None) (given_at at rs)
+  pub given-of : (n : ℕ) (what : Use) → Begins at (Used n what) rs
+      → AreOf g (given_back (at, n) spans) (slice_set es at None) (given_at at rs)
   given-of n what b =
       record {
-        free = free_runs-given rs 0 at n what of.chunk.none_empty b ∙ ap (λ (k : ℕ). given_back (k, n) (free_runs 0 rs)) (zero-add at)
+        free =
+            free_runs-given rs 0 at n what of.chunk.none_empty b
+            ∙ ap (λ (k : ℕ). given_back (k, n) (free_runs 0 rs)) (zero-add at)
             ∙ ap (λ (ss : List Span). given_back (at, n) ss) of.free;
         entries = entries-given rs at n what of.chunk.none_empty b (run-some rs at (Used n what) of.chunk.none_empty b)
             ∙ ap (λ (xs : List Entry). slice_set xs at None) of.entries;
@@ -71,7 +83,9 @@ module _ (g : Geometry) (spans : List Span) (es : List Entry) (rs : Chunk) (at :
       let new : Chunk = with_elements at class f rs in
       record {
         free = free_runs-elements rs 0 at n class e f of.chunk.none_empty b ∙ of.free;
-        entries = entries-elements rs at n class e f of.chunk.none_empty b ∙ ap (λ (xs : List Entry). slice_set xs at (Some (n, Sub class f))) of.entries;
+        entries =
+            entries-elements rs at n class e f of.chunk.none_empty b
+            ∙ ap (λ (xs : List Entry). slice_set xs at (Some (n, Sub class f))) of.entries;
         chunk = elements-chunk g rs at of.chunk n class e f b good;
       }
 
@@ -80,7 +94,9 @@ module _ (g : Geometry) (spans : List Span) (es : List Entry) (rs : Chunk) (at :
   run-out n what b = (
     run-some rs at (Used n what) of.chunk.none_empty b,
     omega (arith, Begins-inside rs at (Used n what) b, of.chunk.covers),
-    subst (λ (ss : List Span). All (AreApart (at, n)) ss) of.free (all (free_runs 0 rs) (EachPair-map (IsFree 0 rs) (AreApart (at, n)) apart (free_runs 0 rs) (free_runs-free rs 0))),
+    subst (λ (ss : List Span). All (AreApart (at, n)) ss) of.free
+        (all (free_runs 0 rs) (EachPair-map (IsFree 0 rs) (AreApart (at, n)) apart (free_runs 0 rs)
+        (free_runs-free rs 0))),
   )
     where
       all : (ss : List Span) → EachPair (AreApart (at, n)) ss → All (AreApart (at, n)) ss
@@ -92,28 +108,35 @@ module _ (g : Geometry) (spans : List Span) (es : List Entry) (rs : Chunk) (at :
       apart x free = by (cases_lt at free.0) (cases_eq at free.0)
         where
           by : (at < free.0) ⊎ (free.0 ≤ at) → (at ≡ free.0) ⊎ (at ≡ free.0 → ⊥) → AreApart (at, n) x
-          by (inl before) e = inl (omega (arith, Begins-apart rs at free.0 (Used n what) (Free x.1) b free.2 before, free.1))
-          by (inr past) (inl e) = absurd (cc (Begins-one rs free.0 (Used n what) (Free x.1) of.chunk.none_empty (subst (λ k. Begins k (Used n what) rs) e b) free.2))
+          by (inl before) e =
+              inl (omega (arith, Begins-apart rs at free.0 (Used n what) (Free x.1) b free.2 before, free.1))
+          by (inr past) (inl e) =
+              absurd (cc (Begins-one rs free.0 (Used n what) (Free x.1) of.chunk.none_empty
+              (subst (λ k. Begins k (Used n what) rs) e b) free.2))
           by (inr past) (inr ne) =
               let behind : free.0 < at = omega (arith, past, ne) in
               inr (omega (arith, Begins-apart rs free.0 at (Free x.1) (Used n what) free.2 b behind, free.1))
 
 -- the run that is chosen is free, and holds the pages
-pub chosen-begins : (g : Geometry) (pages at long : ℕ) (rs : Chunk) → chosen g pages (free_runs 0 rs) ≡ Some (at, long) → Begins at (Free long) rs × (pages ≤ long)
+pub chosen-begins : (g : Geometry) (pages at long : ℕ) (rs : Chunk) → chosen g pages (free_runs 0 rs) ≡ Some (at, long)
+    → Begins at (Free long) rs × (pages ≤ long)
 chosen-begins g pages at long rs e =
     subst (λ (o : Option Span). IfThere (λ x. Begins x.0 (Free x.1) rs × (pages ≤ x.1)) o) e (chosen-free g pages rs)
 
 -- the pages of the free runs
 pub sum-free : (rs : Chunk) (from : ℕ) → sum (run_lengths (free_runs from rs)) ≡ free_pages rs
 sum-free [] from = refl
-sum-free (Free n ∷ rs) from = omega (arith, sum_by-cons (λ x. x) n (run_lengths (free_runs (from + n) rs)), sum-free rs (from + n))
+sum-free (Free n ∷ rs) from =
+    omega (arith, sum_by-cons (λ x. x) n (run_lengths (free_runs (from + n) rs)), sum-free rs (from + n))
 sum-free (Used n what ∷ rs) from = omega (arith, sum-free rs (from + n))
 
 -- the bytes of the free runs
-pub free-bytes : (g : Geometry) (spans : List Span) (es : List Entry) (rs : Chunk) (page : ℕ) → AreOf g spans es rs → page ≡ page_of g
+pub free-bytes : (g : Geometry) (spans : List Span) (es : List Entry) (rs : Chunk) (page : ℕ) → AreOf g spans es rs
+    → page ≡ page_of g
     → sum (run_lengths spans) * page ≡ free_bytes g rs
 free-bytes g spans es rs page of is =
-    let pages : sum (run_lengths spans) ≡ free_pages rs = ap (λ (ss : List Span). sum (run_lengths ss)) (sym of.free) ∙ sum-free rs 0 in
+    let pages : sum (run_lengths spans) ≡ free_pages rs = ap (λ (ss : List Span). sum (run_lengths ss)) (sym of.free)
+    ∙ sum-free rs 0 in
     ap (λ (k : ℕ). sum (run_lengths spans) * k) is ∙ ap (λ (n : ℕ). n * page_of g) pages
     ∙ mul_comm (free_pages rs) (page_of g)
 

@@ -9,10 +9,12 @@ use Rattle.size_classes.proofs.SmallClasses.{small_below}
 abbrev passes : Geometry → ℕ → Bool
 passes g class =
     (subpage_pages g class * page_of g % size_at class == 0)
-    && ((element_count g class * size_at class == page_of g * subpage_pages g class) && nat_le (element_count g class) 2048)
+    && ((element_count g class * size_at class == page_of g * subpage_pages g class) && nat_le (element_count g class)
+    2048)
 
 -- each of the first classes passes
-first_pass : (page : ℕ) → IsPage page → (class : ℕ) → class < 4 * page_shift page - 13 → passes (of_pages 9 page) class ≡ true
+first_pass : (page : ℕ) → IsPage page → (class : ℕ) → class < 4 * page_shift page - 13
+    → passes (of_pages 9 page) class ≡ true
 first_pass =
     by_page (λ page. (class : ℕ) → class < 4 * page_shift page - 13 → passes (of_pages 9 page) class ≡ true)
     (λ class few. agree_below_at (passes (of_pages 9 4096)) (λ _. true) 35 class refl few)
@@ -34,13 +36,20 @@ right false b e = absurd (cc e)
 
 module _ (g : Geometry) (h : IsPage g.page) (class : ℕ) (small : is_small g class ≡ true) where
   pub whole_elements : subpage_pages g class * page_of g % size_at class ≡ 0
-  whole_elements = eqb-true (subpage_pages g class * page_of g % size_at class) 0 (left (subpage_pages g class * page_of g % size_at class == 0) _ (all_pass g h class small))
+  whole_elements =
+      eqb-true (subpage_pages g class * page_of g % size_at class) 0
+      (left (subpage_pages g class * page_of g % size_at class == 0) _ (all_pass g h class small))
 
-  others : ((element_count g class * size_at class == page_of g * subpage_pages g class) && nat_le (element_count g class) 2048) ≡ true
+  others : ((element_count g class * size_at class == page_of g * subpage_pages g class) && nat_le
+      (element_count g class) 2048) ≡ true
   others = right (subpage_pages g class * page_of g % size_at class == 0) _ (all_pass g h class small)
 
   pub elements_fill : element_count g class * size_at class ≡ page_of g * subpage_pages g class
-  elements_fill = eqb-true (element_count g class * size_at class) (page_of g * subpage_pages g class) (left (element_count g class * size_at class == page_of g * subpage_pages g class) _ others)
+  elements_fill =
+      eqb-true (element_count g class * size_at class) (page_of g * subpage_pages g class)
+      (left (element_count g class * size_at class == page_of g * subpage_pages g class) _ others)
 
   pub few_elements : element_count g class ≤ 2048
-  few_elements = leb-true (element_count g class) 2048 (right (element_count g class * size_at class == page_of g * subpage_pages g class) _ others)
+  few_elements =
+      leb-true (element_count g class) 2048
+      (right (element_count g class * size_at class == page_of g * subpage_pages g class) _ others)

@@ -21,25 +21,33 @@ same_bytes-refl [] = refl
 same_bytes-refl (x ∷ xs) = rw (same_number x, same_bytes-refl xs) refl
 
 -- an access to a root that is present is read
-pub access-is : {A : Type 0} (root : RootId) (says : Did → Option A) (n : ℕ) (did : Did) (log : Log) (e : Entry) (rest : Entries) →
+pub access-is : {A : Type 0} (root : RootId) (says : Did → Option A) (n : ℕ) (did : Did) (log : Log) (e : Entry)
+    (rest : Entries) →
     log.left ≡ e ∷ rest → e.note ≡ Note.At (Object.Root root.place) n did → root_is root e.root ≡ true →
     access root says log ≡ option_map (λ a. (a, behind_entry log e rest)) (says did)
 access-is root says n did log e rest left is here =
-    ap (λ es. first_of_left (λ x. if root_is root x.root then option_and_then says (done_at (Object.Root root.place) x.note) else None) log es) left
-    ∙ ap (λ b. option_map (λ a. (a, behind_entry log e rest)) (if b then option_and_then says (done_at (Object.Root root.place) e.note) else None)) here
-    ∙ ap (λ d. option_map (λ a. (a, behind_entry log e rest)) (option_and_then says d)) (ap (done_at (Object.Root root.place)) is ∙ done_at-is (Object.Root root.place) n did)
+    ap (λ es. first_of_left (λ x. if root_is root x.root then option_and_then says
+    (done_at (Object.Root root.place) x.note) else None) log es) left
+    ∙ ap (λ b. option_map (λ a. (a, behind_entry log e rest))
+    (if b then option_and_then says (done_at (Object.Root root.place) e.note) else None)) here
+    ∙ ap (λ d. option_map (λ a. (a, behind_entry log e rest)) (option_and_then says d))
+    (ap (done_at (Object.Root root.place)) is ∙ done_at-is (Object.Root root.place) n did)
 
 -- after the get and the set of a part, the others are copied behind it
-pub copy_parts-goes_on : (root : RootId) (at n m : ℕ) (bytes : List ℕ) (p : Part) (ps : List Part) (log : Log) (e f : Entry) (rest : Entries) →
+pub copy_parts-goes_on : (root : RootId) (at n m : ℕ) (bytes : List ℕ) (p : Part) (ps : List Part) (log : Log)
+    (e f : Entry) (rest : Entries) →
     log.left ≡ e ∷ f ∷ rest →
-    e.note ≡ Note.At (Object.Root p.root.place) n (Did.Get p.offset bytes) → root_is p.root e.root ≡ true → length bytes ≡ p.len →
+    e.note ≡ Note.At (Object.Root p.root.place) n (Did.Get p.offset bytes) → root_is p.root e.root ≡ true
+    → length bytes ≡ p.len →
     f.note ≡ Note.At (Object.Root root.place) m (Did.Set at bytes) → root_is root f.root ≡ true →
-    copy_parts root at (p ∷ ps) log ≡ copy_parts root (at + p.len) ps (behind_entry (behind_entry log e (f ∷ rest)) f rest)
+    copy_parts root at (p ∷ ps) log ≡ copy_parts root (at + p.len) ps
+    (behind_entry (behind_entry log e (f ∷ rest)) f rest)
 copy_parts-goes_on root at n m bytes p ps log e f rest left gets here long sets there =
     let first : access p.root (say.get p.offset p.len) log ≡ Some (bytes, behind_entry log e (f ∷ rest)) =
     access-is p.root (say.get p.offset p.len) n (Did.Get p.offset bytes) log e (f ∷ rest) left gets here
     ∙ rw (same_number p.offset, eq-eqb (length bytes) p.len long) refl in
-    let second : access root (say.set at bytes) (behind_entry log e (f ∷ rest)) ≡ Some (tt, behind_entry (behind_entry log e (f ∷ rest)) f rest) =
+    let second : access root (say.set at bytes) (behind_entry log e (f ∷ rest))
+    ≡ Some (tt, behind_entry (behind_entry log e (f ∷ rest)) f rest) =
     access-is root (say.set at bytes) m (Did.Set at bytes) (behind_entry log e (f ∷ rest)) f rest refl sets there
     ∙ rw (same_number at, same_bytes-refl bytes) refl in
     rw (first, second) refl

@@ -33,8 +33,10 @@ pub listed : (first n p : ℕ) → first ≤ p → p < first + n → list_any (n
 listed first zero p least most = absurd (omega arith)
 listed first (suc n) p least most =
     any-more (nat_eq p) first n ∙ ⊎_elim
-    (λ same. ap (λ b. list_any (nat_eq p) (numbers first n) || (b || false)) same ∙ or-true (list_any (nat_eq p) (numbers first n)))
-    (λ other. ap (λ b. b || (nat_eq p (first + n) || false)) (listed first n p least (omega (arith, eqb-false p (first + n) other))))
+    (λ same. ap (λ b. list_any (nat_eq p) (numbers first n) || (b || false)) same
+    ∙ or-true (list_any (nat_eq p) (numbers first n)))
+    (λ other. ap (λ b. b || (nat_eq p (first + n) || false))
+    (listed first n p least (omega (arith, eqb-false p (first + n) other))))
     (cases_Bool (nat_eq p (first + n)))
   where
     or-true : (b : Bool) → (b || true) ≡ true

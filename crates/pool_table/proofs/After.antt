@@ -46,13 +46,19 @@ pub record LeavesAlone (r : RegionId) (e : Entry) : Type 0 where
   pub unused : lays (uses_in r) e ≡ 0
 
 its_own : (r : RegionId) → (is_taking r r ≡ 1) × (uses_in r r ≡ r.uses)
-its_own r = (ap (λ (b : Bool). cond {A = ℕ} b 1 0) (same_taking-refl r), ap (λ (b : Bool). cond {A = ℕ} b r.uses 0) (same_taking-refl r))
+its_own r = (
+  ap (λ (b : Bool). cond {A = ℕ} b 1 0) (same_taking-refl r),
+  ap (λ (b : Bool). cond {A = ℕ} b r.uses 0)
+      (same_taking-refl r),
+)
 
 itself : (q : RootId) → cond {A = ℕ} (is_root q.place q.generation q) 1 0 ≡ 1
 itself q = λ i. cond {A = ℕ} (eq-eqb q.place q.place refl i && eq-eqb q.generation q.generation refl i) 1 0
 
 as_itself : (q : RootId) → cond {A = ℕ} (is_root q.place q.generation q && eqb q.capacity q.capacity) 1 0 ≡ 1
-as_itself q = λ i. cond {A = ℕ} ((eq-eqb q.place q.place refl i && eq-eqb q.generation q.generation refl i) && eq-eqb q.capacity q.capacity refl i) 1 0
+as_itself q =
+    λ i. cond {A = ℕ} ((eq-eqb q.place q.place refl i && eq-eqb q.generation q.generation refl i) && eq-eqb q.capacity
+    q.capacity refl i) 1 0
 
 module _ (v : SeatView) (o : Object) (k : ℕ) (n : Noted) (t : ℕ) where
   abbrev e : Entry
@@ -66,46 +72,73 @@ module _ (v : SeatView) (o : Object) (k : ℕ) (n : Noted) (t : ℕ) where
   after_handle p is handy =
       let a = weigh_entry (at_in p) v e t in let b = weigh_entry (at_out p) v e t in
       let c = weigh_entry (on_place ref_born p) v e t in let d = weigh_entry (on_place ref_vacated p) v e t in
-      let one : did_handle p n.did ≡ 1 = ap (did_handle p) is ∙ ap (λ (b : Bool). cond {A = ℕ} b 1 0) (eq-eqb p p refl) in
+      let one : did_handle p n.did ≡ 1 = ap (did_handle p) is
+      ∙ ap (λ (b : Bool). cond {A = ℕ} b 1 0) (eq-eqb p p refl) in
       let none : did_home p n.did ≡ 0 = ap (did_home p) is in omega (arith, a, b, c, d, one, none, handy)
 
   -- the birth that was noted waits
   pub after_birth : (q : RootId) (x : RegionId) → n.did ≡ Birth q x → IsOrderly v → Waits q w
   after_birth q x is fine =
       let a = weigh_entry (on_place ref_born q.place) v e t in let b = weigh_entry (at_birth q.place) v e t in
-      let c = weigh_entry (on_root ref_born q.place q.generation) v e t in let d = weigh_entry (at_birth_of q.place q.generation) v e t in
+      let c = weigh_entry (on_root ref_born q.place q.generation) v e t in let d =
+      weigh_entry (at_birth_of q.place q.generation) v e t in
       let f = weigh_entry (at_birth_as q.place q.generation q.capacity) v e t in
-      let x1 : did_birth q.place n.did ≡ 1 = ap (did_birth q.place) is ∙ ap (λ (b : Bool). cond {A = ℕ} b 1 0) (eq-eqb q.place q.place refl) in
+      let x1 : did_birth q.place n.did ≡ 1 = ap (did_birth q.place) is
+      ∙ ap (λ (b : Bool). cond {A = ℕ} b 1 0) (eq-eqb q.place q.place refl) in
       let x2 : did_birth_of q.place q.generation n.did ≡ 1 = ap (did_birth_of q.place q.generation) is ∙ itself q in
-      let x3 : did_birth_as q.place q.generation q.capacity n.did ≡ 1 = ap (did_birth_as q.place q.generation q.capacity) is ∙ as_itself q in
+      let x3 : did_birth_as q.place q.generation q.capacity n.did
+      ≡ 1 = ap (did_birth_as q.place q.generation q.capacity) is ∙ as_itself q in
       let y1 = fine.borne q.place in let y2 = fine.borne_of q.place q.generation in
-      record { place = omega (arith, a, b, x1, y1); generation = omega (arith, c, d, x2, y2); capacity = omega (arith, f, x3) }
+      record {
+        place = omega (arith, a, b, x1, y1);
+        generation = omega (arith, c, d, x2, y2);
+        capacity =
+            omega (arith, f, x3);
+      }
 
   -- the end is noted, and the place not vacated
   pub after_end : (q : RootId) → n.did ≡ End q → weigh (on_this ref_vacated q) v ≤ weigh (ends q) v → HasEnded q w
   after_end q is vacated =
       let a = weigh_entry (on_this ref_vacated q) v e t in let b = weigh_entry (ends q) v e t in
-      let one : did_end_of q n.did ≡ 1 = ap (did_end_of q) is ∙ ap (λ (b : Bool). cond {A = ℕ} b 1 0) (same_root-refl q) in omega (arith, a, b, one, vacated)
+      let one : did_end_of q n.did ≡ 1 = ap (did_end_of q) is
+      ∙ ap (λ (b : Bool). cond {A = ℕ} b 1 0) (same_root-refl q) in
+      omega (arith, a, b, one, vacated)
 
   -- a root that was fetched is counted
-  pub after_fetch : (q : Parcel) (x : ViewData) → n.did ≡ Fetch q → q.view ≡ Some x → lost_of x.root v ≤ gained_of x.root v → HasCount x.root w
+  pub after_fetch : (q : Parcel) (x : ViewData) → n.did ≡ Fetch q → q.view ≡ Some x
+      → lost_of x.root v ≤ gained_of x.root v → HasCount x.root w
   after_fetch q x is has counted =
       let r : RootId = x.root in
       let a = weigh_entry (on_this ref_gain r) v e t in let b = weigh_entry (on_this ref_loss r) v e t in
       let c = weigh_entry (fetches r) v e t in let d = weigh_entry (posts r) v e t in
-      let one : did_fetch_of r n.did ≡ 1 = ap (did_fetch_of r) is ∙ (ap (view_of_root r) has ∙ ap (λ (b : Bool). cond {A = ℕ} b 1 0) (same_root-refl r)) in
+      let one : did_fetch_of r n.did ≡ 1 = ap (did_fetch_of r) is
+      ∙ (ap (view_of_root r) has ∙ ap (λ (b : Bool). cond {A = ℕ} b 1 0) (same_root-refl r)) in
       let none : did_post_of r n.did ≡ 0 = ap (did_post_of r) is in omega (arith, a, b, c, d, one, none, counted)
 
   -- a region that was taken up is in hand
   lifted : (r : RegionId) → TakesUp r n → Lifts r e
   lifted r up = by n.did n.region (its_own r) up
     where
-      by : (d : Did) (region : Option RegionId) → (is_taking r r ≡ 1) × (uses_in r r ≡ r.uses) → ((c : ℕ) × (d ≡ Take c r)) ⊎ ((d ≡ Hit r) ⊎ ((d ≡ Shed r) ⊎ ((root : RootId) × (d ≡ End root) × (region ≡ Some r)))) →
+      by : (d : Did) (region : Option RegionId) → (is_taking r r ≡ 1) × (uses_in r r ≡ r.uses)
+          → ((c : ℕ) × (d ≡ Take c r)) ⊎ ((d ≡ Hit r)
+          ⊎ ((d ≡ Shed r) ⊎ ((root : RootId) × (d ≡ End root) × (region ≡ Some r)))) →
           Lifts r (At o k (record n { did = d; region = region }))
-      by d region own (inl (c, is)) = subst (λ (d : Did). Lifts r (At o k (record n { did = d; region = region }))) (sym is) (let a = own.0 in let b = own.1 in record { one = omega (arith, a); uses = omega (arith, b); none = refl; unused = refl; unborn = refl })
-      by d region own (inr (inl is)) = subst (λ (d : Did). Lifts r (At o k (record n { did = d; region = region }))) (sym is) (let a = own.0 in let b = own.1 in record { one = omega (arith, a); uses = omega (arith, b); none = refl; unused = refl; unborn = refl })
-      by d region own (inr (inr (inl is))) = subst (λ (d : Did). Lifts r (At o k (record n { did = d; region = region }))) (sym is) (let a = own.0 in let b = own.1 in record { one = omega (arith, a); uses = omega (arith, b); none = refl; unused = refl; unborn = refl })
-      by d region own (inr (inr (inr (root, is, has)))) = subst (λ (y : Did × Option RegionId). Lifts r (At o k (record n { did = y.0; region = y.1 }))) (λ i. (sym is i, sym has i)) (let a = own.0 in let b = own.1 in record { one = omega (arith, a); uses = omega (arith, b); none = refl; unused = refl; unborn = refl })
+      by d region own (inl (c, is)) =
+          subst (λ (d : Did). Lifts r (At o k (record n { did = d; region = region }))) (sym is)
+          (let a = own.0 in let b = own.1 in record
+          { one = omega (arith, a); uses = omega (arith, b); none = refl; unused = refl; unborn = refl })
+      by d region own (inr (inl is)) =
+          subst (λ (d : Did). Lifts r (At o k (record n { did = d; region = region }))) (sym is)
+          (let a = own.0 in let b = own.1 in record
+          { one = omega (arith, a); uses = omega (arith, b); none = refl; unused = refl; unborn = refl })
+      by d region own (inr (inr (inl is))) =
+          subst (λ (d : Did). Lifts r (At o k (record n { did = d; region = region }))) (sym is)
+          (let a = own.0 in let b = own.1 in record
+          { one = omega (arith, a); uses = omega (arith, b); none = refl; unused = refl; unborn = refl })
+      by d region own (inr (inr (inr (root, is, has)))) =
+          subst (λ (y : Did × Option RegionId). Lifts r (At o k (record n { did = y.0; region = y.1 })))
+          (λ i. (sym is i, sym has i)) (let a = own.0 in let b = own.1 in
+          record { one = omega (arith, a); uses = omega (arith, b); none = refl; unused = refl; unborn = refl })
 
   -- such a note takes up one of its taking
   pub takes_one : (r : RegionId) → TakesUp r n → 0 < did_take_up r n
@@ -114,82 +147,136 @@ module _ (v : SeatView) (o : Object) (k : ℕ) (n : Noted) (t : ℕ) where
   pub after_taking : (r : RegionId) → TakesUp r n → IsLaidDown r v → HasRegion r w
   after_taking r up free =
       let h = lifted r up in
-      let a = weigh_entry (to_arena (is_taking r)) v e t in let b = weigh_entry (to_cache (is_taking r)) v e t in let c = weigh_entry (to_place (is_taking r)) v e t in
-      let d = weigh_entry (from_arena (is_taking r)) v e t in let f = weigh_entry (from_cache (is_taking r)) v e t in let g = weigh_entry (from_place (is_taking r)) v e t in
-      let a' = weigh_entry (to_arena (uses_in r)) v e t in let b' = weigh_entry (to_cache (uses_in r)) v e t in let c' = weigh_entry (to_place (uses_in r)) v e t in
-      let d' = weigh_entry (from_arena (uses_in r)) v e t in let f' = weigh_entry (from_cache (uses_in r)) v e t in let g' = weigh_entry (from_place (uses_in r)) v e t in
-      let h1 = h.one in let h2 = h.uses in let h3 = h.none in let h4 = h.unused in let h5 = h.unborn in let k1 = free.taking in let k2 = free.uses in
-      record { taking = omega (arith, a, b, c, d, f, g, h1, h3, k1); uses = omega (arith, c, a', b', c', d', f', g', h2, h4, h5, k2) }
+      let a = weigh_entry (to_arena (is_taking r)) v e t in let b = weigh_entry (to_cache (is_taking r)) v e t in
+      let c = weigh_entry (to_place (is_taking r)) v e t in
+      let d = weigh_entry (from_arena (is_taking r)) v e t in let f = weigh_entry (from_cache (is_taking r)) v e t in
+      let g = weigh_entry (from_place (is_taking r)) v e t in
+      let a' = weigh_entry (to_arena (uses_in r)) v e t in let b' = weigh_entry (to_cache (uses_in r)) v e t in let c' =
+      weigh_entry (to_place (uses_in r)) v e t in
+      let d' = weigh_entry (from_arena (uses_in r)) v e t in let f' = weigh_entry (from_cache (uses_in r)) v e t in
+      let g' = weigh_entry (from_place (uses_in r)) v e t in
+      let h1 = h.one in let h2 = h.uses in let h3 = h.none in let h4 = h.unused in let h5 = h.unborn in let k1 =
+      free.taking in let k2 = free.uses in
+      record {
+        taking = omega (arith, a, b, c, d, f, g, h1, h3, k1);
+        uses =
+            omega (arith, c, a', b', c', d', f', g', h2, h4, h5, k2);
+      }
 
   -- and stays there while notes leave it alone
   pub after_other : (r : RegionId) → LeavesAlone r e → HasRegion r v → HasRegion r w
   after_other r h has =
-      let a = weigh_entry (to_arena (is_taking r)) v e t in let b = weigh_entry (to_cache (is_taking r)) v e t in let c = weigh_entry (to_place (is_taking r)) v e t in
-      let d = weigh_entry (from_arena (is_taking r)) v e t in let f = weigh_entry (from_cache (is_taking r)) v e t in let g = weigh_entry (from_place (is_taking r)) v e t in
-      let a' = weigh_entry (to_arena (uses_in r)) v e t in let b' = weigh_entry (to_cache (uses_in r)) v e t in let c' = weigh_entry (to_place (uses_in r)) v e t in
-      let d' = weigh_entry (from_arena (uses_in r)) v e t in let f' = weigh_entry (from_cache (uses_in r)) v e t in let g' = weigh_entry (from_place (uses_in r)) v e t in
-      let h1 = h.none_up in let h2 = h.unused_up in let h3 = h.none in let h4 = h.unused in let k1 = has.taking in let k2 = has.uses in
-      record { taking = omega (arith, a, b, c, d, f, g, h1, h3, k1); uses = omega (arith, c, a', b', c', d', f', g', h2, h3, h4, k2) }
+      let a = weigh_entry (to_arena (is_taking r)) v e t in let b = weigh_entry (to_cache (is_taking r)) v e t in
+      let c = weigh_entry (to_place (is_taking r)) v e t in
+      let d = weigh_entry (from_arena (is_taking r)) v e t in let f = weigh_entry (from_cache (is_taking r)) v e t in
+      let g = weigh_entry (from_place (is_taking r)) v e t in
+      let a' = weigh_entry (to_arena (uses_in r)) v e t in let b' = weigh_entry (to_cache (uses_in r)) v e t in let c' =
+      weigh_entry (to_place (uses_in r)) v e t in
+      let d' = weigh_entry (from_arena (uses_in r)) v e t in let f' = weigh_entry (from_cache (uses_in r)) v e t in
+      let g' = weigh_entry (from_place (uses_in r)) v e t in
+      let h1 = h.none_up in let h2 = h.unused_up in let h3 = h.none in let h4 = h.unused in let k1 = has.taking in
+      let k2 = has.uses in
+      record {
+        taking = omega (arith, a, b, c, d, f, g, h1, h3, k1);
+        uses =
+            omega (arith, c, a', b', c', d', f', g', h2, h3, h4, k2);
+      }
 
   -- a region that is given back or put into a cache is in hand no more
-  laid_down : (r : RegionId) → lays (is_taking r) e ≡ 1 → takes_up (is_taking r) e ≡ 0 → takes_up (uses_in r) e ≡ 0 → r.uses + to_place (is_taking r) e ≡ lays (uses_in r) e → HasRegion r v → grasped (is_taking r) v ≤ laid (is_taking r) v + 1 → IsLaidDown r w
+  laid_down : (r : RegionId) → lays (is_taking r) e ≡ 1 → takes_up (is_taking r) e ≡ 0 → takes_up (uses_in r) e ≡ 0
+      → r.uses + to_place (is_taking r) e ≡ lays (uses_in r) e → HasRegion r v
+      → grasped (is_taking r) v ≤ laid (is_taking r) v + 1 → IsLaidDown r w
   laid_down r h1 h2 h3 h4 has once =
-      let a = weigh_entry (to_arena (is_taking r)) v e t in let b = weigh_entry (to_cache (is_taking r)) v e t in let c = weigh_entry (to_place (is_taking r)) v e t in
-      let d = weigh_entry (from_arena (is_taking r)) v e t in let f = weigh_entry (from_cache (is_taking r)) v e t in let g = weigh_entry (from_place (is_taking r)) v e t in
-      let a' = weigh_entry (to_arena (uses_in r)) v e t in let b' = weigh_entry (to_cache (uses_in r)) v e t in let c' = weigh_entry (to_place (uses_in r)) v e t in
-      let d' = weigh_entry (from_arena (uses_in r)) v e t in let f' = weigh_entry (from_cache (uses_in r)) v e t in let g' = weigh_entry (from_place (uses_in r)) v e t in
+      let a = weigh_entry (to_arena (is_taking r)) v e t in let b = weigh_entry (to_cache (is_taking r)) v e t in
+      let c = weigh_entry (to_place (is_taking r)) v e t in
+      let d = weigh_entry (from_arena (is_taking r)) v e t in let f = weigh_entry (from_cache (is_taking r)) v e t in
+      let g = weigh_entry (from_place (is_taking r)) v e t in
+      let a' = weigh_entry (to_arena (uses_in r)) v e t in let b' = weigh_entry (to_cache (uses_in r)) v e t in let c' =
+      weigh_entry (to_place (uses_in r)) v e t in
+      let d' = weigh_entry (from_arena (uses_in r)) v e t in let f' = weigh_entry (from_cache (uses_in r)) v e t in
+      let g' = weigh_entry (from_place (uses_in r)) v e t in
       let k1 = has.taking in let k2 = has.uses in
-      record { taking = omega (arith, a, b, c, d, f, g, h1, h2, k1, once); uses = omega (arith, c, a', b', c', d', f', g', h3, h4, k2) }
+      record {
+        taking = omega (arith, a, b, c, d, f, g, h1, h2, k1, once);
+        uses =
+            omega (arith, c, a', b', c', d', f', g', h3, h4, k2);
+      }
 
-  pub after_laying : (r : RegionId) → (n.did ≡ Give r) ⊎ (n.did ≡ Kept r) → HasRegion r v → grasped (is_taking r) v ≤ laid (is_taking r) v + 1 → IsLaidDown r w
+  pub after_laying : (r : RegionId) → (n.did ≡ Give r) ⊎ (n.did ≡ Kept r) → HasRegion r v
+      → grasped (is_taking r) v ≤ laid (is_taking r) v + 1 → IsLaidDown r w
   after_laying r (inl is) has once =
       let own = its_own r in let a = own.0 in let b = own.1 in
-      let f : (x : RegionId → ℕ) → lays x e ≡ x r + (0 + 0) = (λ x. ap (λ (d : Did). arena_in x d + (cache_in x d + place_in x d)) is) in
-      let g : (x : RegionId → ℕ) → takes_up x e ≡ 0 = (λ x. ap (λ (d : Did). arena_out x d + (cache_out x d + weight_or x (ended_region d n.region))) is) in
+      let f : (x : RegionId → ℕ) → lays x e ≡ x r + (0 + 0) =
+      (λ x. ap (λ (d : Did). arena_in x d + (cache_in x d + place_in x d)) is) in
+      let g : (x : RegionId → ℕ) → takes_up x e ≡ 0 =
+      (λ x. ap (λ (d : Did). arena_out x d + (cache_out x d + weight_or x (ended_region d n.region))) is) in
       let h : to_place (is_taking r) e ≡ 0 = ap (place_in (is_taking r)) is in
-      let f1 = f (is_taking r) in let f2 = f (uses_in r) in laid_down r (omega (arith, f1, a)) (g (is_taking r)) (g (uses_in r)) (omega (arith, f2, b, h)) has once
+      let f1 = f (is_taking r) in let f2 = f (uses_in r) in
+      laid_down r (omega (arith, f1, a)) (g (is_taking r)) (g (uses_in r)) (omega (arith, f2, b, h)) has once
   after_laying r (inr is) has once =
       let own = its_own r in let a = own.0 in let b = own.1 in
-      let f : (x : RegionId → ℕ) → lays x e ≡ 0 + (x r + 0) = (λ x. ap (λ (d : Did). arena_in x d + (cache_in x d + place_in x d)) is) in
-      let g : (x : RegionId → ℕ) → takes_up x e ≡ 0 = (λ x. ap (λ (d : Did). arena_out x d + (cache_out x d + weight_or x (ended_region d n.region))) is) in
+      let f : (x : RegionId → ℕ) → lays x e ≡ 0 + (x r + 0) =
+      (λ x. ap (λ (d : Did). arena_in x d + (cache_in x d + place_in x d)) is) in
+      let g : (x : RegionId → ℕ) → takes_up x e ≡ 0 =
+      (λ x. ap (λ (d : Did). arena_out x d + (cache_out x d + weight_or x (ended_region d n.region))) is) in
       let h : to_place (is_taking r) e ≡ 0 = ap (place_in (is_taking r)) is in
-      let f1 = f (is_taking r) in let f2 = f (uses_in r) in laid_down r (omega (arith, f1, a)) (g (is_taking r)) (g (uses_in r)) (omega (arith, f2, b, h)) has once
+      let f1 = f (is_taking r) in let f2 = f (uses_in r) in
+      laid_down r (omega (arith, f1, a)) (g (is_taking r)) (g (uses_in r)) (omega (arith, f2, b, h)) has once
 
   -- nor is the region of a birth
-  pub after_bearing : (q : RootId) (r : RegionId) → n.did ≡ Birth q (record r { uses = r.uses + 1 }) → HasRegion r v → grasped (is_taking r) v ≤ laid (is_taking r) v + 1 → IsLaidDown r w
+  pub after_bearing : (q : RootId) (r : RegionId) → n.did ≡ Birth q (record r { uses = r.uses + 1 }) → HasRegion r v
+      → grasped (is_taking r) v ≤ laid (is_taking r) v + 1 → IsLaidDown r w
   after_bearing q r is has once =
       let z : RegionId = record r { uses = r.uses + 1 } in
-      let a : is_taking r z ≡ 1 = ap (λ (b : Bool). cond {A = ℕ} b 1 0) (same_taking-refl r) in let b : uses_in r z ≡ r.uses + 1 = ap (λ (b : Bool). cond {A = ℕ} b (r.uses + 1) 0) (same_taking-refl r) in
-      let f : (x : RegionId → ℕ) → lays x e ≡ 0 + (0 + x z) = (λ x. ap (λ (d : Did). arena_in x d + (cache_in x d + place_in x d)) is) in
-      let g : (x : RegionId → ℕ) → takes_up x e ≡ 0 = (λ x. ap (λ (d : Did). arena_out x d + (cache_out x d + weight_or x (ended_region d n.region))) is) in
+      let a : is_taking r z ≡ 1 = ap (λ (b : Bool). cond {A = ℕ} b 1 0) (same_taking-refl r) in let b : uses_in r z
+      ≡ r.uses + 1 = ap (λ (b : Bool). cond {A = ℕ} b (r.uses + 1) 0) (same_taking-refl r) in
+      let f : (x : RegionId → ℕ) → lays x e ≡ 0 + (0 + x z) =
+      (λ x. ap (λ (d : Did). arena_in x d + (cache_in x d + place_in x d)) is) in
+      let g : (x : RegionId → ℕ) → takes_up x e ≡ 0 =
+      (λ x. ap (λ (d : Did). arena_out x d + (cache_out x d + weight_or x (ended_region d n.region))) is) in
       let h : to_place (is_taking r) e ≡ is_taking r z = ap (place_in (is_taking r)) is in
-      let f1 = f (is_taking r) in let f2 = f (uses_in r) in laid_down r (omega (arith, f1, a)) (g (is_taking r)) (g (uses_in r)) (omega (arith, f2, a, b, h)) has once
+      let f1 = f (is_taking r) in let f2 = f (uses_in r) in
+      laid_down r (omega (arith, f1, a)) (g (is_taking r)) (g (uses_in r)) (omega (arith, f2, a, b, h)) has once
 
   -- a place stays in hand until it comes home, and no birth waits while none is noted
   pub hand_stays : (p : ℕ) → did_home p n.did ≡ 0 → InHand p v → InHand p w
   hand_stays p z has =
       let a = weigh_entry (at_in p) v e t in let b = weigh_entry (at_out p) v e t in
-      let c = weigh_entry (on_place ref_born p) v e t in let d = weigh_entry (on_place ref_vacated p) v e t in omega (arith, a, b, c, d, z, has)
+      let c = weigh_entry (on_place ref_born p) v e t in let d = weigh_entry (on_place ref_vacated p) v e t in
+      omega (arith, a, b, c, d, z, has)
 
   pub none_waits : (p : ℕ) → did_birth p n.did ≡ 0 → NoneWaits p v → NoneWaits p w
   none_waits p z none =
-      let a = weigh_entry (at_birth p) v e t in let b = weigh_entry (on_place ref_born p) v e t in omega (arith, a, b, z, none)
+      let a = weigh_entry (at_birth p) v e t in let b = weigh_entry (on_place ref_born p) v e t in
+      omega (arith, a, b, z, none)
 
 -- a birth that is made waits no more
-pub after_born : (v : SeatView) (q : RootId) (m : ℕ) → weigh (at_birth q.place) v ≤ weigh (on_place ref_born q.place) v + 1 → NoneWaits q.place (with_ref v q Born m)
+pub after_born : (v : SeatView) (q : RootId) (m : ℕ)
+    → weigh (at_birth q.place) v ≤ weigh (on_place ref_born q.place) v + 1 → NoneWaits q.place (with_ref v q Born m)
 after_born v q m le =
     let a = weigh_ref (at_birth q.place) v q Born m in let b = weigh_ref (on_place ref_born q.place) v q Born m in
     let z : at_birth q.place (Ref q Born) ≡ 0 = refl in
-    let one : on_place ref_born q.place (Ref q Born) ≡ 1 = ap (λ (t : Bool). cond {A = ℕ} t 1 0) (eq-eqb q.place q.place refl) in omega (arith, a, b, z, one, le)
+    let one : on_place ref_born q.place (Ref q Born)
+    ≡ 1 = ap (λ (t : Bool). cond {A = ℕ} t 1 0) (eq-eqb q.place q.place refl) in
+    omega (arith, a, b, z, one, le)
 
 -- steps on words move no region
-pub after_step : (v : SeatView) (q : RootId) (d : RefDid) (m : ℕ) (r : RegionId) → HasRegion r v → HasRegion r (with_ref v q d m)
+pub after_step : (v : SeatView) (q : RootId) (d : RefDid) (m : ℕ) (r : RegionId) → HasRegion r v
+    → HasRegion r (with_ref v q d m)
 after_step v q d m r has =
-    let a = weigh_ref (to_arena (is_taking r)) v q d m in let b = weigh_ref (to_cache (is_taking r)) v q d m in let c = weigh_ref (to_place (is_taking r)) v q d m in
-    let x = weigh_ref (from_arena (is_taking r)) v q d m in let f = weigh_ref (from_cache (is_taking r)) v q d m in let g = weigh_ref (from_place (is_taking r)) v q d m in
-    let a' = weigh_ref (to_arena (uses_in r)) v q d m in let b' = weigh_ref (to_cache (uses_in r)) v q d m in let c' = weigh_ref (to_place (uses_in r)) v q d m in
-    let x' = weigh_ref (from_arena (uses_in r)) v q d m in let f' = weigh_ref (from_cache (uses_in r)) v q d m in let g' = weigh_ref (from_place (uses_in r)) v q d m in
+    let a = weigh_ref (to_arena (is_taking r)) v q d m in let b = weigh_ref (to_cache (is_taking r)) v q d m in let c =
+    weigh_ref (to_place (is_taking r)) v q d m in
+    let x = weigh_ref (from_arena (is_taking r)) v q d m in let f = weigh_ref (from_cache (is_taking r)) v q d m in
+    let g = weigh_ref (from_place (is_taking r)) v q d m in
+    let a' = weigh_ref (to_arena (uses_in r)) v q d m in let b' = weigh_ref (to_cache (uses_in r)) v q d m in let c' =
+    weigh_ref (to_place (uses_in r)) v q d m in
+    let x' = weigh_ref (from_arena (uses_in r)) v q d m in let f' = weigh_ref (from_cache (uses_in r)) v q d m in
+    let g' = weigh_ref (from_place (uses_in r)) v q d m in
     let k1 = has.taking in let k2 = has.uses in
     let none : (w : RegionId → ℕ) → takes_up w (Ref q d) + lays w (Ref q d) ≡ 0 = (λ w. refl) in
     let n1 = none (is_taking r) in let n2 = none (uses_in r) in
-    record { taking = omega (arith, a, b, c, x, f, g, n1, k1); uses = omega (arith, c, a', b', c', x', f', g', n1, n2, k2) }
+    record {
+      taking = omega (arith, a, b, c, x, f, g, n1, k1);
+      uses =
+          omega (arith, c, a', b', c', x', f', g', n1, n2, k2);
+    }

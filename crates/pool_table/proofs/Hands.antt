@@ -40,11 +40,16 @@ use Rattle.pool_table.proofs.Exact.{counted_of}
 use Rattle.pool_table.proofs.References.{own_step, ref_changes, counted_more, settled_more, handy_less, orderly_born, exact_le}
 
 -- what a filter leaves out weighs nothing
-filter_all : (f : Entry → ℕ) (t : Entry → Bool) (es : List Entry) → All (λ (e : Entry). t e ≡ false → f e ≡ 0) es → sum_by f (filter t es) ≡ sum_by f es
+filter_all : (f : Entry → ℕ) (t : Entry → Bool) (es : List Entry) → All (λ (e : Entry). t e ≡ false → f e ≡ 0) es
+    → sum_by f (filter t es) ≡ sum_by f es
 filter_all f t [] all = refl
-filter_all f t (e ∷ es) all = let a = sum_by-cons f e es in let b = filter_all f t es (All-tail (λ (e : Entry). t e ≡ false → f e ≡ 0) e es all) in one (t e) (All-head (λ (e : Entry). t e ≡ false → f e ≡ 0) e es all) a b
+filter_all f t (e ∷ es) all =
+    let a = sum_by-cons f e es in let b = filter_all f t es
+    (All-tail (λ (e : Entry). t e ≡ false → f e ≡ 0) e es all) in
+    one (t e) (All-head (λ (e : Entry). t e ≡ false → f e ≡ 0) e es all) a b
   where
-    one : (b : Bool) → (b ≡ false → f e ≡ 0) → sum_by f (e ∷ es) ≡ f e + sum_by f es → sum_by f (filter t es) ≡ sum_by f es → sum_by f (cond b (e ∷ filter t es) (filter t es)) ≡ sum_by f (e ∷ es)
+    one : (b : Bool) → (b ≡ false → f e ≡ 0) → sum_by f (e ∷ es) ≡ f e + sum_by f es
+        → sum_by f (filter t es) ≡ sum_by f es → sum_by f (cond b (e ∷ filter t es) (filter t es)) ≡ sum_by f (e ∷ es)
     one true h a b = let c = sum_by-cons f e (filter t es) in omega (arith, a, b, c)
     one false h a b = let z = h refl in omega (arith, a, b, z)
 
@@ -52,7 +57,8 @@ module _ (s : Shape) (p : ℕ) (w : Did → ℕ) (bound : (d : Did) → w d ≤ 
   abbrev bin : ℕ
   bin = home_of s (Bin (place_lane s p))
 
-  light : (lane : Option ℕ) (e : Entry) → Stands s lane e → is_about s bin e ≡ false → noted_weight (λ (n : Noted). w n.did) e ≡ 0
+  light : (lane : Option ℕ) (e : Entry) → Stands s lane e → is_about s bin e ≡ false
+      → noted_weight (λ (n : Noted). w n.did) e ≡ 0
   light lane (At o k n) t off = ⊎_elim
       (λ (z : did_handle p n.did + did_home p n.did ≡ 0). let b = bound n.did in omega (arith, z, b))
       (λ (e : o ≡ Bin (place_lane s p)). absurd (true≢false (sym (eq-eqb (home_of s o) bin (ap (home_of s) e)) ∙ off)))
@@ -60,20 +66,33 @@ module _ (s : Shape) (p : ℕ) (w : Did → ℕ) (bound : (d : Did) → w d ≤ 
   light lane (Ref r d) t off = refl
   light lane (Busy b) t off = refl
 
-  in_strands : (ps : List Part) → All (λ (q : Part). All (Stands s q.number) q.notes) ps → sum_by (λ (q : Part). sum_by (noted_weight (λ (n : Noted). w n.did)) q.notes) (map (strand s bin) ps) ≡ sum_by (λ (q : Part). sum_by (noted_weight (λ (n : Noted). w n.did)) q.notes) ps
+  in_strands : (ps : List Part) → All (λ (q : Part). All (Stands s q.number) q.notes) ps
+      → sum_by (λ (q : Part). sum_by (noted_weight (λ (n : Noted). w n.did)) q.notes) (map (strand s bin) ps)
+      ≡ sum_by (λ (q : Part). sum_by (noted_weight (λ (n : Noted). w n.did)) q.notes) ps
   in_strands [] all = refl
   in_strands (q ∷ ps) all =
       let f : Entry → ℕ = noted_weight (λ (n : Noted). w n.did) in let g : Part → ℕ = λ (x : Part). sum_by f x.notes in
-      let a = sum_by-cons g q ps in let b = sum_by-cons g (strand s bin q) (map (strand s bin) ps) in let c = in_strands ps (All-tail (λ (x : Part). All (Stands s x.number) x.notes) q ps all) in
-      let d = filter_all f (is_about s bin) q.notes (All-weaker (Stands s q.number) (λ (e : Entry). is_about s bin e ≡ false → f e ≡ 0) (light q.number) q.notes (All-head (λ (x : Part). All (Stands s x.number) x.notes) q ps all)) in omega (arith, a, b, c, d)
+      let a = sum_by-cons g q ps in let b = sum_by-cons g (strand s bin q) (map (strand s bin) ps) in let c =
+      in_strands ps (All-tail (λ (x : Part). All (Stands s x.number) x.notes) q ps all) in
+      let d = filter_all f (is_about s bin) q.notes
+      (All-weaker (Stands s q.number) (λ (e : Entry). is_about s bin e ≡ false → f e ≡ 0) (light q.number) q.notes
+      (All-head (λ (x : Part). All (Stands s x.number) x.notes) q ps all)) in
+      omega (arith, a, b, c, d)
 
-  pub in_faces : (vs : List SeatView) → All (λ (v : SeatView). All (λ (q : Part). All (Stands s q.number) q.notes) (parts_of v)) vs → noted_total (λ (n : Noted). w n.did) (map (face s bin) vs) ≡ sum_by (weigh (noted_weight (λ (n : Noted). w n.did))) vs
+  pub in_faces : (vs : List SeatView) → All
+      (λ (v : SeatView). All (λ (q : Part). All (Stands s q.number) q.notes) (parts_of v)) vs
+      → noted_total (λ (n : Noted). w n.did) (map (face s bin) vs)
+      ≡ sum_by (weigh (noted_weight (λ (n : Noted). w n.did))) vs
   in_faces [] all = refl
   in_faces (v ∷ vs) all =
       let f : Noted → ℕ = λ (n : Noted). w n.did in
-      let a = sum_by-cons (noted_in f) (face s bin v) (map (face s bin) vs) in let b = sum_by-cons (weigh (noted_weight f)) v vs in
-      let c = in_strands (parts_of v) (All-head (λ (v : SeatView). All (λ (q : Part). All (Stands s q.number) q.notes) (parts_of v)) v vs all) in
-      let d = in_faces vs (All-tail (λ (v : SeatView). All (λ (q : Part). All (Stands s q.number) q.notes) (parts_of v)) v vs all) in omega (arith, a, b, c, d)
+      let a = sum_by-cons (noted_in f) (face s bin v) (map (face s bin) vs) in let b =
+      sum_by-cons (weigh (noted_weight f)) v vs in
+      let c = in_strands (parts_of v)
+      (All-head (λ (v : SeatView). All (λ (q : Part). All (Stands s q.number) q.notes) (parts_of v)) v vs all) in
+      let d = in_faces vs (All-tail (λ (v : SeatView). All (λ (q : Part). All (Stands s q.number) q.notes) (parts_of v))
+      v vs all) in
+      omega (arith, a, b, c, d)
 
 module _ {H : Type 0} (stands : List ℕ → Setting → List Noted → H → Type 0) (l : Layout) where
   abbrev St : Type 0
@@ -81,25 +100,40 @@ module _ {H : Type 0} (stands : List ℕ → Setting → List Noted → H → Ty
 
   pub lane_of : (p : ℕ) → p < l.shape.lanes * l.shape.handles → place_lane l.shape p < l.shape.lanes
   lane_of p lt = let h : ℕ = l.shape.handles in
-      let some_handle : 0 < h = dite (ℕ_discrete h 0) (λ z. let e : l.shape.lanes * h ≡ l.shape.lanes * 0 = ap (λ (n : ℕ). l.shape.lanes * n) z in let a : ℕ = l.shape.lanes * h in let lt' : p < a = lt in let e' : a ≡ 0 = e ∙ (omega arith) in absurd (omega (arith, lt', e'))) (λ ne. omega (arith, ne)) in
+      let some_handle : 0 < h = dite (ℕ_discrete h 0)
+      (λ z. let e : l.shape.lanes * h ≡ l.shape.lanes * 0 = ap (λ (n : ℕ). l.shape.lanes * n) z in let a : ℕ =
+      l.shape.lanes * h in let lt' : p < a = lt in let e' : a ≡ 0 = e
+      ∙ (omega arith) in absurd (omega (arith, lt', e'))) (λ ne. omega (arith, ne)) in
       (div-lt_iff_lt-mul {k = h} {x = p} {y = l.shape.lanes} some_handle).1 lt
 
   -- in all views together, the place was taken out of its bin at most once more than it came home
-  pub taken_once : (s : St) (r : IsSound stands l s) (p : ℕ) → p < l.shape.lanes * l.shape.handles → sum_by (weigh (at_in p)) s.views ≤ 1 + sum_by (weigh (at_out p)) s.views
+  pub taken_once : (s : St) (r : IsSound stands l s) (p : ℕ) → p < l.shape.lanes * l.shape.handles
+      → sum_by (weigh (at_in p)) s.views ≤ 1 + sum_by (weigh (at_out p)) s.views
   taken_once s r p lt =
       let k = r.objects (Bin (place_lane l.shape p)) (lane_of p lt) in
-      let notes = All-weaker (IsView l.shape r.setting) (λ (v : SeatView). All (λ (q : Part). All (Stands l.shape q.number) q.notes) (parts_of v)) (λ v fine. fine.notes) s.views r.views in
-      let a = in_faces l.shape p (did_handle p) (λ d. omega arith) s.views notes in let b = in_faces l.shape p (did_home p) (λ d. omega arith) s.views notes in
-      let c = k.weights (λ (n : Noted). did_handle p n.did) in let d = k.weights (λ (n : Noted). did_home p n.did) in let e = stock l.shape (place_lane l.shape p) p k.history k.accepted in omega (arith, a, b, c, d, e)
+      let notes = All-weaker (IsView l.shape r.setting)
+      (λ (v : SeatView). All (λ (q : Part). All (Stands l.shape q.number) q.notes) (parts_of v))
+      (λ v fine. fine.notes) s.views r.views in
+      let a = in_faces l.shape p (did_handle p) (λ d. omega arith) s.views notes in let b =
+      in_faces l.shape p (did_home p) (λ d. omega arith) s.views notes in
+      let c = k.weights (λ (n : Noted). did_handle p n.did) in let d = k.weights (λ (n : Noted). did_home p n.did) in
+      let e = stock l.shape (place_lane l.shape p) p k.history k.accepted in
+      omega (arith, a, b, c, d, e)
 
-  pub hand_word : (s : St) (r : IsSound stands l s) (id p : ℕ) (v : SeatView) (lt : p < l.shape.lanes * l.shape.handles) → get_elem? s.views id ≡ some v → InHand p v → (r.counts p lt).vacant ≡ 1
+  pub hand_word : (s : St) (r : IsSound stands l s) (id p : ℕ) (v : SeatView) (lt : p < l.shape.lanes * l.shape.handles)
+      → get_elem? s.views id ≡ some v → InHand p v → (r.counts p lt).vacant ≡ 1
   hand_word s r id p v lt at has =
       let k = r.counts p lt in
-      let all = All-weaker (IsView l.shape r.setting) (λ (x : SeatView). put_down p x ≤ taken p x) (λ x fine. fine.handy p) s.views r.views in
-      let strict = strict_sum (weigh (at_out p)) (weigh (on_place ref_born p)) (weigh (at_in p)) (weigh (on_place ref_vacated p)) s.views id v all at has in
+      let all = All-weaker (IsView l.shape r.setting) (λ (x : SeatView). put_down p x ≤ taken p x)
+      (λ x fine. fine.handy p) s.views r.views in
+      let strict = strict_sum (weigh (at_out p)) (weigh (on_place ref_born p)) (weigh (at_in p))
+      (weigh (on_place ref_vacated p)) s.views id v all at has in
       let st = taken_once s r p lt in let b = k.all_born in let c = k.all_vacated in let f = k.free in
-      let mo : ℕ = sum_by (weigh (at_out p)) s.views in let bo : ℕ = place_tally ref_born p s.views in let hi : ℕ = sum_by (weigh (at_in p)) s.views in let va : ℕ = place_tally ref_vacated p s.views in
-      let strict' : mo + bo < hi + va = strict in let st' : hi ≤ 1 + mo = st in let b' : bo ≡ k.generation = b in let c' : va + 1 ≡ k.generation + k.vacant = c in omega (arith, strict', st', b', c', f)
+      let mo : ℕ = sum_by (weigh (at_out p)) s.views in let bo : ℕ = place_tally ref_born p s.views in let hi : ℕ =
+      sum_by (weigh (at_in p)) s.views in let va : ℕ = place_tally ref_vacated p s.views in
+      let strict' : mo + bo < hi + va = strict in let st' : hi ≤ 1 + mo = st in let b' : bo
+      ≡ k.generation = b in let c' : va + 1 ≡ k.generation + k.vacant = c in
+      omega (arith, strict', st', b', c', f)
 
   born_le : (p : ℕ) (e : Entry) → on_place ref_born p e ≤ any_gain e
   born_le p (At o k n) = omega arith
@@ -118,22 +152,35 @@ module _ {H : Type 0} (stands : List ℕ → Setting → List Noted → H → Ty
       at_most false d = omega arith
   born_le p (Busy b) = omega arith
 
-  pub small_generation : (s : St) (r : IsSound stands l s) (p : ℕ) (lt : p < l.shape.lanes * l.shape.handles) → (r.counts p lt).generation < 1073741824
+  pub small_generation : (s : St) (r : IsSound stands l s) (p : ℕ) (lt : p < l.shape.lanes * l.shape.handles)
+      → (r.counts p lt).generation < 1073741824
   small_generation s r p lt =
       let k = r.counts p lt in
-      let le : place_tally ref_born p s.views ≤ sum_by reached s.views = sum_by-le-sum_by (weigh (on_place ref_born p)) reached s.views (λ v. let a : weigh (on_place ref_born p) v ≤ weigh any_gain v = sum_by-le-sum_by (λ (q : Part). sum_by (on_place ref_born p) q.notes) (λ (q : Part). sum_by any_gain q.notes) (parts_of v) (λ q. sum_by-le-sum_by (on_place ref_born p) any_gain q.notes (born_le p)) in omega (arith, a)) in
+      let le : place_tally ref_born p s.views ≤ sum_by reached s.views =
+      sum_by-le-sum_by (weigh (on_place ref_born p)) reached s.views
+      (λ v. let a : weigh (on_place ref_born p) v ≤ weigh any_gain v =
+      sum_by-le-sum_by (λ (q : Part). sum_by (on_place ref_born p) q.notes)
+      (λ (q : Part). sum_by any_gain q.notes) (parts_of v)
+      (λ q. sum_by-le-sum_by (on_place ref_born p) any_gain q.notes (born_le p)) in
+      omega (arith, a)) in
       let a = k.all_born in let b = r.moved in let c = r.few in
-      let x : ℕ = place_tally ref_born p s.views in let y : ℕ = sum_by reached s.views in let t : ℕ = l.shape.lanes * l.moves in
-      let le' : x ≤ y = le in let a' : x ≡ k.generation = a in let b' : y ≤ t = b in let c' : t < 1073741824 = c in omega (arith, le', a', b', c')
+      let x : ℕ = place_tally ref_born p s.views in let y : ℕ = sum_by reached s.views in let t : ℕ =
+      l.shape.lanes * l.moves in
+      let le' : x ≤ y = le in let a' : x ≡ k.generation = a in let b' : y ≤ t = b in let c' : t < 1073741824 = c in
+      omega (arith, le', a', b', c')
 
-  next_word : (word g c v : ℕ) → word ≡ g * 4294967296 + (2 * c + v) → c ≡ 0 → v ≡ 1 → g < 1073741824 → ((word + 4294967297) % 2 ^ 64 ≡ word + 4294967297) × (word / 4294967296 ≡ g)
+  next_word : (word g c v : ℕ) → word ≡ g * 4294967296 + (2 * c + v) → c ≡ 0 → v ≡ 1 → g < 1073741824
+      → ((word + 4294967297) % 2 ^ 64 ≡ word + 4294967297) × (word / 4294967296 ≡ g)
   next_word word g c v e cz vo lt = (omega (arith, e, cz, vo, lt), omega (arith, e, cz, vo))
 
-  awake_hand : (s : St) (r : IsSound stands l s) (id p : ℕ) (v : SeatView) → get_elem? s.views id ≡ some v → InHand p v → All (λ (q : Part). q.number ≡ None) (parts_of v) → ⊥
+  awake_hand : (s : St) (r : IsSound stands l s) (id p : ℕ) (v : SeatView) → get_elem? s.views id ≡ some v → InHand p v
+      → All (λ (q : Part). q.number ≡ None) (parts_of v) → ⊥
   awake_hand s r id p v at has all =
       let idle = (each_at (IsView l.shape r.setting) s.views id v r.views at).unnumbered all in
-      let a = weigh_none (at_in p) (parts_of v) idle.notes in let b = weigh_none (on_place ref_vacated p) (parts_of v) idle.notes in let c = has in
-      let x : ℕ = put_down p v in let y : ℕ = taken p v in let c' : x < y = c in let z : y ≡ 0 = omega (arith, a, b) in omega (arith, c', z)
+      let a = weigh_none (at_in p) (parts_of v) idle.notes in let b =
+      weigh_none (on_place ref_vacated p) (parts_of v) idle.notes in let c = has in
+      let x : ℕ = put_down p v in let y : ℕ = taken p v in let c' : x < y = c in let z : y ≡ 0 = omega (arith, a, b) in
+      omega (arith, c', z)
 
   exact_entry : (p g c : ℕ) (e : Entry) → on_exact ref_born p g c e ≤ on_root ref_born p g e
   exact_entry p g c (At o k n) = omega arith
@@ -141,48 +188,69 @@ module _ {H : Type 0} (stands : List ℕ → Setting → List Noted → H → Ty
   exact_entry p g c (Busy b) = omega arith
 
   -- a place in hand is one of the shape's
-  pub hand_place : 0 < l.shape.handles → (s : St) (r : IsSound stands l s) (id p : ℕ) (v : SeatView) → get_elem? s.views id ≡ some v → InHand p v → p < l.shape.lanes * l.shape.handles
+  pub hand_place : 0 < l.shape.handles → (s : St) (r : IsSound stands l s) (id p : ℕ) (v : SeatView)
+      → get_elem? s.views id ≡ some v → InHand p v → p < l.shape.lanes * l.shape.handles
   hand_place some_handle s r id p v at has = dite (dec_le (suc p) (l.shape.lanes * l.shape.handles))
-      (λ le. let n : ℕ = l.shape.lanes * l.shape.handles in let le' : suc p ≤ n = le in let g : p < n = omega (arith, le') in g)
+      (λ le. let n : ℕ = l.shape.lanes * l.shape.handles in let le' : suc p ≤ n = le in let g : p < n =
+      omega (arith, le') in g)
       (λ gt. let n : ℕ = l.shape.lanes * l.shape.handles in
       let away : p < n → ⊥ = (λ lt. gt (let g : suc p ≤ n = omega (arith, lt) in g)) in
       let fine = each_at (IsView l.shape r.setting) s.views id v r.views at in
-      let nothing : (f : Entry → ℕ) → ((lane : Option ℕ) (e : Entry) → Stands l.shape lane e → f e ≡ 0) → weigh f v ≡ 0 = (λ f none.
-      sum_none (λ (q : Part). sum_by f q.notes) (parts_of v) (All-weaker (λ (q : Part). All (Stands l.shape q.number) q.notes) (λ (q : Part). sum_by f q.notes ≡ 0)
-      (λ q all. sum_none f q.notes (All-weaker (Stands l.shape q.number) (λ (e : Entry). f e ≡ 0) (none q.number) q.notes all)) (parts_of v) fine.notes)) in
-      let a = nothing (at_in p) (no_handle p some_handle away) in let b = nothing (on_place ref_vacated p) (no_step p away) in absurd (omega (arith, a, b, has)))
+      let nothing : (f : Entry → ℕ) → ((lane : Option ℕ) (e : Entry) → Stands l.shape lane e → f e ≡ 0)
+      → weigh f v ≡ 0 = (λ f none.
+      sum_none (λ (q : Part). sum_by f q.notes) (parts_of v)
+      (All-weaker (λ (q : Part). All (Stands l.shape q.number) q.notes) (λ (q : Part). sum_by f q.notes ≡ 0)
+      (λ q all. sum_none f q.notes (All-weaker (Stands l.shape q.number) (λ (e : Entry). f e ≡ 0) (none q.number)
+      q.notes all)) (parts_of v) fine.notes)) in
+      let a = nothing (at_in p) (no_handle p some_handle away) in let b =
+      nothing (on_place ref_vacated p) (no_step p away) in
+      absurd (omega (arith, a, b, has)))
     where
-      no_handle : (p : ℕ) → 0 < l.shape.handles → (p < l.shape.lanes * l.shape.handles → ⊥) → (lane : Option ℕ) (e : Entry) → Stands l.shape lane e → at_in p e ≡ 0
+      no_handle : (p : ℕ) → 0 < l.shape.handles → (p < l.shape.lanes * l.shape.handles → ⊥)
+          → (lane : Option ℕ) (e : Entry) → Stands l.shape lane e → at_in p e ≡ 0
       no_handle p some_handle away lane (At o k n) t = ⊎_elim
           (λ (z : did_handle p n.did + did_home p n.did ≡ 0). omega (arith, z))
-          (λ (e : o ≡ Bin (place_lane l.shape p)). let fits : place_lane l.shape p < l.shape.lanes = subst (IsObjectOf l.shape) e t.object in
+          (λ (e : o ≡ Bin (place_lane l.shape p)). let fits : place_lane l.shape p < l.shape.lanes =
+          subst (IsObjectOf l.shape) e t.object in
           absurd (away ((div-lt_iff_lt-mul {k = l.shape.handles} {x = p} {y = l.shape.lanes} some_handle).0 fits)))
           (t.in_place.placed p)
       no_handle p some_handle away lane (Ref q d) t = refl
       no_handle p some_handle away lane (Busy b) t = refl
 
-      no_step : (p : ℕ) → (p < l.shape.lanes * l.shape.handles → ⊥) → (lane : Option ℕ) (e : Entry) → Stands l.shape lane e → on_place ref_vacated p e ≡ 0
+      no_step : (p : ℕ) → (p < l.shape.lanes * l.shape.handles → ⊥) → (lane : Option ℕ) (e : Entry)
+          → Stands l.shape lane e → on_place ref_vacated p e ≡ 0
       no_step p away lane (At o k n) t = refl
-      no_step p away lane (Ref q d) t = ap (λ (b : Bool). cond {A = ℕ} b (ref_vacated d) 0) (ne_eqb q.place p (λ e. away (subst (λ (y : ℕ). y < l.shape.lanes * l.shape.handles) e t)))
+      no_step p away lane (Ref q d) t =
+          ap (λ (b : Bool). cond {A = ℕ} b (ref_vacated d) 0)
+          (ne_eqb q.place p (λ e. away (subst (λ (y : ℕ). y < l.shape.lanes * l.shape.handles) e t)))
       no_step p away lane (Busy b) t = refl
 
   -- a view counts the root whose word it sets
-  counts_it : (s : St) (r : IsSound stands l s) (id : ℕ) (v : SeatView) (q : RootId) (m : ℕ) → get_elem? s.views id ≡ some v → IsBorn s.views q → HasCount q (with_ref v q Born m)
+  counts_it : (s : St) (r : IsSound stands l s) (id : ℕ) (v : SeatView) (q : RootId) (m : ℕ)
+      → get_elem? s.views id ≡ some v → IsBorn s.views q → HasCount q (with_ref v q Born m)
   counts_it s r id v q m at born =
       let a = own_step stands l ref_gain v q Born m in let b = own_step stands l ref_loss v q Born m in
       let c = weigh_ref (fetches q) v q Born m in let d = weigh_ref (posts q) v q Born m in
       let z : fetches q (Ref q Born) ≡ 0 = refl in let y : posts q (Ref q Born) ≡ 0 = refl in
       let k = counted_of stands l s r id v at q in omega (arith, a, b, c, d, z, y, k)
 
-  pub births_allowed : (id : ℕ) (me : Me (Option H) SeatView) (root : RootId) → root.place < l.shape.lanes * l.shape.handles → InHand root.place me.0 → (q : RootId) × (q.place ≡ root.place) × (q.capacity ≡ root.capacity) × Waits q me.0 → ((s : St) (r : IsSound stands l s) (lt : root.place < l.shape.lanes * l.shape.handles) (g : ℕ) → get_elem? s.views id ≡ some me.0 → weigh (on_root ref_born root.place g) me.0 < weigh (at_birth_of root.place g) me.0 → g ≡ (r.counts root.place lt).generation + 1) → 0 < me.0.moves → me.0.inside ≡ None
-      → Allows (IsSound stands l) (slots_of l.shape) id me (count_word_of l.shape root.place) (λ n. (n + 4294967297) % 2 ^ 64) (births root (step (slots_of l.shape) (count_word_of l.shape root.place) 4294967297 0 none) me)
+  pub births_allowed : (id : ℕ) (me : Me (Option H) SeatView) (root : RootId)
+      → root.place < l.shape.lanes * l.shape.handles → InHand root.place me.0
+      → (q : RootId) × (q.place ≡ root.place) × (q.capacity ≡ root.capacity) × Waits q me.0
+      → ((s : St) (r : IsSound stands l s) (lt : root.place < l.shape.lanes * l.shape.handles) (g : ℕ)
+      → get_elem? s.views id ≡ some me.0 → weigh (on_root ref_born root.place g) me.0 < weigh (at_birth_of root.place g)
+      me.0 → g ≡ (r.counts root.place lt).generation + 1) → 0 < me.0.moves → me.0.inside ≡ None
+      → Allows (IsSound stands l) (slots_of l.shape) id me (count_word_of l.shape root.place)
+      (λ n. (n + 4294967297) % 2 ^ 64)
+      (births root (step (slots_of l.shape) (count_word_of l.shape root.place) 4294967297 0 none) me)
   births_allowed id me root lt has waits next moves out s r _ at under =
       let p : ℕ = root.place in let v : SeatView = me.0 in
       let bearing = waits_place waits in let less = waits_generation waits in let noted = waits_capacity waits in
       let this : (waits.0).generation ≡ (r.counts p lt).generation + 1 = next s r lt (waits.0).generation at less in
       let k = r.counts p lt in let vac = hand_word s r id p v lt at has in let m : ℕ = v.moves - 1 in
       let word : ℕ = slice_index s.words (count_word_of l.shape p) in
-      let over : k.count ≡ 0 = dite (ℕ_discrete k.count 0) (λ z. z) (λ ne. let a = k.live (omega (arith, ne)) in absurd (omega (arith, a, vac))) in
+      let over : k.count ≡ 0 = dite (ℕ_discrete k.count 0) (λ z. z)
+      (λ ne. let a = k.live (omega (arith, ne)) in absurd (omega (arith, a, vac))) in
       let nx = next_word word k.generation k.count k.vacant k.word_is over vac (small_generation s r p lt) in
       let r' : RootId = record { place = p; generation = word / 4294967296 + 1; capacity = root.capacity } in
       let gen : r'.generation ≡ k.generation + 1 = ap (λ (n : ℕ). n + 1) nx.1 in
@@ -190,24 +258,75 @@ module _ {H : Type 0} (stands : List ℕ → Setting → List Noted → H → Ty
         with_ref v r' Born m,
         keeps,
         tt,
-        ref_changes stands l s r id p ((word + 4294967297) % 2 ^ 64) m v r' Born lt refl out at (awake_hand s r id p v at has) (let n : ℕ = v.moves in let pos : 0 < n = moves in let g : 1 + (n - 1) ≤ n = omega (arith, pos) in g)
-            (counted_more stands l v r' Born m fine.counted refl) (settled_more stands l v r' Born m fine.settled refl) (handy_less stands l v r' m fine.handy has) (orderly_born stands l v r' m fine.roots bearing
+        ref_changes stands l s r id p ((word + 4294967297) % 2 ^ 64) m v r' Born lt refl out at
+            (awake_hand s r id p v at has)
+            (let n : ℕ = v.moves in let pos : 0 < n = moves in let g : 1 + (n - 1) ≤ n = omega (arith, pos) in g)
+            (counted_more stands l v r' Born m fine.counted refl) (settled_more stands l v r' Born m fine.settled refl)
+            (handy_less stands l v r' m fine.handy has) (orderly_born stands l v r' m fine.roots bearing
             (subst (λ (g : ℕ). weigh (on_root ref_born p g) v < weigh (at_birth_of p g) v) (this ∙ sym gen) less)
-            (let none_yet : weigh (on_exact ref_born p r'.generation root.capacity) v ≡ 0 = (let z : tally ref_born p r'.generation s.views ≡ 0 = k.later ref_born r'.generation (inr (let q : r'.generation ≡ k.generation + 1 = gen in omega (arith, q))) in let le = sum_at (weigh (on_root ref_born p r'.generation)) s.views id v at in
-            let el : weigh (on_exact ref_born p r'.generation root.capacity) v ≤ weigh (on_root ref_born p r'.generation) v = sum_by-le-sum_by (λ (q : Part). sum_by (on_exact ref_born p r'.generation root.capacity) q.notes) (λ (q : Part). sum_by (on_root ref_born p r'.generation) q.notes) (parts_of v) (λ q. sum_by-le-sum_by (on_exact ref_born p r'.generation root.capacity) (on_root ref_born p r'.generation) q.notes (exact_entry p r'.generation root.capacity)) in
-            let x : ℕ = tally ref_born p r'.generation s.views in let z' : x ≡ 0 = z in let le' : weigh (on_root ref_born p r'.generation) v ≤ x = le in omega (arith, z', le', el)) in
-            let some_noted : 0 < weigh (at_birth_as p r'.generation root.capacity) v = subst (λ (g : ℕ). 0 < weigh (at_birth_as p g root.capacity) v) (this ∙ sym gen) noted in omega (arith, none_yet, some_noted)))
+            (let none_yet : weigh (on_exact ref_born p r'.generation root.capacity) v
+            ≡ 0 =
+            (let z : tally ref_born p r'.generation s.views
+            ≡ 0 =
+            k.later ref_born r'.generation
+            (inr (let q : r'.generation ≡ k.generation + 1 = gen in omega (arith, q))) in let le =
+            sum_at (weigh (on_root ref_born p r'.generation)) s.views id v at in
+            let el : weigh (on_exact ref_born p r'.generation root.capacity) v ≤ weigh
+            (on_root ref_born p r'.generation) v =
+            sum_by-le-sum_by (λ (q : Part). sum_by (on_exact ref_born p r'.generation root.capacity) q.notes)
+            (λ (q : Part). sum_by (on_root ref_born p r'.generation) q.notes) (parts_of v)
+            (λ q. sum_by-le-sum_by (on_exact ref_born p r'.generation root.capacity)
+            (on_root ref_born p r'.generation) q.notes
+            (exact_entry p r'.generation root.capacity)) in
+            let x : ℕ = tally ref_born p r'.generation s.views in let z' : x
+            ≡ 0 = z in let le' : weigh (on_root ref_born p r'.generation) v ≤ x = le in
+            omega (arith, z', le', el)) in
+            let some_noted : 0 < weigh (at_birth_as p r'.generation root.capacity) v =
+            subst (λ (g : ℕ). 0 < weigh (at_birth_as p g root.capacity) v) (this ∙ sym gen) noted in
+            omega (arith, none_yet, some_noted)))
             (λ k e. absurd (cc e))
-            (subst (IsCounted p (set s.views id (with_ref v r' Born m))) (sym nx.0) (born_kept p s.views id v r' m at refl word k gen vac))
-            (let some_noted : 0 < weigh (at_birth_as p r'.generation root.capacity) v = subst (λ (g : ℕ). 0 < weigh (at_birth_as p g root.capacity) v) (this ∙ sym gen) noted in let le = sum_at (weigh (at_birth_as p r'.generation root.capacity)) s.views id v at in let g : 0 < sum_by (weigh (at_birth_as p r'.generation root.capacity)) s.views = omega (arith, some_noted, le) in g),
-        ((let a : word / 4294967296 ≡ k.generation = nx.1 in let b = small_generation s r p lt in let g : word / 4294967296 < 1073741824 = subst (λ (n : ℕ). n < 1073741824) (sym a) b in g), refl, counts_it s r id v r' m at (let some_noted : 0 < weigh (at_birth_as p r'.generation root.capacity) v = subst (λ (g : ℕ). 0 < weigh (at_birth_as p g root.capacity) v) (this ∙ sym gen) noted in let le = sum_at (weigh (at_birth_as p r'.generation root.capacity)) s.views id v at in omega (arith, some_noted, le)), λ q ep ec w. let gq : q.generation ≡ r'.generation = next s r lt q.generation at (waits_generation (q, ep, ec, w)) ∙ sym gen in λ i. record { place = sym ep i; generation = sym gq i; capacity = sym ec i }),
+            (subst (IsCounted p (set s.views id (with_ref v r' Born m))) (sym nx.0)
+            (born_kept p s.views id v r' m at refl word k gen vac))
+            (let some_noted : 0 < weigh (at_birth_as p r'.generation root.capacity) v =
+            subst (λ (g : ℕ). 0 < weigh (at_birth_as p g root.capacity) v) (this ∙ sym gen) noted in let le =
+            sum_at (weigh (at_birth_as p r'.generation root.capacity)) s.views id v at in
+            let g : 0 < sum_by (weigh (at_birth_as p r'.generation root.capacity)) s.views =
+            omega (arith, some_noted, le) in
+            g),
+        (
+          (let a : word / 4294967296 ≡ k.generation = nx.1 in let b = small_generation s r p lt in
+              let g : word / 4294967296 < 1073741824 = subst (λ (n : ℕ). n < 1073741824) (sym a) b in
+              g),
+          refl,
+          counts_it s r id v r' m at
+              (let some_noted : 0 < weigh (at_birth_as p r'.generation root.capacity) v =
+              subst (λ (g : ℕ). 0 < weigh (at_birth_as p g root.capacity) v) (this ∙ sym gen) noted in let le =
+              sum_at (weigh (at_birth_as p r'.generation root.capacity)) s.views id v at in
+              omega (arith, some_noted, le)),
+          λ q ep ec w. let gq : q.generation
+              ≡ r'.generation =
+              next s r lt q.generation at (waits_generation (q, ep, ec, w))
+              ∙ sym gen in λ i. record {
+                place = sym ep i;
+                generation = sym gq i;
+                capacity =
+                    sym ec i;
+              },
+        ),
       )
     where
-      waits_place : (q : RootId) × (q.place ≡ root.place) × (q.capacity ≡ root.capacity) × Waits q me.0 → IsBearing root.place me.0
+      waits_place : (q : RootId) × (q.place ≡ root.place) × (q.capacity ≡ root.capacity) × Waits q me.0
+          → IsBearing root.place me.0
       waits_place (q, ep, ec, w) = subst (λ (p : ℕ). IsBearing p me.0) ep w.place
 
-      waits_generation : (w : (q : RootId) × (q.place ≡ root.place) × (q.capacity ≡ root.capacity) × Waits q me.0) → weigh (on_root ref_born root.place (w.0).generation) me.0 < weigh (at_birth_of root.place (w.0).generation) me.0
-      waits_generation (q, ep, ec, w) = subst (λ (p : ℕ). weigh (on_root ref_born p q.generation) me.0 < weigh (at_birth_of p q.generation) me.0) ep w.generation
+      waits_generation : (w : (q : RootId) × (q.place ≡ root.place) × (q.capacity ≡ root.capacity) × Waits q me.0)
+          → weigh (on_root ref_born root.place (w.0).generation) me.0 < weigh (at_birth_of root.place (w.0).generation)
+          me.0
+      waits_generation (q, ep, ec, w) =
+          subst (λ (p : ℕ). weigh (on_root ref_born p q.generation) me.0 < weigh (at_birth_of p q.generation) me.0) ep
+          w.generation
 
-      waits_capacity : (w : (q : RootId) × (q.place ≡ root.place) × (q.capacity ≡ root.capacity) × Waits q me.0) → 0 < weigh (at_birth_as root.place (w.0).generation root.capacity) me.0
-      waits_capacity (q, ep, ec, w) = subst (λ (y : ℕ × ℕ). 0 < weigh (at_birth_as y.0 q.generation y.1) me.0) (λ i. (ep i, ec i)) w.capacity
+      waits_capacity : (w : (q : RootId) × (q.place ≡ root.place) × (q.capacity ≡ root.capacity) × Waits q me.0)
+          → 0 < weigh (at_birth_as root.place (w.0).generation root.capacity) me.0
+      waits_capacity (q, ep, ec, w) =
+          subst (λ (y : ℕ × ℕ). 0 < weigh (at_birth_as y.0 q.generation y.1) me.0) (λ i. (ep i, ec i)) w.capacity

@@ -23,13 +23,17 @@ none_cut [] after x is = absurd (cc is)
 none_cut (b ∷ bs) after x is = absurd (cc is)
 
 -- a fact of all elements, at the cut and before it
-pub at_cut : {X : Type 0} (P : X → Type 0) (before after : List X) (x : X) → All P (before ++ x ∷ after) → P x × All P before
+pub at_cut : {X : Type 0} (P : X → Type 0) (before after : List X) (x : X) → All P (before ++ x ∷ after)
+    → P x × All P before
 at_cut P [] after x all = (All-head P x after all, All-nil P)
 at_cut P (b ∷ bs) after x all =
     let rest = at_cut P bs after x (All-tail P b (bs ++ x ∷ after) all) in
     (rest.0, All-cons P b bs (All-head P b (bs ++ x ∷ after) all) rest.1)
 
 -- two facts of all elements
-pub all_two : {X : Type 0} (P Q R : X → Type 0) → ((x : X) → P x → Q x → R x) → (xs : List X) → All P xs → All Q xs → All R xs
+pub all_two : {X : Type 0} (P Q R : X → Type 0) → ((x : X) → P x → Q x → R x) → (xs : List X) → All P xs → All Q xs
+    → All R xs
 all_two P Q R f [] a b = All-nil R
-all_two P Q R f (x ∷ xs) a b = All-cons R x xs (f x (All-head P x xs a) (All-head Q x xs b)) (all_two P Q R f xs (All-tail P x xs a) (All-tail Q x xs b))
+all_two P Q R f (x ∷ xs) a b =
+    All-cons R x xs (f x (All-head P x xs a) (All-head Q x xs b))
+    (all_two P Q R f xs (All-tail P x xs a) (All-tail Q x xs b))

@@ -49,59 +49,80 @@ may_so s o None d none = sure (needs_lane d) none
     sure false e = refl
 
 -- where no element weighs anything in all, each weighs nothing
-none_each : (f : Noted → ℕ) (P : Noted → Type 0) → ((n : Noted) → f n ≡ 0 → P n) → (h : List Noted) → sum_by f h ≡ 0 → All P h
+none_each : (f : Noted → ℕ) (P : Noted → Type 0) → ((n : Noted) → f n ≡ 0 → P n) → (h : List Noted) → sum_by f h ≡ 0
+    → All P h
 none_each f P so [] z k d lt = absurd (omega (arith, lt))
 none_each f P so (n ∷ ns) z zero d lt = let a = sum_by-cons f n ns in so n (omega (arith, a, z))
-none_each f P so (n ∷ ns) z (suc k) d lt = let a = sum_by-cons f n ns in none_each f P so ns (omega (arith, a, z)) k d (omega (arith, lt))
+none_each f P so (n ∷ ns) z (suc k) d lt =
+    let a = sum_by-cons f n ns in none_each f P so ns (omega (arith, a, z)) k d (omega (arith, lt))
 
 module _ (s : Shape) (o : Object) (fits : IsObjectOf s o) (h : List Noted) where
   abbrev w : Entry → ℕ
   w = noted_weight (fault s o)
 
-  right : (limit : ℕ) (lane : Option ℕ) (e : Entry) → is_about s (home_of s o) e ≡ true → Stands s lane e → Tells o h limit lane e → w e ≡ 0
+  right : (limit : ℕ) (lane : Option ℕ) (e : Entry) → is_about s (home_of s o) e ≡ true → Stands s lane e
+      → Tells o h limit lane e → w e ≡ 0
   right limit lane (At p k n) on st t =
       let same : p ≡ o = one_home s p o st.object fits (eqb-true (home_of s p) (home_of s o) on) in
-      no_fault s o n.lane n.did (subst (λ (x : Option ℕ × Object). MayNote s x.0 x.1 n.did) (λ i. (sym t.2 i, same i)) st.lane_may)
+      no_fault s o n.lane n.did (subst (λ (x : Option ℕ × Object). MayNote s x.0 x.1 n.did) (λ i. (sym t.2 i, same i))
+      st.lane_may)
   right limit lane (Ref r d) on st t = refl
   right limit lane (Busy b) on st t = refl
 
-  in_strand : (limit : ℕ) (lane : Option ℕ) (es : List Entry) → All (Stands s lane) es → All (Tells o h limit lane) (filter (is_about s (home_of s o)) es) → sum_by w (filter (is_about s (home_of s o)) es) ≡ 0
+  in_strand : (limit : ℕ) (lane : Option ℕ) (es : List Entry) → All (Stands s lane) es
+      → All (Tells o h limit lane) (filter (is_about s (home_of s o)) es)
+      → sum_by w (filter (is_about s (home_of s o)) es) ≡ 0
   in_strand limit lane [] st t = refl
-  in_strand limit lane (e ∷ es) st t = one (is_about s (home_of s o) e) refl t (in_strand limit lane es (All-tail (Stands s lane) e es st))
+  in_strand limit lane (e ∷ es) st t =
+      one (is_about s (home_of s o) e) refl t (in_strand limit lane es (All-tail (Stands s lane) e es st))
     where
-      one : (b : Bool) → is_about s (home_of s o) e ≡ b → All (Tells o h limit lane) (cond b (e ∷ filter (is_about s (home_of s o)) es) (filter (is_about s (home_of s o)) es))
-          → (All (Tells o h limit lane) (filter (is_about s (home_of s o)) es) → sum_by w (filter (is_about s (home_of s o)) es) ≡ 0)
+      one : (b : Bool) → is_about s (home_of s o) e ≡ b
+          → All (Tells o h limit lane) (cond b (e ∷ filter (is_about s (home_of s o)) es)
+          (filter (is_about s (home_of s o)) es))
+          → (All (Tells o h limit lane) (filter (is_about s (home_of s o)) es)
+          → sum_by w (filter (is_about s (home_of s o)) es) ≡ 0)
           → sum_by w (cond b (e ∷ filter (is_about s (home_of s o)) es) (filter (is_about s (home_of s o)) es)) ≡ 0
       one true on t rest =
           let es' : List Entry = filter (is_about s (home_of s o)) es in
-          let a = sum_by-cons w e es' in let here = right limit lane e on (All-head (Stands s lane) e es st) (All-head (Tells o h limit lane) e es' t) in
+          let a = sum_by-cons w e es' in let here =
+          right limit lane e on (All-head (Stands s lane) e es st) (All-head (Tells o h limit lane) e es' t) in
           let more = rest (All-tail (Tells o h limit lane) e es' t) in omega (arith, a, here, more)
       one false off t rest = rest t
 
   abbrev weighs : Part → ℕ
   weighs p = sum_by w p.notes
 
-  in_parts : (limit : ℕ) (ps : List Part) → All (λ (p : Part). All (Stands s p.number) p.notes) ps → All (IsTold o h limit) (map (strand s (home_of s o)) ps) → sum_by weighs (map (strand s (home_of s o)) ps) ≡ 0
+  in_parts : (limit : ℕ) (ps : List Part) → All (λ (p : Part). All (Stands s p.number) p.notes) ps
+      → All (IsTold o h limit) (map (strand s (home_of s o)) ps) → sum_by weighs (map (strand s (home_of s o)) ps) ≡ 0
   in_parts limit [] st t = refl
   in_parts limit (p ∷ ps) st t =
       let P : Part → Type 0 = λ (p : Part). All (Stands s p.number) p.notes in
       let q : Part = strand s (home_of s o) p in let qs : List Part = map (strand s (home_of s o)) ps in
-      let a = sum_by-cons weighs q qs in let here = in_strand limit p.number p.notes (All-head P p ps st) (All-head (IsTold o h limit) q qs t).told in
-      let more = in_parts limit ps (All-tail P p ps st) (All-tail (IsTold o h limit) q qs t) in omega (arith, a, here, more)
+      let a = sum_by-cons weighs q qs in let here =
+      in_strand limit p.number p.notes (All-head P p ps st) (All-head (IsTold o h limit) q qs t).told in
+      let more = in_parts limit ps (All-tail P p ps st) (All-tail (IsTold o h limit) q qs t) in
+      omega (arith, a, here, more)
 
-  in_faces : (limit : Face → ℕ) (setting : Setting) (vs : List SeatView) → All (IsView s setting) vs → All (λ (f : Face). All (IsTold o h (limit f)) f.parts) (map (face s (home_of s o)) vs) → noted_total (fault s o) (map (face s (home_of s o)) vs) ≡ 0
+  in_faces : (limit : Face → ℕ) (setting : Setting) (vs : List SeatView) → All (IsView s setting) vs
+      → All (λ (f : Face). All (IsTold o h (limit f)) f.parts) (map (face s (home_of s o)) vs)
+      → noted_total (fault s o) (map (face s (home_of s o)) vs) ≡ 0
   in_faces limit setting [] fine t = refl
   in_faces limit setting (v ∷ vs) fine t =
       let Q : Face → Type 0 = λ (f : Face). All (IsTold o h (limit f)) f.parts in
       let f : Face = face s (home_of s o) v in let fs : List Face = map (face s (home_of s o)) vs in
-      let a = sum_by-cons (noted_in (fault s o)) f fs in let here = in_parts (limit f) (parts_of v) (All-head (IsView s setting) v vs fine).notes (All-head Q f fs t) in
-      let more = in_faces limit setting vs (All-tail (IsView s setting) v vs fine) (All-tail Q f fs t) in omega (arith, a, here, more)
+      let a = sum_by-cons (noted_in (fault s o)) f fs in let here =
+      in_parts (limit f) (parts_of v) (All-head (IsView s setting) v vs fine).notes (All-head Q f fs t) in
+      let more = in_faces limit setting vs (All-tail (IsView s setting) v vs fine) (All-tail Q f fs t) in
+      omega (arith, a, here, more)
 
 module _ {H : Type 0} (stands : List ℕ → Setting → List Noted → H → Type 0) (l : Layout) where
-  pub each_may : (s : State (Option H) SeatView) (r : IsSound stands l s) (o : Object) (fits : IsObjectOf l.shape o) → All (λ (n : Noted). MayNote l.shape n.lane o n.did) (r.objects o fits).history
+  pub each_may : (s : State (Option H) SeatView) (r : IsSound stands l s) (o : Object) (fits : IsObjectOf l.shape o)
+      → All (λ (n : Noted). MayNote l.shape n.lane o n.did) (r.objects o fits).history
   each_may s r o fits =
       let k = r.objects o fits in
       let faces : List Face = map (face l.shape (home_of l.shape o)) s.views in
-      let none = in_faces l.shape o fits k.history (λ (f : Face). length k.history + (inside_total faces - is_in f)) r.setting s.views r.views k.told in
+      let none = in_faces l.shape o fits k.history (λ (f : Face). length k.history + (inside_total faces - is_in f))
+      r.setting s.views r.views k.told in
       let total = k.weights (fault l.shape o) in
-      none_each (fault l.shape o) (λ (n : Noted). MayNote l.shape n.lane o n.did) (λ n. may_so l.shape o n.lane n.did) k.history (sym total ∙ none)
+      none_each (fault l.shape o) (λ (n : Noted). MayNote l.shape n.lane o n.did) (λ n. may_so l.shape o n.lane n.did)
+      k.history (sym total ∙ none)

@@ -20,31 +20,43 @@ use Rattle.pool_table.proofs.Order.{IsBelowAll, IsNewest}
 use Rattle.step_law.proofs.Changes.{each_unmapped}
 
 -- a fact of what a filter lets through
-pub filtered : {X : Type 0} (P : X → Type 0) (t : X → Bool) (xs : List X) → All P (filter t xs) → All (λ (x : X). t x ≡ true → P x) xs
+pub filtered : {X : Type 0} (P : X → Type 0) (t : X → Bool) (xs : List X) → All P (filter t xs)
+    → All (λ (x : X). t x ≡ true → P x) xs
 filtered {X} P t [] all = All-nil (λ (x : X). t x ≡ true → P x)
 filtered {X} P t (x ∷ xs) all = one (t x) refl all (λ rest. filtered P t xs rest)
   where
-    one : (b : Bool) → t x ≡ b → All P (cond b (x ∷ filter t xs) (filter t xs)) → (All P (filter t xs) → All (λ (x : X). t x ≡ true → P x) xs) → All (λ (x : X). t x ≡ true → P x) (x ∷ xs)
-    one true e all more = All-cons (λ (x : X). t x ≡ true → P x) x xs (λ _. All-head P x (filter t xs) all) (more (All-tail P x (filter t xs) all))
-    one false e all more = All-cons (λ (x : X). t x ≡ true → P x) x xs (λ on. let both : true ≡ false = sym on ∙ e in absurd (cc both)) (more all)
+    one : (b : Bool) → t x ≡ b → All P (cond b (x ∷ filter t xs) (filter t xs))
+        → (All P (filter t xs) → All (λ (x : X). t x ≡ true → P x) xs) → All (λ (x : X). t x ≡ true → P x) (x ∷ xs)
+    one true e all more =
+        All-cons (λ (x : X). t x ≡ true → P x) x xs (λ _. All-head P x (filter t xs) all)
+        (more (All-tail P x (filter t xs) all))
+    one false e all more =
+        All-cons (λ (x : X). t x ≡ true → P x) x xs (λ on. let both : true ≡ false = sym on ∙ e in absurd (cc both))
+        (more all)
 
 module _ {H : Type 0} (stands : List ℕ → Setting → List Noted → H → Type 0) (l : Layout) where
   -- an entry of a part that the history tells is below the history's next note
-  below_next : (o : Object) (h : List Noted) (limit : ℕ) (lane : Option ℕ) (n : Noted) (y : Entry) → (is_about l.shape (home_of l.shape o) y ≡ true → Tells o h limit lane y) → IsBelow y (At o (length h + 1) n)
+  below_next : (o : Object) (h : List Noted) (limit : ℕ) (lane : Option ℕ) (n : Noted) (y : Entry)
+      → (is_about l.shape (home_of l.shape o) y ≡ true → Tells o h limit lane y) → IsBelow y (At o (length h + 1) n)
   below_next o h limit lane n (At p k m) told = λ same.
       let t = told (eq-eqb (home_of l.shape p) (home_of l.shape o) (ap (home_of l.shape) same)) in
       let in_range = slice_get_within h (k - 1) m t.1 in let pos = t.0 in omega (arith, in_range, pos)
   below_next o h limit lane n (Ref r d) told = tt
   below_next o h limit lane n (Busy b) told = tt
 
-  pub newest_note : (s : State (Option H) SeatView) (r : IsSound stands l s) (o : Object) (fits : IsObjectOf l.shape o) (n : Noted) → IsNewest (At o (length (r.objects o fits).history + 1) n) s.views
+  pub newest_note : (s : State (Option H) SeatView) (r : IsSound stands l s) (o : Object) (fits : IsObjectOf l.shape o)
+      (n : Noted) → IsNewest (At o (length (r.objects o fits).history + 1) n) s.views
   newest_note s r o fits n =
       let k = r.objects o fits in let h : List Noted = k.history in let i : ℕ = home_of l.shape o in
       let t : ℕ = inside_total (map (face l.shape i) s.views) in
       let limit : Face → ℕ = λ (f : Face). length h + (t - is_in f) in
-      All-weaker (λ (v : SeatView). All (IsTold o h (limit (face l.shape i v))) (face l.shape i v).parts) (λ (v : SeatView). All (IsBelowAll (At o (length h + 1) n)) (parts_of v))
-      (λ v told. All-weaker (λ (p : Part). IsTold o h (limit (face l.shape i v)) (strand l.shape i p)) (IsBelowAll (At o (length h + 1) n))
-      (λ p one. All-weaker (λ (y : Entry). is_about l.shape i y ≡ true → Tells o h (limit (face l.shape i v)) p.number y) (λ (y : Entry). IsBelow y (At o (length h + 1) n))
-      (λ y. below_next o h (limit (face l.shape i v)) p.number n y) p.notes (filtered (Tells o h (limit (face l.shape i v)) p.number) (is_about l.shape i) p.notes one.told))
+      All-weaker (λ (v : SeatView). All (IsTold o h (limit (face l.shape i v))) (face l.shape i v).parts)
+      (λ (v : SeatView). All (IsBelowAll (At o (length h + 1) n)) (parts_of v))
+      (λ v told. All-weaker (λ (p : Part). IsTold o h (limit (face l.shape i v)) (strand l.shape i p))
+      (IsBelowAll (At o (length h + 1) n))
+      (λ p one. All-weaker (λ (y : Entry). is_about l.shape i y ≡ true
+      → Tells o h (limit (face l.shape i v)) p.number y) (λ (y : Entry). IsBelow y (At o (length h + 1) n))
+      (λ y. below_next o h (limit (face l.shape i v)) p.number n y) p.notes
+      (filtered (Tells o h (limit (face l.shape i v)) p.number) (is_about l.shape i) p.notes one.told))
       (parts_of v) (each_unmapped (IsTold o h (limit (face l.shape i v))) (strand l.shape i) (parts_of v) told))
       s.views (each_unmapped (λ (f : Face). All (IsTold o h (limit f)) f.parts) (face l.shape i) s.views k.told)

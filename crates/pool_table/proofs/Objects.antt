@@ -26,18 +26,29 @@ use Rattle.pool_table.specs.Views.{Face, is_at, is_numbered, noted_of, is_lane, 
 use Rattle.pool_table.specs.Sound.{Before, Tells, IsTold, Knows, IsKept, IsMarked}
 
 module _ (o : Object) where
-  tells_looser : (h : List Noted) (limit limit' : ℕ) (lane : Option ℕ) → limit ≤ limit' → (e : Entry) → Tells o h limit lane e → Tells o h limit' lane e
+  tells_looser : (h : List Noted) (limit limit' : ℕ) (lane : Option ℕ) → limit ≤ limit' → (e : Entry)
+      → Tells o h limit lane e → Tells o h limit' lane e
   tells_looser h limit limit' lane le (At p k n) t = t
   tells_looser h limit limit' lane le (Busy b) t = let a : b.number < limit = t.0 in (omega (arith, a), t.1)
   tells_looser h limit limit' lane le (Ref r d) t = t
 
-  pub looser : (h : List Noted) (limit limit' : ℕ) → limit ≤ limit' → (p : Part) → IsTold o h limit p → IsTold o h limit' p
-  looser h limit limit' le p t = record { ordered = t.ordered; told = All-weaker (Tells o h limit p.number) (Tells o h limit' p.number) (tells_looser h limit limit' p.number le) p.notes t.told; own = t.own }
+  pub looser : (h : List Noted) (limit limit' : ℕ) → limit ≤ limit' → (p : Part) → IsTold o h limit p
+      → IsTold o h limit' p
+  looser h limit limit' le p t =
+      record {
+        ordered = t.ordered;
+        told = All-weaker (Tells o h limit p.number) (Tells o h limit' p.number)
+            (tells_looser h limit limit' p.number le) p.notes t.told;
+        own = t.own;
+      }
 
-  pub looser_all : (h : List Noted) (limit limit' : ℕ) (ps : List Part) → limit ≤ limit' → All (IsTold o h limit) ps → All (IsTold o h limit') ps
-  looser_all h limit limit' ps le all = All-weaker (IsTold o h limit) (IsTold o h limit') (looser h limit limit' le) ps all
+  pub looser_all : (h : List Noted) (limit limit' : ℕ) (ps : List Part) → limit ≤ limit' → All (IsTold o h limit) ps
+      → All (IsTold o h limit') ps
+  looser_all h limit limit' ps le all =
+      All-weaker (IsTold o h limit) (IsTold o h limit') (looser h limit limit' le) ps all
 
-  pub slice_get_front : (xs ys : List Noted) (k : ℕ) (x : Noted) → slice_get xs k ≡ Some x → slice_get (xs ++ ys) k ≡ Some x
+  pub slice_get_front : (xs ys : List Noted) (k : ℕ) (x : Noted) → slice_get xs k ≡ Some x
+      → slice_get (xs ++ ys) k ≡ Some x
   slice_get_front [] ys k x e = absurd (cc)
   slice_get_front (y ∷ xs) ys zero x e = e
   slice_get_front (y ∷ xs) ys (suc k) x e = slice_get_front xs ys k x e
@@ -46,95 +57,179 @@ module _ (o : Object) where
   slice_get_last [] x = refl
   slice_get_last (y ∷ xs) x = slice_get_last xs x
 
-  tells_longer : (h : List Noted) (more : List Noted) (limit limit' : ℕ) (lane : Option ℕ) → limit ≤ limit' → (e : Entry) → Tells o h limit lane e → Tells o (h ++ more) limit' lane e
+  tells_longer : (h : List Noted) (more : List Noted) (limit limit' : ℕ) (lane : Option ℕ) → limit ≤ limit'
+      → (e : Entry) → Tells o h limit lane e → Tells o (h ++ more) limit' lane e
   tells_longer h more limit limit' lane le (At p k n) t = (t.0, slice_get_front h more (k - 1) n t.1, t.2)
   tells_longer h more limit limit' lane le (Busy b) t = let a : b.number < limit = t.0 in (omega (arith, a), t.1)
   tells_longer h more limit limit' lane le (Ref r d) t = t
 
-  filter_skips : (test : Noted → Bool) (h : List Noted) (x : Noted) → test x ≡ false → filter test (h ++ x ∷ []) ≡ filter test h
-  filter_skips test h x e = filter-append test h (x ∷ []) ∙ (ap (λ (b : Bool). filter test h ++ cond b (x ∷ []) []) e ∙ append-nil (filter test h))
+  filter_skips : (test : Noted → Bool) (h : List Noted) (x : Noted) → test x ≡ false
+      → filter test (h ++ x ∷ []) ≡ filter test h
+  filter_skips test h x e =
+      filter-append test h (x ∷ []) ∙ (ap (λ (b : Bool). filter test h ++ cond b (x ∷ []) []) e
+      ∙ append-nil (filter test h))
 
-  filter_takes : (test : Noted → Bool) (h : List Noted) (x : Noted) → test x ≡ true → filter test (h ++ x ∷ []) ≡ filter test h ++ x ∷ []
+  filter_takes : (test : Noted → Bool) (h : List Noted) (x : Noted) → test x ≡ true
+      → filter test (h ++ x ∷ []) ≡ filter test h ++ x ∷ []
   filter_takes test h x e = filter-append test h (x ∷ []) ∙ ap (λ (b : Bool). filter test h ++ cond b (x ∷ []) []) e
 
   -- another part, when the history gets one note more
-  pub longer : (h : List Noted) (x : Noted) (limit limit' : ℕ) → limit ≤ limit' → (p : Part) → ((m : ℕ) → p.number ≡ Some m → is_lane m x.lane ≡ false) → IsTold o h limit p → IsTold o (h ++ x ∷ []) limit' p
+  pub longer : (h : List Noted) (x : Noted) (limit limit' : ℕ) → limit ≤ limit' → (p : Part)
+      → ((m : ℕ) → p.number ≡ Some m → is_lane m x.lane ≡ false) → IsTold o h limit p → IsTold o (h ++ x ∷ []) limit' p
   longer h x limit limit' le p apart t = record {
     ordered = t.ordered;
-    told = All-weaker (Tells o h limit p.number) (Tells o (h ++ x ∷ []) limit' p.number) (tells_longer h (x ∷ []) limit limit' p.number le) p.notes t.told;
+    told =
+        All-weaker (Tells o h limit p.number) (Tells o (h ++ x ∷ []) limit' p.number)
+        (tells_longer h (x ∷ []) limit limit' p.number le) p.notes t.told;
     own = λ m e. t.own m e ∙ sym (filter_skips (λ (n : Noted). is_lane m n.lane) h x (apart m e));
   }
 
-  before_note : (h : List Noted) (lane : Option ℕ) (q : Object) (x : Noted) (e : Entry) → Tells o h (length h) lane e → Before e (At q (length h + 1) x)
-  before_note h lane q x (At p k n) t = let a = slice_get_within h (k - 1) n t.1 in let z : 0 < k = t.0 in let l : ℕ = length h in let a' : k - 1 < l = a in let g : k < l + 1 = omega (arith, a', z) in g
-  before_note h lane q x (Busy b) t = let a : b.number < length h = t.0 in let l : ℕ = length h in let a' : b.number < l = a in let g : b.number + 1 < l + 1 = omega (arith, a') in g
+  before_note : (h : List Noted) (lane : Option ℕ) (q : Object) (x : Noted) (e : Entry) → Tells o h (length h) lane e
+      → Before e (At q (length h + 1) x)
+  before_note h lane q x (At p k n) t =
+      let a = slice_get_within h (k - 1) n t.1 in let z : 0 < k = t.0 in let l : ℕ = length h in let a' : k - 1 < l =
+      a in let g : k < l + 1 = omega (arith, a', z) in
+      g
+  before_note h lane q x (Busy b) t =
+      let a : b.number < length h = t.0 in let l : ℕ = length h in let a' : b.number < l = a in
+      let g : b.number + 1 < l + 1 = omega (arith, a') in
+      g
   before_note h lane q x (Ref r d) t = tt
 
-  before_mark : (h : List Noted) (lane : Option ℕ) (limit : ℕ) (b : Held) → b.number ≡ length h → limit ≤ length h + 1 → (e : Entry) → Tells o h limit lane e → Before e (Busy b)
-  before_mark h lane limit b is le (At p k n) t = let a = slice_get_within h (k - 1) n t.1 in let z : 0 < k = t.0 in let l : ℕ = length h in let a' : k - 1 < l = a in let is' : b.number ≡ l = is in let g : k ≤ b.number = omega (arith, a', z, is') in g
-  before_mark h lane limit b is le (Busy c) t = let a : c.number < limit = t.0 in let l : ℕ = length h in let is' : b.number ≡ l = is in let le' : limit ≤ l + 1 = le in let g : c.number ≤ b.number = omega (arith, a, is', le') in g
+  before_mark : (h : List Noted) (lane : Option ℕ) (limit : ℕ) (b : Held) → b.number ≡ length h → limit ≤ length h + 1
+      → (e : Entry) → Tells o h limit lane e → Before e (Busy b)
+  before_mark h lane limit b is le (At p k n) t =
+      let a = slice_get_within h (k - 1) n t.1 in let z : 0 < k = t.0 in let l : ℕ = length h in let a' : k - 1 < l =
+      a in let is' : b.number ≡ l = is in let g : k ≤ b.number = omega (arith, a', z, is') in
+      g
+  before_mark h lane limit b is le (Busy c) t =
+      let a : c.number < limit = t.0 in let l : ℕ = length h in let is' : b.number
+      ≡ l = is in let le' : limit ≤ l + 1 = le in let g : c.number ≤ b.number = omega (arith, a, is', le') in
+      g
   before_mark h lane limit b is le (Ref r d) t = tt
 
   some_lane : (m : ℕ) (l : Option ℕ) → l ≡ Some m → is_lane m l ≡ true
   some_lane m l e = subst (λ (x : Option ℕ). is_lane m x ≡ true) (sym e) (eq-eqb m m refl)
 
   -- the part that makes the note
-  pub noted_here : (h : List Noted) (x : Noted) (q : Object) (limit : ℕ) (p : Part) → length h ≤ limit → x.lane ≡ p.number → IsTold o h (length h) p → IsTold o (h ++ x ∷ []) limit (record { number = p.number; notes = p.notes ++ At q (length h + 1) x ∷ [] })
+  pub noted_here : (h : List Noted) (x : Noted) (q : Object) (limit : ℕ) (p : Part) → length h ≤ limit
+      → x.lane ≡ p.number → IsTold o h (length h) p
+      → IsTold o (h ++ x ∷ []) limit (record { number = p.number; notes = p.notes ++ At q (length h + 1) x ∷ [] })
   noted_here h x q limit p le lane t = record {
-    ordered = all_pairs_push Before p.notes (At q (length h + 1) x) t.ordered (λ k d lt. before_note h p.number q x (get_or p.notes k d) (t.told k d lt));
+    ordered =
+        all_pairs_push Before p.notes (At q (length h + 1) x) t.ordered
+        (λ k d lt. before_note h p.number q x (get_or p.notes k d) (t.told k d lt));
     told = All-push (Tells o (h ++ x ∷ []) limit p.number) p.notes (At q (length h + 1) x)
-        (All-weaker (Tells o h (length h) p.number) (Tells o (h ++ x ∷ []) limit p.number) (tells_longer h (x ∷ []) (length h) limit p.number le) p.notes t.told)
-        ((let l : ℕ = length h in let g : 0 < l + 1 = omega arith in g), (let l : ℕ = length h in let same : l ≡ l + 1 - 1 = omega arith in subst (λ (k : ℕ). slice_get (h ++ x ∷ []) k ≡ Some x) same (slice_get_last h x)), lane);
-    own = λ m e. filter_map-append noted_of p.notes (At q (length h + 1) x ∷ []) ∙ (ap (λ (l : List Noted). l ++ x ∷ []) (t.own m e) ∙ sym (filter_takes (λ (n : Noted). is_lane m n.lane) h x (some_lane m x.lane (lane ∙ e))));
+        (All-weaker (Tells o h (length h) p.number) (Tells o (h ++ x ∷ []) limit p.number)
+        (tells_longer h (x ∷ []) (length h) limit p.number le) p.notes t.told) (
+          (let l : ℕ = length h in let g : 0 < l + 1 = omega arith in g),
+          (let l : ℕ = length h in let same : l ≡ l + 1 - 1 = omega arith in
+              subst (λ (k : ℕ). slice_get (h ++ x ∷ []) k ≡ Some x) same (slice_get_last h x)),
+          lane,
+        );
+    own =
+        λ m e. filter_map-append noted_of p.notes (At q (length h + 1) x ∷ [])
+        ∙ (ap (λ (l : List Noted). l ++ x ∷ []) (t.own m e)
+        ∙ sym (filter_takes (λ (n : Noted). is_lane m n.lane) h x (some_lane m x.lane (lane ∙ e))));
   }
 
   -- the part that keeps the mark
-  pub marked_here : (h : List Noted) (b : Held) (limit : ℕ) (p : Part) → b.number ≡ length h → limit ≡ length h + 1 → IsMarked o → IsTold o h limit p → IsTold o h limit (record { number = p.number; notes = p.notes ++ Busy b ∷ [] })
+  pub marked_here : (h : List Noted) (b : Held) (limit : ℕ) (p : Part) → b.number ≡ length h → limit ≡ length h + 1
+      → IsMarked o → IsTold o h limit p → IsTold o h limit
+      (record { number = p.number; notes = p.notes ++ Busy b ∷ [] })
   marked_here h b limit p is top mark t = record {
-    ordered = all_pairs_push Before p.notes (Busy b) t.ordered (λ k d lt. before_mark h p.number limit b is (let l : ℕ = length h in let e : limit ≡ l + 1 = top in omega (arith, e)) (get_or p.notes k d) (t.told k d lt));
-    told = All-push (Tells o h limit p.number) p.notes (Busy b) t.told ((let l : ℕ = length h in let e : limit ≡ l + 1 = top in let f : b.number ≡ l = is in omega (arith, e, f)), mark);
-    own = λ m e. filter_map-append noted_of p.notes (Busy b ∷ []) ∙ (append-nil (filter_map noted_of p.notes) ∙ t.own m e);
+    ordered =
+        all_pairs_push Before p.notes (Busy b) t.ordered
+        (λ k d lt. before_mark h p.number limit b is
+        (let l : ℕ = length h in let e : limit ≡ l + 1 = top in omega (arith, e)) (get_or p.notes k d)
+        (t.told k d lt));
+    told =
+        All-push (Tells o h limit p.number) p.notes (Busy b) t.told (
+          (let l : ℕ = length h in let e : limit ≡ l + 1 = top in let f : b.number ≡ l = is in omega (arith, e, f)),
+          mark,
+        );
+    own =
+        λ m e. filter_map-append noted_of p.notes (Busy b ∷ [])
+        ∙ (append-nil (filter_map noted_of p.notes) ∙ t.own m e);
   }
 
-  pub count_skips : (test : Entry → Bool) (es : List Entry) (e : Entry) → test e ≡ false → count_by test (es ++ e ∷ []) ≡ count_by test es
-  count_skips test es e fails = let a = sum_by_push (λ (x : Entry). cond {A = ℕ} (test x) 1 0) es e in let b = ap (λ (c : Bool). cond {A = ℕ} c 1 0) fails in omega (arith, a, b)
+  pub count_skips : (test : Entry → Bool) (es : List Entry) (e : Entry) → test e ≡ false
+      → count_by test (es ++ e ∷ []) ≡ count_by test es
+  count_skips test es e fails =
+      let a = sum_by_push (λ (x : Entry). cond {A = ℕ} (test x) 1 0) es e in let b =
+      ap (λ (c : Bool). cond {A = ℕ} c 1 0) fails in
+      omega (arith, a, b)
 
-  pub count_takes : (test : Entry → Bool) (es : List Entry) (e : Entry) → count_by test (es ++ e ∷ []) ≡ count_by test es + cond {A = ℕ} (test e) 1 0
+  pub count_takes : (test : Entry → Bool) (es : List Entry) (e : Entry)
+      → count_by test (es ++ e ∷ []) ≡ count_by test es + cond {A = ℕ} (test e) 1 0
   count_takes test es e = sum_by_push (λ (x : Entry). cond {A = ℕ} (test x) 1 0) es e
 
   -- one entry more at the front part
-  pub grown : (f : Noted → ℕ) (p : Part) (ps : List Part) (e : Entry) → sum_by (λ (q : Part). sum_by (noted_weight f) q.notes) (record { number = p.number; notes = p.notes ++ e ∷ [] } ∷ ps) ≡ sum_by (λ (q : Part). sum_by (noted_weight f) q.notes) (p ∷ ps) + noted_weight f e
+  pub grown : (f : Noted → ℕ) (p : Part) (ps : List Part) (e : Entry)
+      → sum_by (λ (q : Part). sum_by (noted_weight f) q.notes)
+      (record { number = p.number; notes = p.notes ++ e ∷ [] } ∷ ps)
+      ≡ sum_by (λ (q : Part). sum_by (noted_weight f) q.notes) (p ∷ ps) + noted_weight f e
   grown f p ps e =
-      let g : Part → ℕ = λ (q : Part). sum_by (noted_weight f) q.notes in let p' : Part = record { number = p.number; notes = p.notes ++ e ∷ [] } in
-      let a : sum_by g (p' ∷ ps) ≡ g p' + sum_by g ps = sum_by-cons g p' ps in let b : sum_by g (p ∷ ps) ≡ g p + sum_by g ps = sum_by-cons g p ps in
+      let g : Part → ℕ = λ (q : Part). sum_by (noted_weight f) q.notes in let p' : Part =
+      record { number = p.number; notes = p.notes ++ e ∷ [] } in
+      let a : sum_by g (p' ∷ ps) ≡ g p' + sum_by g ps = sum_by-cons g p' ps in let b : sum_by g (p ∷ ps)
+      ≡ g p + sum_by g ps = sum_by-cons g p ps in
       let c : g p' ≡ g p + noted_weight f e = sum_by_push (noted_weight f) p.notes e in omega (arith, a, b, c)
 
   pub told_empty : (h : List Noted) (limit : ℕ) → IsTold o h limit (empty_part None)
-  told_empty h limit = record { ordered = λ i j d lt below. absurd (omega (arith, below)); told = All-nil (Tells o h limit None); own = λ m e. absurd (cc) }
+  told_empty h limit =
+      record {
+        ordered = λ i j d lt below. absurd (omega (arith, below));
+        told = All-nil (Tells o h limit None);
+        own =
+            λ m e. absurd (cc);
+      }
 
   -- no note has a number above the history's length
-  beyond : (h : List Noted) (limit : ℕ) (lane : Option ℕ) (e : Entry) → Tells o h limit lane e → cond {A = ℕ} (is_numbered (length h + 1) e) 1 0 ≡ 0
-  beyond h limit lane (At p k n) t = let a = slice_get_within h (k - 1) n t.1 in let l : ℕ = length h in let a' : k - 1 < l = a in let z : 0 < k = t.0 in let ne : k ≢ l + 1 = (λ e. omega (arith, a', z, e)) in
+  beyond : (h : List Noted) (limit : ℕ) (lane : Option ℕ) (e : Entry) → Tells o h limit lane e
+      → cond {A = ℕ} (is_numbered (length h + 1) e) 1 0 ≡ 0
+  beyond h limit lane (At p k n) t =
+      let a = slice_get_within h (k - 1) n t.1 in let l : ℕ = length h in let a' : k - 1 < l = a in let z : 0 < k =
+      t.0 in let ne : k ≢ l + 1 = (λ e. omega (arith, a', z, e)) in
       ap (λ (b : Bool). cond {A = ℕ} b 1 0) (ne_eqb k (l + 1) ne)
   beyond h limit lane (Busy b) t = refl
   beyond h limit lane (Ref r d) t = refl
 
-  beyond_part : (h : List Noted) (limit : ℕ) (p : Part) → IsTold o h limit p → count_by (is_numbered (length h + 1)) p.notes ≡ 0
-  beyond_part h limit p t = sum_none (λ (e : Entry). cond {A = ℕ} (is_numbered (length h + 1) e) 1 0) p.notes (All-weaker (Tells o h limit p.number) (λ (e : Entry). cond {A = ℕ} (is_numbered (length h + 1) e) 1 0 ≡ 0) (beyond h limit p.number) p.notes t.told)
+  beyond_part : (h : List Noted) (limit : ℕ) (p : Part) → IsTold o h limit p
+      → count_by (is_numbered (length h + 1)) p.notes ≡ 0
+  beyond_part h limit p t =
+      sum_none (λ (e : Entry). cond {A = ℕ} (is_numbered (length h + 1) e) 1 0) p.notes
+      (All-weaker (Tells o h limit p.number) (λ (e : Entry). cond {A = ℕ} (is_numbered (length h + 1) e) 1 0 ≡ 0)
+      (beyond h limit p.number) p.notes t.told)
 
-  pub beyond_all : (h : List Noted) (limit : Face → ℕ) (faces : List Face) → All (λ (f : Face). All (IsTold o h (limit f)) f.parts) faces → total (is_numbered (length h + 1)) faces ≡ 0
-  beyond_all h limit faces all = sum_none (in_face (is_numbered (length h + 1))) faces (All-weaker (λ (f : Face). All (IsTold o h (limit f)) f.parts) (λ (f : Face). in_face (is_numbered (length h + 1)) f ≡ 0)
-      (λ f t. sum_none (λ (p : Part). count_by (is_numbered (length h + 1)) p.notes) f.parts (All-weaker (IsTold o h (limit f)) (λ (p : Part). count_by (is_numbered (length h + 1)) p.notes ≡ 0) (beyond_part h (limit f)) f.parts t)) faces all)
+  pub beyond_all : (h : List Noted) (limit : Face → ℕ) (faces : List Face)
+      → All (λ (f : Face). All (IsTold o h (limit f)) f.parts) faces → total (is_numbered (length h + 1)) faces ≡ 0
+  beyond_all h limit faces all =
+      sum_none (in_face (is_numbered (length h + 1))) faces
+      (All-weaker (λ (f : Face). All (IsTold o h (limit f)) f.parts)
+      (λ (f : Face). in_face (is_numbered (length h + 1)) f ≡ 0)
+      (λ f t. sum_none (λ (p : Part). count_by (is_numbered (length h + 1)) p.notes) f.parts
+      (All-weaker (IsTold o h (limit f)) (λ (p : Part). count_by (is_numbered (length h + 1)) p.notes ≡ 0)
+      (beyond_part h (limit f)) f.parts t)) faces all)
 
   -- where no mark may stand, the limit says nothing
-  tells_any : (IsMarked o → ⊥) → (h : List Noted) (limit limit' : ℕ) (lane : Option ℕ) (e : Entry) → Tells o h limit lane e → Tells o h limit' lane e
+  tells_any : (IsMarked o → ⊥) → (h : List Noted) (limit limit' : ℕ) (lane : Option ℕ) (e : Entry)
+      → Tells o h limit lane e → Tells o h limit' lane e
   tells_any unmarked h limit limit' lane (At p k n) t = t
   tells_any unmarked h limit limit' lane (Busy b) t = absurd (unmarked t.1)
   tells_any unmarked h limit limit' lane (Ref r d) t = t
 
-  pub any_limit_all : (IsMarked o → ⊥) → (h : List Noted) (limit limit' : ℕ) (ps : List Part) → All (IsTold o h limit) ps → All (IsTold o h limit') ps
+  pub any_limit_all : (IsMarked o → ⊥) → (h : List Noted) (limit limit' : ℕ) (ps : List Part)
+      → All (IsTold o h limit) ps → All (IsTold o h limit') ps
   any_limit_all unmarked h limit limit' ps all = All-weaker (IsTold o h limit) (IsTold o h limit')
-      (λ p t. record { ordered = t.ordered; told = All-weaker (Tells o h limit p.number) (Tells o h limit' p.number) (tells_any unmarked h limit limit' p.number) p.notes t.told; own = t.own }) ps all
+      (λ p t. record {
+        ordered = t.ordered;
+        told =
+            All-weaker (Tells o h limit p.number) (Tells o h limit' p.number)
+            (tells_any unmarked h limit limit' p.number)
+            p.notes t.told;
+        own = t.own;
+      }) ps all
 
   lane_apart : (m : ℕ) (l r : Option ℕ) → (l ≡ Some m → is_lane m r ≡ false) → r ≡ Some m → is_lane m l ≡ false
   lane_apart m None r apart e = refl
@@ -144,35 +239,49 @@ module _ (o : Object) where
       (eqb_tells k m)
 
   -- the other parts, when a note is made by one with another number
-  pub longer_all : (h : List Noted) (limit limit' : ℕ) (nd : Noted) (ps : List Part) → limit ≤ limit' → ((m : ℕ) → nd.lane ≡ Some m → All (λ (r : Part). is_lane m r.number ≡ false) ps) → All (IsTold o h limit) ps → All (IsTold o (h ++ nd ∷ []) limit') ps
-  longer_all h limit limit' nd ps le apart all = λ k d lt. longer h nd limit limit' le (get_or ps k d) (λ m e. lane_apart m nd.lane (get_or ps k d).number (λ l. apart m l k d lt) e) (all k d lt)
+  pub longer_all : (h : List Noted) (limit limit' : ℕ) (nd : Noted) (ps : List Part) → limit ≤ limit'
+      → ((m : ℕ) → nd.lane ≡ Some m → All (λ (r : Part). is_lane m r.number ≡ false) ps) → All (IsTold o h limit) ps
+      → All (IsTold o (h ++ nd ∷ []) limit') ps
+  longer_all h limit limit' nd ps le apart all =
+      λ k d lt. longer h nd limit limit' le (get_or ps k d)
+      (λ m e. lane_apart m nd.lane (get_or ps k d).number (λ l. apart m l k d lt) e) (all k d lt)
 
   -- a note with the next number, and then each number stands once
-  pub each_once : (h : List Noted) (faces : List Face) → ((k : ℕ) → k < length h → total (is_numbered (k + 1)) faces ≡ 1) → total (is_numbered (length h + 1)) faces ≡ 0 → (q : Object) (nd : Noted) (j : ℕ) → j < length h + 1
+  pub each_once : (h : List Noted) (faces : List Face)
+      → ((k : ℕ) → k < length h → total (is_numbered (k + 1)) faces ≡ 1) → total (is_numbered (length h + 1)) faces ≡ 0
+      → (q : Object) (nd : Noted) (j : ℕ) → j < length h + 1
       → total (is_numbered (j + 1)) faces + cond {A = ℕ} (is_numbered (j + 1) (At q (length h + 1) nd)) 1 0 ≡ 1
   each_once h faces once fresh q nd j lt = ⊎_elim
       (λ (t : (eqb (length h + 1) (j + 1) ≡ true) × (length h + 1 ≡ j + 1)).
       let l : ℕ = length h in let e : l + 1 ≡ j + 1 = t.1 in let same : l ≡ j = omega (arith, e) in
-      let z : total (is_numbered (j + 1)) faces ≡ 0 = subst (λ (k : ℕ). total (is_numbered (k + 1)) faces ≡ 0) same fresh in
-      let c : cond {A = ℕ} (eqb (length h + 1) (j + 1)) 1 0 ≡ 1 = ap (λ (b : Bool). cond {A = ℕ} b 1 0) t.0 in omega (arith, z, c))
+      let z : total (is_numbered (j + 1)) faces ≡ 0 =
+      subst (λ (k : ℕ). total (is_numbered (k + 1)) faces ≡ 0) same fresh in
+      let c : cond {A = ℕ} (eqb (length h + 1) (j + 1)) 1 0 ≡ 1 = ap (λ (b : Bool). cond {A = ℕ} b 1 0) t.0 in
+      omega (arith, z, c))
       (λ (t : (eqb (length h + 1) (j + 1) ≡ false) × (length h + 1 ≢ j + 1)).
-      let l : ℕ = length h in let ne : l + 1 ≢ j + 1 = t.1 in let lt' : j < l + 1 = lt in let below : j < l = omega (arith, ne, lt') in
+      let l : ℕ = length h in let ne : l + 1 ≢ j + 1 = t.1 in let lt' : j < l + 1 = lt in let below : j < l =
+      omega (arith, ne, lt') in
       let z : total (is_numbered (j + 1)) faces ≡ 1 = once j below in
-      let c : cond {A = ℕ} (eqb (length h + 1) (j + 1)) 1 0 ≡ 0 = ap (λ (b : Bool). cond {A = ℕ} b 1 0) t.0 in omega (arith, z, c))
+      let c : cond {A = ℕ} (eqb (length h + 1) (j + 1)) 1 0 ≡ 0 = ap (λ (b : Bool). cond {A = ℕ} b 1 0) t.0 in
+      omega (arith, z, c))
       (eqb_tells (length h + 1) (j + 1))
 
-module _ {H : Type 0} (stands : List ℕ → Setting → List Noted → H → Type 0) (shape : Shape) (setting : Setting) (o : Object) where
+module _ {H : Type 0} (stands : List ℕ → Setting → List Noted → H → Type 0) (shape : Shape) (setting : Setting)
+    (o : Object) where
   abbrev K : List Face → ℕ → maybe.Option (maybe.Option (Option H)) → Type 0
   K faces word home = IsKept stands shape setting o faces word home
 
   abbrev Limit : List Face → ℕ → Face → ℕ
   Limit faces n f = n + (inside_total faces - is_in f)
 
-  pub claimed_kept : (faces : List Face) (word : ℕ) (home home' : maybe.Option (maybe.Option (Option H))) (id : ℕ) (f : Face) (x : Inside) (k : K faces word home) → get_elem? faces id ≡ some f → inside_total faces ≡ 0
-      → x.history ≡ k.history → x.number ≡ length k.history → K (set faces id (record { parts = f.parts; inside = Some x })) (word + 1) home'
+  pub claimed_kept : (faces : List Face) (word : ℕ) (home home' : maybe.Option (maybe.Option (Option H))) (id : ℕ)
+      (f : Face) (x : Inside) (k : K faces word home) → get_elem? faces id ≡ some f → inside_total faces ≡ 0
+      → x.history ≡ k.history → x.number ≡ length k.history
+      → K (set faces id (record { parts = f.parts; inside = Some x })) (word + 1) home'
   claimed_kept faces word home home' id f x k at nobody hx nx =
       let f' : Face = record { parts = f.parts; inside = Some x } in
-      let t : ℕ = inside_total faces in let t' : ℕ = inside_total (set faces id f') in let i : ℕ = is_in f in let n : ℕ = length k.history in
+      let t : ℕ = inside_total faces in let t' : ℕ = inside_total (set faces id f') in let i : ℕ = is_in f in
+      let n : ℕ = length k.history in
       let z : t ≡ 0 = nobody in
       let s : t' + i ≡ t + 1 = sum_set is_in faces id f f' at in let le : i ≤ t = sum_at is_in faces id f at in
       let one : t' ≡ 1 = omega (arith, s, le, z) in
@@ -182,9 +291,15 @@ module _ {H : Type 0} (stands : List ℕ → Setting → List Noted → H → Ty
         word_is = (let g : word + 1 ≡ 2 * n + t' = omega (arith, one, wi, z) in g);
         alone = (let g : t' ≤ 1 = omega (arith, one) in g);
         knows = All-set (Knows k.history) faces id f' (hx, nx) k.knows;
-        told = each_set (λ (g : Face). All (IsTold o k.history (n + (t - is_in g))) g.parts) (λ (g : Face). All (IsTold o k.history (n + (t' - is_in g))) g.parts) faces id f' k.told
-            (λ j g ne e all. looser_all o k.history (n + (t - is_in g)) (n + (t' - is_in g)) g.parts (let ig : ℕ = is_in g in let r : n + (t - ig) ≤ n + (t' - ig) = omega (arith, z, one) in r) all)
-            (looser_all o k.history (n + (t - i)) (n + (t' - 1)) f.parts (let r : n + (t - i) ≤ n + (t' - 1) = omega (arith, z, one) in r) (each_at (λ (g : Face). All (IsTold o k.history (n + (t - is_in g))) g.parts) faces id f k.told at));
+        told =
+            each_set (λ (g : Face). All (IsTold o k.history (n + (t - is_in g))) g.parts)
+            (λ (g : Face). All (IsTold o k.history (n + (t' - is_in g))) g.parts) faces id f' k.told
+            (λ j g ne e all. looser_all o k.history (n + (t - is_in g)) (n + (t' - is_in g)) g.parts
+            (let ig : ℕ = is_in g in let r : n + (t - ig) ≤ n + (t' - ig) = omega (arith, z, one) in r) all)
+            (looser_all o k.history (n + (t - i)) (n + (t' - 1)) f.parts
+            (let r : n + (t - i) ≤ n + (t' - 1) = omega (arith, z, one) in r)
+            (each_at (λ (g : Face). All (IsTold o k.history (n + (t - is_in g))) g.parts) faces id f k.told
+            at));
         once = λ j lt. sum_same (in_face (is_numbered (j + 1))) faces id f f' at refl ∙ k.once j lt;
         as_many = sum_same (in_face is_at) faces id f f' at refl ∙ k.as_many;
         weights = λ w. sum_same (noted_in w) faces id f f' at refl ∙ k.weights w;
@@ -192,30 +307,55 @@ module _ {H : Type 0} (stands : List ℕ → Setting → List Noted → H → Ty
       }
 
   -- another view was found in the section, and the mark is kept
-  pub marked_kept : (faces : List Face) (word : ℕ) (home : maybe.Option (maybe.Option (Option H))) (id : ℕ) (p : Part) (ps : List Part) (b : Held) (k : K faces word home) → get_elem? faces id ≡ some (record { parts = p ∷ ps; inside = None }) → inside_total faces ≡ 1
-      → b.number ≡ length k.history → IsMarked o → K (set faces id (record { parts = record { number = p.number; notes = p.notes ++ Busy b ∷ [] } ∷ ps; inside = None })) word home
+  pub marked_kept : (faces : List Face) (word : ℕ) (home : maybe.Option (maybe.Option (Option H))) (id : ℕ) (p : Part)
+      (ps : List Part) (b : Held) (k : K faces word home)
+      → get_elem? faces id ≡ some (record { parts = p ∷ ps; inside = None }) → inside_total faces ≡ 1
+      → b.number ≡ length k.history → IsMarked o → K
+      (set faces id (record {
+        parts = record { number = p.number; notes = p.notes ++ Busy b ∷ [] } ∷ ps;
+        inside =
+            None;
+      })) word home
   marked_kept faces word home id p ps b k at busy bn mark =
       let f : Face = record { parts = p ∷ ps; inside = None } in
       let p' : Part = record { number = p.number; notes = p.notes ++ Busy b ∷ [] } in
       let f' : Face = record { parts = p' ∷ ps; inside = None } in
       let t : ℕ = inside_total faces in let t' : ℕ = inside_total (set faces id f') in let n : ℕ = length k.history in
       let s : t' ≡ t = sum_same is_in faces id f f' at refl in let one : t ≡ 1 = busy in
-      let mine : All (IsTold o k.history (n + (t - 0))) (p ∷ ps) = each_at (λ (g : Face). All (IsTold o k.history (n + (t - is_in g))) g.parts) faces id f k.told at in
+      let mine : All (IsTold o k.history (n + (t - 0))) (p ∷ ps) =
+      each_at (λ (g : Face). All (IsTold o k.history (n + (t - is_in g))) g.parts) faces id f k.told at in
       let wi : word ≡ 2 * n + t = k.word_is in let al : t ≤ 1 = k.alone in
       let lim : n + (t - 0) ≡ n + 1 = omega (arith, one) in
-      let same : (test : Entry → Bool) → test (Busy b) ≡ false → in_face test f' ≡ in_face test f = (λ test fails. sum_by-cons (λ (q : Part). count_by test q.notes) p' ps ∙ (ap (λ (c : ℕ). c + sum_by (λ (q : Part). count_by test q.notes) ps) (count_skips o test p.notes (Busy b) fails) ∙ sym (sum_by-cons (λ (q : Part). count_by test q.notes) p ps))) in record {
+      let same : (test : Entry → Bool) → test (Busy b) ≡ false
+      → in_face test f' ≡ in_face test f =
+      (λ test fails. sum_by-cons (λ (q : Part). count_by test q.notes) p' ps
+      ∙ (ap (λ (c : ℕ). c + sum_by (λ (q : Part). count_by test q.notes) ps)
+      (count_skips o test p.notes (Busy b) fails)
+      ∙ sym (sum_by-cons (λ (q : Part). count_by test q.notes) p ps))) in
+      record {
         history = k.history;
         accepted = k.accepted;
         word_is = (let g : word ≡ 2 * n + t' = omega (arith, wi, s) in g);
         alone = (let g : t' ≤ 1 = omega (arith, al, s) in g);
         knows = All-set (Knows k.history) faces id f' tt k.knows;
-        told = each_set (λ (g : Face). All (IsTold o k.history (n + (t - is_in g))) g.parts) (λ (g : Face). All (IsTold o k.history (n + (t' - is_in g))) g.parts) faces id f' k.told
-            (λ j g ne e all. looser_all o k.history (n + (t - is_in g)) (n + (t' - is_in g)) g.parts (let ig : ℕ = is_in g in let r : n + (t - ig) ≤ n + (t' - ig) = omega (arith, s) in r) all)
-            (looser_all o k.history (n + (t - 0)) (n + (t' - 0)) (p' ∷ ps) (let r : n + (t - 0) ≤ n + (t' - 0) = omega (arith, s) in r)
-            (All-cons (IsTold o k.history (n + (t - 0))) p' ps (marked_here o k.history b (n + (t - 0)) p bn lim mark (All-head (IsTold o k.history (n + (t - 0))) p ps mine)) (All-tail (IsTold o k.history (n + (t - 0))) p ps mine)));
-        once = λ j lt. sum_same (in_face (is_numbered (j + 1))) faces id f f' at (same (is_numbered (j + 1)) refl) ∙ k.once j lt;
+        told =
+            each_set (λ (g : Face). All (IsTold o k.history (n + (t - is_in g))) g.parts)
+            (λ (g : Face). All (IsTold o k.history (n + (t' - is_in g))) g.parts) faces id f' k.told
+            (λ j g ne e all. looser_all o k.history (n + (t - is_in g)) (n + (t' - is_in g)) g.parts
+            (let ig : ℕ = is_in g in let r : n + (t - ig) ≤ n + (t' - ig) = omega (arith, s) in r) all)
+            (looser_all o k.history (n + (t - 0)) (n + (t' - 0)) (p' ∷ ps)
+            (let r : n + (t - 0) ≤ n + (t' - 0) = omega (arith, s) in r)
+            (All-cons (IsTold o k.history (n + (t - 0))) p' ps
+            (marked_here o k.history b (n + (t - 0)) p bn lim mark
+            (All-head (IsTold o k.history (n + (t - 0))) p ps mine))
+            (All-tail (IsTold o k.history (n + (t - 0))) p ps mine)));
+        once =
+            λ j lt. sum_same (in_face (is_numbered (j + 1))) faces id f f' at (same (is_numbered (j + 1)) refl)
+            ∙ k.once j lt;
         as_many = sum_same (in_face is_at) faces id f f' at (same is_at refl) ∙ k.as_many;
-        weights = λ w. sum_same (noted_in w) faces id f f' at (grown o w p ps (Busy b) ∙ (let a : noted_in w f + 0 ≡ noted_in w f = omega arith in a)) ∙ k.weights w;
+        weights =
+            λ w. sum_same (noted_in w) faces id f f' at
+            (grown o w p ps (Busy b) ∙ (let a : noted_in w f + 0 ≡ noted_in w f = omega arith in a)) ∙ k.weights w;
         home_is = λ e. let e' : t' ≡ 0 = e in absurd (omega (arith, e', one, s));
       }
 
@@ -228,14 +368,26 @@ module _ {H : Type 0} (stands : List ℕ → Setting → List Noted → H → Ty
 
   -- nobody is in the section
   nobody_in : (h : List Noted) (faces : List Face) → inside_total faces ≡ 0 → All (Knows h) faces
-  nobody_in h faces nobody = each_from (Knows h) faces (λ j f e. knows_outside h f (let a : is_in f ≤ inside_total faces = sum_at is_in faces j f e in let i : ℕ = is_in f in let t : ℕ = inside_total faces in let a' : i ≤ t = a in let z : t ≡ 0 = nobody in let g : i ≡ 0 = omega (arith, a', z) in g))
+  nobody_in h faces nobody =
+      each_from (Knows h) faces (λ j f e. knows_outside h f
+      (let a : is_in f ≤ inside_total faces = sum_at is_in faces j f e in let i : ℕ = is_in f in let t : ℕ =
+      inside_total faces in let a' : i ≤ t = a in let z : t ≡ 0 = nobody in let g : i
+      ≡ 0 = omega (arith, a', z) in g))
 
   -- the part at the front of the view makes the note, and the section ends
-  pub done_kept : (faces : List Face) (word : ℕ) (home : maybe.Option (maybe.Option (Option H))) (id : ℕ) (p : Part) (ps : List Part) (x : Inside) (q : Object) (nd : Noted) (y : H) (k : K faces word home)
+  pub done_kept : (faces : List Face) (word : ℕ) (home : maybe.Option (maybe.Option (Option H))) (id : ℕ) (p : Part)
+      (ps : List Part) (x : Inside) (q : Object) (nd : Noted) (y : H) (k : K faces word home)
       → get_elem? faces id ≡ some (record { parts = p ∷ ps; inside = Some x }) → nd.lane ≡ p.number
-      → ((m : ℕ) → nd.lane ≡ Some m → All (λ (r : Part). is_lane m r.number ≡ false) ps × ((j : ℕ) (f : Face) → j ≢ id → get_elem? faces j ≡ some f → All (λ (r : Part). is_lane m r.number ≡ false) f.parts))
+      → ((m : ℕ) → nd.lane ≡ Some m → All (λ (r : Part). is_lane m r.number ≡ false) ps
+      × ((j : ℕ) (f : Face) → j ≢ id → get_elem? faces j ≡ some f
+      → All (λ (r : Part). is_lane m r.number ≡ false) f.parts))
       → IsHistory shape o (k.history ++ nd ∷ []) → stands (measures_of shape o) setting (k.history ++ nd ∷ []) y
-      → K (set faces id (record { parts = record { number = p.number; notes = p.notes ++ At q (length k.history + 1) nd ∷ [] } ∷ ps; inside = None })) (word + 1) (some (some (Some y)))
+      → K (set faces id (record {
+        parts = record
+            { number = p.number; notes = p.notes ++ At q (length k.history + 1) nd ∷ [] } ∷ ps;
+        inside =
+            None;
+      })) (word + 1) (some (some (Some y)))
   done_kept faces word home id p ps x q nd y k at lane apart accepted told_by =
       let f : Face = record { parts = p ∷ ps; inside = Some x } in
       let h : List Noted = k.history in let n : ℕ = length h in
@@ -246,7 +398,8 @@ module _ {H : Type 0} (stands : List ℕ → Setting → List Noted → H → Ty
       let t : ℕ = inside_total faces in let t' : ℕ = inside_total (set faces id f') in
       let s : t' + 1 ≡ t + 0 = sum_set is_in faces id f f' at in
       let al : t ≤ 1 = k.alone in let one : t ≡ 1 = omega (arith, s, al) in let zero' : t' ≡ 0 = omega (arith, s, al) in
-      let mine : All (IsTold o h (n + (t - 1))) (p ∷ ps) = each_at (λ (g : Face). All (IsTold o h (n + (t - is_in g))) g.parts) faces id f k.told at in
+      let mine : All (IsTold o h (n + (t - 1))) (p ∷ ps) =
+      each_at (λ (g : Face). All (IsTold o h (n + (t - is_in g))) g.parts) faces id f k.told at in
       let wi : word ≡ 2 * n + t = k.word_is in
       let more : n' ≡ n + 1 = length-append h (nd ∷ []) in
       let lim : n + (t - 1) ≡ n = omega (arith, one) in
@@ -255,27 +408,51 @@ module _ {H : Type 0} (stands : List ℕ → Setting → List Noted → H → Ty
       let a : in_face test f' ≡ g p' + sum_by g ps = sum_by-cons g p' ps in
       let b : in_face test f ≡ g p + sum_by g ps = sum_by-cons g p ps in
       let c : g p' ≡ g p + cond {A = ℕ} (test e) 1 0 = count_takes o test p.notes e in omega (arith, a, b, c)) in
-      let adds : (test : Entry → Bool) → total test (set faces id f') ≡ total test faces + cond {A = ℕ} (test e) 1 0 = (λ test.
-      let a : total test (set faces id f') + in_face test f ≡ total test faces + in_face test f' = sum_set (in_face test) faces id f f' at in let b = grows test in omega (arith, a, b)) in record {
+      let adds : (test : Entry → Bool) → total test (set faces id f')
+      ≡ total test faces + cond {A = ℕ} (test e) 1 0 = (λ test.
+      let a : total test (set faces id f') + in_face test f
+      ≡ total test faces + in_face test f' = sum_set (in_face test) faces id f f' at in let b = grows test in
+      omega (arith, a, b)) in record {
         history = h';
         accepted = accepted;
         word_is = (let g : word + 1 ≡ 2 * n' + t' = omega (arith, wi, one, zero', more) in g);
         alone = (let g : t' ≤ 1 = omega (arith, zero') in g);
         knows = nobody_in h' (set faces id f') zero';
-        told = each_set (λ (g : Face). All (IsTold o h (n + (t - is_in g))) g.parts) (λ (g : Face). All (IsTold o h' (n' + (t' - is_in g))) g.parts) faces id f' k.told
-            (λ j g ne e all. longer_all o h (n + (t - is_in g)) (n' + (t' - is_in g)) nd g.parts (let ig : ℕ = is_in g in let r : n + (t - ig) ≤ n' + (t' - ig) = omega (arith, one, zero', more) in r) (λ m em. (apart m em).1 j g ne e) all)
+        told =
+            each_set (λ (g : Face). All (IsTold o h (n + (t - is_in g))) g.parts)
+            (λ (g : Face). All (IsTold o h' (n' + (t' - is_in g))) g.parts) faces id f' k.told
+            (λ j g ne e all. longer_all o h (n + (t - is_in g)) (n' + (t' - is_in g)) nd g.parts
+            (let ig : ℕ = is_in g in let r : n + (t - ig) ≤ n' + (t' - ig) = omega (arith, one, zero', more) in r)
+            (λ m em. (apart m em).1 j g ne e) all)
             (All-cons (IsTold o h' (n' + (t' - 0))) p' ps
-            (noted_here o h nd q (n' + (t' - 0)) p (let r : n ≤ n' + (t' - 0) = omega (arith, more) in r) lane (subst (λ (l : ℕ). IsTold o h l p) lim (All-head (IsTold o h (n + (t - 1))) p ps mine)))
-            (longer_all o h (n + (t - 1)) (n' + (t' - 0)) nd ps (let r : n + (t - 1) ≤ n' + (t' - 0) = omega (arith, lim, more) in r) (λ m em. (apart m em).0) (All-tail (IsTold o h (n + (t - 1))) p ps mine)));
-        once = λ j lt. adds (is_numbered (j + 1)) ∙ each_once o h faces k.once (beyond_all o h (λ (g : Face). n + (t - is_in g)) faces k.told) q nd j (let lt' : j < n' = lt in let r : j < n + 1 = omega (arith, lt', more) in r);
-        weights = λ w. (let a : noted_total w (set faces id f') + noted_in w f ≡ noted_total w faces + noted_in w f' = sum_set (noted_in w) faces id f f' at in let b : noted_in w f' ≡ noted_in w f + w nd = grown o w p ps e in let c = k.weights w in let d : sum_by w h' ≡ sum_by w h + w nd = sum_by_push w h nd in omega (arith, a, b, c, d));
-        as_many = adds is_at ∙ (let a : total is_at faces ≡ n = k.as_many in let r : total is_at faces + 1 ≡ n' = omega (arith, a, more) in r);
+            (noted_here o h nd q (n' + (t' - 0)) p (let r : n ≤ n' + (t' - 0) = omega (arith, more) in r) lane
+            (subst (λ (l : ℕ). IsTold o h l p) lim (All-head (IsTold o h (n + (t - 1))) p ps mine)))
+            (longer_all o h (n + (t - 1)) (n' + (t' - 0)) nd ps
+            (let r : n + (t - 1) ≤ n' + (t' - 0) = omega (arith, lim, more) in r) (λ m em. (apart m em).0)
+            (All-tail (IsTold o h (n + (t - 1))) p ps mine)));
+        once =
+            λ j lt. adds (is_numbered (j + 1)) ∙ each_once o h faces k.once
+            (beyond_all o h (λ (g : Face). n + (t - is_in g)) faces k.told) q nd j
+            (let lt' : j < n' = lt in let r : j < n + 1 = omega (arith, lt', more) in r);
+        weights =
+            λ w. (let a : noted_total w (set faces id f') + noted_in w f
+            ≡ noted_total w faces + noted_in w f' =
+            sum_set (noted_in w) faces id f f' at in let b : noted_in w f'
+            ≡ noted_in w f + w nd =
+            grown o w p ps e in let c =
+            k.weights w in let d : sum_by w h'
+            ≡ sum_by w h + w nd = sum_by_push w h nd in omega (arith, a, b, c, d));
+        as_many =
+            adds is_at ∙ (let a : total is_at faces ≡ n = k.as_many in let r : total is_at faces + 1
+            ≡ n' = omega (arith, a, more) in r);
         home_is = λ _. (y, refl, told_by);
       }
 
   -- a mail's section ends with no note, and its home value still stands
-  pub idled_kept : (faces : List Face) (found word : ℕ) (home : maybe.Option (maybe.Option (Option H))) (id : ℕ) (ps : List Part) (x : Inside) (y : H) (k : K faces found home)
-      → found ≡ word + 1 → get_elem? faces id ≡ some (record { parts = ps; inside = Some x }) → (IsMarked o → ⊥) → stands (measures_of shape o) setting k.history y
+  pub idled_kept : (faces : List Face) (found word : ℕ) (home : maybe.Option (maybe.Option (Option H))) (id : ℕ)
+      (ps : List Part) (x : Inside) (y : H) (k : K faces found home)
+      → found ≡ word + 1 → get_elem? faces id ≡ some (record { parts = ps; inside = Some x }) → (IsMarked o → ⊥)
+      → stands (measures_of shape o) setting k.history y
       → K (set faces id (record { parts = ps; inside = None })) word (some (some (Some y)))
   idled_kept faces found word home id ps x y k more at unmarked told_by =
       let f : Face = record { parts = ps; inside = Some x } in
@@ -290,9 +467,12 @@ module _ {H : Type 0} (stands : List ℕ → Setting → List Noted → H → Ty
         word_is = (let g : word ≡ 2 * n + t' = omega (arith, wi, one, zero', more) in g);
         alone = (let g : t' ≤ 1 = omega (arith, zero') in g);
         knows = nobody_in h (set faces id f') zero';
-        told = each_set (λ (g : Face). All (IsTold o h (n + (t - is_in g))) g.parts) (λ (g : Face). All (IsTold o h (n + (t' - is_in g))) g.parts) faces id f' k.told
+        told =
+            each_set (λ (g : Face). All (IsTold o h (n + (t - is_in g))) g.parts)
+            (λ (g : Face). All (IsTold o h (n + (t' - is_in g))) g.parts) faces id f' k.told
             (λ j g ne e all. any_limit_all o unmarked h (n + (t - is_in g)) (n + (t' - is_in g)) g.parts all)
-            (any_limit_all o unmarked h (n + (t - 1)) (n + (t' - 0)) ps (each_at (λ (g : Face). All (IsTold o h (n + (t - is_in g))) g.parts) faces id f k.told at));
+            (any_limit_all o unmarked h (n + (t - 1)) (n + (t' - 0)) ps
+            (each_at (λ (g : Face). All (IsTold o h (n + (t - is_in g))) g.parts) faces id f k.told at));
         once = λ j lt. sum_same (in_face (is_numbered (j + 1))) faces id f f' at refl ∙ k.once j lt;
         as_many = sum_same (in_face is_at) faces id f f' at refl ∙ k.as_many;
         weights = λ w. sum_same (noted_in w) faces id f f' at refl ∙ k.weights w;
@@ -300,28 +480,42 @@ module _ {H : Type 0} (stands : List ℕ → Setting → List Noted → H → Ty
       }
 
   -- a view that is in no section is cut in two
-  pub split_kept : (faces : List Face) (word : ℕ) (home : maybe.Option (maybe.Option (Option H))) (id : ℕ) (f l r : Face) (k : K faces word home) → get_elem? faces id ≡ some f → is_in f ≡ 0 → is_in l ≡ 0 → is_in r ≡ 0
-      → ((test : Entry → Bool) → in_face test l + in_face test r ≡ in_face test f) → ((w : Noted → ℕ) → noted_in w l + noted_in w r ≡ noted_in w f) → ((P : Part → Type 0) → P (empty_part None) → All P f.parts → All P l.parts × All P r.parts)
+  pub split_kept : (faces : List Face) (word : ℕ) (home : maybe.Option (maybe.Option (Option H))) (id : ℕ)
+      (f l r : Face) (k : K faces word home) → get_elem? faces id ≡ some f → is_in f ≡ 0 → is_in l ≡ 0 → is_in r ≡ 0
+      → ((test : Entry → Bool) → in_face test l + in_face test r ≡ in_face test f)
+      → ((w : Noted → ℕ) → noted_in w l + noted_in w r ≡ noted_in w f)
+      → ((P : Part → Type 0) → P (empty_part None) → All P f.parts → All P l.parts × All P r.parts)
       → K (set faces id l ++ r ∷ []) word home
   split_kept faces word home id f l r k at fz lz rz adds weighs shares =
       let h : List Noted = k.history in let n : ℕ = length h in let now : List Face = set faces id l ++ r ∷ [] in
       let t : ℕ = inside_total faces in let t' : ℕ = inside_total now in
       let same : (g : Face → ℕ) → g l + g r ≡ g f → sum_by g now ≡ sum_by g faces = (λ g e.
       let a : sum_by g now ≡ sum_by g (set faces id l) + g r = sum_by_push g (set faces id l) r in
-      let b : sum_by g (set faces id l) + g f ≡ sum_by g faces + g l = sum_set g faces id f l at in omega (arith, a, b, e)) in
-      let s : t' ≡ t = same is_in (let a : is_in f ≡ 0 = fz in let b : is_in l ≡ 0 = lz in let c : is_in r ≡ 0 = rz in omega (arith, a, b, c)) in
-      let both = shares (IsTold o h (n + (t - 0))) (told_empty o h (n + (t - 0))) (subst (λ (i : ℕ). All (IsTold o h (n + (t - i))) f.parts) fz (each_at (λ (g : Face). All (IsTold o h (n + (t - is_in g))) g.parts) faces id f k.told at)) in
+      let b : sum_by g (set faces id l) + g f ≡ sum_by g faces + g l = sum_set g faces id f l at in
+      omega (arith, a, b, e)) in
+      let s : t' ≡ t = same is_in (let a : is_in f ≡ 0 = fz in let b : is_in l ≡ 0 = lz in let c : is_in r
+      ≡ 0 = rz in omega (arith, a, b, c)) in
+      let both = shares (IsTold o h (n + (t - 0))) (told_empty o h (n + (t - 0)))
+      (subst (λ (i : ℕ). All (IsTold o h (n + (t - i))) f.parts) fz
+      (each_at (λ (g : Face). All (IsTold o h (n + (t - is_in g))) g.parts) faces id f k.told at)) in
       let wi : word ≡ 2 * n + t = k.word_is in let al : t ≤ 1 = k.alone in
-      let cut : (g : Face) → is_in g ≡ 0 → All (IsTold o h (n + (t - 0))) g.parts → All (IsTold o h (n + (t' - is_in g))) g.parts = (λ g z all.
-      looser_all o h (n + (t - 0)) (n + (t' - is_in g)) g.parts (let i : ℕ = is_in g in let z' : i ≡ 0 = z in let q : n + (t - 0) ≤ n + (t' - i) = omega (arith, z', s) in q) all) in record {
+      let cut : (g : Face) → is_in g ≡ 0 → All (IsTold o h (n + (t - 0))) g.parts
+      → All (IsTold o h (n + (t' - is_in g))) g.parts = (λ g z all.
+      looser_all o h (n + (t - 0)) (n + (t' - is_in g)) g.parts
+      (let i : ℕ = is_in g in let z' : i ≡ 0 = z in let q : n + (t - 0) ≤ n + (t' - i) = omega (arith, z', s) in q)
+      all) in record {
         history = h;
         accepted = k.accepted;
         word_is = (let g : word ≡ 2 * n + t' = omega (arith, wi, s) in g);
         alone = (let g : t' ≤ 1 = omega (arith, al, s) in g);
-        knows = All-push (Knows h) (set faces id l) r (All-set (Knows h) faces id l (knows_outside h l lz) k.knows) (knows_outside h r rz);
+        knows =
+            All-push (Knows h) (set faces id l) r (All-set (Knows h) faces id l (knows_outside h l lz) k.knows)
+            (knows_outside h r rz);
         told = All-push (λ (g : Face). All (IsTold o h (n + (t' - is_in g))) g.parts) (set faces id l) r
-            (each_set (λ (g : Face). All (IsTold o h (n + (t - is_in g))) g.parts) (λ (g : Face). All (IsTold o h (n + (t' - is_in g))) g.parts) faces id l k.told
-            (λ j g ne e all. looser_all o h (n + (t - is_in g)) (n + (t' - is_in g)) g.parts (let ig : ℕ = is_in g in let q : n + (t - ig) ≤ n + (t' - ig) = omega (arith, s) in q) all)
+            (each_set (λ (g : Face). All (IsTold o h (n + (t - is_in g))) g.parts)
+            (λ (g : Face). All (IsTold o h (n + (t' - is_in g))) g.parts) faces id l k.told
+            (λ j g ne e all. looser_all o h (n + (t - is_in g)) (n + (t' - is_in g)) g.parts
+            (let ig : ℕ = is_in g in let q : n + (t - ig) ≤ n + (t' - ig) = omega (arith, s) in q) all)
             (cut l lz both.0))
             (cut r rz both.1);
         once = λ j lt. same (in_face (is_numbered (j + 1))) (adds (is_numbered (j + 1))) ∙ k.once j lt;
@@ -331,29 +525,42 @@ module _ {H : Type 0} (stands : List ℕ → Setting → List Noted → H → Ty
       }
 
   -- two views that are in no section become one
-  pub joined_kept : (faces : List Face) (word : ℕ) (home : maybe.Option (maybe.Option (Option H))) (id other : ℕ) (v w b z : Face) (k : K faces word home) → get_elem? faces id ≡ some v → other ≢ id → get_elem? (set faces id b) other ≡ some w
+  pub joined_kept : (faces : List Face) (word : ℕ) (home : maybe.Option (maybe.Option (Option H))) (id other : ℕ)
+      (v w b z : Face) (k : K faces word home) → get_elem? faces id ≡ some v → other ≢ id
+      → get_elem? (set faces id b) other ≡ some w
       → is_in v ≡ 0 → is_in w ≡ 0 → is_in b ≡ 0 → is_in z ≡ 0
-      → ((test : Entry → Bool) → in_face test b + in_face test z ≡ in_face test v + in_face test w) → ((f : Noted → ℕ) → noted_in f b + noted_in f z ≡ noted_in f v + noted_in f w) → ((P : Part → Type 0) → P (empty_part None) → All P v.parts → All P w.parts → All P b.parts × All P z.parts)
+      → ((test : Entry → Bool) → in_face test b + in_face test z ≡ in_face test v + in_face test w)
+      → ((f : Noted → ℕ) → noted_in f b + noted_in f z ≡ noted_in f v + noted_in f w)
+      → ((P : Part → Type 0) → P (empty_part None) → All P v.parts → All P w.parts → All P b.parts × All P z.parts)
       → K (set (set faces id b) other z) word home
   joined_kept faces word home id other v w b z k at ne at' vz wz bz zz adds weighs shares =
-      let h : List Noted = k.history in let n : ℕ = length h in let mid : List Face = set faces id b in let now : List Face = set mid other z in
+      let h : List Noted = k.history in let n : ℕ = length h in let mid : List Face = set faces id b in
+      let now : List Face = set mid other z in
       let t : ℕ = inside_total faces in let t' : ℕ = inside_total now in
       let same : (g : Face → ℕ) → g b + g z ≡ g v + g w → sum_by g now ≡ sum_by g faces = (λ g e.
       let a : sum_by g now + g w ≡ sum_by g mid + g z = sum_set g mid other w z at' in
       let c : sum_by g mid + g v ≡ sum_by g faces + g b = sum_set g faces id v b at in omega (arith, a, c, e)) in
-      let s : t' ≡ t = same is_in (let p : is_in v ≡ 0 = vz in let q : is_in w ≡ 0 = wz in let r : is_in b ≡ 0 = bz in let u : is_in z ≡ 0 = zz in omega (arith, p, q, r, u)) in
+      let s : t' ≡ t = same is_in (let p : is_in v ≡ 0 = vz in let q : is_in w ≡ 0 = wz in let r : is_in b
+      ≡ 0 = bz in let u : is_in z ≡ 0 = zz in omega (arith, p, q, r, u)) in
       let before : get_elem? faces other ≡ some w = sym (set_else faces id other b ne) ∙ at' in
       let P : Face → Type 0 = λ g. All (IsTold o h (n + (t - is_in g))) g.parts in
-      let both = shares (IsTold o h (n + (t - 0))) (told_empty o h (n + (t - 0))) (subst (λ (i : ℕ). All (IsTold o h (n + (t - i))) v.parts) vz (each_at P faces id v k.told at))
+      let both = shares (IsTold o h (n + (t - 0))) (told_empty o h (n + (t - 0)))
+      (subst (λ (i : ℕ). All (IsTold o h (n + (t - i))) v.parts) vz (each_at P faces id v k.told at))
       (subst (λ (i : ℕ). All (IsTold o h (n + (t - i))) w.parts) wz (each_at P faces other w k.told before)) in
       let wi : word ≡ 2 * n + t = k.word_is in let al : t ≤ 1 = k.alone in
-      let back : (g : Face) → is_in g ≡ 0 → All (IsTold o h (n + (t - 0))) g.parts → P g = (λ g e all. subst (λ (i : ℕ). All (IsTold o h (n + (t - i))) g.parts) (sym e) all) in record {
+      let back : (g : Face) → is_in g ≡ 0 → All (IsTold o h (n + (t - 0))) g.parts
+      → P g = (λ g e all. subst (λ (i : ℕ). All (IsTold o h (n + (t - i))) g.parts) (sym e) all) in
+      record {
         history = h;
         accepted = k.accepted;
         word_is = (let g : word ≡ 2 * n + t' = omega (arith, wi, s) in g);
         alone = (let g : t' ≤ 1 = omega (arith, al, s) in g);
-        knows = All-set (Knows h) mid other z (knows_outside h z zz) (All-set (Knows h) faces id b (knows_outside h b bz) k.knows);
-        told = subst (λ (u : ℕ). All (λ (g : Face). All (IsTold o h (n + (u - is_in g))) g.parts) now) (sym s) (All-set P mid other z (back z zz both.1) (All-set P faces id b (back b bz both.0) k.told));
+        knows =
+            All-set (Knows h) mid other z (knows_outside h z zz)
+            (All-set (Knows h) faces id b (knows_outside h b bz) k.knows);
+        told =
+            subst (λ (u : ℕ). All (λ (g : Face). All (IsTold o h (n + (u - is_in g))) g.parts) now) (sym s)
+            (All-set P mid other z (back z zz both.1) (All-set P faces id b (back b bz both.0) k.told));
         once = λ j lt. same (in_face (is_numbered (j + 1))) (adds (is_numbered (j + 1))) ∙ k.once j lt;
         as_many = same (in_face is_at) (adds is_at) ∙ k.as_many;
         weights = λ q. same (noted_in q) (weighs q) ∙ k.weights q;

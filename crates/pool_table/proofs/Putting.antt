@@ -47,21 +47,27 @@ filter_less : (f : Entry → ℕ) (t : Entry → Bool) (es : List Entry) → sum
 filter_less f t [] = omega arith
 filter_less f t (e ∷ es) = one (t e) (filter_less f t es) (sum_by-cons f e es)
   where
-    one : (b : Bool) → sum_by f (filter t es) ≤ sum_by f es → sum_by f (e ∷ es) ≡ f e + sum_by f es → sum_by f (cond b (e ∷ filter t es) (filter t es)) ≤ sum_by f (e ∷ es)
+    one : (b : Bool) → sum_by f (filter t es) ≤ sum_by f es → sum_by f (e ∷ es) ≡ f e + sum_by f es
+        → sum_by f (cond b (e ∷ filter t es) (filter t es)) ≤ sum_by f (e ∷ es)
     one true a b = let c = sum_by-cons f e (filter t es) in omega (arith, a, b, c)
     one false a b = omega (arith, a, b)
 
-strands_less : (s : Shape) (i : ℕ) (f : Entry → ℕ) (ps : List Part) → sum_by (λ (q : Part). sum_by f q.notes) (map (strand s i) ps) ≤ sum_by (λ (q : Part). sum_by f q.notes) ps
+strands_less : (s : Shape) (i : ℕ) (f : Entry → ℕ) (ps : List Part)
+    → sum_by (λ (q : Part). sum_by f q.notes) (map (strand s i) ps) ≤ sum_by (λ (q : Part). sum_by f q.notes) ps
 strands_less s i f [] = omega arith
 strands_less s i f (q ∷ ps) =
-    let a = sum_by-cons (λ (q : Part). sum_by f q.notes) q ps in let b = sum_by-cons (λ (q : Part). sum_by f q.notes) (strand s i q) (map (strand s i) ps) in
+    let a = sum_by-cons (λ (q : Part). sum_by f q.notes) q ps in let b =
+    sum_by-cons (λ (q : Part). sum_by f q.notes) (strand s i q) (map (strand s i) ps) in
     let c = filter_less f (is_about s i) q.notes in let d = strands_less s i f ps in omega (arith, a, b, c, d)
 
 -- what an object sees of all views, where it weighs something, some view has
-some_view : (B : Type 0) (s : Shape) (i : ℕ) (f : Noted → ℕ) (vs : List SeatView) → ((j : ℕ) (v : SeatView) → get_elem? vs j ≡ some v → 0 < weigh (noted_weight f) v → B) → 0 < noted_total f (map (face s i) vs) → B
+some_view : (B : Type 0) (s : Shape) (i : ℕ) (f : Noted → ℕ) (vs : List SeatView)
+    → ((j : ℕ) (v : SeatView) → get_elem? vs j ≡ some v → 0 < weigh (noted_weight f) v → B)
+    → 0 < noted_total f (map (face s i) vs) → B
 some_view B s i f [] each lt = absurd (omega (arith, lt))
 some_view B s i f (v ∷ vs) each lt =
-    let a = sum_by-cons (noted_in f) (face s i v) (map (face s i) vs) in let b = strands_less s i (noted_weight f) (parts_of v) in
+    let a = sum_by-cons (noted_in f) (face s i v) (map (face s i) vs) in let b =
+    strands_less s i (noted_weight f) (parts_of v) in
     dite (ℕ_discrete (noted_in f (face s i v)) 0)
     (λ z. some_view B s i f vs (λ j u at. each (suc j) u at) (omega (arith, a, z, lt)))
     (λ ne. each 0 v refl (omega (arith, b, ne)))
@@ -73,7 +79,12 @@ module _ {H : Type 0} (stands : List ℕ → Setting → List Noted → H → Ty
   module _ (s : St) (r : IsSound stands l s) (id : ℕ) (v : SeatView) (at : get_elem? s.views id ≡ some v) where
     -- by places and generations
     root_is : (p g : ℕ) (q : RootId) → 0 < cond {A = ℕ} (is_root p g q) 1 0 → (q.place ≡ p) × (q.generation ≡ g)
-    root_is p g q lt = let e = yes (is_root p g q) lt in (eqb-true q.place p (and-first (eqb q.place p) (eqb q.generation g) e), eqb-true q.generation g (and-second (eqb q.place p) (eqb q.generation g) e))
+    root_is p g q lt =
+        let e = yes (is_root p g q) lt in (
+          eqb-true q.place p (and-first (eqb q.place p) (eqb q.generation g) e),
+          eqb-true q.generation g
+              (and-second (eqb q.place p) (eqb q.generation g) e),
+        )
 
     homed : (d : Did) → PutsDown v d → (p : ℕ) → 0 < did_home p d → InHand p v × NoneWaits p v
     homed (Home q) puts p lt = subst (λ (p : ℕ). InHand p v × NoneWaits p v) (eqb-true q p (yes (eqb q p) lt)) puts
@@ -84,22 +95,29 @@ module _ {H : Type 0} (stands : List ℕ → Setting → List Noted → H → Ty
     borne d puts p lt = absurd (omega (arith, lt))
 
     ended : (d : Did) → PutsDown v d → (p g : ℕ) → 0 < did_end p g d → TokenAt p g v
-    ended (End q) puts p g lt = let e = root_is p g q lt in subst (λ (y : ℕ × ℕ). TokenAt y.0 y.1 v) (λ i. (e.0 i, e.1 i)) (token_at stands l s r id v at q puts)
+    ended (End q) puts p g lt =
+        let e = root_is p g q lt in
+        subst (λ (y : ℕ × ℕ). TokenAt y.0 y.1 v) (λ i. (e.0 i, e.1 i)) (token_at stands l s r id v at q puts)
     ended d puts p g lt = absurd (omega (arith, lt))
 
     posted : (d : Did) → PutsDown v d → (p g : ℕ) → 0 < did_post p g d → CountsAt p g v
     posted (Post q) puts p g lt = by q.view puts lt
       where
-        by : (o : Option ViewData) → IfSome o (λ (w : ViewData). HasCount w.root v) → 0 < view_weight p g o → CountsAt p g v
+        by : (o : Option ViewData) → IfSome o (λ (w : ViewData). HasCount w.root v) → 0 < view_weight p g o
+            → CountsAt p g v
         by None puts lt = absurd (omega (arith, lt))
-        by (Some w) puts lt = let e = root_is p g w.root lt in subst (λ (y : ℕ × ℕ). CountsAt y.0 y.1 v) (λ i. (e.0 i, e.1 i)) (count_at stands l s r id v at w.root puts)
+        by (Some w) puts lt =
+            let e = root_is p g w.root lt in
+            subst (λ (y : ℕ × ℕ). CountsAt y.0 y.1 v) (λ i. (e.0 i, e.1 i)) (count_at stands l s r id v at w.root puts)
     posted d puts p g lt = absurd (omega (arith, lt))
 
     pub puts_at : (d : Did) → PutsDown v d → PutsAt v d
     puts_at d puts = record { home = homed d puts; birth = borne d puts; token = ended d puts; posted = posted d puts }
 
     -- a root that is fetched was posted, and so was born
-    fetched : (n : Noted) (q : Parcel) (t : RootId) → n.did ≡ Fetch q → option_map (λ (w : ViewData). w.root) q.view ≡ Some t → (f u : ℕ) (fits : IsObjectOf l.shape (Mail f u)) → IsHistory l.shape (Mail f u) ((r.objects (Mail f u) fits).history ++ n ∷ []) → IsBorn s.views t
+    fetched : (n : Noted) (q : Parcel) (t : RootId) → n.did ≡ Fetch q
+        → option_map (λ (w : ViewData). w.root) q.view ≡ Some t → (f u : ℕ) (fits : IsObjectOf l.shape (Mail f u))
+        → IsHistory l.shape (Mail f u) ((r.objects (Mail f u) fits).history ++ n ∷ []) → IsBorn s.views t
     fetched n q t is has f u fits more =
         let k = r.objects (Mail f u) fits in
         let low = posted_before l.shape f u t k.history n q k.accepted more is in
@@ -110,24 +128,35 @@ module _ {H : Type 0} (stands : List ℕ → Setting → List Noted → H → Ty
       where
         by : (o : Option ViewData) → option_map (λ (w : ViewData). w.root) o ≡ Some t → view_of_root t o ≡ 1
         by None has = absurd (cc has)
-        by (Some w) has = let e : w.root ≡ t = cc has in ap (λ (b : Bool). cond {A = ℕ} b 1 0) (subst (λ (x : RootId). same_root x t ≡ true) (sym e) (same_root-refl t))
+        by (Some w) has =
+            let e : w.root ≡ t = cc has in
+            ap (λ (b : Bool). cond {A = ℕ} b 1 0)
+            (subst (λ (x : RootId). same_root x t ≡ true) (sym e) (same_root-refl t))
 
     -- so it is of one of the root places
-    pub fetched_place : (o : Object) (fits : IsObjectOf l.shape o) (f u : ℕ) (n : Noted) (q : Parcel) → o ≡ Mail f u → IsHistory l.shape o ((r.objects o fits).history ++ n ∷ []) → n.did ≡ Fetch q → IfSome q.view (λ w. w.root.place < l.shape.lanes * l.shape.handles)
+    pub fetched_place : (o : Object) (fits : IsObjectOf l.shape o) (f u : ℕ) (n : Noted) (q : Parcel) → o ≡ Mail f u
+        → IsHistory l.shape o ((r.objects o fits).history ++ n ∷ []) → n.did ≡ Fetch q
+        → IfSome q.view (λ w. w.root.place < l.shape.lanes * l.shape.handles)
     fetched_place o fits f u n q is more fetch = by q.view refl
       where
         by : (x : Option ViewData) → q.view ≡ x → IfSome x (λ w. w.root.place < l.shape.lanes * l.shape.handles)
         by None e = tt
         by (Some w) e = born_place stands l s r w.root
-            (subst (λ (o : Object). (fits : IsObjectOf l.shape o) → IsHistory l.shape o ((r.objects o fits).history ++ n ∷ []) → IsBorn s.views w.root) (sym is) (λ fits more. fetched n q w.root fetch (ap (option_map (λ (w : ViewData). w.root)) e) f u fits more) fits more)
+            (subst (λ (o : Object). (fits : IsObjectOf l.shape o)
+            → IsHistory l.shape o ((r.objects o fits).history ++ n ∷ []) → IsBorn s.views w.root) (sym is)
+            (λ fits more. fetched n q w.root fetch (ap (option_map (λ (w : ViewData). w.root)) e) f u fits more)
+            fits more)
 
-    at_mail : (o : Object) (n : Noted) (q : Parcel) (t : RootId) → n.did ≡ Fetch q → option_map (λ (w : ViewData). w.root) q.view ≡ Some t → IsMailed o n.did → (f : ℕ) × (u : ℕ) × (o ≡ Mail f u)
+    at_mail : (o : Object) (n : Noted) (q : Parcel) (t : RootId) → n.did ≡ Fetch q
+        → option_map (λ (w : ViewData). w.root) q.view ≡ Some t → IsMailed o n.did → (f : ℕ) × (u : ℕ) × (o ≡ Mail f u)
     at_mail o n q t is has mailed = by q.view has (subst (λ (d : Did). IsMailed o d) is mailed)
       where
-        by : (x : Option ViewData) → option_map (λ (w : ViewData). w.root) x ≡ Some t → IsMailed o (Fetch (record { view = x })) → (f : ℕ) × (u : ℕ) × (o ≡ Mail f u)
+        by : (x : Option ViewData) → option_map (λ (w : ViewData). w.root) x ≡ Some t
+            → IsMailed o (Fetch (record { view = x })) → (f : ℕ) × (u : ℕ) × (o ≡ Mail f u)
         by None has mailed = absurd (cc has)
         by (Some w) has mailed = ⊎_elim
-            (λ (z : view_weight w.root.place w.root.generation (Some w) + 0 ≡ 0). let one : view_weight w.root.place w.root.generation (Some w) ≡ 1 = itself w.root in absurd (omega (arith, z, one)))
+            (λ (z : view_weight w.root.place w.root.generation (Some w) + 0 ≡ 0). let one : view_weight w.root.place
+            w.root.generation (Some w) ≡ 1 = itself w.root in absurd (omega (arith, z, one)))
             (λ (e : (f : ℕ) × (u : ℕ) × (o ≡ Mail f u)). e)
             (mailed w.root.place w.root.generation)
           where
@@ -135,17 +164,23 @@ module _ {H : Type 0} (stands : List ℕ → Setting → List Noted → H → Ty
             itself q = λ i. cond {A = ℕ} (eq-eqb q.place q.place refl i && eq-eqb q.generation q.generation refl i) 1 0
 
     -- the root that a note of a section names was born
-    pub note_born : (o : Object) (fits : IsObjectOf l.shape o) (k : ℕ) (n : Noted) → IsMailed o n.did → PutsDown v n.did → IsHistory l.shape o ((r.objects o fits).history ++ n ∷ []) → NamesBorn s.views (At o k n)
+    pub note_born : (o : Object) (fits : IsObjectOf l.shape o) (k : ℕ) (n : Noted) → IsMailed o n.did → PutsDown v n.did
+        → IsHistory l.shape o ((r.objects o fits).history ++ n ∷ []) → NamesBorn s.views (At o k n)
     note_born o fits k n mailed puts more t names = by n.did refl puts names
       where
-        by_view : (x : Option ViewData) → IfSome x (λ (w : ViewData). HasCount w.root v) → option_map (λ (w : ViewData). w.root) x ≡ Some t → IsBorn s.views t
+        by_view : (x : Option ViewData) → IfSome x (λ (w : ViewData). HasCount w.root v)
+            → option_map (λ (w : ViewData). w.root) x ≡ Some t → IsBorn s.views t
         by_view None puts names = absurd (cc names)
-        by_view (Some w) puts names = let e : w.root ≡ t = cc names in subst (IsBorn s.views) e (count_born stands l s r id v at w.root puts)
+        by_view (Some w) puts names =
+            let e : w.root ≡ t = cc names in subst (IsBorn s.views) e (count_born stands l s r id v at w.root puts)
 
         by : (d : Did) → n.did ≡ d → PutsDown v d → carried d ≡ Some t → IsBorn s.views t
         by (Post q) is puts names = by_view q.view puts names
         by (Fetch q) is puts names =
             let m = at_mail o n q t is names mailed in
-            subst (λ (o : Object). (fits : IsObjectOf l.shape o) → IsHistory l.shape o ((r.objects o fits).history ++ n ∷ []) → IsBorn s.views t) (sym m.2) (λ fits more. fetched n q t is names m.0 m.1 fits more) fits more
-        by (End q) is puts names = let e : q ≡ t = cc names in subst (IsBorn s.views) e (token_born stands l s r id v at q puts)
+            subst (λ (o : Object). (fits : IsObjectOf l.shape o)
+            → IsHistory l.shape o ((r.objects o fits).history ++ n ∷ []) → IsBorn s.views t) (sym m.2)
+            (λ fits more. fetched n q t is names m.0 m.1 fits more) fits more
+        by (End q) is puts names =
+            let e : q ≡ t = cc names in subst (IsBorn s.views) e (token_born stands l s r id v at q puts)
         by d is puts names = absurd (cc names)

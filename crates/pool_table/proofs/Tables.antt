@@ -38,11 +38,21 @@ module _ {H : Type 0} (stands : List ℕ → Setting → List Noted → H → Ty
   St = State (Option H) SeatView
 
   -- the word and the view of one object's step change
-  pub changes : (s : St) (r : IsSound stands l s) (id : ℕ) (v w : SeatView) (o : Object) (n : ℕ) (homes' : List (maybe.Option (Option H))) → IsObjectOf l.shape o → get_elem? s.views id ≡ some v
-      → ((j : ℕ) → j ≢ home_of l.shape o → face l.shape j w ≡ face l.shape j v) → ((m : ℕ) → numbered m w ≡ numbered m v) → IsWeighedSame v w → IsView l.shape r.setting w → spent w ≤ spent v → AreLooksRight (set s.views id w) → AreInOrder (set s.views id w) → AreBorn (set s.views id w)
+  pub changes : (s : St) (r : IsSound stands l s) (id : ℕ) (v w : SeatView) (o : Object) (n : ℕ)
+      (homes' : List (maybe.Option (Option H))) → IsObjectOf l.shape o → get_elem? s.views id ≡ some v
+      → ((j : ℕ) → j ≢ home_of l.shape o → face l.shape j w ≡ face l.shape j v)
+      → ((m : ℕ) → numbered m w ≡ numbered m v) → IsWeighedSame v w → IsView l.shape r.setting w → spent w ≤ spent v
+      → AreLooksRight (set s.views id w) → AreInOrder (set s.views id w) → AreBorn (set s.views id w)
       → length homes' ≡ length s.homes → ((j : ℕ) → j ≢ slot_of l.shape o → get_elem? homes' j ≡ get_elem? s.homes j)
-      → IsKept stands l.shape r.setting o (set (map (face l.shape (home_of l.shape o)) s.views) id (face l.shape (home_of l.shape o) w)) n (get_elem? homes' (slot_of l.shape o))
-      → IsSound stands l (record { words = set s.words (word_of l.shape o) n; homes = homes'; views = set s.views id w })
+      → IsKept stands l.shape r.setting o
+      (set (map (face l.shape (home_of l.shape o)) s.views) id (face l.shape (home_of l.shape o) w)) n
+      (get_elem? homes' (slot_of l.shape o))
+      → IsSound stands l (record {
+        words = set s.words (word_of l.shape o) n;
+        homes = homes';
+        views =
+            set s.views id w;
+      })
   changes s r id v w o n homes' fits at elsewhere numbers refs fine spends looks order born wide homes kept =
       let i : ℕ = home_of l.shape o in
       let d : ℕ = word_of l.shape o in
@@ -52,29 +62,59 @@ module _ {H : Type 0} (stands : List ℕ → Setting → List Noted → H → Ty
         homes = wide ∙ r.homes;
         between = λ j k lt low high. homes k (slot_between l.shape j i k low high) ∙ r.between j k lt low high;
         views = All-set (IsView l.shape r.setting) s.views id w fine r.views;
-        lanes = λ m. subst (OnceBelow l.shape.lanes m) (sym (sum_same (numbered m) s.views id v w at (numbers m))) (r.lanes m);
+        lanes =
+            λ m. subst (OnceBelow l.shape.lanes m) (sym (sum_same (numbered m) s.views id v w at (numbers m)))
+            (r.lanes m);
         objects = λ p fits'. dite (ℕ_discrete (home_of l.shape p) i)
             (λ same. let po : o ≡ p = one_home l.shape o p fits fits' (sym same) in
-            subst (λ (p : Object). IsKept stands l.shape r.setting p (map (face l.shape (home_of l.shape p)) (set s.views id w)) (slice_index (set s.words d n) (word_of l.shape p)) (get_elem? homes' (slot_of l.shape p))) po
-            (subst (λ (x : List Face × ℕ). IsKept stands l.shape r.setting o x.0 x.1 (get_elem? homes' (slot_of l.shape o))) (λ k. (sym (map-set (face l.shape i) s.views id w) k, sym (get_or-set_same s.words d n 0 inside) k)) kept))
+            subst (λ (p : Object). IsKept stands l.shape r.setting p
+            (map (face l.shape (home_of l.shape p)) (set s.views id w))
+            (slice_index (set s.words d n) (word_of l.shape p)) (get_elem? homes' (slot_of l.shape p))) po
+            (subst (λ (x : List Face × ℕ). IsKept stands l.shape r.setting o x.0 x.1
+            (get_elem? homes' (slot_of l.shape o)))
+            (λ k. (sym (map-set (face l.shape i) s.views id w) k, sym (get_or-set_same s.words d n 0 inside) k))
+            kept))
             (λ (ne : home_of l.shape p ≢ i). let j : ℕ = home_of l.shape p in
-            subst (λ (x : List Face × (ℕ × maybe.Option (maybe.Option (Option H)))). IsKept stands l.shape r.setting p x.0 x.1.0 x.1.1)
-            (λ k. (sym (map_same (face l.shape j) s.views id v w at (elsewhere j ne)) k, (sym (get_or-set_other s.words d (word_of l.shape p) n 0 (object_once l.shape p o fits' fits ne)) k, sym (homes (slot_of l.shape p) (slot_apart l.shape p o ne)) k)))
+            subst (λ (x : List Face × (ℕ × maybe.Option (maybe.Option (Option H)))). IsKept stands l.shape r.setting p
+            x.0 x.1.0 x.1.1)
+            (λ k. (
+              sym (map_same (face l.shape j) s.views id v w at (elsewhere j ne)) k,
+              (
+                sym (get_or-set_other s.words d (word_of l.shape p) n 0 (object_once l.shape p o fits' fits ne)) k,
+                sym
+                    (homes (slot_of l.shape p) (slot_apart l.shape p o ne)) k,
+              ),
+            ))
             (r.objects p fits'));
         born = born;
         looks = looks;
         order = order;
         room = r.room;
         budget = (let a = sum_set spent s.views id v w at in let b = r.budget in let c = spends in
-            let x : ℕ = sum_by spent (set s.views id w) in let y : ℕ = sum_by spent s.views in let sv : ℕ = spent v in let sw : ℕ = spent w in let t : ℕ = l.shape.lanes * l.turns in
-            let a' : x + sv ≡ y + sw = a in let b' : y ≤ t = b in let c' : sw ≤ sv = c in let g : x ≤ t = omega (arith, a', b', c') in g);
+            let x : ℕ = sum_by spent (set s.views id w) in let y : ℕ = sum_by spent s.views in let sv : ℕ = spent v in
+            let sw : ℕ = spent w in let t : ℕ = l.shape.lanes * l.turns in
+            let a' : x + sv ≡ y + sw = a in let b' : y ≤ t = b in let c' : sw ≤ sv = c in let g : x ≤ t =
+            omega (arith, a', b', c') in
+            g);
         few = r.few;
-        moved = subst (λ (x : ℕ). x ≤ l.shape.lanes * l.moves) (sym (sum_same reached s.views id v w at (reached_same v w refs))) r.moved;
-        counts = λ p lt. subst (IsCounted p (set s.views id w)) (sym (get_or-set_other s.words d (count_word_of l.shape p) n 0 (λ e. object_no_count l.shape o p fits lt (sym e)))) (other_kept p s.views (set s.views id w) (slice_index s.words (count_word_of l.shape p)) (λ f g. sum_same (weigh (on_root f p g)) s.views id v w at (refs.refs f p g)) (λ f. sum_same (weigh (on_place f p)) s.views id v w at (refs.places f p)) (r.counts p lt));
+        moved =
+            subst (λ (x : ℕ). x ≤ l.shape.lanes * l.moves)
+            (sym (sum_same reached s.views id v w at (reached_same v w refs))) r.moved;
+        counts =
+            λ p lt. subst (IsCounted p (set s.views id w))
+            (sym (get_or-set_other s.words d (count_word_of l.shape p) n 0
+            (λ e. object_no_count l.shape o p fits lt (sym e))))
+            (other_kept p s.views (set s.views id w) (slice_index s.words (count_word_of l.shape p))
+            (λ f g. sum_same (weigh (on_root f p g)) s.views id v w at (refs.refs f p g))
+            (λ f. sum_same (weigh (on_place f p)) s.views id v w at (refs.places f p))
+            (r.counts p lt));
       }
 
   -- a view changes, and no object sees it
-  pub unseen : (s : St) (r : IsSound stands l s) (id : ℕ) (v w : SeatView) → get_elem? s.views id ≡ some v → ((j : ℕ) → face l.shape j w ≡ face l.shape j v) → ((m : ℕ) → numbered m w ≡ numbered m v) → IsWeighedSame v w → IsView l.shape r.setting w → spent w ≤ spent v → AreLooksRight (set s.views id w) → AreInOrder (set s.views id w) → AreBorn (set s.views id w)
+  pub unseen : (s : St) (r : IsSound stands l s) (id : ℕ) (v w : SeatView) → get_elem? s.views id ≡ some v
+      → ((j : ℕ) → face l.shape j w ≡ face l.shape j v) → ((m : ℕ) → numbered m w ≡ numbered m v) → IsWeighedSame v w
+      → IsView l.shape r.setting w → spent w ≤ spent v → AreLooksRight (set s.views id w)
+      → AreInOrder (set s.views id w) → AreBorn (set s.views id w)
       → IsSound stands l (record { words = s.words; homes = s.homes; views = set s.views id w })
   unseen s r id v w at everywhere numbers refs fine spends looks order born = record {
     setting = r.setting;
@@ -82,61 +122,106 @@ module _ {H : Type 0} (stands : List ℕ → Setting → List Noted → H → Ty
     homes = r.homes;
     between = r.between;
     views = All-set (IsView l.shape r.setting) s.views id w fine r.views;
-    lanes = λ m. subst (OnceBelow l.shape.lanes m) (sym (sum_same (numbered m) s.views id v w at (numbers m))) (r.lanes m);
-    objects = λ p fits. subst (λ (x : List Face). IsKept stands l.shape r.setting p x (slice_index s.words (word_of l.shape p)) (get_elem? s.homes (slot_of l.shape p))) (sym (map_same (face l.shape (home_of l.shape p)) s.views id v w at (everywhere (home_of l.shape p)))) (r.objects p fits);
+    lanes =
+        λ m. subst (OnceBelow l.shape.lanes m) (sym (sum_same (numbered m) s.views id v w at (numbers m))) (r.lanes m);
+    objects =
+        λ p fits. subst (λ (x : List Face). IsKept stands l.shape r.setting p x
+        (slice_index s.words (word_of l.shape p)) (get_elem? s.homes (slot_of l.shape p)))
+        (sym (map_same (face l.shape (home_of l.shape p)) s.views id v w at (everywhere (home_of l.shape p))))
+        (r.objects p fits);
     born = born;
     looks = looks;
     order = order;
     room = r.room;
     budget = (let a = sum_set spent s.views id v w at in let b = r.budget in let c = spends in
-        let x : ℕ = sum_by spent (set s.views id w) in let y : ℕ = sum_by spent s.views in let sv : ℕ = spent v in let sw : ℕ = spent w in let t : ℕ = l.shape.lanes * l.turns in
-        let a' : x + sv ≡ y + sw = a in let b' : y ≤ t = b in let c' : sw ≤ sv = c in let g : x ≤ t = omega (arith, a', b', c') in g);
+        let x : ℕ = sum_by spent (set s.views id w) in let y : ℕ = sum_by spent s.views in let sv : ℕ = spent v in
+        let sw : ℕ = spent w in let t : ℕ = l.shape.lanes * l.turns in
+        let a' : x + sv ≡ y + sw = a in let b' : y ≤ t = b in let c' : sw ≤ sv = c in let g : x ≤ t =
+        omega (arith, a', b', c') in
+        g);
     few = r.few;
-    moved = subst (λ (x : ℕ). x ≤ l.shape.lanes * l.moves) (sym (sum_same reached s.views id v w at (reached_same v w refs))) r.moved;
-    counts = λ p lt. other_kept p s.views (set s.views id w) (slice_index s.words (count_word_of l.shape p)) (λ f g. sum_same (weigh (on_root f p g)) s.views id v w at (refs.refs f p g)) (λ f. sum_same (weigh (on_place f p)) s.views id v w at (refs.places f p)) (r.counts p lt);
+    moved =
+        subst (λ (x : ℕ). x ≤ l.shape.lanes * l.moves)
+        (sym (sum_same reached s.views id v w at (reached_same v w refs))) r.moved;
+    counts =
+        λ p lt. other_kept p s.views (set s.views id w) (slice_index s.words (count_word_of l.shape p))
+        (λ f g. sum_same (weigh (on_root f p g)) s.views id v w at (refs.refs f p g))
+        (λ f. sum_same (weigh (on_place f p)) s.views id v w at (refs.places f p)) (r.counts p lt);
   }
 
   -- the history of an object is no longer than all notes
   fewer : (i : ℕ) (es : List Entry) → count_by is_at (filter (is_about l.shape i) es) ≤ count_by is_at es
   fewer i [] = omega arith
-  fewer i (e ∷ es) = let a = fewer i es in let b = sum_by-cons (λ (x : Entry). cond {A = ℕ} (is_at x) 1 0) e es in one (is_about l.shape i e) a b
+  fewer i (e ∷ es) =
+      let a = fewer i es in let b = sum_by-cons (λ (x : Entry). cond {A = ℕ} (is_at x) 1 0) e es in
+      one (is_about l.shape i e) a b
     where
-      one : (b : Bool) → count_by is_at (filter (is_about l.shape i) es) ≤ count_by is_at es → count_by is_at (e ∷ es) ≡ cond {A = ℕ} (is_at e) 1 0 + count_by is_at es → count_by is_at (cond b (e ∷ filter (is_about l.shape i) es) (filter (is_about l.shape i) es)) ≤ count_by is_at (e ∷ es)
-      one true a b = let c = sum_by-cons (λ (x : Entry). cond {A = ℕ} (is_at x) 1 0) e (filter (is_about l.shape i) es) in omega (arith, a, b, c)
+      one : (b : Bool) → count_by is_at (filter (is_about l.shape i) es) ≤ count_by is_at es
+          → count_by is_at (e ∷ es) ≡ cond {A = ℕ} (is_at e) 1 0 + count_by is_at es
+          → count_by is_at (cond b (e ∷ filter (is_about l.shape i) es) (filter (is_about l.shape i) es)) ≤ count_by
+          is_at (e ∷ es)
+      one true a b =
+          let c = sum_by-cons (λ (x : Entry). cond {A = ℕ} (is_at x) 1 0) e (filter (is_about l.shape i) es) in
+          omega (arith, a, b, c)
       one false a b = omega (arith, a, b)
 
-  fewer_parts : (i : ℕ) (ps : List Part) → sum_by (λ (p : Part). count_by is_at p.notes) (map (strand l.shape i) ps) ≤ sum_by (λ (p : Part). count_by is_at p.notes) ps
+  fewer_parts : (i : ℕ) (ps : List Part) → sum_by (λ (p : Part). count_by is_at p.notes) (map (strand l.shape i) ps)
+      ≤ sum_by (λ (p : Part). count_by is_at p.notes) ps
   fewer_parts i [] = omega arith
-  fewer_parts i (p ∷ ps) = let a = fewer i p.notes in let b = fewer_parts i ps in let c = sum_by-cons (λ (x : Part). count_by is_at x.notes) p ps in let d = sum_by-cons (λ (x : Part). count_by is_at x.notes) (strand l.shape i p) (map (strand l.shape i) ps) in omega (arith, a, b, c, d)
+  fewer_parts i (p ∷ ps) =
+      let a = fewer i p.notes in let b = fewer_parts i ps in let c =
+      sum_by-cons (λ (x : Part). count_by is_at x.notes) p ps in let d =
+      sum_by-cons (λ (x : Part). count_by is_at x.notes) (strand l.shape i p) (map (strand l.shape i) ps) in
+      omega (arith, a, b, c, d)
 
   fewer_views : (i : ℕ) (vs : List SeatView) → total is_at (map (face l.shape i) vs) ≤ sum_by spent vs
   fewer_views i [] = omega arith
-  fewer_views i (v ∷ vs) = let a = fewer_parts i (parts_of v) in let b = fewer_views i vs in let c = sum_by-cons spent v vs in let d = sum_by-cons (in_face is_at) (face l.shape i v) (map (face l.shape i) vs) in omega (arith, a, b, c, d)
+  fewer_views i (v ∷ vs) =
+      let a = fewer_parts i (parts_of v) in let b = fewer_views i vs in let c = sum_by-cons spent v vs in let d =
+      sum_by-cons (in_face is_at) (face l.shape i v) (map (face l.shape i) vs) in
+      omega (arith, a, b, c, d)
 
-  pub short : (s : St) (r : IsSound stands l s) (o : Object) (fits : IsObjectOf l.shape o) → length (r.objects o fits).history < 4611686018427387904
+  pub short : (s : St) (r : IsSound stands l s) (o : Object) (fits : IsObjectOf l.shape o)
+      → length (r.objects o fits).history < 4611686018427387904
   short s r o fits =
       let k = r.objects o fits in let n : ℕ = length k.history in
       let a : total is_at (map (face l.shape (home_of l.shape o)) s.views) ≡ n = k.as_many in
       let b = fewer_views (home_of l.shape o) s.views in let c = r.budget in let d = r.room in
-      let x : ℕ = total is_at (map (face l.shape (home_of l.shape o)) s.views) in let y : ℕ = sum_by spent s.views in let t : ℕ = l.shape.lanes * l.turns in
-      let a' : x ≡ n = a in let b' : x ≤ y = b in let c' : y ≤ t = c in let d' : t < 4611686018427387904 = d in let g : n < 4611686018427387904 = omega (arith, a', b', c', d') in g
+      let x : ℕ = total is_at (map (face l.shape (home_of l.shape o)) s.views) in let y : ℕ = sum_by spent s.views in
+      let t : ℕ = l.shape.lanes * l.turns in
+      let a' : x ≡ n = a in let b' : x ≤ y = b in let c' : y ≤ t = c in let d' : t < 4611686018427387904 = d in
+      let g : n < 4611686018427387904 = omega (arith, a', b', c', d') in
+      g
 
   -- some view is in the section
-  pub holder : (i : ℕ) (vs : List SeatView) → 0 < inside_total (map (face l.shape i) vs) → (j : ℕ) × (u : SeatView) × (get_elem? vs j ≡ some u) × (0 < is_in (face l.shape i u))
+  pub holder : (i : ℕ) (vs : List SeatView) → 0 < inside_total (map (face l.shape i) vs)
+      → (j : ℕ) × (u : SeatView) × (get_elem? vs j ≡ some u) × (0 < is_in (face l.shape i u))
   holder i [] lt = absurd (omega (arith, lt))
   holder i (v ∷ vs) lt = let c = sum_by-cons is_in (face l.shape i v) (map (face l.shape i) vs) in
-      let a : ℕ = is_in (face l.shape i v) in let b : ℕ = inside_total (map (face l.shape i) vs) in let t : ℕ = inside_total (map (face l.shape i) (v ∷ vs)) in
+      let a : ℕ = is_in (face l.shape i v) in let b : ℕ = inside_total (map (face l.shape i) vs) in let t : ℕ =
+      inside_total (map (face l.shape i) (v ∷ vs)) in
       let c' : t ≡ a + b = c in let lt' : 0 < t = lt in
       dite (ℕ_discrete a 0)
-      (λ e. let lt'' : 0 < b = omega (arith, c', e, lt') in let more = holder i vs lt'' in (suc more.0, more.1, more.2, more.3))
+      (λ e. let lt'' : 0 < b = omega (arith, c', e, lt') in let more = holder i vs lt'' in
+      (suc more.0, more.1, more.2, more.3))
       (λ ne. let g : 0 < a = omega (arith, ne) in (0, v, refl, g))
 
   -- a part's own list of entries on an object, with one entry more
-  pub strand_skips : (i : ℕ) (p : Part) (e : Entry) → is_about l.shape i e ≡ false → strand l.shape i (record { number = p.number; notes = p.notes ++ e ∷ [] }) ≡ strand l.shape i p
-  strand_skips i p e off = ap (λ (es : List Entry). record { number = p.number; notes = es }) (filter-append (is_about l.shape i) p.notes (e ∷ []) ∙ (ap (λ (b : Bool). filter (is_about l.shape i) p.notes ++ cond b (e ∷ []) []) off ∙ append-nil (filter (is_about l.shape i) p.notes)))
+  pub strand_skips : (i : ℕ) (p : Part) (e : Entry) → is_about l.shape i e ≡ false
+      → strand l.shape i (record { number = p.number; notes = p.notes ++ e ∷ [] }) ≡ strand l.shape i p
+  strand_skips i p e off =
+      ap (λ (es : List Entry). record { number = p.number; notes = es })
+      (filter-append (is_about l.shape i) p.notes (e ∷ [])
+      ∙ (ap (λ (b : Bool). filter (is_about l.shape i) p.notes ++ cond b (e ∷ []) []) off
+      ∙ append-nil (filter (is_about l.shape i) p.notes)))
 
-  pub strand_takes : (i : ℕ) (p : Part) (e : Entry) → is_about l.shape i e ≡ true → strand l.shape i (record { number = p.number; notes = p.notes ++ e ∷ [] }) ≡ record { number = p.number; notes = (strand l.shape i p).notes ++ e ∷ [] }
-  strand_takes i p e on = ap (λ (es : List Entry). record { number = p.number; notes = es }) (filter-append (is_about l.shape i) p.notes (e ∷ []) ∙ ap (λ (b : Bool). filter (is_about l.shape i) p.notes ++ cond b (e ∷ []) []) on)
+  pub strand_takes : (i : ℕ) (p : Part) (e : Entry) → is_about l.shape i e ≡ true
+      → strand l.shape i (record { number = p.number; notes = p.notes ++ e ∷ [] })
+      ≡ record { number = p.number; notes = (strand l.shape i p).notes ++ e ∷ [] }
+  strand_takes i p e on =
+      ap (λ (es : List Entry). record { number = p.number; notes = es })
+      (filter-append (is_about l.shape i) p.notes (e ∷ [])
+      ∙ ap (λ (b : Bool). filter (is_about l.shape i) p.notes ++ cond b (e ∷ []) []) on)
 
   -- what is counted as nothing fails everywhere
   pub none_counted : {A : Type 0} (p : A → Bool) (xs : List A) → count_by p xs ≡ 0 → All (λ (x : A). p x ≡ false) xs
@@ -144,7 +229,8 @@ module _ {H : Type 0} (stands : List ℕ → Setting → List Noted → H → Ty
   none_counted p (x ∷ xs) e =
       let c = sum_by-cons (λ y. cond {A = ℕ} (p y) 1 0) x xs in
       let a : ℕ = cond {A = ℕ} (p x) 1 0 in let b : ℕ = count_by p xs in let t : ℕ = count_by p (x ∷ xs) in
-      let c' : t ≡ a + b = c in let e' : t ≡ 0 = e in let az : a ≡ 0 = omega (arith, c', e') in let bz : b ≡ 0 = omega (arith, c', e') in
+      let c' : t ≡ a + b = c in let e' : t ≡ 0 = e in let az : a ≡ 0 = omega (arith, c', e') in let bz : b
+      ≡ 0 = omega (arith, c', e') in
       All-cons (λ y. p y ≡ false) x xs (off (p x) az) (none_counted p xs bz)
     where
       off : (b : Bool) → cond {A = ℕ} b 1 0 ≡ 0 → b ≡ false
@@ -152,23 +238,35 @@ module _ {H : Type 0} (stands : List ℕ → Setting → List Noted → H → Ty
       off false e = refl
 
   -- the parts of a view as an object sees them
-  all_strands : (i m : ℕ) (ps : List Part) → All (λ (p : Part). is_lane m p.number ≡ false) ps → All (λ (p : Part). is_lane m p.number ≡ false) (map (strand l.shape i) ps)
+  all_strands : (i m : ℕ) (ps : List Part) → All (λ (p : Part). is_lane m p.number ≡ false) ps
+      → All (λ (p : Part). is_lane m p.number ≡ false) (map (strand l.shape i) ps)
   all_strands i m [] all = All-nil (λ (p : Part). is_lane m p.number ≡ false)
-  all_strands i m (p ∷ ps) all = All-cons (λ (p : Part). is_lane m p.number ≡ false) (strand l.shape i p) (map (strand l.shape i) ps) (All-head (λ (p : Part). is_lane m p.number ≡ false) p ps all) (all_strands i m ps (All-tail (λ (p : Part). is_lane m p.number ≡ false) p ps all))
+  all_strands i m (p ∷ ps) all =
+      All-cons (λ (p : Part). is_lane m p.number ≡ false) (strand l.shape i p) (map (strand l.shape i) ps)
+      (All-head (λ (p : Part). is_lane m p.number ≡ false) p ps all)
+      (all_strands i m ps (All-tail (λ (p : Part). is_lane m p.number ≡ false) p ps all))
 
   is_own : (m : ℕ) (n : Option ℕ) → n ≡ Some m → cond {A = ℕ} (is_lane m n) 1 0 ≡ 1
-  is_own m n e = subst (λ (x : Option ℕ). cond {A = ℕ} (is_lane m x) 1 0 ≡ 1) (sym e) (ap (λ (b : Bool). cond {A = ℕ} b 1 0) (eq-eqb m m refl))
+  is_own m n e =
+      subst (λ (x : Option ℕ). cond {A = ℕ} (is_lane m x) 1 0 ≡ 1) (sym e)
+      (ap (λ (b : Bool). cond {A = ℕ} b 1 0) (eq-eqb m m refl))
 
   once_at_most : (n m t : ℕ) → OnceBelow n m t → t ≤ 1
-  once_at_most n m t o = dite (dec_le n m) (λ le. let e = o.1 le in omega (arith, e)) (λ gt. let e = o.0 (lt_of_not-le gt) in omega (arith, e))
+  once_at_most n m t o =
+      dite (dec_le n m) (λ le. let e = o.1 le in omega (arith, e))
+      (λ gt. let e = o.0 (lt_of_not-le gt) in omega (arith, e))
 
   -- no other part has the number of this view's own part
-  pub alone_in : (s : St) (r : IsSound stands l s) (id i m : ℕ) (v : SeatView) → get_elem? s.views id ≡ some v → v.own.number ≡ Some m
-      → All (λ (p : Part). is_lane m p.number ≡ false) (map (strand l.shape i) v.others) × ((j : ℕ) (f : Face) → j ≢ id → get_elem? (map (face l.shape i) s.views) j ≡ some f → All (λ (p : Part). is_lane m p.number ≡ false) f.parts)
+  pub alone_in : (s : St) (r : IsSound stands l s) (id i m : ℕ) (v : SeatView) → get_elem? s.views id ≡ some v
+      → v.own.number ≡ Some m
+      → All (λ (p : Part). is_lane m p.number ≡ false) (map (strand l.shape i) v.others)
+      × ((j : ℕ) (f : Face) → j ≢ id → get_elem? (map (face l.shape i) s.views) j ≡ some f
+      → All (λ (p : Part). is_lane m p.number ≡ false) f.parts)
   alone_in s r id i m v at own =
       let t : ℕ = sum_by (numbered m) s.views in let most : t ≤ 1 = once_at_most l.shape.lanes m t (r.lanes m) in
       let rest : ℕ = count_by (λ (p : Part). is_lane m p.number) v.others in
-      let mine : numbered m v ≡ cond {A = ℕ} (is_lane m v.own.number) 1 0 + rest = sum_by-cons (λ (p : Part). cond {A = ℕ} (is_lane m p.number) 1 0) v.own v.others in
+      let mine : numbered m v ≡ cond {A = ℕ} (is_lane m v.own.number) 1 0 + rest =
+      sum_by-cons (λ (p : Part). cond {A = ℕ} (is_lane m p.number) 1 0) v.own v.others in
       let one : cond {A = ℕ} (is_lane m v.own.number) 1 0 ≡ 1 = is_own m v.own.number own in
       let le : numbered m v ≤ t = sum_at (numbered m) s.views id v at in
       let n : ℕ = numbered m v in let mine' : n ≡ 1 + rest = omega (arith, mine, one) in let le' : n ≤ t = le in
@@ -177,6 +275,8 @@ module _ {H : Type 0} (stands : List ℕ → Setting → List Noted → H → Ty
         λ j f ne e.
             let back = at_mapped (face l.shape i) s.views j f e in let u : SeatView = back.0 in
             let two : n + numbered m u ≤ t = sum_two (numbered m) s.views id j v u (λ k. ne (sym k)) at back.1 in
-            let k : ℕ = numbered m u in let two' : n + k ≤ t = two in let z : k ≡ 0 = omega (arith, mine', two', most) in
-            subst (λ (f : Face). All (λ (p : Part). is_lane m p.number ≡ false) f.parts) back.2 (all_strands i m (parts_of u) (none_counted (λ (p : Part). is_lane m p.number) (parts_of u) z)),
+            let k : ℕ = numbered m u in let two' : n + k ≤ t = two in let z : k
+            ≡ 0 = omega (arith, mine', two', most) in
+            subst (λ (f : Face). All (λ (p : Part). is_lane m p.number ≡ false) f.parts) back.2
+            (all_strands i m (parts_of u) (none_counted (λ (p : Part). is_lane m p.number) (parts_of u) z)),
       )

@@ -14,7 +14,8 @@ use Rattle.pool_law.specs.Naming.{noted_by}
 use Rattle.table_law.specs.Histories.{IsHistory}
 
 -- a value that each of the homes is, each object's is
-pub each_stands : {H : Type 0} (s : Shape) (homes : List H) (P : H → Type 0) → length homes ≡ objects_of s → All P homes →
+pub each_stands : {H : Type 0} (s : Shape) (homes : List H) (P : H → Type 0) → length homes ≡ objects_of s → All P homes
+    →
     (o : Object) → IsObjectOf s o → (x : H) × (slice_get homes (home_of s o) ≡ Some x) × P x
 each_stands {H} s homes P many all o fits =
     let near : home_of s o < length homes = subst (λ (n : ℕ). home_of s o < n) (sym many) (home_within s o fits) in
@@ -27,16 +28,19 @@ each_stands {H} s homes P many all o fits =
     there (x ∷ xs) (suc i) lt = there xs i (omega (arith, lt))
 
 -- the last two of two elements
-pub two_last : {X : Type 0} (P : ℕ → X → Type 0) (items rest less : List X) (a b : X) → length items ≡ 2 → items ≡ rest ++ b ∷ [] → rest ≡ less ++ a ∷ [] →
+pub two_last : {X : Type 0} (P : ℕ → X → Type 0) (items rest less : List X) (a b : X) → length items ≡ 2
+    → items ≡ rest ++ b ∷ [] → rest ≡ less ++ a ∷ [] →
     ((k : ℕ) → k < 2 → HoldsAt (P k) items k) → P 0 a × P 1 b
 two_last {X} P items rest less a b many e f each = go less (e ∙ ap (λ (r : List X). r ++ b ∷ []) f)
   where
     go : (less : List X) → items ≡ (less ++ a ∷ []) ++ b ∷ [] → P 0 a × P 1 b
     go [] is =
-        let all : (k : ℕ) → k < 2 → HoldsAt (P k) (a ∷ b ∷ []) k = subst (λ (l : List X). (k : ℕ) → k < 2 → HoldsAt (P k) l k) is each in
+        let all : (k : ℕ) → k < 2 → HoldsAt (P k) (a ∷ b ∷ []) k =
+        subst (λ (l : List X). (k : ℕ) → k < 2 → HoldsAt (P k) l k) is each in
         (all 0 (omega arith) a, all 1 (omega arith) a)
     go (x ∷ xs) is =
-        let n = ap (λ (l : List X). length l) is in let u = length-append ((x ∷ xs) ++ a ∷ []) (b ∷ []) in let v = length-append (x ∷ xs) (a ∷ []) in
+        let n = ap (λ (l : List X). length l) is in let u = length-append ((x ∷ xs) ++ a ∷ []) (b ∷ []) in let v =
+        length-append (x ∷ xs) (a ∷ []) in
         absurd (omega (arith, n, u, v, many))
 
 pub none_of : {X : Type 0} (xs : List X) → length xs ≡ 0 → xs ≡ []
@@ -45,10 +49,12 @@ none_of (x ∷ xs) e = absurd (omega (arith, e))
 
 -- the first note of the first bin of lanes with one handle each
 pub first_handle : (s : Shape) (o : Object) (h : List Noted) (lane : Option ℕ) → s.handles ≡ 1 → o ≡ Bin 0 → h ≡ [] →
-    IsHistory s o (h ++ noted_by lane (record { did = Handle 0; lane = None; watch = None; root = None; region = None }) ∷ [])
+    IsHistory s o (h ++ noted_by lane (record { did = Handle 0; lane = None; watch = None; root = None; region = None })
+    ∷ [])
 first_handle s o h lane one bin empty =
     let n : Noted = noted_by lane (record { did = Handle 0; lane = None; watch = None; root = None; region = None }) in
     subst (λ (y : Object × List Noted). IsHistory s y.0 (y.1 ++ n ∷ [])) (λ q. (sym bin q, sym empty q)) (record {
-      accepted = subst (λ (k : ℕ). IsTrue (is_some (after (bin_step 0 k) (new_bin 0 k) (Handle 0 ∷ [])))) (sym one) refl;
+      accepted =
+          subst (λ (k : ℕ). IsTrue (is_some (after (bin_step 0 k) (new_bin 0 k) (Handle 0 ∷ [])))) (sym one) refl;
       right = ((refl, refl, refl), tt);
     })

@@ -19,7 +19,8 @@ use Rattle.pool_table.proofs.Transit.{transit}
 use Rattle.pool_table.proofs.References.{small_count}
 
 -- what is left of each, where none loses more than it gains
-left_over : {A : Type 0} (f g : A → ℕ) (xs : List A) → All (λ (x : A). g x ≤ f x) xs → sum_by (λ (x : A). f x - g x) xs + sum_by g xs ≡ sum_by f xs
+left_over : {A : Type 0} (f g : A → ℕ) (xs : List A) → All (λ (x : A). g x ≤ f x) xs
+    → sum_by (λ (x : A). f x - g x) xs + sum_by g xs ≡ sum_by f xs
 left_over f g [] all = omega arith
 left_over {A} f g (x ∷ xs) all =
     let P : A → Type 0 = λ (y : A). g y ≤ f y in
@@ -28,24 +29,30 @@ left_over {A} f g (x ∷ xs) all =
 
 -- where all counts of a root are what it gained less what it lost
 module _ (p : ℕ) (views : List SeatView) (word : ℕ) (k : IsCounted p views word)
-    (all : (g : ℕ) → (counted_in p g views + unfetched_in p g views) + tally ref_loss p g views ≡ tally ref_gain p g views) where
+    (all : (g : ℕ) → (counted_in p g views + unfetched_in p g views) + tally ref_loss p g views
+    ≡ tally ref_gain p g views) where
   no_root : (g : ℕ) → (g ≡ 0) ⊎ (k.generation < g) → InTurn p g views
   no_root g other =
-      let born = k.later ref_born g other in let ended = k.later ref_ended g other in let vacated = k.later ref_vacated g other in record {
+      let born = k.later ref_born g other in let ended = k.later ref_ended g other in let vacated =
+      k.later ref_vacated g other in
+      record {
         from_one = λ some. absurd (omega (arith, some, born));
         born_once = omega (arith, born);
         born_before = omega (arith, ended);
         ended_before = omega (arith, vacated);
         vacated_before = λ some. ⊎_elim
             (λ (z : g ≡ 0). absurd (omega (arith, z, some)))
-            (λ (gt : k.generation < g). let next = k.later ref_born (g + 1) (inr (omega (arith, gt))) in omega (arith, next)) other;
+            (λ (gt : k.generation < g). let next = k.later ref_born (g + 1) (inr (omega (arith, gt))) in
+            omega (arith, next)) other;
         ended_uncounted = λ some. absurd (omega (arith, some, born));
       }
 
   past_root : (g : ℕ) → 0 < g → g < k.generation → InTurn p g views
   past_root g some lt =
       let born = k.born g some (omega (arith, lt)) in let next = k.born (g + 1) (omega arith) (omega (arith, lt)) in
-      let past = k.past g some lt in let even = past.0 in let ended = past.1 in let vacated = past.2 in let sum = all g in record {
+      let past = k.past g some lt in let even = past.0 in let ended = past.1 in let vacated = past.2 in let sum =
+      all g in
+      record {
         from_one = λ _. some;
         born_once = omega (arith, born);
         born_before = omega (arith, born, ended);
@@ -68,13 +75,18 @@ module _ (p : ℕ) (views : List SeatView) (word : ℕ) (k : IsCounted p views w
         vacated_before = λ _. omega (arith, next);
         ended_uncounted = λ _. ((λ _. omega (arith, sum, counts, z)), (λ _. ended));
       })
-      (λ ne. let more : 0 < k.count = omega (arith, ne) in let ended = (k.ended some).1 more in let live = k.live more in record {
+      (λ ne. let more : 0 < k.count = omega (arith, ne) in let ended = (k.ended some).1 more in let live =
+      k.live more in record {
         from_one = λ _. some;
         born_once = omega (arith, born);
         born_before = omega (arith, ended);
         ended_before = omega (arith, vacated, live);
         vacated_before = λ _. omega (arith, next);
-        ended_uncounted = λ _. ((λ one. absurd (omega (arith, one, ended))), (λ zero. absurd (omega (arith, sum, counts, zero, more))));
+        ended_uncounted =
+            λ _. (
+              (λ one. absurd (omega (arith, one, ended))),
+              (λ zero. absurd (omega (arith, sum, counts, zero, more))),
+            );
       })
 
   turn : (g : ℕ) → InTurn p g views
@@ -86,15 +98,18 @@ module _ (p : ℕ) (views : List SeatView) (word : ℕ) (k : IsCounted p views w
       (λ other. past_root g (omega (arith, some)) (omega (arith, le, other))))
       (λ gt. no_root g (inr (omega (arith, gt)))))
 
-  tells : k.count < 1073741824 → sum_by (weigh (at_gain p (births_at p views))) views ≤ sum_by (weigh (at_loss p (births_at p views))) views → WordTells p views word
+  tells : k.count < 1073741824 → sum_by (weigh (at_gain p (births_at p views))) views ≤ sum_by
+      (weigh (at_loss p (births_at p views))) views → WordTells p views word
   tells small posted =
       let sum = all k.generation in let counts = k.counts in
-      let live : counted_in p k.generation views + unfetched_in p k.generation views ≡ k.count = omega (arith, sum, counts) in
+      let live : counted_in p k.generation views + unfetched_in p k.generation views
+      ≡ k.count = omega (arith, sum, counts) in
       let same : births_at p views ≡ k.generation = k.all_born in
       let here : counted_in p (births_at p views) views + unfetched_in p (births_at p views) views ≡ k.count =
       subst (λ (g : ℕ). counted_in p g views + unfetched_in p g views ≡ k.count) (sym same) live in
       let vacated = k.all_vacated in let word_is = k.word_is in let free = k.free in
-      let vacant : place_tally ref_vacated p views + 1 - births_at p views ≡ k.vacant = omega (arith, vacated, same) in record {
+      let vacant : place_tally ref_vacated p views + 1 - births_at p views ≡ k.vacant = omega (arith, vacated, same) in
+      record {
         word_is = omega (arith, word_is, same, here, vacant);
         fits = omega (arith, here, vacant, free, small);
         posted = posted;
@@ -104,13 +119,20 @@ module _ {H : Type 0} (stands : List ℕ → Setting → List Noted → H → Ty
   all_counts : (s : State (Option H) SeatView) (r : IsSound stands l s) (p g : ℕ) →
       (counted_in p g s.views + unfetched_in p g s.views) + tally ref_loss p g s.views ≡ tally ref_gain p g s.views
   all_counts s r p g =
-      let a = left_over (gained p g) (lost p g) s.views (All-weaker (IsView l.shape r.setting) (λ (v : SeatView). lost p g v ≤ gained p g v) (λ v fine. fine.counted p g) s.views r.views) in
+      let a = left_over (gained p g) (lost p g) s.views
+      (All-weaker (IsView l.shape r.setting) (λ (v : SeatView). lost p g v ≤ gained p g v)
+      (λ v fine. fine.counted p g) s.views r.views) in
       let b = sum_add (weigh (on_root ref_gain p g)) (weigh (at_gain p g)) s.views in
       let c = sum_add (weigh (on_root ref_loss p g)) (weigh (at_loss p g)) s.views in
       let d = transit stands l s r p g in omega (arith, a, b, c, d)
 
-  pub word_tells : (s : State (Option H) SeatView) (r : IsSound stands l s) (p : ℕ) → p < l.shape.lanes * l.shape.handles → WordTells p s.views (slice_index s.words (count_word_of l.shape p))
-  word_tells s r p lt = tells p s.views (slice_index s.words (count_word_of l.shape p)) (r.counts p lt) (all_counts s r p) (small_count stands l s r p lt) (transit stands l s r p (births_at p s.views))
+  pub word_tells : (s : State (Option H) SeatView) (r : IsSound stands l s) (p : ℕ)
+      → p < l.shape.lanes * l.shape.handles → WordTells p s.views (slice_index s.words (count_word_of l.shape p))
+  word_tells s r p lt =
+      tells p s.views (slice_index s.words (count_word_of l.shape p)) (r.counts p lt) (all_counts s r p)
+      (small_count stands l s r p lt) (transit stands l s r p (births_at p s.views))
 
-  pub in_turn : (s : State (Option H) SeatView) (r : IsSound stands l s) (p : ℕ) → p < l.shape.lanes * l.shape.handles → (g : ℕ) → InTurn p g s.views
-  in_turn s r p lt g = turn p s.views (slice_index s.words (count_word_of l.shape p)) (r.counts p lt) (all_counts s r p) g
+  pub in_turn : (s : State (Option H) SeatView) (r : IsSound stands l s) (p : ℕ) → p < l.shape.lanes * l.shape.handles
+      → (g : ℕ) → InTurn p g s.views
+  in_turn s r p lt g =
+      turn p s.views (slice_index s.words (count_word_of l.shape p)) (r.counts p lt) (all_counts s r p) g

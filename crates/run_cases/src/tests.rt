@@ -3,6 +3,7 @@
 mod composites;
 mod kept;
 mod leaks;
+mod small_pages;
 mod smallest;
 mod stops;
 mod sweeps;
@@ -13,6 +14,7 @@ use pool_law::{
     Answered, Bytes, ChunkEnd, Did, LaneLog, Leak, Level, ListName, Note, Object, Place, RefDid,
     RegionId, Reply, RootId, Run, Shape, Trace,
 };
+use size_classes::DEFAULT_PAGE;
 use std::alloc::{AllocError, Global};
 
 // The cache of the first lane and the second class.
@@ -162,6 +164,7 @@ fn placed(offset: u32, notes: u32) -> Answered {
 // The measures of a pool.
 fn shape(order: u32, lanes: u32) -> Shape {
     Shape {
+        page: DEFAULT_PAGE,
         order,
         arenas: 2,
         chunks: 4,
@@ -172,13 +175,14 @@ fn shape(order: u32, lanes: u32) -> Shape {
     }
 }
 
-// What a run is made of, at whose end so many bytes of its one chunk are used.
+// What a run is made of, at whose end so many bytes of its one chunk are used, and so many free.
 #[derive(Drop)]
 struct Parts {
     shape: Shape,
     lanes: Vec<CommandList>,
     logs: Vec<LaneLog>,
     used: u32,
+    free: u32,
     leaks: Vec<Leak>,
 }
 
@@ -189,7 +193,7 @@ fn run_of(alloc: Global, parts: Parts) -> Result<Run, AllocError> {
         chunk: 0,
         list: ListName::QInit,
         used: parts.used,
-        free: 4186112,
+        free: parts.free,
     };
     let chunks = vec![in alloc; end]?;
     Ok(Run {

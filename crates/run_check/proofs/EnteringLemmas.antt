@@ -120,12 +120,14 @@ module _ (shape : Shape) (logs : Logs) (m : Histories) (are : AreHistories shape
       let before : (t : RootPlace) × (after (place_step place) new_place (take (number - 1) (dids h)) ≡ Some t) =
       after-front (place_step place) new_place (dids h) (number - 1) (are.accepted (Root place)) in
       let found : slice_get (told_of_each place new_place (dids h)) (number - 1) ≡ Some (told_by did before.0.present) =
-      told-at place new_place (dids h) (number - 1) did before.0 (get-dids h (number - 1) noted.0 did there.1) before.1 in
+      told-at place new_place (dids h) (number - 1) did before.0 (get-dids h (number - 1) noted.0 did there.1)
+      before.1 in
       let what : told ≡ told_by did before.0.present =
       is
       ∙ ap (λ (ts : List Told). unwrap_or (slice_get ts (number - 1)) untold) (are.told place)
       ∙ ap (λ (o : Option Told). unwrap_or o untold) found in
-      let present : before.0.present ≡ present_in (place_after place (take (number - 1) (dids (history_of (Root place) logs)))) =
+      let present : before.0.present ≡ present_in
+      (place_after place (take (number - 1) (dids (history_of (Root place) logs)))) =
       ap present_in (sym before.1)
       ∙ ap (λ (g : History). present_in (place_after place (take (number - 1) (dids g))))
       (sym (history_of-is (Root place) logs h (are.whole (Root place)))) in
@@ -137,7 +139,8 @@ pub entries-push : (ns : List Note) (ts : List Told) (n : Note) (t : Told) → l
 entries-push [] [] n t e = refl
 entries-push [] (x ∷ ts) n t e = absurd (omega (arith, e))
 entries-push (m ∷ ns) [] n t e = absurd (omega (arith, e))
-entries-push (m ∷ ns) (x ∷ ts) n t e = ap (λ (es : List Entry). entry m x ∷ es) (entries-push ns ts n t (omega (arith, e)))
+entries-push (m ∷ ns) (x ∷ ts) n t e =
+    ap (λ (es : List Entry). entry m x ∷ es) (entries-push ns ts n t (omega (arith, e)))
 
 -- ---- What is told of the notes of each lane.
 

@@ -62,8 +62,11 @@ module _ (shape : Shape) (logs : List LaneLog) (m : Histories) (tallies : List T
         serial = serial;
         capacity = root.capacity;
         count = total-is root i;
-        records = (if keeps_records shape.level then kept_of (accesses root false (history-is (Root root.place) i)) else []);
-        dropped = (if keeps_records shape.level then dropped_of (accesses root false (history-is (Root root.place) i)) else 0);
+        records =
+            (if keeps_records shape.level then kept_of (accesses root false (history-is (Root root.place) i)) else []);
+        dropped =
+            (if keeps_records shape.level then dropped_of (accesses root false (history-is (Root root.place) i)) else
+            0);
       } ∷ []
       else []
 
@@ -135,7 +138,8 @@ module _ (records : List Access) (dones : List Done) (k : ℕ) (d : Access) (don
   there : k < length dones
   there = omega (arith, as_many, within)
 
-  pub record-more : take k records ≡ take k (accesses_in dones) → get_or records k d ≡ access_by (done.lane, done.did.now) →
+  pub record-more : take k records ≡ take k (accesses_in dones)
+      → get_or records k d ≡ access_by (done.lane, done.did.now) →
       take (k + 1) records ≡ take (k + 1) (accesses_in dones)
   record-more before here =
       take_more_same records (accesses_in dones) k d within (omega (arith, there, length-accesses dones)) before

@@ -54,7 +54,8 @@ pub left_total-set : (left : List (Bor (List Spot))) (lane : ℕ) (spots new : B
     left_total (set left lane new) < left_total left
 left_total-set [] lane spots new there is less = absurd (omega (arith, there))
 left_total-set (x ∷ left) zero spots new there is less =
-    let same : length spots.now ≡ length x.now = ap (λ (s : Bor (List Spot)). length s.now) is in omega (arith, same, less)
+    let same : length spots.now ≡ length x.now = ap (λ (s : Bor (List Spot)). length s.now) is in
+    omega (arith, same, less)
 left_total-set (x ∷ left) (suc lane) spots new there is less =
     omega (arith, left_total-set left lane spots new (omega (arith, there)) is less)
 
@@ -80,7 +81,8 @@ so-far-more all left next h number lane did rest s first is =
           ∙ ap (λ (xs : List (ℕ × Did)). numbered l 1 (h ++ (lane, did) ∷ []) ++ xs) (sym (is l));
       going = λ g whole.
           let on : (later : History) × AreNumbered number left later = s.going g whole in
-          let found : GoesOnWith number lane did rest left on.0 = merge-found number lane did rest left on.0 first on.1 in
+          let found : GoesOnWith number lane did rest left on.0 =
+          merge-found number lane did rest left on.0 first on.1 in
           (found.later, λ l. is l ∙ found.numbers l);
     }
 

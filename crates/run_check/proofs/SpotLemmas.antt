@@ -50,8 +50,10 @@ module _ (object other : Object) (old mid new : Found) (before : List (ℕ × Di
           new (object_key other) ≡ (if b then Some spots else (if b then None else old (object_key other)))
       at b e =
           back (object_key other)
-          ∙ ap (λ (k : ℕ × ℕ × ℕ). if is_at (key_cmp k) (object_key other) then Some spots else mid (object_key other)) at_key
-          ∙ ap (λ (m : Option (Vec Spot Global)). if is_at (key_cmp (object_key object)) (object_key other) then Some spots else m)
+          ∙ ap (λ (k : ℕ × ℕ × ℕ). if is_at (key_cmp k) (object_key other) then Some spots else mid (object_key other))
+          at_key
+          ∙ ap (λ (m : Option (Vec Spot Global)). if is_at (key_cmp (object_key object)) (object_key other) then Some
+          spots else m)
           (out (object_key other))
           ∙ ap (λ (t : Bool). if t then Some spots else (if t then None else old (object_key other)))
           (is_at-object object other ∙ e)

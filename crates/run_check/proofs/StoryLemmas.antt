@@ -44,7 +44,8 @@ module _ (shape : Shape) (logs : Logs) (object : Object) where
       IsBroken shape logs object
   broken-refused h whole refused _ accepted =
       let same : history_of object logs ≡ h = history_of-is object logs h whole in
-      let both : false ≡ true = sym refused ∙ ap (λ (g : History). accepts shape object (dids g)) (sym same) ∙ accepted in
+      let both : false ≡ true = sym refused ∙ ap (λ (g : History). accepts shape object (dids g)) (sym same)
+      ∙ accepted in
       cc both
 
   broken-none : IsBroken shape logs object → HistoriesHold shape logs → ⊥
@@ -70,7 +71,8 @@ tells-root shape place ds (Some t) e = go (place_after place ds) e
 
 module _ (shape : Shape) (logs : Logs) (object : Object) (old new : Histories) (story : Story)
     (key : ℕ × ℕ × ℕ) (at_key : key ≡ object_key object)
-    (updates : (q : ℕ × ℕ × ℕ) → get key_cmp new.map q ≡ (if is_at (key_cmp key) q then Some story else get key_cmp old.map q))
+    (updates : (q : ℕ × ℕ × ℕ) → get key_cmp new.map q
+    ≡ (if is_at (key_cmp key) q then Some story else get key_cmp old.map q))
   where
     at : (other : Object) (b : Bool) → same_object object other ≡ b →
         story_in new other ≡ (if b then Some story else story_in old other)
@@ -129,7 +131,8 @@ module _ (shape : Shape) (logs : Logs) (m : Histories) (are : AreStories shape l
       whole object None none = λ lane. covers lane object (ap is_some none)
       whole object (Some s) found = (are object s found).whole
 
-      accepted : (object : Object) (o : Option Story) → story_in m object ≡ o → accepts shape object (dids (dones_of o)) ≡ true
+      accepted : (object : Object) (o : Option Story) → story_in m object ≡ o
+          → accepts shape object (dids (dones_of o)) ≡ true
       accepted object None none = accepts-nothing shape object
       accepted object (Some s) found = (are object s found).accepted
 
@@ -164,7 +167,8 @@ covers-at m object number did has other absent = go (same_object other object) r
 -- a note at an object is covered where the object's story is added
 pub note-added : (shape : Shape) (logs : Logs) (object : Object) (number : ℕ) (did : Did) (note : Note)
     (old new : Histories) (good : Bool) → note ≡ At object number did →
-    MatchBool good (AreStories shape logs new × Keeps old new × (has_story new object ≡ true)) (IsBroken shape logs object) →
+    MatchBool good (AreStories shape logs new × Keeps old new × (has_story new object ≡ true))
+    (IsBroken shape logs object) →
     MatchBool good (AreStories shape logs new × Keeps old new × Covers new (note ∷ [])) (HistoriesHold shape logs → ⊥)
 note-added shape logs object number did note old new true is added = (
   added.0,
@@ -189,7 +193,8 @@ ends-push shape logs (x ∷ numbers) n =
     ap (λ (xs : List ChunkEnd). arena_ends shape logs x ++ xs) (ends-push shape logs numbers n)
     ∙ sym (append_assoc (arena_ends shape logs x) (ends_from shape logs numbers) (arena_ends shape logs n))
 
-pub story-broken : (shape : Shape) (logs : Logs) (object : Object) (left : ℕ → List (ℕ × Did)) (h : History) (ds : List Did) →
+pub story-broken : (shape : Shape) (logs : Logs) (object : Object) (left : ℕ → List (ℕ × Did)) (h : History)
+    (ds : List Did) →
     ((lane : ℕ) → left lane ≡ own object (of_lane logs lane)) → AreNumbered 1 left h → ds ≡ dids h →
     accepts shape object ds ≡ false → IsBroken shape logs object
 story-broken shape logs object left h ds is numbers same refused =

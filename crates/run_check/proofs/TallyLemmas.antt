@@ -32,8 +32,10 @@ ref-other root other s Born e = rw e (same-sums (omega arith) (omega arith) (ome
 ref-other root other s Retain e = rw e (same-sums (omega arith) (omega arith) (omega arith) (omega arith) (omega arith))
 ref-other root other s Kept e = rw e (same-sums (omega arith) (omega arith) (omega arith) (omega arith) (omega arith))
 ref-other root other s Ended e = rw e (same-sums (omega arith) (omega arith) (omega arith) (omega arith) (omega arith))
-ref-other root other s Vacated e = rw e (same-sums (omega arith) (omega arith) (omega arith) (omega arith) (omega arith))
-ref-other root other s (Look found) e = rw e (same-sums (omega arith) (omega arith) (omega arith) (omega arith) (omega arith))
+ref-other root other s Vacated e =
+    rw e (same-sums (omega arith) (omega arith) (omega arith) (omega arith) (omega arith))
+ref-other root other s (Look found) e =
+    rw e (same-sums (omega arith) (omega arith) (omega arith) (omega arith) (omega arith))
 
 ref-same : (root other : RootId) (s : Sums) (did : RefDid) → same_root root other ≡ true →
     sums_after other s (Ref root did) ≡ sums_step s did
@@ -42,7 +44,8 @@ ref-same root other s Retain e = rw e (same-sums (omega arith) (omega arith) (om
 ref-same root other s Kept e = rw e (same-sums (omega arith) (omega arith) (omega arith) (omega arith) (omega arith))
 ref-same root other s Ended e = rw e (same-sums (omega arith) (omega arith) (omega arith) (omega arith) (omega arith))
 ref-same root other s Vacated e = rw e (same-sums (omega arith) (omega arith) (omega arith) (omega arith) (omega arith))
-ref-same root other s (Look found) e = rw e (same-sums (omega arith) (omega arith) (omega arith) (omega arith) (omega arith))
+ref-same root other s (Look found) e =
+    rw e (same-sums (omega arith) (omega arith) (omega arith) (omega arith) (omega arith))
 
 pub sums-put : (b : Bool) (s : Sums) (o : Option Sums) →
     unwrap_or (if b then Some s else o) no_sums ≡ (if b then s else unwrap_or o no_sums)
@@ -50,11 +53,13 @@ sums-put true s o = refl
 sums-put false s o = refl
 
 -- what a root's sums become, at it and at another
-pub pass-ref : (root other : RootId) (old : RootId → Sums) (did : RefDid) (sums : Sums) → sums ≡ sums_step (old root) did →
+pub pass-ref : (root other : RootId) (old : RootId → Sums) (did : RefDid) (sums : Sums)
+    → sums ≡ sums_step (old root) did →
     (if same_root root other then sums else old other) ≡ sums_after other (old other) (Ref root did)
 pass-ref root other old did sums is = go (same_root root other) refl
   where
-    go : (b : Bool) → same_root root other ≡ b → (if b then sums else old other) ≡ sums_after other (old other) (Ref root did)
+    go : (b : Bool) → same_root root other ≡ b → (if b then sums else old other)
+        ≡ sums_after other (old other) (Ref root did)
     go true e =
         is
         ∙ ap (λ (r : RootId). sums_step (old r) did) (same_root-is root other e)
@@ -132,7 +137,8 @@ module _ (g : Note → Entry) (bare : (n : Note) → (g n).note ≡ n) (root : R
   others-counted lane at [] (l ∷ logs) are = absurd are
   others-counted lane at (t ∷ tallies) [] are = absurd are
   others-counted lane at (t ∷ tallies) (l ∷ logs) are =
-      λ i. (if at == lane then 0 else (tally-counted t l are.0 i).retains) + others-counted lane (at + 1) tallies logs are.1 i
+      λ i. (if at == lane then 0 else (tally-counted t l are.0 i).retains) + others-counted lane (at + 1) tallies logs
+      are.1 i
 
 -- the others' retains, one lane further
 pub others-step : (root : RootId) (lane at k : ℕ) (tallies : List Tally) (t : Tally) → k < length tallies →

@@ -14,55 +14,56 @@ use Rattle.run_check.specs.Spotting.{notes_in}
 use Rattle.run_check.specs.Tallying.{total_sums, IsTally, AreTotals, EachHolds}
 use Rattle.run_check.proofs.TallyLemmas.{counted_over, totals-counted}
 
-module _ (g : Note → Entry) (bare : (n : Note) → (g n).note ≡ n) (test : RootId → Note → Bool) (Right : RootId → Type 0) where
-  first-counted : (root : RootId) (n : Note) (ns : List Note) →
-      count_in (test root) (map g (n ∷ ns)) ≡ one_if (test root n) + count_in (test root) (map g ns)
-  first-counted root n ns = ap (λ (m : Note). one_if (test root m) + count_in (test root) (map g ns)) (bare n)
+module _ (g : Note → Entry) (bare : (n : Note) → (g n).note ≡ n) (test : RootId → Note → Bool) (Right : RootId → Type 0)
+  where
+    first-counted : (root : RootId) (n : Note) (ns : List Note) →
+        count_in (test root) (map g (n ∷ ns)) ≡ one_if (test root n) + count_in (test root) (map g ns)
+    first-counted root n ns = ap (λ (m : Note). one_if (test root m) + count_in (test root) (map g ns)) (bare n)
 
-  pub each-hold : (ns : List Note) →
-      ((root : RootId) → 0 < count_in (test root) (map g ns) → Right root) → EachHolds test Right ns
-  each-hold [] f = tt
-  each-hold (n ∷ ns) f = (
-    λ root e.
-        let one : one_if (test root n) ≡ 1 = ap one_if e in
-        f root (omega (arith, first-counted root n ns, one)),
-    each-hold ns (λ root some. f root (omega (arith, first-counted root n ns, some))),
-  )
+    pub each-hold : (ns : List Note) →
+        ((root : RootId) → 0 < count_in (test root) (map g ns) → Right root) → EachHolds test Right ns
+    each-hold [] f = tt
+    each-hold (n ∷ ns) f = (
+      λ root e.
+          let one : one_if (test root n) ≡ 1 = ap one_if e in
+          f root (omega (arith, first-counted root n ns, one)),
+      each-hold ns (λ root some. f root (omega (arith, first-counted root n ns, some))),
+    )
 
-  pub each-back : (ns : List Note) → EachHolds test Right ns → (root : RootId) →
-      0 < count_in (test root) (map g ns) → Right root
-  each-back [] holds root some = absurd (omega (arith, some))
-  each-back (n ∷ ns) holds root some =
-      go (λ later. each-back ns holds.1 root later) (test root n) refl
-    where
-      go : (0 < count_in (test root) (map g ns) → Right root) → (b : Bool) → test root n ≡ b → Right root
-      go rest true e = holds.0 root e
-      go rest false e =
-          let none : one_if (test root n) ≡ 0 = ap one_if e in
-          rest (omega (arith, first-counted root n ns, none, some))
+    pub each-back : (ns : List Note) → EachHolds test Right ns → (root : RootId) →
+        0 < count_in (test root) (map g ns) → Right root
+    each-back [] holds root some = absurd (omega (arith, some))
+    each-back (n ∷ ns) holds root some =
+        go (λ later. each-back ns holds.1 root later) (test root n) refl
+      where
+        go : (0 < count_in (test root) (map g ns) → Right root) → (b : Bool) → test root n ≡ b → Right root
+        go rest true e = holds.0 root e
+        go rest false e =
+            let none : one_if (test root n) ≡ 0 = ap one_if e in
+            rest (omega (arith, first-counted root n ns, none, some))
 
-  some-of : (a b : ℕ) → 0 < a + b → (0 < a) ⊎ (0 < b)
-  some-of a b h = grind arith
+    some-of : (a b : ℕ) → 0 < a + b → (0 < a) ⊎ (0 < b)
+    some-of a b h = grind arith
 
-  pub over-back : (logs : Logs) → ((k : ℕ) → EachHolds test Right (of_lane logs k)) → (root : RootId) →
-      0 < count_over (test root) (map (map g) logs) → Right root
-  over-back [] holds root some = absurd (omega (arith, some))
-  over-back (log ∷ logs) holds root some =
-      ⊎_elim
-      (λ here. each-back log (holds 0) root here)
-      (λ there. over-back logs (λ k. holds (suc k)) root there)
-      (some-of (count_in (test root) (map g log)) (count_over (test root) (map (map g) logs)) some)
+    pub over-back : (logs : Logs) → ((k : ℕ) → EachHolds test Right (of_lane logs k)) → (root : RootId) →
+        0 < count_over (test root) (map (map g) logs) → Right root
+    over-back [] holds root some = absurd (omega (arith, some))
+    over-back (log ∷ logs) holds root some =
+        ⊎_elim
+        (λ here. each-back log (holds 0) root here)
+        (λ there. over-back logs (λ k. holds (suc k)) root there)
+        (some-of (count_in (test root) (map g log)) (count_over (test root) (map (map g) logs)) some)
 
-  some-over : (root : RootId) (logs : Logs) (k : ℕ) → 0 < count_in (test root) (map g (of_lane logs k)) →
-      0 < count_over (test root) (map (map g) logs)
-  some-over root [] k some = absurd (omega (arith, some))
-  some-over root (log ∷ logs) zero some = omega (arith, some)
-  some-over root (log ∷ logs) (suc k) some = omega (arith, some-over root logs k some)
+    some-over : (root : RootId) (logs : Logs) (k : ℕ) → 0 < count_in (test root) (map g (of_lane logs k)) →
+        0 < count_over (test root) (map (map g) logs)
+    some-over root [] k some = absurd (omega (arith, some))
+    some-over root (log ∷ logs) zero some = omega (arith, some)
+    some-over root (log ∷ logs) (suc k) some = omega (arith, some-over root logs k some)
 
-  pub over-hold : (logs : Logs) →
-      ((root : RootId) → 0 < count_over (test root) (map (map g) logs) → Right root) →
-      (k : ℕ) → EachHolds test Right (of_lane logs k)
-  over-hold logs f k = each-hold (of_lane logs k) (λ root some. f root (some-over root logs k some))
+    pub over-hold : (logs : Logs) →
+        ((root : RootId) → 0 < count_over (test root) (map (map g) logs) → Right root) →
+        (k : ℕ) → EachHolds test Right (of_lane logs k)
+    over-hold logs f k = each-hold (of_lane logs k) (λ root some. f root (some-over root logs k some))
 
 module _ (g : Note → Entry) (bare : (n : Note) → (g n).note ≡ n) (tallies : List Tally) where
   module _ (root : RootId) (logs : List LaneLog) (are : AllZip IsTally tallies logs) where
@@ -70,12 +71,24 @@ module _ (g : Note → Entry) (bare : (n : Note) → (g n).note ≡ n) (tallies 
     totals-on t =
         let u : AreTotals (counted_over root (map (map g) (notes_in logs))) =
         subst (λ (s : Sums). AreTotals s) (totals-counted g bare root tallies logs are) t in
-        record { never_below = u.never_below; born_once = u.born_once; ends_once = u.ends_once; ends_at_zero = u.ends_at_zero }
+        record {
+          never_below = u.never_below;
+          born_once = u.born_once;
+          ends_once = u.ends_once;
+          ends_at_zero =
+              u.ends_at_zero;
+        }
 
     pub totals-back : TotalHolds root (map (map g) (notes_in logs)) → AreTotals (total_sums tallies root)
     totals-back t =
         let u : AreTotals (counted_over root (map (map g) (notes_in logs))) =
-        record { never_below = t.never_below; born_once = t.born_once; ends_once = t.ends_once; ends_at_zero = t.ends_at_zero } in
+        record {
+          never_below = t.never_below;
+          born_once = t.born_once;
+          ends_once = t.ends_once;
+          ends_at_zero =
+              t.ends_at_zero;
+        } in
         subst (λ (s : Sums). AreTotals s) (sym (totals-counted g bare root tallies logs are)) u
 
     pub births-are : (total_sums tallies root).births ≡ count_over (is_birth root) (map (map g) (notes_in logs))

@@ -123,7 +123,7 @@ pub fn check_run(alloc: Global, run: &Run) -> Result<bool, AllocError>
     if !all_are_commands(alloc, &run.shape, run.trace.lanes.items())? {
         return Ok(false);
     }
-    let sizes = Sizes::new(alloc, run.shape.order)?;
+    let sizes = Sizes::new(alloc, run.shape.order, run.shape.page)?;
     let logs = run.logs.items();
     let Some(histories) = Histories::in_logs(alloc, &run.shape, &sizes, logs)? else {
         return Ok(false);

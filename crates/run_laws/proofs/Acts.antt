@@ -106,7 +106,8 @@ pub record Shedding (P : Object → Did → Type 0) (shed given : Entry) : Type 
 pub data Act (P : Object → Did → Type 0) : Type 0 where
   Quiet : (e : Entry) → IsQuiet P e.note → Act P
   Births : (got birth set : Entry) → Birthing got birth set → Act P
-  Ends : (ended end vacated : Entry) (refused : Option Entry) (away : Entry) → AreQuiet P refused → Ending ended end vacated away → Act P
+  Ends : (ended end vacated : Entry) (refused : Option Entry) (away : Entry) → AreQuiet P refused
+      → Ending ended end vacated away → Act P
   Sheds : (shed given : Entry) → Shedding P shed given → Act P
 
 abbrev pub before : Option Entry → Entries → Entries
@@ -135,39 +136,56 @@ module _ {P : Object → Did → Type 0} where
   pub one-act : (a : Act P) (es rest : Entries) → es ≡ act_notes a ++ rest → Acts P es rest
   one-act a es rest is = record { acts = a ∷ []; are = is ∙ sym (append-assoc (act_notes a) [] rest) }
 
-  pub end-act : (ended end vacated : Entry) (refused : Option Entry) (away : Entry) → AreQuiet P refused → Ending ended end vacated away → (es rest : Entries) →
+  pub end-act : (ended end vacated : Entry) (refused : Option Entry) (away : Entry) → AreQuiet P refused
+      → Ending ended end vacated away → (es rest : Entries) →
       es ≡ ended ∷ (end ∷ (vacated ∷ before refused (away ∷ rest))) → Acts P es rest
-  end-act ended end vacated None away quiet e es rest is = one-act (Act.Ends ended end vacated None away quiet e) es rest is
-  end-act ended end vacated (Some x) away quiet e es rest is = one-act (Act.Ends ended end vacated (Some x) away quiet e) es rest is
+  end-act ended end vacated None away quiet e es rest is =
+      one-act (Act.Ends ended end vacated None away quiet e) es rest is
+  end-act ended end vacated (Some x) away quiet e es rest is =
+      one-act (Act.Ends ended end vacated (Some x) away quiet e) es rest is
 
   pub acts-then : (es mid rest : Entries) → Acts P es mid → Acts P mid rest → Acts P es rest
-  acts-then es mid rest a b = record { acts = a.acts ++ b.acts; are = a.are ∙ ap (λ xs. all_notes a.acts ++ xs) b.are ∙ sym (append-assoc (all_notes a.acts) (all_notes b.acts) rest) ∙ ap (λ xs. xs ++ rest) (sym (go a.acts)) }
+  acts-then es mid rest a b =
+      record {
+        acts = a.acts ++ b.acts;
+        are = a.are ∙ ap (λ xs. all_notes a.acts ++ xs) b.are
+            ∙ sym (append-assoc (all_notes a.acts) (all_notes b.acts) rest) ∙ ap (λ xs. xs ++ rest) (sym (go a.acts));
+      }
     where
       go : (xs : List (Act P)) → all_notes (xs ++ b.acts) ≡ all_notes xs ++ all_notes b.acts
       go [] = refl
-      go (x ∷ xs) = ap (λ ys. act_notes x ++ ys) (go xs) ∙ sym (append-assoc (act_notes x) (all_notes xs) (all_notes b.acts))
+      go (x ∷ xs) =
+          ap (λ ys. act_notes x ++ ys) (go xs) ∙ sym (append-assoc (act_notes x) (all_notes xs) (all_notes b.acts))
 
   pub acts-before : (es rest : Entries) → Acts P es [] → Acts P (es ++ rest) rest
-  acts-before es rest a = record { acts = a.acts; are = ap (λ xs. xs ++ rest) a.are ∙ append-assoc (all_notes a.acts) [] rest }
+  acts-before es rest a =
+      record { acts = a.acts; are = ap (λ xs. xs ++ rest) a.are ∙ append-assoc (all_notes a.acts) [] rest }
 
   -- what each act leaves as it is, all of them do
-  pub acts-keep : {X : Type 0} (f : Entries → X) → ((a : Act P) (es : Entries) → f (act_notes a ++ es) ≡ f es) → (acts : List (Act P)) (rest : Entries) → f (all_notes acts ++ rest) ≡ f rest
+  pub acts-keep : {X : Type 0} (f : Entries → X) → ((a : Act P) (es : Entries) → f (act_notes a ++ es) ≡ f es)
+      → (acts : List (Act P)) (rest : Entries) → f (all_notes acts ++ rest) ≡ f rest
   acts-keep f keeps [] rest = refl
-  acts-keep f keeps (x ∷ acts) rest = ap f (append-assoc (act_notes x) (all_notes acts) rest) ∙ keeps x (all_notes acts ++ rest) ∙ acts-keep f keeps acts rest
+  acts-keep f keeps (x ∷ acts) rest =
+      ap f (append-assoc (act_notes x) (all_notes acts) rest) ∙ keeps x (all_notes acts ++ rest)
+      ∙ acts-keep f keeps acts rest
 
-pub get-front : {X : Type 0} (xs ys : List X) (j : ℕ) (x : X) → slice_get xs j ≡ Some x → slice_get (xs ++ ys) j ≡ Some x
+pub get-front : {X : Type 0} (xs ys : List X) (j : ℕ) (x : X) → slice_get xs j ≡ Some x
+    → slice_get (xs ++ ys) j ≡ Some x
 get-front [] ys j x e = absurd (cc e)
 get-front (y ∷ xs) ys zero x e = e
 get-front (y ∷ xs) ys (suc j) x e = get-front xs ys j x e
 
-pub get-behind : {X : Type 0} (xs ys : List X) (j : ℕ) (x : X) → slice_get ys j ≡ Some x → (m : ℕ) × (slice_get (xs ++ ys) m ≡ Some x)
+pub get-behind : {X : Type 0} (xs ys : List X) (j : ℕ) (x : X) → slice_get ys j ≡ Some x
+    → (m : ℕ) × (slice_get (xs ++ ys) m ≡ Some x)
 get-behind [] ys j x e = (j, e)
 get-behind (y ∷ xs) ys j x e = let r = get-behind xs ys j x e in (suc r.0, r.1)
 
-pub get-split : {X : Type 0} (xs ys : List X) (i : ℕ) (x : X) → slice_get (xs ++ ys) i ≡ Some x → (slice_get xs i ≡ Some x) ⊎ ((m : ℕ) × (i ≡ length xs + m) × (slice_get ys m ≡ Some x))
+pub get-split : {X : Type 0} (xs ys : List X) (i : ℕ) (x : X) → slice_get (xs ++ ys) i ≡ Some x
+    → (slice_get xs i ≡ Some x) ⊎ ((m : ℕ) × (i ≡ length xs + m) × (slice_get ys m ≡ Some x))
 get-split [] ys i x e = inr (i, omega arith, e)
 get-split (y ∷ xs) ys zero x e = inl e
-get-split (y ∷ xs) ys (suc i) x e = ⊎_elim (λ here. inl here) (λ m. inr (m.0, omega (arith, m.1), m.2)) (get-split xs ys i x e)
+get-split (y ∷ xs) ys (suc i) x e =
+    ⊎_elim (λ here. inl here) (λ m. inr (m.0, omega (arith, m.1), m.2)) (get-split xs ys i x e)
 
 module _ (P : Object → Did → Type 0) where
   -- what no birth and no end says
@@ -202,10 +220,13 @@ module _ (P : Object → Did → Type 0) where
   -- a sum that is at most another over each act
   pub record Less (f g : Note → ℕ) : Type 0 where
     pub other : (n : Note) → IsOther n → f n ≤ g n
-    pub birth : (o : Object) (k : ℕ) (root : RootId) (r : RegionId) → f (At o k (Birth root r)) + f (Ref root RefDid.Born) ≤ g (At o k (Birth root r)) + g (Ref root RefDid.Born)
+    pub birth : (o : Object) (k : ℕ) (root : RootId) (r : RegionId)
+        → f (At o k (Birth root r)) + f (Ref root RefDid.Born) ≤ g (At o k (Birth root r)) + g (Ref root RefDid.Born)
     pub end : (o : Object) (k : ℕ) (root : RootId) →
-        f (Ref root RefDid.Ended) + (f (At o k (End root)) + f (Ref root RefDid.Vacated)) ≤ g (Ref root RefDid.Ended) + (g (At o k (End root)) + g (Ref root RefDid.Vacated))
-    pub shed : (o p : Object) (k l : ℕ) (r : RegionId) → P o (Shed r) → f (At o k (Shed r)) + f (At p l (Give r)) ≤ g (At o k (Shed r)) + g (At p l (Give r))
+        f (Ref root RefDid.Ended) + (f (At o k (End root)) + f (Ref root RefDid.Vacated)) ≤ g (Ref root RefDid.Ended)
+        + (g (At o k (End root)) + g (Ref root RefDid.Vacated))
+    pub shed : (o p : Object) (k l : ℕ) (r : RegionId) → P o (Shed r)
+        → f (At o k (Shed r)) + f (At p l (Give r)) ≤ g (At o k (Shed r)) + g (At p l (Give r))
 
   pub less-act : (f g : Note → ℕ) → Less f g → (a : Act P) → sum_notes f (act_notes a) ≤ sum_notes g (act_notes a)
   less-act f g less (Act.Quiet e quiet) = omega (arith, less.other e.note (quiet-other e.note quiet))
@@ -234,16 +255,48 @@ module _ (P : Object → Did → Type 0) where
     where
       tail : (o : Option Entry) → AreQuiet P o → sum_notes f (before o (away ∷ [])) ≤ sum_notes g (before o (away ∷ []))
       tail None q = omega (arith, less.other away.note (away-other e.region e.did away.note e.away_is e.puts_away))
-      tail (Some x) q = omega (arith, less.other x.note (quiet-other x.note q), less.other away.note (away-other e.region e.did away.note e.away_is e.puts_away))
+      tail (Some x) q =
+          omega (
+            arith,
+            less.other x.note (quiet-other x.note q),
+            less.other away.note
+                (away-other e.region e.did away.note e.away_is e.puts_away),
+          )
   less-act f g less (Act.Sheds shed given x) =
-      omega (arith, less.shed x.shed_is.object x.given_is.object x.shed_is.number x.given_is.number x.region x.may, ap f x.shed_is.is, ap g x.shed_is.is, ap f x.given_is.is, ap g x.given_is.is)
+      omega (
+        arith,
+        less.shed x.shed_is.object x.given_is.object x.shed_is.number x.given_is.number x.region x.may,
+        ap f
+            x.shed_is.is,
+        ap g x.shed_is.is,
+        ap f x.given_is.is,
+        ap g x.given_is.is,
+      )
 
-  pub less-acts : (f g : Note → ℕ) → Less f g → (es rest : Entries) → Acts P es rest → sum_notes f rest ≤ sum_notes g rest → sum_notes f es ≤ sum_notes g es
-  less-acts f g less es rest a last = omega (arith, go a.acts, ap (sum_notes f) a.are, ap (sum_notes g) a.are, notes-append f (all_notes a.acts) rest, notes-append g (all_notes a.acts) rest, last)
+  pub less-acts : (f g : Note → ℕ) → Less f g → (es rest : Entries) → Acts P es rest
+      → sum_notes f rest ≤ sum_notes g rest → sum_notes f es ≤ sum_notes g es
+  less-acts f g less es rest a last =
+      omega (
+        arith,
+        go a.acts,
+        ap (sum_notes f) a.are,
+        ap (sum_notes g) a.are,
+        notes-append f (all_notes a.acts) rest,
+        notes-append g (all_notes a.acts) rest,
+        last,
+      )
     where
       go : (acts : List (Act P)) → sum_notes f (all_notes acts) ≤ sum_notes g (all_notes acts)
       go [] = omega arith
-      go (x ∷ acts) = omega (arith, go acts, less-act f g less x, notes-append f (act_notes x) (all_notes acts), notes-append g (act_notes x) (all_notes acts))
+      go (x ∷ acts) =
+          omega (
+            arith,
+            go acts,
+            less-act f g less x,
+            notes-append f (act_notes x) (all_notes acts),
+            notes-append g
+                (act_notes x) (all_notes acts),
+          )
 
   -- where an entry stands in an act, each of the act's entries does, in order
   pub record Within (es : Entries) (i : ℕ) (e : Entry) : Type 0 where
@@ -260,10 +313,22 @@ module _ (P : Object → Did → Type 0) where
   within-behind [] es i e w = let same : i ≡ 0 + i = omega arith in subst (λ k. Within es k e) same w
   within-behind (x ∷ xs) es i e w =
       let r : Within (xs ++ es) (length xs + i) e = within-behind xs es i e w in
-      record { act = r.act; index = r.index; found = r.found; place = λ j. suc (r.place j); here = omega (arith, r.here); rises = λ j l h. omega (arith, r.rises j l h); in_row = λ j. omega (arith, r.in_row j); there = r.there }
+      record {
+        act = r.act;
+        index = r.index;
+        found = r.found;
+        place = λ j. suc (r.place j);
+        here =
+            omega (arith, r.here);
+        rises =
+            λ j l h. omega (arith, r.rises j l h);
+        in_row = λ j. omega (arith, r.in_row j);
+        there = r.there;
+      }
 
   pub entry-within : (es : Entries) (i : ℕ) (e : Entry) → Acts P es [] → slice_get es i ≡ Some e → Within es i e
-  entry-within es i e a is = subst (λ xs. Within xs i e) (sym whole) (go a.acts i (ap (λ xs. slice_get xs i) (sym whole) ∙ is))
+  entry-within es i e a is =
+      subst (λ xs. Within xs i e) (sym whole) (go a.acts i (ap (λ xs. slice_get xs i) (sym whole) ∙ is))
     where
       whole : es ≡ all_notes a.acts
       whole = a.are ∙ append-nil (all_notes a.acts)
@@ -271,6 +336,17 @@ module _ (P : Object → Did → Type 0) where
       go : (acts : List (Act P)) (i : ℕ) → slice_get (all_notes acts) i ≡ Some e → Within (all_notes acts) i e
       go [] i is = absurd (cc is)
       go (x ∷ acts) i is =
-          ⊎_elim (λ inside. record { act = x; index = i; found = inside; place = λ j. j; here = refl; rises = λ j l h. h; in_row = λ j. omega arith; there = get-front (act_notes x) (all_notes acts) })
-          (λ later. subst (λ k. Within (act_notes x ++ all_notes acts) k e) (sym later.1) (within-behind (act_notes x) (all_notes acts) later.0 e (go acts later.0 later.2)))
+          ⊎_elim (λ inside. record {
+            act = x;
+            index = i;
+            found = inside;
+            place = λ j. j;
+            here = refl;
+            rises =
+                λ j l h. h;
+            in_row = λ j. omega arith;
+            there = get-front (act_notes x) (all_notes acts);
+          })
+          (λ later. subst (λ k. Within (act_notes x ++ all_notes acts) k e) (sym later.1)
+          (within-behind (act_notes x) (all_notes acts) later.0 e (go acts later.0 later.2)))
           (get-split (act_notes x) (all_notes acts) i e is)

@@ -27,7 +27,8 @@ pub loss-moves : (b : Bool) (k : ℕ) → (b ≡ true → 0 < k) → Moves false
 loss-moves true k h = let some : 0 < k = h refl in omega arith
 loss-moves false k h = omega arith
 
-pub ref-moves : (b : Bool) (did : RefDid) (k : ℕ) → ((b && ref_needs did) ≡ true → 0 < k) → Moves (b && ref_gains did) (b && ref_loses did) k
+pub ref-moves : (b : Bool) (did : RefDid) (k : ℕ) → ((b && ref_needs did) ≡ true → 0 < k)
+    → Moves (b && ref_gains did) (b && ref_loses did) k
 ref-moves false did k h = omega arith
 ref-moves true Born k h = omega arith
 ref-moves true Retain k h = omega arith
@@ -36,7 +37,8 @@ ref-moves true Ended k h = let some : 0 < k = h refl in omega arith
 ref-moves true Vacated k h = omega arith
 ref-moves true (Look n) k h = omega arith
 
-pub note-moves : (root : RootId) (n : Note) (k : ℕ) → (note_needs root n ≡ true → 0 < k) → Moves (note_gains root n) (note_loses root n) k
+pub note-moves : (root : RootId) (n : Note) (k : ℕ) → (note_needs root n ≡ true → 0 < k)
+    → Moves (note_gains root n) (note_loses root n) k
 note-moves root (Ref r did) k h = ref-moves (same_root r root) did k h
 note-moves root (Busy held) k h = omega arith
 note-moves root (At object number (Post parcel)) k h = loss-moves (view_is_of root parcel.view) k h
@@ -48,15 +50,20 @@ or-left true b e = refl
 or-left false b e = absurd (cc e)
 
 -- a lane's count is what it gained less what it lost
-pub count-balances : (root : RootId) (k : ℕ) (es : List Entry) → CountsHold root k es → count_from root k es + count_in (note_loses root) es ≡ k + count_in (note_gains root) es
+pub count-balances : (root : RootId) (k : ℕ) (es : List Entry) → CountsHold root k es
+    → count_from root k es + count_in (note_loses root) es ≡ k + count_in (note_gains root) es
 count-balances root k [] h = omega arith
 count-balances root k (e ∷ es) h =
-    let first : count_step root k e + one (note_loses root e.note) ≡ k + one (note_gains root e.note) = note-moves root e.note k (λ needs. h.0 (or-left (note_needs root e.note) (root_is root e.root) needs)) in
-    let rest : count_from root (count_step root k e) es + count_in (note_loses root) es ≡ count_step root k e + count_in (note_gains root) es = count-balances root (count_step root k e) es h.1.1 in
+    let first : count_step root k e + one (note_loses root e.note)
+    ≡ k + one (note_gains root e.note) =
+    note-moves root e.note k (λ needs. h.0 (or-left (note_needs root e.note) (root_is root e.root) needs)) in
+    let rest : count_from root (count_step root k e) es + count_in (note_loses root) es
+    ≡ count_step root k e + count_in (note_gains root) es = count-balances root (count_step root k e) es h.1.1 in
     omega (arith, first, rest)
 
 -- what a note gains and loses, by kinds
-pub gains-are : (root : RootId) (n : Note) → one (note_gains root n) ≡ one (is_born root n) + (one (is_retain root n) + one (is_fetched root n))
+pub gains-are : (root : RootId) (n : Note) → one (note_gains root n)
+    ≡ one (is_born root n) + (one (is_retain root n) + one (is_fetched root n))
 gains-are root (Ref r Born) = both (same_root r root)
   where
     both : (b : Bool) → one (b && true) ≡ one b + 0
@@ -97,11 +104,13 @@ losses-are root (Busy held) = refl
 losses-are root (At object number (Post parcel)) = omega arith
 losses-are root (At object number _) = refl
 
-pub gained-in : (root : RootId) (es : List Entry) → count_in (note_gains root) es ≡ count_in (is_born root) es + (count_in (is_retain root) es + count_in (is_fetched root) es)
+pub gained-in : (root : RootId) (es : List Entry) → count_in (note_gains root) es
+    ≡ count_in (is_born root) es + (count_in (is_retain root) es + count_in (is_fetched root) es)
 gained-in root [] = refl
 gained-in root (e ∷ es) = omega (arith, gains-are root e.note, gained-in root es)
 
-pub lost-in : (root : RootId) (es : List Entry) → count_in (note_loses root) es ≡ count_in (is_release root) es + count_in (is_posted root) es
+pub lost-in : (root : RootId) (es : List Entry) → count_in (note_loses root) es
+    ≡ count_in (is_release root) es + count_in (is_posted root) es
 lost-in root [] = refl
 lost-in root (e ∷ es) = omega (arith, losses-are root e.note, lost-in root es)
 
@@ -109,15 +118,19 @@ abbrev pub EachLane : RootId → List (List Entry) → Type 0
 EachLane root [] = Unit {0}
 EachLane root (es ∷ logs) = CountsHold root 0 es × EachLane root logs
 
-pub each-lane : (root : RootId) (logs : List (List Entry)) → ((lane : ℕ) → CountsHold root 0 (of_lane logs lane)) → EachLane root logs
+pub each-lane : (root : RootId) (logs : List (List Entry)) → ((lane : ℕ) → CountsHold root 0 (of_lane logs lane))
+    → EachLane root logs
 each-lane root [] h = tt
 each-lane root (es ∷ logs) h = (h 0, each-lane root logs (λ lane. h (suc lane)))
 
 pub sums : (root : RootId) (logs : List (List Entry)) → EachLane root logs →
-    counts_of root logs + (count_over (is_release root) logs + count_over (is_posted root) logs) ≡ count_over (is_born root) logs + (count_over (is_retain root) logs + count_over (is_fetched root) logs)
+    counts_of root logs + (count_over (is_release root) logs + count_over (is_posted root) logs)
+    ≡ count_over (is_born root) logs + (count_over (is_retain root) logs + count_over (is_fetched root) logs)
 sums root [] h = refl
-sums root (es ∷ logs) h = omega (arith, count-balances root 0 es h.0, gained-in root es, lost-in root es, sums root logs h.1)
+sums root (es ∷ logs) h =
+    omega (arith, count-balances root 0 es h.0, gained-in root es, lost-in root es, sums root logs h.1)
 
 -- the total is what the lanes count, with what is posted and not fetched
-pub total-is_counted : (root : RootId) (logs : List (List Entry)) → ((lane : ℕ) → CountsHold root 0 (of_lane logs lane)) → TotalHolds root logs → TotalIsCounted root logs
+pub total-is_counted : (root : RootId) (logs : List (List Entry)) → ((lane : ℕ) → CountsHold root 0 (of_lane logs lane))
+    → TotalHolds root logs → TotalIsCounted root logs
 total-is_counted root logs h t = omega (arith, sums root logs (each-lane root logs h), t.born_once, t.never_below)

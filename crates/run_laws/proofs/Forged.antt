@@ -25,17 +25,21 @@ abbrev more : Where → ℕ
 more Got = 1
 more _ = 0
 
-given-uses : (w : Where) (r : RegionId) (d : Did) (ds : List Did) → LivesOn w r (d ∷ ds) → (y : RegionId) → d ≡ Give y → r.uses + more w ≤ y.uses
+given-uses : (w : Where) (r : RegionId) (d : Did) (ds : List Did) → LivesOn w r (d ∷ ds) → (y : RegionId) → d ≡ Give y
+    → r.uses + more w ≤ y.uses
 given-uses Got r (Birth root x) ds l y e = absurd (cc e)
 given-uses (Used root) r (End x) ds l y e = absurd (cc e)
-given-uses Freed r (Give x) [] l y e = let same : x ≡ y = cc e in omega (arith, ap (λ z. z.uses) l, ap (λ z. z.uses) same)
+given-uses Freed r (Give x) [] l y e =
+    let same : x ≡ y = cc e in omega (arith, ap (λ z. z.uses) l, ap (λ z. z.uses) same)
 given-uses Freed r (Kept x) ds l y e = absurd (cc e)
 given-uses Cached r (Hit x) ds l y e = absurd (cc e)
 given-uses Cached r (Shed x) ds l y e = absurd (cc e)
-given-uses Dropped r (Give x) [] l y e = let same : x ≡ y = cc e in omega (arith, ap (λ z. z.uses) l, ap (λ z. z.uses) same)
+given-uses Dropped r (Give x) [] l y e =
+    let same : x ≡ y = cc e in omega (arith, ap (λ z. z.uses) l, ap (λ z. z.uses) same)
 given-uses w r d ds l y e = absurd l
 
-next-uses : (w : Where) (r : RegionId) (d : Did) (ds : List Did) → LivesOn w r (d ∷ ds) → (ds ≡ []) ⊎ ((v : Where) × (q : RegionId) × LivesOn v q ds × (r.uses + more w ≤ q.uses + more v))
+next-uses : (w : Where) (r : RegionId) (d : Did) (ds : List Did) → LivesOn w r (d ∷ ds)
+    → (ds ≡ []) ⊎ ((v : Where) × (q : RegionId) × LivesOn v q ds × (r.uses + more w ≤ q.uses + more v))
 next-uses Got r (Birth root x) ds l = inr (Used root, x, l.1, omega (arith, ap (λ z. z.uses) l.0))
 next-uses (Used root) r (End x) ds l = inr (Freed, r, l.1, omega arith)
 next-uses Freed r (Give x) [] l = inl refl
@@ -45,11 +49,14 @@ next-uses Cached r (Shed x) ds l = inr (Dropped, r, l.1, omega arith)
 next-uses Dropped r (Give x) [] l = inl refl
 next-uses w r d ds l = absurd l
 
-back-uses : (w : Where) (r : RegionId) (es : List Event) (f : Event) (y : RegionId) → LivesOn w r (dids_of es) → IsAmong f es → f.did ≡ Give y → r.uses + more w ≤ y.uses
+back-uses : (w : Where) (r : RegionId) (es : List Event) (f : Event) (y : RegionId) → LivesOn w r (dids_of es)
+    → IsAmong f es → f.did ≡ Give y → r.uses + more w ≤ y.uses
 back-uses w r [] f y lives among is = absurd among
-back-uses w r (g ∷ gs) f y lives (inl same) is = given-uses w r g.did (dids_of gs) lives y (sym (ap (λ z. z.did) same) ∙ is)
+back-uses w r (g ∷ gs) f y lives (inl same) is =
+    given-uses w r g.did (dids_of gs) lives y (sym (ap (λ z. z.did) same) ∙ is)
 back-uses w r (g ∷ gs) f y lives (inr among) is =
-    ⊎_elim (λ none. absurd (empty gs none among)) (λ n. omega (arith, n.3, back-uses n.0 n.1 gs f y n.2 among is)) (next-uses w r g.did (dids_of gs) lives)
+    ⊎_elim (λ none. absurd (empty gs none among)) (λ n. omega (arith, n.3, back-uses n.0 n.1 gs f y n.2 among is))
+    (next-uses w r g.did (dids_of gs) lives)
   where
     empty : (gs : List Event) → dids_of gs ≡ [] → IsAmong f gs → ⊥
     empty [] e among = among
@@ -64,12 +71,15 @@ overlapping lives = go (lives early_give (first_taking 0) refl refl)
     go : Life given_while_live (first_taking 0) → ⊥
     go life =
         ⊎_elim
-        (λ same. let none : Give (first_taking 0) ≡ Take 0 (first_taking 0) = ap (λ e. e.did) same ∙ life.taken in absurd (cc none))
-        (λ among. let low : 0 + 1 ≤ 0 = back-uses Got (first_taking 0) life.later early_give (first_taking 0) life.lives among refl in absurd (omega (arith, low)))
+        (λ same. let none : Give (first_taking 0) ≡ Take 0 (first_taking 0) = ap (λ e. e.did) same
+        ∙ life.taken in absurd (cc none))
+        (λ among. let low : 0 + 1 ≤ 0 = back-uses Got (first_taking 0) life.later early_give (first_taking 0) life.lives
+        among refl in absurd (omega (arith, low)))
         (life.all early_give refl refl)
 
 -- no note of these says that the count of the root ended, and none before the last says that its region was shed
-never : (notes : List Note) → ((i : ℕ) → slice_get notes i ≡ Some (Ref (byte_root 0) RefDid.Ended) → ⊥) → Counted (notes ∷ []) (byte_root 0) RefDid.Ended → ⊥
+never : (notes : List Note) → ((i : ℕ) → slice_get notes i ≡ Some (Ref (byte_root 0) RefDid.Ended) → ⊥)
+    → Counted (notes ∷ []) (byte_root 0) RefDid.Ended → ⊥
 never notes none c = go c.lane c.at c.stands
   where
     go : (lane i : ℕ) → slice_get (of_lane (notes ∷ []) lane) i ≡ Some (Ref (byte_root 0) RefDid.Ended) → ⊥
@@ -77,7 +87,15 @@ never notes none c = go c.lane c.at c.stands
     go (suc lane) i e = absurd (cc e)
 
 pub alive-given : ReturnsOnce given_alive (byte_root 0) (first_taking 1) → ⊥
-alive-given r = never (of_lane given_alive 0) none (r.exactly.0 (record { lane = 0; at = 3; number = 2; is = inr (refl, λ shed l before. not_shed shed.lane shed.at shed.number shed.stands) }))
+alive-given r =
+    never (of_lane given_alive 0) none
+    (r.exactly.0 (record {
+      lane = 0;
+      at = 3;
+      number = 2;
+      is =
+          inr (refl, λ shed l before. not_shed shed.lane shed.at shed.number shed.stands);
+    }))
   where
     none : (i : ℕ) → slice_get (of_lane given_alive 0) i ≡ Some (Ref (byte_root 0) RefDid.Ended) → ⊥
     none zero e = absurd (cc e)
@@ -86,7 +104,8 @@ alive-given r = never (of_lane given_alive 0) none (r.exactly.0 (record { lane =
     none (suc (suc (suc zero))) e = absurd (cc e)
     none (suc (suc (suc (suc i)))) e = absurd (cc e)
 
-    not_shed : (lane i n : ℕ) → slice_get (of_lane given_alive lane) i ≡ Some (At (cache_of (first_taking 1)) n (Shed (first_taking 1))) → ⊥
+    not_shed : (lane i n : ℕ) → slice_get (of_lane given_alive lane) i
+        ≡ Some (At (cache_of (first_taking 1)) n (Shed (first_taking 1))) → ⊥
     not_shed zero zero n e = absurd (cc e)
     not_shed zero (suc zero) n e = absurd (cc e)
     not_shed zero (suc (suc zero)) n e = absurd (cc e)
@@ -106,10 +125,24 @@ alive-kept r = never (of_lane kept_alive 0) none (r.exactly.0 (record { lane = 0
 
 pub twice-given : ReturnsOnce given_and_kept (byte_root 0) (first_taking 1) → ⊥
 twice-given r =
-    let same : (0 ≡ 0) × (6 ≡ 7) = r.once (record { lane = 0; at = 6; number = 2; is = inr (refl, λ shed l before. not_shed shed.lane shed.at shed.number before shed.stands) }) (record { lane = 0; at = 7; number = 1; is = inl refl }) in
+    let same : (0 ≡ 0) × (6 ≡ 7) = r.once
+    (record {
+      lane = 0;
+      at = 6;
+      number = 2;
+      is =
+          inr (refl, λ shed l before. not_shed shed.lane shed.at shed.number before shed.stands);
+    }) (record {
+      lane =
+          0;
+      at = 7;
+      number = 1;
+      is = inl refl;
+    }) in
     absurd (omega (arith, same.1))
   where
-    not_shed : (lane i n : ℕ) → i < 6 → slice_get (of_lane given_and_kept lane) i ≡ Some (At (cache_of (first_taking 1)) n (Shed (first_taking 1))) → ⊥
+    not_shed : (lane i n : ℕ) → i < 6 → slice_get (of_lane given_and_kept lane) i
+        ≡ Some (At (cache_of (first_taking 1)) n (Shed (first_taking 1))) → ⊥
     not_shed zero zero n before e = absurd (cc e)
     not_shed zero (suc zero) n before e = absurd (cc e)
     not_shed zero (suc (suc zero)) n before e = absurd (cc e)
@@ -121,10 +154,24 @@ twice-given r =
 
 pub twice-kept : ReturnsOnce kept_and_given (byte_root 0) (first_taking 1) → ⊥
 twice-kept r =
-    let same : (0 ≡ 0) × (7 ≡ 6) = r.once (record { lane = 0; at = 7; number = 2; is = inr (refl, λ shed l before. not_shed shed.lane shed.at shed.number before shed.stands) }) (record { lane = 0; at = 6; number = 1; is = inl refl }) in
+    let same : (0 ≡ 0) × (7 ≡ 6) = r.once
+    (record {
+      lane = 0;
+      at = 7;
+      number = 2;
+      is =
+          inr (refl, λ shed l before. not_shed shed.lane shed.at shed.number before shed.stands);
+    }) (record {
+      lane =
+          0;
+      at = 6;
+      number = 1;
+      is = inl refl;
+    }) in
     absurd (omega (arith, same.1))
   where
-    not_shed : (lane i n : ℕ) → i < 7 → slice_get (of_lane kept_and_given lane) i ≡ Some (At (cache_of (first_taking 1)) n (Shed (first_taking 1))) → ⊥
+    not_shed : (lane i n : ℕ) → i < 7 → slice_get (of_lane kept_and_given lane) i
+        ≡ Some (At (cache_of (first_taking 1)) n (Shed (first_taking 1))) → ⊥
     not_shed zero zero n before e = absurd (cc e)
     not_shed zero (suc zero) n before e = absurd (cc e)
     not_shed zero (suc (suc zero)) n before e = absurd (cc e)
@@ -142,17 +189,36 @@ shed_weight _ = 0
 
 pub late-given : ReturnsOnce given_late (byte_root 0) (first_taking 1) → ⊥
 late-given r =
-    let near : 10 ≤ 3 + 4 = (r.after (record { lane = 0; at = 10; number = 2; is = inr (refl, λ shed l before. not_shed shed.lane shed.at shed.number shed.stands) }) (record { lane = 0; at = 3; stands = refl })).2 in
+    let near : 10 ≤ 3 + 4 = (r.after
+    (record {
+      lane = 0;
+      at = 10;
+      number = 2;
+      is =
+          inr (refl, λ shed l before. not_shed shed.lane shed.at shed.number shed.stands);
+    }) (record {
+      lane =
+          0;
+      at = 3;
+      stands = refl;
+    })).2 in
     absurd (omega (arith, near))
   where
-    not_shed : (lane i n : ℕ) → slice_get (of_lane given_late lane) i ≡ Some (At (cache_of (first_taking 1)) n (Shed (first_taking 1))) → ⊥
+    not_shed : (lane i n : ℕ) → slice_get (of_lane given_late lane) i
+        ≡ Some (At (cache_of (first_taking 1)) n (Shed (first_taking 1))) → ⊥
     not_shed lane i n e =
         let none : sum_over shed_weight given_late ≡ 0 = refl in
-        absurd (omega (arith, none, over-at shed_weight given_late lane i (At (cache_of (first_taking 1)) n (Shed (first_taking 1))) e))
+        absurd (omega (
+          arith,
+          none,
+          over-at shed_weight given_late lane i
+              (At (cache_of (first_taking 1)) n (Shed (first_taking 1))) e,
+        ))
 
 pub twice-ended : ReturnsOnce ended_twice (byte_root 0) (first_taking 1) → ⊥
 twice-ended r =
-    let same : (0 ≡ 0) × (3 ≡ 7) = r.ended_once (record { lane = 0; at = 3; stands = refl }) (record { lane = 0; at = 7; stands = refl }) in
+    let same : (0 ≡ 0) × (3 ≡ 7) = r.ended_once (record { lane = 0; at = 3; stands = refl })
+    (record { lane = 0; at = 7; stands = refl }) in
     absurd (omega (arith, same.1))
 
 pub elsewhere-kept : RegionsLive kept_elsewhere → ⊥
@@ -199,7 +265,8 @@ abbrev Says : (Object → ℕ → Type 0) → (Did → Type 0) → Note → Type
 Says P Q (At o k d) = P o k × Q d
 Says P Q _ = Unit {0}
 
-late-at : (lane i : ℕ) (n : Note) → slice_get (of_lane given_while_live lane) i ≡ Some n → 8 ≤ i → Says IsLate IsLateDid n
+late-at : (lane i : ℕ) (n : Note) → slice_get (of_lane given_while_live lane) i ≡ Some n → 8 ≤ i
+    → Says IsLate IsLateDid n
 late-at (suc lane) i n e from = absurd (cc e)
 late-at zero zero n e from = absurd (omega (arith, from))
 late-at zero (suc zero) n e from = absurd (omega (arith, from))
@@ -209,46 +276,63 @@ late-at zero (suc (suc (suc (suc zero)))) n e from = absurd (omega (arith, from)
 late-at zero (suc (suc (suc (suc (suc zero))))) n e from = absurd (omega (arith, from))
 late-at zero (suc (suc (suc (suc (suc (suc zero)))))) n e from = absurd (omega (arith, from))
 late-at zero (suc (suc (suc (suc (suc (suc (suc zero))))))) n e from = absurd (omega (arith, from))
-late-at zero (suc (suc (suc (suc (suc (suc (suc (suc zero)))))))) n e from = subst (Says IsLate IsLateDid) (same-some _ n e) (inl (refl, omega arith), refl)
-late-at zero (suc (suc (suc (suc (suc (suc (suc (suc (suc zero))))))))) n e from = subst (Says IsLate IsLateDid) (same-some _ n e) tt
-late-at zero (suc (suc (suc (suc (suc (suc (suc (suc (suc (suc zero)))))))))) n e from = subst (Says IsLate IsLateDid) (same-some _ n e) (inr refl, tt)
-late-at zero (suc (suc (suc (suc (suc (suc (suc (suc (suc (suc (suc zero))))))))))) n e from = subst (Says IsLate IsLateDid) (same-some _ n e) (inr refl, tt)
-late-at zero (suc (suc (suc (suc (suc (suc (suc (suc (suc (suc (suc (suc zero)))))))))))) n e from = subst (Says IsLate IsLateDid) (same-some _ n e) (inr refl, tt)
+late-at zero (suc (suc (suc (suc (suc (suc (suc (suc zero)))))))) n e from =
+    subst (Says IsLate IsLateDid) (same-some _ n e) (inl (refl, omega arith), refl)
+late-at zero (suc (suc (suc (suc (suc (suc (suc (suc (suc zero))))))))) n e from =
+    subst (Says IsLate IsLateDid) (same-some _ n e) tt
+late-at zero (suc (suc (suc (suc (suc (suc (suc (suc (suc (suc zero)))))))))) n e from =
+    subst (Says IsLate IsLateDid) (same-some _ n e) (inr refl, tt)
+late-at zero (suc (suc (suc (suc (suc (suc (suc (suc (suc (suc (suc zero))))))))))) n e from =
+    subst (Says IsLate IsLateDid) (same-some _ n e) (inr refl, tt)
+late-at zero (suc (suc (suc (suc (suc (suc (suc (suc (suc (suc (suc (suc zero)))))))))))) n e from =
+    subst (Says IsLate IsLateDid) (same-some _ n e) (inr refl, tt)
 late-at zero (suc (suc (suc (suc (suc (suc (suc (suc (suc (suc (suc (suc (suc i))))))))))))) n e from = absurd (cc e)
 
-early-at : (lane i : ℕ) (n : Note) → slice_get (of_lane given_while_live lane) i ≡ Some n → i < 8 → Says IsEarly IsEarlyDid n
+early-at : (lane i : ℕ) (n : Note) → slice_get (of_lane given_while_live lane) i ≡ Some n → i < 8
+    → Says IsEarly IsEarlyDid n
 early-at (suc lane) i n e to = absurd (cc e)
 early-at zero zero n e to = subst (Says IsEarly IsEarlyDid) (same-some _ n e) (inl refl, tt)
 early-at zero (suc zero) n e to = subst (Says IsEarly IsEarlyDid) (same-some _ n e) (inr (inl (refl, omega arith)), tt)
 early-at zero (suc (suc zero)) n e to = subst (Says IsEarly IsEarlyDid) (same-some _ n e) tt
 early-at zero (suc (suc (suc zero))) n e to = subst (Says IsEarly IsEarlyDid) (same-some _ n e) (inl refl, tt)
 early-at zero (suc (suc (suc (suc zero)))) n e to = subst (Says IsEarly IsEarlyDid) (same-some _ n e) (inl refl, tt)
-early-at zero (suc (suc (suc (suc (suc zero))))) n e to = subst (Says IsEarly IsEarlyDid) (same-some _ n e) (inr (inr refl), tt)
+early-at zero (suc (suc (suc (suc (suc zero))))) n e to =
+    subst (Says IsEarly IsEarlyDid) (same-some _ n e) (inr (inr refl), tt)
 early-at zero (suc (suc (suc (suc (suc (suc zero)))))) n e to = subst (Says IsEarly IsEarlyDid) (same-some _ n e) tt
-early-at zero (suc (suc (suc (suc (suc (suc (suc zero))))))) n e to = subst (Says IsEarly IsEarlyDid) (same-some _ n e) tt
+early-at zero (suc (suc (suc (suc (suc (suc (suc zero))))))) n e to =
+    subst (Says IsEarly IsEarlyDid) (same-some _ n e) tt
 early-at zero (suc (suc (suc (suc (suc (suc (suc (suc i)))))))) n e to = absurd (omega (arith, to))
 
 -- no object has a late note with a number below that of an early one
 late-not_early : (o : Object) (k l : ℕ) → IsLate o k → IsEarly o l → k < l → ⊥
-late-not_early o k l (inl late) (inl early) less = let both : Object.Root 0 ≡ Object.Arena 0 = sym late.0 ∙ early in absurd (cc both)
+late-not_early o k l (inl late) (inl early) less =
+    let both : Object.Root 0 ≡ Object.Arena 0 = sym late.0 ∙ early in absurd (cc both)
 late-not_early o k l (inl late) (inr (inl early)) less = absurd (omega (arith, late.1, early.1, less))
-late-not_early o k l (inl late) (inr (inr early)) less = let both : Object.Root 0 ≡ Object.Root 1 = sym late.0 ∙ early in absurd (cc both)
-late-not_early o k l (inr late) (inl early) less = let both : Object.Cache 0 0 ≡ Object.Arena 0 = sym late ∙ early in absurd (cc both)
-late-not_early o k l (inr late) (inr (inl early)) less = let both : Object.Cache 0 0 ≡ Object.Root 0 = sym late ∙ early.0 in absurd (cc both)
-late-not_early o k l (inr late) (inr (inr early)) less = let both : Object.Cache 0 0 ≡ Object.Root 1 = sym late ∙ early in absurd (cc both)
+late-not_early o k l (inl late) (inr (inr early)) less =
+    let both : Object.Root 0 ≡ Object.Root 1 = sym late.0 ∙ early in absurd (cc both)
+late-not_early o k l (inr late) (inl early) less =
+    let both : Object.Cache 0 0 ≡ Object.Arena 0 = sym late ∙ early in absurd (cc both)
+late-not_early o k l (inr late) (inr (inl early)) less =
+    let both : Object.Cache 0 0 ≡ Object.Root 0 = sym late ∙ early.0 in absurd (cc both)
+late-not_early o k l (inr late) (inr (inr early)) less =
+    let both : Object.Cache 0 0 ≡ Object.Root 1 = sym late ∙ early in absurd (cc both)
 
-later-late : (e f : Event) → Stands given_while_live e → Stands given_while_live f → 8 ≤ e.at → InOneLog e f ⊎ AtOneObject e f → 8 ≤ f.at
+later-late : (e f : Event) → Stands given_while_live e → Stands given_while_live f → 8 ≤ e.at
+    → InOneLog e f ⊎ AtOneObject e f → 8 ≤ f.at
 later-late e f s t from (inl log) = omega (arith, from, log.1)
 later-late e f s t from (inr object) =
     ⊎_elim
     (λ low.
     let late : IsLate e.object e.number × IsLateDid e.did = late-at e.lane e.at (At e.object e.number e.did) s from in
-    let early : IsEarly f.object f.number × IsEarlyDid f.did = early-at f.lane f.at (At f.object f.number f.did) t low in
-    absurd (late-not_early f.object e.number f.number (subst (λ o. IsLate o e.number) object.0 late.0) early.0 object.1))
+    let early : IsEarly f.object f.number × IsEarlyDid f.did =
+    early-at f.lane f.at (At f.object f.number f.did) t low in
+    absurd (late-not_early f.object e.number f.number (subst (λ o. IsLate o e.number) object.0 late.0) early.0
+    object.1))
     (λ high. high)
     (below-or f.at 8)
 
-leads-late : (e : Event) (bs : List Event) (g : Event) → Stands given_while_live e → Stands given_while_live g → 8 ≤ e.at → Leads given_while_live e bs g → 8 ≤ g.at
+leads-late : (e : Event) (bs : List Event) (g : Event) → Stands given_while_live e → Stands given_while_live g
+    → 8 ≤ e.at → Leads given_while_live e bs g → 8 ≤ g.at
 leads-late e [] g s t from way = later-late e g s t from way
 leads-late e (f ∷ fs) g s t from way = leads-late f fs g way.1.0 t (later-late e f s way.1.0 from way.0) way.1.1
 
@@ -259,23 +343,33 @@ still-overlapping apart =
     let from : 8 ≤ before.end.at =
     ⊎_elim
     (λ low.
-    let early : IsEarly before.end.object before.end.number × IsEarlyDid before.end.did = early-at before.end.lane before.end.at (At before.end.object before.end.number before.end.did) before.ended.0 low in
+    let early : IsEarly before.end.object before.end.number
+    × IsEarlyDid before.end.did = early-at before.end.lane before.end.at
+    (At before.end.object before.end.number before.end.did) before.ended.0 low in
     absurd (subst IsEarlyDid before.ended.1 early.1))
     (λ high. high)
     (below-or before.end.at 8) in
-    let to : 8 ≤ before.birth.at = leads-late before.end before.between before.birth before.ended.0 before.born.0 from before.order in
-    let late : IsLate before.birth.object before.birth.number × IsLateDid before.birth.did = late-at before.birth.lane before.birth.at (At before.birth.object before.birth.number before.birth.did) before.born.0 to in
+    let to : 8 ≤ before.birth.at = leads-late before.end before.between before.birth before.ended.0 before.born.0 from
+    before.order in
+    let late : IsLate before.birth.object before.birth.number
+    × IsLateDid before.birth.did = late-at before.birth.lane before.birth.at
+    (At before.birth.object before.birth.number before.birth.did) before.born.0 to in
     absurd (subst IsLateDid before.born.1 late.1))
     (λ before.
     ⊎_elim
     (λ low.
-    let early : IsEarly before.end.object before.end.number × IsEarlyDid before.end.did = early-at before.end.lane before.end.at (At before.end.object before.end.number before.end.did) before.ended.0 low in
+    let early : IsEarly before.end.object before.end.number
+    × IsEarlyDid before.end.did = early-at before.end.lane before.end.at
+    (At before.end.object before.end.number before.end.did) before.ended.0 low in
     absurd (subst IsEarlyDid before.ended.1 early.1))
     (λ high.
-    let late : IsLate before.end.object before.end.number × IsLateDid before.end.did = late-at before.end.lane before.end.at (At before.end.object before.end.number before.end.did) before.ended.0 high in
+    let late : IsLate before.end.object before.end.number
+    × IsLateDid before.end.did = late-at before.end.lane before.end.at
+    (At before.end.object before.end.number before.end.did) before.ended.0 high in
     let root : byte_root 1 ≡ byte_root 0 = subst IsLateDid before.ended.1 late.1 in
     absurd (omega (arith, ap (λ r. r.place) root)))
     (below-or before.end.at 8))
-    (apart (byte_root 0) (byte_root 1) (first_taking 1) (second_taking 1) (record { lane = 0; at = 1; number = 1; birth = refl }) (record { lane = 0; at = 5; number = 1; birth = refl })
+    (apart (byte_root 0) (byte_root 1) (first_taking 1) (second_taking 1)
+    (record { lane = 0; at = 1; number = 1; birth = refl }) (record { lane = 0; at = 5; number = 1; birth = refl })
     (λ same. absurd (omega (arith, ap (λ r. r.place) same)))
     (record { arena = refl; chunk = refl; first = omega arith; second = omega arith }))

@@ -28,16 +28,22 @@ stale-read reads = go (reads 0 3 (Command.Get 0 0 1 false) (0 ∷ []) refl refl)
 
     one : (part : Part) (b : List ℕ) → GetsPart (logs_of stale) part second b → (0 ∷ []) ≡ b → ⊥
     one part b g whole =
-        let note : At (Object.Root 0) 4 (Get 0 (0 ∷ [])) ≡ get_note part g.number b = sym (entry-note (logs_of stale) (At (Object.Root 0) 4 (Get 0 (0 ∷ [])))) ∙ ap (λ e. e.note) g.is ∙ entry-note (logs_of stale) (get_note part g.number b) in
+        let note : At (Object.Root 0) 4 (Get 0 (0 ∷ []))
+        ≡ get_note part g.number b =
+        sym (entry-note (logs_of stale) (At (Object.Root 0) 4 (Get 0 (0 ∷ [])))) ∙ ap (λ e. e.note) g.is
+        ∙ entry-note (logs_of stale) (get_note part g.number b) in
         let place : 0 ≡ part.root.place = cc note in
         let got : 4 ≡ g.number = cc note in
         let index : 0 ≡ part.offset = cc note in
-        let written : get_or b 0 0 ≡ last_written (part.offset + 0) 0 (earlier_at (logs_of stale) part.root.place g.number) = g.written 0 (omega (arith, ap length whole)) in
-        let here : 0 ≡ last_written (0 + 0) 0 (earlier_at (logs_of stale) 0 4) = ap (λ x. get_or x 0 0) whole ∙ written ∙ (λ i. last_written (sym index i + 0) 0 (earlier_at (logs_of stale) (sym place i) (sym got i))) in
+        let written : get_or b 0 0 ≡ last_written (part.offset + 0) 0
+        (earlier_at (logs_of stale) part.root.place g.number) = g.written 0 (omega (arith, ap length whole)) in
+        let here : 0 ≡ last_written (0 + 0) 0 (earlier_at (logs_of stale) 0 4) = ap (λ x. get_or x 0 0) whole ∙ written
+        ∙ (λ i. last_written (sym index i + 0) 0 (earlier_at (logs_of stale) (sym place i) (sym got i))) in
         let last : last_written (0 + 0) 0 (earlier_at (logs_of stale) 0 4) ≡ 255 = refl in
         absurd (omega (arith, here ∙ last))
 
-    parts : (ps : List Part) (bs : List (List ℕ)) → GetsParts (logs_of stale) ps (second ∷ []) bs → (0 ∷ []) ≡ joined bs → ⊥
+    parts : (ps : List Part) (bs : List (List ℕ)) → GetsParts (logs_of stale) ps (second ∷ []) bs → (0 ∷ []) ≡ joined bs
+        → ⊥
     parts [] [] g whole = absurd g
     parts [] (b ∷ bs) g whole = absurd g
     parts (p ∷ ps) [] g whole = absurd g
@@ -75,7 +81,10 @@ swapped-read reads = go (reads 0 5 (Command.Read 2 2) (2 ∷ 1 ∷ []) refl refl
     wrong : (bs : List (List ℕ)) → GetsParts (logs_of swapped) (first ∷ second ∷ []) (of_second ∷ of_first ∷ []) bs → ⊥
     wrong [] g = absurd g
     wrong (b ∷ bs) g =
-        let note : At (Object.Root 1) 3 (Get 0 (2 ∷ [])) ≡ get_note first g.0.number b = sym (entry-note (logs_of swapped) (At (Object.Root 1) 3 (Get 0 (2 ∷ [])))) ∙ ap (λ e. e.note) g.0.is ∙ entry-note (logs_of swapped) (get_note first g.0.number b) in
+        let note : At (Object.Root 1) 3 (Get 0 (2 ∷ []))
+        ≡ get_note first g.0.number b =
+        sym (entry-note (logs_of swapped) (At (Object.Root 1) 3 (Get 0 (2 ∷ [])))) ∙ ap (λ e. e.note) g.0.is
+        ∙ entry-note (logs_of swapped) (get_note first g.0.number b) in
         let place : ◌≡◌ {A = ℕ} 1 0 = cc note in
         absurd (omega (arith, place))
 
@@ -85,7 +94,8 @@ swapped-read reads = go (reads 0 5 (Command.Read 2 2) (2 ∷ 1 ∷ []) refl refl
         let parts : first ∷ second ∷ [] ≡ w.parts = cc parts_are in
         let own : Some (of_second ∷ of_first ∷ []) ≡ Some w.notes = w.own in
         let notes : of_second ∷ of_first ∷ [] ≡ w.notes = cc own in
-        wrong w.got (subst (λ ps. GetsParts (logs_of swapped) ps (of_second ∷ of_first ∷ []) w.got) (sym parts) (subst (λ es. GetsParts (logs_of swapped) w.parts es w.got) (sym notes) w.gets))
+        wrong w.got (subst (λ ps. GetsParts (logs_of swapped) ps (of_second ∷ of_first ∷ []) w.got) (sym parts)
+        (subst (λ es. GetsParts (logs_of swapped) w.parts es w.got) (sym notes) w.gets))
 
 -- what the number of the second note is
 abbrev second_number : List (ℕ × Did) → ℕ
@@ -95,7 +105,8 @@ second_number _ = 0
 -- an object's numbers rise in each log
 pub early-read : Headline read_early → ⊥
 early-read h =
-    let own_is : own (Object.Root 0) (of_lane (logs_of read_early) 0) ≡ numbered 0 1 (history_of (Object.Root 0) (logs_of read_early)) = h.legal.histories.whole (Object.Root 0) 0 in
+    let own_is : own (Object.Root 0) (of_lane (logs_of read_early) 0)
+    ≡ numbered 0 1 (history_of (Object.Root 0) (logs_of read_early)) = h.legal.histories.whole (Object.Root 0) 0 in
     let number : ◌≡◌ {A = ℕ} 3 2 = ap second_number own_is in
     absurd (omega (arith, number))
 
@@ -103,9 +114,11 @@ early-read h =
 pub unnoted-set : Headline set_unnoted → ⊥
 unnoted-set h = go (h.legal.answers 0 (omega arith))
   where
-    go : IsLaneLog set_unnoted.shape 0 (of_lane set_unnoted.trace.lanes 0) (replies_of set_unnoted 0) (of_lane (entries_of (logs_of set_unnoted)) 0) → ⊥
+    go : IsLaneLog set_unnoted.shape 0 (of_lane set_unnoted.trace.lanes 0) (replies_of set_unnoted 0)
+        (of_lane (entries_of (logs_of set_unnoted)) 0) → ⊥
     go log =
-        let none : ◌≡◌ {A = Option (List Reply × LaneState)} None (Some (Reply.OkPlace 16 front_place ∷ Reply.Ok ∷ Reply.Ok ∷ [], log.last)) = log.answered in
+        let none : ◌≡◌ {A = Option (List Reply × LaneState)} None
+        (Some (Reply.OkPlace 16 front_place ∷ Reply.Ok ∷ Reply.Ok ∷ [], log.last)) = log.answered in
         absurd (cc none)
 
 -- what a command would read in the state that a run of commands gives
@@ -117,7 +130,10 @@ pub past-read : ReadsGiveWritten read_past → ⊥
 past-read reads = go (reads 0 2 (Command.Get 1 0 3 false) (0 ∷ 0 ∷ 0 ∷ []) refl refl)
   where
     go : ReadsWritten read_past 0 2 (Command.Get 1 0 3 false) (0 ∷ 0 ∷ 0 ∷ []) → ⊥
-    go w = let none : ◌≡◌ {A = Option (List Part)} None (Some w.parts) = ap (reads_if (Command.Get 1 0 3 false)) w.before ∙ w.is in absurd (cc none)
+    go w =
+        let none : ◌≡◌ {A = Option (List Part)} None (Some w.parts) = ap (reads_if (Command.Get 1 0 3 false)) w.before
+        ∙ w.is in
+        absurd (cc none)
 
 pub touch-read : ReadsGiveWritten touched → ⊥
 touch-read reads = go (reads 0 0 (Command.Touch 0) (7 ∷ []) refl refl)

@@ -23,10 +23,12 @@ use Rattle.run_laws.proofs.LaneActs.{AnyNote, any-acts}
 abbrev pub holding : Source → RegionId → Hand
 holding from r = Some (from, r)
 
-pub hand-over : (h k : Hand) (e : Entry) (es : Entries) → hand_step h e ≡ Some k → hand_after h (e ∷ es) ≡ hand_after k es
+pub hand-over : (h k : Hand) (e : Entry) (es : Entries) → hand_step h e ≡ Some k
+    → hand_after h (e ∷ es) ≡ hand_after k es
 hand-over h k e es step = ap (λ o. o >>= (λ m. hand_after m es)) step
 
-pub quiet-hand : (P : Object → Did → Type 0) (h : Hand) (t : Option RegionId) (n : Note) → IsQuiet P n → hand_if h t (did_of n) ≡ Some h
+pub quiet-hand : (P : Object → Did → Type 0) (h : Hand) (t : Option RegionId) (n : Note) → IsQuiet P n
+    → hand_if h t (did_of n) ≡ Some h
 quiet-hand P h t (At o k (Take class r)) quiet = absurd quiet
 quiet-hand P h t (At o k (Give r)) quiet = absurd quiet
 quiet-hand P h t (At o k (Hit r)) quiet = absurd quiet
@@ -38,41 +40,64 @@ quiet-hand P h t (At o k _) quiet = refl
 quiet-hand P h t (Ref root d) quiet = refl
 quiet-hand P h t (Busy held) quiet = refl
 
-pub gets-hand : (r : RegionId) (t : Option RegionId) (d : Did) → Gets r d → hand_if None t (Some d) ≡ Some (holding Got r)
+pub gets-hand : (r : RegionId) (t : Option RegionId) (d : Did) → Gets r d
+    → hand_if None t (Some d) ≡ Some (holding Got r)
 gets-hand r t (Hit x) gets = ap (λ y. Some (holding Got y)) gets
 gets-hand r t (Take class x) gets = ap (λ y. Some (holding Got y)) gets
 gets-hand r t _ gets = absurd gets
 
-pub away-hand : (r : RegionId) (t : Option RegionId) (d : Did) → PutsAway r d → hand_if (holding Ended r) t (Some d) ≡ Some None
-away-hand r t (Kept x) puts = ap (λ y. hand_if (holding Ended r) t (Some (Kept y))) puts.0 ∙ ap (λ b. if b then Some None else None) (same_region-refl r)
-away-hand r t (Give x) puts = ap (λ y. hand_if (holding Ended r) t (Some (Give y))) puts ∙ ap (λ b. if b then Some None else None) (same_region-refl r)
+pub away-hand : (r : RegionId) (t : Option RegionId) (d : Did) → PutsAway r d
+    → hand_if (holding Ended r) t (Some d) ≡ Some None
+away-hand r t (Kept x) puts =
+    ap (λ y. hand_if (holding Ended r) t (Some (Kept y))) puts.0
+    ∙ ap (λ b. if b then Some None else None) (same_region-refl r)
+away-hand r t (Give x) puts =
+    ap (λ y. hand_if (holding Ended r) t (Some (Give y))) puts
+    ∙ ap (λ b. if b then Some None else None) (same_region-refl r)
 away-hand r t _ puts = absurd puts
 
 -- each act begins and ends with an empty hand
-pub act-hand : (P : Object → Did → Type 0) (a : Act P) (es : Entries) → hand_after None (act_notes a ++ es) ≡ hand_after None es
+pub act-hand : (P : Object → Did → Type 0) (a : Act P) (es : Entries)
+    → hand_after None (act_notes a ++ es) ≡ hand_after None es
 act-hand P (Act.Quiet e quiet) es = hand-over None None e es (quiet-hand P None e.region e.note quiet)
 act-hand P (Act.Births got birth set b) es =
-    hand-over None (holding Got b.region) got (birth ∷ set ∷ es) (ap (λ n. hand_if None got.region (did_of n)) b.got_is.is ∙ gets-hand b.region got.region b.did b.gets)
-    ∙ hand-over (holding Got b.region) None birth (set ∷ es) (ap (λ n. hand_if (holding Got b.region) birth.region (did_of n)) b.birth_is.is ∙ ap (λ c. if c then Some None else None) (same_region-refl (one_more b.region)))
+    hand-over None (holding Got b.region) got (birth ∷ set ∷ es)
+    (ap (λ n. hand_if None got.region (did_of n)) b.got_is.is ∙ gets-hand b.region got.region b.did b.gets)
+    ∙ hand-over (holding Got b.region) None birth (set ∷ es)
+    (ap (λ n. hand_if (holding Got b.region) birth.region (did_of n)) b.birth_is.is
+    ∙ ap (λ c. if c then Some None else None) (same_region-refl (one_more b.region)))
     ∙ hand-over None None set es (ap (λ n. hand_if None set.region (did_of n)) b.set_is)
 act-hand P (Act.Ends ended end vacated refused away quiet e) es =
-    hand-over None None ended (end ∷ vacated ∷ (before refused (away ∷ []) ++ es)) (ap (λ n. hand_if None ended.region (did_of n)) e.ended_is)
-    ∙ hand-over None (holding Ended e.region) end (vacated ∷ (before refused (away ∷ []) ++ es)) (ap (λ n. hand_if None end.region (did_of n)) e.end_is.is ∙ ap (λ t. hand_if None t (Some (End e.root))) e.out)
-    ∙ hand-over (holding Ended e.region) (holding Ended e.region) vacated (before refused (away ∷ []) ++ es) (ap (λ n. hand_if (holding Ended e.region) vacated.region (did_of n)) e.vacated_is)
+    hand-over None None ended (end ∷ vacated ∷ (before refused (away ∷ []) ++ es))
+    (ap (λ n. hand_if None ended.region (did_of n)) e.ended_is)
+    ∙ hand-over None (holding Ended e.region) end (vacated ∷ (before refused (away ∷ []) ++ es))
+    (ap (λ n. hand_if None end.region (did_of n)) e.end_is.is ∙ ap (λ t. hand_if None t (Some (End e.root))) e.out)
+    ∙ hand-over (holding Ended e.region) (holding Ended e.region) vacated (before refused (away ∷ []) ++ es)
+    (ap (λ n. hand_if (holding Ended e.region) vacated.region (did_of n)) e.vacated_is)
     ∙ last refused quiet
   where
     put : hand_after (holding Ended e.region) (away ∷ es) ≡ hand_after None es
-    put = hand-over (holding Ended e.region) None away es (ap (λ n. hand_if (holding Ended e.region) away.region (did_of n)) e.away_is.is ∙ away-hand e.region away.region e.did e.puts_away)
+    put =
+        hand-over (holding Ended e.region) None away es
+        (ap (λ n. hand_if (holding Ended e.region) away.region (did_of n)) e.away_is.is
+        ∙ away-hand e.region away.region e.did e.puts_away)
 
-    last : (o : Option Entry) → AreQuiet P o → hand_after (holding Ended e.region) (before o (away ∷ []) ++ es) ≡ hand_after None es
+    last : (o : Option Entry) → AreQuiet P o → hand_after (holding Ended e.region) (before o (away ∷ []) ++ es)
+        ≡ hand_after None es
     last None q = put
-    last (Some x) q = hand-over (holding Ended e.region) (holding Ended e.region) x (away ∷ es) (quiet-hand P (holding Ended e.region) x.region x.note q) ∙ put
+    last (Some x) q =
+        hand-over (holding Ended e.region) (holding Ended e.region) x (away ∷ es)
+        (quiet-hand P (holding Ended e.region) x.region x.note q) ∙ put
 act-hand P (Act.Sheds shed given x) es =
-    hand-over None (holding Dropped x.region) shed (given ∷ es) (ap (λ n. hand_if None shed.region (did_of n)) x.shed_is.is)
-    ∙ hand-over (holding Dropped x.region) None given es (ap (λ n. hand_if (holding Dropped x.region) given.region (did_of n)) x.given_is.is ∙ ap (λ c. if c then Some None else None) (same_region-refl x.region))
+    hand-over None (holding Dropped x.region) shed (given ∷ es)
+    (ap (λ n. hand_if None shed.region (did_of n)) x.shed_is.is)
+    ∙ hand-over (holding Dropped x.region) None given es
+    (ap (λ n. hand_if (holding Dropped x.region) given.region (did_of n)) x.given_is.is
+    ∙ ap (λ c. if c then Some None else None) (same_region-refl x.region))
 
 pub acts-hand : (P : Object → Did → Type 0) (es : Entries) → Acts P es [] → hand_after None es ≡ Some None
 acts-hand P es a = ap (hand_after None) a.are ∙ acts-keep (hand_after None) (act-hand P) a.acts []
 
-pub log-empty : (shape : Shape) (lane : ℕ) (commands : List Command) (replies : List Answered) (es : Entries) → IsLaneLog shape lane commands replies es → hand_after None es ≡ Some None
+pub log-empty : (shape : Shape) (lane : ℕ) (commands : List Command) (replies : List Answered) (es : Entries)
+    → IsLaneLog shape lane commands replies es → hand_after None es ≡ Some None
 log-empty shape lane commands replies es log = acts-hand AnyNote es (any-acts shape lane commands replies es log)

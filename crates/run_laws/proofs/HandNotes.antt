@@ -36,13 +36,16 @@ note-did (Busy held) d e = absurd (cc e)
 
 module _ (logs : Logs) (acts : LanesAct logs) (lane : ℕ) where
   -- an entry of a log, as a note
-  note-of : (i : ℕ) (e : Entry) (d : Did) → slice_get (map (entry_of logs) (of_lane logs lane)) i ≡ Some e → did_of e.note ≡ Some d → (o : Object) × (k : ℕ) × (slice_get (of_lane logs lane) i ≡ Some (At o k d)) × (e ≡ entry_of logs (At o k d))
+  note-of : (i : ℕ) (e : Entry) (d : Did) → slice_get (map (entry_of logs) (of_lane logs lane)) i ≡ Some e
+      → did_of e.note ≡ Some d → (o : Object) × (k : ℕ) × (slice_get (of_lane logs lane) i ≡ Some (At o k d))
+      × (e ≡ entry_of logs (At o k d))
   note-of i e d is did =
       let m = map-get (entry_of logs) (of_lane logs lane) i e is in
       let n = note-did m.0 d (ap did_of (sym (entry-note logs m.0)) ∙ ap (λ x. did_of x.note) m.2 ∙ did) in
       (n.0, n.1, m.1 ∙ ap (λ x. Some x) n.2, sym m.2 ∙ ap (entry_of logs) n.2)
 
-  pub held : (i k : ℕ) (from : Source) (y : RegionId) → Pair (map (entry_of logs) (of_lane logs lane)) i k from y → Held logs lane i k from y
+  pub held : (i k : ℕ) (from : Source) (y : RegionId) → Pair (map (entry_of logs) (of_lane logs lane)) i k from y
+      → Held logs lane i k from y
   held i k from y p =
       let a = note-of i p.into.entry p.into.did p.into.there p.into.is in
       let b = note-of k p.out.entry p.out.did p.out.there p.out.is in
@@ -76,20 +79,40 @@ module _ (logs : Logs) (acts : LanesAct logs) (lane : ℕ) where
   EmptiesBy from y (At o k d) = Empties from y d
   EmptiesBy from y _ = ⊥
 
-  pub held-from : (i k : ℕ) (o : Object) (d : Did) → slice_get (of_lane logs lane) i ≡ Some (At o k d) → IsIn d → (out : ℕ) × (from : Source) × (y : RegionId) × Held logs lane i out from y × Fills from y (entry_of logs (At o k d)).region d
+  pub held-from : (i k : ℕ) (o : Object) (d : Did) → slice_get (of_lane logs lane) i ≡ Some (At o k d) → IsIn d
+      → (out : ℕ) × (from : Source) × (y : RegionId) × Held logs lane i out from y
+      × Fills from y (entry_of logs (At o k d)).region d
   held-from i k o d is kind =
-      let r : Onward (map (entry_of logs) (of_lane logs lane)) i = pair-from (map (entry_of logs) (of_lane logs lane)) None i (entry_of logs (At o k d)) d empty (get-map (entry_of logs) (of_lane logs lane) i (At o k d) is) (entry-did o k d) kind in
-      let h : Held logs lane i r.to r.from r.region = held i r.to r.from r.region r.pair in
-      (r.to, r.from, r.region, h, subst (FillsBy r.from r.region) (same-some (At h.into_object h.into_number h.into) (At o k d) (sym h.into_is ∙ is)) h.fills)
+      let r : Onward (map (entry_of logs) (of_lane logs lane)) i =
+      pair-from (map (entry_of logs) (of_lane logs lane)) None i (entry_of logs (At o k d)) d empty
+      (get-map (entry_of logs) (of_lane logs lane) i (At o k d) is) (entry-did o k d) kind in
+      let h : Held logs lane i r.to r.from r.region = held i r.to r.from r.region r.pair in (
+        r.to,
+        r.from,
+        r.region,
+        h,
+        subst (FillsBy r.from r.region)
+            (same-some (At h.into_object h.into_number h.into) (At o k d) (sym h.into_is ∙ is)) h.fills,
+      )
 
-  pub held-to : (i k : ℕ) (o : Object) (d : Did) → slice_get (of_lane logs lane) i ≡ Some (At o k d) → IsOut d → (into : ℕ) × (from : Source) × (y : RegionId) × Held logs lane into i from y × Empties from y d
+  pub held-to : (i k : ℕ) (o : Object) (d : Did) → slice_get (of_lane logs lane) i ≡ Some (At o k d) → IsOut d
+      → (into : ℕ) × (from : Source) × (y : RegionId) × Held logs lane into i from y × Empties from y d
   held-to i k o d is kind =
       ⊎_elim
       (λ first. let none : ◌≡◌ {A = Hand} None (Some (first.from, first.region)) = first.held in absurd (cc none))
       (λ before.
-      let h : Held logs lane before.at i before.from before.region = held before.at i before.from before.region before.pair in
-      (before.at, before.from, before.region, h, subst (EmptiesBy before.from before.region) (same-some (At h.out_object h.out_number h.out) (At o k d) (sym h.out_is ∙ is)) h.empties))
-      (pair-to (map (entry_of logs) (of_lane logs lane)) None i (entry_of logs (At o k d)) d empty (get-map (entry_of logs) (of_lane logs lane) i (At o k d) is) (entry-did o k d) kind)
+      let h : Held logs lane before.at i before.from before.region =
+      held before.at i before.from before.region before.pair in (
+        before.at,
+        before.from,
+        before.region,
+        h,
+        subst (EmptiesBy before.from before.region)
+            (same-some (At h.out_object h.out_number h.out) (At o k d) (sym h.out_is ∙ is)) h.empties,
+      ))
+      (pair-to (map (entry_of logs) (of_lane logs lane)) None i (entry_of logs (At o k d)) d empty
+      (get-map (entry_of logs) (of_lane logs lane) i (At o k d) is) (entry-did o k d) kind)
 
-  pub held-once : (i k l : ℕ) (from of : Source) (y z : RegionId) → Held logs lane i k from y → Held logs lane i l of z → k ≡ l
+  pub held-once : (i k l : ℕ) (from of : Source) (y z : RegionId) → Held logs lane i k from y → Held logs lane i l of z
+      → k ≡ l
   held-once i k l from of y z p q = one-out (map (entry_of logs) (of_lane logs lane)) i k l from of y z p.pair q.pair

@@ -55,10 +55,13 @@ empties-move Dropped y _ e = absurd e
 
 -- what a step makes of an empty hand, and of a full one
 abbrev pub FromEmpty : Option RegionId → Option Did → Hand → Type 0
-FromEmpty t d k = ((moving d ≡ false) × (k ≡ None)) ⊎ ((did : Did) × (d ≡ Some did) × (from : Source) × (y : RegionId) × Fills from y t did × (k ≡ Some (from, y)))
+FromEmpty t d k =
+    ((moving d ≡ false) × (k ≡ None))
+    ⊎ ((did : Did) × (d ≡ Some did) × (from : Source) × (y : RegionId) × Fills from y t did × (k ≡ Some (from, y)))
 
 abbrev pub FromFull : Source → RegionId → Option Did → Hand → Type 0
-FromFull from y d k = ((moving d ≡ false) × (k ≡ Some (from, y))) ⊎ ((did : Did) × (d ≡ Some did) × Empties from y did × (k ≡ None))
+FromFull from y d k =
+    ((moving d ≡ false) × (k ≡ Some (from, y))) ⊎ ((did : Did) × (d ≡ Some did) × Empties from y did × (k ≡ None))
 
 pub from-empty : (t : Option RegionId) (d : Option Did) (k : Hand) → hand_if None t d ≡ Some k → FromEmpty t d k
 from-empty t None k e = inl (refl, sym (cc e))
@@ -76,22 +79,27 @@ pub emptied : (test : Bool) (k : Hand) → (if test then Some None else None) �
 emptied true k e = (refl, sym (cc e))
 emptied false k e = absurd (cc e)
 
-pub from-full : (from : Source) (y : RegionId) (t : Option RegionId) (d : Option Did) (k : Hand) → hand_if (Some (from, y)) t d ≡ Some k → FromFull from y d k
+pub from-full : (from : Source) (y : RegionId) (t : Option RegionId) (d : Option Did) (k : Hand)
+    → hand_if (Some (from, y)) t d ≡ Some k → FromFull from y d k
 from-full from y t None k e = inl (refl, sym (cc e))
 from-full from y t (Some (Take c x)) k e = absurd (cc e)
 from-full from y t (Some (Hit x)) k e = absurd (cc e)
 from-full from y t (Some (Shed x)) k e = absurd (cc e)
 from-full from y (Some z) (Some (End root)) k e = absurd (cc e)
 from-full from y None (Some (End root)) k e = absurd (cc e)
-from-full Got y t (Some (Birth root x)) k e = let r = emptied (same_region x (one_more y)) k e in inr (Birth root x, refl, same_region-is x (one_more y) r.0, r.1)
+from-full Got y t (Some (Birth root x)) k e =
+    let r = emptied (same_region x (one_more y)) k e in inr (Birth root x, refl, same_region-is x (one_more y) r.0, r.1)
 from-full Ended y t (Some (Birth root x)) k e = absurd (cc e)
 from-full Dropped y t (Some (Birth root x)) k e = absurd (cc e)
 from-full Got y t (Some (Kept x)) k e = absurd (cc e)
-from-full Ended y t (Some (Kept x)) k e = let r = emptied (same_region y x) k e in inr (Kept x, refl, sym (same_region-is y x r.0), r.1)
+from-full Ended y t (Some (Kept x)) k e =
+    let r = emptied (same_region y x) k e in inr (Kept x, refl, sym (same_region-is y x r.0), r.1)
 from-full Dropped y t (Some (Kept x)) k e = absurd (cc e)
 from-full Got y t (Some (Give x)) k e = absurd (cc e)
-from-full Ended y t (Some (Give x)) k e = let r = emptied (same_region y x) k e in inr (Give x, refl, sym (same_region-is y x r.0), r.1)
-from-full Dropped y t (Some (Give x)) k e = let r = emptied (same_region y x) k e in inr (Give x, refl, sym (same_region-is y x r.0), r.1)
+from-full Ended y t (Some (Give x)) k e =
+    let r = emptied (same_region y x) k e in inr (Give x, refl, sym (same_region-is y x r.0), r.1)
+from-full Dropped y t (Some (Give x)) k e =
+    let r = emptied (same_region y x) k e in inr (Give x, refl, sym (same_region-is y x r.0), r.1)
 from-full from y t (Some _) k e = inl (refl, sym (cc e))
 
 -- a note that comes into the hand at one place, and the next that moves a region, which puts it down
@@ -124,7 +132,8 @@ pub record Next (es : Entries) (from : Source) (y : RegionId) : Type 0 where
   pub out : Out es at from y
   pub still : (m : ℕ) (e : Entry) → m < at → slice_get es m ≡ Some e → moving (did_of e.note) ≡ false
 
-pub next-out : (es : Entries) (from : Source) (y : RegionId) → hand_after (Some (from, y)) es ≡ Some None → Next es from y
+pub next-out : (es : Entries) (from : Source) (y : RegionId) → hand_after (Some (from, y)) es ≡ Some None
+    → Next es from y
 next-out [] from y h = absurd (cc h)
 next-out (e ∷ es) from y h =
     let s = bind-some (hand_step (Some (from, y)) e) (λ k. hand_after k es) None h in
@@ -133,13 +142,19 @@ next-out (e ∷ es) from y h =
     let r : Next es from y = next-out es from y (ap (λ k. hand_after k es) (sym quiet.1) ∙ s.2) in
     record {
       at = suc r.at;
-      out = record { entry = r.out.entry; there = r.out.there; did = r.out.did; is = r.out.is; empties = r.out.empties };
+      out =
+          record { entry = r.out.entry; there = r.out.there; did = r.out.did; is = r.out.is; empties = r.out.empties };
       still = λ m x. below m x quiet.0 r;
     })
-    (λ moved. record { at = 0; out = record { entry = e; there = refl; did = moved.0; is = moved.1; empties = moved.2 }; still = λ m x less. absurd (omega (arith, less)) })
+    (λ moved. record {
+      at = 0;
+      out = record { entry = e; there = refl; did = moved.0; is = moved.1; empties = moved.2 };
+      still = λ m x less. absurd (omega (arith, less));
+    })
     (from-full from y e.region (did_of e.note) s.0 s.1)
   where
-    below : (m : ℕ) (x : Entry) → moving (did_of e.note) ≡ false → (r : Next es from y) → m < suc r.at → slice_get (e ∷ es) m ≡ Some x → moving (did_of x.note) ≡ false
+    below : (m : ℕ) (x : Entry) → moving (did_of e.note) ≡ false → (r : Next es from y) → m < suc r.at
+        → slice_get (e ∷ es) m ≡ Some x → moving (did_of x.note) ≡ false
     below zero x quiet r less is = let same : e ≡ x = cc is in ap (λ y. moving (did_of y.note)) (sym same) ∙ quiet
     below (suc m) x quiet r less is = r.still m x (omega (arith, less)) is
 
@@ -147,11 +162,14 @@ pub compare : (a b : ℕ) → (a < b) ⊎ ((a ≡ b) ⊎ (b < a))
 compare a b = grind arith
 
 -- behind an entry
-pub later-pair : (e : Entry) (es : Entries) (j k : ℕ) (from : Source) (y : RegionId) → Pair es j k from y → Pair (e ∷ es) (suc j) (suc k) from y
+pub later-pair : (e : Entry) (es : Entries) (j k : ℕ) (from : Source) (y : RegionId) → Pair es j k from y
+    → Pair (e ∷ es) (suc j) (suc k) from y
 later-pair e es j k from y p =
     record {
-      into = record { entry = p.into.entry; there = p.into.there; did = p.into.did; is = p.into.is; fills = p.into.fills };
-      out = record { entry = p.out.entry; there = p.out.there; did = p.out.did; is = p.out.is; empties = p.out.empties };
+      into =
+          record { entry = p.into.entry; there = p.into.there; did = p.into.did; is = p.into.is; fills = p.into.fills };
+      out =
+          record { entry = p.out.entry; there = p.out.there; did = p.out.did; is = p.out.is; empties = p.out.empties };
       order = omega (arith, p.order);
       still = between;
     }
@@ -160,11 +178,13 @@ later-pair e es j k from y p =
     between zero x low high is = absurd (omega (arith, low))
     between (suc m) x low high is = p.still m x (omega (arith, low)) (omega (arith, high)) is
 
-pub first-pair : (e : Entry) (es : Entries) (did : Did) (from : Source) (y : RegionId) → did_of e.note ≡ Some did → Fills from y e.region did → (r : Next es from y) → Pair (e ∷ es) 0 (suc r.at) from y
+pub first-pair : (e : Entry) (es : Entries) (did : Did) (from : Source) (y : RegionId) → did_of e.note ≡ Some did
+    → Fills from y e.region did → (r : Next es from y) → Pair (e ∷ es) 0 (suc r.at) from y
 first-pair e es did from y is fills r =
     record {
       into = record { entry = e; there = refl; did = did; is = is; fills = fills };
-      out = record { entry = r.out.entry; there = r.out.there; did = r.out.did; is = r.out.is; empties = r.out.empties };
+      out =
+          record { entry = r.out.entry; there = r.out.there; did = r.out.did; is = r.out.is; empties = r.out.empties };
       order = omega arith;
       still = between;
     }
@@ -214,26 +234,38 @@ pub record Onward (es : Entries) (j : ℕ) : Type 0 where
   pub region : RegionId
   pub pair : Pair es j to from region
 
-pub pair-from : (es : Entries) (h : Hand) (j : ℕ) (x : Entry) (d : Did) → hand_after h es ≡ Some None → slice_get es j ≡ Some x → did_of x.note ≡ Some d → IsIn d → Onward es j
+pub pair-from : (es : Entries) (h : Hand) (j : ℕ) (x : Entry) (d : Did) → hand_after h es ≡ Some None
+    → slice_get es j ≡ Some x → did_of x.note ≡ Some d → IsIn d → Onward es j
 pair-from [] h j x d run is did kind = absurd (cc is)
 pair-from (e ∷ es) h zero x d run is did kind =
     let s = bind-some (hand_step h e) (λ k. hand_after k es) None run in
     let same : e ≡ x = cc is in
-    go h (did_of e.note) (ap (λ y. did_of y.note) same ∙ did) s.0 s.1 s.2 (λ y z. first-pair e es d y z (ap (λ w. did_of w.note) same ∙ did))
+    go h (did_of e.note) (ap (λ y. did_of y.note) same ∙ did) s.0 s.1 s.2
+    (λ y z. first-pair e es d y z (ap (λ w. did_of w.note) same ∙ did))
   where
-    go : (h : Hand) (o : Option Did) → o ≡ Some d → (k : Hand) → hand_if h e.region o ≡ Some k → hand_after k es ≡ Some None → ((from : Source) (y : RegionId) → Fills from y e.region d → (r : Next es from y) → Pair (e ∷ es) 0 (suc r.at) from y) → Onward (e ∷ es) 0
+    go : (h : Hand) (o : Option Did) → o ≡ Some d → (k : Hand) → hand_if h e.region o ≡ Some k
+        → hand_after k es ≡ Some None → ((from : Source) (y : RegionId) → Fills from y e.region d → (r : Next es from y)
+        → Pair (e ∷ es) 0 (suc r.at) from y) → Onward (e ∷ es) 0
     go None o o_is k step rest make =
         ⊎_elim
         (λ quiet. absurd (no-both (moving o) (ap moving o_is ∙ in-moves d kind) quiet.0))
         (λ filled.
         let did_is : filled.0 ≡ d = same-some filled.0 d (sym filled.1 ∙ o_is) in
-        let r : Next es filled.2 filled.3 = next-out es filled.2 filled.3 (ap (λ k. hand_after k es) (sym filled.5) ∙ rest) in
-        record { to = suc r.at; from = filled.2; region = filled.3; pair = make filled.2 filled.3 (subst (Fills filled.2 filled.3 e.region) did_is filled.4) r })
+        let r : Next es filled.2 filled.3 = next-out es filled.2 filled.3
+        (ap (λ k. hand_after k es) (sym filled.5) ∙ rest) in
+        record {
+          to = suc r.at;
+          from = filled.2;
+          region = filled.3;
+          pair =
+              make filled.2 filled.3 (subst (Fills filled.2 filled.3 e.region) did_is filled.4) r;
+        })
         (from-empty e.region o k step)
     go (Some held) o o_is k step rest make =
         ⊎_elim
         (λ quiet. absurd (no-both (moving o) (ap moving o_is ∙ in-moves d kind) quiet.0))
-        (λ moved. absurd (in-not_out held.0 held.1 d kind (subst (Empties held.0 held.1) (same-some moved.0 d (sym moved.1 ∙ o_is)) moved.2)))
+        (λ moved. absurd (in-not_out held.0 held.1 d kind
+        (subst (Empties held.0 held.1) (same-some moved.0 d (sym moved.1 ∙ o_is)) moved.2)))
         (from-full held.0 held.1 e.region o k step)
 pair-from (e ∷ es) h (suc j) x d run is did kind =
     let s = bind-some (hand_step h e) (λ k. hand_after k es) None run in
@@ -254,7 +286,8 @@ pub record AtFirst (es : Entries) (h : Hand) (k : ℕ) : Type 0 where
   pub out : Out es k from region
   pub still : (m : ℕ) (e : Entry) → m < k → slice_get es m ≡ Some e → moving (did_of e.note) ≡ false
 
-pub pair-to : (es : Entries) (h : Hand) (k : ℕ) (x : Entry) (d : Did) → hand_after h es ≡ Some None → slice_get es k ≡ Some x → did_of x.note ≡ Some d → IsOut d → AtFirst es h k ⊎ Before es k
+pub pair-to : (es : Entries) (h : Hand) (k : ℕ) (x : Entry) (d : Did) → hand_after h es ≡ Some None
+    → slice_get es k ≡ Some x → did_of x.note ≡ Some d → IsOut d → AtFirst es h k ⊎ Before es k
 pair-to [] h k x d run is did kind = absurd (cc is)
 pair-to (e ∷ es) h zero x d run is did kind =
     let s = bind-some (hand_step h e) (λ k. hand_after k es) None run in
@@ -262,25 +295,42 @@ pair-to (e ∷ es) h zero x d run is did kind =
     let here : did_of e.note ≡ Some d = ap (λ y. did_of y.note) same ∙ did in
     go h s.0 s.1 here
   where
-    go : (h : Hand) (k : Hand) → hand_step h e ≡ Some k → did_of e.note ≡ Some d → AtFirst (e ∷ es) h 0 ⊎ Before (e ∷ es) 0
+    go : (h : Hand) (k : Hand) → hand_step h e ≡ Some k → did_of e.note ≡ Some d
+        → AtFirst (e ∷ es) h 0 ⊎ Before (e ∷ es) 0
     go None k step here =
         ⊎_elim
         (λ quiet. absurd (no-both (moving (did_of e.note)) (ap moving here ∙ out-moves d kind) quiet.0))
-        (λ filled. absurd (out-not_in filled.2 filled.3 e.region d kind (subst (Fills filled.2 filled.3 e.region) (same-some filled.0 d (sym filled.1 ∙ here)) filled.4)))
+        (λ filled. absurd (out-not_in filled.2 filled.3 e.region d kind
+        (subst (Fills filled.2 filled.3 e.region) (same-some filled.0 d (sym filled.1 ∙ here)) filled.4)))
         (from-empty e.region (did_of e.note) k step)
     go (Some held) k step here =
         ⊎_elim
         (λ quiet. absurd (no-both (moving (did_of e.note)) (ap moving here ∙ out-moves d kind) quiet.0))
-        (λ moved. inl (record { from = held.0; region = held.1; held = refl; out = record { entry = e; there = refl; did = moved.0; is = moved.1; empties = moved.2 }; still = λ m y less. absurd (omega (arith, less)) }))
+        (λ moved. inl (record {
+          from = held.0;
+          region = held.1;
+          held = refl;
+          out =
+              record { entry = e; there = refl; did = moved.0; is = moved.1; empties = moved.2 };
+          still =
+              λ m y less. absurd (omega (arith, less));
+        }))
         (from-full held.0 held.1 e.region (did_of e.note) k step)
 pair-to (e ∷ es) h (suc k) x d run is did kind =
     let s = bind-some (hand_step h e) (λ k. hand_after k es) None run in
     ⊎_elim
     (λ first. go h s.0 s.1 first)
-    (λ before. inr (record { at = suc before.at; from = before.from; region = before.region; pair = later-pair e es before.at k before.from before.region before.pair }))
+    (λ before. inr (record {
+      at = suc before.at;
+      from = before.from;
+      region = before.region;
+      pair =
+          later-pair e es before.at k before.from before.region before.pair;
+    }))
     (pair-to es s.0 k x d s.2 is did kind)
   where
-    below : moving (did_of e.note) ≡ false → (l : Hand) → (f : AtFirst es l k) → (m : ℕ) (y : Entry) → m < suc k → slice_get (e ∷ es) m ≡ Some y → moving (did_of y.note) ≡ false
+    below : moving (did_of e.note) ≡ false → (l : Hand) → (f : AtFirst es l k) → (m : ℕ) (y : Entry) → m < suc k
+        → slice_get (e ∷ es) m ≡ Some y → moving (did_of y.note) ≡ false
     below quiet l f zero y less is = let same : e ≡ y = cc is in ap (λ z. moving (did_of z.note)) (sym same) ∙ quiet
     below quiet l f (suc m) y less is = f.still m y (omega (arith, less)) is
 
@@ -292,24 +342,44 @@ pair-to (e ∷ es) h (suc k) x d run is did kind =
         ⊎_elim
         (λ quiet. let none : ◌≡◌ {A = Hand} None (Some (f.from, f.region)) = sym quiet.1 ∙ f.held in absurd (cc none))
         (λ filled.
-        let same : ◌≡◌ {A = Source × RegionId} (filled.2, filled.3) (f.from, f.region) = same-some (filled.2, filled.3) (f.from, f.region) (sym filled.5 ∙ f.held) in
-        let fills : Fills f.from f.region e.region filled.0 = subst (λ p. Fills p.0 p.1 e.region filled.0) same filled.4 in
-        inr (record { at = 0; from = f.from; region = f.region; pair = first-pair e es filled.0 f.from f.region filled.1 fills (record { at = k; out = f.out; still = f.still }) }))
+        let same : ◌≡◌ {A = Source × RegionId} (filled.2, filled.3) (f.from, f.region) =
+        same-some (filled.2, filled.3) (f.from, f.region) (sym filled.5 ∙ f.held) in
+        let fills : Fills f.from f.region e.region filled.0 =
+        subst (λ p. Fills p.0 p.1 e.region filled.0) same filled.4 in
+        inr (record {
+          at = 0;
+          from = f.from;
+          region = f.region;
+          pair =
+              first-pair e es filled.0 f.from f.region filled.1 fills (record { at = k; out = f.out; still = f.still });
+        }))
         (from-empty e.region (did_of e.note) l step)
     go (Some held) l step f =
         ⊎_elim
         (λ quiet.
-        inl (record { from = f.from; region = f.region; held = sym quiet.1 ∙ f.held; out = outward f.from f.region f.out; still = below quiet.0 l f }))
+        inl (record {
+          from = f.from;
+          region = f.region;
+          held = sym quiet.1
+              ∙ f.held;
+          out = outward f.from f.region f.out;
+          still = below quiet.0 l f;
+        }))
         (λ moved. let none : ◌≡◌ {A = Hand} None (Some (f.from, f.region)) = sym moved.3 ∙ f.held in absurd (cc none))
         (from-full held.0 held.1 e.region (did_of e.note) l step)
 
 -- a note comes into the hand for one note that puts it down
-pub one-out : (es : Entries) (j k l : ℕ) (from of : Source) (y z : RegionId) → Pair es j k from y → Pair es j l of z → k ≡ l
+pub one-out : (es : Entries) (j k l : ℕ) (from of : Source) (y z : RegionId) → Pair es j k from y → Pair es j l of z
+    → k ≡ l
 one-out es j k l from of y z p q =
     ⊎_elim
-    (λ less. absurd (no-both (moving (did_of p.out.entry.note)) (ap moving p.out.is ∙ empties-move from y p.out.did p.out.empties) (q.still k p.out.entry p.order less p.out.there)))
+    (λ less. absurd (no-both (moving (did_of p.out.entry.note))
+    (ap moving p.out.is ∙ empties-move from y p.out.did p.out.empties)
+    (q.still k p.out.entry p.order less p.out.there)))
     (λ o. ⊎_elim
     (λ same. same)
-    (λ more. absurd (no-both (moving (did_of q.out.entry.note)) (ap moving q.out.is ∙ empties-move of z q.out.did q.out.empties) (p.still l q.out.entry q.order more q.out.there)))
+    (λ more. absurd (no-both (moving (did_of q.out.entry.note))
+    (ap moving q.out.is ∙ empties-move of z q.out.did q.out.empties)
+    (p.still l q.out.entry q.order more q.out.there)))
     o)
     (compare k l)

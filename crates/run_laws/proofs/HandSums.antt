@@ -18,7 +18,8 @@ pub next-same : (a b : ℕ) → ((a + 1) == (b + 1)) ≡ (a == b)
 next-same a b =
     cond_both {A = ℕ} (a == b) 1 0 (λ _. ((a + 1) == (b + 1)) ≡ (a == b))
     (λ same. eq-eqb (a + 1) (b + 1) (omega (arith, eqb-true a b same)) ∙ sym same)
-    (λ other. ne_eqb (a + 1) (b + 1) (λ e. let both : true ≡ false = sym (eq-eqb a b (omega (arith, e))) ∙ other in cc both) ∙ sym other)
+    (λ other. ne_eqb (a + 1) (b + 1)
+    (λ e. let both : true ≡ false = sym (eq-eqb a b (omega (arith, e))) ∙ other in cc both) ∙ sym other)
 
 pub more-same : (r x : RegionId) → same_region (one_more r) (one_more x) ≡ same_region r x
 more-same r x = ap (λ b. same_taking r x && b) (next-same r.uses x.uses)
@@ -41,24 +42,33 @@ Balanced r h k t d =
     (fresh r h + got_by r t d ≡ used_by r t d + fresh r k)
     × (old r h + (ended_by r t d + shed_by r t d) ≡ kept_by r t d + given_by r t d + old r k)
 
-pub step-balanced : (r : RegionId) (h k : Hand) (t : Option RegionId) (d : Did) → hand_by h t d ≡ Some k → Balanced r h k t d
-step-balanced r None k t (Take class x) e = let same : Some (Got, x) ≡ k = cc e in subst (λ y. Balanced r None y t (Take class x)) same (omega arith, omega arith)
+pub step-balanced : (r : RegionId) (h k : Hand) (t : Option RegionId) (d : Did) → hand_by h t d ≡ Some k
+    → Balanced r h k t d
+step-balanced r None k t (Take class x) e =
+    let same : Some (Got, x) ≡ k = cc e in
+    subst (λ y. Balanced r None y t (Take class x)) same (omega arith, omega arith)
 step-balanced r (Some held) k t (Take class x) e = absurd (cc e)
-step-balanced r None k t (Hit x) e = let same : Some (Got, x) ≡ k = cc e in subst (λ y. Balanced r None y t (Hit x)) same (omega arith, omega arith)
+step-balanced r None k t (Hit x) e =
+    let same : Some (Got, x) ≡ k = cc e in subst (λ y. Balanced r None y t (Hit x)) same (omega arith, omega arith)
 step-balanced r (Some held) k t (Hit x) e = absurd (cc e)
-step-balanced r None k t (Shed x) e = let same : Some (Dropped, x) ≡ k = cc e in subst (λ y. Balanced r None y t (Shed x)) same (omega arith, omega arith)
+step-balanced r None k t (Shed x) e =
+    let same : Some (Dropped, x) ≡ k = cc e in subst (λ y. Balanced r None y t (Shed x)) same (omega arith, omega arith)
 step-balanced r (Some held) k t (Shed x) e = absurd (cc e)
 step-balanced r None k None (End root) e = absurd (cc e)
-step-balanced r None k (Some x) (End root) e = let same : Some (Ended, x) ≡ k = cc e in subst (λ y. Balanced r None y (Some x) (End root)) same (omega arith, omega arith)
+step-balanced r None k (Some x) (End root) e =
+    let same : Some (Ended, x) ≡ k = cc e in
+    subst (λ y. Balanced r None y (Some x) (End root)) same (omega arith, omega arith)
 step-balanced r (Some held) k None (End root) e = absurd (cc e)
 step-balanced r (Some held) k (Some x) (End root) e = absurd (cc e)
 step-balanced r None k t (Birth root x) e = absurd (cc e)
 step-balanced r (Some (Got, y)) k t (Birth root x) e =
-    cond_both (same_region x (one_more y)) (Some None) None (λ z. z ≡ Some k → Balanced r (Some (Got, y)) k t (Birth root x))
+    cond_both (same_region x (one_more y)) (Some None) None
+    (λ z. z ≡ Some k → Balanced r (Some (Got, y)) k t (Birth root x))
     (λ test is.
     let none : None ≡ k = cc is in
     let x_is : x ≡ one_more y = same_region-is x (one_more y) test in
-    let count : one_of (same_region (one_more r) x) ≡ one_of (same_region r y) = ap (λ v. one_of (same_region (one_more r) v)) x_is ∙ ap one_of (more-same r y) in
+    let count : one_of (same_region (one_more r) x)
+    ≡ one_of (same_region r y) = ap (λ v. one_of (same_region (one_more r) v)) x_is ∙ ap one_of (more-same r y) in
     subst (λ v. Balanced r (Some (Got, y)) v t (Birth root x)) none (omega (arith, count), omega arith))
     (λ _ is. absurd (cc is)) e
 step-balanced r (Some (Ended, y)) k t (Birth root x) e = absurd (cc e)
@@ -69,7 +79,8 @@ step-balanced r (Some (Ended, y)) k t (Kept x) e =
     cond_both (same_region y x) (Some None) None (λ z. z ≡ Some k → Balanced r (Some (Ended, y)) k t (Kept x))
     (λ test is.
     let none : None ≡ k = cc is in
-    let count : one_of (same_region r y) ≡ one_of (same_region r x) = ap (λ v. one_of (same_region r v)) (same_region-is y x test) in
+    let count : one_of (same_region r y) ≡ one_of (same_region r x) =
+    ap (λ v. one_of (same_region r v)) (same_region-is y x test) in
     subst (λ v. Balanced r (Some (Ended, y)) v t (Kept x)) none (omega arith, omega (arith, count)))
     (λ _ is. absurd (cc is)) e
 step-balanced r (Some (Dropped, y)) k t (Kept x) e = absurd (cc e)
@@ -79,35 +90,57 @@ step-balanced r (Some (Ended, y)) k t (Give x) e =
     cond_both (same_region y x) (Some None) None (λ z. z ≡ Some k → Balanced r (Some (Ended, y)) k t (Give x))
     (λ test is.
     let none : None ≡ k = cc is in
-    let count : one_of (same_region r y) ≡ one_of (same_region r x) = ap (λ v. one_of (same_region r v)) (same_region-is y x test) in
+    let count : one_of (same_region r y) ≡ one_of (same_region r x) =
+    ap (λ v. one_of (same_region r v)) (same_region-is y x test) in
     subst (λ v. Balanced r (Some (Ended, y)) v t (Give x)) none (omega arith, omega (arith, count)))
     (λ _ is. absurd (cc is)) e
 step-balanced r (Some (Dropped, y)) k t (Give x) e =
     cond_both (same_region y x) (Some None) None (λ z. z ≡ Some k → Balanced r (Some (Dropped, y)) k t (Give x))
     (λ test is.
     let none : None ≡ k = cc is in
-    let count : one_of (same_region r y) ≡ one_of (same_region r x) = ap (λ v. one_of (same_region r v)) (same_region-is y x test) in
+    let count : one_of (same_region r y) ≡ one_of (same_region r x) =
+    ap (λ v. one_of (same_region r v)) (same_region-is y x test) in
     subst (λ v. Balanced r (Some (Dropped, y)) v t (Give x)) none (omega arith, omega (arith, count)))
     (λ _ is. absurd (cc is)) e
-step-balanced r h k t _ e = let same : h ≡ k = cc e in subst (λ y. (fresh r h + 0 ≡ 0 + fresh r y) × (old r h + (0 + 0) ≡ 0 + 0 + old r y)) same (omega arith, omega arith)
+step-balanced r h k t _ e =
+    let same : h ≡ k = cc e in
+    subst (λ y. (fresh r h + 0 ≡ 0 + fresh r y) × (old r h + (0 + 0) ≡ 0 + 0 + old r y)) same (omega arith, omega arith)
 
 pub after-balanced : (r : RegionId) (es : Entries) (h k : Hand) → hand_after h es ≡ Some k →
     (fresh r h + tally (got_by r) es ≡ tally (used_by r) es + fresh r k)
-    × (old r h + (tally (ended_by r) es + tally (shed_by r) es) ≡ tally (kept_by r) es + tally (given_by r) es + old r k)
-after-balanced r [] h k e = let same : h ≡ k = cc e in subst (λ y. (fresh r h + 0 ≡ 0 + fresh r y) × (old r h + (0 + 0) ≡ 0 + 0 + old r y)) same (omega arith, omega arith)
+    × (old r h + (tally (ended_by r) es + tally (shed_by r) es)
+    ≡ tally (kept_by r) es + tally (given_by r) es + old r k)
+after-balanced r [] h k e =
+    let same : h ≡ k = cc e in
+    subst (λ y. (fresh r h + 0 ≡ 0 + fresh r y) × (old r h + (0 + 0) ≡ 0 + 0 + old r y)) same (omega arith, omega arith)
 after-balanced r (e ∷ es) h k is =
-    let f : (m : Hand) × (hand_step h e ≡ Some m) × (hand_after m es ≡ Some k) = bind-some (hand_step h e) (λ m. hand_after m es) k is in
+    let f : (m : Hand) × (hand_step h e ≡ Some m) × (hand_after m es ≡ Some k) =
+    bind-some (hand_step h e) (λ m. hand_after m es) k is in
     go (did_of e.note) f.0 f.1 (after-balanced r es f.0 k f.2)
   where
     go : (o : Option Did) (m : Hand) → hand_if h e.region o ≡ Some m →
-        (fresh r m + tally (got_by r) es ≡ tally (used_by r) es + fresh r k) × (old r m + (tally (ended_by r) es + tally (shed_by r) es) ≡ tally (kept_by r) es + tally (given_by r) es + old r k) →
-        (fresh r h + (tally_if (got_by r) e.region o + tally (got_by r) es) ≡ (tally_if (used_by r) e.region o + tally (used_by r) es) + fresh r k)
-        × (old r h + ((tally_if (ended_by r) e.region o + tally (ended_by r) es) + (tally_if (shed_by r) e.region o + tally (shed_by r) es))
-        ≡ (tally_if (kept_by r) e.region o + tally (kept_by r) es) + (tally_if (given_by r) e.region o + tally (given_by r) es) + old r k)
-    go None m same rest = let hand : h ≡ m = cc same in subst (λ y. (fresh r y + (0 + tally (got_by r) es) ≡ (0 + tally (used_by r) es) + fresh r k) × (old r y + ((0 + tally (ended_by r) es) + (0 + tally (shed_by r) es)) ≡ (0 + tally (kept_by r) es) + (0 + tally (given_by r) es) + old r k)) (sym hand) (omega (arith, rest.0), omega (arith, rest.1))
-    go (Some d) m same rest = let b : Balanced r h m e.region d = step-balanced r h m e.region d same in (omega (arith, b.0, rest.0), omega (arith, b.1, rest.1))
+        (fresh r m + tally (got_by r) es ≡ tally (used_by r) es + fresh r k)
+        × (old r m + (tally (ended_by r) es + tally (shed_by r) es)
+        ≡ tally (kept_by r) es + tally (given_by r) es + old r k) →
+        (fresh r h + (tally_if (got_by r) e.region o + tally (got_by r) es)
+        ≡ (tally_if (used_by r) e.region o + tally (used_by r) es) + fresh r k)
+        × (old r h + ((tally_if (ended_by r) e.region o + tally (ended_by r) es)
+        + (tally_if (shed_by r) e.region o + tally (shed_by r) es))
+        ≡ (tally_if (kept_by r) e.region o + tally (kept_by r) es)
+        + (tally_if (given_by r) e.region o + tally (given_by r) es) + old r k)
+    go None m same rest =
+        let hand : h ≡ m = cc same in
+        subst (λ y. (fresh r y + (0 + tally (got_by r) es) ≡ (0 + tally (used_by r) es) + fresh r k)
+        × (old r y + ((0 + tally (ended_by r) es) + (0 + tally (shed_by r) es))
+        ≡ (0 + tally (kept_by r) es) + (0 + tally (given_by r) es) + old r k)) (sym hand)
+        (omega (arith, rest.0), omega (arith, rest.1))
+    go (Some d) m same rest =
+        let b : Balanced r h m e.region d = step-balanced r h m e.region d same in
+        (omega (arith, b.0, rest.0), omega (arith, b.1, rest.1))
 
 pub hands-balance : (r : RegionId) (es : Entries) → hand_after None es ≡ Some None → HandsBalance r es
 hands-balance r es e =
-    let b : (0 + tally (got_by r) es ≡ tally (used_by r) es + 0) × (0 + (tally (ended_by r) es + tally (shed_by r) es) ≡ tally (kept_by r) es + tally (given_by r) es + 0) = after-balanced r es None None e in
+    let b : (0 + tally (got_by r) es ≡ tally (used_by r) es + 0)
+    × (0 + (tally (ended_by r) es + tally (shed_by r) es) ≡ tally (kept_by r) es + tally (given_by r) es + 0) =
+    after-balanced r es None None e in
     record { used = omega (arith, b.0); put_down = omega (arith, b.1) }

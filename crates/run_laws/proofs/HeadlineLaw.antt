@@ -31,7 +31,8 @@ use Rattle.run_laws.proofs.ReadLaw.{reads-give_written}
 use Rattle.run_laws.proofs.RunLaws.{acts-of, parts-of, regions-live, regions-apart, roots-never_overlap, regions-return, arenas-end, caches-end_empty}
 
 -- a log that has a note is one of the logs
-pub log-there : {X : Type 0} (logs : List (List X)) (lane i : ℕ) (x : X) → slice_get (of_lane logs lane) i ≡ Some x → slice_get logs lane ≡ Some (of_lane logs lane)
+pub log-there : {X : Type 0} (logs : List (List X)) (lane i : ℕ) (x : X) → slice_get (of_lane logs lane) i ≡ Some x
+    → slice_get logs lane ≡ Some (of_lane logs lane)
 log-there [] lane i x e = absurd (cc e)
 log-there (log ∷ logs) zero i x e = refl
 log-there (log ∷ logs) (suc lane) i x e = log-there logs lane i x e
@@ -41,15 +42,18 @@ not-zero zero e none = absurd (cc e)
 not-zero (suc n) e none = absurd (omega (arith, none))
 
 module _ (shape : Shape) (logs : Logs) (holds : HistoriesPaged shape logs) (acts : LanesAct logs)
-    (parts : (lane : ℕ) → lane < length logs → Parts lane (map (entry_of logs) (of_lane logs lane))) (counts : CountsAgree (entries_of logs)) where
+    (parts : (lane : ℕ) → lane < length logs → Parts lane (map (entry_of logs) (of_lane logs lane)))
+    (counts : CountsAgree (entries_of logs)) where
   notes : StandInOneLog logs
   notes = stand-in_one_log shape logs holds acts parts counts
 
   -- a release ended the count of a root exactly where its total is 0
-  pub freed-dead : (root : RootId) (r : RegionId) → IsUse logs root r → Counted logs root RefDid.Ended → total_in logs root ≡ 0
+  pub freed-dead : (root : RootId) (r : RegionId) → IsUse logs root r → Counted logs root RefDid.Ended
+      → total_in logs root ≡ 0
   freed-dead root r u c = ended-dead shape logs holds acts parts counts root r u (notes.ended root c).end
 
-  pub dead-freed : (root : RootId) (r : RegionId) → IsUse logs root r → total_in logs root ≡ 0 → Counted logs root RefDid.Ended
+  pub dead-freed : (root : RootId) (r : RegionId) → IsUse logs root r → total_in logs root ≡ 0
+      → Counted logs root RefDid.Ended
   dead-freed root r u dead = (notes.end root (dead-ended shape logs holds acts parts counts root r u dead)).ended
 
   pub live-never_freed : LiveIsNeverFreed logs
@@ -58,30 +62,56 @@ module _ (shape : Shape) (logs : Logs) (holds : HistoriesPaged shape logs) (acts
   -- a root that ended before another was born was freed
   pub ends-freed : (first second : RootId) → EndsBefore logs first second → Counted logs first RefDid.Ended
   ends-freed first second before =
-      let is : slice_get (of_lane logs before.end.lane) before.end.at ≡ Some (At before.end.object before.end.number (End first)) = before.ended.0 ∙ ap (λ d. Some (At before.end.object before.end.number d)) before.ended.1 in
-      let here : before.end.object ≡ Object.Root first.place = note-placed shape logs holds acts before.end.lane before.end.at before.end.number before.end.object (End first) is in
-      (notes.end first (record { lane = before.end.lane; at = before.end.at; number = before.end.number; stands = is ∙ ap (λ o. Some (At o before.end.number (End first))) here })).ended
+      let is : slice_get (of_lane logs before.end.lane) before.end.at
+      ≡ Some (At before.end.object before.end.number (End first)) =
+      before.ended.0 ∙ ap (λ d. Some (At before.end.object before.end.number d)) before.ended.1 in
+      let here : before.end.object ≡ Object.Root first.place =
+      note-placed shape logs holds acts before.end.lane before.end.at before.end.number before.end.object
+      (End first) is in
+      (notes.end first (record {
+        lane = before.end.lane;
+        at = before.end.at;
+        number = before.end.number;
+        stands = is
+            ∙ ap (λ o. Some (At o before.end.number (End first))) here;
+      })).ended
 
   pub live-lie_apart : NeverOverlap logs → LiveLieApart logs
   live-lie_apart never first second a b u v alive living differ over =
-      ⊎_elim (λ before. alive (ends-freed first second before)) (λ before. living (ends-freed second first before)) (never first second a b u v differ over)
+      ⊎_elim (λ before. alive (ends-freed first second before)) (λ before. living (ends-freed second first before))
+      (never first second a b u v differ over)
 
   -- a root that is born in a log is used
-  pub birth-used : (lane n : ℕ) (root : RootId) → slice_get (births (of_lane logs lane)) n ≡ Some root → (r : RegionId) × IsUse logs root r
-  birth-used lane n root e = let f = birth-there (of_lane logs lane) n root e in (f.3, birth-use shape logs holds acts lane f.0 f.2 f.1 root f.3 f.4)
+  pub birth-used : (lane n : ℕ) (root : RootId) → slice_get (births (of_lane logs lane)) n ≡ Some root
+      → (r : RegionId) × IsUse logs root r
+  birth-used lane n root e =
+      let f = birth-there (of_lane logs lane) n root e in
+      (f.3, birth-use shape logs holds acts lane f.0 f.2 f.1 root f.3 f.4)
 
-  pub live-is : (lane n : ℕ) (root : RootId) → slice_get (births (of_lane logs lane)) n ≡ Some root → is_live logs root ≡ true → NeverFreed logs root
-  live-is lane n root e live = let u = birth-used lane n root e in (live-never_freed root u.0 u.1).0 (not-zero (total_in logs root) live)
+  pub live-is : (lane n : ℕ) (root : RootId) → slice_get (births (of_lane logs lane)) n ≡ Some root
+      → is_live logs root ≡ true → NeverFreed logs root
+  live-is lane n root e live =
+      let u = birth-used lane n root e in (live-never_freed root u.0 u.1).0 (not-zero (total_in logs root) live)
 
-  pub is-live : (lane n : ℕ) (root : RootId) → slice_get (births (of_lane logs lane)) n ≡ Some root → NeverFreed logs root → is_live logs root ≡ true
-  is-live lane n root e never = let u = birth-used lane n root e in ap not (ne_eqb (total_in logs root) 0 ((live-never_freed root u.0 u.1).1 never))
+  pub is-live : (lane n : ℕ) (root : RootId) → slice_get (births (of_lane logs lane)) n ≡ Some root
+      → NeverFreed logs root → is_live logs root ≡ true
+  is-live lane n root e never =
+      let u = birth-used lane n root e in
+      ap not (ne_eqb (total_in logs root) 0 ((live-never_freed root u.0 u.1).1 never))
 
 pub lists-leaks : (run : Run) → IsLegal run → ListsLeaks run
 lists-leaks run legal =
     record {
-      only = λ i leak e. only leak (leaks-only run.shape (logs_of run) 0 (logs_of run) i leak (ap (λ xs. slice_get xs i) (sym legal.leaks) ∙ e));
-      all = λ leak is. let r = leaks-all run.shape (logs_of run) 0 (logs_of run) leak (listed leak is) in (r.0, ap (λ xs. slice_get xs r.0) legal.leaks ∙ r.1);
-      order = λ i j a b e d. leaks-order run.shape (logs_of run) 0 (logs_of run) i j a b (ap (λ xs. slice_get xs i) (sym legal.leaks) ∙ e) (ap (λ xs. slice_get xs j) (sym legal.leaks) ∙ d);
+      only =
+          λ i leak e. only leak (leaks-only run.shape (logs_of run) 0 (logs_of run) i leak
+          (ap (λ xs. slice_get xs i) (sym legal.leaks) ∙ e));
+      all =
+          λ leak is. let r =
+          leaks-all run.shape (logs_of run) 0 (logs_of run) leak (listed leak is) in
+          (r.0, ap (λ xs. slice_get xs r.0) legal.leaks ∙ r.1);
+      order =
+          λ i j a b e d. leaks-order run.shape (logs_of run) 0 (logs_of run) i j a b
+          (ap (λ xs. slice_get xs i) (sym legal.leaks) ∙ e) (ap (λ xs. slice_get xs j) (sym legal.leaks) ∙ d);
     }
   where
     only : (leak : Leak) → Listed run.shape (logs_of run) 0 (logs_of run) leak → IsLeak run leak
@@ -90,15 +120,19 @@ lists-leaks run legal =
         let lane : leak.lane ≡ l.lane = ap (λ x. x.lane) r.told in
         let serial : leak.serial ≡ r.serial = ap (λ x. x.serial) r.told in
         let order : l.order ≡ leak.lane = omega (arith, lane, l.lane_is) in
-        let log : l.log ≡ of_lane (logs_of run) leak.lane = sym (ap (λ o. unwrap_or o []) (ap (slice_get (logs_of run)) (sym order) ∙ l.there)) in
-        let born : slice_get (births (of_lane (logs_of run) leak.lane)) r.order ≡ Some r.root = ap (λ x. slice_get (births x) r.order) (sym log) ∙ r.there in
+        let log : l.log ≡ of_lane (logs_of run) leak.lane =
+        sym (ap (λ o. unwrap_or o []) (ap (slice_get (logs_of run)) (sym order) ∙ l.there)) in
+        let born : slice_get (births (of_lane (logs_of run) leak.lane)) r.order
+        ≡ Some r.root = ap (λ x. slice_get (births x) r.order) (sym log) ∙ r.there in
         record {
           root = r.root;
           earlier = r.order;
           born = born;
           serial = omega (arith, serial, r.serial_is);
           sampled = subst (λ n. IsTrue (is_sampled run.shape.level run.shape.interval n)) (sym serial) r.sampled;
-          never_freed = live-is run.shape (logs_of run) (paged run legal) (acts-of run legal) (parts-of run legal) legal.counts leak.lane r.order r.root born r.live;
+          never_freed =
+              live-is run.shape (logs_of run) (paged run legal) (acts-of run legal) (parts-of run legal) legal.counts
+              leak.lane r.order r.root born r.live;
           told = r.told ∙ (λ k. leak_of run.shape.level (logs_of run) (sym lane k) (sym serial k) r.root);
         }
 
@@ -117,7 +151,9 @@ lists-leaks run legal =
             there = is.born;
             serial = leak.serial;
             serial_is = omega (arith, is.serial);
-            live = is-live run.shape (logs_of run) (paged run legal) (acts-of run legal) (parts-of run legal) legal.counts leak.lane is.earlier is.root is.born is.never_freed;
+            live =
+                is-live run.shape (logs_of run) (paged run legal) (acts-of run legal) (parts-of run legal) legal.counts
+                leak.lane is.earlier is.root is.born is.never_freed;
             sampled = is.sampled;
             told = is.told;
           };
@@ -130,10 +166,14 @@ headline-holds run legal =
       never_overlap = roots-never_overlap run legal;
       one_after_another = regions-live run legal;
       lie_apart = regions-apart run legal;
-      live_apart = live-lie_apart run.shape (logs_of run) (paged run legal) (acts-of run legal) (parts-of run legal) legal.counts (roots-never_overlap run legal);
+      live_apart =
+          live-lie_apart run.shape (logs_of run) (paged run legal) (acts-of run legal) (parts-of run legal) legal.counts
+          (roots-never_overlap run legal);
       reads = reads-give_written run legal;
       returns = regions-return run legal;
-      live = live-never_freed run.shape (logs_of run) (paged run legal) (acts-of run legal) (parts-of run legal) legal.counts;
+      live =
+          live-never_freed run.shape (logs_of run) (paged run legal) (acts-of run legal) (parts-of run legal)
+          legal.counts;
       out = arenas-end run legal;
       caches = caches-end_empty run legal;
       leaks = lists-leaks run legal;

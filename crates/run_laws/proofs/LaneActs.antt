@@ -40,11 +40,13 @@ use Rattle.run_laws.proofs.Acts.{IsStill, IsStep, IsQuiet, AreQuiet, Gets, PutsA
 use Rattle.std.proofs.lemmas.Bool.{cond_both}
 
 -- where a second step gave something, the first did
-pub bind-some : {A B : Type 0} (o : Option A) (f : A → Option B) (y : B) → option_and_then f o ≡ Some y → (x : A) × (o ≡ Some x) × (f x ≡ Some y)
+pub bind-some : {A B : Type 0} (o : Option A) (f : A → Option B) (y : B) → option_and_then f o ≡ Some y
+    → (x : A) × (o ≡ Some x) × (f x ≡ Some y)
 bind-some None f y e = absurd (cc e)
 bind-some (Some x) f y e = (x, refl, e)
 
-pub map-some : {A B : Type 0} (o : Option A) (f : A → B) (y : B) → option_map f o ≡ Some y → (x : A) × (o ≡ Some x) × (f x ≡ y)
+pub map-some : {A B : Type 0} (o : Option A) (f : A → B) (y : B) → option_map f o ≡ Some y
+    → (x : A) × (o ≡ Some x) × (f x ≡ y)
 map-some None f y e = absurd (cc e)
 map-some (Some x) f y e = (x, refl, cc e)
 
@@ -69,7 +71,8 @@ take-drop (suc n) (x ∷ xs) = ap (λ t. x ∷ t) (take-drop n xs)
 pub done_at-note : (o : Object) (n : Note) (d : Did) → done_at o n ≡ Some d → (k : ℕ) × (n ≡ At o k d)
 done_at-note o (At other k did) d e =
     cond_both (same_object o other) (Some did) None (λ z. z ≡ Some d → (j : ℕ) × (At other k did ≡ At o j d))
-    (λ test is. let same : did ≡ d = cc is in (k, λ i. At (sym (same_object-is o other test) i) k (same i))) (λ _ is. absurd (cc is)) e
+    (λ test is. let same : did ≡ d = cc is in (k, λ i. At (sym (same_object-is o other test) i) k (same i)))
+    (λ _ is. absurd (cc is)) e
 done_at-note o (Ref root did) d e = absurd (cc e)
 done_at-note o (Busy held) d e = absurd (cc e)
 
@@ -77,7 +80,8 @@ pub done_to-note : (r : RootId) (n : Note) (d : RefDid) → done_to r n ≡ Some
 done_to-note r (At other number did) d e = absurd (cc e)
 done_to-note r (Ref root did) d e =
     cond_both (same_root r root) (Some did) None (λ z. z ≡ Some d → Ref root did ≡ Ref r d)
-    (λ test is. let same : did ≡ d = cc is in λ i. Ref (sym (same_root-is r root test) i) (same i)) (λ _ is. absurd (cc is)) e
+    (λ test is. let same : did ≡ d = cc is in λ i. Ref (sym (same_root-is r root test) i) (same i))
+    (λ _ is. absurd (cc is)) e
 done_to-note r (Busy held) d e = absurd (cc e)
 
 pub marked-quiet : (P : Object → Did → Type 0) (o : Object) (n : Note) (k : ℕ) → marked o n ≡ Some k → IsQuiet P n
@@ -88,7 +92,8 @@ marked-quiet P o (Busy held) k e = tt
 -- ---- What is read.
 
 -- the next entry is read
-pub next-read : {A : Type 0} (read : Entry → Option A) (log : Log) (p : A × Log) → next read log ≡ Some p → (e : Entry) × (log.left ≡ e ∷ p.1.left) × (read e ≡ Some p.0)
+pub next-read : {A : Type 0} (read : Entry → Option A) (log : Log) (p : A × Log) → next read log ≡ Some p
+    → (e : Entry) × (log.left ≡ e ∷ p.1.left) × (read e ≡ Some p.0)
 next-read {A} read log p is = go log.left is
   where
     go : (es : Entries) → first_of_left read log es ≡ Some p → (e : Entry) × (es ≡ e ∷ p.1.left) × (read e ≡ Some p.0)
@@ -106,7 +111,8 @@ pub record NoteRead {A : Type 0} (o : Object) (says_it : Did → Option A) (es r
   pub is : entry.note ≡ At o number did
   pub said : says_it did ≡ Some a
 
-pub note-read : {A : Type 0} (o : Object) (says_it : Did → Option A) (log : Log) (p : A × Log) → note o says_it log ≡ Some p → NoteRead o says_it log.left p.1.left p.0
+pub note-read : {A : Type 0} (o : Object) (says_it : Did → Option A) (log : Log) (p : A × Log)
+    → note o says_it log ≡ Some p → NoteRead o says_it log.left p.1.left p.0
 note-read o says_it log p is =
     let n = next-read (λ e. option_and_then says_it (done_at o e.note)) log p is in
     let d = bind-some (done_at o n.0.note) says_it p.0 n.2 in
@@ -121,7 +127,8 @@ pub record StepRead {A : Type 0} (r : RootId) (says_it : RefDid → Option A) (e
   pub is : entry.note ≡ Ref r did
   pub said : says_it did ≡ Some a
 
-pub step-read : {A : Type 0} (r : RootId) (says_it : RefDid → Option A) (log : Log) (p : A × Log) → step r says_it log ≡ Some p → StepRead r says_it log.left p.1.left p.0
+pub step-read : {A : Type 0} (r : RootId) (says_it : RefDid → Option A) (log : Log) (p : A × Log)
+    → step r says_it log ≡ Some p → StepRead r says_it log.left p.1.left p.0
 step-read r says_it log p is =
     let n = next-read (λ e. option_and_then says_it (done_to r e.note)) log p is in
     let d = bind-some (done_to r n.0.note) says_it p.0 n.2 in
@@ -132,20 +139,29 @@ pub record AccessRead {A : Type 0} (r : RootId) (says_it : Did → Option A) (es
   pub read : NoteRead (Object.Root r.place) says_it es rest a
   pub root : read.entry.root ≡ Some r
 
-pub access-read : {A : Type 0} (r : RootId) (says_it : Did → Option A) (log : Log) (p : A × Log) → access r says_it log ≡ Some p → AccessRead r says_it log.left p.1.left p.0
+pub access-read : {A : Type 0} (r : RootId) (says_it : Did → Option A) (log : Log) (p : A × Log)
+    → access r says_it log ≡ Some p → AccessRead r says_it log.left p.1.left p.0
 access-read r says_it log p is =
-    let n = next-read (λ e. if root_is r e.root then option_and_then says_it (done_at (Object.Root r.place) e.note) else None) log p is in
-    let test = if-test (root_is r n.0.root) (option_and_then says_it (done_at (Object.Root r.place) n.0.note)) p.0 n.2 in
-    let d = bind-some (done_at (Object.Root r.place) n.0.note) says_it p.0 (if-some (root_is r n.0.root) (option_and_then says_it (done_at (Object.Root r.place) n.0.note)) p.0 n.2) in
+    let n = next-read (λ e. if root_is r e.root then option_and_then says_it (done_at (Object.Root r.place) e.note) else
+    None) log p is in
+    let test = if-test (root_is r n.0.root) (option_and_then says_it (done_at (Object.Root r.place) n.0.note)) p.0
+    n.2 in
+    let d = bind-some (done_at (Object.Root r.place) n.0.note) says_it p.0
+    (if-some (root_is r n.0.root) (option_and_then says_it (done_at (Object.Root r.place) n.0.note)) p.0 n.2) in
     let k = done_at-note (Object.Root r.place) n.0.note d.0 d.1 in
-    record { read = record { entry = n.0; number = k.0; did = d.0; are = n.1; is = k.1; said = d.2 }; root = present n.0.root test }
+    record {
+      read = record { entry = n.0; number = k.0; did = d.0; are = n.1; is = k.1; said = d.2 };
+      root =
+          present n.0.root test;
+    }
   where
     present : (o : Option RootId) → root_is r o ≡ true → o ≡ Some r
     present None e = absurd (cc e)
     present (Some x) e = ap (λ y. Some y) (same_root-is x r e)
 
 -- a region is given back
-pub give_back-read : (r : RegionId) (log : Log) (p : Unit {0} × Log) → give_back r log ≡ Some p → (e : Entry) × (k : ℕ) × (log.left ≡ e ∷ p.1.left) × (e.note ≡ At (Object.Arena r.place.arena) k (Give r))
+pub give_back-read : (r : RegionId) (log : Log) (p : Unit {0} × Log) → give_back r log ≡ Some p
+    → (e : Entry) × (k : ℕ) × (log.left ≡ e ∷ p.1.left) × (e.note ≡ At (Object.Arena r.place.arena) k (Give r))
 give_back-read r log p is =
     let n = note-read (Object.Arena r.place.arena) (says.give r) log p is in
     (n.entry, n.number, n.are, n.is ∙ ap (At (Object.Arena r.place.arena) n.number) (gives n.did p.0 n.said))
@@ -163,7 +179,8 @@ at_end-left log p is = go log.left is
     go (x ∷ xs) e = absurd (cc e)
 
 -- all that was left is read
-pub read_all-is : {A : Type 0} (r : Reader A) (log : Log) (p : A × Log) → read_all r log ≡ Some p → (r log ≡ Some p) × (p.1.left ≡ [])
+pub read_all-is : {A : Type 0} (r : Reader A) (log : Log) (p : A × Log) → read_all r log ≡ Some p
+    → (r log ≡ Some p) × (p.1.left ≡ [])
 read_all-is {A} r log p is =
     let x = bind-some (r log) (λ got. (at_end >> give got.0) got.1) p is in
     let y = bind-some (at_end x.0.1) (λ got. give x.0.0 got.1) p x.2 in
@@ -185,13 +202,15 @@ Keeps {A} R r = (log : Log) (p : A × Log) → r log ≡ Some p → R log.left p
 
 module _ {R : Entries → Entries → Type 0} (c : Chains R) where
   pub keeps-give : {A : Type 0} (a : A) → Keeps R (give a)
-  keeps-give {A} a log p is = let same : ◌≡◌ {A = A × Log} (a, log) p = cc is in subst (λ q. R log.left q.1.left) same (c.none log.left)
+  keeps-give {A} a log p is =
+      let same : ◌≡◌ {A = A × Log} (a, log) p = cc is in subst (λ q. R log.left q.1.left) same (c.none log.left)
 
   pub keeps-given : {A : Type 0} (o : Option A) → Keeps R (given o)
   keeps-given {A} None log p is = absurd (cc is)
   keeps-given {A} (Some a) log p is = keeps-give a log p is
 
-  pub keeps-bind : {A B : Type 0} (r : Reader A) (f : A → Reader B) → Keeps R r → ((a : A) → Keeps R (f a)) → Keeps R (r >>= f)
+  pub keeps-bind : {A B : Type 0} (r : Reader A) (f : A → Reader B) → Keeps R r → ((a : A) → Keeps R (f a))
+      → Keeps R (r >>= f)
   keeps-bind r f h k log p is =
       let x = bind-some (r log) (λ got. f got.0 got.1) p is in
       c.more log.left x.0.1.left p.1.left (h log x.0 x.1) (k x.0.0 x.0.1 p x.2)
@@ -207,34 +226,49 @@ module _ {R : Entries → Entries → Type 0} (c : Chains R) where
   keeps-if false r q h k = k
 
   pub keeps-count : (root : RootId) → Keeps R (count root)
-  keeps-count root log p is = let same : ◌≡◌ {A = ℕ × Log} (count_of root log.seen, log) p = cc is in subst (λ q. R log.left q.1.left) same (c.none log.left)
+  keeps-count root log p is =
+      let same : ◌≡◌ {A = ℕ × Log} (count_of root log.seen, log) p = cc is in
+      subst (λ q. R log.left q.1.left) same (c.none log.left)
 
   pub keeps-asks : Keeps R asks
-  keeps-asks log p is = let same : ◌≡◌ {A = ℕ × Log} (log.asked, log) p = cc is in subst (λ q. R log.left q.1.left) same (c.none log.left)
+  keeps-asks log p is =
+      let same : ◌≡◌ {A = ℕ × Log} (log.asked, log) p = cc is in subst (λ q. R log.left q.1.left) same (c.none log.left)
 
   pub keeps-asks_anew : Keeps R asks_anew
-  keeps-asks_anew log p is = let same : ◌≡◌ {A = Unit {0} × Log} (tt, record log { asked = 0 }) p = cc is in subst (λ q. R log.left q.1.left) same (c.none log.left)
+  keeps-asks_anew log p is =
+      let same : ◌≡◌ {A = Unit {0} × Log} (tt, record log { asked = 0 }) p = cc is in
+      subst (λ q. R log.left q.1.left) same (c.none log.left)
 
 module _ (P : Object → Did → Type 0) where
   pub acts-chain : Chains (Acts P)
-  acts-chain = record { none = λ es. no-acts es es refl; more = λ es mid rest a b. acts-then es mid rest a b; front = λ es rest a. acts-before es rest a }
+  acts-chain =
+      record {
+        none = λ es. no-acts es es refl;
+        more = λ es mid rest a b. acts-then es mid rest a b;
+        front =
+            λ es rest a. acts-before es rest a;
+      }
 
   -- ---- One quiet note.
 
-  pub note-acts : {A : Type 0} (o : Object) (says_it : Did → Option A) → ((d : Did) (a : A) → says_it d ≡ Some a → IsStill P o d) → Keeps (Acts P) (note o says_it)
+  pub note-acts : {A : Type 0} (o : Object) (says_it : Did → Option A)
+      → ((d : Did) (a : A) → says_it d ≡ Some a → IsStill P o d) → Keeps (Acts P) (note o says_it)
   note-acts o says_it still log p is =
       let n = note-read o says_it log p is in
       one-act (Act.Quiet n.entry (subst (IsQuiet P) (sym n.is) (still n.did p.0 n.said))) log.left p.1.left n.are
 
-  pub step-acts : {A : Type 0} (r : RootId) (says_it : RefDid → Option A) → ((d : RefDid) (a : A) → says_it d ≡ Some a → IsStep d) → Keeps (Acts P) (step r says_it)
+  pub step-acts : {A : Type 0} (r : RootId) (says_it : RefDid → Option A)
+      → ((d : RefDid) (a : A) → says_it d ≡ Some a → IsStep d) → Keeps (Acts P) (step r says_it)
   step-acts r says_it still log p is =
       let n = step-read r says_it log p is in
       one-act (Act.Quiet n.entry (subst (IsQuiet P) (sym n.is) (still n.did p.0 n.said))) log.left p.1.left n.are
 
-  pub access-acts : {A : Type 0} (r : RootId) (says_it : Did → Option A) → ((d : Did) (a : A) → says_it d ≡ Some a → IsStill P (Object.Root r.place) d) → Keeps (Acts P) (access r says_it)
+  pub access-acts : {A : Type 0} (r : RootId) (says_it : Did → Option A)
+      → ((d : Did) (a : A) → says_it d ≡ Some a → IsStill P (Object.Root r.place) d) → Keeps (Acts P) (access r says_it)
   access-acts r says_it still log p is =
       let n = access-read r says_it log p is in
-      one-act (Act.Quiet n.read.entry (subst (IsQuiet P) (sym n.read.is) (still n.read.did p.0 n.read.said))) log.left p.1.left n.read.are
+      one-act (Act.Quiet n.read.entry (subst (IsQuiet P) (sym n.read.is) (still n.read.did p.0 n.read.said))) log.left
+      p.1.left n.read.are
 
   pub busy-acts : (o : Object) → Keeps (Acts P) (busy o)
   busy-acts o log p is =
@@ -261,15 +295,31 @@ module _ (P : Object → Did → Type 0) where
 
   pub got-then : (r : Option RegionId) (es mid rest : Entries) → Acts P es mid → GotBy r mid rest → GotBy r es rest
   got-then None es mid rest a b = acts-then es mid rest a b
-  got-then (Some r) es mid rest a b = record { got = b.got; did = b.did; got_is = b.got_is; gets = b.gets; acts = acts-then es mid (b.got ∷ rest) a b.acts }
+  got-then (Some r) es mid rest a b =
+      record {
+        got = b.got;
+        did = b.did;
+        got_is = b.got_is;
+        gets = b.gets;
+        acts =
+            acts-then es mid (b.got ∷ rest) a b.acts;
+      }
 
-  pub found-got : (o : Object) (says_it : Did → Option RegionId) → ((d : Did) (r : RegionId) → says_it d ≡ Some r → Gets r d) → Obtains (found (note o says_it))
+  pub found-got : (o : Object) (says_it : Did → Option RegionId)
+      → ((d : Did) (r : RegionId) → says_it d ≡ Some r → Gets r d) → Obtains (found (note o says_it))
   found-got o says_it gets log p is =
       let x = bind-some (note o says_it log) (λ got. give (Some got.0) got.1) p is in
       let n = note-read o says_it log x.0 x.1 in
       let same : ◌≡◌ {A = Option RegionId × Log} (Some x.0.0, x.0.1) p = cc x.2 in
       subst (λ q. GotBy q.0 log.left q.1.left) same
-      (record { got = n.entry; did = n.did; got_is = record { object = o; number = n.number; is = n.is }; gets = gets n.did x.0.0 n.said; acts = no-acts log.left (n.entry ∷ x.0.1.left) n.are })
+      (record {
+        got = n.entry;
+        did = n.did;
+        got_is = record { object = o; number = n.number; is = n.is };
+        gets =
+            gets n.did x.0.0 n.said;
+        acts = no-acts log.left (n.entry ∷ x.0.1.left) n.are;
+      })
 
   pub not_found-got : {A : Type 0} (r : Reader A) → Keeps (Acts P) r → Obtains (not_found r)
   not_found-got r h log p is =
@@ -282,9 +332,11 @@ module _ (P : Object → Did → Type 0) where
 
   pub ask_arena-got : (shape : Shape) (lane class : ℕ) → Obtains (ask_arena shape lane class)
   ask_arena-got shape lane class =
-      or-got (found (note (Object.Arena (lane % shape.arenas)) (says.take class))) (not_found (note (Object.Arena (lane % shape.arenas)) (says.full class)))
+      or-got (found (note (Object.Arena (lane % shape.arenas)) (says.take class)))
+      (not_found (note (Object.Arena (lane % shape.arenas)) (says.full class)))
       (found-got (Object.Arena (lane % shape.arenas)) (says.take class) takes)
-      (not_found-got (note (Object.Arena (lane % shape.arenas)) (says.full class)) (note-acts (Object.Arena (lane % shape.arenas)) (says.full class) fulls))
+      (not_found-got (note (Object.Arena (lane % shape.arenas)) (says.full class))
+      (note-acts (Object.Arena (lane % shape.arenas)) (says.full class) fulls))
     where
       takes : (d : Did) (r : RegionId) → says.take class d ≡ Some r → Gets r d
       takes (Take other region) r e = if_so-is (class == other) region r e
@@ -296,7 +348,10 @@ module _ (P : Object → Did → Type 0) where
 
   pub ask_cache-got : (lane class : ℕ) → Obtains (ask_cache lane class)
   ask_cache-got lane class log p is =
-      let x = bind-some (ask log) (λ got. (found (note (Object.Cache lane class) says.hit) or (not_found (note (Object.Cache lane class) says.miss) or not_found (busy (Object.Cache lane class)))) got.1) p is in
+      let x = bind-some (ask log) (λ got.
+      (found (note (Object.Cache lane class) says.hit) or
+      (not_found (note (Object.Cache lane class) says.miss) or not_found (busy (Object.Cache lane class))))
+      got.1) p is in
       let same : ◌≡◌ {A = Unit {0} × Log} (tt, record log { asked = log.asked + 1 }) x.0 = cc x.1 in
       subst (λ l. GotBy p.0 l p.1.left) (ap (λ q. q.1.left) (sym same)) (asked x.0.1 p x.2)
     where
@@ -308,34 +363,49 @@ module _ (P : Object → Did → Type 0) where
       misses Miss u e = tt
       misses _ u e = absurd (cc e)
 
-      asked : Obtains (found (note (Object.Cache lane class) says.hit) or (not_found (note (Object.Cache lane class) says.miss) or not_found (busy (Object.Cache lane class))))
+      asked : Obtains (found (note (Object.Cache lane class) says.hit) or
+          (not_found (note (Object.Cache lane class) says.miss) or not_found (busy (Object.Cache lane class))))
       asked =
-          or-got (found (note (Object.Cache lane class) says.hit)) (not_found (note (Object.Cache lane class) says.miss) or not_found (busy (Object.Cache lane class)))
+          or-got (found (note (Object.Cache lane class) says.hit))
+          (not_found (note (Object.Cache lane class) says.miss) or not_found (busy (Object.Cache lane class)))
           (found-got (Object.Cache lane class) says.hit hits)
           (or-got (not_found (note (Object.Cache lane class) says.miss)) (not_found (busy (Object.Cache lane class)))
-          (not_found-got (note (Object.Cache lane class) says.miss) (note-acts (Object.Cache lane class) says.miss misses))
+          (not_found-got (note (Object.Cache lane class) says.miss)
+          (note-acts (Object.Cache lane class) says.miss misses))
           (not_found-got (busy (Object.Cache lane class)) (busy-acts (Object.Cache lane class))))
 
-  pub unless_there-got : (o : Option RegionId) (r : Reader (Option RegionId)) → Obtains r → (es : Entries) (log : Log) (p : Option RegionId × Log) → GotBy o es log.left → unless_there o r log ≡ Some p → GotBy p.0 es p.1.left
+  pub unless_there-got : (o : Option RegionId) (r : Reader (Option RegionId)) → Obtains r
+      → (es : Entries) (log : Log) (p : Option RegionId × Log) → GotBy o es log.left → unless_there o r log ≡ Some p
+      → GotBy p.0 es p.1.left
   unless_there-got None r h es log p got is = got-then p.0 es log.left p.1.left got (h log p is)
-  unless_there-got (Some region) r h es log p got is = let same : ◌≡◌ {A = Option RegionId × Log} (Some region, log) p = cc is in subst (λ q. GotBy q.0 es q.1.left) same got
+  unless_there-got (Some region) r h es log p got is =
+      let same : ◌≡◌ {A = Option RegionId × Log} (Some region, log) p = cc is in
+      subst (λ q. GotBy q.0 es q.1.left) same got
 
   pub obtain-got : (shape : Shape) (lane class : ℕ) → Obtains (obtain shape lane class)
   obtain-got shape lane class log p is =
-      let x = bind-some ((if has_cache class then ask_cache lane class else give None) log) (λ got. unless_there got.0 (ask_arena shape lane class) got.1) p is in
+      let x = bind-some ((if has_cache class then ask_cache lane class else give None) log)
+      (λ got. unless_there got.0 (ask_arena shape lane class) got.1) p is in
       unless_there-got x.0.0 (ask_arena shape lane class) (ask_arena-got shape lane class) log.left x.0.1 p
-      (cond_both (has_cache class) (ask_cache lane class) (give None) Obtains (λ _. ask_cache-got lane class) (λ _. none) log x.0 x.1) x.2
+      (cond_both (has_cache class) (ask_cache lane class) (give None) Obtains (λ _. ask_cache-got lane class)
+      (λ _. none) log x.0 x.1) x.2
     where
       none : Obtains (give None)
-      none log p is = let same : ◌≡◌ {A = Option RegionId × Log} (None, log) p = cc is in subst (λ q. GotBy q.0 log.left q.1.left) same (no-acts log.left log.left refl)
+      none log p is =
+          let same : ◌≡◌ {A = Option RegionId × Log} (None, log) p = cc is in
+          subst (λ q. GotBy q.0 log.left q.1.left) same (no-acts log.left log.left refl)
 
   -- ---- A root is allotted.
 
-  pub birth-is : (place size : ℕ) (r : RegionId) (d : Did) (root : RootId) → says.birth place size r d ≡ Some root → d ≡ Birth root r
+  pub birth-is : (place size : ℕ) (r : RegionId) (d : Did) (root : RootId) → says.birth place size r d ≡ Some root
+      → d ≡ Birth root r
   birth-is place size r (Birth root' with) root e =
       let all = if_so-test ((root'.place == place) && ((root'.capacity == size) && same_region with r)) root' root e in
-      let same : root' ≡ root = if_so-is ((root'.place == place) && ((root'.capacity == size) && same_region with r)) root' root e in
-      let region : with ≡ r = same_region-is with r (and-second (root'.capacity == size) (same_region with r) (and-second (root'.place == place) ((root'.capacity == size) && same_region with r) all)) in
+      let same : root' ≡ root = if_so-is ((root'.place == place) && ((root'.capacity == size) && same_region with r))
+      root' root e in
+      let region : with ≡ r = same_region-is with r
+      (and-second (root'.capacity == size) (same_region with r)
+      (and-second (root'.place == place) ((root'.capacity == size) && same_region with r) all)) in
       λ i. Birth (same i) (region i)
   birth-is place size r _ root e = absurd (cc e)
 
@@ -359,14 +429,17 @@ module _ (P : Object → Did → Type 0) where
       still _ u e = absurd (cc e)
 
   -- a birth, or a handle that goes home
-  pub bear-acts : (lane place size : ℕ) (o : Option RegionId) (es : Entries) (log : Log) (p : Result New Reply × Log) → GotBy o es log.left → bear lane place size o log ≡ Some p → Acts P es p.1.left
+  pub bear-acts : (lane place size : ℕ) (o : Option RegionId) (es : Entries) (log : Log) (p : Result New Reply × Log)
+      → GotBy o es log.left → bear lane place size o log ≡ Some p → Acts P es p.1.left
   bear-acts lane place size None es log p got is =
       acts-then es log.left p.1.left got
-      (keeps-then acts-chain (note (Object.Bin lane) (says.home place)) (give (Err Reply.Full)) (home-acts (Object.Bin lane) place) (keeps-give acts-chain (Err Reply.Full)) log p is)
+      (keeps-then acts-chain (note (Object.Bin lane) (says.home place)) (give (Err Reply.Full))
+      (home-acts (Object.Bin lane) place) (keeps-give acts-chain (Err Reply.Full)) log p is)
   bear-acts lane place size (Some r) es log p got is =
       let b = bind-some (note (Object.Root place) (says.birth place size (one_more r)) log) _ p is in
       let s = bind-some (step b.0.0 says.born b.0.1) _ p b.2 in
-      let same : ◌≡◌ {A = Result New Reply × Log} (Ok (record { root = b.0.0; region = one_more r }), s.0.1) p = cc s.2 in
+      let same : ◌≡◌ {A = Result New Reply × Log} (Ok (record { root = b.0.0; region = one_more r }), s.0.1) p =
+      cc s.2 in
       let n = note-read (Object.Root place) (says.birth place size (one_more r)) log b.0 b.1 in
       let w = step-read b.0.0 says.born b.0.1 s.0 s.1 in
       let birthing : Birthing got.got n.entry w.entry =
@@ -376,25 +449,38 @@ module _ (P : Object → Did → Type 0) where
         did = got.did;
         got_is = got.got_is;
         gets = got.gets;
-        birth_is = record { object = Object.Root place; number = n.number; is = n.is ∙ ap (At (Object.Root place) n.number) (birth-is place size (one_more r) n.did b.0.0 n.said) };
+        birth_is =
+            record {
+              object = Object.Root place;
+              number = n.number;
+              is = n.is
+                  ∙ ap (At (Object.Root place) n.number) (birth-is place size (one_more r) n.did b.0.0 n.said);
+            };
         set_is = w.is ∙ ap (Ref b.0.0) (born-is w.did s.0.0 w.said);
       } in
       let there : log.left ≡ n.entry ∷ (w.entry ∷ s.0.1.left) = n.are ∙ ap (λ xs. n.entry ∷ xs) w.are in
       subst (λ q. Acts P es q.1.left) same
-      (acts-then es (got.got ∷ log.left) s.0.1.left got.acts (one-act (Act.Births got.got n.entry w.entry birthing) (got.got ∷ log.left) s.0.1.left (ap (λ xs. got.got ∷ xs) there)))
+      (acts-then es (got.got ∷ log.left) s.0.1.left got.acts
+      (one-act (Act.Births got.got n.entry w.entry birthing) (got.got ∷ log.left) s.0.1.left
+      (ap (λ xs. got.got ∷ xs) there)))
 
   pub with_handle-acts : (shape : Shape) (lane size place : ℕ) → Keeps (Acts P) (with_handle shape lane size place)
   with_handle-acts shape lane size place =
-      keeps-bind acts-chain (given (class_of (geometry_of shape) size)) (λ class. obtain shape lane class >>= bear lane place size) (keeps-given acts-chain (class_of (geometry_of shape) size))
+      keeps-bind acts-chain (given (class_of (geometry_of shape) size))
+      (λ class. obtain shape lane class >>= bear lane place size)
+      (keeps-given acts-chain (class_of (geometry_of shape) size))
       (λ class log p is.
       let x = bind-some (obtain shape lane class log) (λ got. bear lane place size got.0 got.1) p is in
       bear-acts lane place size x.0.0 log.left x.0.1 p (obtain-got shape lane class log x.0 x.1) x.2)
 
   pub allot-acts : (shape : Shape) (lane size : ℕ) → Keeps (Acts P) (allot shape lane size)
   allot-acts shape lane size =
-      keeps-or acts-chain (note (Object.Bin lane) says.no_handle >> give (Err Reply.Handles)) (note (Object.Bin lane) says.handle >>= with_handle shape lane size)
-      (keeps-then acts-chain (note (Object.Bin lane) says.no_handle) (give (Err Reply.Handles)) (note-acts (Object.Bin lane) says.no_handle empty) (keeps-give acts-chain (Err Reply.Handles)))
-      (keeps-bind acts-chain (note (Object.Bin lane) says.handle) (with_handle shape lane size) (note-acts (Object.Bin lane) says.handle handles) (with_handle-acts shape lane size))
+      keeps-or acts-chain (note (Object.Bin lane) says.no_handle >> give (Err Reply.Handles))
+      (note (Object.Bin lane) says.handle >>= with_handle shape lane size)
+      (keeps-then acts-chain (note (Object.Bin lane) says.no_handle) (give (Err Reply.Handles))
+      (note-acts (Object.Bin lane) says.no_handle empty) (keeps-give acts-chain (Err Reply.Handles)))
+      (keeps-bind acts-chain (note (Object.Bin lane) says.handle) (with_handle shape lane size)
+      (note-acts (Object.Bin lane) says.handle handles) (with_handle-acts shape lane size))
     where
       empty : (d : Did) (u : Unit {0}) → says.no_handle d ≡ Some u → IsStill P (Object.Bin lane) d
       empty NoHandle u e = tt
@@ -416,11 +502,21 @@ module _ (P : Object → Did → Type 0) where
     pub puts_away : PutsAway r did
     pub are : es ≡ before refused (away ∷ rest)
 
-  pub give_back-away : (r : RegionId) (refused : Option Entry) (es : Entries) (log : Log) (p : Unit {0} × Log) → AreQuiet P refused → es ≡ before refused log.left → give_back r log ≡ Some p → Away r es p.1.left
+  pub give_back-away : (r : RegionId) (refused : Option Entry) (es : Entries) (log : Log) (p : Unit {0} × Log)
+      → AreQuiet P refused → es ≡ before refused log.left → give_back r log ≡ Some p → Away r es p.1.left
   give_back-away r refused es log p quiet here is =
       let g = give_back-read r log p is in
       let away : IsAt (Give r) g.0.note = record { object = Object.Arena r.place.arena; number = g.1; is = g.3 } in
-      record { refused = refused; quiet = quiet; away = g.0; did = Give r; away_is = away; puts_away = refl; are = here ∙ ap (before refused) g.2 }
+      record {
+        refused = refused;
+        quiet = quiet;
+        away = g.0;
+        did = Give r;
+        away_is = away;
+        puts_away = refl;
+        are = here
+            ∙ ap (before refused) g.2;
+      }
 
   -- a cache does not keep the region: one quiet note
   pub record Refuses (es rest : Entries) : Type 0 where
@@ -428,7 +524,8 @@ module _ (P : Object → Did → Type 0) where
     pub quiet : IsQuiet P entry.note
     pub are : es ≡ entry ∷ rest
 
-  pub not_kept-refuses : (r : RegionId) (log : Log) (p : Unit {0} × Log) → not_kept r log ≡ Some p → Refuses log.left p.1.left
+  pub not_kept-refuses : (r : RegionId) (log : Log) (p : Unit {0} × Log) → not_kept r log ≡ Some p
+      → Refuses log.left p.1.left
   not_kept-refuses r log p is =
       ⊎_elim
       (λ e.
@@ -438,20 +535,37 @@ module _ (P : Object → Did → Type 0) where
       let x = bind-some (busy (Object.Cache r.owner r.class) log) (λ got. nothing got.1) p e in
       let n = next-read (λ y. marked (Object.Cache r.owner r.class) y.note) log x.0 x.1 in
       let same : ◌≡◌ {A = Unit {0} × Log} (tt, x.0.1) p = cc x.2 in
-      record { entry = n.0; quiet = marked-quiet P (Object.Cache r.owner r.class) n.0.note x.0.0 n.2; are = n.1 ∙ ap (λ q. n.0 ∷ q.1.left) same })
-      (or-some (note (Object.Cache r.owner r.class) (says.back r) log) ((busy (Object.Cache r.owner r.class) >> nothing) log) p is)
+      record {
+        entry = n.0;
+        quiet = marked-quiet P (Object.Cache r.owner r.class) n.0.note x.0.0 n.2;
+        are = n.1
+            ∙ ap (λ q. n.0 ∷ q.1.left) same;
+      })
+      (or-some (note (Object.Cache r.owner r.class) (says.back r) log)
+      ((busy (Object.Cache r.owner r.class) >> nothing) log) p is)
     where
       back : (d : Did) (u : Unit {0}) → says.back r d ≡ Some u → IsStill P (Object.Cache r.owner r.class) d
       back (Back other why) u e = tt
       back _ u e = absurd (cc e)
 
-  pub offer-away : (r : RegionId) → has_cache r.class ≡ true → (log : Log) (p : Unit {0} × Log) → offer r log ≡ Some p → Away r log.left p.1.left
+  pub offer-away : (r : RegionId) → has_cache r.class ≡ true → (log : Log) (p : Unit {0} × Log) → offer r log ≡ Some p
+      → Away r log.left p.1.left
   offer-away r cached log p is =
       ⊎_elim
       (λ e.
       let n = note-read (Object.Cache r.owner r.class) (says.kept r) log p e in
-      let away : IsAt n.did n.entry.note = record { object = Object.Cache r.owner r.class; number = n.number; is = n.is } in
-      record { refused = None; quiet = tt; away = n.entry; did = n.did; away_is = away; puts_away = keeps n.did p.0 n.said; are = n.are })
+      let away : IsAt n.did n.entry.note = record
+      { object = Object.Cache r.owner r.class; number = n.number; is = n.is } in
+      record {
+        refused = None;
+        quiet = tt;
+        away = n.entry;
+        did = n.did;
+        away_is = away;
+        puts_away =
+            keeps n.did p.0 n.said;
+        are = n.are;
+      })
       (λ e.
       let x = bind-some (not_kept r log) (λ got. give_back r got.1) p e in
       let n = not_kept-refuses r log x.0 x.1 in
@@ -464,7 +578,8 @@ module _ (P : Object → Did → Type 0) where
           (sym same, ap (λ x. has_cache x.class) (sym same) ∙ cached)
       keeps _ u e = absurd (cc e)
 
-  pub put_away-away : (r : RegionId) (log : Log) (p : Unit {0} × Log) → put_away r log ≡ Some p → Away r log.left p.1.left
+  pub put_away-away : (r : RegionId) (log : Log) (p : Unit {0} × Log) → put_away r log ≡ Some p
+      → Away r log.left p.1.left
   put_away-away r log p =
       cond_both (has_cache r.class) (offer r) (give_back r) (λ z. z log ≡ Some p → Away r log.left p.1.left)
       (λ cached is. offer-away r cached log p is)
@@ -481,13 +596,26 @@ module _ (P : Object → Did → Type 0) where
     pub out : entry.region ≡ Some r
     pub are : es ≡ entry ∷ rest
 
-  pub ending-read : (root : RootId) (log : Log) (p : RegionId × Log) → ending root log ≡ Some p → EndRead root p.0 log.left p.1.left
+  pub ending-read : (root : RootId) (log : Log) (p : RegionId × Log) → ending root log ≡ Some p
+      → EndRead root p.0 log.left p.1.left
   ending-read root log p is =
-      let n = next-read (λ e. option_and_then (λ _. e.region) (option_and_then (says.end root) (done_at (Object.Root root.place) e.note))) log p is in
-      let u = bind-some (option_and_then (says.end root) (done_at (Object.Root root.place) n.0.note)) (λ _. n.0.region) p.0 n.2 in
+      let n = next-read (λ e. option_and_then (λ _. e.region)
+      (option_and_then (says.end root) (done_at (Object.Root root.place) e.note))) log p is in
+      let u = bind-some (option_and_then (says.end root) (done_at (Object.Root root.place) n.0.note)) (λ _. n.0.region)
+      p.0 n.2 in
       let d = bind-some (done_at (Object.Root root.place) n.0.note) (says.end root) u.0 u.1 in
       let k = done_at-note (Object.Root root.place) n.0.note d.0 d.1 in
-      record { entry = n.0; is = record { object = Object.Root root.place; number = k.0; is = k.1 ∙ ap (At (Object.Root root.place) k.0) (end-is root d.0 u.0 d.2) }; out = u.2; are = n.1 }
+      record {
+        entry = n.0;
+        is = record {
+          object = Object.Root root.place;
+          number = k.0;
+          is = k.1
+              ∙ ap (At (Object.Root root.place) k.0) (end-is root d.0 u.0 d.2);
+        };
+        out = u.2;
+        are = n.1;
+      }
 
   pub end_of-acts : (shape : Shape) (root : RootId) → Keeps (Acts P) (end_of shape root)
   end_of-acts shape root log p is =
@@ -520,8 +648,10 @@ module _ (P : Object → Did → Type 0) where
   pub release-acts : (shape : Shape) (root : RootId) → Keeps (Acts P) (release shape root)
   release-acts shape root =
       keeps-or acts-chain (step root says.count_kept >> give Reply.Kept) (end_of shape root >> give Reply.Freed)
-      (keeps-then acts-chain (step root says.count_kept) (give Reply.Kept) (step-acts root says.count_kept kept) (keeps-give acts-chain Reply.Kept))
-      (keeps-then acts-chain (end_of shape root) (give Reply.Freed) (end_of-acts shape root) (keeps-give acts-chain Reply.Freed))
+      (keeps-then acts-chain (step root says.count_kept) (give Reply.Kept) (step-acts root says.count_kept kept)
+      (keeps-give acts-chain Reply.Kept))
+      (keeps-then acts-chain (end_of shape root) (give Reply.Freed) (end_of-acts shape root)
+      (keeps-give acts-chain Reply.Freed))
     where
       kept : (d : RefDid) (u : Unit {0}) → says.count_kept d ≡ Some u → IsStep d
       kept RefDid.Kept u e = tt
@@ -546,47 +676,61 @@ module _ (P : Object → Did → Type 0) where
   pub set_parts-acts : (ps : List Part) (bytes : List ℕ) → Keeps (Acts P) (set_parts ps bytes)
   set_parts-acts [] bytes = keeps-give acts-chain tt
   set_parts-acts (p ∷ ps) bytes =
-      keeps-then acts-chain (access p.root (says.set p.offset (take p.len bytes))) (set_parts ps (drop p.len bytes)) (set_one-acts p.root p.offset (take p.len bytes)) (set_parts-acts ps (drop p.len bytes))
+      keeps-then acts-chain (access p.root (says.set p.offset (take p.len bytes))) (set_parts ps (drop p.len bytes))
+      (set_one-acts p.root p.offset (take p.len bytes)) (set_parts-acts ps (drop p.len bytes))
 
   pub get_parts-acts : (ps : List Part) → Keeps (Acts P) (get_parts ps)
   get_parts-acts [] = keeps-give acts-chain []
   get_parts-acts (p ∷ ps) =
-      keeps-bind acts-chain (access p.root (says.get p.offset p.len)) (λ first. get_parts ps >>= (λ rest. give (first ++ rest))) (get_one-acts p.root p.offset p.len)
-      (λ first. keeps-bind acts-chain (get_parts ps) (λ rest. give (first ++ rest)) (get_parts-acts ps) (λ rest. keeps-give acts-chain (first ++ rest)))
+      keeps-bind acts-chain (access p.root (says.get p.offset p.len))
+      (λ first. get_parts ps >>= (λ rest. give (first ++ rest))) (get_one-acts p.root p.offset p.len)
+      (λ first. keeps-bind acts-chain (get_parts ps) (λ rest. give (first ++ rest)) (get_parts-acts ps)
+      (λ rest. keeps-give acts-chain (first ++ rest)))
 
   pub copy_parts-acts : (root : RootId) (at : ℕ) (ps : List Part) → Keeps (Acts P) (copy_parts root at ps)
   copy_parts-acts root at [] = keeps-give acts-chain tt
   copy_parts-acts root at (p ∷ ps) =
-      keeps-bind acts-chain (access p.root (says.get p.offset p.len)) (λ bytes. access root (says.set at bytes) >> copy_parts root (at + p.len) ps) (get_one-acts p.root p.offset p.len)
-      (λ bytes. keeps-then acts-chain (access root (says.set at bytes)) (copy_parts root (at + p.len) ps) (set_one-acts root at bytes) (copy_parts-acts root (at + p.len) ps))
+      keeps-bind acts-chain (access p.root (says.get p.offset p.len))
+      (λ bytes. access root (says.set at bytes) >> copy_parts root (at + p.len) ps)
+      (get_one-acts p.root p.offset p.len)
+      (λ bytes. keeps-then acts-chain (access root (says.set at bytes)) (copy_parts root (at + p.len) ps)
+      (set_one-acts root at bytes) (copy_parts-acts root (at + p.len) ps))
 
   pub release_part-acts : (shape : Shape) (p : Part) → Keeps (Acts P) (release_part shape p)
   release_part-acts shape p =
-      keeps-bind acts-chain (count p.root) (λ k. if k == 0 then nothing else (release shape p.root >> nothing)) (keeps-count acts-chain p.root)
-      (λ k. keeps-if acts-chain (k == 0) nothing (release shape p.root >> nothing) (keeps-give acts-chain tt) (keeps-then acts-chain (release shape p.root) nothing (release-acts shape p.root) (keeps-give acts-chain tt)))
+      keeps-bind acts-chain (count p.root) (λ k. if k == 0 then nothing else (release shape p.root >> nothing))
+      (keeps-count acts-chain p.root)
+      (λ k. keeps-if acts-chain (k == 0) nothing (release shape p.root >> nothing) (keeps-give acts-chain tt)
+      (keeps-then acts-chain (release shape p.root) nothing (release-acts shape p.root) (keeps-give acts-chain tt)))
 
   pub release_parts-acts : (shape : Shape) (ps : List Part) → Keeps (Acts P) (release_parts shape ps)
   release_parts-acts shape [] = keeps-give acts-chain tt
-  release_parts-acts shape (p ∷ ps) = keeps-then acts-chain (release_part shape p) (release_parts shape ps) (release_part-acts shape p) (release_parts-acts shape ps)
+  release_parts-acts shape (p ∷ ps) =
+      keeps-then acts-chain (release_part shape p) (release_parts shape ps) (release_part-acts shape p)
+      (release_parts-acts shape ps)
 
   -- ---- Composites.
 
   pub copied_to-acts : (shape : Shape) (c : Composite) (new : Result New Reply) → Keeps (Acts P) (copied_to shape c new)
   copied_to-acts shape c (Err reply) = keeps-give acts-chain (Err reply)
   copied_to-acts shape c (Ok new) =
-      keeps-then acts-chain (copy_parts new.root 0 (filled c.parts)) (release_parts shape c.parts >> give (Ok (moved_to new.root c))) (copy_parts-acts new.root 0 (filled c.parts))
-      (keeps-then acts-chain (release_parts shape c.parts) (give (Ok (moved_to new.root c))) (release_parts-acts shape c.parts) (keeps-give acts-chain (Ok (moved_to new.root c))))
+      keeps-then acts-chain (copy_parts new.root 0 (filled c.parts))
+      (release_parts shape c.parts >> give (Ok (moved_to new.root c))) (copy_parts-acts new.root 0 (filled c.parts))
+      (keeps-then acts-chain (release_parts shape c.parts) (give (Ok (moved_to new.root c)))
+      (release_parts-acts shape c.parts) (keeps-give acts-chain (Ok (moved_to new.root c))))
 
   pub consolidate-acts : (shape : Shape) (lane : ℕ) (c : Composite) → Keeps (Acts P) (consolidate shape lane c)
   consolidate-acts shape lane c =
       keeps-if acts-chain (is_crowded c) (allot shape lane (size_of c.parts) >>= copied_to shape c) (give (Ok c))
-      (keeps-bind acts-chain (allot shape lane (size_of c.parts)) (copied_to shape c) (allot-acts shape lane (size_of c.parts)) (copied_to-acts shape c))
+      (keeps-bind acts-chain (allot shape lane (size_of c.parts)) (copied_to shape c)
+      (allot-acts shape lane (size_of c.parts)) (copied_to-acts shape c))
       (keeps-give acts-chain (Ok c))
 
   -- ---- Commands.
 
   -- after quiet notes, an answer
-  pub then-answer : {A : Type 0} (r : Reader A) (f : A → Answer) → Keeps (Acts P) r → Keeps (Acts P) (r >>= (λ a. give (f a)))
+  pub then-answer : {A : Type 0} (r : Reader A) (f : A → Answer) → Keeps (Acts P) r
+      → Keeps (Acts P) (r >>= (λ a. give (f a)))
   then-answer r f h = keeps-bind acts-chain r (λ a. give (f a)) h (λ a. keeps-give acts-chain (f a))
 
   pub retain_one-acts : (root : RootId) → Keeps (Acts P) (step root says.retain)
@@ -617,7 +761,8 @@ module _ (P : Object → Did → Type 0) where
       still (Did.Fetch other) q e = tt
       still _ q e = absurd (cc e)
 
-  pub post-acts : (o : Object) (parcel : Parcel) → ((other : Parcel) → P o (Did.Post other)) → Keeps (Acts P) (note o (says.post parcel))
+  pub post-acts : (o : Object) (parcel : Parcel) → ((other : Parcel) → P o (Did.Post other))
+      → Keeps (Acts P) (note o (says.post parcel))
   post-acts o parcel near = note-acts o (says.post parcel) still
     where
       still : (d : Did) (u : Unit {0}) → says.post parcel d ≡ Some u → IsStill P o d
@@ -625,31 +770,46 @@ module _ (P : Object → Did → Type 0) where
       still _ u e = absurd (cc e)
 
   pub set_at-acts : (s : LaneState) (i : ℕ) (bytes : List ℕ) (b : Bound) → Keeps (Acts P) (set_at s i bytes b)
-  set_at-acts s i bytes b = then-answer (set_parts (parts_at b i (length bytes)) bytes) (λ _. answer Reply.Ok s.names) (set_parts-acts (parts_at b i (length bytes)) bytes)
+  set_at-acts s i bytes b =
+      then-answer (set_parts (parts_at b i (length bytes)) bytes) (λ _. answer Reply.Ok s.names)
+      (set_parts-acts (parts_at b i (length bytes)) bytes)
 
   pub get_at-acts : (s : LaneState) (i n : ℕ) (b : Bound) → Keeps (Acts P) (get_at s i n b)
-  get_at-acts s i n b = then-answer (get_parts (parts_at b i n)) (λ bytes. answer (Reply.OkBytes bytes) s.names) (get_parts-acts (parts_at b i n))
+  get_at-acts s i n b =
+      then-answer (get_parts (parts_at b i n)) (λ bytes. answer (Reply.OkBytes bytes) s.names)
+      (get_parts-acts (parts_at b i n))
 
-  pub busy_or-acts : (s : LaneState) (v : ViewData) (r : Reader Answer) → Keeps (Acts P) r → Keeps (Acts P) (busy_or s v r)
+  pub busy_or-acts : (s : LaneState) (v : ViewData) (r : Reader Answer) → Keeps (Acts P) r
+      → Keeps (Acts P) (busy_or s v r)
   busy_or-acts s v r h =
       keeps-or acts-chain (busy (Object.Root v.root.place) >>= (λ number. give (answer (Reply.Busy number) s.names))) r
-      (then-answer (busy (Object.Root v.root.place)) (λ number. answer (Reply.Busy number) s.names) (busy-acts (Object.Root v.root.place))) h
+      (then-answer (busy (Object.Root v.root.place)) (λ number. answer (Reply.Busy number) s.names)
+      (busy-acts (Object.Root v.root.place))) h
 
   pub retain_of-acts : (s : LaneState) (name : ℕ) (b : Bound) → Keeps (Acts P) (retain_of s name b)
-  retain_of-acts s name (Plain v) = then-answer (step v.root says.retain) (λ _. answer Reply.Ok s.names) (retain_one-acts v.root)
-  retain_of-acts s name (Composed c) = keeps-give acts-chain (answer Reply.Ok (bind name (Composed (record c { count = c.count + 1 })) s.names))
+  retain_of-acts s name (Plain v) =
+      then-answer (step v.root says.retain) (λ _. answer Reply.Ok s.names) (retain_one-acts v.root)
+  retain_of-acts s name (Composed c) =
+      keeps-give acts-chain (answer Reply.Ok (bind name (Composed (record c { count = c.count + 1 })) s.names))
 
-  pub release_of-acts : (shape : Shape) (s : LaneState) (name : ℕ) (b : Bound) → Keeps (Acts P) (release_of shape s name b)
-  release_of-acts shape s name (Plain v) = then-answer (release shape v.root) (λ reply. answer reply s.names) (release-acts shape v.root)
+  pub release_of-acts : (shape : Shape) (s : LaneState) (name : ℕ) (b : Bound)
+      → Keeps (Acts P) (release_of shape s name b)
+  release_of-acts shape s name (Plain v) =
+      then-answer (release shape v.root) (λ reply. answer reply s.names) (release-acts shape v.root)
   release_of-acts shape s name (Composed c) =
-      keeps-if acts-chain (c.count == 1) _ _ (then-answer (release_parts shape c.parts) (λ _. answer Reply.Freed _) (release_parts-acts shape c.parts)) (keeps-give acts-chain (answer Reply.Kept _))
+      keeps-if acts-chain (c.count == 1) _ _
+      (then-answer (release_parts shape c.parts) (λ _. answer Reply.Freed _) (release_parts-acts shape c.parts))
+      (keeps-give acts-chain (answer Reply.Kept _))
 
   pub count_in-acts : (s : LaneState) (b : Bound) → Keeps (Acts P) (count_in s b)
-  count_in-acts s (Plain v) = then-answer (step v.root says.look) (λ k. answer (Reply.OkNumber k) s.names) (look-acts v.root)
+  count_in-acts s (Plain v) =
+      then-answer (step v.root says.look) (λ k. answer (Reply.OkNumber k) s.names) (look-acts v.root)
   count_in-acts s (Composed c) = keeps-give acts-chain (answer (Reply.OkNumber c.count) s.names)
 
-  pub retained-acts : (retained : Bool) (root : RootId) → Keeps (Acts P) (if retained then step root says.retain else nothing)
-  retained-acts retained root = keeps-if acts-chain retained (step root says.retain) nothing (retain_one-acts root) (keeps-give acts-chain tt)
+  pub retained-acts : (retained : Bool) (root : RootId)
+      → Keeps (Acts P) (if retained then step root says.retain else nothing)
+  retained-acts retained root =
+      keeps-if acts-chain retained (step root says.retain) nothing (retain_one-acts root) (keeps-give acts-chain tt)
 
   -- a command may send to its lane
   abbrev pub Sends : Command → Type 0
@@ -657,48 +817,76 @@ module _ (P : Object → Did → Type 0) where
   Sends _ = Unit {0}
 
   -- what is there, and then what is done with it
-  pub given-acts : {A : Type 0} (o : Option A) (f : A → Reader Answer) → ((a : A) → Keeps (Acts P) (f a)) → Keeps (Acts P) (given o >>= f)
+  pub given-acts : {A : Type 0} (o : Option A) (f : A → Reader Answer) → ((a : A) → Keeps (Acts P) (f a))
+      → Keeps (Acts P) (given o >>= f)
   given-acts o f h = keeps-bind acts-chain (given o) f (keeps-given acts-chain o) h
 
   -- what each command notes are acts
-  pub carried_out-acts : (shape : Shape) (lane : ℕ) (s : LaneState) (c : Command) → Sends c → Keeps (Acts P) (carried_out shape lane s c)
-  carried_out-acts shape lane s (Command.Alloc name size) near = then-answer (allot shape lane size) (λ got. allotted s name got) (allot-acts shape lane size)
-  carried_out-acts shape lane s (Command.Set name at bytes false) near = given-acts (named s name) (set_at s at bytes) (set_at-acts s at bytes)
-  carried_out-acts shape lane s (Command.Set name at bytes true) near = given-acts (view_named s name) _ (λ v. busy_or-acts s v (set_at s at bytes (Plain v)) (set_at-acts s at bytes (Plain v)))
-  carried_out-acts shape lane s (Command.Get name at len false) near = given-acts (named s name) (get_at s at len) (get_at-acts s at len)
-  carried_out-acts shape lane s (Command.Get name at len true) near = given-acts (view_named s name) _ (λ v. busy_or-acts s v (get_at s at len (Plain v)) (get_at-acts s at len (Plain v)))
+  pub carried_out-acts : (shape : Shape) (lane : ℕ) (s : LaneState) (c : Command) → Sends c
+      → Keeps (Acts P) (carried_out shape lane s c)
+  carried_out-acts shape lane s (Command.Alloc name size) near =
+      then-answer (allot shape lane size) (λ got. allotted s name got) (allot-acts shape lane size)
+  carried_out-acts shape lane s (Command.Set name at bytes false) near =
+      given-acts (named s name) (set_at s at bytes) (set_at-acts s at bytes)
+  carried_out-acts shape lane s (Command.Set name at bytes true) near =
+      given-acts (view_named s name) _
+      (λ v. busy_or-acts s v (set_at s at bytes (Plain v)) (set_at-acts s at bytes (Plain v)))
+  carried_out-acts shape lane s (Command.Get name at len false) near =
+      given-acts (named s name) (get_at s at len) (get_at-acts s at len)
+  carried_out-acts shape lane s (Command.Get name at len true) near =
+      given-acts (view_named s name) _
+      (λ v. busy_or-acts s v (get_at s at len (Plain v)) (get_at-acts s at len (Plain v)))
   carried_out-acts shape lane s (Command.Write name bytes) near =
       given-acts (named s name) _
-      (λ b. then-answer (set_parts (parts_at b (writer_of b) (length bytes)) bytes) (λ _. answer Reply.Ok (bind name (written_on (length bytes) b) s.names)) (set_parts-acts (parts_at b (writer_of b) (length bytes)) bytes))
+      (λ b. then-answer (set_parts (parts_at b (writer_of b) (length bytes)) bytes)
+      (λ _. answer Reply.Ok (bind name (written_on (length bytes) b) s.names))
+      (set_parts-acts (parts_at b (writer_of b) (length bytes)) bytes))
   carried_out-acts shape lane s (Command.Read name len) near =
       given-acts (named s name) _
-      (λ b. then-answer (get_parts (parts_at b (reader_of b) len)) (λ bytes. answer (Reply.OkBytes bytes) (bind name (read_on len b) s.names)) (get_parts-acts (parts_at b (reader_of b) len)))
+      (λ b. then-answer (get_parts (parts_at b (reader_of b) len))
+      (λ bytes. answer (Reply.OkBytes bytes) (bind name (read_on len b) s.names))
+      (get_parts-acts (parts_at b (reader_of b) len)))
   carried_out-acts shape lane s (Command.Slice fresh name at len retained) near =
-      given-acts (view_named s name) _ (λ v. then-answer (if retained then step v.root says.retain else nothing) _ (retained-acts retained v.root))
-  carried_out-acts shape lane s (Command.Dup fresh name) near = given-acts (view_named s name) _ (λ v. keeps-give acts-chain _)
-  carried_out-acts shape lane s (Command.Retain name) near = given-acts (named s name) (retain_of s name) (retain_of-acts s name)
-  carried_out-acts shape lane s (Command.Release name) near = given-acts (named s name) (release_of shape s name) (release_of-acts shape s name)
+      given-acts (view_named s name) _
+      (λ v. then-answer (if retained then step v.root says.retain else nothing) _ (retained-acts retained v.root))
+  carried_out-acts shape lane s (Command.Dup fresh name) near =
+      given-acts (view_named s name) _ (λ v. keeps-give acts-chain _)
+  carried_out-acts shape lane s (Command.Retain name) near =
+      given-acts (named s name) (retain_of s name) (retain_of-acts s name)
+  carried_out-acts shape lane s (Command.Release name) near =
+      given-acts (named s name) (release_of shape s name) (release_of-acts shape s name)
   carried_out-acts shape lane s (Command.Refcnt name) near = given-acts (named s name) (count_in s) (count_in-acts s)
-  carried_out-acts shape lane s (Command.Touch name) near = given-acts (view_named s name) _ (λ v. then-answer (access v.root says.touch) (λ _. answer Reply.Ok s.names) (touch-acts v.root))
-  carried_out-acts shape lane s (Command.Forget name) near = keeps-give acts-chain (answer Reply.Ok (without name s.names))
+  carried_out-acts shape lane s (Command.Touch name) near =
+      given-acts (view_named s name) _
+      (λ v. then-answer (access v.root says.touch) (λ _. answer Reply.Ok s.names) (touch-acts v.root))
+  carried_out-acts shape lane s (Command.Forget name) near =
+      keeps-give acts-chain (answer Reply.Ok (without name s.names))
   carried_out-acts shape lane s (Command.Send name to) near =
-      given-acts (view_named s name) _ (λ v. then-answer (note (Object.Mail lane to) (says.post (parcel_of v))) (λ _. answer Reply.Ok s.names) (post-acts (Object.Mail lane to) (parcel_of v) (near lane)))
-  carried_out-acts shape lane s (Command.Recv fresh from) near = then-answer (note (Object.Mail from lane) says.fetch) (λ parcel. received s fresh parcel.view) (fetch-acts (Object.Mail from lane))
+      given-acts (view_named s name) _
+      (λ v. then-answer (note (Object.Mail lane to) (says.post (parcel_of v))) (λ _. answer Reply.Ok s.names)
+      (post-acts (Object.Mail lane to) (parcel_of v) (near lane)))
+  carried_out-acts shape lane s (Command.Recv fresh from) near =
+      then-answer (note (Object.Mail from lane) says.fetch) (λ parcel. received s fresh parcel.view)
+      (fetch-acts (Object.Mail from lane))
   carried_out-acts shape lane s (Command.Compose fresh names) near =
-      given-acts (composite_from s names) _ (λ c. then-answer (consolidate shape lane c) (λ made. composed s fresh made) (consolidate-acts shape lane c))
+      given-acts (composite_from s names) _
+      (λ c. then-answer (consolidate shape lane c) (λ made. composed s fresh made) (consolidate-acts shape lane c))
   carried_out-acts shape lane s (Command.Add whole name) near =
-      given-acts (composite_with s whole name) _ (λ c. then-answer (consolidate shape lane c) (λ made. composed s whole made) (consolidate-acts shape lane c))
+      given-acts (composite_with s whole name) _
+      (λ c. then-answer (consolidate shape lane c) (λ made. composed s whole made) (consolidate-acts shape lane c))
 
   pub not_carried_out-acts : (lane : ℕ) (c : Command) → Sends c → Keeps (Acts P) (not_carried_out lane c)
   not_carried_out-acts lane (Command.Send name to) near = post-acts (Object.Mail lane to) no_parcel (near lane)
   not_carried_out-acts lane _ near = keeps-give acts-chain tt
 
-  pub answer_of-acts : (shape : Shape) (lane : ℕ) (s : LaneState) (c : Command) → Sends c → Keeps (Acts P) (answer_of shape lane s c)
+  pub answer_of-acts : (shape : Shape) (lane : ℕ) (s : LaneState) (c : Command) → Sends c
+      → Keeps (Acts P) (answer_of shape lane s c)
   answer_of-acts shape lane s c near = by (first_refusal (refusals shape s c))
     where
       by : (o : Option Reply) → Keeps (Acts P) (answer_by shape lane s c o)
       by None = carried_out-acts shape lane s c near
-      by (Some reply) = then-answer (not_carried_out lane c) (λ _. answer reply s.names) (not_carried_out-acts lane c near)
+      by (Some reply) =
+          then-answer (not_carried_out lane c) (λ _. answer reply s.names) (not_carried_out-acts lane c near)
 
   -- ---- Caches are swept, and closed.
 
@@ -718,21 +906,34 @@ module _ (P : Object → Did → Type 0) where
       let shedding : Shedding P e.entry b.0 =
       record {
         region = f.0.0;
-        shed_is = record { object = Object.Cache lane class; number = e.number; is = e.is ∙ ap (At (Object.Cache lane class) e.number) (shed e.did f.0.0 e.said) };
+        shed_is =
+            record {
+              object = Object.Cache lane class;
+              number = e.number;
+              is = e.is
+                  ∙ ap (At (Object.Cache lane class) e.number) (shed e.did f.0.0 e.said);
+            };
         may = may.sheds (Object.Cache lane class) f.0.0;
         given_is = record { object = Object.Arena f.0.0.place.arena; number = b.1; is = b.3 };
       } in
-      acts-then log.left g.0.1.left p.1.left (one-act (Act.Sheds e.entry b.0 shedding) log.left g.0.1.left (e.are ∙ ap (λ xs. e.entry ∷ xs) b.2)) (sheds-acts may lane class n g.0.1 p g.2)
+      acts-then log.left g.0.1.left p.1.left
+      (one-act (Act.Sheds e.entry b.0 shedding) log.left g.0.1.left (e.are ∙ ap (λ xs. e.entry ∷ xs) b.2))
+      (sheds-acts may lane class n g.0.1 p g.2)
     where
       shed : (d : Did) (r : RegionId) → says.shed d ≡ Some r → d ≡ Did.Shed r
       shed (Did.Shed x) r e = ap Did.Shed (cc e)
       shed _ r e = absurd (cc e)
 
-  pub drain-acts : MayDrain → (lane : ℕ) (kind : Did → Option ℕ) → ((o : Object) (d : Did) (q : ℕ) → kind d ≡ Some q → IsStill P o d) → (classes : List ℕ) → Keeps (Acts P) (drain lane kind classes)
+  pub drain-acts : MayDrain → (lane : ℕ) (kind : Did → Option ℕ)
+      → ((o : Object) (d : Did) (q : ℕ) → kind d ≡ Some q → IsStill P o d) → (classes : List ℕ)
+      → Keeps (Acts P) (drain lane kind classes)
   drain-acts may lane kind still [] = keeps-give acts-chain tt
   drain-acts may lane kind still (class ∷ classes) =
-      keeps-bind acts-chain (note (Object.Cache lane class) kind) (λ quota. sheds lane class quota >> drain lane kind classes) (note-acts (Object.Cache lane class) kind (still (Object.Cache lane class)))
-      (λ quota. keeps-then acts-chain (sheds lane class quota) (drain lane kind classes) (sheds-acts may lane class quota) (drain-acts may lane kind still classes))
+      keeps-bind acts-chain (note (Object.Cache lane class) kind)
+      (λ quota. sheds lane class quota >> drain lane kind classes)
+      (note-acts (Object.Cache lane class) kind (still (Object.Cache lane class)))
+      (λ quota. keeps-then acts-chain (sheds lane class quota) (drain lane kind classes)
+      (sheds-acts may lane class quota) (drain-acts may lane kind still classes))
 
   pub sweep-acts : MayDrain → (lane : ℕ) → Keeps (Acts P) (sweep lane)
   sweep-acts may lane = drain-acts may lane says.trim still (below cached_classes)
@@ -755,39 +956,50 @@ module _ {R : Entries → Entries → Type 0} (c : Chains R) where
   pub keeps-sweep_if_due : (period lane : ℕ) → Keeps R (sweep lane) → Keeps R (sweep_if_due period lane)
   keeps-sweep_if_due period lane h =
       keeps-bind c asks (λ n. if nat_le period n then (asks_anew >> sweep lane) else nothing) (keeps-asks c)
-      (λ n. keeps-if c (nat_le period n) (asks_anew >> sweep lane) nothing (keeps-then c asks_anew (sweep lane) (keeps-asks_anew c) h) (keeps-give c tt))
+      (λ n. keeps-if c (nat_le period n) (asks_anew >> sweep lane) nothing
+      (keeps-then c asks_anew (sweep lane) (keeps-asks_anew c) h) (keeps-give c tt))
 
-  pub keeps-turn : (period : ℕ) (shape : Shape) (lane : ℕ) (s : LaneState) (command : Command) → Keeps R (answer_of shape lane s command) → Keeps R (sweep lane) → Keeps R (turn period shape lane s command)
+  pub keeps-turn : (period : ℕ) (shape : Shape) (lane : ℕ) (s : LaneState) (command : Command)
+      → Keeps R (answer_of shape lane s command) → Keeps R (sweep lane) → Keeps R (turn period shape lane s command)
   keeps-turn period shape lane s command h k =
       keeps-bind c (answer_of shape lane s command) (λ a. sweep_if_due period lane >> give a) h
       (λ a. keeps-then c (sweep_if_due period lane) (give a) (keeps-sweep_if_due period lane k) (keeps-give c a))
 
   -- of a command's own notes
-  pub step-keeps : (period : ℕ) (shape : Shape) (lane : ℕ) (s : LaneState) (command : Command) (es : Entries) (p : Reply × LaneState) → Keeps R (turn period shape lane s command) → lane_step period shape lane s command es ≡ Some p → R es []
+  pub step-keeps : (period : ℕ) (shape : Shape) (lane : ℕ) (s : LaneState) (command : Command) (es : Entries)
+      (p : Reply × LaneState) → Keeps R (turn period shape lane s command)
+      → lane_step period shape lane s command es ≡ Some p → R es []
   step-keeps period shape lane s command es p h is =
-      let f = bind-some (read_all (turn period shape lane s command) (log_at s es)) (λ got. Some (got.0.reply, state_at got.0.names got.1)) p is in
+      let f = bind-some (read_all (turn period shape lane s command) (log_at s es))
+      (λ got. Some (got.0.reply, state_at got.0.names got.1)) p is in
       let a = read_all-is (turn period shape lane s command) (log_at s es) f.0 f.1 in
       subst (R es) a.1 (h (log_at s es) f.0 a.0)
 
   -- of what each command notes
   abbrev pub TurnKeeps : Shape → ℕ → Command → Type 0
-  TurnKeeps shape lane command = ((s : LaneState) → Keeps R (turn sweep_period shape lane s command)) × Keeps R (not_carried_out lane command)
+  TurnKeeps shape lane command =
+      ((s : LaneState) → Keeps R (turn sweep_period shape lane s command)) × Keeps R (not_carried_out lane command)
 
-  pub run-keeps : (shape : Shape) (lane : ℕ) (s : LaneState) (cs : List Command) (groups : List Entries) (p : List Reply × LaneState) → EachOf (TurnKeeps shape lane) cs → lane_run sweep_period shape lane s cs groups ≡ Some p → EachOf (λ es. R es []) groups
+  pub run-keeps : (shape : Shape) (lane : ℕ) (s : LaneState) (cs : List Command) (groups : List Entries)
+      (p : List Reply × LaneState) → EachOf (TurnKeeps shape lane) cs
+      → lane_run sweep_period shape lane s cs groups ≡ Some p → EachOf (λ es. R es []) groups
   run-keeps shape lane s [] [] p h is = tt
   run-keeps shape lane s [] (g ∷ groups) p h is = absurd (cc is)
   run-keeps shape lane s (x ∷ cs) [] p h is = absurd (cc is)
   run-keeps shape lane s (x ∷ cs) (g ∷ groups) p h is =
-      let f = bind-some (lane_step sweep_period shape lane s x g) (λ y. option_and_then (λ z. Some (y.0 ∷ z.0, z.1)) (lane_run sweep_period shape lane y.1 cs groups)) p is in
+      let f = bind-some (lane_step sweep_period shape lane s x g)
+      (λ y. option_and_then (λ z. Some (y.0 ∷ z.0, z.1)) (lane_run sweep_period shape lane y.1 cs groups)) p is in
       let r = bind-some (lane_run sweep_period shape lane f.0.1 cs groups) (λ z. Some (f.0.0 ∷ z.0, z.1)) p f.2 in
       (step-keeps sweep_period shape lane s x g f.0 (h.0.0 s) f.1, run-keeps shape lane f.0.1 cs groups r.0 h.1 r.1)
 
-  pub stopped-keeps : (shape : Shape) (lane : ℕ) (cs : List Command) (groups : List Entries) (p : List Reply) → EachOf (TurnKeeps shape lane) cs → stopped_run lane cs groups ≡ Some p → EachOf (λ es. R es []) groups
+  pub stopped-keeps : (shape : Shape) (lane : ℕ) (cs : List Command) (groups : List Entries) (p : List Reply)
+      → EachOf (TurnKeeps shape lane) cs → stopped_run lane cs groups ≡ Some p → EachOf (λ es. R es []) groups
   stopped-keeps shape lane [] [] p h is = tt
   stopped-keeps shape lane [] (g ∷ groups) p h is = absurd (cc is)
   stopped-keeps shape lane (x ∷ cs) [] p h is = absurd (cc is)
   stopped-keeps shape lane (x ∷ cs) (g ∷ groups) p h is =
-      let f = bind-some (read_all (not_carried_out lane x) (log_at new_lane g)) (λ _. option_and_then (λ replies. Some (Reply.Stopped ∷ replies)) (stopped_run lane cs groups)) p is in
+      let f = bind-some (read_all (not_carried_out lane x) (log_at new_lane g))
+      (λ _. option_and_then (λ replies. Some (Reply.Stopped ∷ replies)) (stopped_run lane cs groups)) p is in
       let r = bind-some (stopped_run lane cs groups) (λ replies. Some (Reply.Stopped ∷ replies)) p f.2 in
       let a = read_all-is (not_carried_out lane x) (log_at new_lane g) f.0 f.1 in
       (subst (R g) a.1 (h.0.1 (log_at new_lane g) f.0 a.0), stopped-keeps shape lane cs groups r.0 h.1 r.1)
@@ -796,15 +1008,24 @@ module _ {R : Entries → Entries → Type 0} (c : Chains R) where
   pieces-keep [] es h = c.none es
   pieces-keep (n ∷ ns) es h =
       let one : R (take n es ++ drop n es) (drop n es) = c.front (take n es) (drop n es) h.0 in
-      c.more es (drop n es) (behind ns (drop n es)) (subst (λ xs. R xs (drop n es)) (take-drop n es) one) (pieces-keep ns (drop n es) h.1)
+      c.more es (drop n es) (behind ns (drop n es)) (subst (λ xs. R xs (drop n es)) (take-drop n es) one)
+      (pieces-keep ns (drop n es) h.1)
 
   -- of all that a lane notes before it closes its caches
-  pub log-keeps : (shape : Shape) (lane : ℕ) (commands : List Command) (replies : List Answered) (es : Entries) → EachOf (TurnKeeps shape lane) commands → IsLaneLog shape lane commands replies es → R es (behind (note_counts replies) es)
+  pub log-keeps : (shape : Shape) (lane : ℕ) (commands : List Command) (replies : List Answered) (es : Entries)
+      → EachOf (TurnKeeps shape lane) commands → IsLaneLog shape lane commands replies es
+      → R es (behind (note_counts replies) es)
   log-keeps shape lane commands replies es h log =
       pieces-keep (note_counts replies) es
       (each-both (λ xs. R xs []) (before_stop (replies_in replies)) (pieces (note_counts replies) es)
-      (run-keeps shape lane new_lane (take (before_stop (replies_in replies)) commands) (take (before_stop (replies_in replies)) (pieces (note_counts replies) es)) (take (before_stop (replies_in replies)) (replies_in replies), log.last) (each-take (TurnKeeps shape lane) (before_stop (replies_in replies)) commands h) log.answered)
-      (stopped-keeps shape lane (drop (before_stop (replies_in replies)) commands) (drop (before_stop (replies_in replies)) (pieces (note_counts replies) es)) (drop (before_stop (replies_in replies)) (replies_in replies)) (each-drop (TurnKeeps shape lane) (before_stop (replies_in replies)) commands h) log.stopped))
+      (run-keeps shape lane new_lane (take (before_stop (replies_in replies)) commands)
+      (take (before_stop (replies_in replies)) (pieces (note_counts replies) es))
+      (take (before_stop (replies_in replies)) (replies_in replies), log.last)
+      (each-take (TurnKeeps shape lane) (before_stop (replies_in replies)) commands h) log.answered)
+      (stopped-keeps shape lane (drop (before_stop (replies_in replies)) commands)
+      (drop (before_stop (replies_in replies)) (pieces (note_counts replies) es))
+      (drop (before_stop (replies_in replies)) (replies_in replies))
+      (each-drop (TurnKeeps shape lane) (before_stop (replies_in replies)) commands h) log.stopped))
     where
       each-take : {X : Type 0} (Q : X → Type 0) (n : ℕ) (xs : List X) → EachOf Q xs → EachOf Q (take n xs)
       each-take Q zero xs h = tt
@@ -816,33 +1037,48 @@ module _ {R : Entries → Entries → Type 0} (c : Chains R) where
       each-drop Q (suc n) [] h = tt
       each-drop Q (suc n) (x ∷ xs) h = each-drop Q n xs h.1
 
-      each-both : {X : Type 0} (Q : X → Type 0) (n : ℕ) (xs : List X) → EachOf Q (take n xs) → EachOf Q (drop n xs) → EachOf Q xs
+      each-both : {X : Type 0} (Q : X → Type 0) (n : ℕ) (xs : List X) → EachOf Q (take n xs) → EachOf Q (drop n xs)
+          → EachOf Q xs
       each-both Q zero xs a b = b
       each-both Q (suc n) [] a b = tt
       each-both Q (suc n) (x ∷ xs) a b = (a.0, each-both Q n xs a.1 b)
 
 -- the closing of a lane's caches reads all that is left
-pub closes-is : (lane : ℕ) (es : Entries) → closes lane es ≡ Some tt → (p : Unit {0} × Log) × (drain lane says.close (below cached_classes) (log_at new_lane es) ≡ Some p) × (p.1.left ≡ [])
+pub closes-is : (lane : ℕ) (es : Entries) → closes lane es ≡ Some tt
+    → (p : Unit {0} × Log) × (drain lane says.close (below cached_classes) (log_at new_lane es) ≡ Some p)
+    × (p.1.left ≡ [])
 closes-is lane es is =
     let x = map-some (read_all (drain lane says.close (below cached_classes)) (log_at new_lane es)) (λ _. tt) tt is in
     let a = read_all-is (drain lane says.close (below cached_classes)) (log_at new_lane es) x.0 x.1 in
     (x.0, a.0, a.1)
 
 module _ (P : Object → Did → Type 0) where
-  pub turns-act : MayDrain P → (shape : Shape) (lane : ℕ) (cs : List Command) → EachOf (Sends P) cs → EachOf (TurnKeeps (acts-chain P) shape lane) cs
+  pub turns-act : MayDrain P → (shape : Shape) (lane : ℕ) (cs : List Command) → EachOf (Sends P) cs
+      → EachOf (TurnKeeps (acts-chain P) shape lane) cs
   turns-act may shape lane [] near = tt
-  turns-act may shape lane (c ∷ cs) near =
-      ((λ s. keeps-turn (acts-chain P) sweep_period shape lane s c (answer_of-acts P shape lane s c near.0) (sweep-acts P may lane), not_carried_out-acts P lane c near.0), turns-act may shape lane cs near.1)
+  turns-act may shape lane (c ∷ cs) near = (
+    (
+      λ s. keeps-turn (acts-chain P) sweep_period shape lane s c (answer_of-acts P shape lane s c near.0)
+          (sweep-acts P may lane),
+      not_carried_out-acts P lane c near.0,
+    ),
+    turns-act may shape lane cs near.1,
+  )
 
   -- the notes before the closing, and a whole log, are acts
-  pub commands-act : MayDrain P → (shape : Shape) (lane : ℕ) (commands : List Command) (replies : List Answered) (es : Entries) → EachOf (Sends P) commands → IsLaneLog shape lane commands replies es → Acts P es (behind (note_counts replies) es)
-  commands-act may shape lane commands replies es near log = log-keeps (acts-chain P) shape lane commands replies es (turns-act may shape lane commands near) log
+  pub commands-act : MayDrain P → (shape : Shape) (lane : ℕ) (commands : List Command) (replies : List Answered)
+      (es : Entries) → EachOf (Sends P) commands → IsLaneLog shape lane commands replies es
+      → Acts P es (behind (note_counts replies) es)
+  commands-act may shape lane commands replies es near log =
+      log-keeps (acts-chain P) shape lane commands replies es (turns-act may shape lane commands near) log
 
-  pub log-acts : MayDrain P → (shape : Shape) (lane : ℕ) (commands : List Command) (replies : List Answered) (es : Entries) → EachOf (Sends P) commands → IsLaneLog shape lane commands replies es → Acts P es []
+  pub log-acts : MayDrain P → (shape : Shape) (lane : ℕ) (commands : List Command) (replies : List Answered)
+      (es : Entries) → EachOf (Sends P) commands → IsLaneLog shape lane commands replies es → Acts P es []
   log-acts may shape lane commands replies es near log =
       let x = closes-is lane (behind (note_counts replies) es) log.closed in
       acts-then es (behind (note_counts replies) es) [] (commands-act may shape lane commands replies es near log)
-      (subst (Acts P (behind (note_counts replies) es)) x.2 (closing-acts P may lane (log_at new_lane (behind (note_counts replies) es)) x.0 x.1))
+      (subst (Acts P (behind (note_counts replies) es)) x.2
+      (closing-acts P may lane (log_at new_lane (behind (note_counts replies) es)) x.0 x.1))
 
 -- any note of a lane, and any that a command makes before a sweep
 abbrev pub AnyNote : Object → Did → Type 0
@@ -860,5 +1096,7 @@ all-send (_ ∷ cs) = let r = all-send cs in ((tt, r.0), (tt, r.1))
 pub any-drain : MayDrain AnyNote
 any-drain = record { trims = λ o q. tt; closes = λ o q. tt; sheds = λ o r. tt }
 
-pub any-acts : (shape : Shape) (lane : ℕ) (commands : List Command) (replies : List Answered) (es : Entries) → IsLaneLog shape lane commands replies es → Acts AnyNote es []
-any-acts shape lane commands replies es log = log-acts AnyNote any-drain shape lane commands replies es (all-send commands).0 log
+pub any-acts : (shape : Shape) (lane : ℕ) (commands : List Command) (replies : List Answered) (es : Entries)
+    → IsLaneLog shape lane commands replies es → Acts AnyNote es []
+any-acts shape lane commands replies es log =
+    log-acts AnyNote any-drain shape lane commands replies es (all-send commands).0 log

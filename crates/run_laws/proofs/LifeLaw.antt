@@ -29,7 +29,14 @@ use Rattle.run_laws.proofs.Together.{FilledAt, note-together}
 pub same-as : (r y : RegionId) → with_uses r (r.uses + 1) ≡ one_more y → y ≡ r
 same-as r y e =
     let uses : y.uses ≡ r.uses = omega (arith, ap (λ x. x.uses) e) in
-    λ i. record { place = ap (λ x. x.place) (sym e) i; class = ap (λ x. x.class) (sym e) i; taking = ap (λ x. x.taking) (sym e) i; uses = uses i; owner = ap (λ x. x.owner) (sym e) i }
+    λ i. record {
+      place = ap (λ x. x.place) (sym e) i;
+      class = ap (λ x. x.class) (sym e) i;
+      taking =
+          ap (λ x. x.taking) (sym e) i;
+      uses = uses i;
+      owner = ap (λ x. x.owner) (sym e) i;
+    }
 
 -- one more or no use
 pub used-once : (r : RegionId) → 1 ≤ r.uses → (n : ℕ) × (r ≡ one_more (with_uses r n))
@@ -41,37 +48,52 @@ used-once r used = go r.uses refl
 
 pub same_taking-uses : (a b : RegionId) → same_taking a b ≡ true → b ≡ with_uses a b.uses
 same_taking-uses a b e =
-    sym (same_region-is (with_uses a b.uses) b (both_true (same_taking a b) (b.uses == b.uses) e (eq-eqb b.uses b.uses refl)))
+    sym (same_region-is (with_uses a b.uses) b
+    (both_true (same_taking a b) (b.uses == b.uses) e (eq-eqb b.uses b.uses refl)))
 
 module _ (shape : Shape) (logs : Logs) (holds : HistoriesPaged shape logs) (acts : LanesAct logs) where
   -- a birth in a log is a use, and counts
-  pub birth-use : (lane i k : ℕ) (o : Object) (root : RootId) (r : RegionId) → slice_get (of_lane logs lane) i ≡ Some (At o k (Birth root r)) → IsUse logs root r
+  pub birth-use : (lane i k : ℕ) (o : Object) (root : RootId) (r : RegionId)
+      → slice_get (of_lane logs lane) i ≡ Some (At o k (Birth root r)) → IsUse logs root r
   birth-use lane i k o root r is =
       let here : o ≡ Object.Root root.place = note-placed shape logs holds acts lane i k o (Birth root r) is in
       record { lane = lane; at = i; number = k; birth = is ∙ ap (λ x. Some (At x k (Birth root r))) here }
 
-  birth-weight : (root : RootId) (k : ℕ) (r x : RegionId) → same_region r x ≡ true → 1 ≤ note_tally logs (born_by r) (At (Object.Root root.place) k (Birth root x))
+  birth-weight : (root : RootId) (k : ℕ) (r x : RegionId) → same_region r x ≡ true
+      → 1 ≤ note_tally logs (born_by r) (At (Object.Root root.place) k (Birth root x))
   birth-weight root k r x e = omega (arith, ap one_of e)
 
   pub use-counts : (root : RootId) (r : RegionId) → IsUse logs root r → 1 ≤ births_in logs r
-  use-counts root r u = omega (arith, over-at (note_tally logs (born_by r)) logs u.lane u.at (At (Object.Root root.place) u.number (Birth root r)) u.birth, birth-weight root u.number r r (same_region-refl r))
+  use-counts root r u =
+      omega (
+        arith,
+        over-at (note_tally logs (born_by r)) logs u.lane u.at
+            (At (Object.Root root.place) u.number (Birth root r)) u.birth,
+        birth-weight root u.number r r
+            (same_region-refl r),
+      )
 
-  born-note : (n : Note) (r : RegionId) → 1 ≤ note_tally logs (born_by r) n → (o : Object) × (k : ℕ) × (root : RootId) × (n ≡ At o k (Birth root r))
-  born-note (At o k (Birth root x)) r h = (o, k, root, ap (λ y. At o k (Birth root y)) (sym (same_region-is r x (one-of-true (same_region r x) h))))
+  born-note : (n : Note) (r : RegionId) → 1 ≤ note_tally logs (born_by r) n
+      → (o : Object) × (k : ℕ) × (root : RootId) × (n ≡ At o k (Birth root r))
+  born-note (At o k (Birth root x)) r h =
+      (o, k, root, ap (λ y. At o k (Birth root y)) (sym (same_region-is r x (one-of-true (same_region r x) h))))
   born-note (At o k _) r h = absurd (omega arith)
   born-note (Ref root did) r h = absurd (omega arith)
   born-note (Busy held) r h = absurd (omega arith)
 
   pub use-found : (r : RegionId) → 1 ≤ births_in logs r → (root : RootId) × IsUse logs root r
   use-found r h =
-      let f : (lane : ℕ) × (i : ℕ) × (n : Note) × (slice_get (of_lane logs lane) i ≡ Some n) × (1 ≤ note_tally logs (born_by r) n) = over-found (note_tally logs (born_by r)) logs h in
+      let f : (lane : ℕ) × (i : ℕ) × (n : Note) × (slice_get (of_lane logs lane) i ≡ Some n)
+      × (1 ≤ note_tally logs (born_by r) n) = over-found (note_tally logs (born_by r)) logs h in
       let b : (o : Object) × (k : ℕ) × (root : RootId) × (f.2 ≡ At o k (Birth root r)) = born-note f.2 r f.4 in
       (b.2, birth-use f.0 f.1 b.1 b.0 b.2 r (f.3 ∙ ap (λ x. Some x) b.3))
 
   -- each birth is a use with number one or more
   pub use-used : (root : RootId) (r : RegionId) → IsUse logs root r → 1 ≤ r.uses
   use-used root r u =
-      let b : (y : RegionId) × (r ≡ one_more y) × FilledAt logs u.lane u.at Got y = (note-together logs u.lane (acts u.lane) u.at (At (Object.Root root.place) u.number (Birth root r)) u.birth).1 in
+      let b : (y : RegionId) × (r ≡ one_more y) × FilledAt logs u.lane u.at Got y =
+      (note-together logs u.lane (acts u.lane) u.at (At (Object.Root root.place) u.number (Birth root r))
+      u.birth).1 in
       omega (arith, ap (λ x. x.uses) b.1)
 
   pub unused-none : (r : RegionId) → r.uses ≡ 0 → births_in logs r ≡ 0
@@ -79,11 +101,21 @@ module _ (shape : Shape) (logs : Logs) (holds : HistoriesPaged shape logs) (acts
     where
       go : (n : ℕ) → births_in logs r ≡ n → births_in logs r ≡ 0
       go zero e = e
-      go (suc n) e = let u : (root : RootId) × IsUse logs root r = use-found r (omega (arith, e)) in absurd (omega (arith, use-used u.0 r u.1, unused))
+      go (suc n) e =
+          let u : (root : RootId) × IsUse logs root r = use-found r (omega (arith, e)) in
+          absurd (omega (arith, use-used u.0 r u.1, unused))
 
   -- what is hit was born
   pub hits-less : (r : RegionId) → hits_in logs r + gives_in logs r ≤ births_in logs r
-  hits-less r = omega (arith, put-down shape logs holds acts r, removes-less shape logs holds acts r, ends-born shape logs holds acts r, drops shape logs holds acts r)
+  hits-less r =
+      omega (
+        arith,
+        put-down shape logs holds acts r,
+        removes-less shape logs holds acts r,
+        ends-born shape logs holds
+            acts r,
+        drops shape logs holds acts r,
+      )
 
   pub keeps-less : (r : RegionId) → keeps_in logs r ≤ ends_in logs r
   keeps-less r = omega (arith, put-down shape logs holds acts r, drops shape logs holds acts r)
@@ -92,38 +124,85 @@ module _ (shape : Shape) (logs : Logs) (holds : HistoriesPaged shape logs) (acts
   pub born-most : (n : ℕ) (r : RegionId) → births_in logs (with_uses r n) ≤ 1
   born-most zero r = omega (arith, unused-none (with_uses r 0) refl)
   born-most (suc n) r =
-      let step : births_in logs (one_more (with_uses r n)) ≡ takes_in logs (with_uses r n) + hits_in logs (with_uses r n) = births-next shape logs holds acts (with_uses r n) in
+      let step : births_in logs (one_more (with_uses r n))
+      ≡ takes_in logs (with_uses r n) + hits_in logs (with_uses r n) =
+      births-next shape logs holds acts (with_uses r n) in
       let number : suc n ≡ n + 1 = omega arith in
       let ih : births_in logs (with_uses r n) ≤ 1 = born-most n r in
       omega (arith, ap (λ m. births_in logs (with_uses r m)) number, step, cases n r ih)
     where
-      cases : (n : ℕ) (r : RegionId) → births_in logs (with_uses r n) ≤ 1 → takes_in logs (with_uses r n) + hits_in logs (with_uses r n) ≤ 1
-      cases zero r ih = omega (arith, takes-most shape logs holds acts (with_uses r 0), hits-less (with_uses r 0), unused-none (with_uses r 0) refl)
-      cases (suc m) r ih = omega (arith, takes-unused shape logs holds acts (with_uses r (suc m)) (omega arith), hits-less (with_uses r (suc m)), ih)
+      cases : (n : ℕ) (r : RegionId) → births_in logs (with_uses r n) ≤ 1
+          → takes_in logs (with_uses r n) + hits_in logs (with_uses r n) ≤ 1
+      cases zero r ih =
+          omega (
+            arith,
+            takes-most shape logs holds acts (with_uses r 0),
+            hits-less (with_uses r 0),
+            unused-none
+                (with_uses r 0) refl,
+          )
+      cases (suc m) r ih =
+          omega (
+            arith,
+            takes-unused shape logs holds acts (with_uses r (suc m)) (omega arith),
+            hits-less
+                (with_uses r (suc m)),
+            ih,
+          )
 
   pub one-use : (first second : RootId) (r : RegionId) → IsUse logs first r → IsUse logs second r → first ≡ second
   one-use first second r a b =
-      let notes : At (Object.Root first.place) a.number (Birth first r) ≡ At (Object.Root second.place) b.number (Birth second r) =
-      over-one (note_tally logs (born_by r)) logs a.lane b.lane a.at b.at (At (Object.Root first.place) a.number (Birth first r)) (At (Object.Root second.place) b.number (Birth second r)) a.birth b.birth (born-most r.uses r)
+      let notes : At (Object.Root first.place) a.number (Birth first r)
+      ≡ At (Object.Root second.place) b.number (Birth second r) =
+      over-one (note_tally logs (born_by r)) logs a.lane b.lane a.at b.at
+      (At (Object.Root first.place) a.number (Birth first r))
+      (At (Object.Root second.place) b.number (Birth second r)) a.birth b.birth (born-most r.uses r)
       (birth-weight first a.number r r (same_region-refl r)) (birth-weight second b.number r r (same_region-refl r)) in
       cc notes
 
   -- an end takes out the region of a use
-  pub end-use : (lane i k : ℕ) (o : Object) (root : RootId) (r : RegionId) → slice_get (of_lane logs lane) i ≡ Some (At o k (End root)) → (entry_of logs (At o k (End root))).region ≡ Some r → IsUse logs root r × Done logs (Object.Root root.place) (End root)
+  pub end-use : (lane i k : ℕ) (o : Object) (root : RootId) (r : RegionId)
+      → slice_get (of_lane logs lane) i ≡ Some (At o k (End root)) → (entry_of logs (At o k (End root))).region ≡ Some r
+      → IsUse logs root r × Done logs (Object.Root root.place) (End root)
   end-use lane i k o root r is region =
       let here : o ≡ Object.Root root.place = note-placed shape logs holds acts lane i k o (End root) is in
-      let is' : slice_get (of_lane logs lane) i ≡ Some (At (Object.Root root.place) k (End root)) = is ∙ ap (λ x. Some (At x k (End root))) here in
+      let is' : slice_get (of_lane logs lane) i ≡ Some (At (Object.Root root.place) k (End root)) = is
+      ∙ ap (λ x. Some (At x k (End root))) here in
       let h : History = history_of (Object.Root root.place) logs in
-      let at : (j : ℕ) × (k ≡ 1 + j) × (slice_get (history_of (Object.Root root.place) logs) j ≡ Some (lane, End root)) = in-history (Object.Root root.place) logs (history_of (Object.Root root.place) logs) (holds.whole (Object.Root root.place)) lane i k (End root) is' in
-      let ok : (t : RootPlace) × (place_after root.place (dids (history_of (Object.Root root.place) logs)) ≡ Some t) = is-some (place_after root.place (dids (history_of (Object.Root root.place) logs))) (holds.accepted (Object.Root root.place)) in
-      let b : (m : RootPlace) × (p : Present) × (i : ℕ) × (place_after root.place (take at.0 (dids (history_of (Object.Root root.place) logs))) ≡ Some m) × (m.present ≡ Some p) × (p.root ≡ root) × (slice_get (dids (history_of (Object.Root root.place) logs)) i ≡ Some (Birth root p.region)) × (i < at.0) =
-      end-born root.place (dids (history_of (Object.Root root.place) logs)) ok.0 at.0 root ok.1 (dids-at (history_of (Object.Root root.place) logs) at.0 lane (End root) at.2) in
+      let at : (j : ℕ) × (k ≡ 1 + j)
+      × (slice_get (history_of (Object.Root root.place) logs) j ≡ Some (lane, End root)) =
+      in-history (Object.Root root.place) logs (history_of (Object.Root root.place) logs)
+      (holds.whole (Object.Root root.place)) lane i k (End root) is' in
+      let ok : (t : RootPlace) × (place_after root.place (dids (history_of (Object.Root root.place) logs)) ≡ Some t) =
+      is-some (place_after root.place (dids (history_of (Object.Root root.place) logs)))
+      (holds.accepted (Object.Root root.place)) in
+      let b : (m : RootPlace) × (p : Present) × (i : ℕ)
+      × (place_after root.place (take at.0 (dids (history_of (Object.Root root.place) logs))) ≡ Some m)
+      × (m.present ≡ Some p) × (p.root ≡ root)
+      × (slice_get (dids (history_of (Object.Root root.place) logs)) i ≡ Some (Birth root p.region)) × (i < at.0) =
+      end-born root.place (dids (history_of (Object.Root root.place) logs)) ok.0 at.0 root ok.1
+      (dids-at (history_of (Object.Root root.place) logs) at.0 lane (End root) at.2) in
       let before : k - 1 ≡ at.0 = omega (arith, at.1) in
-      let present : present_before logs root.place k ≡ Some b.1 = ap (λ n. present_in (place_after root.place (take n (dids (history_of (Object.Root root.place) logs))))) before ∙ ap present_in b.3 ∙ b.4 in
-      let found : Some b.1.region ≡ Some r = sym (ap (option_map (λ q. q.region)) present) ∙ ap (λ x. (entry_of logs (At x k (End root))).region) (sym here) ∙ region in
+      let present : present_before logs root.place k
+      ≡ Some b.1 =
+      ap (λ n. present_in (place_after root.place (take n (dids (history_of (Object.Root root.place) logs)))))
+      before ∙ ap present_in b.3 ∙ b.4 in
+      let found : Some b.1.region ≡ Some r = sym (ap (option_map (λ q. q.region)) present)
+      ∙ ap (λ x. (entry_of logs (At x k (End root))).region) (sym here) ∙ region in
       let found_is : b.1.region ≡ r = cc found in
-      let l : (lane : ℕ) × (slice_get (history_of (Object.Root root.place) logs) b.2 ≡ Some (lane, Birth root b.1.region)) = dids-there (history_of (Object.Root root.place) logs) b.2 (Birth root b.1.region) b.6 in
-      let n : (i : ℕ) × (slice_get (of_lane logs l.0) i ≡ Some (At (Object.Root root.place) (1 + b.2) (Birth root b.1.region))) = in-log (Object.Root root.place) logs (history_of (Object.Root root.place) logs) (holds.whole (Object.Root root.place)) l.0 b.2 (Birth root b.1.region) l.1 in (
-        record { lane = l.0; at = n.0; number = 1 + b.2; birth = n.1 ∙ ap (λ x. Some (At (Object.Root root.place) (1 + b.2) (Birth root x))) found_is },
+      let l : (lane : ℕ) × (slice_get (history_of (Object.Root root.place) logs) b.2
+      ≡ Some (lane, Birth root b.1.region)) = dids-there (history_of (Object.Root root.place) logs) b.2
+      (Birth root b.1.region) b.6 in
+      let n : (i : ℕ) × (slice_get (of_lane logs l.0) i
+      ≡ Some (At (Object.Root root.place) (1 + b.2) (Birth root b.1.region))) =
+      in-log (Object.Root root.place) logs (history_of (Object.Root root.place) logs)
+      (holds.whole (Object.Root root.place)) l.0 b.2 (Birth root b.1.region) l.1 in (
+        record {
+          lane = l.0;
+          at = n.0;
+          number = 1 + b.2;
+          birth = n.1
+              ∙ ap (λ x. Some (At (Object.Root root.place) (1 + b.2) (Birth root x))) found_is;
+        },
         record { lane = lane; at = i; number = k; stands = is' },
       )

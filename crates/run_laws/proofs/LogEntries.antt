@@ -17,28 +17,33 @@ entry-note logs (At _ k d) = refl
 entry-note logs (Ref root did) = refl
 entry-note logs (Busy held) = refl
 
-pub get-map : {X Y : Type 0} (f : X → Y) (xs : List X) (i : ℕ) (x : X) → slice_get xs i ≡ Some x → slice_get (map f xs) i ≡ Some (f x)
+pub get-map : {X Y : Type 0} (f : X → Y) (xs : List X) (i : ℕ) (x : X) → slice_get xs i ≡ Some x
+    → slice_get (map f xs) i ≡ Some (f x)
 get-map f [] i x e = absurd (cc e)
 get-map f (y ∷ ys) zero x e = let same : y ≡ x = cc e in ap (λ z. Some (f z)) same
 get-map f (y ∷ ys) (suc i) x e = get-map f ys i x e
 
-pub map-get : {X Y : Type 0} (f : X → Y) (xs : List X) (i : ℕ) (y : Y) → slice_get (map f xs) i ≡ Some y → (x : X) × (slice_get xs i ≡ Some x) × (f x ≡ y)
+pub map-get : {X Y : Type 0} (f : X → Y) (xs : List X) (i : ℕ) (y : Y) → slice_get (map f xs) i ≡ Some y
+    → (x : X) × (slice_get xs i ≡ Some x) × (f x ≡ y)
 map-get f [] i y e = absurd (cc e)
 map-get f (x ∷ xs) zero y e = (x, refl, cc e)
 map-get f (x ∷ xs) (suc i) y e = map-get f xs i y e
 
 -- the entries of a lane are made of its notes
-pub entries-at : (logs rest : Logs) (lane : ℕ) → of_lane (map (map (entry_of logs)) rest) lane ≡ map (entry_of logs) (of_lane rest lane)
+pub entries-at : (logs rest : Logs) (lane : ℕ) → of_lane (map (map (entry_of logs)) rest) lane
+    ≡ map (entry_of logs) (of_lane rest lane)
 entries-at logs [] lane = refl
 entries-at logs (log ∷ rest) zero = refl
 entries-at logs (log ∷ rest) (suc lane) = entries-at logs rest lane
 
-pub log-most : {X : Type 0} (f : X → ℕ) (logs : List (List X)) (lane : ℕ) → sum_by f (of_lane logs lane) ≤ sum_over f logs
+pub log-most : {X : Type 0} (f : X → ℕ) (logs : List (List X)) (lane : ℕ)
+    → sum_by f (of_lane logs lane) ≤ sum_over f logs
 log-most f [] lane = omega arith
 log-most f (xs ∷ logs) zero = omega arith
 log-most f (xs ∷ logs) (suc lane) = omega (arith, log-most f logs lane)
 
-pub lane-there : {X : Type 0} (logs : List (List X)) (lane i : ℕ) (x : X) → slice_get (of_lane logs lane) i ≡ Some x → lane < length logs
+pub lane-there : {X : Type 0} (logs : List (List X)) (lane i : ℕ) (x : X) → slice_get (of_lane logs lane) i ≡ Some x
+    → lane < length logs
 lane-there [] lane i x e = absurd (cc e)
 lane-there (xs ∷ logs) zero i x e = omega arith
 lane-there (xs ∷ logs) (suc lane) i x e = let ih : lane < length logs = lane-there logs lane i x e in omega (arith, ih)
@@ -54,7 +59,8 @@ log-past logs lane h = ap (λ o. unwrap_or o []) (slice_get-past logs lane h)
 abbrev pub LanesAct : Logs → Type 0
 LanesAct logs = (lane : ℕ) → Acts AnyNote (map (entry_of logs) (of_lane logs lane)) []
 
-pub logs-less : {X : Type 0} (f g : X → ℕ) (logs : List (List X)) → ((lane : ℕ) → sum_by f (of_lane logs lane) ≤ sum_by g (of_lane logs lane)) → sum_over f logs ≤ sum_over g logs
+pub logs-less : {X : Type 0} (f g : X → ℕ) (logs : List (List X))
+    → ((lane : ℕ) → sum_by f (of_lane logs lane) ≤ sum_by g (of_lane logs lane)) → sum_over f logs ≤ sum_over g logs
 logs-less f g [] h = omega arith
 logs-less f g (xs ∷ logs) h = omega (arith, h 0, logs-less f g logs (λ lane. h (suc lane)))
 
@@ -63,5 +69,7 @@ pub sums-less : (logs : Logs) → LanesAct logs → (f g : Note → ℕ) → Les
 sums-less logs acts f g less =
     logs-less f g logs
     (λ lane.
-    let a : sum_notes f (map (entry_of logs) (of_lane logs lane)) ≤ sum_notes g (map (entry_of logs) (of_lane logs lane)) = less-acts AnyNote f g less (map (entry_of logs) (of_lane logs lane)) [] (acts lane) (omega arith) in
+    let a : sum_notes f (map (entry_of logs) (of_lane logs lane)) ≤ sum_notes g
+    (map (entry_of logs) (of_lane logs lane)) =
+    less-acts AnyNote f g less (map (entry_of logs) (of_lane logs lane)) [] (acts lane) (omega arith) in
     omega (arith, a, sum-entries logs f (of_lane logs lane), sum-entries logs g (of_lane logs lane)))

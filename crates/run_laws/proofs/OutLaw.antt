@@ -67,25 +67,33 @@ takings-alike g x r e d =
     let base : same_taking (with_uses g x.uses) (with_uses g r.uses) ≡ true = same_taking-refl g in
     subst (λ y. same_taking x y ≡ true) r_is (subst (λ y. same_taking y (with_uses g r.uses) ≡ true) x_is base)
 
-pub filter-less : (g r : RegionId) (xs : List RegionId) → out_times r (filter (λ o. not (same_taking g o)) xs) ≤ out_times r xs
+pub filter-less : (g r : RegionId) (xs : List RegionId)
+    → out_times r (filter (λ o. not (same_taking g o)) xs) ≤ out_times r xs
 filter-less g r [] = omega arith
 filter-less g r (x ∷ xs) =
-    cond_both (not (same_taking g x)) (x ∷ filter (λ o. not (same_taking g o)) xs) (filter (λ o. not (same_taking g o)) xs) (λ z. out_times r z ≤ out_times r (x ∷ xs))
+    cond_both (not (same_taking g x)) (x ∷ filter (λ o. not (same_taking g o)) xs)
+    (filter (λ o. not (same_taking g o)) xs) (λ z. out_times r z ≤ out_times r (x ∷ xs))
     (λ _. omega (arith, filter-less g r xs)) (λ _. omega (arith, filter-less g r xs))
 
 -- what is given back was out, and is out no more
-pub filter-gives : (g r : RegionId) (xs : List RegionId) → list_any (λ o. same_taking g o) xs ≡ true → same_taking g r ≡ true → 1 + out_times r (filter (λ o. not (same_taking g o)) xs) ≤ out_times r xs
+pub filter-gives : (g r : RegionId) (xs : List RegionId) → list_any (λ o. same_taking g o) xs ≡ true
+    → same_taking g r ≡ true → 1 + out_times r (filter (λ o. not (same_taking g o)) xs) ≤ out_times r xs
 filter-gives g r [] e same = absurd (cc e)
 filter-gives g r (x ∷ xs) e same = go (same_taking g x) refl (λ more. filter-gives g r xs more same)
   where
-    go : (b : Bool) → same_taking g x ≡ b → (list_any (λ o. same_taking g o) xs ≡ true → 1 + out_times r (filter (λ o. not (same_taking g o)) xs) ≤ out_times r xs) → 1 + out_times r (filter (λ o. not (same_taking g o)) (x ∷ xs)) ≤ out_times r (x ∷ xs)
+    go : (b : Bool) → same_taking g x ≡ b
+        → (list_any (λ o. same_taking g o) xs ≡ true
+        → 1 + out_times r (filter (λ o. not (same_taking g o)) xs) ≤ out_times r xs)
+        → 1 + out_times r (filter (λ o. not (same_taking g o)) (x ∷ xs)) ≤ out_times r (x ∷ xs)
     go true here again =
         let one : one_of (same_taking x r) ≡ 1 = ap one_of (takings-alike g x r here same) in
-        let gone : filter (λ o. not (same_taking g o)) (x ∷ xs) ≡ filter (λ o. not (same_taking g o)) xs = (rw here refl) in
+        let gone : filter (λ o. not (same_taking g o)) (x ∷ xs)
+        ≡ filter (λ o. not (same_taking g o)) xs = (rw here refl) in
         omega (arith, one, ap (out_times r) gone, filter-less g r xs)
     go false here again =
         let rest : list_any (λ o. same_taking g o) xs ≡ true = sym (tail here) ∙ e in
-        let stays : filter (λ o. not (same_taking g o)) (x ∷ xs) ≡ x ∷ filter (λ o. not (same_taking g o)) xs = (rw here refl) in
+        let stays : filter (λ o. not (same_taking g o)) (x ∷ xs)
+        ≡ x ∷ filter (λ o. not (same_taking g o)) xs = (rw here refl) in
         omega (arith, ap (out_times r) stays, again rest)
       where
         tail : same_taking g x ≡ false → list_any (λ o. same_taking g o) (x ∷ xs) ≡ list_any (λ o. same_taking g o) xs
@@ -97,10 +105,18 @@ module _ (g : Geometry) (number : ℕ) (r : RegionId) where
 
   pub step-out : (a b : Arena) (d : Did) → ArenaHolds g number a → arena_step g number a d ≡ Some b → Balanced a d b
   step-out a b (Take class region) holds e =
-      let t : (x : RegionId) × (same_region region x ≡ true) × (b.out ≡ a.out ++ x ∷ []) = take_note-out g number a b class region holds e in
-      omega (arith, ap (out_times r) t.2, out-append r a.out (t.0 ∷ []), ap (λ x. one_of (same_taking x r)) (same_region-is region t.0 t.1))
+      let t : (x : RegionId) × (same_region region x ≡ true)
+      × (b.out ≡ a.out ++ x ∷ []) = take_note-out g number a b class region holds e in
+      omega (
+        arith,
+        ap (out_times r) t.2,
+        out-append r a.out (t.0 ∷ []),
+        ap (λ x. one_of (same_taking x r))
+            (same_region-is region t.0 t.1),
+      )
   step-out a b (Full class) holds e =
-      cond_both (nat_lt class (class_count g)) (if_none (take g number a class 0) a) None (λ z. z ≡ Some b → Balanced a (Full class) b)
+      cond_both (nat_lt class (class_count g)) (if_none (take g number a class 0) a) None
+      (λ z. z ≡ Some b → Balanced a (Full class) b)
       (λ _ is. go (take g number a class 0) is) (λ _ is. absurd (cc is)) e
     where
       go : (x : Option (RegionId × Arena)) → if_none x a ≡ Some b → Balanced a (Full class) b
@@ -113,31 +129,48 @@ module _ (g : Geometry) (number : ℕ) (r : RegionId) where
       (λ _ is. absurd (cc is))
       e
     where
-      given : (t : Bool) → same_taking region r ≡ t → is_out_of a region ≡ true → Balanced a (Give region) (give g a region)
+      given : (t : Bool) → same_taking region r ≡ t → is_out_of a region ≡ true
+          → Balanced a (Give region) (give g a region)
       given true here out = omega (arith, ap one_of here, filter-gives region r a.out out here)
       given false here out = omega (arith, ap one_of here, filter-less region r a.out)
   step-out a b _ holds e = absurd (cc e)
 
-  pub after-out : (ds : List Did) (a b : Arena) → ArenaHolds g number a → after (arena_step g number) a ds ≡ Some b → total_by (gives_taking r) ds + out_times r b.out ≤ total_by (takes_taking r) ds + out_times r a.out
+  pub after-out : (ds : List Did) (a b : Arena) → ArenaHolds g number a → after (arena_step g number) a ds ≡ Some b
+      → total_by (gives_taking r) ds + out_times r b.out ≤ total_by (takes_taking r) ds + out_times r a.out
   after-out [] a b holds e = let same : a ≡ b = cc e in omega (arith, ap (λ x. out_times r x.out) same)
-  after-out (d ∷ ds) a b holds e = first (arena_step g number a d) (λ m is. (step-holds g number a m d holds is, step-out a m d holds is)) e (λ m. after-out ds m b)
+  after-out (d ∷ ds) a b holds e =
+      first (arena_step g number a d) (λ m is. (step-holds g number a m d holds is, step-out a m d holds is)) e
+      (λ m. after-out ds m b)
     where
-      first : (o : Option Arena) → ((m : Arena) → o ≡ Some m → ArenaHolds g number m × Balanced a d m) → option_and_then (λ m. after (arena_step g number) m ds) o ≡ Some b →
-          ((m : Arena) → ArenaHolds g number m → after (arena_step g number) m ds ≡ Some b → total_by (gives_taking r) ds + out_times r b.out ≤ total_by (takes_taking r) ds + out_times r m.out) →
-          total_by (gives_taking r) (d ∷ ds) + out_times r b.out ≤ total_by (takes_taking r) (d ∷ ds) + out_times r a.out
+      first : (o : Option Arena) → ((m : Arena) → o ≡ Some m → ArenaHolds g number m × Balanced a d m)
+          → option_and_then (λ m. after (arena_step g number) m ds) o ≡ Some b →
+          ((m : Arena) → ArenaHolds g number m → after (arena_step g number) m ds ≡ Some b
+          → total_by (gives_taking r) ds + out_times r b.out ≤ total_by (takes_taking r) ds + out_times r m.out) →
+          total_by (gives_taking r) (d ∷ ds) + out_times r b.out ≤ total_by (takes_taking r) (d ∷ ds) + out_times r
+          a.out
       first None step is rest = absurd (cc is)
-      first (Some m) step is rest = let s : Balanced a d m = (step m refl).1 in omega (arith, s, rest m (step m refl).0 is)
+      first (Some m) step is rest =
+          let s : Balanced a d m = (step m refl).1 in omega (arith, s, rest m (step m refl).0 is)
 
 -- a taking is taken at most once
-pub taking-once : (number n m : ℕ) (r : RegionId) (ds : List Did) → TakenInOrder number n ds m → (total_by (takes_taking r) ds ≤ 1) × (r.taking ≤ n → total_by (takes_taking r) ds ≡ 0)
+pub taking-once : (number n m : ℕ) (r : RegionId) (ds : List Did) → TakenInOrder number n ds m
+    → (total_by (takes_taking r) ds ≤ 1) × (r.taking ≤ n → total_by (takes_taking r) ds ≡ 0)
 taking-once number n m r [] t = (omega arith, λ _. refl)
-taking-once number n m r (Take class x ∷ ds) t = go (same_taking x r) (λ same. sym (ap (λ y. y.taking) (same_taking-back x r same)) ∙ t.0.taking) (taking-once number (n + 1) m r ds t.1)
+taking-once number n m r (Take class x ∷ ds) t =
+    go (same_taking x r) (λ same. sym (ap (λ y. y.taking) (same_taking-back x r same)) ∙ t.0.taking)
+    (taking-once number (n + 1) m r ds t.1)
   where
-    go : (b : Bool) → (b ≡ true → r.taking ≡ n + 1) → (total_by (takes_taking r) ds ≤ 1) × (r.taking ≤ n + 1 → total_by (takes_taking r) ds ≡ 0) →
+    go : (b : Bool) → (b ≡ true → r.taking ≡ n + 1)
+        → (total_by (takes_taking r) ds ≤ 1) × (r.taking ≤ n + 1 → total_by (takes_taking r) ds ≡ 0) →
         (one_of b + total_by (takes_taking r) ds ≤ 1) × (r.taking ≤ n → one_of b + total_by (takes_taking r) ds ≡ 0)
-    go true f ih = let e : r.taking ≡ n + 1 = f refl in let none : total_by (takes_taking r) ds ≡ 0 = ih.1 (omega (arith, e)) in (omega (arith, none), λ low. absurd (omega (arith, e, low)))
+    go true f ih =
+        let e : r.taking ≡ n + 1 = f refl in let none : total_by (takes_taking r) ds ≡ 0 = ih.1 (omega (arith, e)) in
+        (omega (arith, none), λ low. absurd (omega (arith, e, low)))
     go false f ih = (omega (arith, ih.0), λ low. omega (arith, ih.1 (omega (arith, low))))
-taking-once number n m r (_ ∷ ds) t = let ih : (total_by (takes_taking r) ds ≤ 1) × (r.taking ≤ n → total_by (takes_taking r) ds ≡ 0) = taking-once number n m r ds t in (omega (arith, ih.0), λ low. omega (arith, ih.1 low))
+taking-once number n m r (_ ∷ ds) t =
+    let ih : (total_by (takes_taking r) ds ≤ 1) × (r.taking ≤ n → total_by (takes_taking r) ds ≡ 0) =
+    taking-once number n m r ds t in
+    (omega (arith, ih.0), λ low. omega (arith, ih.1 low))
 
 pub total-at : (f : Did → ℕ) (ds : List Did) (j : ℕ) (d : Did) → slice_get ds j ≡ Some d → f d ≤ total_by f ds
 total-at f [] j d e = absurd (cc e)
@@ -165,7 +198,8 @@ pub each-of : {X : Type 0} (P : X → Type 0) (xs : List X) → ((x : X) → IsO
 each-of P [] f = tt
 each-of P (x ∷ xs) f = (f x (inl refl), each-of P xs (λ y o. f y (inr o)))
 
-pub one-any : (test : RegionId → Bool) (x : RegionId) (xs : List RegionId) → IsOne x xs → test x ≡ true → list_any test xs ≡ true
+pub one-any : (test : RegionId → Bool) (x : RegionId) (xs : List RegionId) → IsOne x xs → test x ≡ true
+    → list_any test xs ≡ true
 one-any test x [] o e = absurd o
 one-any test x (y ∷ ys) (inl same) e = let here : test y ≡ true = ap test (sym same) ∙ e in rw here refl
 one-any test x (y ∷ ys) (inr o) e = go (test y) refl (one-any test x ys o e)
@@ -174,9 +208,11 @@ one-any test x (y ∷ ys) (inr o) e = go (test y) refl (one-any test x ys o e)
     go true here rest = rw here refl
     go false here rest = rw here rest
 
-pub all-at : (test : Note → Bool) (ns : List Note) (i : ℕ) (n : Note) → list_all test ns ≡ true → slice_get ns i ≡ Some n → test n ≡ true
+pub all-at : (test : Note → Bool) (ns : List Note) (i : ℕ) (n : Note) → list_all test ns ≡ true
+    → slice_get ns i ≡ Some n → test n ≡ true
 all-at test [] i n all e = absurd (cc e)
-all-at test (x ∷ ns) zero n all e = let same : x ≡ n = cc e in ap test (sym same) ∙ and-first (test x) (list_all test ns) all
+all-at test (x ∷ ns) zero n all e =
+    let same : x ≡ n = cc e in ap test (sym same) ∙ and-first (test x) (list_all test ns) all
 all-at test (x ∷ ns) (suc i) n all e = all-at test ns i n (and-second (test x) (list_all test ns) all) e
 
 abbrev pub uses_number : Note → ℕ
@@ -184,35 +220,62 @@ uses_number (At o k (Birth root x)) = x.uses
 uses_number _ = 0
 
 module _ (shape : Shape) (logs : Logs) (holds : HistoriesPaged shape logs) (acts : LanesAct logs)
-    (parts : (lane : ℕ) → lane < length logs → Parts lane (map (entry_of logs) (of_lane logs lane))) (counts : CountsAgree (entries_of logs)) where
+    (parts : (lane : ℕ) → lane < length logs → Parts lane (map (entry_of logs) (of_lane logs lane)))
+    (counts : CountsAgree (entries_of logs)) where
   -- a taking that was taken is its owner's, a lane of the run
   pub owner-there : (r : RegionId) → 1 ≤ takes_in logs (with_uses r 0) → r.owner < length logs
   owner-there r h =
-      let j : (j : ℕ) × (slice_get (dids (history_of (arena_of r) logs)) j ≡ Some (Take r.class (with_uses r 0))) = taken-at shape logs holds acts r h in
-      let l : (lane : ℕ) × (slice_get (history_of (arena_of r) logs) j.0 ≡ Some (lane, Take r.class (with_uses r 0))) = dids-there (history_of (arena_of r) logs) j.0 (Take r.class (with_uses r 0)) j.1 in
-      let n : (i : ℕ) × (slice_get (of_lane logs l.0) i ≡ Some (At (arena_of r) (1 + j.0) (Take r.class (with_uses r 0)))) = in-log (arena_of r) logs (history_of (arena_of r) logs) (holds.whole (arena_of r)) l.0 j.0 (Take r.class (with_uses r 0)) l.1 in
-      let stands : ((l.0 % shape.arenas == r.place.arena) && (r.owner == l.0)) ≡ true = all-at (note_stands shape l.0) (of_lane logs l.0) n.0 (At (arena_of r) (1 + j.0) (Take r.class (with_uses r 0))) (holds.stand l.0) n.1 in
-      let owner : r.owner ≡ l.0 = eqb-true r.owner l.0 (and-second (l.0 % shape.arenas == r.place.arena) (r.owner == l.0) stands) in
+      let j : (j : ℕ) × (slice_get (dids (history_of (arena_of r) logs)) j ≡ Some (Take r.class (with_uses r 0))) =
+      taken-at shape logs holds acts r h in
+      let l : (lane : ℕ) × (slice_get (history_of (arena_of r) logs) j.0 ≡ Some (lane, Take r.class (with_uses r 0))) =
+      dids-there (history_of (arena_of r) logs) j.0 (Take r.class (with_uses r 0)) j.1 in
+      let n : (i : ℕ) × (slice_get (of_lane logs l.0) i
+      ≡ Some (At (arena_of r) (1 + j.0) (Take r.class (with_uses r 0)))) =
+      in-log (arena_of r) logs (history_of (arena_of r) logs) (holds.whole (arena_of r)) l.0 j.0
+      (Take r.class (with_uses r 0)) l.1 in
+      let stands : ((l.0 % shape.arenas == r.place.arena) && (r.owner == l.0))
+      ≡ true =
+      all-at (note_stands shape l.0) (of_lane logs l.0) n.0
+      (At (arena_of r) (1 + j.0) (Take r.class (with_uses r 0))) (holds.stand l.0) n.1 in
+      let owner : r.owner ≡ l.0 = eqb-true r.owner l.0
+      (and-second (l.0 % shape.arenas == r.place.arena) (r.owner == l.0) stands) in
       omega (arith, owner, lane-there logs l.0 n.0 (At (arena_of r) (1 + j.0) (Take r.class (with_uses r 0))) n.1)
 
   -- what is kept has been hit or shed at the end
-  pub kept-gone : (r : RegionId) → r.owner < length logs → 1 ≤ keeps_in logs r → keeps_in logs r ≡ hits_in logs r + sheds_in logs r
+  pub kept-gone : (r : RegionId) → r.owner < length logs → 1 ≤ keeps_in logs r
+      → keeps_in logs r ≡ hits_in logs r + sheds_in logs r
   kept-gone r low kept =
-      let f : (i : ℕ) × (d : Did) × (slice_get (dids (history_of (cache_of r) logs)) i ≡ Some d) × (1 ≤ puts r d) = total-found (puts r) (dids (history_of (cache_of r) logs)) kept in
-      let is : slice_get (dids (history_of (cache_of r) logs)) f.0 ≡ Some (Kept r) = f.2 ∙ ap (λ x. Some x) (puts-kept r f.1 f.3) in
-      let l : (lane : ℕ) × (slice_get (history_of (cache_of r) logs) f.0 ≡ Some (lane, Kept r)) = dids-there (history_of (cache_of r) logs) f.0 (Kept r) is in
-      let n : (i : ℕ) × (slice_get (of_lane logs l.0) i ≡ Some (At (cache_of r) (1 + f.0) (Kept r))) = in-log (cache_of r) logs (history_of (cache_of r) logs) (holds.whole (cache_of r)) l.0 f.0 (Kept r) l.1 in
-      let has : has_cache r.class ≡ true = kept-cached shape logs holds acts parts l.0 n.0 (1 + f.0) (cache_of r) r n.1 in
-      let c : (c : Cache) × (cache_after r.owner r.class (dids (history_of (cache_of r) logs)) ≡ Some c) = is-some (cache_after r.owner r.class (dids (history_of (cache_of r) logs))) (holds.accepted (cache_of r)) in
-      let empty : c.0.regions ≡ [] = cache-empty shape logs holds acts parts r.owner r.class c.0 low (ltb-true r.class cached_classes has) c.1 in
+      let f : (i : ℕ) × (d : Did) × (slice_get (dids (history_of (cache_of r) logs)) i ≡ Some d)
+      × (1 ≤ puts r d) = total-found (puts r) (dids (history_of (cache_of r) logs)) kept in
+      let is : slice_get (dids (history_of (cache_of r) logs)) f.0 ≡ Some (Kept r) = f.2
+      ∙ ap (λ x. Some x) (puts-kept r f.1 f.3) in
+      let l : (lane : ℕ) × (slice_get (history_of (cache_of r) logs) f.0 ≡ Some (lane, Kept r)) =
+      dids-there (history_of (cache_of r) logs) f.0 (Kept r) is in
+      let n : (i : ℕ) × (slice_get (of_lane logs l.0) i ≡ Some (At (cache_of r) (1 + f.0) (Kept r))) =
+      in-log (cache_of r) logs (history_of (cache_of r) logs) (holds.whole (cache_of r)) l.0 f.0 (Kept r) l.1 in
+      let has : has_cache r.class ≡ true = kept-cached shape logs holds acts parts l.0 n.0 (1 + f.0) (cache_of r) r
+      n.1 in
+      let c : (c : Cache) × (cache_after r.owner r.class (dids (history_of (cache_of r) logs)) ≡ Some c) =
+      is-some (cache_after r.owner r.class (dids (history_of (cache_of r) logs))) (holds.accepted (cache_of r)) in
+      let empty : c.0.regions ≡ [] = cache-empty shape logs holds acts parts r.owner r.class c.0 low
+      (ltb-true r.class cached_classes has) c.1 in
       omega (arith, through shape logs holds acts r c.0 c.1, ap (times r) empty)
 
   -- the last use of a taking
-  last-use : (fuel n : ℕ) (r : RegionId) → 1 ≤ births_in logs (with_uses r n) → births_in logs (with_uses r (n + fuel)) ≡ 0 → (k : ℕ) × (1 ≤ births_in logs (with_uses r k)) × (births_in logs (with_uses r (k + 1)) ≡ 0)
-  last-use zero n r h none = absurd (omega (arith, h, none, ap (λ k. births_in logs (with_uses r k)) (let e : n + 0 ≡ n = omega arith in e)))
-  last-use (suc fuel) n r h none = go (births_in logs (with_uses r (n + 1))) refl (λ more. last-use fuel (n + 1) r more (ap (λ k. births_in logs (with_uses r k)) (let e : n + 1 + fuel ≡ n + suc fuel = omega arith in e) ∙ none))
+  last-use : (fuel n : ℕ) (r : RegionId) → 1 ≤ births_in logs (with_uses r n)
+      → births_in logs (with_uses r (n + fuel)) ≡ 0
+      → (k : ℕ) × (1 ≤ births_in logs (with_uses r k)) × (births_in logs (with_uses r (k + 1)) ≡ 0)
+  last-use zero n r h none =
+      absurd (omega (arith, h, none, ap (λ k. births_in logs (with_uses r k)) (let e : n + 0 ≡ n = omega arith in e)))
+  last-use (suc fuel) n r h none =
+      go (births_in logs (with_uses r (n + 1))) refl
+      (λ more. last-use fuel (n + 1) r more
+      (ap (λ k. births_in logs (with_uses r k)) (let e : n + 1 + fuel ≡ n + suc fuel = omega arith in e)
+      ∙ none))
     where
-      go : (b : ℕ) → births_in logs (with_uses r (n + 1)) ≡ b → (1 ≤ births_in logs (with_uses r (n + 1)) → (k : ℕ) × (1 ≤ births_in logs (with_uses r k)) × (births_in logs (with_uses r (k + 1)) ≡ 0)) →
+      go : (b : ℕ) → births_in logs (with_uses r (n + 1)) ≡ b
+          → (1 ≤ births_in logs (with_uses r (n + 1))
+          → (k : ℕ) × (1 ≤ births_in logs (with_uses r k)) × (births_in logs (with_uses r (k + 1)) ≡ 0)) →
           (k : ℕ) × (1 ≤ births_in logs (with_uses r k)) × (births_in logs (with_uses r (k + 1)) ≡ 0)
       go zero e again = (n, h, e)
       go (suc b) e again = again (omega (arith, e))
@@ -223,28 +286,56 @@ module _ (shape : Shape) (logs : Logs) (holds : HistoriesPaged shape logs) (acts
       go : (b : ℕ) → births_in logs (with_uses r n) ≡ b → births_in logs (with_uses r n) ≡ 0
       go zero e = e
       go (suc b) e =
-          let u : (root : RootId) × IsUse logs root (with_uses r n) = use-found shape logs holds acts (with_uses r n) (omega (arith, e)) in
-          absurd (omega (arith, over-at uses_number logs u.1.lane u.1.at (At (Object.Root u.0.place) u.1.number (Birth u.0 (with_uses r n))) u.1.birth, high))
+          let u : (root : RootId) × IsUse logs root (with_uses r n) =
+          use-found shape logs holds acts (with_uses r n) (omega (arith, e)) in
+          absurd (omega (
+            arith,
+            over-at uses_number logs u.1.lane u.1.at
+                (At (Object.Root u.0.place) u.1.number (Birth u.0 (with_uses r n))) u.1.birth,
+            high,
+          ))
 
   -- a taking that was taken and did not come back is used by a live root
-  pub held-by : (r : RegionId) → 1 ≤ takes_in logs (with_uses r 0) → ((n : ℕ) → gives_in logs (with_uses r n) ≡ 0) → IsHeld logs r
+  pub held-by : (r : RegionId) → 1 ≤ takes_in logs (with_uses r 0) → ((n : ℕ) → gives_in logs (with_uses r n) ≡ 0)
+      → IsHeld logs r
   held-by r taken none =
-      let first : births_in logs (with_uses r 1) ≡ takes_in logs (with_uses r 0) + hits_in logs (with_uses r 0) = births-next shape logs holds acts (with_uses r 0) in
-      let k : (k : ℕ) × (1 ≤ births_in logs (with_uses r k)) × (births_in logs (with_uses r (k + 1)) ≡ 0) = last-use (above uses_number logs) 1 r (omega (arith, first, taken)) (few-uses r (1 + above uses_number logs) (omega arith)) in
-      let u : (root : RootId) × IsUse logs root (with_uses r k.0) = use-found shape logs holds acts (with_uses r k.0) k.1 in
+      let first : births_in logs (with_uses r 1) ≡ takes_in logs (with_uses r 0) + hits_in logs (with_uses r 0) =
+      births-next shape logs holds acts (with_uses r 0) in
+      let k : (k : ℕ) × (1 ≤ births_in logs (with_uses r k))
+      × (births_in logs (with_uses r (k + 1)) ≡ 0) =
+      last-use (above uses_number logs) 1 r (omega (arith, first, taken))
+      (few-uses r (1 + above uses_number logs) (omega arith)) in
+      let u : (root : RootId) × IsUse logs root (with_uses r k.0) =
+      use-found shape logs holds acts (with_uses r k.0) k.1 in
       record {
         root = u.0;
         region = with_uses r k.0;
         used = u.1;
         same = same_taking-refl r;
         live = λ dead.
-            let ends : 1 ≤ ends_in logs (with_uses r k.0) = end-in shape logs holds acts parts counts u.0 (with_uses r k.0) u.1 (dead-ended shape logs holds acts parts counts u.0 (with_uses r k.0) u.1 dead) in
-            let next : births_in logs (with_uses r (k.0 + 1)) ≡ takes_in logs (with_uses r k.0) + hits_in logs (with_uses r k.0) = births-next shape logs holds acts (with_uses r k.0) in
-            let kept : 1 ≤ keeps_in logs (with_uses r k.0) = omega (arith, ends, put-down shape logs holds acts (with_uses r k.0), none k.0) in
-            absurd (omega (arith, kept, k.2, next, kept-gone (with_uses r k.0) (owner-there r taken) kept, drops shape logs holds acts (with_uses r k.0), none k.0));
+            let ends : 1 ≤ ends_in logs (with_uses r k.0) =
+            end-in shape logs holds acts parts counts u.0 (with_uses r k.0) u.1
+            (dead-ended shape logs holds acts parts counts u.0 (with_uses r k.0) u.1 dead) in
+            let next : births_in logs (with_uses r (k.0 + 1))
+            ≡ takes_in logs (with_uses r k.0) + hits_in logs (with_uses r k.0) =
+            births-next shape logs holds acts (with_uses r k.0) in
+            let kept : 1 ≤ keeps_in logs (with_uses r k.0) =
+            omega (arith, ends, put-down shape logs holds acts (with_uses r k.0), none k.0) in
+            absurd (omega (
+              arith,
+              kept,
+              k.2,
+              next,
+              kept-gone (with_uses r k.0) (owner-there r taken) kept,
+              drops shape
+                  logs holds acts (with_uses r k.0),
+              none k.0,
+            ));
       }
 
-  ends-note : (r : RegionId) (n : Note) → 1 ≤ note_tally logs (ended_by r) n → (o : Object) × (k : ℕ) × (root : RootId) × (n ≡ At o k (End root)) × ((entry_of logs (At o k (End root))).region ≡ Some r)
+  ends-note : (r : RegionId) (n : Note) → 1 ≤ note_tally logs (ended_by r) n
+      → (o : Object) × (k : ℕ) × (root : RootId) × (n ≡ At o k (End root))
+      × ((entry_of logs (At o k (End root))).region ≡ Some r)
   ends-note r (At o k (End root)) h = (o, k, root, refl, some (entry_of logs (At o k (End root))).region h)
     where
       some : (t : Option RegionId) → 1 ≤ one_same r t → t ≡ Some r
@@ -261,14 +352,20 @@ module _ (shape : Shape) (logs : Logs) (holds : HistoriesPaged shape logs) (acts
       go : (n : ℕ) → ends_in logs r ≡ n → ends_in logs r ≡ 0
       go zero e = e
       go (suc n) e =
-          let f : (lane : ℕ) × (i : ℕ) × (n : Note) × (slice_get (of_lane logs lane) i ≡ Some n) × (1 ≤ note_tally logs (ended_by r) n) = over-found (note_tally logs (ended_by r)) logs (omega (arith, e)) in
-          let a : (o : Object) × (k : ℕ) × (root : RootId) × (f.2 ≡ At o k (End root)) × ((entry_of logs (At o k (End root))).region ≡ Some r) = ends-note r f.2 f.4 in
-          let w : IsUse logs a.2 r × Done logs (Object.Root a.2.place) (End a.2) = end-use shape logs holds acts f.0 f.1 a.1 a.0 a.2 r (f.3 ∙ ap (λ x. Some x) a.3) a.4 in
+          let f : (lane : ℕ) × (i : ℕ) × (n : Note) × (slice_get (of_lane logs lane) i ≡ Some n)
+          × (1 ≤ note_tally logs (ended_by r) n) =
+          over-found (note_tally logs (ended_by r)) logs (omega (arith, e)) in
+          let a : (o : Object) × (k : ℕ) × (root : RootId) × (f.2 ≡ At o k (End root))
+          × ((entry_of logs (At o k (End root))).region ≡ Some r) = ends-note r f.2 f.4 in
+          let w : IsUse logs a.2 r × Done logs (Object.Root a.2.place) (End a.2) =
+          end-use shape logs holds acts f.0 f.1 a.1 a.0 a.2 r (f.3 ∙ ap (λ x. Some x) a.3) a.4 in
           let same : a.2 ≡ root = one-use shape logs holds acts a.2 root r w.0 u in
-          absurd (live (ended-dead shape logs holds acts parts counts root r u (subst (λ x. Done logs (Object.Root x.place) (End x)) same w.1)))
+          absurd (live (ended-dead shape logs holds acts parts counts root r u
+          (subst (λ x. Done logs (Object.Root x.place) (End x)) same w.1)))
 
   -- so its taking has no later use
-  pub no-later : (root : RootId) (r : RegionId) → IsUse logs root r → total_in logs root ≢ 0 → (n : ℕ) → r.uses < n → births_in logs (with_uses r n) ≡ 0
+  pub no-later : (root : RootId) (r : RegionId) → IsUse logs root r → total_in logs root ≢ 0 → (n : ℕ) → r.uses < n
+      → births_in logs (with_uses r n) ≡ 0
   no-later root r u live n more =
       let d = difference r.uses n more in
       ap (λ k. births_in logs (with_uses r k)) d.1 ∙ none d.0
@@ -276,7 +373,8 @@ module _ (shape : Shape) (logs : Logs) (holds : HistoriesPaged shape logs) (acts
       difference : (a b : ℕ) → a < b → (m : ℕ) × (b ≡ a + 1 + m)
       difference a zero h = absurd (omega arith)
       difference zero (suc b) h = (b, omega arith)
-      difference (suc a) (suc b) h = let d : (m : ℕ) × (b ≡ a + 1 + m) = difference a b (omega arith) in (d.0, omega (arith, d.1))
+      difference (suc a) (suc b) h =
+          let d : (m : ℕ) × (b ≡ a + 1 + m) = difference a b (omega arith) in (d.0, omega (arith, d.1))
 
       first : births_in logs (with_uses r (r.uses + 1)) ≡ 0
       first =
@@ -291,14 +389,27 @@ module _ (shape : Shape) (logs : Logs) (holds : HistoriesPaged shape logs) (acts
           )
 
       none : (m : ℕ) → births_in logs (with_uses r (r.uses + 1 + m)) ≡ 0
-      none zero = let e : r.uses + 1 + 0 ≡ r.uses + 1 = omega arith in ap (λ k. births_in logs (with_uses r k)) e ∙ first
+      none zero =
+          let e : r.uses + 1 + 0 ≡ r.uses + 1 = omega arith in ap (λ k. births_in logs (with_uses r k)) e ∙ first
       none (suc m) =
-          let next : births_in logs (with_uses r (r.uses + 1 + m + 1)) ≡ takes_in logs (with_uses r (r.uses + 1 + m)) + hits_in logs (with_uses r (r.uses + 1 + m)) = births-next shape logs holds acts (with_uses r (r.uses + 1 + m)) in
+          let next : births_in logs (with_uses r (r.uses + 1 + m + 1))
+          ≡ takes_in logs (with_uses r (r.uses + 1 + m)) + hits_in logs (with_uses r (r.uses + 1 + m)) =
+          births-next shape logs holds acts (with_uses r (r.uses + 1 + m)) in
           let number : r.uses + 1 + suc m ≡ r.uses + 1 + m + 1 = omega arith in
-          omega (arith, none m, ap (λ k. births_in logs (with_uses r k)) number, next, takes-unused shape logs holds acts (with_uses r (r.uses + 1 + m)) (omega arith), hits-less shape logs holds acts (with_uses r (r.uses + 1 + m)))
+          omega (
+            arith,
+            none m,
+            ap (λ k. births_in logs (with_uses r k)) number,
+            next,
+            takes-unused shape logs holds
+                acts (with_uses r (r.uses + 1 + m)) (omega arith),
+            hits-less shape logs holds acts
+                (with_uses r (r.uses + 1 + m)),
+          )
 
   -- and no use of it has come back
-  pub live-kept : (root : RootId) (r : RegionId) → IsUse logs root r → total_in logs root ≢ 0 → (n : ℕ) → gives_in logs (with_uses r n) ≡ 0
+  pub live-kept : (root : RootId) (r : RegionId) → IsUse logs root r → total_in logs root ≢ 0 → (n : ℕ)
+      → gives_in logs (with_uses r n) ≡ 0
   live-kept root r u live n = go (gives_in logs (with_uses r n)) refl
     where
       born : 1 ≤ births_in logs r
@@ -312,12 +423,32 @@ module _ (shape : Shape) (logs : Logs) (holds : HistoriesPaged shape logs) (acts
       go (suc g) e =
           ⊎_elim
           -- before this use
-          (λ less. absurd (omega (arith, born, given-last shape logs holds acts (with_uses r n) r.uses less (omega (arith, e)))))
+          (λ less. absurd (omega (
+            arith,
+            born,
+            given-last shape logs holds acts (with_uses r n) r.uses less
+                (omega (arith, e)),
+          )))
           (λ o. ⊎_elim
           (λ equal.
           let here : gives_in logs (with_uses r n) ≡ gives_in logs r = ap (λ k. gives_in logs (with_uses r k)) equal in
-          absurd (omega (arith, e, here, no_end, put-down shape logs holds acts r, keeps-removes, drops shape logs holds acts r)))
-          (λ more. absurd (omega (arith, e, hits-less shape logs holds acts (with_uses r n), no-later root r u live n more)))
+          absurd (omega (
+            arith,
+            e,
+            here,
+            no_end,
+            put-down shape logs holds acts r,
+            keeps-removes,
+            drops shape logs holds
+                acts r,
+          )))
+          (λ more. absurd (omega (
+            arith,
+            e,
+            hits-less shape logs holds acts (with_uses r n),
+            no-later root r u live n
+                more,
+          )))
           o)
           (compare-uses n r.uses)
         where
@@ -339,57 +470,108 @@ module _ (shape : Shape) (logs : Logs) (holds : HistoriesPaged shape logs) (acts
 
       held-one : (r : RegionId) → IsOne r a.out → IsHeld logs r
       held-one r o =
-          let balance : total_by (gives_taking r) ds + out_times r a.out ≤ total_by (takes_taking r) ds + 0 = after-out (geometry_of shape) number r ds (new_arena (geometry_of shape) shape.chunks) a start e in
-          let once : total_by (takes_taking r) ds ≤ 1 = (taking-once number 0 a.takings r ds (takings-in_order shape number ds a e)).0 in
+          let balance : total_by (gives_taking r) ds + out_times r a.out ≤ total_by (takes_taking r) ds + 0 =
+          after-out (geometry_of shape) number r ds (new_arena (geometry_of shape) shape.chunks) a start e in
+          let once : total_by (takes_taking r) ds ≤ 1 =
+          (taking-once number 0 a.takings r ds (takings-in_order shape number ds a e)).0 in
           let out : 1 ≤ out_times r a.out = out-one r a.out o in
-          let f : (i : ℕ) × (d : Did) × (slice_get ds i ≡ Some d) × (1 ≤ takes_taking r d) = total-found (takes_taking r) ds (omega (arith, balance, out)) in
+          let f : (i : ℕ) × (d : Did) × (slice_get ds i ≡ Some d)
+          × (1 ≤ takes_taking r d) = total-found (takes_taking r) ds (omega (arith, balance, out)) in
           let t : (c : ℕ) × (x : RegionId) × (f.1 ≡ Take c x) × (same_taking x r ≡ true) = taken f.1 f.3 in
-          let p : (Object.Arena number ≡ arena_of t.1) × ((t.1.uses ≡ 0) × (t.1.class ≡ t.0)) = placed shape holds.page (Object.Arena number) ds f.0 (Take t.0 t.1) (holds.accepted (Object.Arena number)) (f.2 ∙ ap (λ x. Some x) t.2) in
+          let p : (Object.Arena number ≡ arena_of t.1)
+          × ((t.1.uses ≡ 0) × (t.1.class ≡ t.0)) =
+          placed shape holds.page (Object.Arena number) ds f.0 (Take t.0 t.1)
+          (holds.accepted (Object.Arena number)) (f.2 ∙ ap (λ x. Some x) t.2) in
           let x_is : t.1 ≡ with_uses r 0 = same_taking-back t.1 r t.3 ∙ ap (λ n. with_uses r n) p.1.0 in
           let here : Object.Arena number ≡ arena_of r = p.0 ∙ ap arena_of x_is in
-          let at : slice_get (dids (history_of (arena_of r) logs)) f.0 ≡ Some (Take t.0 (with_uses r 0)) = ap (λ x. slice_get (dids (history_of x logs)) f.0) (sym here) ∙ f.2 ∙ ap (λ x. Some x) t.2 ∙ ap (λ x. Some (Take t.0 x)) x_is in
+          let at : slice_get (dids (history_of (arena_of r) logs)) f.0
+          ≡ Some (Take t.0 (with_uses r 0)) =
+          ap (λ x. slice_get (dids (history_of x logs)) f.0) (sym here) ∙ f.2 ∙ ap (λ x. Some x) t.2
+          ∙ ap (λ x. Some (Take t.0 x)) x_is in
           held-by r
-          (omega (arith, total-at (takes (with_uses r 0)) (dids (history_of (arena_of r) logs)) f.0 (Take t.0 (with_uses r 0)) at, ap one_of (same_region-refl (with_uses r 0))))
+          (omega (
+            arith,
+            total-at (takes (with_uses r 0)) (dids (history_of (arena_of r) logs)) f.0
+                (Take t.0 (with_uses r 0)) at,
+            ap one_of (same_region-refl (with_uses r 0)),
+          ))
           (λ n. none n here (omega (arith, balance, once, out)))
         where
-          taken : (d : Did) → 1 ≤ takes_taking r d → (c : ℕ) × (x : RegionId) × (d ≡ Take c x) × (same_taking x r ≡ true)
+          taken : (d : Did) → 1 ≤ takes_taking r d
+              → (c : ℕ) × (x : RegionId) × (d ≡ Take c x) × (same_taking x r ≡ true)
           taken (Take c x) h = (c, x, refl, one-of-true (same_taking x r) h)
           taken _ h = absurd (omega (arith, h))
 
           less : (n : ℕ) (d : Did) → gives_of (with_uses r n) d ≤ gives_taking r d
           less n (Give x) = go (same_region (with_uses r n) x) refl
             where
-              go : (b : Bool) → same_region (with_uses r n) x ≡ b → one_of (same_region (with_uses r n) x) ≤ one_of (same_taking x r)
+              go : (b : Bool) → same_region (with_uses r n) x ≡ b
+                  → one_of (same_region (with_uses r n) x) ≤ one_of (same_taking x r)
               go false e = omega (arith, ap one_of e)
               go true e =
-                  let same : same_taking x r ≡ true = ap (λ y. same_taking y r) (sym (same_region-is (with_uses r n) x e)) ∙ same_taking-refl r in
+                  let same : same_taking x r ≡ true =
+                  ap (λ y. same_taking y r) (sym (same_region-is (with_uses r n) x e)) ∙ same_taking-refl r in
                   omega (arith, ap one_of e, ap one_of same)
           less n _ = omega arith
 
-          none : (n : ℕ) → Object.Arena number ≡ arena_of r → total_by (gives_taking r) ds ≡ 0 → gives_in logs (with_uses r n) ≡ 0
-          none n here zero_gives = omega (arith, total-less (gives_of (with_uses r n)) (gives_taking r) ds (less n), zero_gives, ap (λ o. total_by (gives_of (with_uses r n)) (dids (history_of o logs))) here)
+          none : (n : ℕ) → Object.Arena number ≡ arena_of r → total_by (gives_taking r) ds ≡ 0
+              → gives_in logs (with_uses r n) ≡ 0
+          none n here zero_gives =
+              omega (
+                arith,
+                total-less (gives_of (with_uses r n)) (gives_taking r) ds (less n),
+                zero_gives,
+                ap
+                    (λ o. total_by (gives_of (with_uses r n)) (dids (history_of o logs))) here,
+              )
 
-      still : (root : RootId) (r : RegionId) → IsUse logs root r → total_in logs root ≢ 0 → r.place.arena ≡ number → (b : Bool) → is_out_of a r ≡ b → IsTrue (is_out_of a r)
+      still : (root : RootId) (r : RegionId) → IsUse logs root r → total_in logs root ≢ 0 → r.place.arena ≡ number
+          → (b : Bool) → is_out_of a r ≡ b → IsTrue (is_out_of a r)
       still root r u live here true out = out
       still root r u live here false _ =
-          let j : (j : ℕ) × (slice_get (dids (history_of (arena_of r) logs)) j ≡ Some (Take r.class (with_uses r 0))) = taken-at shape logs holds acts r (taken-of shape logs holds acts r.uses r (use-counts shape logs holds acts root r u)) in
-          let at : slice_get ds j.0 ≡ Some (Take r.class (with_uses r 0)) = ap (λ k. slice_get (dids (history_of (Object.Arena k) logs)) j.0) (sym here) ∙ j.1 in
-          let s : (between rest : List Did) × (ds ≡ (between ++ Take r.class (with_uses r 0) ∷ []) ++ rest) × ((m : ℕ) (z : Did) → slice_get between m ≡ Some z → (slice_get ds m ≡ Some z) × (m < j.0)) = split-at ds j.0 (Take r.class (with_uses r 0)) at in
-          let x : (m : Arena) × (arena_after shape number (s.0 ++ Take r.class (with_uses r 0) ∷ []) ≡ Some m) × (after (arena_step (geometry_of shape) number) m s.1 ≡ Some a) =
-          after-append (arena_step (geometry_of shape) number) (s.0 ++ Take r.class (with_uses r 0) ∷ []) s.1 (new_arena (geometry_of shape) shape.chunks) a (ap (arena_after shape number) (sym s.2) ∙ e) in
-          let y : (m : Arena) × (arena_after shape number s.0 ≡ Some m) × (after (arena_step (geometry_of shape) number) m (Take r.class (with_uses r 0) ∷ []) ≡ Some x.0) =
-          after-append (arena_step (geometry_of shape) number) s.0 (Take r.class (with_uses r 0) ∷ []) (new_arena (geometry_of shape) shape.chunks) x.0 x.1 in
-          let y_holds : ArenaHolds (geometry_of shape) number y.0 = after-holds (geometry_of shape) number s.0 (new_arena (geometry_of shape) shape.chunks) y.0 start y.1 in
-          let x_holds : ArenaHolds (geometry_of shape) number x.0 = after-holds (geometry_of shape) number (s.0 ++ Take r.class (with_uses r 0) ∷ []) (new_arena (geometry_of shape) shape.chunks) x.0 start x.1 in
-          let t : (z : RegionId) × (same_region (with_uses r 0) z ≡ true) × (x.0.out ≡ y.0.out ++ z ∷ []) = take_note-out (geometry_of shape) number y.0 x.0 r.class (with_uses r 0) y_holds (one-step (arena_step (geometry_of shape) number) y.0 x.0 (Take r.class (with_uses r 0)) y.2) in
-          let there : IsOne (with_uses r 0) x.0.out = subst (λ xs. IsOne (with_uses r 0) xs) (sym t.2) (subst (λ z. IsOne (with_uses r 0) (y.0.out ++ z ∷ [])) (same_region-is (with_uses r 0) t.0 t.1) (IsOne-last (with_uses r 0) y.0.out)) in
+          let j : (j : ℕ) × (slice_get (dids (history_of (arena_of r) logs)) j ≡ Some (Take r.class (with_uses r 0))) =
+          taken-at shape logs holds acts r
+          (taken-of shape logs holds acts r.uses r (use-counts shape logs holds acts root r u)) in
+          let at : slice_get ds j.0 ≡ Some (Take r.class (with_uses r 0)) =
+          ap (λ k. slice_get (dids (history_of (Object.Arena k) logs)) j.0) (sym here) ∙ j.1 in
+          let s : (between rest : List Did) × (ds ≡ (between ++ Take r.class (with_uses r 0) ∷ []) ++ rest)
+          × ((m : ℕ) (z : Did) → slice_get between m ≡ Some z → (slice_get ds m ≡ Some z) × (m < j.0)) =
+          split-at ds j.0 (Take r.class (with_uses r 0)) at in
+          let x : (m : Arena) × (arena_after shape number (s.0 ++ Take r.class (with_uses r 0) ∷ []) ≡ Some m)
+          × (after (arena_step (geometry_of shape) number) m s.1 ≡ Some a) =
+          after-append (arena_step (geometry_of shape) number) (s.0 ++ Take r.class (with_uses r 0) ∷ []) s.1
+          (new_arena (geometry_of shape) shape.chunks) a (ap (arena_after shape number) (sym s.2) ∙ e) in
+          let y : (m : Arena) × (arena_after shape number s.0 ≡ Some m)
+          × (after (arena_step (geometry_of shape) number) m (Take r.class (with_uses r 0) ∷ []) ≡ Some x.0) =
+          after-append (arena_step (geometry_of shape) number) s.0 (Take r.class (with_uses r 0) ∷ [])
+          (new_arena (geometry_of shape) shape.chunks) x.0 x.1 in
+          let y_holds : ArenaHolds (geometry_of shape) number y.0 =
+          after-holds (geometry_of shape) number s.0 (new_arena (geometry_of shape) shape.chunks) y.0 start y.1 in
+          let x_holds : ArenaHolds (geometry_of shape) number x.0 =
+          after-holds (geometry_of shape) number (s.0 ++ Take r.class (with_uses r 0) ∷ [])
+          (new_arena (geometry_of shape) shape.chunks) x.0 start x.1 in
+          let t : (z : RegionId) × (same_region (with_uses r 0) z ≡ true)
+          × (x.0.out ≡ y.0.out ++ z ∷ []) = take_note-out (geometry_of shape) number y.0 x.0 r.class (with_uses r 0)
+          y_holds (one-step (arena_step (geometry_of shape) number) y.0 x.0 (Take r.class (with_uses r 0))
+          y.2) in
+          let there : IsOne (with_uses r 0) x.0.out =
+          subst (λ xs. IsOne (with_uses r 0) xs) (sym t.2)
+          (subst (λ z. IsOne (with_uses r 0) (y.0.out ++ z ∷ [])) (same_region-is (with_uses r 0) t.0 t.1)
+          (IsOne-last (with_uses r 0) y.0.out)) in
           decide (list_any (gives (with_uses r 0)) s.1)
-          (λ kept. one-any (λ o. same_taking r o) (with_uses r 0) a.out (after-keeps (geometry_of shape) number s.1 x.0 a (with_uses r 0) x_holds x.2 there kept) (same_taking-refl r))
+          (λ kept. one-any (λ o. same_taking r o) (with_uses r 0) a.out
+          (after-keeps (geometry_of shape) number s.1 x.0 a (with_uses r 0) x_holds x.2 there kept)
+          (same_taking-refl r))
           (λ back.
-          let m : (m : ℕ) × (z : Did) × (slice_get s.1 m ≡ Some z) × (gives (with_uses r 0) z ≡ true) = any-at (gives (with_uses r 0)) s.1 back in
-          let g : (v : RegionId) × (m.1 ≡ Give v) × (same_taking v (with_uses r 0) ≡ true) = gives-it (with_uses r 0) m.1 m.3 in
+          let m : (m : ℕ) × (z : Did) × (slice_get s.1 m ≡ Some z)
+          × (gives (with_uses r 0) z ≡ true) = any-at (gives (with_uses r 0)) s.1 back in
+          let g : (v : RegionId) × (m.1 ≡ Give v) × (same_taking v (with_uses r 0) ≡ true) =
+          gives-it (with_uses r 0) m.1 m.3 in
           let v_is : g.0 ≡ with_uses r g.0.uses = same_taking-back g.0 r g.2 in
-          let counted : gives_of (with_uses r g.0.uses) m.1 ≡ 1 = ap (gives_of (with_uses r g.0.uses)) (g.1 ∙ ap (λ w. Give w) v_is) ∙ ap one_of (same_region-refl (with_uses r g.0.uses)) in
+          let counted : gives_of (with_uses r g.0.uses) m.1
+          ≡ 1 =
+          ap (gives_of (with_uses r g.0.uses)) (g.1 ∙ ap (λ w. Give w) v_is)
+          ∙ ap one_of (same_region-refl (with_uses r g.0.uses)) in
           absurd (omega (
             arith,
             counted,

@@ -17,4 +17,11 @@ pub record HistoriesPaged (shape : Shape) (logs : Logs) : Type 0 where
   pub stand : (lane : ℕ) → IsTrue (list_all (note_stands shape lane) (of_lane logs lane))
 
 pub paged : (run : Run) → IsLegal run → HistoriesPaged run.shape (logs_of run)
-paged run legal = record { page = legal.shape.page; whole = legal.histories.whole; accepted = legal.histories.accepted; stand = legal.histories.stand }
+paged run legal =
+    record {
+      page = legal.shape.page;
+      whole = legal.histories.whole;
+      accepted = legal.histories.accepted;
+      stand =
+          legal.histories.stand;
+    }

@@ -47,25 +47,40 @@ strays-less lanes =
       other = other;
       birth = λ o k root r. omega (arith, none-strays lanes o k (Birth root r) (λ x. x));
       end = λ o k root. omega (arith, none-strays lanes o k (End root) (λ x. x));
-      shed = λ o p k l r may. omega (arith, none-strays lanes o k (Shed r) (λ x. x), none-strays lanes p l (Give r) (λ x. x));
+      shed =
+          λ o p k l r may. omega (
+            arith,
+            none-strays lanes o k (Shed r) (λ x. x),
+            none-strays lanes p l (Give r)
+                (λ x. x),
+          );
     }
   where
     other : (n : Note) → IsOther (NearPosts lanes) n → strays lanes n ≤ 0
     other (At (Object.Mail from to) k (Post p)) near = rw near (omega arith)
     other _ near = omega arith
 
-pub sends-fit : (shape : Shape) (earlier cs : List Command) → all_fit shape earlier cs ≡ true → EachOf (Sends (NearPosts shape.lanes)) cs
+pub sends-fit : (shape : Shape) (earlier cs : List Command) → all_fit shape earlier cs ≡ true
+    → EachOf (Sends (NearPosts shape.lanes)) cs
 sends-fit shape earlier [] e = tt
-sends-fit shape earlier (c ∷ cs) e = (send c (and-first (fits_after shape earlier c) (all_fit shape (earlier ++ c ∷ []) cs) e), sends-fit shape (earlier ++ c ∷ []) cs (and-second (fits_after shape earlier c) (all_fit shape (earlier ++ c ∷ []) cs) e))
+sends-fit shape earlier (c ∷ cs) e = (
+  send c (and-first (fits_after shape earlier c) (all_fit shape (earlier ++ c ∷ []) cs) e),
+  sends-fit shape
+      (earlier ++ c ∷ []) cs (and-second (fits_after shape earlier c) (all_fit shape (earlier ++ c ∷ []) cs) e),
+)
   where
     send : (c : Command) → fits_after shape earlier c ≡ true → Sends (NearPosts shape.lanes) c
     send (Command.Send name to) e = λ lane parcel. e
     send _ e = tt
 
-pub log-near : (shape : Shape) (lane : ℕ) (commands : List Command) (replies : List Answered) (es : Entries) → all_fit shape [] commands ≡ true → IsLaneLog shape lane commands replies es → sum_notes (strays shape.lanes) es ≡ 0
+pub log-near : (shape : Shape) (lane : ℕ) (commands : List Command) (replies : List Answered) (es : Entries)
+    → all_fit shape [] commands ≡ true → IsLaneLog shape lane commands replies es
+    → sum_notes (strays shape.lanes) es ≡ 0
 log-near shape lane commands replies es fit log =
     let less : sum_notes (strays shape.lanes) es ≤ sum_by (λ e. 0) es =
-    less-acts (NearPosts shape.lanes) (strays shape.lanes) (λ n. 0) (strays-less shape.lanes) es [] (log-acts (NearPosts shape.lanes) (may shape.lanes) shape lane commands replies es (sends-fit shape [] commands fit) log) (omega arith) in
+    less-acts (NearPosts shape.lanes) (strays shape.lanes) (λ n. 0) (strays-less shape.lanes) es []
+    (log-acts (NearPosts shape.lanes) (may shape.lanes) shape lane commands replies es
+    (sends-fit shape [] commands fit) log) (omega arith) in
     omega (arith, less, sum-none es)
   where
     may : (lanes : ℕ) → MayDrain (NearPosts lanes)
@@ -83,11 +98,22 @@ log-near shape lane commands replies es fit log =
         sheds (Object.Mail from to) r = tt
         sheds _ r = tt
 
-pub posts-within : (logs : Logs) (lanes : ℕ) → ((lane : ℕ) → lane < length logs → sum_notes (strays lanes) (map (entry_of logs) (of_lane logs lane)) ≡ 0) → PostsWithin logs lanes
+pub posts-within : (logs : Logs) (lanes : ℕ)
+    → ((lane : ℕ) → lane < length logs → sum_notes (strays lanes) (map (entry_of logs) (of_lane logs lane)) ≡ 0)
+    → PostsWithin logs lanes
 posts-within logs lanes near from to p d = go (nat_lt to lanes) refl
   where
     go : (b : Bool) → nat_lt to lanes ≡ b → to < lanes
     go true e = ltb-true to lanes e
     go false e =
         let weight : strays lanes (At (Object.Mail from to) d.number (Post p)) ≡ 1 = (rw e refl) in
-        absurd (omega (arith, weight, sum-at (strays lanes) (of_lane logs d.lane) d.at (At (Object.Mail from to) d.number (Post p)) d.stands, sum-entries logs (strays lanes) (of_lane logs d.lane), near d.lane (lane-there logs d.lane d.at (At (Object.Mail from to) d.number (Post p)) d.stands)))
+        absurd (omega (
+          arith,
+          weight,
+          sum-at (strays lanes) (of_lane logs d.lane) d.at
+              (At (Object.Mail from to) d.number (Post p)) d.stands,
+          sum-entries logs (strays lanes)
+              (of_lane logs d.lane),
+          near d.lane
+              (lane-there logs d.lane d.at (At (Object.Mail from to) d.number (Post p)) d.stands),
+        ))

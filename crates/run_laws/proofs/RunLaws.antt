@@ -38,8 +38,11 @@ acts-of run legal lane =
     ⊎_elim
     (λ low.
     subst (λ es. Acts AnyNote es []) (entries-at (logs_of run) (logs_of run) lane)
-    (any-acts run.shape lane (of_lane run.trace.lanes lane) (replies_of run lane) (of_lane (entries_of (logs_of run)) lane) (legal.answers lane low)))
-    (λ high. no-acts (map (entry_of (logs_of run)) (of_lane (logs_of run) lane)) [] (ap (map (entry_of (logs_of run))) (log-past (logs_of run) lane (omega (arith, map-length (λ l. l.notes) run.logs, legal.logs, high)))))
+    (any-acts run.shape lane (of_lane run.trace.lanes lane) (replies_of run lane)
+    (of_lane (entries_of (logs_of run)) lane) (legal.answers lane low)))
+    (λ high. no-acts (map (entry_of (logs_of run)) (of_lane (logs_of run) lane)) []
+    (ap (map (entry_of (logs_of run)))
+    (log-past (logs_of run) lane (omega (arith, map-length (λ l. l.notes) run.logs, legal.logs, high)))))
     (below-or lane run.shape.lanes)
 
 pub regions-apart : (run : Run) → IsLegal run → LieApart (logs_of run)
@@ -49,40 +52,63 @@ pub logs-length : (run : Run) → IsLegal run → length (logs_of run) ≡ run.s
 logs-length run legal = omega (arith, map-length (λ l. l.notes) run.logs, legal.logs)
 
 -- each lane's log is what its commands note, and the closing of its caches
-pub parts-of : (run : Run) → IsLegal run → (lane : ℕ) → lane < length (logs_of run) → Parts lane (map (entry_of (logs_of run)) (of_lane (logs_of run) lane))
+pub parts-of : (run : Run) → IsLegal run → (lane : ℕ) → lane < length (logs_of run)
+    → Parts lane (map (entry_of (logs_of run)) (of_lane (logs_of run) lane))
 parts-of run legal lane low =
     subst (Parts lane) (entries-at (logs_of run) (logs_of run) lane)
-    (log-parts run.shape lane (of_lane run.trace.lanes lane) (replies_of run lane) (of_lane (entries_of (logs_of run)) lane) (legal.answers lane (omega (arith, low, logs-length run legal))))
+    (log-parts run.shape lane (of_lane run.trace.lanes lane) (replies_of run lane)
+    (of_lane (entries_of (logs_of run)) lane) (legal.answers lane (omega (arith, low, logs-length run legal))))
 
 pub caches-end_empty : (run : Run) → IsLegal run → CachesEndEmpty run.shape (logs_of run)
 caches-end_empty run legal lane class low cached =
-    let ends = is-some (cache_after lane class (dids (history_of (Object.Cache lane class) (logs_of run)))) (legal.histories.accepted (Object.Cache lane class)) in
-    (ends.0, (ends.1, cache-empty run.shape (logs_of run) (paged run legal) (acts-of run legal) (parts-of run legal) lane class ends.0 (omega (arith, low, logs-length run legal)) cached ends.1))
+    let ends = is-some (cache_after lane class (dids (history_of (Object.Cache lane class) (logs_of run))))
+    (legal.histories.accepted (Object.Cache lane class)) in (
+      ends.0,
+      (
+        ends.1,
+        cache-empty run.shape (logs_of run) (paged run legal) (acts-of run legal) (parts-of run legal)
+            lane class ends.0 (omega (arith, low, logs-length run legal)) cached ends.1,
+      ),
+    )
 
 pub regions-return : (run : Run) → IsLegal run → RegionsReturn (logs_of run)
-regions-return run legal root region used = returns-once run.shape (logs_of run) (paged run legal) (acts-of run legal) (parts-of run legal) legal.counts root region used
+regions-return run legal root region used =
+    returns-once run.shape (logs_of run) (paged run legal) (acts-of run legal) (parts-of run legal) legal.counts root
+    region used
 
 pub arenas-end : (run : Run) → IsLegal run → OutAtEnd run.shape (logs_of run)
 arenas-end run legal number =
-    let ends = is-some (arena_after run.shape number (dids (history_of (Object.Arena number) (logs_of run)))) (legal.histories.accepted (Object.Arena number)) in
-    (ends.0, (ends.1, out-at_end run.shape (logs_of run) (paged run legal) (acts-of run legal) (parts-of run legal) legal.counts number ends.0 ends.1))
+    let ends = is-some (arena_after run.shape number (dids (history_of (Object.Arena number) (logs_of run))))
+    (legal.histories.accepted (Object.Arena number)) in (
+      ends.0,
+      (
+        ends.1,
+        out-at_end run.shape (logs_of run) (paged run legal) (acts-of run legal) (parts-of run legal)
+            legal.counts number ends.0 ends.1,
+      ),
+    )
 
 pub posts-are_near : (run : Run) → IsLegal run → PostsWithin (logs_of run) run.shape.lanes
 posts-are_near run legal =
     posts-within (logs_of run) run.shape.lanes
     (λ lane low. ap (sum_notes (strays run.shape.lanes)) (sym (entries-at (logs_of run) (logs_of run) lane))
-    ∙ log-near run.shape lane (of_lane run.trace.lanes lane) (replies_of run lane) (of_lane (entries_of (logs_of run)) lane) (legal.commands lane).fit (legal.answers lane (omega (arith, low, logs-length run legal))))
+    ∙ log-near run.shape lane (of_lane run.trace.lanes lane) (replies_of run lane)
+    (of_lane (entries_of (logs_of run)) lane) (legal.commands lane).fit
+    (legal.answers lane (omega (arith, low, logs-length run legal))))
 
 pub totals-are_shared : (run : Run) → IsLegal run → TotalsAreShared (logs_of run) run.shape.lanes
 totals-are_shared run legal root region used =
-    total-shared run.shape (logs_of run) legal.histories root run.shape.lanes (omega (arith, logs-length run legal)) (posts-are_near run legal) legal.counts
+    total-shared run.shape (logs_of run) legal.histories root run.shape.lanes (omega (arith, logs-length run legal))
+    (posts-are_near run legal) legal.counts
     (birth-counts run.shape (logs_of run) (paged run legal) (acts-of run legal) (parts-of run legal) root region used)
 
 pub roots-in_one_log : (run : Run) → IsLegal run → StandInOneLog (logs_of run)
-roots-in_one_log run legal = stand-in_one_log run.shape (logs_of run) (paged run legal) (acts-of run legal) (parts-of run legal) legal.counts
+roots-in_one_log run legal =
+    stand-in_one_log run.shape (logs_of run) (paged run legal) (acts-of run legal) (parts-of run legal) legal.counts
 
 pub regions-live : (run : Run) → IsLegal run → RegionsLive (logs_of run)
-regions-live run legal = chain.regions-live run.shape (logs_of run) (paged run legal) (acts-of run legal) (parts-of run legal) legal.counts
+regions-live run legal =
+    chain.regions-live run.shape (logs_of run) (paged run legal) (acts-of run legal) (parts-of run legal) legal.counts
 
 pub roots-never_overlap : (run : Run) → IsLegal run → NeverOverlap (logs_of run)
 roots-never_overlap run legal = never-overlap (logs_of run) (regions-live run legal) (regions-apart run legal)

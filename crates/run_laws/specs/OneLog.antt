@@ -28,7 +28,8 @@ EndsOnce logs root =
 -- the birth of a root stands only once, whatever the region
 abbrev pub BornOnce : Logs → RootId → Type 0
 BornOnce logs root =
-    (r q : RegionId) (a : IsUse logs root r) (b : IsUse logs root q) → (a.lane ≡ b.lane) × (a.at ≡ b.at)
+    (r q : RegionId) (a : IsUse logs root r) (b : IsUse logs root q) →
+    (a.lane ≡ b.lane) × (a.at ≡ b.at)
 
 -- a root is born in one log: its birth, and then the step that sets its word, each once
 pub record IsBorn (logs : Logs) (root : RootId) : Type 0 where

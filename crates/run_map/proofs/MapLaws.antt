@@ -1,22 +1,23 @@
 -- A map as contracts see it: its sizes, and that what is out stays out.
-use Rattle.std.proofs.Common.{◌≡◌, ℕ, ◌+◌, ◌*◌, ◌/◌, ◌%◌, ◌^◌, ◌<◌, ◌≤◌, List, [], ◌∷◌, length, refl, sym, ap, ap₂, ◌∙◌, subst, arith, Some, None}
-use Rattle.std.specs.Prelude.{map}
+use Rattle.std.proofs.Common.{◌≡◌, ℕ, ◌+◌, ◌-◌, ◌*◌, ◌/◌, ◌%◌, ◌^◌, ◌<◌, ◌≤◌, List, length, sym, ap, ap₂, ◌∙◌, subst, arith, Some}
 use Rattle.std.proofs.lemmas.Nat.{div-mul-add, mod-mul-add}
 use Rattle.ground.specs.Ground.{Segment}
-use Rattle.size_classes.specs.Sizes.{Geometry, IsGeometry, IsPage, IsPageClass, of_pages}
+use Rattle.size_classes.specs.Sizes.{IsGeometry, IsPageClass, of_pages}
 use Rattle.size_classes.specs.Pages.{chosen}
 use Rattle.size_classes.specs.Spans.{Span, taken_from, given_back, AreApart, AreSpacedFrom, IsOut}
-use Rattle.size_classes.proofs.Geometries.{by_page}
 use Rattle.size_classes.proofs.PageClasses.{page_class-within}
 use Rattle.size_classes.proofs.Runs.{EachPair, IfThere, chosen-one}
-use Rattle.size_classes.proofs.OutLaws.{IsAmong, each-of, all-of, taken-apart, taken-fits, taken-out, given-apart}
+use Rattle.size_classes.proofs.OutLaws.{each-of, all-of, taken-apart, taken-fits, taken-out, given-apart}
 use Rattle.size_classes.proofs.ChosenLaws.{chosen-among}
 use Rattle.run_map.specs.declared.map.RunMap.TheInside.{Inside}
-use Rattle.run_map.specs.declared.runs.FreeRun.{FreeRun}
-use Rattle.run_map.specs.declared.runs.Layout.{Layout}
 use Rattle.run_map.specs.FreeRuns.{FreeRuns, geometry_in, with_runs, span_of, IsTaken, ArePagesOut, KeepsOut, KeepsOutBut}
 use Rattle.run_map.specs.Held.{free_runs, IsRunMap}
-use Rattle.run_map.specs.Spaced.{AreSpaced, span_of_run}
+use Rattle.run_map.specs.Stored.{stored, IsServing}
+use Rattle.run_map.proofs.StoredRuns.{stored-within}
+use Rattle.run_map.proofs.Totals.{pages_in, few-pages}
+use Rattle.run_map.proofs.Parts.{product_parts}
+use Rattle.std.proofs.Math.Nat.{mul-le-mul_right, mod-eq-sub-div-mul, div-mul-le_self}
+use Rattle.run_map.proofs.Serving.{IsServed, serving-chosen}
 
 -- the sizes of the chunk are inside the limits
 pub geometry-is : (m : Inside) → IsRunMap m → IsGeometry (of_pages m.order m.layout.page)
@@ -27,22 +28,51 @@ geometry-is m h = record {
   chunk = omega (arith, ap (λ (n : ℕ). n * m.layout.page) h.pages, h.layout.size);
 }
 
--- a page class has pages
-pub some-pages : (m : Inside) (v : FreeRuns) (pages : ℕ) → IsRunMap m → free_runs m ≡ v →
-    IsPageClass (geometry_in v) pages → 0 < pages
-some-pages m v pages h is class =
-    let G : FreeRuns → Type 0 = λ x. IsGeometry (geometry_in x) in
-    (page_class-within (geometry_in v) (subst G is (geometry-is m h)) pages class).0
+-- no more bytes are free than the largest chunk has
+pub few-free : (m : Inside) → IsRunMap m → m.total ≤ 2 ^ 24
+few-free m h =
+    let few = few-pages m.layout.pages (stored m.store) h.store.spaced (stored-within m.layout m.store h.store) in
+    let product = mul-le-mul_right {m = pages_in (stored m.store)} {n = m.layout.pages} m.layout.page few in
+    omega (arith, h.total, product, h.layout.size)
 
--- the free runs are in order, and each lies in the chunk
-spaced-runs : (l : Layout) (low : ℕ) (rs : List FreeRun) → AreSpaced l low rs → AreSpacedFrom low (map span_of_run rs)
-spaced-runs l low [] h = tt
-spaced-runs l low (r ∷ rs) h = (h.1, h.0.some, spaced-runs l (r.first + r.pages + 1) rs h.2)
+-- what a take leaves of the free bytes
+pub total-less : (m : Inside) (runs : List Span) (pages bytes : ℕ) → IsRunMap m →
+    pages_in runs + pages ≡ pages_in (stored m.store) →
+    bytes ≡ pages * m.layout.page → (bytes ≤ m.total) × (m.total - bytes ≡ pages_in runs * m.layout.page)
+total-less m runs pages bytes h left size =
+    let product = product_parts (pages_in runs) pages m.layout.page (pages_in (stored m.store)) left in
+    (omega (arith, h.total, product, size), omega (arith, h.total, product, size))
 
-within-runs : (l : Layout) (low : ℕ) (rs : List FreeRun) → AreSpaced l low rs →
-    EachPair (λ r. r.0 + r.1 ≤ l.pages) (map span_of_run rs)
-within-runs l low [] h = tt
-within-runs l low (r ∷ rs) h = (h.0.within, within-runs l (r.first + r.pages + 1) rs h.2)
+-- and what a give makes of them
+pub total-more : (m : Inside) (runs : List Span) (bytes : ℕ) → IsRunMap m →
+    pages_in runs ≡ pages_in (stored m.store) + bytes / m.layout.page → bytes % m.layout.page ≡ 0 →
+    m.total + bytes ≡ pages_in runs * m.layout.page
+total-more m runs bytes h more whole =
+    let parts =
+    product_parts (pages_in (stored m.store)) (bytes / m.layout.page) m.layout.page (pages_in runs) (sym more) in
+    omega (arith, h.total, parts, whole, mod-eq-sub-div-mul bytes m.layout.page, div-mul-le_self bytes m.layout.page)
+
+-- a page class of the map as contracts see it
+pub class-in : (m : Inside) (v : FreeRuns) (pages : ℕ) → free_runs m ≡ v → IsPageClass (geometry_in v) pages →
+    IsPageClass (of_pages m.order m.layout.page) pages
+class-in m v pages is class = subst (λ (x : FreeRuns). IsPageClass (geometry_in x) pages) (sym is) class
+
+-- a page class is no more than the largest chunk
+pub few-pages-of : (m : Inside) (v : FreeRuns) (pages : ℕ) → IsRunMap m → free_runs m ≡ v →
+    IsPageClass (geometry_in v) pages →
+    (0 < pages) × (pages ≤ 2 ^ 11)
+few-pages-of m v pages h is class =
+    let within =
+    page_class-within (of_pages m.order m.layout.page) (geometry-is m h) pages (class-in m v pages is class) in
+    (within.0, omega (arith, within.1, h.pages, h.store.long.few))
+
+-- the run that serves a request
+pub served : (m : Inside) (v : FreeRuns) (pages first : ℕ) → IsRunMap m → free_runs m ≡ v →
+    IsPageClass (geometry_in v) pages →
+    IsServing m.store pages first → IsServed (of_pages m.order m.layout.page) m.store pages first
+served m v pages first h is class serves =
+    serving-chosen m.layout m.store h.store (of_pages m.order m.layout.page) (geometry-is m h) h.pages pages first
+    (class-in m v pages is class) serves
 
 -- what is known of the free runs that contracts see
 record AreRuns (v : FreeRuns) : Type 0 where
@@ -54,9 +84,10 @@ are-runs : (m : Inside) (v : FreeRuns) → IsRunMap m → free_runs m ≡ v → 
 are-runs m v h is =
     subst AreRuns is (record {
       page = h.layout.page;
-      spaced = spaced-runs m.layout 0 m.free.items h.spaced;
-      within = subst (λ (n : ℕ). EachPair (λ r. r.0 + r.1 ≤ n) (map span_of_run m.free.items)) h.pages
-          (within-runs m.layout 0 m.free.items h.spaced);
+      spaced = h.store.spaced;
+      within =
+          subst (λ (n : ℕ). EachPair (λ r. r.0 + r.1 ≤ n) (stored m.store)) h.pages
+          (stored-within m.layout m.store h.store);
     })
 
 -- the span of so many whole pages
@@ -83,7 +114,8 @@ taken-is-out m v n pages s offset h is some taken =
     let among = chosen-among (geometry_in v) pages v.runs (offset, taken.long) taken.run in
     let span = span-is v.page offset pages s a.page taken.piece.start taken.piece.size in
     let left = taken_from offset pages v.runs in
-    let apart = all-of (AreApart (offset, pages)) left (taken-out 0 offset taken.long pages v.runs a.spaced among held.1) in
+    let apart =
+    all-of (AreApart (offset, pages)) left (taken-out 0 offset taken.long pages v.runs a.spaced among held.1) in
     subst (λ (x : FreeRuns). ArePagesOut x s) (sym taken.rest) (record {
       pages = record {
         origin = taken.piece.origin;

@@ -13,5 +13,6 @@ pub sixteen : IsPageClass (of_pages 4 8192) 16
 sixteen = (11, lit< tt, refl)
 
 -- a class of a map with these sizes
-pub class-in : (m : FreeRuns) (g : Geometry) (pages : ℕ) → geometry_in m ≡ g → IsPageClass g pages → IsPageClass (geometry_in m) pages
+pub class-in : (m : FreeRuns) (g : Geometry) (pages : ℕ) → geometry_in m ≡ g → IsPageClass g pages →
+    IsPageClass (geometry_in m) pages
 class-in m g pages same class = subst (λ (x : Geometry). IsPageClass x pages) (sym same) class

@@ -1,15 +1,12 @@
 -- The pages of all free runs, counted: what a take and a give make of their number.
-use Rattle.std.proofs.Common.{◌≡◌, ℕ, zero, suc, ◌+◌, ◌-◌, ◌<◌, ◌≤◌, List, [], ◌∷◌, ◌++◌, length, get_or, refl, sym, ap, ◌∙◌, arith, eqb-true}
-use Rattle.std.specs.Prelude.{map, sum, nat_lt, nat_le, ◌==◌, ◌&&◌, Some}
-use Rattle.std.proofs.lemmas.Bool.{cond_both}
+use Rattle.std.proofs.Common.{◌≡◌, ℕ, ◌+◌, ◌-◌, ◌≤◌, List, [], ◌∷◌, ◌++◌, refl, ap, ◌∙◌, arith, eqb-true}
+use Rattle.std.specs.Prelude.{sum, nat_lt, ◌==◌}
+use Rattle.std.proofs.lemmas.Bool.{cond_both, eq-eqb, ne_eqb}
 use Rattle.std.proofs.lemmas.List.Sums.{sum_by-cons}
-use Rattle.size_classes.specs.Spans.{Span, run_lengths, rest_of, merged_before, merged, placed_in, given_back}
-use Rattle.run_map.specs.declared.runs.FreeRun.{FreeRun}
-use Rattle.std.proofs.lemmas.List.{length-map}
-use Rattle.std.proofs.lemmas.List.Quantifiers.{position-Some}
-use Rattle.run_map.proofs.Taking.{chosen_fits}
-use Rattle.run_map.specs.Placed.{taken_at, chosen_place, least_under, stands_under}
-use Rattle.run_map.specs.Spaced.{span_of_run}
+use Rattle.size_classes.specs.Spans.{Span, run_lengths, taken_from, merged_before, merged, placed_in, given_back, AreSpacedFrom}
+use Rattle.size_classes.proofs.Runs.{EachPair}
+use Rattle.size_classes.proofs.OutLaws.{IsAmong, among-later}
+use mathlib.Core.Logic.{inl, inr}
 
 -- the pages of all the runs
 abbrev pub pages_in : List Span → ℕ
@@ -18,32 +15,42 @@ pages_in runs = sum (run_lengths runs)
 total-cons : (r : Span) (runs : List Span) → pages_in (r ∷ runs) ≡ r.1 + pages_in runs
 total-cons r runs = sum_by-cons (λ n. n) r.1 (run_lengths runs)
 
+pub total-one : (r : Span) → pages_in (r ∷ []) ≡ r.1
+total-one r = total-cons r [] ∙ omega arith
+
+-- the runs of a chunk have no more pages than the chunk
+few-from : (pages low : ℕ) (runs : List Span) → AreSpacedFrom low runs → EachPair (λ r. r.0 + r.1 ≤ pages) runs →
+    low ≤ pages + 1 →
+    low + pages_in runs ≤ pages + 1
+few-from pages low [] h within le = omega (arith, le)
+few-from pages low (r ∷ runs) h within le =
+    omega (arith, total-cons r runs, h.0, few-from pages (r.0 + r.1 + 1) runs h.2 within.1 (omega (arith, within.0)))
+
+pub few-pages : (pages : ℕ) (runs : List Span) → AreSpacedFrom 0 runs → EachPair (λ r. r.0 + r.1 ≤ pages) runs →
+    pages_in runs ≤ pages
+few-pages pages [] h within = omega arith
+few-pages pages (r ∷ runs) h within =
+    omega (arith, total-cons r runs, few-from pages (r.0 + r.1 + 1) runs h.2 within.1 (omega (arith, within.0)))
+
 -- ---- a take
 
-pub total-taken : (i p : ℕ) (rs : List FreeRun) → i < length rs → ((d : FreeRun) → p ≤ (get_or rs i d).pages) →
-    pages_in (taken_at i p (map span_of_run rs)) + p ≡ pages_in (map span_of_run rs)
-total-taken i p [] there fits = absurd (omega (arith, there))
-total-taken zero p (r ∷ rs) there fits =
-    let runs = map span_of_run rs in
-    let whole = total-cons (span_of_run r) runs in
-    let rest = total-cons (r.first + p, r.pages - p) runs in
-    cond_both (r.pages == p) [] ((r.first + p, r.pages - p) ∷ [])
-    (λ l. pages_in (l ++ runs) + p ≡ pages_in (span_of_run r ∷ runs))
-    (λ all. omega (arith, whole, eqb-true r.pages p all))
-    (λ _. omega (arith, whole, rest, fits r))
-total-taken (suc i) p (r ∷ rs) there fits =
-    let runs = map span_of_run rs in
-    let whole = total-cons (span_of_run r) runs in
-    let left = total-cons (span_of_run r) (taken_at i p runs) in
-    omega (arith, whole, left, total-taken i p rs (omega (arith, there)) fits)
-
--- the run that is chosen is there, and has the pages
-pub total-chosen : (classes : List ℕ) (items : List FreeRun) (p i : ℕ) → chosen_place classes p (map (λ (r : FreeRun). r.pages) items) ≡ Some i →
-    pages_in (taken_at i p (map span_of_run items)) + p ≡ pages_in (map span_of_run items)
-total-chosen classes items p i e =
-    let class = least_under classes p (map (λ (r : FreeRun). r.pages) items) in
-    let found = position-Some (λ n. nat_le p n && (stands_under classes n == class)) (map (λ (r : FreeRun). r.pages) items) i 0 e in
-    total-taken i p items (omega (arith, found.0, length-map items (λ (r : FreeRun). r.pages))) (λ d. chosen_fits classes items p i d e)
+pub total-taken : (low at long p : ℕ) (runs : List Span) → AreSpacedFrom low runs → IsAmong (at, long) runs → p ≤ long →
+    pages_in (taken_from at p runs) + p ≡ pages_in runs
+total-taken low at long p [] h is le = absurd is
+total-taken low at long p (r ∷ runs) h (inl e) le =
+    let first : r.0 ≡ at = ap (λ (s : Span). s.0) e in
+    let size : r.1 ≡ long = ap (λ (s : Span). s.1) e in
+    let whole = total-cons r runs in
+    let rest = total-cons (r.0 + p, r.1 - p) runs in
+    rw (eq-eqb r.0 at first)
+    (cond_both (r.1 == p) [] ((r.0 + p, r.1 - p) ∷ []) (λ l. pages_in (l ++ runs) + p ≡ pages_in (r ∷ runs))
+    (λ all. omega (arith, whole, eqb-true r.1 p all))
+    (λ _. omega (arith, whole, rest, size, le)))
+total-taken low at long p (r ∷ runs) h (inr is) le =
+    let far = among-later (r.0 + r.1 + 1) (at, long) runs h.2 is in
+    let ih = total-taken (r.0 + r.1 + 1) at long p runs h.2 is le in
+    rw (ne_eqb r.0 at (λ e. omega (arith, e, far)))
+    (omega (arith, total-cons r runs, total-cons r (taken_from at p runs), ih))
 
 -- ---- a give
 
@@ -67,8 +74,3 @@ total-merged (r ∷ runs) = omega (arith, total-before r (merged runs), total-co
 
 pub total-given : (r : Span) (runs : List Span) → pages_in (given_back r runs) ≡ pages_in runs + r.1
 total-given r runs = omega (arith, total-merged (placed_in r runs), total-placed r runs)
-
--- the same of two lists of runs with their memory
-pub total-merged_in : (before after : List FreeRun) (r : Span) → map span_of_run after ≡ given_back r (map span_of_run before) →
-    pages_in (map span_of_run after) ≡ pages_in (map span_of_run before) + r.1
-total-merged_in before after r e = ap pages_in e ∙ total-given r (map span_of_run before)

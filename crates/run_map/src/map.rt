@@ -7,8 +7,8 @@ ghost use Rattle.size_classes.specs.Pages.{chosen};
 ghost use Rattle.size_classes.specs.Spans.{run_lengths, given_back, IsOut, AreShorter};
 ghost use Rattle.run_map.specs.FreeRuns.{IsChunk, all_free, with_runs, span_of, geometry_in, IsPages, IsTaken, ArePagesOut, KeepsOut, KeepsOutBut};
 
-use crate::choice::{choose, page_table};
-use crate::runs::{FreeRun, Layout, give_back, put, take_front};
+use crate::runs::{FreeRun, Layout, give_to, take_from};
+use crate::store::Store;
 use ground::{Piece, Site};
 use std::alloc::Global;
 use std::marker::Model;
@@ -20,11 +20,10 @@ use std::mem::ManuallyDrop;
 /// `into_piece` or by `leave`. The rule of the choice and of the merging is that of Netty's
 /// `PoolChunk`.
 pub struct RunMap {
-    free: Vec<FreeRun>,
-    classes: Vec<u32>,
+    store: Store,
     order: u32,
     layout: Layout,
-    // The pages of all free runs.
+    // The bytes of all free runs.
     total: u32,
 }
 
@@ -48,29 +47,26 @@ impl RunMap {
         ensures { MatchResult result (λ map. map ≡ all_free order piece) (λ back. back ≡ piece) }
     {
         let pages = 2u32.pow(order);
-        let Ok(classes) = page_table(alloc, order) else {
-            return Err(piece);
-        };
-        let Ok(mut free) = Vec::with_capacity(alloc, pages as usize) else {
-            return Err(piece);
-        };
+        let bytes = piece.len();
         let layout = Layout {
-            page: piece.len() / pages as usize,
+            page: bytes / pages as usize,
             pages,
             site: Site::of(&piece),
+        };
+        let Ok(mut store) = Store::new(alloc, &layout) else {
+            return Err(piece);
         };
         let run = FreeRun {
             first: 0,
             pages,
             piece,
         };
-        put(&mut free, 0, run);
+        store.put(&layout, run);
         Ok(RunMap {
-            free,
-            classes,
+            store,
             order,
             layout,
-            total: pages,
+            total: bytes as u32,
         })
     }
 
@@ -78,7 +74,7 @@ impl RunMap {
     pub fn free_bytes(&self) -> u32
         ensures { result ≡ sum (run_lengths self.now.runs) * self.now.page }
     {
-        self.total * self.layout.page as u32
+        self.total
     }
 
     /// So many pages and the first of them: the front of the lowest run that stands under the least
@@ -96,12 +92,12 @@ impl RunMap {
         ensures out { IfSome result (λ x. ArePagesOut self.new x.0) }
         ensures kept { KeepsOut self.old self.new }
     {
-        match choose(&self.classes, &self.free, pages) {
+        match self.store.serving(&self.layout, pages) {
             None => None,
-            Some(i) => {
-                let taken = take_front(&mut self.free, &self.layout, i, pages);
-                self.total -= pages;
-                Some(taken)
+            Some(first) => {
+                let piece = take_from(&mut self.store, &self.layout, first, pages);
+                self.total -= piece.len() as u32;
+                Some((piece, first))
             }
         }
     }
@@ -116,13 +112,14 @@ impl RunMap {
         // What else is out stays out.
         ensures kept { KeepsOutBut (span_of self.old.page piece) self.old self.new }
     {
+        let bytes = piece.len();
         let run = FreeRun {
             first: (piece.start() / self.layout.page) as u32,
-            pages: (piece.len() / self.layout.page) as u32,
+            pages: (bytes / self.layout.page) as u32,
             piece,
         };
-        self.total += run.pages;
-        give_back(&mut self.free, &self.layout, run);
+        self.total += bytes as u32;
+        give_to(&mut self.store, &self.layout, run);
     }
 
     /// The whole ground, where all of it is free.
@@ -131,18 +128,17 @@ impl RunMap {
         ensures { IsWhole result × (result.origin ≡ self.origin) }
     {
         let RunMap {
-            mut free,
-            classes: _,
+            mut store,
             order: _,
-            layout: _,
+            layout,
             total: _,
         } = self;
         let FreeRun {
             first: _,
             pages: _,
             piece,
-        } = free.remove(0);
-        free.destroy_empty();
+        } = store.pull(&layout, 0);
+        store.close(&layout);
         piece
     }
 

@@ -1,11 +1,12 @@
-//! Free runs in order of offset, each with its memory: cut, put in their place, and merged.
+//! Free runs with their memory, and what a take and a give make of those of a store.
 
-ghost use Rattle.std.specs.Prelude.{◌≡◌, ℕ, suc, false, IsTrue, ◌+◌, ◌^◌, ◌<◌, ◌≤◌, length, map, sum, Some, insert, All, slice_get, slice_index_or, vec_len, vec_capacity};
-ghost use Rattle.size_classes.specs.Spans.{run_lengths, given_back, AreApart};
-ghost use Rattle.run_map.specs.declared.runs.FreeRun.{FreeRun};
-ghost use Rattle.run_map.specs.Placed.{taken_at, merged_at};
-ghost use Rattle.run_map.specs.Spaced.{IsLayout, IsPart, IsRun, AreRuns, AreSpaced, span_of_run, MeetsNext};
+ghost use Rattle.std.specs.Prelude.{◌≡◌, ◌*◌, ◌+◌, ◌-◌, ◌<◌, ◌≤◌, All};
+ghost use Rattle.size_classes.specs.Spans.{AreApart, taken_from, given_back};
+ghost use Rattle.run_map.specs.Lengths.{beginning, ending, without};
+ghost use Rattle.run_map.specs.Spaced.{IsLayout, IsPart, IsRun, span_of_run};
+ghost use Rattle.run_map.specs.Stored.{IsStore, stored};
 
+use crate::store::Store;
 use ground::{Piece, Site};
 
 // A free run: its first page, how many pages it has, and their memory.
@@ -23,45 +24,21 @@ pub(crate) struct Layout {
     pub(crate) site: Site,
 }
 
-// A run in its place, where there is room.
-pub(crate) fn put(free: &mut Vec<FreeRun>, i: usize, run: FreeRun)
-    requires { (i ≤ vec_len free.old) × (vec_len free.old < vec_capacity free.old) }
-    ensures runs { free.new.items ≡ insert free.old.items i run }
-    ensures room { (vec_capacity free.new ≡ vec_capacity free.old)
-        × (vec_len free.new ≡ vec_len free.old + 1) }
-{
-    match free.insert(i, run) {
-        Ok(()) => {}
-        Err(_) => unreachable!(),
-    }
-}
-
-// The first pages of run `i`. The rest of it, if any, stays in its place.
-pub(crate) fn take_front(
-    free: &mut Vec<FreeRun>,
-    layout: &Layout,
-    i: usize,
-    pages: u32,
-) -> (Piece, u32)
-    requires layout { IsLayout layout.now × AreSpaced layout.now 0 free.old.items }
-    requires run { (i < length free.old.items) × (0 < pages)
-        × ((d : FreeRun) → pages ≤ (slice_index_or free.old.items i d).pages) }
-    requires room { vec_len free.old ≤ vec_capacity free.old }
-    ensures runs { map span_of_run free.new.items
-        ≡ taken_at i pages (map span_of_run free.old.items) }
-    ensures spaced { AreSpaced layout.now 0 free.new.items }
-    ensures found { (long : ℕ)
-        × (slice_get (map span_of_run free.old.items) i ≡ Some (result.1, long)) }
-    ensures piece { IsPart layout.now result.1 pages result.0 }
-    ensures room { vec_capacity free.new ≡ vec_capacity free.old }
+// The first pages of the run that begins at a page. The rest of it, if any, stays free.
+pub(crate) fn take_from(store: &mut Store, layout: &Layout, first: u32, pages: u32) -> Piece
+    requires store { IsLayout layout.now × IsStore layout.now store.old }
+    requires run { (0 < pages) × (pages ≤ beginning first (stored store.old)) }
+    ensures store { IsStore layout.now store.new }
+    ensures runs { stored store.new ≡ taken_from first pages (stored store.old) }
+    ensures piece { IsPart layout.now first pages result }
 {
     let FreeRun {
-        first,
+        first: _,
         pages: long,
         piece,
-    } = free.remove(i);
+    } = store.pull(layout, first);
     if long == pages {
-        return (piece, first);
+        return piece;
     }
     let (front, piece) = piece.split(pages as usize * layout.page);
     let rest = FreeRun {
@@ -69,86 +46,81 @@ pub(crate) fn take_front(
         pages: long - pages,
         piece,
     };
-    put(free, i, rest);
-    (front, first)
+    store.put(layout, rest);
+    front
 }
 
-// The place of a run by its first page.
-fn place(free: &[FreeRun], first: u32) -> usize
-    ensures within { result ≤ length free.now }
-    ensures before { (k : ℕ) (d : FreeRun) → k < result
-        → (slice_index_or free.now k d).first ≤ first }
-    ensures after { (d : FreeRun) → result < length free.now
-        → first < (slice_index_or free.now result d).first }
+// A run joined with the free run that ends where it begins, which goes.
+fn join_before(store: &mut Store, layout: &Layout, run: FreeRun) -> FreeRun
+    requires store { IsLayout layout.now × IsStore layout.now store.old }
+    requires run { IsRun layout.now run × All (AreApart (span_of_run run)) (stored store.old) }
+    ensures store { IsStore layout.now store.new }
+    ensures runs { stored store.new
+        ≡ without (run.first - ending run.first (stored store.old)) (stored store.old) }
+    ensures joined { (result.first ≡ run.first - ending run.first (stored store.old))
+        × (result.pages ≡ ending run.first (stored store.old) + run.pages) }
+    ensures run { IsRun layout.now result }
 {
-    let mut i = 0;
-    while i < free.len() && free[i].first <= first {
-        i += 1;
-    }
-    i
-}
-
-// Whether run `i` meets the next.
-fn meets(free: &[FreeRun], layout: &Layout, i: usize) -> bool
-    requires layout { IsLayout layout.now × AreRuns layout.now free.now }
-    requires within { i < length free.now }
-    ensures apart { (result ≡ false)
-        → merged_at i (map span_of_run free.now) ≡ map span_of_run free.now }
-    ensures joined { IsTrue result → (suc i < length free.now) × MeetsNext i free.now }
-{
-    if i + 1 == free.len() {
-        return false;
-    }
-    let run = &free[i];
-    run.first + run.pages == free[i + 1].first
-}
-
-// Merges run `i` with the next, if they meet.
-fn merge_at(free: &mut Vec<FreeRun>, layout: &Layout, i: usize)
-    requires layout { IsLayout layout.now × AreRuns layout.now free.old.items }
-    requires within { i < length free.old.items }
-    requires room { vec_len free.old ≤ vec_capacity free.old }
-    ensures runs { map span_of_run free.new.items ≡ merged_at i (map span_of_run free.old.items) }
-    ensures kept { AreRuns layout.now free.new.items }
-    ensures room { (vec_capacity free.new ≡ vec_capacity free.old)
-        × (vec_len free.new ≤ vec_len free.old) × (vec_len free.old ≤ vec_len free.new + 1) }
-{
-    if !meets(free, layout, i) {
-        return;
+    let before = store.ends[run.first as usize];
+    if before == 0 {
+        return run;
     }
     let FreeRun {
-        first: _,
-        pages: more,
-        piece: rest,
-    } = free.remove(i + 1);
+        first: start,
+        pages,
+        piece,
+    } = run;
+    let FreeRun {
+        first,
+        pages: long,
+        piece: front,
+    } = store.pull(layout, start - before);
+    FreeRun {
+        first,
+        pages: long + pages,
+        piece: front.join(piece),
+    }
+}
+
+// A run joined with the free run that begins where it ends, which goes.
+fn join_after(store: &mut Store, layout: &Layout, run: FreeRun) -> FreeRun
+    requires store { IsLayout layout.now × IsStore layout.now store.old }
+    requires run { IsRun layout.now run }
+    ensures store { IsStore layout.now store.new }
+    ensures runs { stored store.new ≡ without (run.first + run.pages) (stored store.old) }
+    ensures joined { (result.first ≡ run.first) × (result.pages
+        ≡ run.pages + beginning (run.first + run.pages) (stored store.old)) }
+    ensures run { IsRun layout.now result }
+{
+    let end = run.first + run.pages;
+    if end == layout.pages || store.begins[end as usize] == 0 {
+        return run;
+    }
     let FreeRun {
         first,
         pages,
         piece,
-    } = free.remove(i);
-    let run = FreeRun {
+    } = run;
+    let FreeRun {
+        first: _,
+        pages: more,
+        piece: rest,
+    } = store.pull(layout, end);
+    FreeRun {
         first,
         pages: pages + more,
         piece: piece.join(rest),
-    };
-    put(free, i, run);
+    }
 }
 
-// A run put in its place, and merged with the free runs beside it.
-pub(crate) fn give_back(free: &mut Vec<FreeRun>, layout: &Layout, run: FreeRun)
-    requires layout { IsLayout layout.now × AreSpaced layout.now 0 free.old.items }
-    requires run { IsRun layout.now run
-        × All (AreApart (span_of_run run)) (map span_of_run free.old.items) }
-    requires room { (layout.now.pages ≤ vec_capacity free.old) × (2 ≤ layout.now.pages) }
-    ensures runs { map span_of_run free.new.items
-        ≡ given_back (span_of_run run) (map span_of_run free.old.items) }
-    ensures spaced { AreSpaced layout.now 0 free.new.items }
-    ensures room { vec_capacity free.new ≡ vec_capacity free.old }
+// A run comes to the others, and is merged with the free runs beside it.
+pub(crate) fn give_to(store: &mut Store, layout: &Layout, run: FreeRun)
+    requires store { IsLayout layout.now × IsStore layout.now store.old }
+    requires run { IsRun layout.now run × All (AreApart (span_of_run run)) (stored store.old) }
+    ensures store { IsStore layout.now store.new }
+    ensures runs { stored store.new ≡ given_back (span_of_run run) (stored store.old) }
 {
-    let i = place(free, run.first);
-    put(free, i, run);
-    merge_at(free, layout, i);
-    if 0 < i {
-        merge_at(free, layout, i - 1);
-    }
+    let run = join_before(store, layout, run);
+    let run = join_after(store, layout, run);
+    store.put(layout, run);
 }

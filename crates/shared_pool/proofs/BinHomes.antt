@@ -27,7 +27,8 @@ use Rattle.pool_table.specs.declared.table.Section.{Section}
 use Rattle.pool_table.specs.Seats.{view_of}
 use Rattle.pool_table.specs.Sections.{GotSection}
 
-pub bin_more : (did : Did) (old new : BinValue) → Makes old did new → (measures : List ℕ) (setting : Setting) (h : List Noted) (n : Noted) → n.did ≡ did →
+pub bin_more : (did : Did) (old new : BinValue) → Makes old did new
+    → (measures : List ℕ) (setting : Setting) (h : List Noted) (n : Noted) → n.did ≡ did →
     IsBinAt measures setting h old → IsBinAt measures setting (h ++ n ∷ []) new
 bin_more did old new makes measures setting h n is at =
     record {
@@ -35,17 +36,25 @@ bin_more did old new makes measures setting h n is at =
       stands = stands_more setting.grounds h n old new at.stands (subst (λ d. Makes old d new) (sym is) makes);
     }
 
-pub is_bin : (setting : Setting) (h : List Noted) (lane handles : ℕ) (home : Home) → HomeStands (2 ∷ lane ∷ handles ∷ []) setting h home → IsBin home
+pub is_bin : (setting : Setting) (h : List Noted) (lane handles : ℕ) (home : Home)
+    → HomeStands (2 ∷ lane ∷ handles ∷ []) setting h home → IsBin home
 is_bin setting h lane handles (Arena a) at = absurd (cc at.measured)
 is_bin setting h lane handles (Cache q) at = absurd (cc at.measured)
 is_bin setting h lane handles (Bin b) at = tt
 is_bin setting h lane handles (Mail m) at = absurd (cc at.measured)
 is_bin setting h lane handles (Root s) at = absurd (cc at.measured)
 
-pub bin_follows : (s : Shape) (setting : Setting) (lane : ℕ) (h : List Noted) (n : Noted) (home : Home) → IsHistory s (BinOf lane) h → IsBin home →
-    HomeStands (measures_of s (BinOf lane)) setting (h ++ n ∷ []) home → IsRightAt (BinOf lane) h n → IsHistory s (BinOf lane) (h ++ n ∷ [])
+pub bin_follows : (s : Shape) (setting : Setting) (lane : ℕ) (h : List Noted) (n : Noted) (home : Home)
+    → IsHistory s (BinOf lane) h → IsBin home →
+    HomeStands (measures_of s (BinOf lane)) setting (h ++ n ∷ []) home → IsRightAt (BinOf lane) h n
+    → IsHistory s (BinOf lane) (h ++ n ∷ [])
 bin_follows s setting lane h n (Bin b) t is at right =
-    record { accepted = subst (λ (m : ℕ × ℕ). IsTrue (is_some (after (bin_step m.0 m.1) (new_bin m.0 m.1) (noted_dids (h ++ n ∷ []))))) (λ i. (sym lane_is i, sym handles_is i)) (subst (λ o. IsTrue (is_some o)) (sym at.stands.told) refl); right = right_push (BinOf lane) h n t.right right }
+    record {
+      accepted = subst (λ (m : ℕ × ℕ). IsTrue
+          (is_some (after (bin_step m.0 m.1) (new_bin m.0 m.1) (noted_dids (h ++ n ∷ [])))))
+          (λ i. (sym lane_is i, sym handles_is i)) (subst (λ o. IsTrue (is_some o)) (sym at.stands.told) refl);
+      right = right_push (BinOf lane) h n t.right right;
+    }
   where
     lane_is : lane ≡ b.value.lane
     lane_is = cc at.measured
@@ -58,8 +67,11 @@ bin_follows s setting lane h n (Mail m) t is at right = absurd is
 bin_follows s setting lane h n (Root r) t is at right = absurd is
 
 -- what holds of the lane and the handles of the value holds of those of the object
-pub bin_is : (s : Shape) (setting : Setting) (lane : ℕ) (h : List Noted) (home : Home) (P : ℕ → ℕ → Type 0) → HomeStands (measures_of s (BinOf lane)) setting h home → IsBin home → IfBin home (λ b. P b.lane b.handles) → P lane s.handles
-bin_is s setting lane h (Bin b) P at is holds = subst (λ (m : ℕ × ℕ). P m.0 m.1) (λ i. (sym lane_is i, sym handles_is i)) holds
+pub bin_is : (s : Shape) (setting : Setting) (lane : ℕ) (h : List Noted) (home : Home) (P : ℕ → ℕ → Type 0)
+    → HomeStands (measures_of s (BinOf lane)) setting h home → IsBin home → IfBin home (λ b. P b.lane b.handles)
+    → P lane s.handles
+bin_is s setting lane h (Bin b) P at is holds =
+    subst (λ (m : ℕ × ℕ). P m.0 m.1) (λ i. (sym lane_is i, sym handles_is i)) holds
   where
     lane_is : lane ≡ b.value.lane
     lane_is = cc at.measured
@@ -72,9 +84,14 @@ bin_is s setting lane h (Mail m) P at is holds = absurd is
 bin_is s setting lane h (Root r) P at is holds = absurd is
 
 -- the places in the value are those of the object after its history
-pub bin_has : (s : Shape) (setting : Setting) (lane : ℕ) (h : List Noted) (home : Home) (P : BinValue → Type 0) → HomeStands (measures_of s (BinOf lane)) setting h home → IsBin home →
-    ((b : BinValue) → b.lane ≡ lane → b.handles ≡ s.handles → IsBinAfter s lane h (places_in b.ready) → P b) → IfBin home P
-bin_has s setting lane h (Bin b) P at is so = so b.value (sym lane_is) (sym handles_is) (subst (λ (m : ℕ × ℕ). after (bin_step m.0 m.1) (new_bin m.0 m.1) (noted_dids h) ≡ Some (places_in b.value.ready)) (λ i. (sym lane_is i, sym handles_is i)) at.stands.told)
+pub bin_has : (s : Shape) (setting : Setting) (lane : ℕ) (h : List Noted) (home : Home) (P : BinValue → Type 0)
+    → HomeStands (measures_of s (BinOf lane)) setting h home → IsBin home →
+    ((b : BinValue) → b.lane ≡ lane → b.handles ≡ s.handles → IsBinAfter s lane h (places_in b.ready) → P b)
+    → IfBin home P
+bin_has s setting lane h (Bin b) P at is so =
+    so b.value (sym lane_is) (sym handles_is)
+    (subst (λ (m : ℕ × ℕ). after (bin_step m.0 m.1) (new_bin m.0 m.1) (noted_dids h)
+    ≡ Some (places_in b.value.ready)) (λ i. (sym lane_is i, sym handles_is i)) at.stands.told)
   where
     lane_is : lane ≡ b.value.lane
     lane_is = cc at.measured
@@ -87,14 +104,25 @@ bin_has s setting lane h (Mail m) P at is so = absurd is
 bin_has s setting lane h (Root r) P at is so = absurd is
 
 -- after a call on the bin its note follows, and the home value stands for it
-module _ {G : Ghosts Home Noted} (l : Layout) (lane : ℕ) (old new : PoolSeat Home G) (section : Section Home) (got : GotSection HomeStands l (BinOf lane) old new section) (setting : Setting) (known : (view_of old).setting ≡ Some setting) where
-  pub next : (after : Section Home) (did : Did) → after.object ≡ section.object → after.slot ≡ section.slot → IsBin after.home → StandsMore section.home did after.home → (n : Noted) → n ≡ plain did → IsNext l (BinOf lane) old new section got setting known after n
+module _ {G : Ghosts Home Noted} (l : Layout) (lane : ℕ) (old new : PoolSeat Home G) (section : Section Home)
+    (got : GotSection HomeStands l (BinOf lane) old new section) (setting : Setting)
+    (known : (view_of old).setting ≡ Some setting) where
+  pub next : (after : Section Home) (did : Did) → after.object ≡ section.object → after.slot ≡ section.slot
+      → IsBin after.home → StandsMore section.home did after.home → (n : Noted) → n ≡ plain did
+      → IsNext l (BinOf lane) old new section got setting known after n
   next after did same_object same_slot bin more n is =
       let m : Noted = noted_by (view_of old).own.number n in
-      let stands = more (measures_of l.shape (BinOf lane)) setting got.history m (ap (λ (x : Noted). x.did) is) (stood l (BinOf lane) old new section got setting known) in
+      let stands = more (measures_of l.shape (BinOf lane)) setting got.history m (ap (λ (x : Noted). x.did) is)
+      (stood l (BinOf lane) old new section got setting known) in
       record {
         same_object = same_object;
         same_slot = same_slot;
-        follows = bin_follows l.shape setting lane got.history m after.home got.learned.accepted bin stands (ap (λ (x : Noted). x.root) is, ap (λ (x : Noted). x.region) is, subst (λ (x : Noted). IsRightWatch x.did x.watch) (sym is) (plain_watch did));
+        follows =
+            bin_follows l.shape setting lane got.history m after.home got.learned.accepted bin stands (
+              ap (λ (x : Noted). x.root) is,
+              ap (λ (x : Noted). x.region) is,
+              subst
+                  (λ (x : Noted). IsRightWatch x.did x.watch) (sym is) (plain_watch did),
+            );
         stands = stands;
       }

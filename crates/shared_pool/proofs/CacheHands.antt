@@ -83,10 +83,18 @@ module _ (v : SeatView) (r : RegionId) (o : Object) (number turns : ℕ) (n : No
   taken_up : IsLaidDown r v → HasRegion r (with_entry v (At o number n) turns)
   taken_up down =
       let t : RegionId → ℕ = is_taking r in let u : RegionId → ℕ = uses_in r in
-      let ta = weigh_entry (to_arena t) v (At o number n) turns in let tc = weigh_entry (to_cache t) v (At o number n) turns in let tp = weigh_entry (to_place t) v (At o number n) turns in
-      let fa = weigh_entry (from_arena t) v (At o number n) turns in let fc = weigh_entry (from_cache t) v (At o number n) turns in let fp = weigh_entry (from_place t) v (At o number n) turns in
-      let ua = weigh_entry (to_arena u) v (At o number n) turns in let uc = weigh_entry (to_cache u) v (At o number n) turns in let up = weigh_entry (to_place u) v (At o number n) turns in
-      let xa = weigh_entry (from_arena u) v (At o number n) turns in let xc = weigh_entry (from_cache u) v (At o number n) turns in let xp = weigh_entry (from_place u) v (At o number n) turns in
+      let ta = weigh_entry (to_arena t) v (At o number n) turns in let tc =
+      weigh_entry (to_cache t) v (At o number n) turns in let tp =
+      weigh_entry (to_place t) v (At o number n) turns in
+      let fa = weigh_entry (from_arena t) v (At o number n) turns in let fc =
+      weigh_entry (from_cache t) v (At o number n) turns in let fp =
+      weigh_entry (from_place t) v (At o number n) turns in
+      let ua = weigh_entry (to_arena u) v (At o number n) turns in let uc =
+      weigh_entry (to_cache u) v (At o number n) turns in let up =
+      weigh_entry (to_place u) v (At o number n) turns in
+      let xa = weigh_entry (from_arena u) v (At o number n) turns in let xc =
+      weigh_entry (from_cache u) v (At o number n) turns in let xp =
+      weigh_entry (from_place u) v (At o number n) turns in
       let a = out.arena t in let c = out.cache t in let k = out.kept t in let p = out.place t in
       let a' = out.arena u in let c' = out.cache u in let k' = out.kept u in let p' = out.place u in
       let one = one_of r in let uses = uses_of r in let x = down.taking in let y = down.uses in
@@ -97,14 +105,18 @@ module _ (v : SeatView) (r : RegionId) (o : Object) (number turns : ℕ) (n : No
 
 -- ---- What a seat holds after a pop and a shed.
 
-module _ {G : Ghosts Home Noted} (pool : SharedPool) (lane class : ℕ) (old new last : PoolSeat Home G) (section : Section Home) (got : GotSection HomeStands pool.table.layout (CacheOf lane class) old new section) (setting : Setting) (known : (view_of old).setting ≡ Some setting)
+module _ {G : Ghosts Home Noted} (pool : SharedPool) (lane class : ℕ) (old new last : PoolSeat Home G)
+    (section : Section Home) (got : GotSection HomeStands pool.table.layout (CacheOf lane class) old new section)
+    (setting : Setting) (known : (view_of old).setting ≡ Some setting)
     (below : lane < pool.table.layout.shape.lanes) (cached : class < 40) (shape : IsShape pool.table.layout.shape) where
   abbrev s : Shape
   s = pool.table.layout.shape
 
   -- what was taken out of the cache is in the seat's hands
-  held : (number turns : ℕ) (n : Noted) (x : Region) → TakesOut x.id n → IsHistory s (CacheOf lane class) (got.history ++ n ∷ []) →
-      ((c y : CacheState) → IsCacheStep lane class c n.did y → c.regions ≡ x.id ∷ y.regions) → WasInPlace section.home x →
+  held : (number turns : ℕ) (n : Noted) (x : Region) → TakesOut x.id n
+      → IsHistory s (CacheOf lane class) (got.history ++ n ∷ []) →
+      ((c y : CacheState) → IsCacheStep lane class c n.did y → c.regions ≡ x.id ∷ y.regions) → WasInPlace section.home x
+      →
       view_of last ≡ with_entry (view_of old) (At (CacheOf lane class) number n) turns →
       HoldsRegion pool last x × (x.id.owner ≡ lane) × (x.id.class ≡ class)
   held number turns n x out follows front was seen =
@@ -112,13 +124,17 @@ module _ {G : Ghosts Home Noted} (pool : SharedPool) (lane class : ℕ) (old new
       let at = stood l (CacheOf lane class) old new section got setting known in
       let step = next_cache s lane class got.history n follows in
       let whole = was _ setting got.history at in
-      let of : OfCache lane class (x.id ∷ step.1.regions) = subst (OfCache lane class) (front step.0 step.1 step.3) (cache_own s lane class got.history step.0 got.learned.accepted step.2) in
+      let of : OfCache lane class (x.id ∷ step.1.regions) =
+      subst (OfCache lane class) (front step.0 step.1 step.3)
+      (cache_own s lane class got.history step.0 got.learned.accepted step.2) in
       let one = one_of x.id in let c = out.cache (is_taking x.id) in
       let down = got.learned.free x.id n follows (omega (arith, one, c)) in
       let order = shape.order_least in let shift = (page_shift-is s.page shape.page).least in (
         record {
           hand = subst (HasRegion x.id) (sym seen) (taken_up v x.id (CacheOf lane class) number turns n out down);
-          here = subst (λ (y : Option Setting). IfSome y (λ t. IsInPlace t.grounds x.id.place x.piece)) (sym (ap (λ (w : SeatView). w.setting) seen ∙ known)) whole.0;
+          here =
+              subst (λ (y : Option Setting). IfSome y (λ t. IsInPlace t.grounds x.id.place x.piece))
+              (sym (ap (λ (w : SeatView). w.setting) seen ∙ known)) whole.0;
           owner = subst (λ (k : ℕ). k < s.lanes) (sym of.0.0) below;
           class = subst (λ (k : ℕ). k < class_count (geometry_of s)) (sym of.0.1) (omega (arith, cached, order, shift));
           len = whole.1;
@@ -127,65 +143,89 @@ module _ {G : Ghosts Home Noted} (pool : SharedPool) (lane class : ℕ) (old new
         of.0.1,
       )
 
-  hit_front : (n : Noted) (r : RegionId) → n.did ≡ Hit r → (c y : CacheState) → IsCacheStep lane class c n.did y → c.regions ≡ r ∷ y.regions
+  hit_front : (n : Noted) (r : RegionId) → n.did ≡ Hit r → (c y : CacheState) → IsCacheStep lane class c n.did y
+      → c.regions ≡ r ∷ y.regions
   hit_front n r did c y step = subst (λ (d : Did). IsCacheStep lane class c d y) did step
 
-  shed_front : (n : Noted) (r : RegionId) → n.did ≡ Shed r → (c y : CacheState) → IsCacheStep lane class c n.did y → c.regions ≡ r ∷ y.regions
+  shed_front : (n : Noted) (r : RegionId) → n.did ≡ Shed r → (c y : CacheState) → IsCacheStep lane class c n.did y
+      → c.regions ≡ r ∷ y.regions
   shed_front n r did c y step = subst (λ (d : Did). IsCacheStep lane class c d y) did step
 
-  pub popped_held : (number turns : ℕ) (n : Noted) (r : Option Region) → n.did ≡ hit r → IsHistory s (CacheOf lane class) (got.history ++ n ∷ []) → IfSome r (λ x. WasInPlace section.home x) →
+  pub popped_held : (number turns : ℕ) (n : Noted) (r : Option Region) → n.did ≡ hit r
+      → IsHistory s (CacheOf lane class) (got.history ++ n ∷ []) → IfSome r (λ x. WasInPlace section.home x) →
       view_of last ≡ with_entry (view_of old) (At (CacheOf lane class) number n) turns →
       IfSome r (λ x. HoldsRegion pool last x × (x.id.owner ≡ lane) × (x.id.class ≡ class))
   popped_held number turns n None did follows was seen = tt
-  popped_held number turns n (Some x) did follows was seen = held number turns n x (hit_takes x.id n did) follows (hit_front n x.id did) was seen
+  popped_held number turns n (Some x) did follows was seen =
+      held number turns n x (hit_takes x.id n did) follows (hit_front n x.id did) was seen
 
-  pub shed_held : (number turns : ℕ) (n : Noted) (x : Region) → n.did ≡ Shed x.id → IsHistory s (CacheOf lane class) (got.history ++ n ∷ []) → WasInPlace section.home x →
+  pub shed_held : (number turns : ℕ) (n : Noted) (x : Region) → n.did ≡ Shed x.id
+      → IsHistory s (CacheOf lane class) (got.history ++ n ∷ []) → WasInPlace section.home x →
       view_of last ≡ with_entry (view_of old) (At (CacheOf lane class) number n) turns →
       HoldsRegion pool last x × (x.id.owner ≡ lane) × (x.id.class ≡ class)
-  shed_held number turns n x did follows was seen = held number turns n x (shed_takes x.id n did) follows (shed_front n x.id did) was seen
+  shed_held number turns n x did follows was seen =
+      held number turns n x (shed_takes x.id n did) follows (shed_front n x.id did) was seen
 
 -- ---- What a trim and a close answer.
 
-module _ (l : Layout) (lane class : ℕ) (v : SeatView) (h : List Noted) (home : Home) (e : Enters HomeStands l (CacheOf lane class) v h home) (number : v.own.number ≡ Some lane) where
-  -- a note that may come next, and gives a quota of no more regions than are in the cache, gives it of as many as the seat took and didn't give
-  bounded : (k : ℕ) (d : Did) (n : Noted) → n.did ≡ d → IsHistory l.shape (CacheOf lane class) (h ++ n ∷ []) → ((c : CacheState) → IsTrue (is_some (lane_cache_step lane class c d)) → k ≤ length c.regions) → k + in_own (gives_of lane class) v ≤ in_own (takes_of class) v
+module _ (l : Layout) (lane class : ℕ) (v : SeatView) (h : List Noted) (home : Home)
+    (e : Enters HomeStands l (CacheOf lane class) v h home) (number : v.own.number ≡ Some lane) where
+  -- a note that may come next, and gives a quota of no more regions than are in the cache, gives it of as many
+  -- as the seat took and didn't give
+  bounded : (k : ℕ) (d : Did) (n : Noted) → n.did ≡ d → IsHistory l.shape (CacheOf lane class) (h ++ n ∷ [])
+      → ((c : CacheState) → IsTrue (is_some (lane_cache_step lane class c d)) → k ≤ length c.regions)
+      → k + in_own (gives_of lane class) v ≤ in_own (takes_of class) v
   bounded k d n did follows most =
       let c = cache_there l.shape lane class h e.accepted in
       let next : cache_after lane class (noted_dids (h ++ n ∷ [])) ≡ lane_cache_step lane class c.0 d =
-      after-noted (lane_cache_step lane class) new_cache h n ∙ ap (option_and_then (λ t. lane_cache_step lane class t n.did)) c.1 ∙ ap (lane_cache_step lane class c.0) did in
-      let all : k ≤ length c.0.regions = most c.0 (subst (λ (o : Option CacheState). IsTrue (is_some o)) next follows.accepted) in
+      after-noted (lane_cache_step lane class) new_cache h n
+      ∙ ap (option_and_then (λ t. lane_cache_step lane class t n.did)) c.1
+      ∙ ap (lane_cache_step lane class c.0) did in
+      let all : k ≤ length c.0.regions = most c.0
+      (subst (λ (o : Option CacheState). IsTrue (is_some o)) next follows.accepted) in
       let bound = (e.cache lane class c.0 refl number c.1).bound in
-      let x : ℕ = length c.0.regions in let all' : k ≤ x = all in let g : ℕ = in_own (gives_of lane class) v in let t : ℕ = in_own (takes_of class) v in
+      let x : ℕ = length c.0.regions in let all' : k ≤ x = all in let g : ℕ = in_own (gives_of lane class) v in
+      let t : ℕ = in_own (takes_of class) v in
       let bound' : x + g ≤ t = bound in let goal' : k + g ≤ t = omega (arith, all', bound') in goal'
 
   sure : (b : Bool) (x : CacheState) → IsTrue (is_some (if_so b x)) → b ≡ true
   sure true x is = refl
   sure false x is = absurd (cc is)
 
-  pub close_bound : (k : ℕ) (n : Noted) → n.did ≡ Close k → IsHistory l.shape (CacheOf lane class) (h ++ n ∷ []) → k + in_own (gives_of lane class) v ≤ in_own (takes_of class) v
+  pub close_bound : (k : ℕ) (n : Noted) → n.did ≡ Close k → IsHistory l.shape (CacheOf lane class) (h ++ n ∷ [])
+      → k + in_own (gives_of lane class) v ≤ in_own (takes_of class) v
   close_bound k n did follows = bounded k (Close k) n did follows most
     where
       most : (c : CacheState) → IsTrue (is_some (lane_cache_step lane class c (Close k))) → k ≤ length c.regions
       most c is =
-          let both = sure (eqb c.quota 0 && (not c.closed && eqb k (length c.regions))) (record c { quota = k; closed = true }) is in
-          let all = eqb-true k (length c.regions) (and-second (not c.closed) (eqb k (length c.regions)) (and-second (eqb c.quota 0) (not c.closed && eqb k (length c.regions)) both)) in
+          let both = sure (eqb c.quota 0 && (not c.closed && eqb k (length c.regions)))
+          (record c { quota = k; closed = true }) is in
+          let all = eqb-true k (length c.regions)
+          (and-second (not c.closed) (eqb k (length c.regions))
+          (and-second (eqb c.quota 0) (not c.closed && eqb k (length c.regions)) both)) in
           omega (arith, all)
 
-  pub trim_bound : (k : ℕ) (n : Noted) → n.did ≡ Trim k → IsHistory l.shape (CacheOf lane class) (h ++ n ∷ []) → k + in_own (gives_of lane class) v ≤ in_own (takes_of class) v
+  pub trim_bound : (k : ℕ) (n : Noted) → n.did ≡ Trim k → IsHistory l.shape (CacheOf lane class) (h ++ n ∷ [])
+      → k + in_own (gives_of lane class) v ≤ in_own (takes_of class) v
   trim_bound k n did follows = bounded k (Trim k) n did follows most
     where
       most : (c : CacheState) → IsTrue (is_some (lane_cache_step lane class c (Trim k))) → k ≤ length c.regions
       most c is =
           let unserved = cache_capacity class - c.served in
-          let both = sure (eqb c.quota 0 && eqb k (min (length c.regions) unserved)) (record c { quota = k; served = 0 }) is in
-          let least : k ≡ min (length c.regions) unserved = eqb-true k (min (length c.regions) unserved) (and-second (eqb c.quota 0) (eqb k (min (length c.regions) unserved)) both) in
+          let both = sure (eqb c.quota 0 && eqb k (min (length c.regions) unserved))
+          (record c { quota = k; served = 0 }) is in
+          let least : k ≡ min (length c.regions) unserved =
+          eqb-true k (min (length c.regions) unserved)
+          (and-second (eqb c.quota 0) (eqb k (min (length c.regions) unserved)) both) in
           omega (arith, least)
 
 -- ---- What is put into a cache.
 
 -- a region that is kept is in hand
-pub puts_down : (w v : SeatView) (o : Object) (h : List Noted) (r : RegionId) (p : Put) (d : Did) → w ≡ entered v o h (length h) → d ≡ was_put r p → HasRegion r v → PutsDown w d
-puts_down w v o h r p d is did has = subst (λ (x : SeatView × Did). PutsDown x.0 x.1) (λ i. (sym is i, sym did i)) (by p)
+pub puts_down : (w v : SeatView) (o : Object) (h : List Noted) (r : RegionId) (p : Put) (d : Did)
+    → w ≡ entered v o h (length h) → d ≡ was_put r p → HasRegion r v → PutsDown w d
+puts_down w v o h r p d is did has =
+    subst (λ (x : SeatView × Did). PutsDown x.0 x.1) (λ i. (sym is i, sym did i)) (by p)
   where
     by : (p : Put) → PutsDown (entered v o h (length h)) (was_put r p)
     by Kept = record { taking = has.taking; uses = has.uses }
@@ -200,8 +240,10 @@ put_own r p = by p
     both false n x y = x
 
     by : (p : Put) → is_own r.owner r.class (was_put r p) ≡ true
-    by Kept = both (eqb r.owner r.owner) (eqb r.class r.class) (eq-eqb r.owner r.owner refl) (eq-eqb r.class r.class refl)
-    by (Back x why) = both (eqb r.owner r.owner) (eqb r.class r.class) (eq-eqb r.owner r.owner refl) (eq-eqb r.class r.class refl)
+    by Kept =
+        both (eqb r.owner r.owner) (eqb r.class r.class) (eq-eqb r.owner r.owner refl) (eq-eqb r.class r.class refl)
+    by (Back x why) =
+        both (eqb r.owner r.owner) (eqb r.class r.class) (eq-eqb r.owner r.owner refl) (eq-eqb r.class r.class refl)
 
 -- what a pop notes may be noted at any lane's cache
 pub hit_own : (lane class : ℕ) (r : Option Region) → is_own lane class (hit r) ≡ true

@@ -37,8 +37,10 @@ abbrev pub Lens : Queue → Type 0
 Lens q = All (λ r. HasClassLength r.id) q.regions
 
 -- a step of the cache stands for a note more, where its regions are in place and of their lengths
-pub cache_more : (did : Did) (old new : Queue) → Makes old did new → (measures : List ℕ) (setting : Setting) (h : List Noted) (n : Noted) → n.did ≡ did →
-    All (IsRegionOf setting.grounds) new.regions → Lens new → IsCacheAt measures setting h old → IsCacheAt measures setting (h ++ n ∷ []) new
+pub cache_more : (did : Did) (old new : Queue) → Makes old did new
+    → (measures : List ℕ) (setting : Setting) (h : List Noted) (n : Noted) → n.did ≡ did →
+    All (IsRegionOf setting.grounds) new.regions → Lens new → IsCacheAt measures setting h old
+    → IsCacheAt measures setting (h ++ n ∷ []) new
 cache_more did old new makes measures setting h n is in_place lens at =
     record {
       lane = at.lane;
@@ -49,7 +51,8 @@ cache_more did old new makes measures setting h n is in_place lens at =
       lens = lens;
     }
 
-pub is_cache : (setting : Setting) (h : List Noted) (lane class : ℕ) (home : Home) → HomeStands (1 ∷ lane ∷ class ∷ []) setting h home → IsCache home
+pub is_cache : (setting : Setting) (h : List Noted) (lane class : ℕ) (home : Home)
+    → HomeStands (1 ∷ lane ∷ class ∷ []) setting h home → IsCache home
 is_cache setting h lane class (Arena a) at = absurd (cc at.measured)
 is_cache setting h lane class (Cache q) at = tt
 is_cache setting h lane class (Bin b) at = absurd (cc at.measured)
@@ -57,11 +60,14 @@ is_cache setting h lane class (Mail m) at = absurd (cc at.measured)
 is_cache setting h lane class (Root s) at = absurd (cc at.measured)
 
 -- the value is the law's cache after its history
-pub cache_has : (s : Shape) (setting : Setting) (lane class : ℕ) (h : List Noted) (home : Home) (P : Queue → Type 0) → HomeStands (measures_of s (CacheOf lane class)) setting h home → IsCache home →
-    ((q : Queue) (c : CacheState) → IsCacheAfter lane class h c → c ≡ cache_of q → P q) → IsHistory s (CacheOf lane class) h → IfCache home P
+pub cache_has : (s : Shape) (setting : Setting) (lane class : ℕ) (h : List Noted) (home : Home) (P : Queue → Type 0)
+    → HomeStands (measures_of s (CacheOf lane class)) setting h home → IsCache home →
+    ((q : Queue) (c : CacheState) → IsCacheAfter lane class h c → c ≡ cache_of q → P q)
+    → IsHistory s (CacheOf lane class) h → IfCache home P
 cache_has s setting lane class h (Cache q) P at is so accepted =
     let c = cache_there s lane class h accepted in
-    so q.value c.0 c.1 (stands_as_told setting.grounds lane class h q.value c.0 at.stands (at.capacity ∙ ap cache_capacity class_is) c.1)
+    so q.value c.0 c.1 (stands_as_told setting.grounds lane class h q.value c.0 at.stands
+    (at.capacity ∙ ap cache_capacity class_is) c.1)
   where
     class_is : at.class ≡ class
     class_is = cc at.measured
@@ -71,16 +77,20 @@ cache_has s setting lane class h (Mail m) P at is so accepted = absurd is
 cache_has s setting lane class h (Root r) P at is so accepted = absurd is
 
 -- what a cache of that capacity makes of a note, the lane's makes of it, if it is of the lane
-step_of_lane : (lane class : ℕ) (h : List Noted) (n : Noted) (x : CacheState) → IsTrue (is_some (cache_after lane class (noted_dids h))) → is_own lane class n.did ≡ true →
-    cache_told (cache_capacity class) (h ++ n ∷ []) ≡ Some x → IsTrue (is_some (cache_after lane class (noted_dids (h ++ n ∷ []))))
+step_of_lane : (lane class : ℕ) (h : List Noted) (n : Noted) (x : CacheState)
+    → IsTrue (is_some (cache_after lane class (noted_dids h))) → is_own lane class n.did ≡ true →
+    cache_told (cache_capacity class) (h ++ n ∷ []) ≡ Some x
+    → IsTrue (is_some (cache_after lane class (noted_dids (h ++ n ∷ []))))
 step_of_lane lane class h n x accepted own told = go (cache_after lane class (noted_dids h)) refl accepted
   where
-    go : (o : Option CacheState) → cache_after lane class (noted_dids h) ≡ o → IsTrue (is_some o) → IsTrue (is_some (cache_after lane class (noted_dids (h ++ n ∷ []))))
+    go : (o : Option CacheState) → cache_after lane class (noted_dids h) ≡ o → IsTrue (is_some o)
+        → IsTrue (is_some (cache_after lane class (noted_dids (h ++ n ∷ []))))
     go None is there = absurd (cc there)
     go (Some c) is there =
         let step : CacheState → Did → Option CacheState = cache_step (cache_capacity class) in
         let by_class : step c n.did ≡ Some x =
-        sym (after-noted step new_cache h n ∙ ap (option_and_then (λ t. step t n.did)) (of_class lane class (noted_dids h) new_cache c is)) ∙ told in
+        sym (after-noted step new_cache h n ∙ ap (option_and_then (λ t. step t n.did))
+        (of_class lane class (noted_dids h) new_cache c is)) ∙ told in
         let by_lane : cache_after lane class (noted_dids (h ++ n ∷ [])) ≡ Some x =
         after-noted (lane_cache_step lane class) new_cache h n
         ∙ ap (option_and_then (λ t. lane_cache_step lane class t n.did)) is
@@ -88,11 +98,16 @@ step_of_lane lane class h n x accepted own told = go (cache_after lane class (no
         ∙ by_class in
         ap is_some by_lane
 
-pub cache_follows : (s : Shape) (setting : Setting) (lane class : ℕ) (h : List Noted) (n : Noted) (home : Home) → IsHistory s (CacheOf lane class) h → IsCache home → is_own lane class n.did ≡ true →
-    HomeStands (measures_of s (CacheOf lane class)) setting (h ++ n ∷ []) home → IsRightAt (CacheOf lane class) h n → IsHistory s (CacheOf lane class) (h ++ n ∷ [])
+pub cache_follows : (s : Shape) (setting : Setting) (lane class : ℕ) (h : List Noted) (n : Noted) (home : Home)
+    → IsHistory s (CacheOf lane class) h → IsCache home → is_own lane class n.did ≡ true →
+    HomeStands (measures_of s (CacheOf lane class)) setting (h ++ n ∷ []) home → IsRightAt (CacheOf lane class) h n
+    → IsHistory s (CacheOf lane class) (h ++ n ∷ [])
 cache_follows s setting lane class h n (Cache q) t is own at right =
     record {
-      accepted = step_of_lane lane class h n (cache_of q.value) t.accepted own (subst (λ m. cache_told m (h ++ n ∷ []) ≡ Some (cache_of q.value)) (at.capacity ∙ ap cache_capacity class_is) at.stands.told);
+      accepted =
+          step_of_lane lane class h n (cache_of q.value) t.accepted own
+          (subst (λ m. cache_told m (h ++ n ∷ []) ≡ Some (cache_of q.value))
+          (at.capacity ∙ ap cache_capacity class_is) at.stands.told);
       right = right_push (CacheOf lane class) h n t.right right;
     }
   where
@@ -104,9 +119,13 @@ cache_follows s setting lane class h n (Mail m) t is own at right = absurd is
 cache_follows s setting lane class h n (Root r) t is own at right = absurd is
 
 -- after a call on the cache its note follows, and the home value stands for it
-module _ {G : Ghosts Home Noted} (l : Layout) (lane class : ℕ) (old new : PoolSeat Home G) (section : Section Home) (got : GotSection HomeStands l (CacheOf lane class) old new section) (setting : Setting) (known : (view_of old).setting ≡ Some setting) where
-  pub next : (after : Section Home) (did : Did) → after.object ≡ section.object → after.slot ≡ section.slot → IsCache after.home → is_own lane class did ≡ true →
-      ((n : Noted) → n.did ≡ did → HomeStands (measures_of l.shape (CacheOf lane class)) setting (got.history ++ n ∷ []) after.home) →
+module _ {G : Ghosts Home Noted} (l : Layout) (lane class : ℕ) (old new : PoolSeat Home G) (section : Section Home)
+    (got : GotSection HomeStands l (CacheOf lane class) old new section) (setting : Setting)
+    (known : (view_of old).setting ≡ Some setting) where
+  pub next : (after : Section Home) (did : Did) → after.object ≡ section.object → after.slot ≡ section.slot
+      → IsCache after.home → is_own lane class did ≡ true →
+      ((n : Noted) → n.did ≡ did → HomeStands (measures_of l.shape (CacheOf lane class)) setting (got.history ++ n ∷ [])
+      after.home) →
       (n : Noted) → n ≡ plain did → IsNext l (CacheOf lane class) old new section got setting known after n
   next after did same_object same_slot cache own more n is =
       let m : Noted = noted_by (view_of old).own.number n in
@@ -115,6 +134,13 @@ module _ {G : Ghosts Home Noted} (l : Layout) (lane class : ℕ) (old new : Pool
       record {
         same_object = same_object;
         same_slot = same_slot;
-        follows = cache_follows l.shape setting lane class got.history m after.home got.learned.accepted cache (ap (is_own lane class) did_is ∙ own) stands (ap (λ (x : Noted). x.root) is, ap (λ (x : Noted). x.region) is, subst (λ (x : Noted). IsRightWatch x.did x.watch) (sym is) (plain_watch did));
+        follows =
+            cache_follows l.shape setting lane class got.history m after.home got.learned.accepted cache
+            (ap (is_own lane class) did_is ∙ own) stands (
+              ap (λ (x : Noted). x.root) is,
+              ap (λ (x : Noted). x.region) is,
+              subst
+                  (λ (x : Noted). IsRightWatch x.did x.watch) (sym is) (plain_watch did),
+            );
         stands = stands;
       }

@@ -40,20 +40,24 @@ run f a (n ∷ ns) = run f (f a n.did) ns
 -- what the cache after its history shows, a fold over the history shows
 module _ {A : Type 0} (f : A → Did → A) (shows : CacheState → A) (lane class : ℕ) where
   run_shows : ((x y : CacheState) (d : Did) → lane_cache_step lane class x d ≡ Some y → shows y ≡ f (shows x) d) →
-      (h : List Noted) (x c : CacheState) → after (lane_cache_step lane class) x (noted_dids h) ≡ Some c → shows c ≡ run f (shows x) h
+      (h : List Noted) (x c : CacheState) → after (lane_cache_step lane class) x (noted_dids h) ≡ Some c
+      → shows c ≡ run f (shows x) h
   unfolding run
   run_shows each [] x c is = ap shows (sym (cc is))
   run_shows each (n ∷ ns) x c is = go (lane_cache_step lane class x n.did) refl is (λ y. run_shows each ns y c)
     where
-      go : (o : Option CacheState) → lane_cache_step lane class x n.did ≡ o → option_and_then (λ t. after (lane_cache_step lane class) t (noted_dids ns)) o ≡ Some c →
-          ((y : CacheState) → after (lane_cache_step lane class) y (noted_dids ns) ≡ Some c → shows c ≡ run f (shows y) ns) →
+      go : (o : Option CacheState) → lane_cache_step lane class x n.did ≡ o
+          → option_and_then (λ t. after (lane_cache_step lane class) t (noted_dids ns)) o ≡ Some c →
+          ((y : CacheState) → after (lane_cache_step lane class) y (noted_dids ns) ≡ Some c
+          → shows c ≡ run f (shows y) ns) →
           shows c ≡ run f (f (shows x) n.did) ns
       go None step is rest = absurd (cc is)
       go (Some y) step is rest = rest y is ∙ ap (λ a. run f a ns) (each x y n.did step)
 
 -- notes that change nothing may be left out
 module _ {A : Type 0} (f : A → Did → A) (lane : ℕ) where
-  run_own : (h : List Noted) → All (λ (n : Noted). is_lane lane n.lane ≡ false → (a : A) → f a n.did ≡ a) h → (a : A) → run f a h ≡ run f a (filter (λ (n : Noted). is_lane lane n.lane) h)
+  run_own : (h : List Noted) → All (λ (n : Noted). is_lane lane n.lane ≡ false → (a : A) → f a n.did ≡ a) h → (a : A)
+      → run f a h ≡ run f a (filter (λ (n : Noted). is_lane lane n.lane) h)
   unfolding run
   run_own [] all a = refl
   run_own (n ∷ ns) all a =
@@ -62,7 +66,9 @@ module _ {A : Type 0} (f : A → Did → A) (lane : ℕ) where
     where
       one : (b : Bool) → is_lane lane n.lane ≡ b → (is_lane lane n.lane ≡ false → (a : A) → f a n.did ≡ a) →
           ((a : A) → run f a ns ≡ run f a (filter (λ (n : Noted). is_lane lane n.lane) ns)) →
-          run f (f a n.did) ns ≡ run f a (cond b (n ∷ filter (λ (n : Noted). is_lane lane n.lane) ns) (filter (λ (n : Noted). is_lane lane n.lane) ns))
+          run f (f a n.did) ns ≡ run f a
+          (cond b (n ∷ filter (λ (n : Noted). is_lane lane n.lane) ns)
+          (filter (λ (n : Noted). is_lane lane n.lane) ns))
       one true is same rest = rest (f a n.did)
       one false is same rest = ap (λ x. run f x ns) (same is a) ∙ rest a
 
@@ -94,21 +100,28 @@ module _ (s : Shape) (lane class : ℕ) (fits : IsObjectOf s (Cache lane class))
   -- a fold over all entries that skips those elsewhere is one over the notes at the cache
   module _ {A : Type 0} (f : A → Did → A) (over : A → List Entry → A)
       (none : (a : A) → over a [] ≡ a)
-      (note : (a : A) (o : Object) (k : ℕ) (n : Noted) (es : List Entry) → over a (At o k n ∷ es) ≡ over (cond (same_object o (Cache lane class)) (f a n.did) a) es)
+      (note : (a : A) (o : Object) (k : ℕ) (n : Noted) (es : List Entry)
+      → over a (At o k n ∷ es) ≡ over (cond (same_object o (Cache lane class)) (f a n.did) a) es)
       (step : (a : A) (r : _) (d : _) (es : List Entry) → over a (Ref r d ∷ es) ≡ over a es)
       (mark : (a : A) (b : _) (es : List Entry) → over a (Busy b ∷ es) ≡ over a es) where
     abbrev here : List Entry → List Noted
     here es = filter_map noted_of (filter (is_about s at) es)
 
-    over_own : (number : Option ℕ) (es : List Entry) → All (Stands s number) es → (a : A) → over a es ≡ run f a (here es)
+    over_own : (number : Option ℕ) (es : List Entry) → All (Stands s number) es → (a : A)
+        → over a es ≡ run f a (here es)
     unfolding run
     over_own number [] all a = none a
-    over_own number (e ∷ es) all a = by e (All-head (Stands s number) e es all) (over_own number es (All-tail (Stands s number) e es all))
+    over_own number (e ∷ es) all a =
+        by e (All-head (Stands s number) e es all) (over_own number es (All-tail (Stands s number) e es all))
       where
-        by : (e : Entry) → Stands s number e → ((a : A) → over a es ≡ run f a (here es)) → over a (e ∷ es) ≡ run f a (here (e ∷ es))
-        by (At o k n) st rest = note a o k n es ∙ one (same_object o (Cache lane class)) (eqb (home_of s o) at) (test_is o st.object)
+        by : (e : Entry) → Stands s number e → ((a : A) → over a es ≡ run f a (here es))
+            → over a (e ∷ es) ≡ run f a (here (e ∷ es))
+        by (At o k n) st rest =
+            note a o k n es ∙ one (same_object o (Cache lane class)) (eqb (home_of s o) at) (test_is o st.object)
           where
-            one : (b c : Bool) → b ≡ c → over (cond b (f a n.did) a) es ≡ run f a (filter_map noted_of (cond c (At o k n ∷ filter (is_about s at) es) (filter (is_about s at) es)))
+            one : (b c : Bool) → b ≡ c → over (cond b (f a n.did) a) es
+                ≡ run f a (filter_map noted_of
+                (cond c (At o k n ∷ filter (is_about s at) es) (filter (is_about s at) es)))
             one true true x = rest (f a n.did)
             one true false x = absurd (cc x)
             one false true x = absurd (cc x)
@@ -116,7 +129,8 @@ module _ (s : Shape) (lane class : ℕ) (fits : IsObjectOf s (Cache lane class))
         by (Ref r d) st rest = step a r d es ∙ rest a
         by (Busy b) st rest = mark a b es ∙ two (eqb (home_of s b.object) at)
           where
-            two : (c : Bool) → over a es ≡ run f a (filter_map noted_of (cond c (Busy b ∷ filter (is_about s at) es) (filter (is_about s at) es)))
+            two : (c : Bool) → over a es ≡ run f a
+                (filter_map noted_of (cond c (Busy b ∷ filter (is_about s at) es) (filter (is_about s at) es)))
             two true = rest a
             two false = rest a
 
@@ -124,7 +138,8 @@ module _ (s : Shape) (lane class : ℕ) (fits : IsObjectOf s (Cache lane class))
 
 module _ (s : Shape) (lane class : ℕ) where
   -- only the lane itself gives a quota and uses it up
-  others_shed_not : (number : Option ℕ) (d : Did) → MayNote s number (Cache lane class) d → is_lane lane number ≡ false → (q : ℕ) → quota_after q d ≡ q
+  others_shed_not : (number : Option ℕ) (d : Did) → MayNote s number (Cache lane class) d → is_lane lane number ≡ false
+      → (q : ℕ) → quota_after q d ≡ q
   others_shed_not None (Trim n) may off q = absurd (cc may)
   others_shed_not None (Close n) may off q = absurd (cc may)
   others_shed_not None (Shed r) may off q = absurd (cc may)
@@ -133,7 +148,8 @@ module _ (s : Shape) (lane class : ℕ) where
   others_shed_not (Some k) (Shed r) may off q = absurd (cc (may, off))
   others_shed_not number d may off q = refl
 
-  others_close_not : (number : Option ℕ) (d : Did) → MayNote s number (Cache lane class) d → is_lane lane number ≡ false → (b : Bool) → (b || is_close d) ≡ b
+  others_close_not : (number : Option ℕ) (d : Did) → MayNote s number (Cache lane class) d → is_lane lane number ≡ false
+      → (b : Bool) → (b || is_close d) ≡ b
   others_close_not None (Close n) may off b = absurd (cc may)
   others_close_not (Some k) (Close n) may off b = absurd (cc (may, off))
   others_close_not number d may off true = refl
@@ -154,16 +170,30 @@ or_true true = refl
 or_true false = refl
 
 -- a step that leaves both as they were
-stays : (x z y : CacheState) (d : Did) (b : Bool) → z.quota ≡ quota_after x.quota d → z.closed ≡ (x.closed || is_close d) → if_so b z ≡ Some y → Shows x d y
-stays x z y d b quota closed is = let e = (so b z y is).1 in record { quota = ap (λ (v : CacheState). v.quota) (sym e) ∙ quota; closed = ap (λ (v : CacheState). v.closed) (sym e) ∙ closed }
+stays : (x z y : CacheState) (d : Did) (b : Bool) → z.quota ≡ quota_after x.quota d
+    → z.closed ≡ (x.closed || is_close d) → if_so b z ≡ Some y → Shows x d y
+stays x z y d b quota closed is =
+    let e = (so b z y is).1 in
+    record {
+      quota = ap (λ (v : CacheState). v.quota) (sym e)
+          ∙ quota;
+      closed = ap (λ (v : CacheState). v.closed) (sym e) ∙ closed;
+    }
 
-hit_shows : (n : ℕ) (x y : CacheState) (r : RegionId) (b : Bool) (o : Option (List RegionId)) → (if b then after_hit n x o else None) ≡ Some y → Shows x (Hit r) y
+hit_shows : (n : ℕ) (x y : CacheState) (r : RegionId) (b : Bool) (o : Option (List RegionId))
+    → (if b then after_hit n x o else None) ≡ Some y → Shows x (Hit r) y
 hit_shows n x y r true None is = absurd (cc is)
 hit_shows n x y r true (Some rest) is =
-    let e : record x { regions = rest; served = min (x.served + 1) n } ≡ y = cc is in record { quota = ap (λ (v : CacheState). v.quota) (sym e); closed = ap (λ (v : CacheState). v.closed) (sym e) ∙ or_false x.closed }
+    let e : record x { regions = rest; served = min (x.served + 1) n } ≡ y = cc is in
+    record {
+      quota = ap (λ (v : CacheState). v.quota) (sym e);
+      closed = ap (λ (v : CacheState). v.closed) (sym e)
+          ∙ or_false x.closed;
+    }
 hit_shows n x y r false o is = absurd (cc is)
 
-shed_shows : (x y : CacheState) (r : RegionId) (b : Bool) (o : Option (List RegionId)) → (if b then None else after_shed x o) ≡ Some y → Shows x (Shed r) y
+shed_shows : (x y : CacheState) (r : RegionId) (b : Bool) (o : Option (List RegionId))
+    → (if b then None else after_shed x o) ≡ Some y → Shows x (Shed r) y
 shed_shows x y r true o is = absurd (cc is)
 shed_shows x y r false None is = absurd (cc is)
 shed_shows x y r false (Some rest) is =
@@ -180,10 +210,16 @@ shed_shows x y r false (Some rest) is =
 class_shows : (n : ℕ) (x y : CacheState) (d : Did) → cache_step n x d ≡ Some y → Shows x d y
 class_shows n x y (Hit r) is = hit_shows n x y r (x.quota == 0) (front_taken (λ o. same_region r o) x.regions) is
 class_shows n x y Miss is = stays x x y Miss ((x.quota == 0) && is_empty x.regions) refl (or_false x.closed) is
-class_shows n x y (Kept r) is = stays x (record x { regions = x.regions ++ r ∷ [] }) y (Kept r) (not x.closed && nat_lt (length x.regions) n) refl (or_false x.closed) is
+class_shows n x y (Kept r) is =
+    stays x (record x { regions = x.regions ++ r ∷ [] }) y (Kept r) (not x.closed && nat_lt (length x.regions) n) refl
+    (or_false x.closed) is
 class_shows n x y (Back r why) is = stays x x y (Back r why) (refusal_is x n why) refl (or_false x.closed) is
-class_shows n x y (Trim k) is = stays x (record x { quota = k; served = 0 }) y (Trim k) ((x.quota == 0) && (k == trim_quota x n)) refl (or_false x.closed) is
-class_shows n x y (Close k) is = stays x (record x { quota = k; closed = true }) y (Close k) ((x.quota == 0) && (not x.closed && (k == length x.regions))) refl (or_true x.closed) is
+class_shows n x y (Trim k) is =
+    stays x (record x { quota = k; served = 0 }) y (Trim k) ((x.quota == 0) && (k == trim_quota x n)) refl
+    (or_false x.closed) is
+class_shows n x y (Close k) is =
+    stays x (record x { quota = k; closed = true }) y (Close k)
+    ((x.quota == 0) && (not x.closed && (k == length x.regions))) refl (or_true x.closed) is
 class_shows n x y (Shed r) is = shed_shows x y r (x.quota == 0) (front_taken (λ o. same_region r o) x.regions) is
 class_shows n x y d is = absurd (cc is)
 
@@ -199,7 +235,8 @@ lane_shows lane class x y d is = one (is_own lane class d) is
 abbrev close_more : Bool → Did → Bool
 close_more b d = b || is_close d
 
-module _ (l : Layout) (lane class : ℕ) (fits : IsObjectOf l.shape (Cache lane class)) (v : SeatView) (h : List Noted) (home : Home) (e : Enters HomeStands l (Cache lane class) v h home)
+module _ (l : Layout) (lane class : ℕ) (fits : IsObjectOf l.shape (Cache lane class)) (v : SeatView) (h : List Noted)
+    (home : Home) (e : Enters HomeStands l (Cache lane class) v h home)
     (number : v.own.number ≡ Some lane) (c : CacheState) (told : IsCacheAfter lane class h c) where
   own_notes : All (Stands l.shape v.own.number) v.own.notes
   own_notes = All-head (λ (p : Part). All (Stands l.shape p.number) p.notes) v.own v.others e.view.notes
@@ -207,20 +244,30 @@ module _ (l : Layout) (lane class : ℕ) (fits : IsObjectOf l.shape (Cache lane 
   -- the quota of the cache is what its lane's notes left of it
   pub quota_is : c.quota ≡ quota_left lane class v.own.notes
   quota_is =
-      run_shows quota_after (λ (x : CacheState). x.quota) lane class (λ x y d is. (lane_shows lane class x y d is).quota) h new_cache c told
-      ∙ run_own quota_after lane h (All-weaker (λ (n : Noted). MayNote l.shape n.lane (Cache lane class) n.did) (λ (n : Noted). is_lane lane n.lane ≡ false → (q : ℕ) → quota_after q n.did ≡ q) (λ n may off. others_shed_not l.shape lane class n.lane n.did may off) h e.lanes) 0
+      run_shows quota_after (λ (x : CacheState). x.quota) lane class
+      (λ x y d is. (lane_shows lane class x y d is).quota) h new_cache c told
+      ∙ run_own quota_after lane h (All-weaker (λ (n : Noted). MayNote l.shape n.lane (Cache lane class) n.did)
+      (λ (n : Noted). is_lane lane n.lane ≡ false → (q : ℕ) → quota_after q n.did ≡ q)
+      (λ n may off. others_shed_not l.shape lane class n.lane n.did may off) h e.lanes) 0
       ∙ ap (run quota_after 0) (sym (e.own lane number))
-      ∙ sym (over_own l.shape lane class fits quota_after (quota_from lane class) (λ a. refl) (λ a o k n es. refl) (λ a r d es. refl) (λ a b es. refl) v.own.number v.own.notes own_notes 0)
+      ∙ sym (over_own l.shape lane class fits quota_after (quota_from lane class) (λ a. refl) (λ a o k n es. refl)
+      (λ a r d es. refl) (λ a b es. refl) v.own.number v.own.notes own_notes 0)
 
   -- and it is closed where they closed it
   pub closed_is : c.closed ≡ has_closed lane class v.own.notes
   closed_is =
-      run_shows close_more (λ (x : CacheState). x.closed) lane class (λ x y d is. (lane_shows lane class x y d is).closed) h new_cache c told
-      ∙ run_own close_more lane h (All-weaker (λ (n : Noted). MayNote l.shape n.lane (Cache lane class) n.did) (λ (n : Noted). is_lane lane n.lane ≡ false → (b : Bool) → close_more b n.did ≡ b) (λ n may off. others_close_not l.shape lane class n.lane n.did may off) h e.lanes) false
+      run_shows close_more (λ (x : CacheState). x.closed) lane class
+      (λ x y d is. (lane_shows lane class x y d is).closed) h new_cache c told
+      ∙ run_own close_more lane h (All-weaker (λ (n : Noted). MayNote l.shape n.lane (Cache lane class) n.did)
+      (λ (n : Noted). is_lane lane n.lane ≡ false → (b : Bool) → close_more b n.did ≡ b)
+      (λ n may off. others_close_not l.shape lane class n.lane n.did may off) h e.lanes) false
       ∙ ap (run close_more false) (sym (e.own lane number))
-      ∙ sym (over_own l.shape lane class fits close_more (λ b es. b || has_closed lane class es) (λ b. sym (or_false b)) (λ b o k n es. at_note b (same_object o (Cache lane class)) (is_close n.did) (has_closed lane class es)) (λ a r d es. refl) (λ a b es. refl) v.own.number v.own.notes own_notes false)
+      ∙ sym (over_own l.shape lane class fits close_more (λ b es. b || has_closed lane class es) (λ b. sym (or_false b))
+      (λ b o k n es. at_note b (same_object o (Cache lane class)) (is_close n.did) (has_closed lane class es))
+      (λ a r d es. refl) (λ a b es. refl) v.own.number v.own.notes own_notes false)
     where
-      at_note : (b same close rest : Bool) → (b || (if same && close then true else rest)) ≡ (cond same (b || close) b || rest)
+      at_note : (b same close rest : Bool) → (b || (if same && close then true else rest))
+          ≡ (cond same (b || close) b || rest)
       at_note true true true rest = refl
       at_note true true false rest = refl
       at_note true false close rest = refl

@@ -28,12 +28,15 @@ use Rattle.shared_pool.proofs.EmptyStart.{are_out}
 use Rattle.shared_pool.proofs.LastChunks.{arenas_here, chunks_told}
 use Rattle.shared_pool.proofs.LiveTold.{places_here, live_told}
 
-found_in : (n : ℕ) (o : Option Setting) → arenas_known o ≡ Some n → (x : Setting) × (o ≡ Some x) × (length x.grounds ≡ n)
+found_in : (n : ℕ) (o : Option Setting) → arenas_known o ≡ Some n
+    → (x : Setting) × (o ≡ Some x) × (length x.grounds ≡ n)
 found_in n None e = absurd (cc e)
 found_in n (Some x) e = (x, refl, cc e)
 
-module _ {G : Ghosts Home Noted} (pool : SharedPool) (seats : List (PoolSeat Home G)) (done : AreDone pool seats) (v : SeatView) (parts : parts_of v ≡ parts_in seats)
-    (settled : arenas_known v.setting ≡ Some pool.table.layout.shape.arenas) (homes : List (Option Home)) (words : List ℕ) (closed : IsClosed HomeStands pool.table.layout v homes words) where
+module _ {G : Ghosts Home Noted} (pool : SharedPool) (seats : List (PoolSeat Home G)) (done : AreDone pool seats)
+    (v : SeatView) (parts : parts_of v ≡ parts_in seats)
+    (settled : arenas_known v.setting ≡ Some pool.table.layout.shape.arenas) (homes : List (Option Home))
+    (words : List ℕ) (closed : IsClosed HomeStands pool.table.layout v homes words) where
   abbrev shape : Shape
   shape = pool.table.layout.shape
 
@@ -59,15 +62,25 @@ module _ {G : Ghosts Home Noted} (pool : SharedPool) (seats : List (PoolSeat Hom
   whole = subst (AreWhole shape) parts (parts-whole HomeStands pool.table.layout v homes words closed lanes none)
 
   pub chunks : chunks_from homes (below shape.arenas) ≡ ends_from shape (logs_in (parts_in seats)) (below shape.arenas)
-  chunks = chunks_told pool.table.layout v homes words closed lanes found.0 found.1 ∙ ap (λ (ps : List Part). ends_from shape (logs_in ps) (below shape.arenas)) parts
+  chunks =
+      chunks_told pool.table.layout v homes words closed lanes found.0 found.1
+      ∙ ap (λ (ps : List Part). ends_from shape (logs_in ps) (below shape.arenas)) parts
 
   pub live : AreLiveRoots (parts_in seats) (told_from shape homes words (below (shape.lanes * shape.handles)))
-  live = subst (λ (ps : List Part). AreLiveRoots ps (told_from shape homes words (below (shape.lanes * shape.handles)))) parts
+  live =
+      subst (λ (ps : List Part). AreLiveRoots ps (told_from shape homes words (below (shape.lanes * shape.handles))))
+      parts
       (live_told pool.table.layout v homes words closed lanes found.0 found.1 none tokens)
 
   -- there is a home value for each arena, and more
   pub many : shape.arenas ≤ length homes
-  many = let x : ℕ = shape.lanes * shape.lanes in let y : ℕ = shape.lanes * shape.handles in let e : length homes ≡ shape.arenas + shape.lanes * 41 + x + y = closed.home_count in omega (arith, e)
+  many =
+      let x : ℕ = shape.lanes * shape.lanes in let y : ℕ = shape.lanes * shape.handles in let e : length homes
+      ≡ shape.arenas + shape.lanes * 41 + x + y = closed.home_count in
+      omega (arith, e)
 
   pub out : AreOut shape.arenas homes (left_of homes)
-  out = are_out pool.table.layout v homes words closed lanes found.0 found.1 (subst (λ (y : Layout). IsPage y.shape.page) (sym pool.same_layout) pool.shape.page) found.2 (takings_joined pool seats done v parts)
+  out =
+      are_out pool.table.layout v homes words closed lanes found.0 found.1
+      (subst (λ (y : Layout). IsPage y.shape.page) (sym pool.same_layout) pool.shape.page) found.2
+      (takings_joined pool seats done v parts)

@@ -1,4 +1,5 @@
--- A root whose birth was noted was born, where its place is in no hands: births of all generations are as many as steps.
+-- A root whose birth was noted was born, where its place is in no hands: births of all generations are as many
+-- as steps.
 use Rattle.std.proofs.Common.{◌≡◌, ℕ, zero, suc, ◌+◌, ◌<◌, ◌≤◌, List, [], ◌∷◌, Bool, true, false, cond, eqb, refl, ap, ◌∙◌, subst, arith, ne_eqb}
 use Rattle.std.specs.Prelude.{◌==◌, ◌&&◌, sum_by}
 use Rattle.std.proofs.lemmas.List.Sums.{sum_by-cons}
@@ -28,28 +29,38 @@ sum_below (suc n) f g i lt le less = dite (ℕ_discrete i n)
 -- what each number below n picks at j
 picked : (n j x : ℕ) → j < n → sum_to n (λ i. cond {A = ℕ} (eqb j i) x 0) ≡ x
 picked n j x lt =
-    sum_to_same n (λ i. cond {A = ℕ} (eqb j i) x 0) (λ i. cond {A = ℕ} (eqb (0 + j) (0 + i)) x 0) (λ i. let a : j ≡ 0 + j = omega arith in let b : i ≡ 0 + i = omega arith in λ k. cond {A = ℕ} (eqb (a k) (b k)) x 0)
+    sum_to_same n (λ i. cond {A = ℕ} (eqb j i) x 0) (λ i. cond {A = ℕ} (eqb (0 + j) (0 + i)) x 0)
+    (λ i. let a : j ≡ 0 + j = omega arith in let b : i
+    ≡ 0 + i = omega arith in λ k. cond {A = ℕ} (eqb (a k) (b k)) x 0)
     ∙ sum_to_one n j x 0 lt
 
 picked_most : (n j x : ℕ) → sum_to n (λ i. cond {A = ℕ} (eqb j i) x 0) ≤ x
 picked_most n j x = dite (dec_le (suc j) n)
     (λ le. let a = picked n j x (omega (arith, le)) in omega (arith, a))
-    (λ gt. let a = sum_to_none n (λ i. cond {A = ℕ} (eqb j i) x 0) (λ i lt. ap (λ (b : Bool). cond {A = ℕ} b x 0) (ne_eqb j i (λ e. gt (omega (arith, e, lt))))) in omega (arith, a))
+    (λ gt. let a = sum_to_none n (λ i. cond {A = ℕ} (eqb j i) x 0)
+    (λ i lt. ap (λ (b : Bool). cond {A = ℕ} b x 0) (ne_eqb j i (λ e. gt (omega (arith, e, lt))))) in
+    omega (arith, a))
 
 module _ {X : Type 0} (f : ℕ → X → ℕ) (F : X → ℕ) where
   -- sums of sums, where the numbers go above what each has
-  all_sums : (top : X → ℕ) → ((x : X) (n : ℕ) → top x ≤ n → sum_to n (λ i. f i x) ≡ F x) → (xs : List X) (n : ℕ) → sum_by top xs ≤ n → sum_to n (λ i. sum_by (f i) xs) ≡ sum_by F xs
+  all_sums : (top : X → ℕ) → ((x : X) (n : ℕ) → top x ≤ n → sum_to n (λ i. f i x) ≡ F x) → (xs : List X) (n : ℕ)
+      → sum_by top xs ≤ n → sum_to n (λ i. sum_by (f i) xs) ≡ sum_by F xs
   all_sums top each [] n le = sum_to_none n (λ i. sum_by (f i) []) (λ i lt. refl)
   all_sums top each (x ∷ xs) n le =
       let t = sum_by-cons top x xs in
       let a = sum_to_same n (λ i. sum_by (f i) (x ∷ xs)) (λ i. f i x + sum_by (f i) xs) (λ i. sum_by-cons (f i) x xs) in
-      let b = sum_to_add n (λ i. f i x) (λ i. sum_by (f i) xs) in let c = each x n (omega (arith, t, le)) in let d = all_sums top each xs n (omega (arith, t, le)) in let e = sum_by-cons F x xs in omega (arith, a, b, c, d, e)
+      let b = sum_to_add n (λ i. f i x) (λ i. sum_by (f i) xs) in let c = each x n (omega (arith, t, le)) in let d =
+      all_sums top each xs n (omega (arith, t, le)) in let e = sum_by-cons F x xs in
+      omega (arith, a, b, c, d, e)
 
-  at_most : ((x : X) (n : ℕ) → sum_to n (λ i. f i x) ≤ F x) → (xs : List X) (n : ℕ) → sum_to n (λ i. sum_by (f i) xs) ≤ sum_by F xs
+  at_most : ((x : X) (n : ℕ) → sum_to n (λ i. f i x) ≤ F x) → (xs : List X) (n : ℕ)
+      → sum_to n (λ i. sum_by (f i) xs) ≤ sum_by F xs
   at_most each [] n = let a = sum_to_none n (λ i. sum_by (f i) []) (λ i lt. refl) in omega (arith, a)
   at_most each (x ∷ xs) n =
       let a = sum_to_same n (λ i. sum_by (f i) (x ∷ xs)) (λ i. f i x + sum_by (f i) xs) (λ i. sum_by-cons (f i) x xs) in
-      let b = sum_to_add n (λ i. f i x) (λ i. sum_by (f i) xs) in let c = each x n in let d = at_most each xs n in let e = sum_by-cons F x xs in omega (arith, a, b, c, d, e)
+      let b = sum_to_add n (λ i. f i x) (λ i. sum_by (f i) xs) in let c = each x n in let d = at_most each xs n in
+      let e = sum_by-cons F x xs in
+      omega (arith, a, b, c, d, e)
 
 -- ---- Births at one place.
 
@@ -70,7 +81,8 @@ module _ (p : ℕ) where
   step_sums (Busy b) n le = sum_to_none n (λ g. 0) (λ i lt. refl)
   step_sums (Ref r d) n le = by (r.place == p)
     where
-      by : (b : Bool) → sum_to n (λ g. cond {A = ℕ} (b && (r.generation == g)) (ref_born d) 0) ≡ cond {A = ℕ} b (ref_born d) 0
+      by : (b : Bool) → sum_to n (λ g. cond {A = ℕ} (b && (r.generation == g)) (ref_born d) 0)
+          ≡ cond {A = ℕ} b (ref_born d) 0
       by true = picked n r.generation (ref_born d) (omega (arith, le))
       by false = sum_to_none n (λ g. 0) (λ i lt. refl)
 
@@ -90,19 +102,25 @@ module _ (p : ℕ) where
   abbrev top_of : Part → ℕ
   top_of q = sum_by top q.notes
 
-  steps_all : (v : SeatView) (n : ℕ) → sum_by top_of (parts_of v) ≤ n → sum_to n (λ g. weigh (step g) v) ≡ weigh (on_place ref_born p) v
-  steps_all v n le = all_sums (λ g (q : Part). sum_by (step g) q.notes) (λ (q : Part). sum_by (on_place ref_born p) q.notes) top_of
+  steps_all : (v : SeatView) (n : ℕ) → sum_by top_of (parts_of v) ≤ n
+      → sum_to n (λ g. weigh (step g) v) ≡ weigh (on_place ref_born p) v
+  steps_all v n le =
+      all_sums (λ g (q : Part). sum_by (step g) q.notes) (λ (q : Part). sum_by (on_place ref_born p) q.notes) top_of
       (λ q m below. all_sums step (on_place ref_born p) top step_sums q.notes m below) (parts_of v) n le
 
   notes_all : (v : SeatView) (n : ℕ) → sum_to n (λ g. weigh (note g) v) ≤ weigh (at_birth p) v
   notes_all v n = at_most (λ g (q : Part). sum_by (note g) q.notes) (λ (q : Part). sum_by (at_birth p) q.notes)
       (λ q m. at_most note (at_birth p) note_sums q.notes m) (parts_of v) n
 
-  -- where no more births are noted than made, and none of a generation made that wasn't noted, each that was noted is made
-  pub noted_made : (v : SeatView) → weigh (at_birth p) v ≤ weigh (on_place ref_born p) v → ((g : ℕ) → weigh (on_root ref_born p g) v ≤ weigh (at_birth_of p g) v) → (g : ℕ) →
+  -- where no more births are noted than made, and none of a generation made that wasn't noted, each that was
+  -- noted is made
+  pub noted_made : (v : SeatView) → weigh (at_birth p) v ≤ weigh (on_place ref_born p) v
+      → ((g : ℕ) → weigh (on_root ref_born p g) v ≤ weigh (at_birth_of p g) v) → (g : ℕ) →
       0 < weigh (at_birth_of p g) v → 0 < weigh (on_root ref_born p g) v
   noted_made v most each g lt = dite (ℕ_discrete (weigh (on_root ref_born p g) v) 0)
       (λ z. let t : ℕ = sum_by top_of (parts_of v) in let n : ℕ = t + (g + 1) in
       let a = steps_all v n (let le : t ≤ n = omega arith in le) in let b = notes_all v n in
-      let c = sum_below n (λ g. weigh (step g) v) (λ g. weigh (note g) v) g (let le : g < n = omega arith in le) each (omega (arith, z, lt)) in absurd (omega (arith, a, b, c, most)))
+      let c = sum_below n (λ g. weigh (step g) v) (λ g. weigh (note g) v) g (let le : g < n = omega arith in le) each
+      (omega (arith, z, lt)) in
+      absurd (omega (arith, a, b, c, most)))
       (λ ne. omega (arith, ne))

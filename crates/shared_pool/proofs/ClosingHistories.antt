@@ -48,11 +48,14 @@ not_passed true fails = absurd (fails refl)
 not_passed false fails = refl
 
 -- on objects of the shape, the same object is the same home
-pub same_about : (s : Shape) (o p : Object) → IsObjectOf s o → IsObjectOf s p → same_object o p ≡ (home_of s p == home_of s o)
+pub same_about : (s : Shape) (o p : Object) → IsObjectOf s o → IsObjectOf s p
+    → same_object o p ≡ (home_of s p == home_of s o)
 same_about s o p fo fp = dite (ℕ_discrete (home_of s p) (home_of s o))
     (λ e. let same : o ≡ p = one_home s o p fo fp (sym e) in
-    subst (λ (x : Object). same_object o x ≡ true) same (same_object-refl o) ∙ sym (eq-eqb (home_of s p) (home_of s o) e))
-    (λ ne. not_passed (same_object o p) (λ t. ne (ap (home_of s) (sym (same_object-is o p t)))) ∙ sym (ne_eqb (home_of s p) (home_of s o) ne))
+    subst (λ (x : Object). same_object o x ≡ true) same (same_object-refl o)
+    ∙ sym (eq-eqb (home_of s p) (home_of s o) e))
+    (λ ne. not_passed (same_object o p) (λ t. ne (ap (home_of s) (sym (same_object-is o p t))))
+    ∙ sym (ne_eqb (home_of s p) (home_of s o) ne))
 
 -- and one that isn't of the shape is no object of it
 pub no_same : (s : Shape) (o p : Object) → (IsObjectOf s o → ⊥) → IsObjectOf s p → same_object o p ≡ false
@@ -70,40 +73,52 @@ tagged (Ref r d ∷ es) = tagged es
 tagged (Busy b ∷ es) = tagged es
 
 -- what a lane noted at an object is what its strand there has
-pub own_strand : (s : Shape) (lane : Option ℕ) (o : Object) → IsObjectOf s o → (es : List Entry) → All (Stands s lane) es → own o (notes_in es) ≡ dids_in (tagged (filter (is_about s (home_of s o)) es))
+pub own_strand : (s : Shape) (lane : Option ℕ) (o : Object) → IsObjectOf s o → (es : List Entry)
+    → All (Stands s lane) es → own o (notes_in es) ≡ dids_in (tagged (filter (is_about s (home_of s o)) es))
 own_strand s lane o fits [] all = refl
 own_strand s lane o fits (At p k n ∷ es) all =
-    let st = All-head (Stands s lane) (At p k n) es all in let ih = own_strand s lane o fits es (All-tail (Stands s lane) (At p k n) es all) in
+    let st = All-head (Stands s lane) (At p k n) es all in let ih =
+    own_strand s lane o fits es (All-tail (Stands s lane) (At p k n) es all) in
     let e : same_object o p ≡ (home_of s p == home_of s o) = same_about s o p fits st.object in
     ap (λ (b : Bool). cond b ((k, n.did) ∷ []) [] ++ own o (notes_in es)) e ∙ by (home_of s p == home_of s o) ih
   where
     by : (b : Bool) → own o (notes_in es) ≡ dids_in (tagged (filter (is_about s (home_of s o)) es)) →
-        cond b ((k, n.did) ∷ []) [] ++ own o (notes_in es) ≡ dids_in (tagged (cond b (At p k n ∷ filter (is_about s (home_of s o)) es) (filter (is_about s (home_of s o)) es)))
+        cond b ((k, n.did) ∷ []) [] ++ own o (notes_in es)
+        ≡ dids_in (tagged (cond b (At p k n ∷ filter (is_about s (home_of s o)) es)
+        (filter (is_about s (home_of s o)) es)))
     by true ih = ap (λ (t : List (ℕ × Did)). (k, n.did) ∷ t) ih
     by false ih = ih
 own_strand s lane o fits (Ref r d ∷ es) all = own_strand s lane o fits es (All-tail (Stands s lane) (Ref r d) es all)
 own_strand s lane o fits (Busy b ∷ es) all =
     own_strand s lane o fits es (All-tail (Stands s lane) (Busy b) es all) ∙ by (home_of s b.object == home_of s o)
   where
-    by : (t : Bool) → dids_in (tagged (filter (is_about s (home_of s o)) es)) ≡ dids_in (tagged (cond t (Busy b ∷ filter (is_about s (home_of s o)) es) (filter (is_about s (home_of s o)) es)))
+    by : (t : Bool) → dids_in (tagged (filter (is_about s (home_of s o)) es))
+        ≡ dids_in (tagged (cond t (Busy b ∷ filter (is_about s (home_of s o)) es)
+        (filter (is_about s (home_of s o)) es)))
     by true = refl
     by false = refl
 
 -- at what isn't an object of the shape it noted nothing
-pub own_none : (s : Shape) (lane : Option ℕ) (o : Object) → (IsObjectOf s o → ⊥) → (es : List Entry) → All (Stands s lane) es → own o (notes_in es) ≡ []
+pub own_none : (s : Shape) (lane : Option ℕ) (o : Object) → (IsObjectOf s o → ⊥) → (es : List Entry)
+    → All (Stands s lane) es → own o (notes_in es) ≡ []
 own_none s lane o none [] all = refl
 own_none s lane o none (At p k n ∷ es) all =
-    let st = All-head (Stands s lane) (At p k n) es all in let ih = own_none s lane o none es (All-tail (Stands s lane) (At p k n) es all) in
+    let st = All-head (Stands s lane) (At p k n) es all in let ih =
+    own_none s lane o none es (All-tail (Stands s lane) (At p k n) es all) in
     ap (λ (b : Bool). cond b ((k, n.did) ∷ []) [] ++ own o (notes_in es)) (no_same s o p none st.object) ∙ ih
 own_none s lane o none (Ref r d ∷ es) all = own_none s lane o none es (All-tail (Stands s lane) (Ref r d) es all)
 own_none s lane o none (Busy b ∷ es) all = own_none s lane o none es (All-tail (Stands s lane) (Busy b) es all)
 
 -- the first of a list is related to all others
 pub pairs_head : {X : Type 0} (R : X → X → Type 0) (x : X) (xs : List X) → AllPairs R (x ∷ xs) → All (R x) xs
-pairs_head R x xs all k d lt = all 0 (suc k) d (omega arith) (let n : ℕ = length xs in let lt' : k < n = lt in let g : suc k < suc n = omega (arith, lt') in g)
+pairs_head R x xs all k d lt =
+    all 0 (suc k) d (omega arith) (let n : ℕ = length xs in let lt' : k < n = lt in let g : suc k < suc n =
+    omega (arith, lt') in g)
 
 pub pairs_tail : {X : Type 0} (R : X → X → Type 0) (x : X) (xs : List X) → AllPairs R (x ∷ xs) → AllPairs R xs
-pairs_tail R x xs all i j d lt below = all (suc i) (suc j) d (omega (arith, lt)) (let n : ℕ = length xs in let lt' : j < n = below in let g : suc j < suc n = omega (arith, lt') in g)
+pairs_tail R x xs all i j d lt below =
+    all (suc i) (suc j) d (omega (arith, lt))
+    (let n : ℕ = length xs in let lt' : j < n = below in let g : suc j < suc n = omega (arith, lt') in g)
 
 -- a note's number is at least n
 abbrev pub AtLeast : ℕ → Entry → Type 0
@@ -115,17 +130,21 @@ pub rises : (n : ℕ) (es : List Entry) → AllPairs Before es → All (AtLeast 
 rises n [] pairs least = tt
 rises n (At o k m ∷ es) pairs least = (
   All-head (AtLeast n) (At o k m) es least,
-  rises (k + 1) es (pairs_tail Before (At o k m) es pairs) (All-weaker (Before (At o k m)) (AtLeast (k + 1)) (after o k m) es (pairs_head Before (At o k m) es pairs)),
+  rises (k + 1) es (pairs_tail Before (At o k m) es pairs)
+      (All-weaker (Before (At o k m)) (AtLeast (k + 1)) (after o k m) es (pairs_head Before (At o k m) es pairs)),
 )
   where
     after : (o : Object) (k : ℕ) (m : Noted) (e : Entry) → Before (At o k m) e → AtLeast (k + 1) e
     after o k m (At p j n) lt = let a : k < j = lt in let g : k + 1 ≤ j = omega (arith, a) in g
     after o k m (Ref r d) t = tt
     after o k m (Busy b) t = tt
-rises n (Ref r d ∷ es) pairs least = rises n es (pairs_tail Before (Ref r d) es pairs) (All-tail (AtLeast n) (Ref r d) es least)
-rises n (Busy b ∷ es) pairs least = rises n es (pairs_tail Before (Busy b) es pairs) (All-tail (AtLeast n) (Busy b) es least)
+rises n (Ref r d ∷ es) pairs least =
+    rises n es (pairs_tail Before (Ref r d) es pairs) (All-tail (AtLeast n) (Ref r d) es least)
+rises n (Busy b ∷ es) pairs least =
+    rises n es (pairs_tail Before (Busy b) es pairs) (All-tail (AtLeast n) (Busy b) es least)
 
-told_least : (o : Object) (h : List Noted) (limit : ℕ) (lane : Option ℕ) (e : Entry) → Tells o h limit lane e → AtLeast 1 e
+told_least : (o : Object) (h : List Noted) (limit : ℕ) (lane : Option ℕ) (e : Entry) → Tells o h limit lane e
+    → AtLeast 1 e
 told_least o h limit lane (At p k n) t = let a : 0 < k = t.0 in let g : 1 ≤ k = omega (arith, a) in g
 told_least o h limit lane (Ref r d) t = tt
 told_least o h limit lane (Busy b) t = tt
@@ -133,12 +152,17 @@ told_least o h limit lane (Busy b) t = tt
 lane_is : (i : ℕ) (l : Option ℕ) → l ≡ Some i → is_lane i l ≡ true
 lane_is i l e = subst (λ (x : Option ℕ). is_lane i x ≡ true) (sym e) (eq-eqb i i refl)
 
-sit : (o : Object) (h : List Noted) (limit i : ℕ) (es : List Entry) → All (Tells o h limit (Some i)) es → AllSit i 1 h (tagged es)
+sit : (o : Object) (h : List Noted) (limit i : ℕ) (es : List Entry) → All (Tells o h limit (Some i)) es
+    → AllSit i 1 h (tagged es)
 sit o h limit i [] all = tt
 sit o h limit i (At p k n ∷ es) all =
     let t = All-head (Tells o h limit (Some i)) (At p k n) es all in
-    let a : 0 < k = t.0 in
-    ((k - 1, (let g : k ≡ 1 + (k - 1) = omega (arith, a) in g), t.1), lane_is i n.lane t.2, sit o h limit i es (All-tail (Tells o h limit (Some i)) (At p k n) es all))
+    let a : 0 < k = t.0 in (
+      (k - 1, (let g : k ≡ 1 + (k - 1) = omega (arith, a) in g), t.1),
+      lane_is i n.lane t.2,
+      sit o h limit i es
+          (All-tail (Tells o h limit (Some i)) (At p k n) es all),
+    )
 sit o h limit i (Ref r d ∷ es) all = sit o h limit i es (All-tail (Tells o h limit (Some i)) (Ref r d) es all)
 sit o h limit i (Busy b ∷ es) all = sit o h limit i es (All-tail (Tells o h limit (Some i)) (Busy b) es all)
 
@@ -149,13 +173,15 @@ notes_tagged (Ref r d ∷ es) = notes_tagged es
 notes_tagged (Busy b ∷ es) = notes_tagged es
 
 -- a lane's notes at an object are those that the history has of the lane
-pub part_numbered : (s : Shape) (o : Object) (h : List Noted) (limit i : ℕ) (p : Part) → IsObjectOf s o → p.number ≡ Some i → All (Stands s p.number) p.notes → IsTold o h limit (strand s (home_of s o) p) → AllLaned h →
+pub part_numbered : (s : Shape) (o : Object) (h : List Noted) (limit i : ℕ) (p : Part) → IsObjectOf s o
+    → p.number ≡ Some i → All (Stands s p.number) p.notes → IsTold o h limit (strand s (home_of s o) p) → AllLaned h →
     own o (notes_in p.notes) ≡ numbered i 1 (lawful h)
 part_numbered s o h limit i p fits number st told laned =
     let es : List Entry = filter (is_about s (home_of s o)) p.notes in
     own_strand s p.number o fits p.notes st
     ∙ are_numbered i 1 h (tagged es)
-    (rises 1 es told.ordered (All-weaker (Tells o h limit p.number) (AtLeast 1) (told_least o h limit p.number) es told.told))
+    (rises 1 es told.ordered (All-weaker (Tells o h limit p.number) (AtLeast 1) (told_least o h limit p.number) es
+    told.told))
     (sit o h limit i es (subst (λ (l : Option ℕ). All (Tells o h limit l) es) number told.told))
     laned
     (notes_tagged es ∙ told.own i number)

@@ -17,7 +17,8 @@ use Rattle.shared_pool.proofs.ClosingTotals.{totals_hold}
 use Rattle.shared_pool.proofs.ClosingNames.{named_born}
 
 -- only histories, entries and busy marks need the lanes to be in order, and only totals that no place is in hand
-pub parts-whole : {H : Type 0} (stands : List ℕ → Setting → List Noted → H → Type 0) (l : Layout) (v : SeatView) (homes : List (Option H)) (words : List ℕ) →
+pub parts-whole : {H : Type 0} (stands : List ℕ → Setting → List Noted → H → Type 0) (l : Layout) (v : SeatView)
+    (homes : List (Option H)) (words : List ℕ) →
     IsClosed stands l v homes words → AreLanes l.shape (parts_of v) → HasNoPlace v → AreWhole l.shape (parts_of v)
 parts-whole stands l v homes words closed lanes none = record {
   histories = histories_hold stands l v homes words closed lanes;

@@ -42,12 +42,15 @@ use Rattle.shared_pool.proofs.JoinedParts.{HasNoToken}
 use Rattle.shared_pool.proofs.PlaceLives.{HasEnd}
 
 -- what stands in a filtered list passes the test, and stands in the list
-from_filter : {X : Type 0} (test : X → Bool) (xs : List X) (j : ℕ) (x : X) → slice_get (filter test xs) j ≡ Some x → (i : ℕ) × (slice_get xs i ≡ Some x) × (test x ≡ true)
+from_filter : {X : Type 0} (test : X → Bool) (xs : List X) (j : ℕ) (x : X) → slice_get (filter test xs) j ≡ Some x
+    → (i : ℕ) × (slice_get xs i ≡ Some x) × (test x ≡ true)
 from_filter test [] j x is = absurd (cc is)
 from_filter {X = X} test (y ∷ xs) j x is = by (test y) refl j (λ k. from_filter test xs k x) is
   where
-    by : (b : Bool) → test y ≡ b → (j : ℕ) → ((k : ℕ) → slice_get (filter test xs) k ≡ Some x → (i : ℕ) × (slice_get xs i ≡ Some x) × (test x ≡ true)) →
-        slice_get (cond b (y ∷ filter test xs) (filter test xs)) j ≡ Some x → (i : ℕ) × (slice_get (y ∷ xs) i ≡ Some x) × (test x ≡ true)
+    by : (b : Bool) → test y ≡ b → (j : ℕ)
+        → ((k : ℕ) → slice_get (filter test xs) k ≡ Some x → (i : ℕ) × (slice_get xs i ≡ Some x) × (test x ≡ true)) →
+        slice_get (cond b (y ∷ filter test xs) (filter test xs)) j ≡ Some x
+        → (i : ℕ) × (slice_get (y ∷ xs) i ≡ Some x) × (test x ≡ true)
     by true t zero rest is = let same : y ≡ x = cc is in (zero, is, ap test (sym same) ∙ t)
     by true t (suc j) rest is = let r = rest j is in (suc r.0, r.1, r.2)
     by false t j rest is = let r = rest j is in (suc r.0, r.1, r.2)
@@ -55,8 +58,10 @@ from_filter {X = X} test (y ∷ xs) j x is = by (test y) refl j (λ k. from_filt
 -- one item weighs no more than all
 item_weighs : {X : Type 0} (f : X → ℕ) (xs : List X) (i : ℕ) (x : X) → slice_get xs i ≡ Some x → f x ≤ sum_by f xs
 item_weighs f [] i x is = absurd (cc is)
-item_weighs f (y ∷ xs) zero x is = let same : y ≡ x = cc is in let e = ap f same in let a = sum_by-cons f y xs in omega (arith, a, e)
-item_weighs f (y ∷ xs) (suc i) x is = let r = item_weighs f xs i x is in let a = sum_by-cons f y xs in omega (arith, a, r)
+item_weighs f (y ∷ xs) zero x is =
+    let same : y ≡ x = cc is in let e = ap f same in let a = sum_by-cons f y xs in omega (arith, a, e)
+item_weighs f (y ∷ xs) (suc i) x is =
+    let r = item_weighs f xs i x is in let a = sum_by-cons f y xs in omega (arith, a, r)
 
 -- what ends a root by its name, and what the law says of it
 this_ended : (r : RootId) (e : Entry) → on_this ref_ended r e ≡ law (ends_root r) e
@@ -98,7 +103,9 @@ this_root w r (Ref q d) = by (same_root q r) refl
     by false e = omega arith
     by true e =
         let same = same_root-is q r e in
-        let t : is_root r.place r.generation q ≡ true = (λ i. eq-eqb q.place r.place (ap (λ (x : RootId). x.place) same) i && eq-eqb q.generation r.generation (ap (λ (x : RootId). x.generation) same) i) in
+        let t : is_root r.place r.generation q ≡ true =
+        (λ i. eq-eqb q.place r.place (ap (λ (x : RootId). x.place) same) i && eq-eqb q.generation r.generation
+        (ap (λ (x : RootId). x.generation) same) i) in
         let c = ap (λ (b : Bool). cond {A = ℕ} b (w d) 0) t in omega (arith, c)
 
 gain_any : (p g : ℕ) (e : Entry) → on_root ref_gain p g e ≤ any_gain e
@@ -111,10 +118,12 @@ gain_any p g (Ref r d) = by (is_root p g r)
     by false = omega arith
 
 -- a birth, and an end, as they weigh
-birth_one : (o : Object) (k : ℕ) (n : Noted) (r : RootId) (z : RegionId) → n.did ≡ Birth r z → at_birth_as r.place r.generation r.capacity (At o k n) ≡ 1
+birth_one : (o : Object) (k : ℕ) (n : Noted) (r : RootId) (z : RegionId) → n.did ≡ Birth r z
+    → at_birth_as r.place r.generation r.capacity (At o k n) ≡ 1
 birth_one o k n r z is =
     ap (did_birth_as r.place r.generation r.capacity) is
-    ∙ (λ i. cond {A = ℕ} ((eq-eqb r.place r.place refl i && eq-eqb r.generation r.generation refl i) && eq-eqb r.capacity r.capacity refl i) 1 0)
+    ∙ (λ i. cond {A = ℕ} ((eq-eqb r.place r.place refl i && eq-eqb r.generation r.generation refl i) && eq-eqb
+    r.capacity r.capacity refl i) 1 0)
 
 end_one : (o : Object) (k : ℕ) (n : Noted) (r : RootId) → n.did ≡ End r → at_end r.place r.generation (At o k n) ≡ 1
 end_one o k n r is =
@@ -154,7 +163,8 @@ ends_as p g (At o k n) lt = by n.did refl lt
         test false t lt = absurd (omega (arith, lt))
     by d is lt = absurd (omega (arith, lt))
 
-module _ {H : Type 0} (stands : List ℕ → Setting → List Noted → H → Type 0) (l : Layout) (v : SeatView) (homes : List (Option H)) (words : List ℕ)
+module _ {H : Type 0} (stands : List ℕ → Setting → List Noted → H → Type 0) (l : Layout) (v : SeatView)
+    (homes : List (Option H)) (words : List ℕ)
     (closed : IsClosed stands l v homes words) (lanes : AreLanes l.shape (parts_of v)) where
   abbrev History : (o : Object) → IsObjectOf l.shape o → List Noted
   History o fits = (closed.objects o fits).history
@@ -167,39 +177,58 @@ module _ {H : Type 0} (stands : List ℕ → Setting → List Noted → H → Ty
     pub there : slice_get (parts_of v) lane ≡ Some part
     pub stood : slice_get part.notes index ≡ Some (At o (k + 1) n)
 
-  pub standing : (o : Object) (fits : IsObjectOf l.shape o) (k : ℕ) (n : Noted) → slice_get (History o fits) k ≡ Some n → Standing o k n
+  pub standing : (o : Object) (fits : IsObjectOf l.shape o) (k : ℕ) (n : Noted) → slice_get (History o fits) k ≡ Some n
+      → Standing o k n
   standing o fits k n is =
       let s = note_there stands l v homes words closed lanes o fits k n is in
       let f = from_filter (is_about l.shape (home_of l.shape o)) s.part.notes s.index s.entry s.stood in
       let t = told_at stands l v homes words closed lanes o fits s.lane s.part s.there in
-      let tells = at (Tells o (History o fits) (length (History o fits)) s.part.number) (filter (is_about l.shape (home_of l.shape o)) s.part.notes) s.index s.entry t.told s.stood in
-      let st = at (Stands l.shape s.part.number) s.part.notes f.0 s.entry (stands_at stands l v homes words closed lanes s.lane s.part s.there) f.1 in
+      let tells = at (Tells o (History o fits) (length (History o fits)) s.part.number)
+      (filter (is_about l.shape (home_of l.shape o)) s.part.notes) s.index s.entry t.told s.stood in
+      let st = at (Stands l.shape s.part.number) s.part.notes f.0 s.entry
+      (stands_at stands l v homes words closed lanes s.lane s.part s.there) f.1 in
       by s.lane s.part s.there f.0 s.entry f.1 f.2 s.number tells st
     where
-      by : (lane : ℕ) (part : Part) → slice_get (parts_of v) lane ≡ Some part → (index : ℕ) (e : Entry) → slice_get part.notes index ≡ Some e → is_about l.shape (home_of l.shape o) e ≡ true → is_numbered (k + 1) e ≡ true →
-          Tells o (History o fits) (length (History o fits)) part.number e → Stands l.shape part.number e → Standing o k n
+      by : (lane : ℕ) (part : Part) → slice_get (parts_of v) lane ≡ Some part → (index : ℕ) (e : Entry)
+          → slice_get part.notes index ≡ Some e → is_about l.shape (home_of l.shape o) e ≡ true
+          → is_numbered (k + 1) e ≡ true →
+          Tells o (History o fits) (length (History o fits)) part.number e → Stands l.shape part.number e
+          → Standing o k n
       by lane part there index (At p j m) stood about number tells st =
-          let object : p ≡ o = one_home l.shape p o st.object fits (eqb-true (home_of l.shape p) (home_of l.shape o) about) in
+          let object : p ≡ o = one_home l.shape p o st.object fits
+          (eqb-true (home_of l.shape p) (home_of l.shape o) about) in
           let j_is : j ≡ k + 1 = eqb-true j (k + 1) number in
           let spot : j - 1 ≡ k = omega (arith, j_is) in
           let two : Some m ≡ Some n = sym tells.1 ∙ (ap (λ (x : ℕ). slice_get (History o fits) x) spot ∙ is) in
           let m_is : m ≡ n = cc two in
-          record { lane = lane; part = part; index = index; there = there; stood = stood ∙ (λ i. Some (At (object i) (j_is i) (m_is i))) }
+          record {
+            lane = lane;
+            part = part;
+            index = index;
+            there = there;
+            stood = stood
+                ∙ (λ i. Some (At (object i) (j_is i) (m_is i)));
+          }
       by lane part there index (Ref r d) stood about number tells st = absurd (cc number)
       by lane part there index (Busy b) stood about number tells st = absurd (cc number)
 
   -- an entry weighs no more than the view
-  entry_weighs : (f : Entry → ℕ) (lane : ℕ) (p : Part) (j : ℕ) (e : Entry) → slice_get (parts_of v) lane ≡ Some p → slice_get p.notes j ≡ Some e → f e ≤ weigh f v
+  entry_weighs : (f : Entry → ℕ) (lane : ℕ) (p : Part) (j : ℕ) (e : Entry) → slice_get (parts_of v) lane ≡ Some p
+      → slice_get p.notes j ≡ Some e → f e ≤ weigh f v
   entry_weighs f lane p j e there is =
-      let a = item_weighs f p.notes j e is in let b = item_weighs (λ (q : Part). sum_by f q.notes) (parts_of v) lane p there in
-      let x : ℕ = sum_by f p.notes in let y : ℕ = weigh f v in let a' : f e ≤ x = a in let b' : x ≤ y = b in omega (arith, a', b')
+      let a = item_weighs f p.notes j e is in let b =
+      item_weighs (λ (q : Part). sum_by f q.notes) (parts_of v) lane p there in
+      let x : ℕ = sum_by f p.notes in let y : ℕ = weigh f v in let a' : f e ≤ x = a in let b' : x ≤ y = b in
+      omega (arith, a', b')
 
   -- a birth in the history of a place is one of the view
-  pub born_in : (r : RootId) (fits : IsObjectOf l.shape (Root r.place)) (k : ℕ) (n : Noted) (z : RegionId) → slice_get (History (Root r.place) fits) k ≡ Some n → n.did ≡ Birth r z → IsBorn (v ∷ []) r
+  pub born_in : (r : RootId) (fits : IsObjectOf l.shape (Root r.place)) (k : ℕ) (n : Noted) (z : RegionId)
+      → slice_get (History (Root r.place) fits) k ≡ Some n → n.did ≡ Birth r z → IsBorn (v ∷ []) r
   born_in r fits k n z is did =
       let s = standing (Root r.place) fits k n is in let f : Entry → ℕ = at_birth_as r.place r.generation r.capacity in
       let a = entry_weighs f s.lane s.part s.index (At (Root r.place) (k + 1) n) s.there s.stood in
-      let b = birth_one (Root r.place) (k + 1) n r z did in let c = one_is stands l v homes words closed f in omega (arith, a, b, c)
+      let b = birth_one (Root r.place) (k + 1) n r z did in let c = one_is stands l v homes words closed f in
+      omega (arith, a, b, c)
 
   births_counted : (r : RootId) → IsBorn (v ∷ []) r → 0 < count_over (is_birth r) (entries_in (parts_of v))
   births_counted r born =
@@ -217,84 +246,120 @@ module _ {H : Type 0} (stands : List ℕ → Setting → List Noted → H → Ty
 
     ended_are : count_over (ends_root r) (entries_in (parts_of v)) ≡ weigh (on_root ref_ended r.place r.generation) v
     ended_are =
-        counts_are stands l v homes words closed r born (ends_root r) (on_root ref_ended r.place r.generation) (ends_alike r)
+        counts_are stands l v homes words closed r born (ends_root r) (on_root ref_ended r.place r.generation)
+        (ends_alike r)
         ∙ one_is stands l v homes words closed (on_root ref_ended r.place r.generation)
 
     -- one whose end is noted has no count
-    pub end_total : (fits : IsObjectOf l.shape (Root r.place)) → HasEnd (History (Root r.place) fits) r → total_of r (entries_in (parts_of v)) ≡ 0
+    pub end_total : (fits : IsObjectOf l.shape (Root r.place)) → HasEnd (History (Root r.place) fits) r
+        → total_of r (entries_in (parts_of v)) ≡ 0
     end_total fits e =
         let s = standing (Root r.place) fits e.at e.note e.there in let f : Entry → ℕ = at_end r.place r.generation in
         let a = entry_weighs f s.lane s.part s.index (At (Root r.place) (e.at + 1) e.note) s.there s.stood in
-        let b = end_one (Root r.place) (e.at + 1) e.note r e.did in let c = closed.view.roots.ending r.place r.generation in
+        let b = end_one (Root r.place) (e.at + 1) e.note r e.did in let c =
+        closed.view.roots.ending r.place r.generation in
         let d = ended_are in let once = holds.ends_once in
         holds.ends_at_zero.0 (omega (arith, a, b, c, d, once))
 
     -- one without count has its end noted
-    pub total_end : HasNoToken (parts_of v) → total_of r (entries_in (parts_of v)) ≡ 0 → (k : ℕ) × (n : Noted) × (q : RootId) × (fits : IsObjectOf l.shape (Root r.place)) ×
+    pub total_end : HasNoToken (parts_of v) → total_of r (entries_in (parts_of v)) ≡ 0
+        → (k : ℕ) × (n : Noted) × (q : RootId) × (fits : IsObjectOf l.shape (Root r.place)) ×
         (slice_get (History (Root r.place) fits) k ≡ Some n) × (n.did ≡ End q) × (q.generation ≡ r.generation)
     total_end tokens z =
         let one = holds.ends_at_zero.1 z in
         let ended : weigh_in (on_this ref_ended r) (parts_of v) ≡ 1 =
-        weigh_same (on_this ref_ended r) (law (ends_root r)) (parts_of v) (λ k d _ j e _. this_ended r _) ∙ sym (count_over-is (ends_root r) (parts_of v)) ∙ one in
+        weigh_same (on_this ref_ended r) (law (ends_root r)) (parts_of v) (λ k d _ j e _. this_ended r _)
+        ∙ sym (count_over-is (ends_root r) (parts_of v)) ∙ one in
         let vacated : 0 < weigh (on_root ref_vacated r.place r.generation) v =
-        (let a = sum_by-le-sum_by (λ (q : Part). sum_by (on_this ref_vacated r) q.notes) (λ (q : Part). sum_by (on_root ref_vacated r.place r.generation) q.notes) (parts_of v)
-        (λ q. sum_by-le-sum_by (on_this ref_vacated r) (on_root ref_vacated r.place r.generation) q.notes (this_root ref_vacated r)) in
-        let x : ℕ = weigh_in (on_this ref_vacated r) (parts_of v) in let y : ℕ = weigh (on_root ref_vacated r.place r.generation) v in let a' : x ≤ y = a in
-        dite (ℕ_discrete x 0) (λ zero_here. absurd (tokens r ended zero_here)) (λ ne. let g : 0 < y = omega (arith, a', ne) in g)) in
+        (let a = sum_by-le-sum_by (λ (q : Part). sum_by (on_this ref_vacated r) q.notes)
+        (λ (q : Part). sum_by (on_root ref_vacated r.place r.generation) q.notes) (parts_of v)
+        (λ q. sum_by-le-sum_by (on_this ref_vacated r) (on_root ref_vacated r.place r.generation) q.notes
+        (this_root ref_vacated r)) in
+        let x : ℕ = weigh_in (on_this ref_vacated r) (parts_of v) in let y : ℕ =
+        weigh (on_root ref_vacated r.place r.generation) v in let a' : x ≤ y = a in
+        dite (ℕ_discrete x 0) (λ zero_here. absurd (tokens r ended zero_here))
+        (λ ne. let g : 0 < y = omega (arith, a', ne) in g)) in
         let over = closed.view.roots.over r.place r.generation in
         let f : Entry → ℕ = at_end r.place r.generation in
-        let q = some_weighs (λ (p : Part). sum_by f p.notes) (parts_of v) (let x : ℕ = weigh (on_root ref_vacated r.place r.generation) v in let y : ℕ = weigh f v in let v' : 0 < x = vacated in let o' : x ≤ y = over in let g : 0 < y = omega (arith, v', o') in g) in
+        let q = some_weighs (λ (p : Part). sum_by f p.notes) (parts_of v)
+        (let x : ℕ = weigh (on_root ref_vacated r.place r.generation) v in let y : ℕ = weigh f v in let v' : 0 < x =
+        vacated in let o' : x ≤ y = over in let g : 0 < y = omega (arith, v', o') in g) in
         let e = some_weighs f q.1.notes q.3 in
         let ends = ends_as r.place r.generation e.1 e.3 in
-        let stood : slice_get q.1.notes e.0 ≡ Some (At ends.object ends.number ends.noted) = e.2 ∙ ap (λ (x : Entry). Some x) ends.is in
-        let t = told_note stands l v homes words closed lanes q.0 q.1 q.2 e.0 ends.object ends.number ends.noted stood in
-        let st = at (Stands l.shape q.1.number) q.1.notes e.0 (At ends.object ends.number ends.noted) (stands_at stands l v homes words closed lanes q.0 q.1 q.2) stood in
+        let stood : slice_get q.1.notes e.0 ≡ Some (At ends.object ends.number ends.noted) = e.2
+        ∙ ap (λ (x : Entry). Some x) ends.is in
+        let t = told_note stands l v homes words closed lanes q.0 q.1 q.2 e.0 ends.object ends.number ends.noted
+        stood in
+        let st = at (Stands l.shape q.1.number) q.1.notes e.0 (At ends.object ends.number ends.noted)
+        (stands_at stands l v homes words closed lanes q.0 q.1 q.2) stood in
         let object : ends.object ≡ Root r.place = ⊎_elim
         (λ (x : (did_birth r.place ends.noted.did ≡ 0) × ((g : ℕ) → did_end r.place g ends.noted.did ≡ 0)).
-        let y = x.1 r.generation in let a : at_end r.place r.generation e.1 ≡ did_end r.place r.generation ends.noted.did = ap (at_end r.place r.generation) ends.is in let b = e.3 in absurd (omega (arith, y, a, b)))
+        let y = x.1 r.generation in let a : at_end r.place r.generation e.1
+        ≡ did_end r.place r.generation ends.noted.did = ap (at_end r.place r.generation) ends.is in let b = e.3 in
+        absurd (omega (arith, y, a, b)))
         (λ (x : ends.object ≡ Root r.place). x)
         (st.in_place.rooted r.place) in
         there_at ends.object object t.0 ends.number ends.noted ends.root t.1.1 ends.did ends.generation
       where
-        there_at : (o : Object) → o ≡ Root r.place → (fits : IsObjectOf l.shape o) (number : ℕ) (n : Noted) (q : RootId) → slice_get (History o fits) (number - 1) ≡ Some n → n.did ≡ End q → q.generation ≡ r.generation →
-            (k : ℕ) × (n : Noted) × (q : RootId) × (fits : IsObjectOf l.shape (Root r.place)) × (slice_get (History (Root r.place) fits) k ≡ Some n) × (n.did ≡ End q) × (q.generation ≡ r.generation)
+        there_at : (o : Object) → o ≡ Root r.place → (fits : IsObjectOf l.shape o) (number : ℕ) (n : Noted) (q : RootId)
+            → slice_get (History o fits) (number - 1) ≡ Some n → n.did ≡ End q → q.generation ≡ r.generation →
+            (k : ℕ) × (n : Noted) × (q : RootId) × (fits : IsObjectOf l.shape (Root r.place))
+            × (slice_get (History (Root r.place) fits) k ≡ Some n) × (n.did ≡ End q) × (q.generation ≡ r.generation)
         there_at o same fits number n q is did generation =
-            subst (λ (x : Object). (k : ℕ) × (n : Noted) × (q : RootId) × (fits : IsObjectOf l.shape x) × (slice_get (History x fits) k ≡ Some n) × (n.did ≡ End q) × (q.generation ≡ r.generation))
+            subst (λ (x : Object). (k : ℕ) × (n : Noted) × (q : RootId) × (fits : IsObjectOf l.shape x)
+            × (slice_get (History x fits) k ≡ Some n) × (n.did ≡ End q) × (q.generation ≡ r.generation))
             same (number - 1, n, q, fits, is, did, generation)
 
     -- the word of a live root tells its count
-    pub count_told : total_of r (entries_in (parts_of v)) ≢ 0 → count_in (slice_index words (objects_of l.shape + r.place)) ≡ total_of r (entries_in (parts_of v))
+    pub count_told : total_of r (entries_in (parts_of v)) ≢ 0
+        → count_in (slice_index words (objects_of l.shape + r.place)) ≡ total_of r (entries_in (parts_of v))
     count_told live =
         let p : ℕ = r.place in let g : ℕ = r.generation in
         let k = closed.counts p (birth_place stands l v homes words closed r born) in
-        let t = total_of_word stands l v homes words closed p g (slice_index words (objects_of l.shape + p)) k (made stands l v homes words closed r born (none p)) in
-        let retains = counts_are stands l v homes words closed r born (is_retain r) (on_root ref_retain p g) (retains_alike r) in
-        let releases = counts_are stands l v homes words closed r born (is_release r) (on_root ref_loss p g) (releases_alike r) in
+        let t = total_of_word stands l v homes words closed p g (slice_index words (objects_of l.shape + p)) k
+        (made stands l v homes words closed r born (none p)) in
+        let retains = counts_are stands l v homes words closed r born (is_retain r) (on_root ref_retain p g)
+        (retains_alike r) in
+        let releases = counts_are stands l v homes words closed r born (is_release r) (on_root ref_loss p g)
+        (releases_alike r) in
         let gains = gains_are p g (v ∷ []) in let once = t.once in let counts = t.counts in
         let all : tally ref_gain p g (v ∷ []) ≡ tally ref_loss p g (v ∷ []) + total_of r (entries_in (parts_of v)) =
-        sums (count_over (is_retain r) (entries_in (parts_of v))) (count_over (is_release r) (entries_in (parts_of v))) (tally ref_gain p g (v ∷ [])) (tally ref_loss p g (v ∷ [])) (omega (arith, gains, once, retains)) releases counts in
+        sums (count_over (is_retain r) (entries_in (parts_of v))) (count_over (is_release r) (entries_in (parts_of v)))
+        (tally ref_gain p g (v ∷ [])) (tally ref_loss p g (v ∷ [])) (omega (arith, gains, once, retains)) releases
+        counts in
         let most : tally ref_gain p g (v ∷ []) < 1073741824 =
         (let a = one_is stands l v homes words closed (on_root ref_gain p g) in
-        let b = sum_by-le-sum_by (λ (q : Part). sum_by (on_root ref_gain p g) q.notes) (λ (q : Part). sum_by any_gain q.notes) (parts_of v) (λ q. sum_by-le-sum_by (on_root ref_gain p g) any_gain q.notes (gain_any p g)) in
-        let few = closed.few in let x : ℕ = weigh (on_root ref_gain p g) v in let y : ℕ = weigh any_gain v in let b' : x ≤ y = b in let few' : y + v.moves < 1073741824 = few in omega (arith, a, b', few')) in
-        decoded (slice_index words (objects_of l.shape + p)) p g k (made stands l v homes words closed r born (none p)) (total_of r (entries_in (parts_of v))) live all most
+        let b = sum_by-le-sum_by (λ (q : Part). sum_by (on_root ref_gain p g) q.notes)
+        (λ (q : Part). sum_by any_gain q.notes) (parts_of v)
+        (λ q. sum_by-le-sum_by (on_root ref_gain p g) any_gain q.notes (gain_any p g)) in
+        let few = closed.few in let x : ℕ = weigh (on_root ref_gain p g) v in let y : ℕ = weigh any_gain v in
+        let b' : x ≤ y = b in let few' : y + v.moves < 1073741824 = few in
+        omega (arith, a, b', few')) in
+        decoded (slice_index words (objects_of l.shape + p)) p g k (made stands l v homes words closed r born (none p))
+        (total_of r (entries_in (parts_of v))) live all most
       where
         sums : (a b gain loss : ℕ) → gain ≡ 1 + a → b ≡ loss → loss ≤ gain → gain ≡ loss + ((1 + a) - b)
         sums a b gain loss e f le = omega (arith, e, f, le)
 
-        low : (generation count vacant word : ℕ) → word ≡ generation * 4294967296 + (2 * count + vacant) → vacant ≤ 1 → count < 1073741824 → word % 4294967296 / 2 ≡ count
+        low : (generation count vacant word : ℕ) → word ≡ generation * 4294967296 + (2 * count + vacant) → vacant ≤ 1
+            → count < 1073741824 → word % 4294967296 / 2 ≡ count
         low generation count vacant word is one few = omega (arith, is, one, few)
 
-        decoded : (word p g : ℕ) (k : IsCounted p (v ∷ []) word) → 0 < tally ref_born p g (v ∷ []) → (t : ℕ) → t ≢ 0 → tally ref_gain p g (v ∷ []) ≡ tally ref_loss p g (v ∷ []) + t → tally ref_gain p g (v ∷ []) < 1073741824 → count_in word ≡ t
+        decoded : (word p g : ℕ) (k : IsCounted p (v ∷ []) word) → 0 < tally ref_born p g (v ∷ []) → (t : ℕ) → t ≢ 0
+            → tally ref_gain p g (v ∷ []) ≡ tally ref_loss p g (v ∷ []) + t → tally ref_gain p g (v ∷ []) < 1073741824
+            → count_in word ≡ t
         decoded word p g k lt t live all most = dite (ℕ_discrete g 0)
             (λ z. let a = k.later ref_born g (inl z) in absurd (omega (arith, a, lt)))
             (λ some. dite (dec_le g k.generation)
             (λ le. dite (ℕ_discrete g k.generation)
             (λ same.
             let c = k.counts in
-            let gain : tally ref_gain p g (v ∷ []) ≡ tally ref_gain p k.generation (v ∷ []) = ap (λ (x : ℕ). tally ref_gain p x (v ∷ [])) same in
-            let loss : tally ref_loss p g (v ∷ []) ≡ tally ref_loss p k.generation (v ∷ []) = ap (λ (x : ℕ). tally ref_loss p x (v ∷ [])) same in
+            let gain : tally ref_gain p g (v ∷ [])
+            ≡ tally ref_gain p k.generation (v ∷ []) = ap (λ (x : ℕ). tally ref_gain p x (v ∷ [])) same in
+            let loss : tally ref_loss p g (v ∷ [])
+            ≡ tally ref_loss p k.generation (v ∷ []) = ap (λ (x : ℕ). tally ref_loss p x (v ∷ [])) same in
             let count : k.count ≡ t = omega (arith, c, gain, loss, all) in
             low k.generation k.count k.vacant word k.word_is k.free (omega (arith, c, gain, most)) ∙ count)
-            (λ other. let e = (k.past g (omega (arith, some)) (omega (arith, le, other))).0 in absurd (live (omega (arith, e, all)))))
+            (λ other. let e = (k.past g (omega (arith, some)) (omega (arith, le, other))).0 in
+            absurd (live (omega (arith, e, all)))))
             (λ gt. let a = k.later ref_born g (inr (omega (arith, gt))) in absurd (omega (arith, a, lt))))

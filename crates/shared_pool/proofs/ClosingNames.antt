@@ -36,13 +36,15 @@ passes_or : (b : Bool) → 0 < (if b || false then 1 else 0) → b ≡ true
 passes_or true lt = refl
 passes_or false lt = absurd (omega (arith, lt))
 
-view_named : (r : RootId) (x : Option ViewData) → view_is_of r x ≡ true → option_map (λ (w : ViewData). w.root) x ≡ Some r
+view_named : (r : RootId) (x : Option ViewData) → view_is_of r x ≡ true
+    → option_map (λ (w : ViewData). w.root) x ≡ Some r
 view_named r None is = absurd (cc is)
 view_named r (Some w) is = ap {B = Option RootId} (λ (q : RootId). Some q) (same_root-is w.root r is)
 
 -- the root that a note names by the law is the one that the table's entry names
 root_is_named : (r : RootId) (e : Entry) → 0 < law (names_root r) e → root_named e ≡ Some r
-root_is_named r (Ref q d) lt = ap {B = Option RootId} (λ (x : RootId). Some x) (same_root-is q r (passes (same_root q r) lt))
+root_is_named r (Ref q d) lt =
+    ap {B = Option RootId} (λ (x : RootId). Some x) (same_root-is q r (passes (same_root q r) lt))
 root_is_named r (Busy b) lt = absurd (omega (arith, lt))
 root_is_named r (At o k n) lt = by n.did lt
   where
@@ -53,15 +55,18 @@ root_is_named r (At o k n) lt = by n.did lt
 
 -- ---- All parts.
 
-module _ {H : Type 0} (stands : List ℕ → Setting → List Noted → H → Type 0) (l : Layout) (v : SeatView) (homes : List (Option H)) (words : List ℕ)
+module _ {H : Type 0} (stands : List ℕ → Setting → List Noted → H → Type 0) (l : Layout) (v : SeatView)
+    (homes : List (Option H)) (words : List ℕ)
     (closed : IsClosed stands l v homes words) where
-  pub named_born : (r : RootId) → 0 < count_over (names_root r) (entries_in (parts_of v)) → 0 < count_over (is_birth r) (entries_in (parts_of v))
+  pub named_born : (r : RootId) → 0 < count_over (names_root r) (entries_in (parts_of v))
+      → 0 < count_over (is_birth r) (entries_in (parts_of v))
   named_born r lt =
       let f : Entry → ℕ = at_birth_as r.place r.generation r.capacity in
       let a = count_over-is (names_root r) (parts_of v) in
       let q = some_weighs (λ (p : Part). sum_by (law (names_root r)) p.notes) (parts_of v) (omega (arith, a, lt)) in
       let e = some_weighs (law (names_root r)) q.1.notes q.3 in
-      let all = at (Names stands l v homes words closed) (parts_of v) q.0 q.1 (names stands l v homes words closed) q.2 in
+      let all = at (Names stands l v homes words closed) (parts_of v) q.0 q.1 (names stands l v homes words closed)
+      q.2 in
       let born : IsBorn (v ∷ []) r = at (NamesBorn (v ∷ [])) q.1.notes e.0 e.1 all e.2 r (root_is_named r e.1 e.3) in
       let b = count_over-is (is_birth r) (parts_of v) in
       let c = weigh_same (law (is_birth r)) f (parts_of v) (λ k d _ j e _. births_alike r _) in

@@ -50,7 +50,8 @@ sits_behind : (n : ℕ) (y : Noted) (h : List Noted) (x : ℕ × Noted) → n + 
 sits_behind n y h x le (zero, e, is) = absurd (omega (arith, le, e))
 sits_behind n y h x le (suc j, e, is) = (j, omega (arith, e), is)
 
-all_behind : (i n : ℕ) (y : Noted) (h : List Noted) (xs : Tagged) → Rising (n + 1) xs → AllSit i n (y ∷ h) xs → AllSit i (n + 1) h xs
+all_behind : (i n : ℕ) (y : Noted) (h : List Noted) (xs : Tagged) → Rising (n + 1) xs → AllSit i n (y ∷ h) xs
+    → AllSit i (n + 1) h xs
 all_behind i n y h [] r s = tt
 all_behind i n y h (x ∷ xs) r s =
     let a : n + 1 ≤ x.0 = r.0 in
@@ -85,11 +86,14 @@ no_more i n (y ∷ h) (x ∷ xs) r s = ⊎_elim
     let own : is_lane i y.lane ≡ true = subst (λ (z : Noted). is_lane i z.lane ≡ true) same s.1 in
     let r' : Rising (n + 1) xs = rises_less (n + 1) (x.0 + 1) xs (omega (arith, e)) r.1 in
     let ih = no_more i (n + 1) h xs r' (all_behind i n y h xs r' s.2) in
-    let a : length (of_lane i (y ∷ h)) ≡ suc (length (of_lane i h)) = ap (λ (b : Bool). length (cond b (y ∷ of_lane i h) (of_lane i h))) own in
-    let l : ℕ = length xs in let k : ℕ = length (of_lane i h) in let ih' : l ≤ k = ih in let g : suc l ≤ suc k = omega (arith, ih') in
+    let a : length (of_lane i (y ∷ h)) ≡ suc (length (of_lane i h)) =
+    ap (λ (b : Bool). length (cond b (y ∷ of_lane i h) (of_lane i h))) own in
+    let l : ℕ = length xs in let k : ℕ = length (of_lane i h) in let ih' : l ≤ k = ih in let g : suc l ≤ suc k =
+    omega (arith, ih') in
     subst (λ (z : ℕ). suc l ≤ z) (sym a) g)
     (λ (r' : Rising (n + 1) (x ∷ xs)).
-    let ih = no_more i (n + 1) h (x ∷ xs) r' (all_behind i n y h (x ∷ xs) r' s) in let b = length_of i y h in omega (arith, ih, b))
+    let ih = no_more i (n + 1) h (x ∷ xs) r' (all_behind i n y h (x ∷ xs) r' s) in let b = length_of i y h in
+    omega (arith, ih, b))
     (first_or n x xs r)
 
 lane_test : (i : ℕ) (y : Noted) → (m : ℕ) × (y.lane ≡ Some m) → is_lane i y.lane ≡ ((with_lane y).0 == i)
@@ -97,10 +101,13 @@ lane_test i y m = subst (λ (l : Option ℕ). is_lane i l ≡ (unwrap_or l 0 == 
 
 numbered_more : (i n : ℕ) (y : Noted) (h : List Noted) (b : Bool) → (m : ℕ) × (y.lane ≡ Some m) → is_lane i y.lane ≡ b →
     numbered i n (lawful (y ∷ h)) ≡ cond b ((n, y.did) ∷ numbered i (n + 1) (lawful h)) (numbered i (n + 1) (lawful h))
-numbered_more i n y h b m is = ap (λ (t : Bool). cond t ((n, y.did) ∷ numbered i (n + 1) (lawful h)) (numbered i (n + 1) (lawful h))) (sym (lane_test i y m) ∙ is)
+numbered_more i n y h b m is =
+    ap (λ (t : Bool). cond t ((n, y.did) ∷ numbered i (n + 1) (lawful h)) (numbered i (n + 1) (lawful h)))
+    (sym (lane_test i y m) ∙ is)
 
 -- another lane's note is skipped
-behind : (i n : ℕ) (y : Noted) (h : List Noted) (xs : Tagged) → is_lane i y.lane ≡ false → Rising n xs → AllSit i n (y ∷ h) xs → Rising (n + 1) xs
+behind : (i n : ℕ) (y : Noted) (h : List Noted) (xs : Tagged) → is_lane i y.lane ≡ false → Rising n xs
+    → AllSit i n (y ∷ h) xs → Rising (n + 1) xs
 behind i n y h [] other r s = tt
 behind i n y h (x ∷ xs) other r s = ⊎_elim
     (λ (e : x.0 ≡ n).
@@ -113,20 +120,24 @@ length_map : (xs : Tagged) → length (map (λ (x : ℕ × Noted). x.1) xs) ≡ 
 length_map [] = refl
 length_map (x ∷ xs) = ap suc (length_map xs)
 
-pub is_numbered : (i n : ℕ) (h : List Noted) (xs : Tagged) → Rising n xs → AllSit i n h xs → AllLaned h → map (λ (x : ℕ × Noted). x.1) xs ≡ of_lane i h →
+pub is_numbered : (i n : ℕ) (h : List Noted) (xs : Tagged) → Rising n xs → AllSit i n h xs → AllLaned h
+    → map (λ (x : ℕ × Noted). x.1) xs ≡ of_lane i h →
     dids_in xs ≡ numbered i n (lawful h)
 is_numbered i n [] [] r s laned all = refl
 is_numbered i n [] (x ∷ xs) r s laned all = absurd (cc all)
 is_numbered i n (y ∷ h) xs r s laned all =
-    cond_both (is_lane i y.lane) (y ∷ of_lane i h) (of_lane i h) (λ (z : List Noted). map (λ (x : ℕ × Noted). x.1) xs ≡ z → dids_in xs ≡ numbered i n (lawful (y ∷ h)))
+    cond_both (is_lane i y.lane) (y ∷ of_lane i h) (of_lane i h)
+    (λ (z : List Noted). map (λ (x : ℕ × Noted). x.1) xs ≡ z → dids_in xs ≡ numbered i n (lawful (y ∷ h)))
     (λ own all. taken xs own r s (λ zs r s all. is_numbered i (n + 1) h zs r s laned.1 all) all)
     (λ other all. let r' = behind i n y h xs other r s in
-    is_numbered i (n + 1) h xs r' (all_behind i n y h xs r' s) laned.1 all ∙ sym (numbered_more i n y h false laned.0 other))
+    is_numbered i (n + 1) h xs r' (all_behind i n y h xs r' s) laned.1 all
+    ∙ sym (numbered_more i n y h false laned.0 other))
     all
   where
     -- the lane's own note is the first
     taken : (xs : Tagged) → is_lane i y.lane ≡ true → Rising n xs → AllSit i n (y ∷ h) xs →
-        ((zs : Tagged) → Rising (n + 1) zs → AllSit i (n + 1) h zs → map (λ (x : ℕ × Noted). x.1) zs ≡ of_lane i h → dids_in zs ≡ numbered i (n + 1) (lawful h)) →
+        ((zs : Tagged) → Rising (n + 1) zs → AllSit i (n + 1) h zs → map (λ (x : ℕ × Noted). x.1) zs ≡ of_lane i h
+        → dids_in zs ≡ numbered i (n + 1) (lawful h)) →
         map (λ (x : ℕ × Noted). x.1) xs ≡ y ∷ of_lane i h → dids_in xs ≡ numbered i n (lawful (y ∷ h))
     taken [] own r s ih all = absurd (cc all)
     taken (x ∷ xs) own r s ih all = ⊎_elim
@@ -140,10 +151,15 @@ is_numbered i n (y ∷ h) xs r s laned all =
         let rest : map (λ (x : ℕ × Noted). x.1) xs ≡ of_lane i h = cc all in
         let a = no_more i (n + 1) h (x ∷ xs) r' (all_behind i n y h (x ∷ xs) r' s) in
         let b = ap length rest in let c = length_map xs in
-        let l : ℕ = length xs in let k : ℕ = length (of_lane i h) in let a' : suc l ≤ k = a in let bc : l ≡ k = sym c ∙ b in absurd (omega (arith, a', bc)))
+        let l : ℕ = length xs in let k : ℕ = length (of_lane i h) in let a' : suc l ≤ k = a in let bc : l ≡ k = sym c
+        ∙ b in
+        absurd (omega (arith, a', bc)))
         (first_or n x xs r)
 
 -- a lane without notes has none
-pub none_numbered : (i n : ℕ) (h : List Noted) → AllLaned h → ((k : ℕ) (m : Noted) → slice_get h k ≡ Some m → is_lane i m.lane ≡ false) → numbered i n (lawful h) ≡ []
+pub none_numbered : (i n : ℕ) (h : List Noted) → AllLaned h
+    → ((k : ℕ) (m : Noted) → slice_get h k ≡ Some m → is_lane i m.lane ≡ false) → numbered i n (lawful h) ≡ []
 none_numbered i n [] laned none = refl
-none_numbered i n (y ∷ h) laned none = numbered_more i n y h false laned.0 (none 0 y refl) ∙ none_numbered i (n + 1) h laned.1 (λ k m is. none (suc k) m is)
+none_numbered i n (y ∷ h) laned none =
+    numbered_more i n y h false laned.0 (none 0 y refl)
+    ∙ none_numbered i (n + 1) h laned.1 (λ k m is. none (suc k) m is)

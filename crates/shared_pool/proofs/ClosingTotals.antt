@@ -60,15 +60,18 @@ at_place p g c (Birth q x) z = by (q.place == p) (q.generation == g) (q.capacity
 at_place p g c d z = refl
 
 -- it stands at its place
-stands_there : (s : Shape) (lane : Option ℕ) (p g c : ℕ) (e : Entry) → Stands s lane e → 0 < at_birth_as p g c e → p < s.lanes * s.handles
+stands_there : (s : Shape) (lane : Option ℕ) (p g c : ℕ) (e : Entry) → Stands s lane e → 0 < at_birth_as p g c e
+    → p < s.lanes * s.handles
 stands_there s lane p g c (At o k n) st lt = ⊎_elim
-    (λ (z : (did_birth p n.did ≡ 0) × ((g : ℕ) → did_end p g n.did ≡ 0)). let y = at_place p g c n.did z.0 in absurd (omega (arith, y, lt)))
+    (λ (z : (did_birth p n.did ≡ 0) × ((g : ℕ) → did_end p g n.did ≡ 0)). let y = at_place p g c n.did z.0 in
+    absurd (omega (arith, y, lt)))
     (λ (e : o ≡ Root p). subst (IsObjectOf s) e st.object)
     (st.in_place.rooted p)
 stands_there s lane p g c (Ref r d) st lt = absurd (omega (arith, lt))
 stands_there s lane p g c (Busy b) st lt = absurd (omega (arith, lt))
 
-module _ {H : Type 0} (stands : List ℕ → Setting → List Noted → H → Type 0) (l : Layout) (v : SeatView) (homes : List (Option H)) (words : List ℕ)
+module _ {H : Type 0} (stands : List ℕ → Setting → List Noted → H → Type 0) (l : Layout) (v : SeatView)
+    (homes : List (Option H)) (words : List ℕ)
     (closed : IsClosed stands l v homes words) where
   abbrev one_view : (Entry → ℕ) → ℕ
   one_view f = sum_by (weigh f) (v ∷ [])
@@ -90,25 +93,37 @@ module _ {H : Type 0} (stands : List ℕ → Setting → List Noted → H → Ty
       let q = some_weighs (λ (p : Part). sum_by f p.notes) (parts_of v) (omega (arith, a, born)) in
       let e = some_weighs f q.1.notes q.3 in
       let st = at (λ (p : Part). All (Stands l.shape p.number) p.notes) (parts_of v) q.0 q.1 closed.view.notes q.2 in
-      stands_there l.shape q.1.number r.place r.generation r.capacity e.1 (at (Stands l.shape q.1.number) q.1.notes e.0 e.1 st e.2) e.3
+      stands_there l.shape q.1.number r.place r.generation r.capacity e.1
+      (at (Stands l.shape q.1.number) q.1.notes e.0 e.1 st e.2) e.3
 
   -- a birth that was noted was made, where the place is in no hands
-  pub made : (r : RootId) → IsBorn (v ∷ []) r → (InHand r.place v → ⊥) → 0 < tally ref_born r.place r.generation (v ∷ [])
+  pub made : (r : RootId) → IsBorn (v ∷ []) r → (InHand r.place v → ⊥)
+      → 0 < tally ref_born r.place r.generation (v ∷ [])
   made r born none =
       let p : ℕ = r.place in let g : ℕ = r.generation in let c : ℕ = r.capacity in
-      let of = sum_by-le-sum_by (λ (q : Part). sum_by (at_birth_as p g c) q.notes) (λ (q : Part). sum_by (at_birth_of p g) q.notes) (parts_of v) (λ q. sum_by-le-sum_by (at_birth_as p g c) (at_birth_of p g) q.notes (as_of p g c)) in
+      let of = sum_by-le-sum_by (λ (q : Part). sum_by (at_birth_as p g c) q.notes)
+      (λ (q : Part). sum_by (at_birth_of p g) q.notes) (parts_of v)
+      (λ q. sum_by-le-sum_by (at_birth_as p g c) (at_birth_of p g) q.notes (as_of p g c)) in
       let a = one_is (at_birth_as p g c) in
-      let down : taken p v ≤ put_down p v = dite (dec_le (taken p v) (put_down p v)) (λ le. le) (λ gt. absurd (none (let x : ℕ = taken p v in let y : ℕ = put_down p v in let gt' : x ≤ y → ⊥ = gt in let z : y < x = omega (arith, gt') in z))) in
+      let down : taken p v ≤ put_down p v = dite (dec_le (taken p v) (put_down p v)) (λ le. le)
+      (λ gt. absurd (none (let x : ℕ = taken p v in let y : ℕ = put_down p v in let gt' : x ≤ y
+      → ⊥ = gt in let z : y < x = omega (arith, gt') in z))) in
       let bears = closed.view.roots.bears p in
-      let x = noted_made p v (omega (arith, bears, down)) (closed.view.roots.borne_of p) g (omega (arith, of, a, born)) in
+      let x = noted_made p v (omega (arith, bears, down)) (closed.view.roots.borne_of p) g
+      (omega (arith, of, a, born)) in
       let b = one_is (on_root ref_born p g) in omega (arith, b, x)
 
   -- the tallies of a root that was born are the law's counts
-  pub counts_are : (r : RootId) → IsBorn (v ∷ []) r → (test : Note → Bool) (f : Entry → ℕ) → ((e : Entry) → Alone r e → law test e ≡ f e) → count_over test (entries_in (parts_of v)) ≡ sum_by (weigh f) (v ∷ [])
+  pub counts_are : (r : RootId) → IsBorn (v ∷ []) r → (test : Note → Bool) (f : Entry → ℕ)
+      → ((e : Entry) → Alone r e → law test e ≡ f e)
+      → count_over test (entries_in (parts_of v)) ≡ sum_by (weigh f) (v ∷ [])
   counts_are r born test f alike =
       let a = count_over-is test (parts_of v) in
-      let b = weigh_same (law test) f (parts_of v) (All-weaker (λ (q : Part). All (Alone r) q.notes) (λ (q : Part). All (λ (e : Entry). law test e ≡ f e) q.notes)
-      (λ q all. All-weaker (Alone r) (λ (e : Entry). law test e ≡ f e) alike q.notes all) (parts_of v) (alone stands l v homes words closed r born)) in
+      let b = weigh_same (law test) f (parts_of v)
+      (All-weaker (λ (q : Part). All (Alone r) q.notes)
+      (λ (q : Part). All (λ (e : Entry). law test e ≡ f e) q.notes)
+      (λ q all. All-weaker (Alone r) (λ (e : Entry). law test e ≡ f e) alike q.notes all) (parts_of v)
+      (alone stands l v homes words closed r born)) in
       let c = one_is f in omega (arith, a, b, c)
 
   -- what the word of a root's count tells of a root that was made
@@ -123,7 +138,8 @@ module _ {H : Type 0} (stands : List ℕ → Setting → List Noted → H → Ty
       (λ z. let a = k.later ref_born g (inl z) in absurd (omega (arith, a, lt)))
       (λ some. dite (dec_le g k.generation)
       (λ le. dite (ℕ_discrete g k.generation)
-      (λ same. subst (λ (x : ℕ). IsTotal p x) (sym same) (let s : 0 < k.generation = omega (arith, some, same) in last s))
+      (λ same. subst (λ (x : ℕ). IsTotal p x) (sym same)
+      (let s : 0 < k.generation = omega (arith, some, same) in last s))
       (λ other. let s : 0 < g = omega (arith, some) in let t : g < k.generation = omega (arith, le, other) in
       let past = k.past g s t in let e = past.0 in record {
         once = k.born g s le;
@@ -137,11 +153,14 @@ module _ {H : Type 0} (stands : List ℕ → Setting → List Noted → H → Ty
       last s = let e = k.counts in record {
         once = k.born k.generation s (omega arith);
         counts = omega (arith, e);
-        live = λ ne. (k.ended s).1 (dite (ℕ_discrete k.count 0) (λ z. absurd (ne (omega (arith, e, z)))) (λ more. omega (arith, more)));
+        live =
+            λ ne. (k.ended s).1 (dite (ℕ_discrete k.count 0) (λ z. absurd (ne (omega (arith, e, z))))
+            (λ more. omega (arith, more)));
         dead = λ same. (k.ended s).0 (omega (arith, e, same));
       }
 
-  pub totals_hold : HasNoPlace v → (r : RootId) → 0 < count_over (is_birth r) (entries_in (parts_of v)) → TotalHolds r (entries_in (parts_of v))
+  pub totals_hold : HasNoPlace v → (r : RootId) → 0 < count_over (is_birth r) (entries_in (parts_of v))
+      → TotalHolds r (entries_in (parts_of v))
   totals_hold none r lt =
       let born = birth_noted r lt in let p : ℕ = r.place in let g : ℕ = r.generation in
       let k = closed.counts p (birth_place r born) in
@@ -151,19 +170,27 @@ module _ {H : Type 0} (stands : List ℕ → Setting → List Noted → H → Ty
       let borns = counts_are r born (is_born r) (on_root ref_born p g) (borns_alike r) in
       let ends = counts_are r born (ends_root r) (on_root ref_ended p g) (ends_alike r) in
       let gains = gains_are p g (v ∷ []) in let once = t.once in let counts = t.counts in
-      totals (count_over (is_retain r) (entries_in (parts_of v))) (count_over (is_release r) (entries_in (parts_of v))) (count_over (is_born r) (entries_in (parts_of v))) (count_over (ends_root r) (entries_in (parts_of v)))
+      totals (count_over (is_retain r) (entries_in (parts_of v))) (count_over (is_release r) (entries_in (parts_of v)))
+      (count_over (is_born r) (entries_in (parts_of v))) (count_over (ends_root r) (entries_in (parts_of v)))
       refl refl refl refl (omega (arith, borns, once)) (omega (arith, retains, releases, gains, once, counts))
-      (λ ne. let z = t.live (λ same. ne (omega (arith, retains, releases, gains, once, same))) in omega (arith, ends, z))
+      (λ ne. let z = t.live (λ same. ne (omega (arith, retains, releases, gains, once, same))) in
+      omega (arith, ends, z))
       (λ same. let z = t.dead (omega (arith, retains, releases, gains, once, same)) in omega (arith, ends, z))
     where
-      totals : (a b c d : ℕ) → count_over (is_retain r) (entries_in (parts_of v)) ≡ a → count_over (is_release r) (entries_in (parts_of v)) ≡ b → count_over (is_born r) (entries_in (parts_of v)) ≡ c → count_over (ends_root r) (entries_in (parts_of v)) ≡ d →
+      totals : (a b c d : ℕ) → count_over (is_retain r) (entries_in (parts_of v)) ≡ a
+          → count_over (is_release r) (entries_in (parts_of v)) ≡ b
+          → count_over (is_born r) (entries_in (parts_of v)) ≡ c
+          → count_over (ends_root r) (entries_in (parts_of v)) ≡ d →
           c ≡ 1 → b ≤ 1 + a → (b ≢ 1 + a → d ≡ 0) → (b ≡ 1 + a → d ≡ 1) → TotalHolds r (entries_in (parts_of v))
       totals a b c d ea eb ec ed once le live dead = record {
         never_below = omega (arith, ea, eb, le);
         born_once = ec ∙ once;
-        ends_once = dite (ℕ_discrete b (1 + a)) (λ e. let z = dead e in omega (arith, ed, z)) (λ ne. let z = live ne in omega (arith, ed, z));
+        ends_once =
+            dite (ℕ_discrete b (1 + a)) (λ e. let z = dead e in omega (arith, ed, z))
+            (λ ne. let z = live ne in omega (arith, ed, z));
         ends_at_zero = (
-          (λ e. dite (ℕ_discrete b (1 + a)) (λ same. omega (arith, ea, eb, same)) (λ ne. let z = live ne in absurd (omega (arith, e, ed, z)))),
+          (λ e. dite (ℕ_discrete b (1 + a)) (λ same. omega (arith, ea, eb, same))
+              (λ ne. let z = live ne in absurd (omega (arith, e, ed, z)))),
           (λ e. let z = dead (omega (arith, ea, eb, e, le)) in omega (arith, ed, z)),
         );
       }

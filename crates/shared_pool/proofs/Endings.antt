@@ -29,58 +29,74 @@ use Rattle.shared_pool.specs.declared.pool.SharedPool.{SharedPool}
 use Rattle.shared_pool.specs.Standing.{HomeStands}
 use Rattle.shared_pool.specs.Seats.{IsPoolSeat, IsNoted, FoundBusy}
 
-module _ {G : Ghosts Home Noted} (l : Layout) (o : Object) (old new : PoolSeat Home G) (section : Section Home) (got : GotSection HomeStands l o old new section) (setting : Setting) (known : (view_of old).setting ≡ Some setting) where
-  -- the home value of the section stands for the history
-  pub stood : HomeStands (measures_of l.shape o) setting got.history section.home
-  stood = subst (λ (y : Option Setting). IfSome y (λ g. HomeStands (measures_of l.shape o) g got.history section.home)) known got.learned.stands_for
+module _ {G : Ghosts Home Noted} (l : Layout) (o : Object) (old new : PoolSeat Home G) (section : Section Home)
+    (got : GotSection HomeStands l o old new section) (setting : Setting) (known : (view_of old).setting ≡ Some setting)
+  where
+    -- the home value of the section stands for the history
+    pub stood : HomeStands (measures_of l.shape o) setting got.history section.home
+    stood =
+        subst (λ (y : Option Setting). IfSome y (λ g. HomeStands (measures_of l.shape o) g got.history section.home))
+        known got.learned.stands_for
 
-  -- the note as this seat makes it, after the history of the section
-  abbrev pub longer : Noted → List Noted
-  longer n = got.history ++ noted_by (view_of old).own.number n ∷ []
+    -- the note as this seat makes it, after the history of the section
+    abbrev pub longer : Noted → List Noted
+    longer n = got.history ++ noted_by (view_of old).own.number n ∷ []
 
-  -- the note follows, and the home value stands for the longer history
-  pub record IsNext (after : Section Home) (n : Noted) : Type 0 where
-    pub same_object : after.object ≡ section.object
-    pub same_slot : after.slot ≡ section.slot
-    pub follows : IsHistory l.shape o (longer n)
-    pub stands : HomeStands (measures_of l.shape o) setting (longer n) after.home
+    -- the note follows, and the home value stands for the longer history
+    pub record IsNext (after : Section Home) (n : Noted) : Type 0 where
+      pub same_object : after.object ≡ section.object
+      pub same_slot : after.slot ≡ section.slot
+      pub follows : IsHistory l.shape o (longer n)
+      pub stands : HomeStands (measures_of l.shape o) setting (longer n) after.home
 
-  -- the section may end with a note that follows
-  pub ends : (after : Section Home) (n : Noted) → IsNext after n → MayEnd HomeStands l.shape new after n
-  ends after n next =
-      record {
-        history = got.history;
-        inside = subst (λ (x : Object × Slot). IsInside l.shape new.seat.me x.0 x.1 got.history) (λ i. (sym object_is i, sym next.same_slot i)) got.inside;
-        follows = subst (λ (x : Object × Option ℕ). IsHistory l.shape x.0 (got.history ++ noted_by x.1 n ∷ [])) (λ i. (sym object_is i, sym number_is i)) next.follows;
-        stands_for = record {
-          setting = setting;
-          known = ap (λ v. v.setting) got.view ∙ known;
-          stands_for = subst (λ (x : Object × Option ℕ). HomeStands (measures_of l.shape x.0) setting (got.history ++ noted_by x.1 n ∷ []) after.home) (λ i. (sym object_is i, sym number_is i)) next.stands;
-        };
-      }
-    where
-      object_is : after.object ≡ o
-      object_is = next.same_object ∙ got.object
+    -- the section may end with a note that follows
+    pub ends : (after : Section Home) (n : Noted) → IsNext after n → MayEnd HomeStands l.shape new after n
+    ends after n next =
+        record {
+          history = got.history;
+          inside =
+              subst (λ (x : Object × Slot). IsInside l.shape new.seat.me x.0 x.1 got.history)
+              (λ i. (sym object_is i, sym next.same_slot i)) got.inside;
+          follows =
+              subst (λ (x : Object × Option ℕ). IsHistory l.shape x.0 (got.history ++ noted_by x.1 n ∷ []))
+              (λ i. (sym object_is i, sym number_is i)) next.follows;
+          stands_for = record {
+            setting = setting;
+            known = ap (λ v. v.setting) got.view ∙ known;
+            stands_for =
+                subst (λ (x : Object × Option ℕ). HomeStands (measures_of l.shape x.0) setting
+                (got.history ++ noted_by x.1 n ∷ []) after.home) (λ i. (sym object_is i, sym number_is i))
+                next.stands;
+          };
+        }
+      where
+        object_is : after.object ≡ o
+        object_is = next.same_object ∙ got.object
 
-      number_is : (view_of new).own.number ≡ (view_of old).own.number
-      number_is = ap (λ v. v.own.number) got.view
+        number_is : (view_of new).own.number ≡ (view_of old).own.number
+        number_is = ap (λ v. v.own.number) got.view
 
-  -- the note that ended the section
-  pub made : (pool : SharedPool) (last : PoolSeat Home G) (after : Section Home) (number : ℕ) (n : Noted) → pool.table.layout ≡ l → IsNext after n →
-      IfSome (view_of new).inside (λ x. number ≡ x.number + 1) →
-      HasView last (with_entry (view_of new) (At after.object number (noted_by (view_of new).own.number n)) ((view_of new).turns - 1)) →
-      IsNoted pool old last o number n
-  made pool last after number n layout next counted has =
-      record {
-        history = got.history;
-        number_is = number_is;
-        accepted = subst (λ (y : Layout). IsHistory y.shape o (longer n)) (sym layout) next.follows;
-        above = subst (λ (k : ℕ). IsAbove o k (view_of old).own.notes) (sym number_is) got.learned.seen;
-        seat = subst (λ (x : SeatView × Object). HasView last (with_entry x.0 (At x.1 number (noted_by x.0.own.number n)) (x.0.turns - 1))) (λ i. (got.view i, (next.same_object ∙ got.object) i)) has;
-      }
-    where
-      number_is : number ≡ length got.history + 1
-      number_is = subst (λ (v : SeatView). IfSome v.inside (λ x. number ≡ x.number + 1)) got.view counted
+    -- the note that ended the section
+    pub made : (pool : SharedPool) (last : PoolSeat Home G) (after : Section Home) (number : ℕ) (n : Noted)
+        → pool.table.layout ≡ l → IsNext after n →
+        IfSome (view_of new).inside (λ x. number ≡ x.number + 1) →
+        HasView last (with_entry (view_of new) (At after.object number (noted_by (view_of new).own.number n))
+        ((view_of new).turns - 1)) →
+        IsNoted pool old last o number n
+    made pool last after number n layout next counted has =
+        record {
+          history = got.history;
+          number_is = number_is;
+          accepted = subst (λ (y : Layout). IsHistory y.shape o (longer n)) (sym layout) next.follows;
+          above = subst (λ (k : ℕ). IsAbove o k (view_of old).own.notes) (sym number_is) got.learned.seen;
+          seat =
+              subst (λ (x : SeatView × Object). HasView last
+              (with_entry x.0 (At x.1 number (noted_by x.0.own.number n)) (x.0.turns - 1)))
+              (λ i. (got.view i, (next.same_object ∙ got.object) i)) has;
+        }
+      where
+        number_is : number ≡ length got.history + 1
+        number_is = subst (λ (v : SeatView). IfSome v.inside (λ x. number ≡ x.number + 1)) got.view counted
 
 -- a plain note carries no watch
 pub plain_watch : (did : Did) → IsRightWatch did None
@@ -88,7 +104,9 @@ plain_watch (Birth root region) = tt
 plain_watch _ = refl
 
 -- a seat stays one of the pool's where only its own entries and its moves and turns change
-seat_stays : {G : Ghosts Home Noted} (pool : SharedPool) (old new : PoolSeat Home G) (v : SeatView) → IsPoolSeat pool old → SameSeat old new → HasView new v → v.inside ≡ None → v.others ≡ (view_of old).others → v.own.number ≡ (view_of old).own.number → v.setting ≡ (view_of old).setting → CountsOne v → IsPoolSeat pool new
+seat_stays : {G : Ghosts Home Noted} (pool : SharedPool) (old new : PoolSeat Home G) (v : SeatView)
+    → IsPoolSeat pool old → SameSeat old new → HasView new v → v.inside ≡ None → v.others ≡ (view_of old).others
+    → v.own.number ≡ (view_of old).own.number → v.setting ≡ (view_of old).setting → CountsOne v → IsPoolSeat pool new
 seat_stays pool old new v s same has outside others number setting counts =
     record {
       own = same.0 ∙ s.own;
@@ -105,9 +123,13 @@ seat_stays pool old new v s same has outside others number setting counts =
     }
 
 -- so it does where it found another seat at the object
-pub held_seat : {G : Ghosts Home Noted} (pool : SharedPool) (o : Object) (mark : Bool) (old new : PoolSeat Home G) (held : Held) → IsPoolSeat pool old → SameSeat old new → FoundBusy pool o mark old new held → IsPoolSeat pool new
+pub held_seat : {G : Ghosts Home Noted} (pool : SharedPool) (o : Object) (mark : Bool) (old new : PoolSeat Home G)
+    (held : Held) → IsPoolSeat pool old → SameSeat old new → FoundBusy pool o mark old new held → IsPoolSeat pool new
 held_seat {G} pool o mark old new held s same found = by mark found.marked
   where
-    by : (mark : Bool) → MatchBool mark (HasView new (with_entry (view_of old) (Busy held) (view_of old).turns)) (HasView new (view_of old)) → IsPoolSeat pool new
-    by true has = seat_stays pool old new (with_entry (view_of old) (Busy held) (view_of old).turns) s same has refl refl refl refl (marked_one (view_of old) held (view_of old).turns s.counts)
+    by : (mark : Bool) → MatchBool mark (HasView new (with_entry (view_of old) (Busy held) (view_of old).turns))
+        (HasView new (view_of old)) → IsPoolSeat pool new
+    by true has =
+        seat_stays pool old new (with_entry (view_of old) (Busy held) (view_of old).turns) s same has refl refl refl
+        refl (marked_one (view_of old) held (view_of old).turns s.counts)
     by false has = seat_stays pool old new (view_of old) s same has s.outside.0 refl refl refl s.counts

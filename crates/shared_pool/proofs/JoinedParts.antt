@@ -32,7 +32,8 @@ use Rattle.shared_pool.proofs.ClosingWhole.{in_map}
 
 -- one part for each number
 once_from : (ps : List Part) (j m : ℕ) → ((k : ℕ) (p : Part) → slice_get ps k ≡ Some p → p.number ≡ Some (j + k)) →
-    (j ≤ m → m < j + length ps → count_by (λ (p : Part). is_lane m p.number) ps ≡ 1) × ((m < j) → count_by (λ (p : Part). is_lane m p.number) ps ≡ 0)
+    (j ≤ m → m < j + length ps → count_by (λ (p : Part). is_lane m p.number) ps ≡ 1)
+    × ((m < j) → count_by (λ (p : Part). is_lane m p.number) ps ≡ 0)
 once_from [] j m each = ((λ le lt. absurd (omega (arith, le, lt))), λ lt. refl)
 once_from (p ∷ ps) j m each =
     let first : p.number ≡ Some j = each 0 p refl ∙ ap (λ (x : ℕ). Some x) (omega arith) in
@@ -41,10 +42,14 @@ once_from (p ∷ ps) j m each =
     let here : is_lane m p.number ≡ (j == m) = ap (is_lane m) first in
     let n : ℕ = length ps in
     dite (ℕ_discrete j m)
-    (λ e. let one : cond {A = ℕ} (is_lane m p.number) 1 0 ≡ 1 = ap (λ (b : Bool). cond {A = ℕ} b 1 0) (here ∙ eq-eqb j m e) in
-    let none = rest.1 (omega (arith, e)) in ((λ le lt. omega (arith, count, one, none)), λ lt. absurd (omega (arith, e, lt))))
-    (λ ne. let zero_here : cond {A = ℕ} (is_lane m p.number) 1 0 ≡ 0 = ap (λ (b : Bool). cond {A = ℕ} b 1 0) (here ∙ ne_eqb j m ne) in (
-      (λ le lt. let lt' : m < j + suc n = lt in let one = rest.0 (omega (arith, le, ne)) (omega (arith, lt')) in omega (arith, count, zero_here, one)),
+    (λ e. let one : cond {A = ℕ} (is_lane m p.number) 1 0
+    ≡ 1 = ap (λ (b : Bool). cond {A = ℕ} b 1 0) (here ∙ eq-eqb j m e) in
+    let none = rest.1 (omega (arith, e)) in
+    ((λ le lt. omega (arith, count, one, none)), λ lt. absurd (omega (arith, e, lt))))
+    (λ ne. let zero_here : cond {A = ℕ} (is_lane m p.number) 1 0
+    ≡ 0 = ap (λ (b : Bool). cond {A = ℕ} b 1 0) (here ∙ ne_eqb j m ne) in (
+      (λ le lt. let lt' : m < j + suc n = lt in let one = rest.0 (omega (arith, le, ne)) (omega (arith, lt')) in
+          omega (arith, count, zero_here, one)),
       λ lt. let none = rest.1 (omega (arith, lt)) in omega (arith, count, zero_here, none),
     ))
 
@@ -53,43 +58,57 @@ abbrev pub HasNoToken : List Part → Type 0
 HasNoToken ps = (r : RootId) → weigh_in (on_this ref_ended r) ps ≡ 1 → weigh_in (on_this ref_vacated r) ps ≡ 0 → ⊥
 
 abbrev HasNoPlaceIn : List Part → Type 0
-HasNoPlaceIn ps = (p : ℕ) → weigh_in (at_in p) ps + weigh_in (on_place ref_vacated p) ps ≤ weigh_in (at_out p) ps + weigh_in (on_place ref_born p) ps
+HasNoPlaceIn ps =
+    (p : ℕ) → weigh_in (at_in p) ps + weigh_in (on_place ref_vacated p) ps ≤ weigh_in (at_out p) ps + weigh_in
+    (on_place ref_born p) ps
 
 abbrev HasNoTakingIn : List Part → Type 0
 HasNoTakingIn ps =
-    (q : RegionId) → weigh_in (from_arena (is_taking q)) ps + (weigh_in (from_cache (is_taking q)) ps + weigh_in (from_place (is_taking q)) ps) ≤
+    (q : RegionId) → weigh_in (from_arena (is_taking q)) ps
+    + (weigh_in (from_cache (is_taking q)) ps + weigh_in (from_place (is_taking q)) ps) ≤
     weigh_in (to_arena (is_taking q)) ps + (weigh_in (to_cache (is_taking q)) ps + weigh_in (to_place (is_taking q)) ps)
 
 module _ {G : Ghosts Home Noted} where
   -- a view with one part
-  own_weighs : (f : Entry → ℕ) (s : PoolSeat Home G) → (view_of s).others ≡ [] → weigh f (view_of s) ≡ sum_by f (view_of s).own.notes
+  own_weighs : (f : Entry → ℕ) (s : PoolSeat Home G) → (view_of s).others ≡ []
+      → weigh f (view_of s) ≡ sum_by f (view_of s).own.notes
   own_weighs f s alone =
       let a = sum_by-cons (λ (q : Part). sum_by f q.notes) (view_of s).own (view_of s).others in
       let b : weigh_in f (view_of s).others ≡ 0 = ap (weigh_in f) alone in omega (arith, a, b)
 
   -- the parts of a seat that another was joined to
-  pub joined_more : (s t u : PoolSeat Home G) (rest seats : List (PoolSeat Home G)) → (view_of t).others ≡ [] → view_of u ≡ joined (view_of s) (view_of t) → seats ≡ rest ++ t ∷ [] →
+  pub joined_more : (s t u : PoolSeat Home G) (rest seats : List (PoolSeat Home G)) → (view_of t).others ≡ []
+      → view_of u ≡ joined (view_of s) (view_of t) → seats ≡ rest ++ t ∷ [] →
       parts_of (view_of u) ++ parts_in (reverse rest) ≡ parts_of (view_of s) ++ parts_in (reverse seats)
   joined_more s t u rest seats alone is popped =
       ap (λ (v : SeatView). parts_of v ++ parts_in (reverse rest)) is
-      ∙ ap (λ (ps : List Part). (view_of s).own ∷ ((view_of s).others ++ ((view_of t).own ∷ ps)) ++ parts_in (reverse rest)) alone
-      ∙ ap (λ (ps : List Part). (view_of s).own ∷ ps) (append_assoc (view_of s).others ((view_of t).own ∷ []) (parts_in (reverse rest)))
-      ∙ ap (λ (ss : List (PoolSeat Home G)). parts_of (view_of s) ++ parts_in ss) (sym (ap reverse popped ∙ reverse-append rest (t ∷ [])))
+      ∙ ap (λ (ps : List Part). (view_of s).own ∷ ((view_of s).others ++ ((view_of t).own ∷ ps)) ++ parts_in
+      (reverse rest)) alone
+      ∙ ap (λ (ps : List Part). (view_of s).own ∷ ps)
+      (append_assoc (view_of s).others ((view_of t).own ∷ []) (parts_in (reverse rest)))
+      ∙ ap (λ (ss : List (PoolSeat Home G)). parts_of (view_of s) ++ parts_in ss)
+      (sym (ap reverse popped ∙ reverse-append rest (t ∷ [])))
 
   -- the parts of the first of them, and of the others
-  pub first_parts : (s : PoolSeat Home G) (rest seats : List (PoolSeat Home G)) → (view_of s).others ≡ [] → reverse seats ≡ rest ++ s ∷ [] →
+  pub first_parts : (s : PoolSeat Home G) (rest seats : List (PoolSeat Home G)) → (view_of s).others ≡ []
+      → reverse seats ≡ rest ++ s ∷ [] →
       parts_of (view_of s) ++ parts_in (reverse rest) ≡ parts_in seats
   first_parts s rest seats alone is =
       ap (λ (ps : List Part). (view_of s).own ∷ (ps ++ parts_in (reverse rest))) alone
-      ∙ ap (λ (ss : List (PoolSeat Home G)). parts_in ss) (sym (reverse-append rest (s ∷ [])) ∙ ap (λ (ss : List (PoolSeat Home G)). reverse ss) (sym is) ∙ reverse-reverse seats)
+      ∙ ap (λ (ss : List (PoolSeat Home G)). parts_in ss)
+      (sym (reverse-append rest (s ∷ [])) ∙ ap (λ (ss : List (PoolSeat Home G)). reverse ss) (sym is)
+      ∙ reverse-reverse seats)
 
   pub record IsEmptyHanded (s : PoolSeat Home G) : Type 0 where
     pub alone : (view_of s).others ≡ []
     pub nothing : HasNothing (view_of s)
 
-  more : (f : Entry → ℕ) (s : PoolSeat Home G) (ss : List (PoolSeat Home G)) → (view_of s).others ≡ [] → weigh_in f (parts_in (s ∷ ss)) ≡ weigh f (view_of s) + weigh_in f (parts_in ss)
+  more : (f : Entry → ℕ) (s : PoolSeat Home G) (ss : List (PoolSeat Home G)) → (view_of s).others ≡ []
+      → weigh_in f (parts_in (s ∷ ss)) ≡ weigh f (view_of s) + weigh_in f (parts_in ss)
   more f s ss alone =
-      let a = sum_by-cons (λ (q : Part). sum_by f q.notes) (view_of s).own (parts_in ss) in let b = own_weighs f s alone in omega (arith, a, b)
+      let a = sum_by-cons (λ (q : Part). sum_by f q.notes) (view_of s).own (parts_in ss) in let b =
+      own_weighs f s alone in
+      omega (arith, a, b)
 
   no_place : (ss : List (PoolSeat Home G)) → All IsEmptyHanded ss → HasNoPlaceIn (parts_in ss)
   no_place [] all p = omega arith
@@ -98,17 +117,21 @@ module _ {G : Ghosts Home Noted} where
       let a = more (at_in p) s ss e.alone in let b = more (on_place ref_vacated p) s ss e.alone in
       let c = more (at_out p) s ss e.alone in let d = more (on_place ref_born p) s ss e.alone in
       let x : ℕ = taken p (view_of s) in let y : ℕ = put_down p (view_of s) in
-      let le : x ≤ y = dite (dec_le x y) (λ le. le) (λ gt. absurd (e.nothing.place p (let z : y < x = omega (arith, gt) in z))) in
+      let le : x ≤ y = dite (dec_le x y) (λ le. le)
+      (λ gt. absurd (e.nothing.place p (let z : y < x = omega (arith, gt) in z))) in
       omega (arith, a, b, c, d, ih, le)
 
   no_taking : (ss : List (PoolSeat Home G)) → All IsEmptyHanded ss → HasNoTakingIn (parts_in ss)
   no_taking [] all q = omega arith
   no_taking (s ∷ ss) all q =
       let e = All-head IsEmptyHanded s ss all in let ih = no_taking ss (All-tail IsEmptyHanded s ss all) q in
-      let a = more (from_arena (is_taking q)) s ss e.alone in let b = more (from_cache (is_taking q)) s ss e.alone in let c = more (from_place (is_taking q)) s ss e.alone in
-      let d = more (to_arena (is_taking q)) s ss e.alone in let f = more (to_cache (is_taking q)) s ss e.alone in let k = more (to_place (is_taking q)) s ss e.alone in
+      let a = more (from_arena (is_taking q)) s ss e.alone in let b = more (from_cache (is_taking q)) s ss e.alone in
+      let c = more (from_place (is_taking q)) s ss e.alone in
+      let d = more (to_arena (is_taking q)) s ss e.alone in let f = more (to_cache (is_taking q)) s ss e.alone in
+      let k = more (to_place (is_taking q)) s ss e.alone in
       let x : ℕ = grasped (is_taking q) (view_of s) in let y : ℕ = laid (is_taking q) (view_of s) in
-      let le : x ≤ y = dite (dec_le x y) (λ le. le) (λ gt. absurd (e.nothing.region q (let z : y < x = omega (arith, gt) in z))) in
+      let le : x ≤ y = dite (dec_le x y) (λ le. le)
+      (λ gt. absurd (e.nothing.region q (let z : y < x = omega (arith, gt) in z))) in
       omega (arith, a, b, c, d, f, k, ih, le)
 
   no_token : (ss : List (PoolSeat Home G)) → All IsEmptyHanded ss → HasNoToken (parts_in ss)
@@ -133,15 +156,26 @@ module _ {G : Ghosts Home Noted} where
     lanes_in =
         record {
           many = length-map seats (λ (s : PoolSeat Home G). (view_of s).own) ∙ done.many;
-          numbers = λ lane p is. let t = in_map (λ (s : PoolSeat Home G). (view_of s).own) seats lane p is in ap (λ (q : Part). q.number) (sym t.2) ∙ (one lane t.0 t.1).number;
+          numbers =
+              λ lane p is. let t =
+              in_map (λ (s : PoolSeat Home G). (view_of s).own) seats lane p is in
+              ap (λ (q : Part). q.number) (sym t.2) ∙ (one lane t.0 t.1).number;
         }
 
     pub apart : AreApart pool.table seats
     apart = from_at (IsApart pool.table) seats (λ lane s is. let d = (one lane s is).seat in
-        record { own = d.own; outside = d.outside; alone = d.alone; settled = ap arenas_known d.settled ∙ ap (λ (n : ℕ). Some n) d.arenas })
+        record {
+          own = d.own;
+          outside = d.outside;
+          alone = d.alone;
+          settled = ap arenas_known d.settled
+              ∙ ap (λ (n : ℕ). Some n) d.arenas;
+        })
 
     empty_handed : All IsEmptyHanded seats
-    empty_handed = from_at IsEmptyHanded seats (λ lane s is. let d = one lane s is in record { alone = d.seat.alone; nothing = d.nothing })
+    empty_handed =
+        from_at IsEmptyHanded seats (λ lane s is. let d = one lane s is in
+        record { alone = d.seat.alone; nothing = d.nothing })
 
     module _ (v : SeatView) (parts : parts_of v ≡ parts_in seats) where
       pub lanes_joined : AreLanes shape (parts_of v)
@@ -156,12 +190,15 @@ module _ {G : Ghosts Home Noted} where
       pub places_joined : HasNoPlace v
       places_joined p hand =
           let le = subst HasNoPlaceIn (sym parts) (no_place seats empty_handed) p in
-          let x : ℕ = taken p v in let y : ℕ = put_down p v in let le' : x ≤ y = le in let lt : y < x = hand in absurd (omega (arith, le', lt))
+          let x : ℕ = taken p v in let y : ℕ = put_down p v in let le' : x ≤ y = le in let lt : y < x = hand in
+          absurd (omega (arith, le', lt))
 
       pub takings_joined : (q : RegionId) → HasTaking q v → ⊥
       takings_joined q hand =
           let le = subst HasNoTakingIn (sym parts) (no_taking seats empty_handed) q in
-          let x : ℕ = grasped (is_taking q) v in let y : ℕ = laid (is_taking q) v in let le' : x ≤ y = le in let lt : y < x = hand in absurd (omega (arith, le', lt))
+          let x : ℕ = grasped (is_taking q) v in let y : ℕ = laid (is_taking q) v in let le' : x ≤ y = le in
+          let lt : y < x = hand in
+          absurd (omega (arith, le', lt))
 
       pub tokens_joined : HasNoToken (parts_of v)
       tokens_joined = subst HasNoToken (sym parts) (no_token seats empty_handed)

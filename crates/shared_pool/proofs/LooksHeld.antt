@@ -18,7 +18,8 @@ use Rattle.shared_pool.specs.Looks.{LookRight, LooksRight}
 -- a note adds what it gains and takes what it loses, where the lane counts the root
 module _ (r : RootId) (k : ℕ) where
   ref_by : (b c : Bool) (d : RefDid) → (((b && ref_needs d) || c) ≡ true → 0 < k) →
-      (if b && ref_gains d then k + 1 else if b && ref_loses d then k - 1 else k) + one_if (b && ref_loses d) ≡ k + one_if (b && ref_gains d)
+      (if b && ref_gains d then k + 1 else if b && ref_loses d then k - 1 else k) + one_if (b && ref_loses d)
+      ≡ k + one_if (b && ref_gains d)
   ref_by false c d needs = refl
   ref_by true c Born needs = omega arith
   ref_by true c Retain needs = omega arith
@@ -36,18 +37,21 @@ module _ (r : RootId) (k : ℕ) where
   post_by false c needs = refl
 
   step_by : (n : Note) (of : Option RootId) → ((note_needs r n || root_is r of) ≡ true → 0 < k) →
-      (if note_gains r n then k + 1 else if note_loses r n then k - 1 else k) + one_if (note_loses r n) ≡ k + one_if (note_gains r n)
+      (if note_gains r n then k + 1 else if note_loses r n then k - 1 else k) + one_if (note_loses r n)
+      ≡ k + one_if (note_gains r n)
   step_by (At o j d) of needs = by d needs
     where
       by : (d : Did) → ((note_needs r (At o j d) || root_is r of) ≡ true → 0 < k) →
-          (if note_gains r (At o j d) then k + 1 else if note_loses r (At o j d) then k - 1 else k) + one_if (note_loses r (At o j d)) ≡ k + one_if (note_gains r (At o j d))
+          (if note_gains r (At o j d) then k + 1 else if note_loses r (At o j d) then k - 1 else k) + one_if
+          (note_loses r (At o j d)) ≡ k + one_if (note_gains r (At o j d))
       by (Fetch x) needs = fetch_by (view_is_of r x.view)
       by (Post x) needs = post_by (view_is_of r x.view) (root_is r of) needs
       by d needs = refl
   step_by (Ref q d) of needs = ref_by (same_root q r) (root_is r of) d needs
   step_by (Busy b) of needs = refl
 
-count_push : (test : Note → Bool) (es : List Entry) (e : Entry) → count_in test (es ++ e ∷ []) ≡ count_in test es + one_if (test e.note)
+count_push : (test : Note → Bool) (es : List Entry) (e : Entry)
+    → count_in test (es ++ e ∷ []) ≡ count_in test es + one_if (test e.note)
 count_push test [] e = omega arith
 count_push test (x ∷ es) e = let a = count_push test es e in omega (arith, a)
 
@@ -59,7 +63,8 @@ record Reached (r : RootId) (before : List Entry) (retains releases count : ℕ)
 
 module _ (r : RootId) (others : ℕ) where
   look_at : (before : List Entry) (retains releases count : ℕ) (n : Note) → Reached r before retains releases count →
-      ((found : ℕ) → n ≡ Ref r (Look found) → LookRight r others before found) → LookAt r retains releases count others n
+      ((found : ℕ) → n ≡ Ref r (Look found) → LookRight r others before found)
+      → LookAt r retains releases count others n
   look_at before retains releases count (At o k d) reached right = tt
   look_at before retains releases count (Busy b) reached right = tt
   look_at before retains releases count (Ref q Born) reached right = tt
@@ -69,7 +74,8 @@ module _ (r : RootId) (others : ℕ) where
   look_at before retains releases count (Ref q Vacated) reached right = tt
   look_at before retains releases count (Ref q (Look found)) reached right = λ (same : IsTrue (same_root q r)).
       let b = right found (ap (λ (x : RootId). Ref x (Look found)) (same_root-is q r same)) in
-      let x = reached.retained in let y = reached.released in let z = reached.counted in let s = b.least in let t = b.most in
+      let x = reached.retained in let y = reached.released in let z = reached.counted in let s = b.least in let t =
+      b.most in
       record { least = omega (arith, z, s); most = omega (arith, x, y, t) }
 
   looks_from : (before rest : List Entry) (retains releases count : ℕ) → Reached r before retains releases count →
@@ -77,14 +83,18 @@ module _ (r : RootId) (others : ℕ) where
   looks_from before [] retains releases count reached holds right = tt
   looks_from before (e ∷ rest) retains releases count reached holds right = (
     look_at before retains releases count e.note reached (λ found is. right before rest e found refl is),
-    looks_from (before ++ e ∷ []) rest (retains + one_if (is_retain r e.note)) (releases + one_if (is_release r e.note)) (count_step r count e)
+    looks_from (before ++ e ∷ []) rest (retains + one_if (is_retain r e.note)) (releases + one_if (is_release r e.note))
+        (count_step r count e)
         (record {
           retained = (let a = count_push (is_retain r) before e in let b = reached.retained in omega (arith, a, b));
           released = (let a = count_push (is_release r) before e in let b = reached.released in omega (arith, a, b));
-          counted = (let a = count_push (note_loses r) before e in let b = count_push (note_gains r) before e in let c = reached.counted in let d = step_by r count e.note e.root holds.0 in omega (arith, a, b, c, d));
+          counted =
+              (let a = count_push (note_loses r) before e in let b = count_push (note_gains r) before e in let c =
+              reached.counted in let d = step_by r count e.note e.root holds.0 in omega (arith, a, b, c, d));
         })
         holds.1.1 (subst (LooksRight r others) (sym (append_assoc before (e ∷ []) rest)) right),
   )
 
   pub looks-held : (es : List Entry) → CountsHold r 0 es → LooksRight r others es → LooksHold r others 0 0 0 es
-  looks-held es holds right = looks_from [] es 0 0 0 (record { retained = refl; released = refl; counted = refl }) holds right
+  looks-held es holds right =
+      looks_from [] es 0 0 0 (record { retained = refl; released = refl; counted = refl }) holds right

@@ -32,10 +32,14 @@ use Rattle.shared_pool.proofs.Openings.{added, there_at, kept, longer_by, silent
 chunks_are : (s : Shape) (k : ℕ) (a : ArenaState) → IsNew k s.page s.order s.chunks a → length a.chunks ≡ s.chunks
 chunks_are s k a new = ap (λ (x : ArenaLaw). length x.chunks) new.law ∙ length-replicate s.chunks None
 
-arena_stands : (s : Shape) (g : Setting) (k : ℕ) (a : ArenaState) → IsNew k s.page s.order s.chunks a → slice_get g.grounds k ≡ Some a.grounds → IsArenaAt (measures_of s (ArenaOf k)) g [] a
+arena_stands : (s : Shape) (g : Setting) (k : ℕ) (a : ArenaState) → IsNew k s.page s.order s.chunks a
+    → slice_get g.grounds k ≡ Some a.grounds → IsArenaAt (measures_of s (ArenaOf k)) g [] a
 arena_stands s g k a new here =
     record {
-      measured = λ i. 0 ∷ sym new.number_is i ∷ (sym new.geometry i).order ∷ (sym new.geometry i).page ∷ sym (chunks_are s k a new) i ∷ [];
+      measured =
+          λ i.
+          0 ∷ sym new.number_is i ∷ (sym new.geometry i).order ∷ (sym new.geometry i).page ∷ sym (chunks_are s k a new)
+          i ∷ [];
       stands = record {
         out = [];
         told = ap (λ (x : ArenaLaw). Some x) ((λ i. new_arena (new.geometry i) (chunks_are s k a new i)) ∙ sym new.law);
@@ -43,24 +47,37 @@ arena_stands s g k a new here =
       };
     }
 
-cache_stands : (s : Shape) (g : Setting) (lane class : ℕ) (x : Home) → IsCacheOf class x → HomeStands (measures_of s (CacheOf lane class)) g [] x
+cache_stands : (s : Shape) (g : Setting) (lane class : ℕ) (x : Home) → IsCacheOf class x
+    → HomeStands (measures_of s (CacheOf lane class)) g [] x
 cache_stands s g lane class (Cache q) is =
     subst (IsCacheAt (1 ∷ lane ∷ class ∷ []) g []) (sym is)
-    (record { lane = lane; class = class; measured = refl; capacity = refl; stands = cache_new g.grounds (cache_capacity class); lens = All-nil (λ (r : Region). HasClassLength r.id) })
+    (record {
+      lane = lane;
+      class = class;
+      measured = refl;
+      capacity = refl;
+      stands =
+          cache_new g.grounds (cache_capacity class);
+      lens = All-nil (λ (r : Region). HasClassLength r.id);
+    })
 cache_stands s g lane class (Arena a) is = absurd is
 cache_stands s g lane class (Bin b) is = absurd is
 cache_stands s g lane class (Mail m) is = absurd is
 cache_stands s g lane class (Root r) is = absurd is
 
-bin_stands : (s : Shape) (g : Setting) (lane : ℕ) (x : Home) → IsFirstBin s.handles lane x → HomeStands (measures_of s (BinOf lane)) g [] x
+bin_stands : (s : Shape) (g : Setting) (lane : ℕ) (x : Home) → IsFirstBin s.handles lane x
+    → HomeStands (measures_of s (BinOf lane)) g [] x
 bin_stands s g lane (Bin b) is =
-    subst (IsBinAt (2 ∷ lane ∷ s.handles ∷ []) g []) (sym is) (record { measured = refl; stands = bin_new g.grounds lane s.handles })
+    subst (IsBinAt (2 ∷ lane ∷ s.handles ∷ []) g []) (sym is)
+    (record { measured = refl; stands = bin_new g.grounds lane s.handles })
 bin_stands s g lane (Arena a) is = absurd is
 bin_stands s g lane (Cache q) is = absurd is
 bin_stands s g lane (Mail m) is = absurd is
 bin_stands s g lane (Root r) is = absurd is
 
-mail_stands : (s : Shape) (g : Setting) (sender receiver room : ℕ) (x : Home) → slice_get g.mail (sender * s.lanes + receiver) ≡ Some room → IsMailOf room x → HomeStands (measures_of s (MailOf sender receiver)) g [] x
+mail_stands : (s : Shape) (g : Setting) (sender receiver room : ℕ) (x : Home)
+    → slice_get g.mail (sender * s.lanes + receiver) ≡ Some room → IsMailOf room x
+    → HomeStands (measures_of s (MailOf sender receiver)) g [] x
 mail_stands s g sender receiver room (Mail m) here is =
     subst (IsMailAt (3 ∷ sender ∷ receiver ∷ s.lanes ∷ []) g []) (sym is)
     (record {
@@ -77,10 +94,21 @@ mail_stands s g sender receiver room (Cache q) here is = absurd is
 mail_stands s g sender receiver room (Bin b) here is = absurd is
 mail_stands s g sender receiver room (Root r) here is = absurd is
 
-root_stands : (s : Shape) (g : Setting) (place : ℕ) (x : Home) → IsNewRoot x → HomeStands (measures_of s (RootOf place)) g [] x
+root_stands : (s : Shape) (g : Setting) (place : ℕ) (x : Home) → IsNewRoot x
+    → HomeStands (measures_of s (RootOf place)) g [] x
 root_stands s g place (Root r) is =
     subst (IsPlaceAt (4 ∷ place ∷ s.handles ∷ s.lanes ∷ s.order ∷ s.page ∷ []) g []) (sym is)
-    (record { place = place; handles = s.handles; lanes = s.lanes; order = s.order; page = s.page; measured = refl; stands = record { told = refl; root = tt }; region = tt })
+    (record {
+      place = place;
+      handles = s.handles;
+      lanes = s.lanes;
+      order = s.order;
+      page = s.page;
+      measured =
+          refl;
+      stands = record { told = refl; root = tt };
+      region = tt;
+    })
 root_stands s g place (Arena a) is = absurd is
 root_stands s g place (Cache q) is = absurd is
 root_stands s g place (Bin b) is = absurd is
@@ -134,7 +162,8 @@ arena_tells s k (Bin b) is = absurd is
 arena_tells s k (Mail m) is = absurd is
 arena_tells s k (Root r) is = absurd is
 
-arena_home_stands : (s : Shape) (g : Setting) (k : ℕ) (x : Home) → IsFirstArena s k x → slice_get g.grounds k ≡ Some (grounds_at x) → HomeStands (measures_of s (ArenaOf k)) g [] x
+arena_home_stands : (s : Shape) (g : Setting) (k : ℕ) (x : Home) → IsFirstArena s k x
+    → slice_get g.grounds k ≡ Some (grounds_at x) → HomeStands (measures_of s (ArenaOf k)) g [] x
 arena_home_stands s g k (Arena a) is here = arena_stands s g k a.value is here
 arena_home_stands s g k (Cache q) is here = absurd is
 arena_home_stands s g k (Bin b) is here = absurd is
@@ -147,20 +176,27 @@ column lane class lt = omega (arith, lt)
 
 -- ---- All of them together.
 
-module _ (s : Shape) (mail : List ℕ) (homes : List Home) (wide : length mail ≡ s.lanes * s.lanes) (f : AreFirst s mail homes) where
+module _ (s : Shape) (mail : List ℕ) (homes : List Home) (wide : length mail ≡ s.lanes * s.lanes)
+    (f : AreFirst s mail homes) where
   len_first : length f.first ≡ s.arenas
-  len_first = longer_by (IsFirstArena s) s.arenas [] f.first f.arenas ∙ (let e : 0 + s.arenas ≡ s.arenas = omega arith in e)
+  len_first =
+      longer_by (IsFirstArena s) s.arenas [] f.first f.arenas ∙ (let e : 0 + s.arenas ≡ s.arenas = omega arith in e)
 
   len_second : length f.second ≡ s.arenas + s.lanes * 40
   len_second = longer_by IsFirstCache (s.lanes * 40) f.first f.second f.caches ∙ ap (λ n. n + s.lanes * 40) len_first
 
   len_third : length f.third ≡ s.arenas + s.lanes * 41
-  len_third = let a = longer_by (IsFirstBin s.handles) s.lanes f.second f.third f.bins in let b = len_second in omega (arith, a, b)
+  len_third =
+      let a = longer_by (IsFirstBin s.handles) s.lanes f.second f.third f.bins in let b = len_second in
+      omega (arith, a, b)
 
   len_fourth : length f.fourth ≡ s.arenas + s.lanes * 41 + s.lanes * s.lanes
-  len_fourth = longer_by (IsFirstMail mail) (s.lanes * s.lanes) f.third f.fourth f.mails ∙ ap (λ n. n + s.lanes * s.lanes) len_third
+  len_fourth =
+      longer_by (IsFirstMail mail) (s.lanes * s.lanes) f.third f.fourth f.mails
+      ∙ ap (λ n. n + s.lanes * s.lanes) len_third
 
-  room_at : (k : ℕ) (x : Home) → k < s.lanes * s.lanes → IsFirstMail mail k x → (room : ℕ) × (slice_get mail k ≡ Some room) × IsMailOf room x
+  room_at : (k : ℕ) (x : Home) → k < s.lanes * s.lanes → IsFirstMail mail k x
+      → (room : ℕ) × (slice_get mail k ≡ Some room) × IsMailOf room x
   room_at k x lt is =
       let t = there_at mail k (subst (λ n. k < n) (sym wide) lt) in
       (t.0, t.1, subst (λ (o : Option ℕ). IfSome o (λ room. IsMailOf room x)) t.1 is)
@@ -171,15 +207,20 @@ module _ (s : Shape) (mail : List ℕ) (homes : List Home) (wide : length mail �
   grounds_are : filter_map grounds_in homes ≡ map grounds_at f.first
   grounds_are =
       silent grounds_in (λ k. IsNewRoot) (s.lanes * s.handles) f.fourth homes f.roots (λ k x lt is. (root_quiet x is).0)
-      ∙ (silent grounds_in (IsFirstMail mail) (s.lanes * s.lanes) f.third f.fourth f.mails (λ k x lt is. let r = room_at k x lt is in mail_quiet r.0 x r.2)
-      ∙ (silent grounds_in (IsFirstBin s.handles) s.lanes f.second f.third f.bins (λ k x lt is. (bin_quiet s.handles k x is).0)
-      ∙ (silent grounds_in IsFirstCache (s.lanes * 40) f.first f.second f.caches (λ k x lt is. (cache_quiet (k % 40) x is).0)
+      ∙ (silent grounds_in (IsFirstMail mail) (s.lanes * s.lanes) f.third f.fourth f.mails
+      (λ k x lt is. let r = room_at k x lt is in mail_quiet r.0 x r.2)
+      ∙ (silent grounds_in (IsFirstBin s.handles) s.lanes f.second f.third f.bins
+      (λ k x lt is. (bin_quiet s.handles k x is).0)
+      ∙ (silent grounds_in IsFirstCache (s.lanes * 40) f.first f.second f.caches
+      (λ k x lt is. (cache_quiet (k % 40) x is).0)
       ∙ told_at grounds_in f.first grounds_at (λ k x e. arena_tells s k x (first_is k x e)))))
 
   third_silent : filter_map room_in f.third ≡ []
   third_silent =
-      silent room_in (IsFirstBin s.handles) s.lanes f.second f.third f.bins (λ k x lt is. (bin_quiet s.handles k x is).1)
-      ∙ (silent room_in IsFirstCache (s.lanes * 40) f.first f.second f.caches (λ k x lt is. (cache_quiet (k % 40) x is).1)
+      silent room_in (IsFirstBin s.handles) s.lanes f.second f.third f.bins
+      (λ k x lt is. (bin_quiet s.handles k x is).1)
+      ∙ (silent room_in IsFirstCache (s.lanes * 40) f.first f.second f.caches
+      (λ k x lt is. (cache_quiet (k % 40) x is).1)
       ∙ silent room_in (IsFirstArena s) s.arenas [] f.first f.arenas (λ k x lt is. arena_quiet s k x is))
 
   -- the setting that they settle has the mail's rooms
@@ -210,27 +251,42 @@ module _ (s : Shape) (mail : List ℕ) (homes : List Home) (wide : length mail �
   pub all_stand : StandAtFirst HomeStands s (settled_by homes) homes
   all_stand (ArenaOf a) fits =
       let t = added (IsFirstArena s) s.arenas [] f.first f.arenas a fits in
-      let at : slice_get f.first a ≡ Some t.0 = subst (λ i. slice_get f.first i ≡ Some t.0) (let e : 0 + a ≡ a = omega arith in e) t.1 in
-      (t.0, from_first a t.0 at, arena_home_stands s (settled_by homes) a t.0 t.2 (ap (λ ys. slice_get ys a) grounds_are ∙ map_at grounds_at f.first a t.0 at))
+      let at : slice_get f.first a ≡ Some t.0 = subst (λ i. slice_get f.first i ≡ Some t.0)
+      (let e : 0 + a ≡ a = omega arith in e) t.1 in (
+        t.0,
+        from_first a t.0 at,
+        arena_home_stands s (settled_by homes) a t.0 t.2
+            (ap (λ ys. slice_get ys a) grounds_are ∙ map_at grounds_at f.first a t.0 at),
+      )
   all_stand (CacheOf lane class) fits =
       let k : ℕ = lane * 40 + class in
       let lt : k < s.lanes * 40 = (let p = fits.0 in let q = fits.1 in omega (arith, p, q)) in
       let t = added IsFirstCache (s.lanes * 40) f.first f.second f.caches k lt in
       let at : length f.first + k ≡ s.arenas + lane * 40 + class = (let e = len_first in omega (arith, e)) in
-      let of : k % 40 ≡ class = column lane class fits.1 in
-      (t.0, from_second (s.arenas + lane * 40 + class) t.0 (subst (λ i. slice_get f.second i ≡ Some t.0) at t.1), cache_stands s (settled_by homes) lane class t.0 (subst (λ c. IsCacheOf c t.0) of t.2))
+      let of : k % 40 ≡ class = column lane class fits.1 in (
+        t.0,
+        from_second (s.arenas + lane * 40 + class) t.0 (subst (λ i. slice_get f.second i ≡ Some t.0) at t.1),
+        cache_stands s (settled_by homes) lane class t.0 (subst (λ c. IsCacheOf c t.0) of t.2),
+      )
   all_stand (BinOf lane) fits =
       let t = added (IsFirstBin s.handles) s.lanes f.second f.third f.bins lane fits in
-      let at : length f.second + lane ≡ s.arenas + s.lanes * 40 + lane = ap (λ n. n + lane) len_second in
-      (t.0, from_third (s.arenas + s.lanes * 40 + lane) t.0 (subst (λ i. slice_get f.third i ≡ Some t.0) at t.1), bin_stands s (settled_by homes) lane t.0 t.2)
+      let at : length f.second + lane ≡ s.arenas + s.lanes * 40 + lane = ap (λ n. n + lane) len_second in (
+        t.0,
+        from_third (s.arenas + s.lanes * 40 + lane) t.0 (subst (λ i. slice_get f.third i ≡ Some t.0) at t.1),
+        bin_stands s (settled_by homes) lane t.0 t.2,
+      )
   all_stand (MailOf sender receiver) fits =
       let k : ℕ = sender * s.lanes + receiver in
       let lt : k < s.lanes * s.lanes = in_square s.lanes sender receiver fits.0 fits.1 in
       let t = added (IsFirstMail mail) (s.lanes * s.lanes) f.third f.fourth f.mails k lt in
       let at : length f.third + k ≡ s.arenas + s.lanes * 41 + k = ap (λ n. n + k) len_third in
-      let r = room_at k t.0 lt t.2 in
-      (t.0, from_fourth (s.arenas + s.lanes * 41 + k) t.0 (subst (λ i. slice_get f.fourth i ≡ Some t.0) at t.1), mail_stands s (settled_by homes) sender receiver r.0 t.0 (ap (λ ys. slice_get ys k) mail_is ∙ r.1) r.2)
+      let r = room_at k t.0 lt t.2 in (
+        t.0,
+        from_fourth (s.arenas + s.lanes * 41 + k) t.0 (subst (λ i. slice_get f.fourth i ≡ Some t.0) at t.1),
+        mail_stands s (settled_by homes) sender receiver r.0 t.0 (ap (λ ys. slice_get ys k) mail_is ∙ r.1) r.2,
+      )
   all_stand (RootOf place) fits =
       let t = added (λ k. IsNewRoot) (s.lanes * s.handles) f.fourth homes f.roots place fits in
-      let at : length f.fourth + place ≡ s.arenas + s.lanes * 41 + s.lanes * s.lanes + place = ap (λ n. n + place) len_fourth in
+      let at : length f.fourth + place ≡ s.arenas + s.lanes * 41 + s.lanes * s.lanes + place =
+      ap (λ n. n + place) len_fourth in
       (t.0, subst (λ i. slice_get homes i ≡ Some t.0) at t.1, root_stands s (settled_by homes) place t.0 t.2)

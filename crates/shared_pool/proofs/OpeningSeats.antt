@@ -17,7 +17,9 @@ use Rattle.shared_pool.specs.declared.home.Home.{Home}
 use Rattle.shared_pool.specs.declared.pool.SharedPool.{SharedPool}
 use Rattle.shared_pool.specs.Opening.{IsOpened, AreOpened}
 
-module _ {G : Ghosts Home Noted} (l : Layout) (mail : List ℕ) (pool : SharedPool) (g : Setting) (layout : pool.table.layout ≡ l) (grounds : length g.grounds ≡ l.shape.arenas) (mail_is : g.mail ≡ mail) (wide : length mail ≡ l.shape.lanes * l.shape.lanes) where
+module _ {G : Ghosts Home Noted} (l : Layout) (mail : List ℕ) (pool : SharedPool) (g : Setting)
+    (layout : pool.table.layout ≡ l) (grounds : length g.grounds ≡ l.shape.arenas) (mail_is : g.mail ≡ mail)
+    (wide : length mail ≡ l.shape.lanes * l.shape.lanes) where
   one : (k : ℕ) → k < l.shape.lanes → (s : PoolSeat Home G) → IsFirstSeat l g k pool.table s → IsOpened l mail pool k s
   one k lt s is =
       record {
@@ -32,14 +34,19 @@ module _ {G : Ghosts Home Noted} (l : Layout) (mail : List ℕ) (pool : SharedPo
           settled = ap (λ m. m.0.setting) is.1;
           arenas = grounds ∙ ap (λ (y : Layout). y.shape.arenas) (sym layout);
           mails = ap length mail_is ∙ (wide ∙ ap (λ (y : Layout). y.shape.lanes * y.shape.lanes) (sym layout));
-          counts = subst CountsOne (sym (ap (λ m. m.0) is.1)) (empty_one (lane_view l k g) (All-cons (λ (p : Part). p.notes ≡ []) (empty_part (Some k)) [] refl (All-nil (λ (p : Part). p.notes ≡ []))));
+          counts =
+              subst CountsOne (sym (ap (λ m. m.0) is.1))
+              (empty_one (lane_view l k g) (All-cons (λ (p : Part). p.notes ≡ []) (empty_part (Some k)) [] refl
+              (All-nil (λ (p : Part). p.notes ≡ []))));
         };
         number = ap (λ m. m.0.own.number) is.1;
         notes = ap (λ m. m.0.own.notes) is.1;
         moves = ap (λ m. m.0.moves) is.1;
         turns = ap (λ m. m.0.turns) is.1;
-        mail_is = subst (λ (o : Option Setting). IfSome o (λ t. t.mail ≡ mail)) (sym (ap (λ m. m.0.setting) is.1)) mail_is;
+        mail_is =
+            subst (λ (o : Option Setting). IfSome o (λ t. t.mail ≡ mail)) (sym (ap (λ m. m.0.setting) is.1)) mail_is;
       }
 
   pub opened : (seats : List (PoolSeat Home G)) → AreFirstSeats l g pool.table seats → AreOpened l mail pool seats
-  opened seats first = record { many = first.many; each = λ k lt d. one k lt (slice_index_or seats k d) (first.each k lt d) }
+  opened seats first =
+      record { many = first.many; each = λ k lt d. one k lt (slice_index_or seats k d) (first.each k lt d) }

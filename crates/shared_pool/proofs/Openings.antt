@@ -12,7 +12,8 @@ use Rattle.shared_pool.specs.Settling.{room_in}
 use Rattle.shared_pool.specs.Opening.{Adds, IsMailOf, IsFirstMail}
 
 -- what a list with one item more has at a place
-pushed_at : {X : Type 0} (xs : List X) (y x : X) (k : ℕ) (P : ℕ → X → Type 0) → slice_get (xs ++ y ∷ []) k ≡ Some x → ((j : ℕ) (z : X) → slice_get xs j ≡ Some z → P j z) → P (length xs) y → P k x
+pushed_at : {X : Type 0} (xs : List X) (y x : X) (k : ℕ) (P : ℕ → X → Type 0) → slice_get (xs ++ y ∷ []) k ≡ Some x
+    → ((j : ℕ) (z : X) → slice_get xs j ≡ Some z → P j z) → P (length xs) y → P k x
 pushed_at [] y x zero P e all last = let same : y ≡ x = cc e in subst (P 0) same last
 pushed_at [] y x (suc k) P e all last = absurd (cc e)
 pushed_at (z ∷ zs) y x zero P e all last = all 0 x e
@@ -21,7 +22,8 @@ pushed_at (z ∷ zs) y x (suc k) P e all last = pushed_at zs y x k (λ j. P (suc
 pub adds_none : (P : ℕ → Home → Type 0) (xs : List Home) → Adds P 0 xs xs
 adds_none P xs = record { more = []; is = sym (append-nil xs); many = refl; each = λ k x e. absurd (cc e) }
 
-pub adds_push : (P : ℕ → Home → Type 0) (n : ℕ) (old mid new : List Home) (x : Home) → Adds P n old mid → P n x → new ≡ mid ++ x ∷ [] → Adds P (n + 1) old new
+pub adds_push : (P : ℕ → Home → Type 0) (n : ℕ) (old mid new : List Home) (x : Home) → Adds P n old mid → P n x
+    → new ≡ mid ++ x ∷ [] → Adds P (n + 1) old new
 adds_push P n old mid new x a here is =
     record {
       more = a.more ++ x ∷ [];
@@ -44,7 +46,9 @@ at_left (z ∷ xs) ys (suc k) x e = at_left xs ys k x e
 
 pub at_right : {X : Type 0} (xs ys : List X) (k : ℕ) → slice_get (xs ++ ys) (length xs + k) ≡ slice_get ys k
 at_right [] ys k = ap (slice_get ys) (let e : 0 + k ≡ k = omega arith in e)
-at_right (z ∷ xs) ys k = ap (slice_get (z ∷ xs ++ ys)) (let e : suc (length xs) + k ≡ suc (length xs + k) = omega arith in e) ∙ at_right xs ys k
+at_right (z ∷ xs) ys k =
+    ap (slice_get (z ∷ xs ++ ys)) (let e : suc (length xs) + k ≡ suc (length xs + k) = omega arith in e)
+    ∙ at_right xs ys k
 
 pub there_at : {X : Type 0} (xs : List X) (k : ℕ) → k < length xs → (x : X) × (slice_get xs k ≡ Some x)
 there_at [] k lt = absurd (omega (arith, lt))
@@ -52,12 +56,18 @@ there_at (z ∷ xs) zero lt = (z, refl)
 there_at (z ∷ xs) (suc k) lt = there_at xs k (omega (arith, lt))
 
 -- each of them is there, behind what was there before
-pub added : (P : ℕ → Home → Type 0) (n : ℕ) (old new : List Home) → Adds P n old new → (k : ℕ) → k < n → (x : Home) × (slice_get new (length old + k) ≡ Some x) × P k x
+pub added : (P : ℕ → Home → Type 0) (n : ℕ) (old new : List Home) → Adds P n old new → (k : ℕ) → k < n
+    → (x : Home) × (slice_get new (length old + k) ≡ Some x) × P k x
 added P n old new a k lt =
-    let t = there_at a.more k (subst (λ m. k < m) (sym a.many) lt) in
-    (t.0, subst (λ xs. slice_get xs (length old + k) ≡ Some t.0) (sym a.is) (at_right old a.more k ∙ t.1), a.each k t.0 t.1)
+    let t = there_at a.more k (subst (λ m. k < m) (sym a.many) lt) in (
+      t.0,
+      subst (λ xs. slice_get xs (length old + k) ≡ Some t.0) (sym a.is) (at_right old a.more k ∙ t.1),
+      a.each k t.0
+          t.1,
+    )
 
-pub kept : (P : ℕ → Home → Type 0) (n : ℕ) (old new : List Home) → Adds P n old new → (k : ℕ) (x : Home) → slice_get old k ≡ Some x → slice_get new k ≡ Some x
+pub kept : (P : ℕ → Home → Type 0) (n : ℕ) (old new : List Home) → Adds P n old new → (k : ℕ) (x : Home)
+    → slice_get old k ≡ Some x → slice_get new k ≡ Some x
 kept P n old new a k x e = subst (λ xs. slice_get xs k ≡ Some x) (sym a.is) (at_left old a.more k x e)
 
 pub longer_by : (P : ℕ → Home → Type 0) (n : ℕ) (old new : List Home) → Adds P n old new → length new ≡ length old + n
@@ -71,17 +81,23 @@ module _ {Y : Type 0} (f : Home → Option Y) where
   none_of (x ∷ xs) all = ap (λ o. cons_option o (filter_map f xs)) (all 0 x refl) ∙ none_of xs (λ k. all (suc k))
 
   -- what tells nothing adds nothing
-  pub silent : (P : ℕ → Home → Type 0) (n : ℕ) (old new : List Home) → Adds P n old new → ((k : ℕ) (x : Home) → k < n → P k x → f x ≡ None) → filter_map f new ≡ filter_map f old
+  pub silent : (P : ℕ → Home → Type 0) (n : ℕ) (old new : List Home) → Adds P n old new
+      → ((k : ℕ) (x : Home) → k < n → P k x → f x ≡ None) → filter_map f new ≡ filter_map f old
   silent P n old new a quiet =
       ap (filter_map f) a.is ∙ (filter_map-append f old a.more
-      ∙ (ap (λ ys. filter_map f old ++ ys) (none_of a.more (λ k x e. quiet k x (subst (λ m. k < m) a.many (slice_get-below a.more k x e)) (a.each k x e))) ∙ append-nil (filter_map f old)))
+      ∙ (ap (λ ys. filter_map f old ++ ys)
+      (none_of a.more (λ k x e. quiet k x (subst (λ m. k < m) a.many (slice_get-below a.more k x e))
+      (a.each k x e))) ∙ append-nil (filter_map f old)))
 
   -- where each tells something, it tells it in its place
-  pub told_at : (xs : List Home) (g : Home → Y) → ((k : ℕ) (x : Home) → slice_get xs k ≡ Some x → f x ≡ Some (g x)) → filter_map f xs ≡ map g xs
+  pub told_at : (xs : List Home) (g : Home → Y) → ((k : ℕ) (x : Home) → slice_get xs k ≡ Some x → f x ≡ Some (g x))
+      → filter_map f xs ≡ map g xs
   told_at [] g all = refl
-  told_at (x ∷ xs) g all = ap (λ o. cons_option o (filter_map f xs)) (all 0 x refl) ∙ ap (λ ys. g x ∷ ys) (told_at xs g (λ k. all (suc k)))
+  told_at (x ∷ xs) g all =
+      ap (λ o. cons_option o (filter_map f xs)) (all 0 x refl) ∙ ap (λ ys. g x ∷ ys) (told_at xs g (λ k. all (suc k)))
 
-pub map_at : {X Y : Type 0} (g : X → Y) (xs : List X) (k : ℕ) (x : X) → slice_get xs k ≡ Some x → slice_get (map g xs) k ≡ Some (g x)
+pub map_at : {X Y : Type 0} (g : X → Y) (xs : List X) (k : ℕ) (x : X) → slice_get xs k ≡ Some x
+    → slice_get (map g xs) k ≡ Some (g x)
 map_at g [] k x e = absurd (cc e)
 map_at g (z ∷ xs) zero x e = let same : z ≡ x = cc e in ap (λ y. Some (g y)) same
 map_at g (z ∷ xs) (suc k) x e = map_at g xs k x e
@@ -94,8 +110,11 @@ room_is room (Bin b) is = absurd is
 room_is room (Root s) is = absurd is
 
 -- the rooms of the mails are those that were given
-pub rooms : (xs : List Home) (mail : List ℕ) → length xs ≡ length mail → ((k : ℕ) (x : Home) → slice_get xs k ≡ Some x → IsFirstMail mail k x) → filter_map room_in xs ≡ mail
+pub rooms : (xs : List Home) (mail : List ℕ) → length xs ≡ length mail
+    → ((k : ℕ) (x : Home) → slice_get xs k ≡ Some x → IsFirstMail mail k x) → filter_map room_in xs ≡ mail
 rooms [] [] many all = refl
 rooms [] (m ∷ mail) many all = absurd (omega (arith, many))
 rooms (x ∷ xs) [] many all = absurd (omega (arith, many))
-rooms (x ∷ xs) (m ∷ mail) many all = ap (λ o. cons_option o (filter_map room_in xs)) (room_is m x (all 0 x refl)) ∙ ap (λ ys. m ∷ ys) (rooms xs mail (omega (arith, many)) (λ k. all (suc k)))
+rooms (x ∷ xs) (m ∷ mail) many all =
+    ap (λ o. cons_option o (filter_map room_in xs)) (room_is m x (all 0 x refl))
+    ∙ ap (λ ys. m ∷ ys) (rooms xs mail (omega (arith, many)) (λ k. all (suc k)))

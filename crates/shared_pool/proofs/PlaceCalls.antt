@@ -40,49 +40,74 @@ use Rattle.shared_pool.proofs.PlaceHomes.{is_place, place_at, place_follows}
 use Rattle.shared_pool.proofs.PlaceBirths.{may_bear, home_born}
 use Rattle.shared_pool.proofs.Endings.{stood, IsNext}
 
-module _ {G : Ghosts Home Noted} (l : Layout) (p : ℕ) (old new : PoolSeat Home G) (section : Section Home) (got : GotSection HomeStands l (RootOf p) old new section) (setting : Setting) (known : (view_of old).setting ≡ Some setting) where
+module _ {G : Ghosts Home Noted} (l : Layout) (p : ℕ) (old new : PoolSeat Home G) (section : Section Home)
+    (got : GotSection HomeStands l (RootOf p) old new section) (setting : Setting)
+    (known : (view_of old).setting ≡ Some setting) where
   stands_here : HomeStands (measures_of l.shape (RootOf p)) setting got.history section.home
   stands_here = stood l (RootOf p) old new section got setting known
 
   pub place_here : IsPlace section.home
-  place_here = is_place setting got.history p l.shape.handles l.shape.lanes l.shape.order l.shape.page section.home stands_here
+  place_here =
+      is_place setting got.history p l.shape.handles l.shape.lanes l.shape.order l.shape.page section.home stands_here
 
   -- a place in hand may bear a root
   pub bears_here : InHand p (view_of old) → NoneWaits p (view_of old) → IfPlace section.home MayBear
   bears_here hand waits = go section.home (place_at l.shape setting p got.history section.home stands_here)
     where
-      go : (home : Home) → IfPlace home (λ y. PlaceStandsFor setting.grounds p l.shape.handles got.history y) → IfPlace home MayBear
-      go (Root y) at = may_bear p got.history y.value at.told ((got.learned.root p refl).in_hand hand waits) ((got.learned.root p refl).few (law_place y.value) at.told)
+      go : (home : Home) → IfPlace home (λ y. PlaceStandsFor setting.grounds p l.shape.handles got.history y)
+          → IfPlace home MayBear
+      go (Root y) at =
+          may_bear p got.history y.value at.told ((got.learned.root p refl).in_hand hand waits)
+          ((got.learned.root p refl).few (law_place y.value) at.told)
       go (Arena a) at = tt
       go (Cache q) at = tt
       go (Bin b) at = tt
       go (Mail m) at = tt
 
   -- after a birth its note follows
-  pub born_next : (after : Section Home) (root : RootId) (region : Region) (handle : HandleValue) (watch : Option Watch) → InHand p (view_of old) → NoneWaits p (view_of old) → after.object ≡ section.object → after.slot ≡ section.slot → IsPlace after.home → root.place ≡ p → IfPlace section.home (λ y. root.generation ≡ y.generation + 1) → root.capacity ≤ region.id.place.len →
-      IfSome (view_of old).setting (λ t. IsInPlace t.grounds region.id.place region.piece) → region.id.owner < l.shape.lanes → region.id.class < class_count (geometry_of l.shape) → HasClassLength region.id → handle.place ≡ p → handle.lane ≡ p / l.shape.handles →
-      IfPlace after.home (λ t. t ≡ with_born (born_root root region handle watch)) → IsNext l (RootOf p) old new section got setting known after (birth root region.id watch)
-  born_next after root region handle watch hand waits same_object same_slot place root_place next fits in_place owner class len handle_place handle_lane made =
+  pub born_next : (after : Section Home) (root : RootId) (region : Region) (handle : HandleValue) (watch : Option Watch)
+      → InHand p (view_of old) → NoneWaits p (view_of old) → after.object ≡ section.object → after.slot ≡ section.slot
+      → IsPlace after.home → root.place ≡ p → IfPlace section.home (λ y. root.generation ≡ y.generation + 1)
+      → root.capacity ≤ region.id.place.len →
+      IfSome (view_of old).setting (λ t. IsInPlace t.grounds region.id.place region.piece)
+      → region.id.owner < l.shape.lanes → region.id.class < class_count (geometry_of l.shape)
+      → HasClassLength region.id → handle.place ≡ p → handle.lane ≡ p / l.shape.handles →
+      IfPlace after.home (λ t. t ≡ with_born (born_root root region handle watch))
+      → IsNext l (RootOf p) old new section got setting known after (birth root region.id watch)
+  born_next after root region handle watch hand waits same_object same_slot place root_place next fits in_place owner
+      class len handle_place handle_lane made =
       let m : Noted = noted_by (view_of old).own.number (birth root region.id watch) in
-      let stands = home_born l.shape setting p got.history m section.home after.home root region handle watch stands_here place_here place (bears_here hand waits) root_place next fits (subst (λ (y : Option Setting). IfSome y (λ t. IsInPlace t.grounds region.id.place region.piece)) known in_place) owner class len handle_place handle_lane refl refl made in
+      let stands = home_born l.shape setting p got.history m section.home after.home root region handle watch
+      stands_here place_here place (bears_here hand waits) root_place next fits
+      (subst (λ (y : Option Setting). IfSome y (λ t. IsInPlace t.grounds region.id.place region.piece)) known
+      in_place) owner class len handle_place handle_lane refl refl made in
       record {
         same_object = same_object;
         same_slot = same_slot;
-        follows = place_follows l.shape setting p got.history m after.home got.learned.accepted place stands (refl, refl, tt);
+        follows =
+            place_follows l.shape setting p got.history m after.home got.learned.accepted place stands (refl, refl, tt);
         stands = stands;
       }
 
 -- the note of a birth, and the step that makes it
-pub born_noted : {G : Ghosts Home Noted} (pool : SharedPool) (old last new : PoolSeat Home G) (p number : ℕ) (root result : RootId) (region : RegionId) (watch : Option Watch) → IsNoted pool old last (RootOf p) number (birth root region watch) → root.place ≡ p → result ≡ root →
-    HasView new (with_ref (view_of last) result Born ((view_of last).moves - 1)) → IsNotedWith pool old new result number (birth result region watch) Born ((view_of old).moves - 1)
+pub born_noted : {G : Ghosts Home Noted} (pool : SharedPool) (old last new : PoolSeat Home G) (p number : ℕ)
+    (root result : RootId) (region : RegionId) (watch : Option Watch)
+    → IsNoted pool old last (RootOf p) number (birth root region watch) → root.place ≡ p → result ≡ root →
+    HasView new (with_ref (view_of last) result Born ((view_of last).moves - 1))
+    → IsNotedWith pool old new result number (birth result region watch) Born ((view_of old).moves - 1)
 born_noted pool old last new p number root result region watch m place same has =
     let v = view_of old in let n : Noted = noted_by v.own.number (birth root region watch) in
-    let here : HasView new (with_ref (with_entry v (At (RootOf p) number n) (v.turns - 1)) root Born (v.moves - 1)) = subst (λ (x : RootId × SeatView). HasView new (with_ref x.1 x.0 Born (x.1.moves - 1))) (λ i. (same i, (m.seat i).0)) has in
+    let here : HasView new (with_ref (with_entry v (At (RootOf p) number n) (v.turns - 1)) root Born (v.moves - 1)) =
+    subst (λ (x : RootId × SeatView). HasView new (with_ref x.1 x.0 Born (x.1.moves - 1)))
+    (λ i. (same i, (m.seat i).0)) has in
     subst (λ (q : RootId). IsNotedWith pool old new q number (birth q region watch) Born (v.moves - 1)) (sym same)
     (record {
       history = m.history;
       number_is = m.number_is;
-      accepted = subst (λ (x : ℕ). IsHistory pool.table.layout.shape (RootOf x) (m.history ++ n ∷ [])) (sym place) m.accepted;
+      accepted =
+          subst (λ (x : ℕ). IsHistory pool.table.layout.shape (RootOf x) (m.history ++ n ∷ [])) (sym place) m.accepted;
       above = subst (λ (x : ℕ). IsAbove (RootOf x) number v.own.notes) (sym place) m.above;
-      seat = subst (λ (x : ℕ). HasView new (with_ref (with_entry v (At (RootOf x) number n) (v.turns - 1)) root Born (v.moves - 1))) (sym place) here;
+      seat =
+          subst (λ (x : ℕ). HasView new (with_ref (with_entry v (At (RootOf x) number n) (v.turns - 1)) root Born
+          (v.moves - 1))) (sym place) here;
     })

@@ -15,28 +15,36 @@ use Rattle.shared_pool.specs.declared.root_place.RootPlace.TheInside.{Inside}
 use Rattle.shared_pool.specs.PlaceSteps.{MayAccess, Accesses, accessed, vacated}
 
 -- bytes that are laid over the first of a list leave the others
-pub laid-front : (xs ys : List ℕ) (a c : ℕ) → a + length ys ≤ c → c ≤ length xs → take c (laid_over xs a ys) ≡ laid_over (take c xs) a ys
+pub laid-front : (xs ys : List ℕ) (a c : ℕ) → a + length ys ≤ c → c ≤ length xs
+    → take c (laid_over xs a ys) ≡ laid_over (take c xs) a ys
 laid-front xs ys a c within fits =
     let front : List ℕ = take c xs in let rest : List ℕ = drop c xs in
     let many : length front ≡ c = length-take-le c xs fits in
     let taken : take a (front ++ rest) ≡ take a front = take-append-le a front rest (omega (arith, many, within)) in
-    let dropped : drop (a + length ys) (front ++ rest) ≡ drop (a + length ys) front ++ rest = drop-append-le (a + length ys) front rest (omega (arith, many, within)) in
+    let dropped : drop (a + length ys) (front ++ rest)
+    ≡ drop (a + length ys) front ++ rest =
+    drop-append-le (a + length ys) front rest (omega (arith, many, within)) in
     let whole : laid_over (front ++ rest) a ys ≡ laid_over front a ys ++ rest =
     (λ i. taken i ++ (ys ++ dropped i))
     ∙ ap (λ (zs : List ℕ). take a front ++ zs) (sym (append_assoc ys (drop (a + length ys) front) rest))
     ∙ sym (append_assoc (take a front) (ys ++ drop (a + length ys) front) rest) in
     let before : length (take a front) ≡ a = length-take-le a front (omega (arith, many, within)) in
-    let behind : length (drop (a + length ys) front) ≡ length front - (a + length ys) = length-drop (a + length ys) front in
+    let behind : length (drop (a + length ys) front)
+    ≡ length front - (a + length ys) = length-drop (a + length ys) front in
     let size : length (laid_over front a ys) ≡ c =
-    (let p = length-append (take a front) (ys ++ drop (a + length ys) front) in let q = length-append ys (drop (a + length ys) front) in omega (arith, p, q, before, behind, many, within)) in
-    ap (λ (zs : List ℕ). take c (laid_over zs a ys)) (sym (take-append-drop c xs)) ∙ ap (take c) whole ∙ take_at (laid_over front a ys) rest c size
+    (let p = length-append (take a front) (ys ++ drop (a + length ys) front) in let q =
+    length-append ys (drop (a + length ys) front) in omega (arith, p, q, before, behind, many, within)) in
+    ap (λ (zs : List ℕ). take c (laid_over zs a ys)) (sym (take-append-drop c xs)) ∙ ap (take c) whole
+    ∙ take_at (laid_over front a ys) rest c size
 
 -- bytes that are laid over others are as many in all
 pub laid-length : (xs ys : List ℕ) (a : ℕ) → a + length ys ≤ length xs → length (laid_over xs a ys) ≡ length xs
 laid-length xs ys a within =
     let before : length (take a xs) ≡ a = length-take-le a xs (omega (arith, within)) in
     let behind : length (drop (a + length ys) xs) ≡ length xs - (a + length ys) = length-drop (a + length ys) xs in
-    let p = length-append (take a xs) (ys ++ drop (a + length ys) xs) in let q = length-append ys (drop (a + length ys) xs) in omega (arith, p, q, before, behind, within)
+    let p = length-append (take a xs) (ys ++ drop (a + length ys) xs) in let q =
+    length-append ys (drop (a + length ys) xs) in
+    omega (arith, p, q, before, behind, within)
 
 -- bytes within the first of a list are there
 pub there-front : (xs : List ℕ) (a n c : ℕ) → a + n ≤ c → c ≤ length xs → bytes_at xs a n ≡ bytes_at (take c xs) a n
@@ -49,79 +57,111 @@ there-front xs a n c within fits =
     ∙ take-append-le n (drop a front) rest (omega (arith, behind, many, within))
 
 pub there-length : (xs : List ℕ) (a n : ℕ) → a + n ≤ length xs → length (bytes_at xs a n) ≡ n
-there-length xs a n within = let behind : length (drop a xs) ≡ length xs - a = length-drop a xs in length-take-le n (drop a xs) (omega (arith, behind, within))
+there-length xs a n within =
+    let behind : length (drop a xs) ≡ length xs - a = length-drop a xs in
+    length-take-le n (drop a xs) (omega (arith, behind, within))
 
 pub same_bytes-refl : (xs : List ℕ) → same_bytes xs xs ≡ true
 same_bytes-refl [] = refl
 same_bytes-refl (x ∷ xs) = λ i. eq-eqb x x refl i && same_bytes-refl xs i
 
 pub same_root-refl : (r : RootId) → same_root r r ≡ true
-same_root-refl r = λ i. eq-eqb r.place r.place refl i && (eq-eqb r.generation r.generation refl i && eq-eqb r.capacity r.capacity refl i)
+same_root-refl r =
+    λ i. eq-eqb r.place r.place refl i
+    && (eq-eqb r.generation r.generation refl i && eq-eqb r.capacity r.capacity refl i)
 
 -- the root's bytes in the law
 bytes_of : RootState → List ℕ
 bytes_of r = take r.root.capacity r.piece.bytes
 
-module _ (old : PlaceState) (r : RootState) (was : old.present ≡ Some r) (fits : r.root.capacity ≤ length r.piece.bytes) where
-  -- a note at a place where a root is present
-  at_root : (place : ℕ) (did : Did) → place_step place (law_place old) did ≡ place_step_by place (law_place old) (Some (law_root r)) did
-  at_root place did = ap (λ (o : Option RootState). place_step_by place (law_place old) (option_map law_root o) did) was
+module _ (old : PlaceState) (r : RootState) (was : old.present ≡ Some r) (fits : r.root.capacity ≤ length r.piece.bytes)
+  where
+    -- a note at a place where a root is present
+    at_root : (place : ℕ) (did : Did) → place_step place (law_place old) did
+        ≡ place_step_by place (law_place old) (Some (law_root r)) did
+    at_root place did =
+        ap (λ (o : Option RootState). place_step_by place (law_place old) (option_map law_root o) did) was
 
-  many : length (law_root r).bytes ≡ r.root.capacity
-  many = length-take-le r.root.capacity r.piece.bytes fits
+    many : length (law_root r).bytes ≡ r.root.capacity
+    many = length-take-le r.root.capacity r.piece.bytes fits
 
-  -- nothing else changes where the bytes are the same
-  same_place : (access : Access) → law_place (record old { present = Some (accessed r r.piece.bytes access) }) ≡ law_place old
-  same_place access = λ i. record { generation = old.generation; present = option_map law_root (sym was i) }
+    -- nothing else changes where the bytes are the same
+    same_place : (access : Access) → law_place (record old { present = Some (accessed r r.piece.bytes access) })
+        ≡ law_place old
+    same_place access = λ i. record { generation = old.generation; present = option_map law_root (sym was i) }
 
-  pub touches : (lane : ℕ) → Accesses old Did.Touch (Access.Touch lane) (record old { present = Some (accessed r r.piece.bytes (Access.Touch lane)) })
-  touches lane =
-      record {
-        root = r;
-        bytes = r.piece.bytes;
-        was = was;
-        is = refl;
-        size = refl;
-        step = λ place. at_root place Did.Touch ∙ ap Some (sym (same_place (Access.Touch lane)));
-      }
+    pub touches : (lane : ℕ) → Accesses old Did.Touch (Access.Touch lane)
+        (record old { present = Some (accessed r r.piece.bytes (Access.Touch lane)) })
+    touches lane =
+        record {
+          root = r;
+          bytes = r.piece.bytes;
+          was = was;
+          is = refl;
+          size = refl;
+          step = λ place. at_root place Did.Touch ∙ ap Some (sym (same_place (Access.Touch lane)));
+        }
 
-  pub sets : (lane offset : ℕ) (ys : List ℕ) → offset + length ys ≤ r.root.capacity →
-      Accesses old (Did.Set offset ys) (Access.Set lane offset (length ys)) (record old { present = Some (accessed r (laid_over r.piece.bytes offset ys) (Access.Set lane offset (length ys))) })
-  sets lane offset ys within =
-      let laid : List ℕ = laid_over r.piece.bytes offset ys in
-      let room : nat_le (offset + length ys) (length (law_root r).bytes) ≡ true = le-leb (offset + length ys) (length (law_root r).bytes) (omega (arith, many, within)) in
-      let law : Present = record { root = r.root; region = r.region; bytes = laid_over (law_root r).bytes offset ys } in
-      record {
-        root = r;
-        bytes = laid;
-        was = was;
-        is = refl;
-        size = laid-length r.piece.bytes ys offset (omega (arith, within, fits));
-        step = λ place. at_root place (Did.Set offset ys)
-            ∙ ap (λ (b : Bool). if b then Some (record { generation = old.generation; present = Some law }) else None) room
-            ∙ (λ i. Some (record { generation = old.generation; present = Some (record { root = r.root; region = r.region; bytes = sym (laid-front r.piece.bytes ys offset r.root.capacity within fits) i }) }));
-      }
+    pub sets : (lane offset : ℕ) (ys : List ℕ) → offset + length ys ≤ r.root.capacity →
+        Accesses old (Did.Set offset ys) (Access.Set lane offset (length ys))
+        (record old {
+          present = Some (accessed r (laid_over r.piece.bytes offset ys)
+              (Access.Set lane offset (length ys)));
+        })
+    sets lane offset ys within =
+        let laid : List ℕ = laid_over r.piece.bytes offset ys in
+        let room : nat_le (offset + length ys) (length (law_root r).bytes)
+        ≡ true = le-leb (offset + length ys) (length (law_root r).bytes) (omega (arith, many, within)) in
+        let law : Present =
+        record { root = r.root; region = r.region; bytes = laid_over (law_root r).bytes offset ys } in
+        record {
+          root = r;
+          bytes = laid;
+          was = was;
+          is = refl;
+          size = laid-length r.piece.bytes ys offset (omega (arith, within, fits));
+          step = λ place. at_root place (Did.Set offset ys)
+              ∙ ap (λ (b : Bool). if b then Some (record { generation = old.generation; present = Some law }) else None)
+              room
+              ∙ (λ i. Some (record {
+                generation = old.generation;
+                present =
+                    Some (record {
+                      root = r.root;
+                      region = r.region;
+                      bytes =
+                          sym (laid-front r.piece.bytes ys offset r.root.capacity within fits) i;
+                    });
+              }));
+        }
 
-  pub gets : (lane offset n : ℕ) (ys : List ℕ) → offset + n ≤ r.root.capacity → ys ≡ bytes_at r.piece.bytes offset n →
-      Accesses old (Did.Get offset ys) (Access.Get lane offset (length ys)) (record old { present = Some (accessed r r.piece.bytes (Access.Get lane offset (length ys))) })
-  gets lane offset n ys within is =
-      let size : length ys ≡ n = ap length is ∙ there-length r.piece.bytes offset n (omega (arith, within, fits)) in
-      let room : nat_le (offset + length ys) (length (law_root r).bytes) ≡ true = le-leb (offset + length ys) (length (law_root r).bytes) (omega (arith, many, within, size)) in
-      let there : ys ≡ bytes_at (law_root r).bytes offset (length ys) = is ∙ there-front r.piece.bytes offset n r.root.capacity within fits ∙ ap (bytes_at (law_root r).bytes offset) (sym size) in
-      let same : same_bytes ys (bytes_at (law_root r).bytes offset (length ys)) ≡ true = ap (same_bytes ys) (sym there) ∙ same_bytes-refl ys in
-      record {
-        root = r;
-        bytes = r.piece.bytes;
-        was = was;
-        is = refl;
-        size = refl;
-        step = λ place. at_root place (Did.Get offset ys)
-            ∙ (λ i. if room i && same i then Some (law_place old) else None)
-            ∙ ap Some (sym (same_place (Access.Get lane offset (length ys))));
-      }
+    pub gets : (lane offset n : ℕ) (ys : List ℕ) → offset + n ≤ r.root.capacity → ys ≡ bytes_at r.piece.bytes offset n →
+        Accesses old (Did.Get offset ys) (Access.Get lane offset (length ys))
+        (record old { present = Some (accessed r r.piece.bytes (Access.Get lane offset (length ys))) })
+    gets lane offset n ys within is =
+        let size : length ys ≡ n = ap length is ∙ there-length r.piece.bytes offset n (omega (arith, within, fits)) in
+        let room : nat_le (offset + length ys) (length (law_root r).bytes)
+        ≡ true = le-leb (offset + length ys) (length (law_root r).bytes) (omega (arith, many, within, size)) in
+        let there : ys ≡ bytes_at (law_root r).bytes offset (length ys) = is
+        ∙ there-front r.piece.bytes offset n r.root.capacity within fits
+        ∙ ap (bytes_at (law_root r).bytes offset) (sym size) in
+        let same : same_bytes ys (bytes_at (law_root r).bytes offset (length ys)) ≡ true =
+        ap (same_bytes ys) (sym there)
+        ∙ same_bytes-refl ys in
+        record {
+          root = r;
+          bytes = r.piece.bytes;
+          was = was;
+          is = refl;
+          size = refl;
+          step = λ place. at_root place (Did.Get offset ys)
+              ∙ (λ i. if room i && same i then Some (law_place old) else None)
+              ∙ ap Some (sym (same_place (Access.Get lane offset (length ys))));
+        }
 
-  pub ends : (place : ℕ) → place_step place (law_place old) (Did.End r.root) ≡ Some (law_place (vacated old))
-  ends place = at_root place (Did.End r.root) ∙ (λ i. if same_root-refl r.root i then Some (law_place (vacated old)) else None)
+    pub ends : (place : ℕ) → place_step place (law_place old) (Did.End r.root) ≡ Some (law_place (vacated old))
+    ends place =
+        at_root place (Did.End r.root) ∙ (λ i. if same_root-refl r.root i then Some (law_place (vacated old)) else None)
 
 -- the same, of the fields of a place at which a root is
 module _ (i : Inside) (r s : Root) (old : PlaceState) (view : state_in i ≡ old) (here : i.present ≡ Some r) where
@@ -132,22 +172,37 @@ module _ (i : Inside) (r s : Root) (old : PlaceState) (view : state_in i ≡ old
   present_is offset n may = let e : Some may.root ≡ Some (root_seen r) = sym may.present ∙ was in cc e
 
   pub fits_in : (offset n : ℕ) → MayAccess offset n old → r.root.capacity ≤ length r.piece.bytes
-  fits_in offset n may = subst (λ (q : RootState). q.root.capacity ≤ length q.piece.bytes) (present_is offset n may) may.fits
+  fits_in offset n may =
+      subst (λ (q : RootState). q.root.capacity ≤ length q.piece.bytes) (present_is offset n may) may.fits
 
   pub range_in : (offset n : ℕ) → MayAccess offset n old → offset + n ≤ r.root.capacity
   range_in offset n may = subst (λ (q : RootState). offset + n ≤ q.root.capacity) (present_is offset n may) may.range
 
-  made : (did : Did) (access : Access) (bytes : List ℕ) → root_seen s ≡ accessed (root_seen r) bytes access → Accesses old did access (record old { present = Some (accessed (root_seen r) bytes access) }) →
+  made : (did : Did) (access : Access) (bytes : List ℕ) → root_seen s ≡ accessed (root_seen r) bytes access
+      → Accesses old did access (record old { present = Some (accessed (root_seen r) bytes access) }) →
       Accesses old did access (state_in (record { generation = i.generation; present = Some s }))
-  made did access bytes same a = subst (Accesses old did access) (λ k. record { generation = ap (λ (y : PlaceState). y.generation) (sym view) k; present = Some (sym same k) }) a
+  made did access bytes same a =
+      subst (Accesses old did access)
+      (λ k. record { generation = ap (λ (y : PlaceState). y.generation) (sym view) k; present = Some (sym same k) })
+      a
 
-  pub touched : (lane : ℕ) → MayAccess 0 0 old → root_seen s ≡ accessed (root_seen r) r.piece.bytes (Access.Touch lane) → Accesses old Did.Touch (Access.Touch lane) (state_in (record { generation = i.generation; present = Some s }))
-  touched lane may same = made Did.Touch (Access.Touch lane) r.piece.bytes same (touches old (root_seen r) was (fits_in 0 0 may) lane)
+  pub touched : (lane : ℕ) → MayAccess 0 0 old → root_seen s ≡ accessed (root_seen r) r.piece.bytes (Access.Touch lane)
+      → Accesses old Did.Touch (Access.Touch lane) (state_in (record { generation = i.generation; present = Some s }))
+  touched lane may same =
+      made Did.Touch (Access.Touch lane) r.piece.bytes same (touches old (root_seen r) was (fits_in 0 0 may) lane)
 
-  pub is_set : (lane offset : ℕ) (ys : List ℕ) → MayAccess offset (length ys) old → root_seen s ≡ accessed (root_seen r) (laid_over r.piece.bytes offset ys) (Access.Set lane offset (length ys)) →
-      Accesses old (Did.Set offset ys) (Access.Set lane offset (length ys)) (state_in (record { generation = i.generation; present = Some s }))
-  is_set lane offset ys may same = made (Did.Set offset ys) (Access.Set lane offset (length ys)) (laid_over r.piece.bytes offset ys) same (sets old (root_seen r) was (fits_in offset (length ys) may) lane offset ys (range_in offset (length ys) may))
+  pub is_set : (lane offset : ℕ) (ys : List ℕ) → MayAccess offset (length ys) old
+      → root_seen s ≡ accessed (root_seen r) (laid_over r.piece.bytes offset ys) (Access.Set lane offset (length ys)) →
+      Accesses old (Did.Set offset ys) (Access.Set lane offset (length ys))
+      (state_in (record { generation = i.generation; present = Some s }))
+  is_set lane offset ys may same =
+      made (Did.Set offset ys) (Access.Set lane offset (length ys)) (laid_over r.piece.bytes offset ys) same
+      (sets old (root_seen r) was (fits_in offset (length ys) may) lane offset ys (range_in offset (length ys) may))
 
-  pub is_got : (lane offset n : ℕ) (ys : List ℕ) → MayAccess offset n old → ys ≡ bytes_at r.piece.bytes offset n → root_seen s ≡ accessed (root_seen r) r.piece.bytes (Access.Get lane offset (length ys)) →
-      Accesses old (Did.Get offset ys) (Access.Get lane offset (length ys)) (state_in (record { generation = i.generation; present = Some s }))
-  is_got lane offset n ys may is same = made (Did.Get offset ys) (Access.Get lane offset (length ys)) r.piece.bytes same (gets old (root_seen r) was (fits_in offset n may) lane offset n ys (range_in offset n may) is)
+  pub is_got : (lane offset n : ℕ) (ys : List ℕ) → MayAccess offset n old → ys ≡ bytes_at r.piece.bytes offset n
+      → root_seen s ≡ accessed (root_seen r) r.piece.bytes (Access.Get lane offset (length ys)) →
+      Accesses old (Did.Get offset ys) (Access.Get lane offset (length ys))
+      (state_in (record { generation = i.generation; present = Some s }))
+  is_got lane offset n ys may is same =
+      made (Did.Get offset ys) (Access.Get lane offset (length ys)) r.piece.bytes same
+      (gets old (root_seen r) was (fits_in offset n may) lane offset n ys (range_in offset n may) is)

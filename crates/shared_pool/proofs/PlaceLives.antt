@@ -18,7 +18,8 @@ use Rattle.shared_pool.specs.RootPlaces.{watch_after}
 
 -- what was done leaves the watch
 abbrev KeepsWatch : Did → Type 0
-KeepsWatch d = (w : Option Watch) (n : Noted) (h : List Noted) → watch_after w (record n { did = d } ∷ h) ≡ watch_after w h
+KeepsWatch d =
+    (w : Option Watch) (n : Noted) (h : List Noted) → watch_after w (record n { did = d } ∷ h) ≡ watch_after w h
 
 -- a root is born, stays or ends
 record Bears (p : ℕ) (x y : RootPlace) (d : Did) : Type 0 where
@@ -60,36 +61,92 @@ stepped p x y d e = by d x.present refl e
     by : (d : Did) (o : Option Present) → x.present ≡ o → place_step_by p x o d ≡ Some y → Stepped p x y d
     by (Birth b region) None here e =
         let made = so (may_be_born p x b region) (born b region) y e in
-        let rest = and-second (b.place == p) ((b.generation == x.generation + 1) && nat_le b.capacity region.place.len) made.0 in
+        let rest = and-second (b.place == p) ((b.generation == x.generation + 1) && nat_le b.capacity region.place.len)
+        made.0 in
         Born (record {
           root = b;
           region = region;
           did = refl;
           vacant = here;
           is = sym made.1;
-          place = eqb-true b.place p (and-first (b.place == p) ((b.generation == x.generation + 1) && nat_le b.capacity region.place.len) made.0);
-          next = eqb-true b.generation (x.generation + 1) (and-first (b.generation == x.generation + 1) (nat_le b.capacity region.place.len) rest);
+          place =
+              eqb-true b.place p (and-first (b.place == p)
+              ((b.generation == x.generation + 1) && nat_le b.capacity region.place.len) made.0);
+          next =
+              eqb-true b.generation (x.generation + 1)
+              (and-first (b.generation == x.generation + 1) (nat_le b.capacity region.place.len) rest);
         })
     by (Set offset bytes) (Some q) here e =
-        let made = so (nat_le (offset + length bytes) (length q.bytes)) (with_bytes x q (laid_over q.bytes offset bytes)) y e in
-        Kept (record { old = q; new = record q { bytes = laid_over q.bytes offset bytes }; was = here; is = ap (λ (z : RootPlace). z.present) (sym made.1); same = refl; generation = ap (λ (z : RootPlace). z.generation) (sym made.1); watch = λ w n h. refl; no_birth = λ r z c. cc c; no_end = λ r c. cc c })
+        let made = so (nat_le (offset + length bytes) (length q.bytes))
+        (with_bytes x q (laid_over q.bytes offset bytes)) y e in
+        Kept (record {
+          old = q;
+          new = record q { bytes = laid_over q.bytes offset bytes };
+          was = here;
+          is =
+              ap (λ (z : RootPlace). z.present) (sym made.1);
+          same =
+              refl;
+          generation =
+              ap (λ (z : RootPlace). z.generation) (sym made.1);
+          watch =
+              λ w n h. refl;
+          no_birth = λ r z c. cc c;
+          no_end = λ r c. cc c;
+        })
     by (Get offset bytes) (Some q) here e =
-        let made = so (nat_le (offset + length bytes) (length q.bytes) && same_bytes bytes (bytes_at q.bytes offset (length bytes))) x y e in
-        Kept (record { old = q; new = q; was = here; is = ap (λ (z : RootPlace). z.present) (sym made.1) ∙ here; same = refl; generation = ap (λ (z : RootPlace). z.generation) (sym made.1); watch = λ w n h. refl; no_birth = λ r z c. cc c; no_end = λ r c. cc c })
+        let made = so (nat_le (offset + length bytes) (length q.bytes) && same_bytes bytes
+        (bytes_at q.bytes offset (length bytes))) x y e in
+        Kept (record {
+          old = q;
+          new = q;
+          was = here;
+          is = ap (λ (z : RootPlace). z.present) (sym made.1)
+              ∙ here;
+          same = refl;
+          generation = ap (λ (z : RootPlace). z.generation) (sym made.1);
+          watch =
+              λ w n h. refl;
+          no_birth = λ r z c. cc c;
+          no_end = λ r c. cc c;
+        })
     by Touch (Some q) here e =
         let same : x ≡ y = cc e in
-        Kept (record { old = q; new = q; was = here; is = ap (λ (z : RootPlace). z.present) (sym same) ∙ here; same = refl; generation = ap (λ (z : RootPlace). z.generation) (sym same); watch = λ w n h. refl; no_birth = λ r z c. cc c; no_end = λ r c. cc c })
+        Kept (record {
+          old = q;
+          new = q;
+          was = here;
+          is = ap (λ (z : RootPlace). z.present) (sym same)
+              ∙ here;
+          same = refl;
+          generation = ap (λ (z : RootPlace). z.generation) (sym same);
+          watch =
+              λ w n h. refl;
+          no_birth = λ r z c. cc c;
+          no_end = λ r c. cc c;
+        })
     by (End r) (Some q) here e =
         let made = so (same_root r q.root) (record x { present = None }) y e in
-        Ended (record { old = q; was = here; did = ap (λ (z : RootId). End z) (same_root-is r q.root made.0); gone = ap (λ (z : RootPlace). z.present) (sym made.1); generation = ap (λ (z : RootPlace). z.generation) (sym made.1); watch = λ w n h. refl })
+        Ended (record {
+          old = q;
+          was = here;
+          did = ap (λ (z : RootId). End z) (same_root-is r q.root made.0);
+          gone =
+              ap (λ (z : RootPlace). z.present) (sym made.1);
+          generation =
+              ap (λ (z : RootPlace). z.generation) (sym made.1);
+          watch = λ w n h. refl;
+        })
     by d None here e = absurd (cc e)
     by d (Some q) here e = absurd (cc e)
 
 -- the watch after a first note
-first_watch : (w : Option Watch) (n : Noted) (h : List Noted) → KeepsWatch n.did → watch_after w (n ∷ h) ≡ watch_after w h
+first_watch : (w : Option Watch) (n : Noted) (h : List Noted) → KeepsWatch n.did
+    → watch_after w (n ∷ h) ≡ watch_after w h
 first_watch w n h keeps = keeps w n h
 
-first_born : (w : Option Watch) (n : Noted) (h : List Noted) (r : RootId) (z : RegionId) → n.did ≡ Birth r z → watch_after w (n ∷ h) ≡ watch_after n.watch h
+first_born : (w : Option Watch) (n : Noted) (h : List Noted) (r : RootId) (z : RegionId) → n.did ≡ Birth r z
+    → watch_after w (n ∷ h) ≡ watch_after n.watch h
 first_born w n h r z is = λ i. watch_after w (record n { did = is i } ∷ h)
 
 -- the root was born in the history, which gave it the watch
@@ -115,8 +172,19 @@ pub record Has (x : RootPlace) (root : RootId) : Type 0 where
   pub here : x.present ≡ Some present
   pub root_is : present.root ≡ root
 
-later_born : (p : ℕ) (n : Noted) (h : List Noted) (root : RootId) (w v : Option Watch) → w ≡ v → WasBorn p h root v → WasBorn p (n ∷ h) root w
-later_born p n h root w v e b = record { at = suc b.at; note = b.note; region = b.region; there = b.there; did = b.did; place = b.place; given = e ∙ b.given }
+later_born : (p : ℕ) (n : Noted) (h : List Noted) (root : RootId) (w v : Option Watch) → w ≡ v → WasBorn p h root v
+    → WasBorn p (n ∷ h) root w
+later_born p n h root w v e b =
+    record {
+      at = suc b.at;
+      note = b.note;
+      region = b.region;
+      there = b.there;
+      did = b.did;
+      place = b.place;
+      given = e
+          ∙ b.given;
+    }
 
 later_end : (n : Noted) (h : List Noted) (root : RootId) → HasEnd h root → HasEnd (n ∷ h) root
 later_end n h root b = record { at = suc b.at; note = b.note; there = b.there; did = b.did }
@@ -126,50 +194,78 @@ module _ (p : ℕ) where
   Run x h y = after (place_step p) x (noted_dids h) ≡ Some y
 
   -- a first note and the rest
-  parted : {R : Type 0} (x y : RootPlace) (n : Noted) (h : List Noted) → Run x (n ∷ h) y → ((z : RootPlace) → Stepped p x z n.did → Run z h y → R) → R
+  parted : {R : Type 0} (x y : RootPlace) (n : Noted) (h : List Noted) → Run x (n ∷ h) y
+      → ((z : RootPlace) → Stepped p x z n.did → Run z h y → R) → R
   parted {R} x y n h e f = go (place_step p x n.did) (λ z is. f z (stepped p x z n.did is)) e
     where
-      go : (o : Option RootPlace) → ((z : RootPlace) → o ≡ Some z → Run z h y → R) → option_and_then (λ t. after (place_step p) t (noted_dids h)) o ≡ Some y → R
+      go : (o : Option RootPlace) → ((z : RootPlace) → o ≡ Some z → Run z h y → R)
+          → option_and_then (λ t. after (place_step p) t (noted_dids h)) o ≡ Some y → R
       go None g e = absurd (cc e)
       go (Some z) g e = g z refl e
 
   -- the root that is present was born in the history, or was present before
   pub root_from : (h : List Noted) (x y : RootPlace) (w : Option Watch) (root : RootId) → Run x h y → Has y root →
       WasBorn p h root (watch_after w h) ⊎ (Has x root × (watch_after w h ≡ w))
-  root_from [] x y w root e has = let same : x ≡ y = cc e in inr (subst (λ (z : RootPlace). Has z root) (sym same) has, refl)
+  root_from [] x y w root e has =
+      let same : x ≡ y = cc e in inr (subst (λ (z : RootPlace). Has z root) (sym same) has, refl)
   root_from (n ∷ h) x y w root e has = parted x y n h e (λ z s rest. by z s (λ v. root_from h z y v root rest has))
     where
-      by : (z : RootPlace) → Stepped p x z n.did → ((v : Option Watch) → WasBorn p h root (watch_after v h) ⊎ (Has z root × (watch_after v h ≡ v))) →
+      by : (z : RootPlace) → Stepped p x z n.did
+          → ((v : Option Watch) → WasBorn p h root (watch_after v h) ⊎ (Has z root × (watch_after v h ≡ v))) →
           WasBorn p (n ∷ h) root (watch_after w (n ∷ h)) ⊎ (Has x root × (watch_after w (n ∷ h) ≡ w))
       by z (Born b) ih =
           let given = first_born w n h b.root b.region b.did in
           ⊎_elim
-          (λ (t : WasBorn p h root (watch_after n.watch h)). inl (later_born p n h root (watch_after w (n ∷ h)) (watch_after n.watch h) given t))
+          (λ (t : WasBorn p h root (watch_after n.watch h)). inl
+          (later_born p n h root (watch_after w (n ∷ h)) (watch_after n.watch h) given t))
           (λ (t : Has z root × (watch_after n.watch h ≡ n.watch)).
-          let one : Some t.0.present ≡ (born b.root b.region).present = sym t.0.here ∙ ap (λ (q : RootPlace). q.present) b.is in
+          let one : Some t.0.present ≡ (born b.root b.region).present = sym t.0.here
+          ∙ ap (λ (q : RootPlace). q.present) b.is in
           let same : b.root ≡ root = (let a : b.root ≡ t.0.present.root = cc one in a) ∙ t.0.root_is in
-          inl (record { at = zero; note = n; region = b.region; there = refl; did = subst (λ (r : RootId). n.did ≡ Birth r b.region) same b.did; place = subst (λ (r : RootId). r.place ≡ p) same b.place; given = given ∙ t.1 }))
+          inl (record {
+            at = zero;
+            note = n;
+            region = b.region;
+            there = refl;
+            did =
+                subst (λ (r : RootId). n.did ≡ Birth r b.region) same b.did;
+            place =
+                subst (λ (r : RootId). r.place ≡ p) same b.place;
+            given = given ∙ t.1;
+          }))
           (ih n.watch)
       by z (Kept k) ih =
           let given = first_watch w n h k.watch in
           ⊎_elim
-          (λ (t : WasBorn p h root (watch_after w h)). inl (later_born p n h root (watch_after w (n ∷ h)) (watch_after w h) given t))
+          (λ (t : WasBorn p h root (watch_after w h)). inl
+          (later_born p n h root (watch_after w (n ∷ h)) (watch_after w h) given t))
           (λ (t : Has z root × (watch_after w h ≡ w)).
           let one : Some t.0.present ≡ Some k.new = sym t.0.here ∙ k.is in let two : t.0.present ≡ k.new = cc one in
-          inr (record { present = k.old; here = k.was; root_is = sym k.same ∙ ap (λ (q : Present). q.root) (sym two) ∙ t.0.root_is }, given ∙ t.1))
+          inr (
+            record {
+              present = k.old;
+              here = k.was;
+              root_is = sym k.same ∙ ap (λ (q : Present). q.root) (sym two)
+                  ∙ t.0.root_is;
+            },
+            given ∙ t.1,
+          ))
           (ih w)
       by z (Ended k) ih =
           let given = first_watch w n h k.watch in
           ⊎_elim
-          (λ (t : WasBorn p h root (watch_after w h)). inl (later_born p n h root (watch_after w (n ∷ h)) (watch_after w h) given t))
-          (λ (t : Has z root × (watch_after w h ≡ w)). let one : Some t.0.present ≡ None = sym t.0.here ∙ k.gone in absurd (cc one))
+          (λ (t : WasBorn p h root (watch_after w h)). inl
+          (later_born p n h root (watch_after w (n ∷ h)) (watch_after w h) given t))
+          (λ (t : Has z root × (watch_after w h ≡ w)). let one : Some t.0.present ≡ None = sym t.0.here
+          ∙ k.gone in absurd (cc one))
           (ih w)
 
   -- a root that is present ends in the history, or is present after it
   root_stays : (h : List Noted) (x y : RootPlace) (w : Option Watch) (root : RootId) → Run x h y → Has x root →
       HasEnd h root ⊎ (Has y root × (watch_after w h ≡ w))
   root_stays [] x y w root e has = let same : x ≡ y = cc e in inr (subst (λ (z : RootPlace). Has z root) same has, refl)
-  root_stays (n ∷ h) x y w root e has = parted x y n h e (λ z s rest. by z s (λ here. root_stays h z y w root rest here))
+  root_stays (n ∷ h) x y w root e has =
+      parted x y n h e (λ z s rest. by z s (λ here. root_stays h z y w root rest here))
     where
       by : (z : RootPlace) → Stepped p x z n.did → (Has z root → HasEnd h root ⊎ (Has y root × (watch_after w h ≡ w))) →
           HasEnd (n ∷ h) root ⊎ (Has y root × (watch_after w (n ∷ h) ≡ w))
@@ -179,14 +275,20 @@ module _ (p : ℕ) where
           ⊎_elim
           (λ (t : HasEnd h root). inl (later_end n h root t))
           (λ (t : Has y root × (watch_after w h ≡ w)). inr (t.0, first_watch w n h k.watch ∙ t.1))
-          (ih (record { present = k.new; here = k.is; root_is = k.same ∙ ap (λ (q : Present). q.root) (sym two) ∙ has.root_is }))
+          (ih (record {
+            present = k.new;
+            here = k.is;
+            root_is = k.same ∙ ap (λ (q : Present). q.root) (sym two)
+                ∙ has.root_is;
+          }))
       by z (Ended k) ih =
           let one : Some has.present ≡ Some k.old = sym has.here ∙ k.was in let two : has.present ≡ k.old = cc one in
           let same : k.old.root ≡ root = ap (λ (q : Present). q.root) (sym two) ∙ has.root_is in
           inl (record { at = zero; note = n; there = refl; did = k.did ∙ ap (λ (r : RootId). End r) same })
 
   -- so does one that is born in it
-  pub root_to : (h : List Noted) (x y : RootPlace) (w : Option Watch) (at : ℕ) (note : Noted) (root : RootId) (region : RegionId) → Run x h y → slice_get h at ≡ Some note → note.did ≡ Birth root region →
+  pub root_to : (h : List Noted) (x y : RootPlace) (w : Option Watch) (at : ℕ) (note : Noted) (root : RootId)
+      (region : RegionId) → Run x h y → slice_get h at ≡ Some note → note.did ≡ Birth root region →
       HasEnd h root ⊎ (Has y root × (watch_after w h ≡ note.watch))
   root_to [] x y w at note root region e is did = absurd (cc is)
   root_to (n ∷ h) x y w zero note root region e is did = parted x y n h e by
@@ -197,22 +299,34 @@ module _ (p : ℕ) where
       mine : n.did ≡ Birth root region
       mine = ap (λ (m : Noted). m.did) same ∙ did
 
-      by : (z : RootPlace) → Stepped p x z n.did → Run z h y → HasEnd (n ∷ h) root ⊎ (Has y root × (watch_after w (n ∷ h) ≡ note.watch))
+      by : (z : RootPlace) → Stepped p x z n.did → Run z h y
+          → HasEnd (n ∷ h) root ⊎ (Has y root × (watch_after w (n ∷ h) ≡ note.watch))
       by z (Born b) rest =
-          let one : Birth b.root b.region ≡ Birth root region = sym b.did ∙ mine in let root_is : b.root ≡ root = cc one in
+          let one : Birth b.root b.region ≡ Birth root region = sym b.did
+          ∙ mine in let root_is : b.root ≡ root = cc one in
           ⊎_elim
           (λ (t : HasEnd h root). inl (later_end n h root t))
-          (λ (t : Has y root × (watch_after n.watch h ≡ n.watch)). inr (t.0, first_born w n h root region mine ∙ t.1 ∙ ap (λ (m : Noted). m.watch) same))
-          (root_stays h z y n.watch root rest (record { present = record { root = b.root; region = b.region; bytes = _ }; here = ap (λ (q : RootPlace). q.present) b.is; root_is = root_is }))
+          (λ (t : Has y root × (watch_after n.watch h ≡ n.watch)). inr
+          (t.0, first_born w n h root region mine ∙ t.1 ∙ ap (λ (m : Noted). m.watch) same))
+          (root_stays h z y n.watch root rest
+          (record {
+            present = record { root = b.root; region = b.region; bytes = _ };
+            here =
+                ap (λ (q : RootPlace). q.present) b.is;
+            root_is = root_is;
+          }))
       by z (Kept k) rest = absurd (k.no_birth root region mine)
       by z (Ended k) rest = let one : End k.old.root ≡ Birth root region = sym k.did ∙ mine in absurd (cc one)
-  root_to (n ∷ h) x y w (suc at) note root region e is did = parted x y n h e (λ z s rest. by z s (λ v. root_to h z y v at note root region rest is did))
+  root_to (n ∷ h) x y w (suc at) note root region e is did =
+      parted x y n h e (λ z s rest. by z s (λ v. root_to h z y v at note root region rest is did))
     where
-      by : (z : RootPlace) → Stepped p x z n.did → ((v : Option Watch) → HasEnd h root ⊎ (Has y root × (watch_after v h ≡ note.watch))) →
+      by : (z : RootPlace) → Stepped p x z n.did
+          → ((v : Option Watch) → HasEnd h root ⊎ (Has y root × (watch_after v h ≡ note.watch))) →
           HasEnd (n ∷ h) root ⊎ (Has y root × (watch_after w (n ∷ h) ≡ note.watch))
       by z (Born b) ih = ⊎_elim
           (λ (t : HasEnd h root). inl (later_end n h root t))
-          (λ (t : Has y root × (watch_after n.watch h ≡ note.watch)). inr (t.0, first_born w n h b.root b.region b.did ∙ t.1))
+          (λ (t : Has y root × (watch_after n.watch h ≡ note.watch)). inr
+          (t.0, first_born w n h b.root b.region b.did ∙ t.1))
           (ih n.watch)
       by z (Kept k) ih = ⊎_elim
           (λ (t : HasEnd h root). inl (later_end n h root t))
@@ -241,24 +355,29 @@ module _ (p : ℕ) where
       ap (λ (r : RootId). r.generation) same ∙ sym (ap (λ (y : RootPlace). y.generation) b.is)
   last_step x z d (Kept k) last q is =
       let one : Some q ≡ Some k.new = sym is ∙ k.is in let two : q ≡ k.new = cc one in
-      ap (λ (y : Present). y.root.generation) two ∙ ap (λ (r : RootId). r.generation) k.same ∙ last k.old k.was ∙ sym k.generation
+      ap (λ (y : Present). y.root.generation) two ∙ ap (λ (r : RootId). r.generation) k.same ∙ last k.old k.was
+      ∙ sym k.generation
   last_step x z d (Ended k) last q is = let one : Some q ≡ None = sym is ∙ k.gone in absurd (cc one)
 
   past_step : (g : ℕ) (x z : RootPlace) (d : Did) → Stepped p x z d → IsPast g x → IsPast g z
   past_step g x z d (Born b) past =
-      let made : z.generation ≡ b.root.generation = ap (λ (y : RootPlace). y.generation) b.is in let next = b.next in let le = past.reached in
+      let made : z.generation ≡ b.root.generation = ap (λ (y : RootPlace). y.generation) b.is in let next = b.next in
+      let le = past.reached in
       record {
         reached = omega (arith, made, next, le);
         above = λ q is.
             let one : Some q ≡ (born b.root b.region).present = sym is ∙ ap (λ (y : RootPlace). y.present) b.is in
-            let same : q.root ≡ b.root = cc one in let gen = ap (λ (r : RootId). r.generation) same in omega (arith, gen, next, le);
+            let same : q.root ≡ b.root = cc one in let gen = ap (λ (r : RootId). r.generation) same in
+            omega (arith, gen, next, le);
       }
   past_step g x z d (Kept k) past =
       record {
         reached = (let a = past.reached in let b = k.generation in omega (arith, a, b));
         above = λ q is.
             let one : Some q ≡ Some k.new = sym is ∙ k.is in let two : q ≡ k.new = cc one in
-            let a = ap (λ (y : Present). y.root.generation) two in let b = ap (λ (r : RootId). r.generation) k.same in let c = past.above k.old k.was in omega (arith, a, b, c);
+            let a = ap (λ (y : Present). y.root.generation) two in let b = ap (λ (r : RootId). r.generation) k.same in
+            let c = past.above k.old k.was in
+            omega (arith, a, b, c);
       }
   past_step g x z d (Ended k) past =
       record {
@@ -271,7 +390,8 @@ module _ (p : ℕ) where
   past_run g (n ∷ h) x y e past = parted x y n h e (λ z s rest. past_run g h z y rest (past_step g x z n.did s past))
 
   -- a root that is present is of a later generation than one that ended
-  pub after_end : (h : List Noted) (x y : RootPlace) (at : ℕ) (note : Noted) (root : RootId) → Run x h y → IsLast x → slice_get h at ≡ Some note → note.did ≡ End root → IsPast root.generation y
+  pub after_end : (h : List Noted) (x y : RootPlace) (at : ℕ) (note : Noted) (root : RootId) → Run x h y → IsLast x
+      → slice_get h at ≡ Some note → note.did ≡ End root → IsPast root.generation y
   after_end [] x y at note root e last is did = absurd (cc is)
   after_end (n ∷ h) x y zero note root e last is did = parted x y n h e by
     where
@@ -287,5 +407,11 @@ module _ (p : ℕ) where
       by z (Ended k) rest =
           let one : End k.old.root ≡ End root = sym k.did ∙ mine in let root_is : k.old.root ≡ root = cc one in
           let a = ap (λ (r : RootId). r.generation) root_is in let b = last k.old k.was in let c = k.generation in
-          past_run root.generation h z y rest (record { reached = omega (arith, a, b, c); above = λ q is. let two : Some q ≡ None = sym is ∙ k.gone in absurd (cc two) })
-  after_end (n ∷ h) x y (suc at) note root e last is did = parted x y n h e (λ z s rest. after_end h z y at note root rest (last_step x z n.did s last) is did)
+          past_run root.generation h z y rest
+          (record {
+            reached = omega (arith, a, b, c);
+            above = λ q is. let two : Some q ≡ None = sym is
+                ∙ k.gone in absurd (cc two);
+          })
+  after_end (n ∷ h) x y (suc at) note root e last is did =
+      parted x y n h e (λ z s rest. after_end h z y at note root rest (last_step x z n.did s last) is did)

@@ -35,7 +35,8 @@ abbrev pub live_after : RootId → Bool → History → Bool
 live_after root live [] = live
 live_after root live (e ∷ h) = live_after root (live_next root live e.1) h
 
-first_access : (root : RootId) (live : Bool) (lane : ℕ) (d : Did) (h : History) → accesses root live ((lane, d) ∷ h) ≡ access_in live lane d ++ accesses root (live_next root live d) h
+first_access : (root : RootId) (live : Bool) (lane : ℕ) (d : Did) (h : History)
+    → accesses root live ((lane, d) ∷ h) ≡ access_in live lane d ++ accesses root (live_next root live d) h
 first_access root true lane (Birth b region) h = refl
 first_access root true lane (End e) h = refl
 first_access root true lane (Set offset bytes) h = refl
@@ -50,7 +51,8 @@ first_access root false lane Touch h = refl
 first_access root false lane d h = refl
 
 -- one note more is at most one access more
-last_access : (root : RootId) (live : Bool) (h : History) (lane : ℕ) (d : Did) → accesses root live (h ++ (lane, d) ∷ []) ≡ accesses root live h ++ access_in (live_after root live h) lane d
+last_access : (root : RootId) (live : Bool) (h : History) (lane : ℕ) (d : Did)
+    → accesses root live (h ++ (lane, d) ∷ []) ≡ accesses root live h ++ access_in (live_after root live h) lane d
 last_access root live [] lane d = first_access root live lane d [] ∙ nil (access_in live lane d)
   where
     nil : (xs : List Access) → xs ++ [] ≡ xs
@@ -59,8 +61,10 @@ last_access root live [] lane d = first_access root live lane d [] ∙ nil (acce
 last_access root live (e ∷ h) lane d =
     first_access root live e.0 e.1 (h ++ (lane, d) ∷ [])
     ∙ ap (λ (xs : List Access). access_in live e.0 e.1 ++ xs) (last_access root (live_next root live e.1) h lane d)
-    ∙ sym (append_assoc (access_in live e.0 e.1) (accesses root (live_next root live e.1) h) (access_in (live_after root (live_next root live e.1) h) lane d))
-    ∙ ap (λ (xs : List Access). xs ++ access_in (live_after root (live_next root live e.1) h) lane d) (sym (first_access root live e.0 e.1 h))
+    ∙ sym (append_assoc (access_in live e.0 e.1) (accesses root (live_next root live e.1) h)
+    (access_in (live_after root (live_next root live e.1) h) lane d))
+    ∙ ap (λ (xs : List Access). xs ++ access_in (live_after root (live_next root live e.1) h) lane d)
+    (sym (first_access root live e.0 e.1 h))
 
 one_at_most : (live : Bool) (lane : ℕ) (d : Did) → length (access_in live lane d) ≤ 1
 one_at_most true lane (Set offset bytes) = omega arith
@@ -73,7 +77,8 @@ short_in : (root : RootId) (live : Bool) (h : List Noted) → length (accesses r
 short_in root live [] = omega arith
 short_in root live (n ∷ h) =
     let lane : ℕ = unwrap_or n.lane 0 in let next : Bool = live_next root live n.did in
-    let e = ap length (first_access root live lane n.did (lane_dids h)) in let a = length-append (access_in live lane n.did) (accesses root next (lane_dids h)) in
+    let e = ap length (first_access root live lane n.did (lane_dids h)) in let a =
+    length-append (access_in live lane n.did) (accesses root next (lane_dids h)) in
     let b = one_at_most live lane n.did in let c = short_in root next h in omega (arith, e, a, b, c)
 
 -- no more accesses than notes
@@ -85,34 +90,55 @@ abbrev pub is_at : RootId → Option Present → Bool
 is_at root None = false
 is_at root (Some q) = same_root q.root root
 
-live_step : (p : ℕ) (root : RootId) (x y : RootPlace) (live : Bool) (d : Did) → live ≡ is_at root x.present → place_step p x d ≡ Some y → live_next root live d ≡ is_at root y.present
+live_step : (p : ℕ) (root : RootId) (x y : RootPlace) (live : Bool) (d : Did) → live ≡ is_at root x.present
+    → place_step p x d ≡ Some y → live_next root live d ≡ is_at root y.present
 live_step p root x y live d is e = by d x.present refl is e
   where
-    by : (d : Did) (o : Option Present) → x.present ≡ o → live ≡ is_at root o → place_step_by p x o d ≡ Some y → live_next root live d ≡ is_at root y.present
-    by (Birth b region) None here is e = let made = so (may_be_born p x b region) (born b region) y e in ap (λ (z : RootPlace). is_at root z.present) made.1
-    by (Set offset bytes) (Some q) here is e = let made = so (nat_le (offset + length bytes) (length q.bytes)) (with_bytes x q (laid_over q.bytes offset bytes)) y e in is ∙ ap (λ (z : RootPlace). is_at root z.present) made.1
-    by (Get offset bytes) (Some q) here is e = let made = so (nat_le (offset + length bytes) (length q.bytes) && same_bytes bytes (bytes_at q.bytes offset (length bytes))) x y e in is ∙ ap (is_at root) (sym here) ∙ ap (λ (z : RootPlace). is_at root z.present) made.1
-    by Touch (Some q) here is e = let same : x ≡ y = cc e in is ∙ ap (is_at root) (sym here) ∙ ap (λ (z : RootPlace). is_at root z.present) same
-    by (End r) (Some q) here is e = let made = so (same_root r q.root) (record x { present = None }) y e in ap (λ (z : RootPlace). is_at root z.present) made.1
+    by : (d : Did) (o : Option Present) → x.present ≡ o → live ≡ is_at root o → place_step_by p x o d ≡ Some y
+        → live_next root live d ≡ is_at root y.present
+    by (Birth b region) None here is e =
+        let made = so (may_be_born p x b region) (born b region) y e in
+        ap (λ (z : RootPlace). is_at root z.present) made.1
+    by (Set offset bytes) (Some q) here is e =
+        let made = so (nat_le (offset + length bytes) (length q.bytes))
+        (with_bytes x q (laid_over q.bytes offset bytes)) y e in
+        is ∙ ap (λ (z : RootPlace). is_at root z.present) made.1
+    by (Get offset bytes) (Some q) here is e =
+        let made = so (nat_le (offset + length bytes) (length q.bytes) && same_bytes bytes
+        (bytes_at q.bytes offset (length bytes))) x y e in
+        is ∙ ap (is_at root) (sym here) ∙ ap (λ (z : RootPlace). is_at root z.present) made.1
+    by Touch (Some q) here is e =
+        let same : x ≡ y = cc e in is ∙ ap (is_at root) (sym here) ∙ ap (λ (z : RootPlace). is_at root z.present) same
+    by (End r) (Some q) here is e =
+        let made = so (same_root r q.root) (record x { present = None }) y e in
+        ap (λ (z : RootPlace). is_at root z.present) made.1
     by d None here is e = absurd (cc e)
     by d (Some q) here is e = absurd (cc e)
 
-live_run : (p : ℕ) (root : RootId) (h : List Noted) (x y : RootPlace) (live : Bool) → live ≡ is_at root x.present → after (place_step p) x (noted_dids h) ≡ Some y → live_after root live (lane_dids h) ≡ is_at root y.present
+live_run : (p : ℕ) (root : RootId) (h : List Noted) (x y : RootPlace) (live : Bool) → live ≡ is_at root x.present
+    → after (place_step p) x (noted_dids h) ≡ Some y → live_after root live (lane_dids h) ≡ is_at root y.present
 live_run p root [] x y live is e = let same : x ≡ y = cc e in is ∙ ap (λ (z : RootPlace). is_at root z.present) same
-live_run p root (n ∷ h) x y live is e = go (place_step p x n.did) refl e (λ z. live_run p root h z y (live_next root live n.did))
+live_run p root (n ∷ h) x y live is e =
+    go (place_step p x n.did) refl e (λ z. live_run p root h z y (live_next root live n.did))
   where
-    go : (o : Option RootPlace) → place_step p x n.did ≡ o → option_and_then (λ t. after (place_step p) t (noted_dids h)) o ≡ Some y →
-        ((z : RootPlace) → live_next root live n.did ≡ is_at root z.present → after (place_step p) z (noted_dids h) ≡ Some y → live_after root (live_next root live n.did) (lane_dids h) ≡ is_at root y.present) →
+    go : (o : Option RootPlace) → place_step p x n.did ≡ o
+        → option_and_then (λ t. after (place_step p) t (noted_dids h)) o ≡ Some y →
+        ((z : RootPlace) → live_next root live n.did ≡ is_at root z.present
+        → after (place_step p) z (noted_dids h) ≡ Some y
+        → live_after root (live_next root live n.did) (lane_dids h) ≡ is_at root y.present) →
         live_after root (live_next root live n.did) (lane_dids h) ≡ is_at root y.present
     go None step e rest = absurd (cc e)
     go (Some z) step e rest = rest z (live_step p root x z live n.did is step) e
 
-lane_dids-push : (h : List Noted) (n : Noted) → lane_dids (h ++ n ∷ []) ≡ lane_dids h ++ (unwrap_or n.lane 0, n.did) ∷ []
+lane_dids-push : (h : List Noted) (n : Noted) → lane_dids (h ++ n ∷ [])
+    ≡ lane_dids h ++ (unwrap_or n.lane 0, n.did) ∷ []
 lane_dids-push h n = map-append (λ (m : Noted). (unwrap_or m.lane 0, m.did)) h (n ∷ [])
 
 -- an access more to the root that is present
-pub accesses_more : (p : ℕ) (root : RootId) (h : List Noted) (x : RootPlace) (n : Noted) (access : Access) → after (place_step p) new_place (noted_dids h) ≡ Some x → is_at root x.present ≡ true →
-    access_in true (unwrap_or n.lane 0) n.did ≡ access ∷ [] → accesses root false (lane_dids (h ++ n ∷ [])) ≡ accesses root false (lane_dids h) ++ access ∷ []
+pub accesses_more : (p : ℕ) (root : RootId) (h : List Noted) (x : RootPlace) (n : Noted) (access : Access)
+    → after (place_step p) new_place (noted_dids h) ≡ Some x → is_at root x.present ≡ true →
+    access_in true (unwrap_or n.lane 0) n.did ≡ access ∷ []
+    → accesses root false (lane_dids (h ++ n ∷ [])) ≡ accesses root false (lane_dids h) ++ access ∷ []
 accesses_more p root h x n access e here is =
     let lane : ℕ = unwrap_or n.lane 0 in
     let live : live_after root false (lane_dids h) ≡ true = live_run p root h new_place x false refl e ∙ here in
@@ -123,7 +149,9 @@ accesses_more p root h x n access e here is =
 -- ---- Births.
 
 other_root : (a b : RootId) → a.generation ≢ b.generation → same_root a b ≡ false
-other_root a b ne = ap (λ (t : Bool). (a.place == b.place) && (t && (a.capacity == b.capacity))) (ne_eqb a.generation b.generation ne) ∙ both (a.place == b.place)
+other_root a b ne =
+    ap (λ (t : Bool). (a.place == b.place) && (t && (a.capacity == b.capacity))) (ne_eqb a.generation b.generation ne)
+    ∙ both (a.place == b.place)
   where
     both : (t : Bool) → (t && false) ≡ false
     both true = refl
@@ -135,30 +163,58 @@ no_access lane (Get offset bytes) = refl
 no_access lane Touch = refl
 no_access lane d = refl
 
-older_step : (p : ℕ) (x y : RootPlace) (d : Did) → place_step p x d ≡ Some y → (x.generation ≤ y.generation) × ((root : RootId) → y.generation < root.generation → live_next root false d ≡ false)
+older_step : (p : ℕ) (x y : RootPlace) (d : Did) → place_step p x d ≡ Some y
+    → (x.generation ≤ y.generation)
+    × ((root : RootId) → y.generation < root.generation → live_next root false d ≡ false)
 older_step p x y d e = by d x.present e
   where
-    by : (d : Did) (o : Option Present) → place_step_by p x o d ≡ Some y → (x.generation ≤ y.generation) × ((root : RootId) → y.generation < root.generation → live_next root false d ≡ false)
+    by : (d : Did) (o : Option Present) → place_step_by p x o d ≡ Some y
+        → (x.generation ≤ y.generation)
+        × ((root : RootId) → y.generation < root.generation → live_next root false d ≡ false)
     by (Birth b region) None e =
         let made = so (may_be_born p x b region) (born b region) y e in
-        let next : b.generation ≡ x.generation + 1 = eqb-true b.generation (x.generation + 1) (and-first (b.generation == x.generation + 1) (nat_le b.capacity region.place.len) (and-second (b.place == p) ((b.generation == x.generation + 1) && nat_le b.capacity region.place.len) made.0)) in
+        let next : b.generation ≡ x.generation + 1 =
+        eqb-true b.generation (x.generation + 1)
+        (and-first (b.generation == x.generation + 1) (nat_le b.capacity region.place.len)
+        (and-second (b.place == p) ((b.generation == x.generation + 1) && nat_le b.capacity
+        region.place.len) made.0)) in
         let same : b.generation ≡ y.generation = ap (λ (z : RootPlace). z.generation) made.1 in
         (omega (arith, next, same), λ root lt. other_root b root (λ eq. omega (arith, eq, same, lt)))
-    by (Set offset bytes) (Some q) e = let made = so (nat_le (offset + length bytes) (length q.bytes)) (with_bytes x q (laid_over q.bytes offset bytes)) y e in let same : x.generation ≡ y.generation = ap (λ (z : RootPlace). z.generation) made.1 in (omega (arith, same), λ root lt. refl)
-    by (Get offset bytes) (Some q) e = let made = so (nat_le (offset + length bytes) (length q.bytes) && same_bytes bytes (bytes_at q.bytes offset (length bytes))) x y e in let same : x.generation ≡ y.generation = ap (λ (z : RootPlace). z.generation) made.1 in (omega (arith, same), λ root lt. refl)
-    by Touch (Some q) e = let is : x ≡ y = cc e in let same : x.generation ≡ y.generation = ap (λ (z : RootPlace). z.generation) is in (omega (arith, same), λ root lt. refl)
-    by (End r) (Some q) e = let made = so (same_root r q.root) (record x { present = None }) y e in let same : x.generation ≡ y.generation = ap (λ (z : RootPlace). z.generation) made.1 in (omega (arith, same), λ root lt. refl)
+    by (Set offset bytes) (Some q) e =
+        let made = so (nat_le (offset + length bytes) (length q.bytes))
+        (with_bytes x q (laid_over q.bytes offset bytes)) y e in let same : x.generation
+        ≡ y.generation = ap (λ (z : RootPlace). z.generation) made.1 in
+        (omega (arith, same), λ root lt. refl)
+    by (Get offset bytes) (Some q) e =
+        let made = so (nat_le (offset + length bytes) (length q.bytes) && same_bytes bytes
+        (bytes_at q.bytes offset (length bytes))) x y e in let same : x.generation
+        ≡ y.generation = ap (λ (z : RootPlace). z.generation) made.1 in
+        (omega (arith, same), λ root lt. refl)
+    by Touch (Some q) e =
+        let is : x ≡ y = cc e in let same : x.generation ≡ y.generation = ap (λ (z : RootPlace). z.generation) is in
+        (omega (arith, same), λ root lt. refl)
+    by (End r) (Some q) e =
+        let made = so (same_root r q.root) (record x { present = None }) y e in let same : x.generation
+        ≡ y.generation = ap (λ (z : RootPlace). z.generation) made.1 in
+        (omega (arith, same), λ root lt. refl)
     by d None e = absurd (cc e)
     by d (Some q) e = absurd (cc e)
 
 older_run : (p : ℕ) (h : List Noted) (x y : RootPlace) → after (place_step p) x (noted_dids h) ≡ Some y →
-    (x.generation ≤ y.generation) × ((root : RootId) → y.generation < root.generation → accesses root false (lane_dids h) ≡ [])
-older_run p [] x y e = let is : x ≡ y = cc e in let same : x.generation ≡ y.generation = ap (λ (z : RootPlace). z.generation) is in (omega (arith, same), λ root lt. refl)
+    (x.generation ≤ y.generation) × ((root : RootId) → y.generation < root.generation
+    → accesses root false (lane_dids h) ≡ [])
+older_run p [] x y e =
+    let is : x ≡ y = cc e in let same : x.generation ≡ y.generation = ap (λ (z : RootPlace). z.generation) is in
+    (omega (arith, same), λ root lt. refl)
 older_run p (n ∷ h) x y e = go (place_step p x n.did) refl e (λ z. older_run p h z y)
   where
-    go : (o : Option RootPlace) → place_step p x n.did ≡ o → option_and_then (λ t. after (place_step p) t (noted_dids h)) o ≡ Some y →
-        ((z : RootPlace) → after (place_step p) z (noted_dids h) ≡ Some y → (z.generation ≤ y.generation) × ((root : RootId) → y.generation < root.generation → accesses root false (lane_dids h) ≡ [])) →
-        (x.generation ≤ y.generation) × ((root : RootId) → y.generation < root.generation → accesses root false (lane_dids (n ∷ h)) ≡ [])
+    go : (o : Option RootPlace) → place_step p x n.did ≡ o
+        → option_and_then (λ t. after (place_step p) t (noted_dids h)) o ≡ Some y →
+        ((z : RootPlace) → after (place_step p) z (noted_dids h) ≡ Some y
+        → (z.generation ≤ y.generation)
+        × ((root : RootId) → y.generation < root.generation → accesses root false (lane_dids h) ≡ [])) →
+        (x.generation ≤ y.generation) × ((root : RootId) → y.generation < root.generation
+        → accesses root false (lane_dids (n ∷ h)) ≡ [])
     go None step e more = absurd (cc e)
     go (Some z) step e more =
         let one = older_step p x z n.did step in let rest = more z e in let lane : ℕ = unwrap_or n.lane 0 in (
@@ -169,7 +225,8 @@ older_run p (n ∷ h) x y e = go (place_step p x n.did) refl e (λ z. older_run 
         )
 
 -- a root that is born has had no access
-pub unborn : (p : ℕ) (root : RootId) (region : RegionId) (h : List Noted) (x : RootPlace) (n : Noted) → after (place_step p) new_place (noted_dids h) ≡ Some x → x.generation < root.generation →
+pub unborn : (p : ℕ) (root : RootId) (region : RegionId) (h : List Noted) (x : RootPlace) (n : Noted)
+    → after (place_step p) new_place (noted_dids h) ≡ Some x → x.generation < root.generation →
     n.did ≡ Birth root region → accesses root false (lane_dids (h ++ n ∷ [])) ≡ []
 unborn p root region h x n e lt is =
     let lane : ℕ = unwrap_or n.lane 0 in
@@ -184,10 +241,12 @@ unborn p root region h x n e lt is =
 -- ---- Watches.
 
 -- an access leaves the watch
-pub watch_same : (w : Option Watch) (h : List Noted) (n : Noted) (access : Access) → access_in true (unwrap_or n.lane 0) n.did ≡ access ∷ [] → watch_after w (h ++ n ∷ []) ≡ watch_after w h
+pub watch_same : (w : Option Watch) (h : List Noted) (n : Noted) (access : Access)
+    → access_in true (unwrap_or n.lane 0) n.did ≡ access ∷ [] → watch_after w (h ++ n ∷ []) ≡ watch_after w h
 watch_same w [] n access is = by n.did n.lane n.watch n.root n.region is
   where
-    by : (d : Did) (lane : Option ℕ) (watch : Option Watch) (root : Option RootId) (region : Option RegionId) → access_in true (unwrap_or lane 0) d ≡ access ∷ [] →
+    by : (d : Did) (lane : Option ℕ) (watch : Option Watch) (root : Option RootId) (region : Option RegionId)
+        → access_in true (unwrap_or lane 0) d ≡ access ∷ [] →
         watch_after w (record { did = d; lane = lane; watch = watch; root = root; region = region } ∷ []) ≡ w
     by (Set offset bytes) lane watch root region is = refl
     by (Get offset bytes) lane watch root region is = refl
@@ -196,6 +255,7 @@ watch_same w [] n access is = by n.did n.lane n.watch n.root n.region is
 watch_same w (m ∷ h) n access is = watch_same _ h n access is
 
 -- a birth gives the watch
-pub watch_born : (w : Option Watch) (h : List Noted) (n : Noted) (root : RootId) (region : RegionId) → n.did ≡ Birth root region → watch_after w (h ++ n ∷ []) ≡ n.watch
+pub watch_born : (w : Option Watch) (h : List Noted) (n : Noted) (root : RootId) (region : RegionId)
+    → n.did ≡ Birth root region → watch_after w (h ++ n ∷ []) ≡ n.watch
 watch_born w [] n root region is = λ i. watch_after w (record n { did = is i } ∷ [])
 watch_born w (m ∷ h) n root region is = watch_born _ h n root region is

@@ -22,7 +22,8 @@ find-among test (r ∷ runs) x e = by (test r) (find-among test runs x) e
     by true rest e = inl (cc e)
     by false rest e = inr (rest e)
 
-pub chosen-among : (g : Geometry) (pages : ℕ) (runs : List Span) (x : Span) → chosen g pages runs ≡ Some x → IsAmong x runs
+pub chosen-among : (g : Geometry) (pages : ℕ) (runs : List Span) (x : Span) → chosen g pages runs ≡ Some x
+    → IsAmong x runs
 chosen-among g pages runs x e =
     find-among (λ run. nat_le pages run.1 && (page_class_under g run.1 == least_class g pages runs)) runs x e
 
@@ -56,7 +57,8 @@ lowest-from a (n ∷ ns) some h = by (lower-one a n some) (λ b pos. lowest-from
     by (inl e) rest =
         subst (λ (b : ℕ). (fold lower b ns ≡ a) ⊎ IsIn (fold lower b ns) (n ∷ ns)) (sym e) (keep (rest a some))
       where
-        keep : (fold lower a ns ≡ a) ⊎ IsIn (fold lower a ns) ns → (fold lower a ns ≡ a) ⊎ IsIn (fold lower a ns) (n ∷ ns)
+        keep : (fold lower a ns ≡ a) ⊎ IsIn (fold lower a ns) ns
+            → (fold lower a ns ≡ a) ⊎ IsIn (fold lower a ns) (n ∷ ns)
         keep (inl same) = inl same
         keep (inr is) = inr (inr is)
     by (inr e) rest =
@@ -90,7 +92,12 @@ class_under-some g h n some =
   where
     go : (classes : List ℕ) → page_classes g ≡ classes → 0 < greatest_at_most n classes
     go [] e =
-        absurd (omega (arith, ap length (sym e ∙ page_classes_counted g h), length-counts (page_class_count g.order), h.least))
+        absurd (omega (
+          arith,
+          ap length (sym e ∙ page_classes_counted g h),
+          length-counts (page_class_count g.order),
+          h.least,
+        ))
     go (first ∷ classes) e =
         let one : first ≡ 1 =
         ap (λ (xs : List ℕ). get_or xs 0 0) (sym e ∙ page_classes_counted g h)
@@ -123,13 +130,16 @@ found-under g pages class (r ∷ runs) is e = by (nat_le pages r.1) (found-under
     by : (b : Bool) →
         (IsIn class (map (λ run. page_class_under g run.1) (long_enough pages runs)) →
         find (λ run. nat_le pages run.1 && (page_class_under g run.1 == class)) runs ≡ None → ⊥) →
-        IsIn class (map (λ run. page_class_under g run.1) (if b then r ∷ long_enough pages runs else long_enough pages runs)) →
-        (if b && (page_class_under g r.1 == class) then Some r else find (λ run. nat_le pages run.1 && (page_class_under g run.1 == class)) runs) ≡ None →
+        IsIn class (map (λ run. page_class_under g run.1)
+        (if b then r ∷ long_enough pages runs else long_enough pages runs)) →
+        (if b && (page_class_under g r.1 == class) then Some r else find
+        (λ run. nat_le pages run.1 && (page_class_under g run.1 == class)) runs) ≡ None →
         ⊥
     by true rest (inl same) e = let here = eq-eqb (page_class_under g r.1) class same in cc (rw here at e)
     by true rest (inr is) e = more (page_class_under g r.1 == class) e
       where
-        more : (b : Bool) → (if b then Some r else find (λ run. nat_le pages run.1 && (page_class_under g run.1 == class)) runs) ≡ None → ⊥
+        more : (b : Bool) → (if b then Some r else find
+            (λ run. nat_le pages run.1 && (page_class_under g run.1 == class)) runs) ≡ None → ⊥
         more true e = cc e
         more false e = rest is e
     by false rest is e = rest is e
@@ -152,7 +162,8 @@ chosen-none g h pages some runs e = all-of (λ r. r.1 < pages) runs (go (long_en
             by (inr holds) rest = absurd (cc (rw (le-leb pages r.1 holds) at e))
     go (r ∷ rest) there =
         let N : List Span → Type 0 = λ l. EachPair (λ n. 0 < n) (map (λ run. page_class_under g run.1) l) in
-        let F : List Span → Type 0 = λ l. IsIn (fold lower 0 (map (λ run. page_class_under g run.1) l)) (map (λ run. page_class_under g run.1) l) in
+        let F : List Span → Type 0 = λ l. IsIn (fold lower 0 (map (λ run. page_class_under g run.1) l))
+        (map (λ run. page_class_under g run.1) l) in
         let positive = subst N there (classes-some g h pages some runs) in
         let least : F (long_enough pages runs) =
         subst F (sym there)

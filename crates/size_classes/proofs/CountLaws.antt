@@ -36,7 +36,8 @@ pub doubling-least : (n t : ℕ) → 4 ≤ n → n < 2 * 2 ^ t → 2 ≤ t
 doubling-least n t more less = go (cases_lt t 2)
   where
     go : (t < 2) ⊎ (2 ≤ t) → 2 ≤ t
-    go (inl few) = absurd (omega (arith, pow-le-pow_right {n = 2} (lit< tt) {i = t} {j = 1} (omega (arith, few)), more, less))
+    go (inl few) =
+        absurd (omega (arith, pow-le-pow_right {n = 2} (lit< tt) {i = t} {j = 1} (omega (arith, few)), more, less))
     go (inr fine) = fine
 
 -- the four of a doubling, by their quarters

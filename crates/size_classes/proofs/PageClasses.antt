@@ -41,7 +41,7 @@ page_class_up-is g h pages k fits few first =
 -- ---- down
 
 -- the last class that pages of a chunk hold is one of the chunk's
-last-there : (order pages k : ℕ) → 3 ≤ order → order ≤ 11 → pages ≤ 2 ^ order → k ≤ 256 → IsLastAtMost pages k →
+pub last-there : (order pages k : ℕ) → 3 ≤ order → order ≤ 11 → pages ≤ 2 ^ order → k ≤ 256 → IsLastAtMost pages k →
     k < 4 * order - 4
 last-there order pages k least most fits few last = go (cases_lt k (4 * order - 4))
   where
@@ -97,7 +97,8 @@ few-are-classes g h pages some few =
     let n = page_class_count g.order in
     let same : page_count_at (pages - 1) ≡ pages =
     eqb-true (page_count_at (pages - 1)) (pages + (1 - pages))
-    (agree_below_at (λ p. page_count_at (p - 1) == p + (1 - p)) (λ _. true) 8 pages refl (omega (arith, few))) ∙ omega (arith, some) in
+    (agree_below_at (λ p. page_count_at (p - 1) == p + (1 - p)) (λ _. true) 8 pages refl (omega (arith, few)))
+    ∙ omega (arith, some) in
     let there : pages - 1 < n = omega (arith, some, few, h.least) in
     subst (λ (xs : List ℕ). Contains xs pages) (sym (page_classes_counted g h))
     (pages - 1, omega (arith, there, length-counts n), counts-at n (pages - 1) pages there ∙ same)

@@ -295,7 +295,8 @@ free_runs-free [] from = tt
 free_runs-free (Free n ∷ rs) from = (
   (0, omega arith, inl (refl, refl)),
   EachPair-map (IsFree (from + n) rs) (IsFree from (Free n ∷ rs))
-      (λ x h. (n + h.0, omega (arith, h.1), inr (h.0, refl, h.2))) (free_runs (from + n) rs) (free_runs-free rs (from + n)),
+      (λ x h. (n + h.0, omega (arith, h.1), inr (h.0, refl, h.2))) (free_runs (from + n) rs)
+      (free_runs-free rs (from + n)),
 )
 free_runs-free (Used n w ∷ rs) from =
     EachPair-map (IsFree (from + n) rs) (IsFree from (Used n w ∷ rs))

@@ -13,7 +13,8 @@ use mathlib.Core.Logic.{inl, inr}
 -- the first classes are small
 pub small_at : (g : Geometry) → IsPage g.page → (class : ℕ) → class < small_count g → is_small g class ≡ true
 small_at g h =
-    by_page (λ page. (class : ℕ) → class < small_count (of_pages g.order page) → is_small (of_pages g.order page) class ≡ true)
+    by_page (λ page. (class : ℕ) → class < small_count (of_pages g.order page)
+    → is_small (of_pages g.order page) class ≡ true)
     (λ class few. agree_below_at (λ class. nat_lt (size_at class) (4 * 4096)) (λ _. true) 35 class refl few)
     (λ class few. agree_below_at (λ class. nat_lt (size_at class) (4 * 8192)) (λ _. true) 39 class refl few)
     (λ class few. agree_below_at (λ class. nat_lt (size_at class) (4 * 16384)) (λ _. true) 43 class refl few)
@@ -65,7 +66,8 @@ normal_from s class least more = go (cases_eq class (4 * s - 13))
     go : (class ≡ 4 * s - 13) ⊎ (class ≡ 4 * s - 13 → ⊥) → 4 * 2 ^ s ≤ size_at class
     go (inl e) = omega (arith, four_pages s class least e)
     go (inr ne) =
-        let base = pow-le-pow_right {n = 2} (lit< tt) {i = 2 + s} {j = 6 + (class - 4) / 4} (omega (arith, least, more, ne)) in
+        let base = pow-le-pow_right {n = 2} (lit< tt) {i = 2 + s} {j = 6 + (class - 4) / 4}
+        (omega (arith, least, more, ne)) in
         rw (le-ltb class 4 (omega (arith, least, more))) (omega (arith, base, pow-add 2 2 s))
 
 -- so the small ones are those first ones
@@ -104,7 +106,8 @@ pub page-some : (g : Geometry) → IsPage g.page → 0 < g.page
 page-some g h = let shift = page_shift-is g.page h in omega (arith, shift.power, pow_pos (page_shift g.page))
 
 -- so many pages rounded up are as many
-pages_of-is : (g : Geometry) → IsPage g.page → (class pages : ℕ) → size_at class ≡ pages * g.page → pages_of g class ≡ pages
+pages_of-is : (g : Geometry) → IsPage g.page → (class pages : ℕ) → size_at class ≡ pages * g.page
+    → pages_of g class ≡ pages
 pages_of-is g h class pages e =
     ap (λ (n : ℕ). (n + (g.page - 1)) / g.page) e
     ∙ div-mul-add pages g.page (g.page - 1) (omega (arith, page-some g h))

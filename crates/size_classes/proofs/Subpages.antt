@@ -36,11 +36,16 @@ subpage_pages-reckoned g h class small =
 few_below : (page : ℕ) → IsPage page → (class : ℕ) → class < 4 * page_shift page - 13 →
     nat_lt (subpage_pages (of_pages 9 page) class) 8 ≡ true
 few_below =
-    by_page (λ page. (class : ℕ) → class < 4 * page_shift page - 13 → nat_lt (subpage_pages (of_pages 9 page) class) 8 ≡ true)
-    (λ class few. agree_below_at (λ class. nat_lt (subpage_pages (of_pages 9 4096) class) 8) (λ _. true) 35 class refl few)
-    (λ class few. agree_below_at (λ class. nat_lt (subpage_pages (of_pages 9 8192) class) 8) (λ _. true) 39 class refl few)
-    (λ class few. agree_below_at (λ class. nat_lt (subpage_pages (of_pages 9 16384) class) 8) (λ _. true) 43 class refl few)
-    (λ class few. agree_below_at (λ class. nat_lt (subpage_pages (of_pages 9 32768) class) 8) (λ _. true) 47 class refl few)
+    by_page (λ page. (class : ℕ) → class < 4 * page_shift page - 13
+    → nat_lt (subpage_pages (of_pages 9 page) class) 8 ≡ true)
+    (λ class few. agree_below_at (λ class. nat_lt (subpage_pages (of_pages 9 4096) class) 8) (λ _. true) 35 class refl
+    few)
+    (λ class few. agree_below_at (λ class. nat_lt (subpage_pages (of_pages 9 8192) class) 8) (λ _. true) 39 class refl
+    few)
+    (λ class few. agree_below_at (λ class. nat_lt (subpage_pages (of_pages 9 16384) class) 8) (λ _. true) 43 class refl
+    few)
+    (λ class few. agree_below_at (λ class. nat_lt (subpage_pages (of_pages 9 32768) class) 8) (λ _. true) 47 class refl
+    few)
 
 -- and of any class at least one
 pub subpage_pages-least : (g : Geometry) (class : ℕ) → 1 ≤ subpage_pages g class

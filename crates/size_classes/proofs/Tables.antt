@@ -28,7 +28,8 @@ last_page_count =
     refl refl refl refl refl refl refl refl refl
 
 -- and one more would be past it
-pub page_counts-past : (order : ℕ) → 3 ≤ order → order ≤ 11 → page_count_at (4 * order - 5) < page_count_at (4 * order - 4)
+pub page_counts-past : (order : ℕ) → 3 ≤ order → order ≤ 11
+    → page_count_at (4 * order - 5) < page_count_at (4 * order - 4)
 page_counts-past =
     by_order (λ order. page_count_at (4 * order - 5) < page_count_at (4 * order - 4))
     (lit< tt) (lit< tt) (lit< tt) (lit< tt) (lit< tt) (lit< tt) (lit< tt) (lit< tt) (lit< tt)

@@ -4,8 +4,8 @@
 ghost use Rattle.std.specs.Prelude.{◌≡◌, ◌<◌};
 ghost use Rattle.size_classes.specs.PageCounts.{IsFirstAtLeast, IsLastAtMost};
 
-// The place of the last that is at most `n`.
-pub(crate) fn last_at_most(n: u32) -> u32
+/// The place of the last of them that is at most `n`: the greatest page class of at most `n` pages.
+pub fn last_at_most(n: u32) -> u32
     requires { 0 < n }
     ensures last { IsLastAtMost n result }
     ensures few { result < 124 }

@@ -7,6 +7,7 @@ mod classes;
 mod counts;
 
 pub use classes::SizeClasses;
+pub use counts::last_at_most;
 
 /// The bytes of a page where none are asked for: the default of Netty's `PooledByteBufAllocator`.
 pub const DEFAULT_PAGE: u32 = 8192;

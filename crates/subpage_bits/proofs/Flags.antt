@@ -25,7 +25,8 @@ flags_out i [] = refl
 flags_out zero (c ∷ cs) = refl
 flags_out (suc i) (c ∷ cs) = ap (λ (l : List Bool). cell_out c ∷ l) (flags_out i cs)
 
-pub flags_in : (i : ℕ) (b : List ℕ) (cs : List Cell) → slice_set (map cell_out cs) i false ≡ map cell_out (with_cell i (Some b) cs)
+pub flags_in : (i : ℕ) (b : List ℕ) (cs : List Cell)
+    → slice_set (map cell_out cs) i false ≡ map cell_out (with_cell i (Some b) cs)
 flags_in i b [] = refl
 flags_in zero b (c ∷ cs) = refl
 flags_in (suc i) b (c ∷ cs) = ap (λ (l : List Bool). cell_out c ∷ l) (flags_in i b cs)
@@ -64,7 +65,8 @@ length-flags [] = refl
 length-flags (c ∷ cs) = ap suc (length-flags cs)
 
 -- what is handed out next is in
-pub next_in : (o : Option ℕ) (i : ℕ) (cs : List Cell) → RemembersIn o cs → next_element (record { out = map cell_out cs; remembered = o }) ≡ Some i → IsIn i cs
+pub next_in : (o : Option ℕ) (i : ℕ) (cs : List Cell) → RemembersIn o cs
+    → next_element (record { out = map cell_out cs; remembered = o }) ≡ Some i → IsIn i cs
 next_in (Some last) i cs h e = let P : ℕ → Type 0 = λ k. IsIn k cs in let same : last ≡ i = cc e in subst P same h
 next_in None i cs h e =
     let found = position-Some not (map cell_out cs) i true e in
@@ -99,7 +101,8 @@ out_past (false ∷ out) h = absurd (omega (arith, h))
 none_free : (out : List Bool) → position not out ≡ None → list_all (λ o. o) out ≡ true
 none_free out e = by (nat_lt (position_or_len not out) (length out)) refl e
   where
-    by : (b : Bool) → nat_lt (position_or_len not out) (length out) ≡ b → (if b then Some (position_or_len not out) else None) ≡ None → list_all (λ o. o) out ≡ true
+    by : (b : Bool) → nat_lt (position_or_len not out) (length out) ≡ b
+        → (if b then Some (position_or_len not out) else None) ≡ None → list_all (λ o. o) out ≡ true
     by true is e = absurd (cc e)
     by false is e = out_past out (ltb-false (position_or_len not out) (length out) is)
 
@@ -111,12 +114,14 @@ not_all_out zero (Some b ∷ cs) h = refl
 not_all_out (suc i) (None ∷ cs) h = not_all_out i cs h
 not_all_out (suc i) (Some b ∷ cs) h = refl
 
-pub none_next : (o : Option ℕ) (cs : List Cell) → next_element (record { out = map cell_out cs; remembered = o }) ≡ None →
+pub none_next : (o : Option ℕ) (cs : List Cell) → next_element (record { out = map cell_out cs; remembered = o }) ≡ None
+    →
     is_full (record { out = map cell_out cs; remembered = o }) ≡ true
 none_next (Some last) cs e = absurd (cc e)
 none_next None cs e = none_free (map cell_out cs) e
 
-pub some_next : (o : Option ℕ) (i : ℕ) (cs : List Cell) → RemembersIn o cs → next_element (record { out = map cell_out cs; remembered = o }) ≡ Some i →
+pub some_next : (o : Option ℕ) (i : ℕ) (cs : List Cell) → RemembersIn o cs
+    → next_element (record { out = map cell_out cs; remembered = o }) ≡ Some i →
     is_full (record { out = map cell_out cs; remembered = o }) ≡ false
 some_next o i cs h e = not_all_out i cs (next_in o i cs h e)
 
@@ -137,7 +142,8 @@ outs-taken (suc i) (None ∷ cs) h = ap (λ (n : ℕ). n + 1) (outs-taken i cs h
 outs-taken (suc i) (Some b ∷ cs) h = outs-taken i cs h
 
 -- and one less once one is back
-pub outs-given : (i : ℕ) (b : List ℕ) (cs : List Cell) → HasCell i None cs → outs (with_cell i (Some b) cs) + 1 ≡ outs cs
+pub outs-given : (i : ℕ) (b : List ℕ) (cs : List Cell) → HasCell i None cs
+    → outs (with_cell i (Some b) cs) + 1 ≡ outs cs
 outs-given i b [] h = absurd h
 outs-given zero b (None ∷ cs) h = refl
 outs-given zero b (Some d ∷ cs) h = absurd (cc h)
@@ -205,7 +211,8 @@ AreBits-changed old new flags i b bits change there j less =
     by : j < length flags → (j ≡ i) ⊎ (j ≡ i → ⊥) → bit_of new j ≡ bit (get_or (slice_set flags i b) j false)
     by within (inl same) =
         ap (bit_of new) same ∙ change.changed
-        ∙ ap bit (sym (ap (λ (k : ℕ). get_or (slice_set flags i b) k false) same ∙ get_or-set_same flags i b false there))
+        ∙ ap bit (sym (ap (λ (k : ℕ). get_or (slice_set flags i b) k false) same
+        ∙ get_or-set_same flags i b false there))
     by within (inr differ) =
         change.others j differ ∙ bits j within ∙ ap bit (sym (get_or-set_other flags i j b false differ))
 
@@ -249,7 +256,8 @@ chosen-lowest (Some i) words cs bits some few lowest = by (cases_lt i (length cs
     by (inr past) = absurd (some (out-by-bits words cs bits (λ j less. lowest.below j (omega (arith, less, past)))))
 
 -- where all are out, none is in
-all-true : (flags : List Bool) → list_all (λ o. o) flags ≡ true → (j : ℕ) → j < length flags → get_or flags j false ≡ true
+all-true : (flags : List Bool) → list_all (λ o. o) flags ≡ true → (j : ℕ) → j < length flags
+    → get_or flags j false ≡ true
 all-true [] h j less = absurd (omega (arith, less))
 all-true (true ∷ flags) h zero less = refl
 all-true (true ∷ flags) h (suc j) less = all-true flags h j (omega (arith, less))

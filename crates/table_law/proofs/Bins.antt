@@ -52,20 +52,25 @@ none_here : (x p : ℕ) → x ≢ p → cond {A = ℕ} (eqb x p) 1 0 ≡ 0
 none_here x p ne = ap (λ (b : Bool). cond {A = ℕ} b 1 0) (ne_eqb x p ne)
 
 -- one step moves a place out of the bin or into it
-step_keeps : (s : Shape) (l p : ℕ) (q m : List ℕ) (d : Did) → IsBinStep s l q d m → times p q + did_home p d ≡ did_handle p d + times p m
+step_keeps : (s : Shape) (l p : ℕ) (q m : List ℕ) (d : Did) → IsBinStep s l q d m
+    → times p q + did_home p d ≡ did_handle p d + times p m
 step_keeps s l p q m (Handle x) t = let a = ap (times p) t.1 in let b = times_cons p x m in omega (arith, a, b)
-step_keeps s l p q m NoHandle t = let a = ap (times p) t.0 in let b = ap (times p) t.1 in let z : times p [] ≡ 0 = refl in omega (arith, a, b, z)
+step_keeps s l p q m NoHandle t =
+    let a = ap (times p) t.0 in let b = ap (times p) t.1 in let z : times p [] ≡ 0 = refl in omega (arith, a, b, z)
 step_keeps s l p q m (Home x) t = let a = ap (times p) t.1 in let b = times_push p x q in omega (arith, a, b)
 step_keeps s l p q m d t = absurd t
 
 runs_keep : (s : Shape) (l p : ℕ) (h : List Noted) (m : List ℕ) → IsHistory s (Bin l) h → IsBinAfter s l h m →
-    times p (new_bin l s.handles) + sum_by (λ (n : Noted). did_home p n.did) h ≡ sum_by (λ (n : Noted). did_handle p n.did) h + times p m
+    times p (new_bin l s.handles) + sum_by (λ (n : Noted). did_home p n.did) h
+    ≡ sum_by (λ (n : Noted). did_handle p n.did) h + times p m
 runs_keep s l p h m t e =
-    balance (bin_note s l) (times p) (λ n. did_home p n.did) (λ n. did_handle p n.did) (λ x y n step. step_keeps s l p x y n.did step)
+    balance (bin_note s l) (times p) (λ n. did_home p n.did) (λ n. did_handle p n.did)
+    (λ x y n step. step_keeps s l p x y n.did step)
     h (new_bin l s.handles) m (bin_runs s l h m t e)
 
 -- a new bin with one place more
-bin_push : (p base n : ℕ) → times p (bin_of base (suc n)) ≡ times p (bin_of base n) + cond {A = ℕ} (eqb (base + n) p) 1 0
+bin_push : (p base n : ℕ) → times p (bin_of base (suc n))
+    ≡ times p (bin_of base n) + cond {A = ℕ} (eqb (base + n) p) 1 0
 bin_push p base n = ap (times p) (mapped-push (λ k. base + k) (below n) n) ∙ times_push p (base + n) (bin_of base n)
 
 none_past : (p base n : ℕ) → base + n ≤ p → times p (bin_of base n) ≡ 0
@@ -86,7 +91,8 @@ once_in p base (suc n) le lt =
     let a = bin_push p base n in
     dite (ℕ_discrete (base + n) p)
     (λ e. let b = none_past p base n (omega (arith, e)) in let c = one_here (base + n) p e in omega (arith, a, b, c))
-    (λ ne. let b = once_in p base n le (omega (arith, lt, ne)) in let c = none_here (base + n) p ne in omega (arith, a, b, c))
+    (λ ne. let b = once_in p base n le (omega (arith, lt, ne)) in let c = none_here (base + n) p ne in
+    omega (arith, a, b, c))
 
 once : (p base n : ℕ) → times p (bin_of base n) ≤ 1
 once p base zero = omega arith
@@ -97,45 +103,63 @@ once p base (suc n) =
     (λ ne. let b = once p base n in let c = none_here (base + n) p ne in omega (arith, a, b, c))
 
 -- a place is taken out of its bin at most once more than it came home
-pub stock : (s : Shape) (l p : ℕ) (h : List Noted) → IsHistory s (Bin l) h → sum_by (λ (n : Noted). did_handle p n.did) h ≤ 1 + sum_by (λ (n : Noted). did_home p n.did) h
-stock s l p h t = let m = bin_there s l h t in let a = runs_keep s l p h m.0 t m.1 in let b = once p (l * s.handles) s.handles in omega (arith, a, b)
+pub stock : (s : Shape) (l p : ℕ) (h : List Noted) → IsHistory s (Bin l) h
+    → sum_by (λ (n : Noted). did_handle p n.did) h ≤ 1 + sum_by (λ (n : Noted). did_home p n.did) h
+stock s l p h t =
+    let m = bin_there s l h t in let a = runs_keep s l p h m.0 t m.1 in let b = once p (l * s.handles) s.handles in
+    omega (arith, a, b)
 
 -- a place of the lane is in its bin, or was taken out once more than it came home
-pub in_bin : (s : Shape) (l p : ℕ) (h : List Noted) (m : List ℕ) → IsHistory s (Bin l) h → IsBinAfter s l h m → 0 < s.handles → place_lane s p ≡ l →
-    count_by (λ (x : ℕ). eqb x p) m + sum_by (λ (n : Noted). did_handle p n.did) h ≡ 1 + sum_by (λ (n : Noted). did_home p n.did) h
+pub in_bin : (s : Shape) (l p : ℕ) (h : List Noted) (m : List ℕ) → IsHistory s (Bin l) h → IsBinAfter s l h m
+    → 0 < s.handles → place_lane s p ≡ l →
+    count_by (λ (x : ℕ). eqb x p) m + sum_by (λ (n : Noted). did_handle p n.did) h
+    ≡ 1 + sum_by (λ (n : Noted). did_home p n.did) h
 in_bin s l p h m t e pos lane =
     let k : ℕ = s.handles in let q : ℕ = p / k in let b : ℕ = l * k in
     let low : q * k ≤ p = (le-div_iff_mul-le {k = k} {x = q} {y = p} pos).0 (let g : q ≤ p / k = omega arith in g) in
     let low' : b ≤ p = subst (λ (x : ℕ). x * k ≤ p) lane low in
-    let high : p < suc l * k = (div-lt_iff_lt-mul {k = k} {x = p} {y = suc l} pos).0 (let e' : q ≡ l = lane in let g : p / k < suc l = omega (arith, e') in g) in
+    let high : p < suc l * k = (div-lt_iff_lt-mul {k = k} {x = p} {y = suc l} pos).0
+    (let e' : q ≡ l = lane in let g : p / k < suc l = omega (arith, e') in g) in
     let more = suc-mul l k in let c : ℕ = suc l * k in let more' : c ≡ b + k = more in let high' : p < c = high in
-    let one = once_in p b k low' (omega (arith, high', more')) in let a = runs_keep s l p h m t e in omega (arith, a, one)
+    let one = once_in p b k low' (omega (arith, high', more')) in let a = runs_keep s l p h m t e in
+    omega (arith, a, one)
 
-foreign_step : (s : Shape) (l p : ℕ) (q m : List ℕ) (d : Did) → IsBinStep s l q d m → place_lane s p ≢ l → times p q ≡ 0 → times p m ≡ 0
-foreign_step s l p q m (Handle x) t ne z = let a = ap (times p) t.1 in let b = times_cons p x m in omega (arith, a, b, z)
+foreign_step : (s : Shape) (l p : ℕ) (q m : List ℕ) (d : Did) → IsBinStep s l q d m → place_lane s p ≢ l → times p q ≡ 0
+    → times p m ≡ 0
+foreign_step s l p q m (Handle x) t ne z =
+    let a = ap (times p) t.1 in let b = times_cons p x m in omega (arith, a, b, z)
 foreign_step s l p q m NoHandle t ne z = ap (times p) t.1
 foreign_step s l p q m (Home x) t ne z =
-    let a = ap (times p) t.1 in let b = times_push p x q in let c = none_here x p (λ e. ne (sym (ap (place_lane s) e) ∙ t.0)) in omega (arith, a, b, c, z)
+    let a = ap (times p) t.1 in let b = times_push p x q in let c =
+    none_here x p (λ e. ne (sym (ap (place_lane s) e) ∙ t.0)) in
+    omega (arith, a, b, c, z)
 foreign_step s l p q m d t ne z = absurd t
 
 -- a place of another lane is never in this bin
-pub foreign : (s : Shape) (l p : ℕ) (h : List Noted) (m : List ℕ) → IsHistory s (Bin l) h → IsBinAfter s l h m → 0 < s.handles → place_lane s p ≢ l → count_by (λ (x : ℕ). eqb x p) m ≡ 0
+pub foreign : (s : Shape) (l p : ℕ) (h : List Noted) (m : List ℕ) → IsHistory s (Bin l) h → IsBinAfter s l h m
+    → 0 < s.handles → place_lane s p ≢ l → count_by (λ (x : ℕ). eqb x p) m ≡ 0
 foreign s l p h m t e pos ne =
     let k : ℕ = s.handles in let b : ℕ = l * k in
     let new : times p (bin_of b k) ≡ 0 = dite (dec_le b p)
     (λ le. dite (dec_le (b + k) p) (λ above. none_past p b k above)
     (λ under.
-    let lt : p < b + k = lt_of_not-le under in let more = suc-mul l k in let c : ℕ = suc l * k in let more' : c ≡ b + k = more in
+    let lt : p < b + k = lt_of_not-le under in let more = suc-mul l k in let c : ℕ = suc l * k in let more' : c
+    ≡ b + k = more in
     let q : ℕ = p / k in
-    let hi : q < suc l = (div-lt_iff_lt-mul {k = k} {x = p} {y = suc l} pos).1 (let g : p < c = omega (arith, lt, more') in g) in
-    let lo : l ≤ q = (le-div_iff_mul-le {k = k} {x = l} {y = p} pos).1 le in absurd (ne (let g : q ≡ l = omega (arith, hi, lo) in g))))
+    let hi : q < suc l = (div-lt_iff_lt-mul {k = k} {x = p} {y = suc l} pos).1
+    (let g : p < c = omega (arith, lt, more') in g) in
+    let lo : l ≤ q = (le-div_iff_mul-le {k = k} {x = l} {y = p} pos).1 le in
+    absurd (ne (let g : q ≡ l = omega (arith, hi, lo) in g))))
     (λ gt. none_before p b k (lt_of_not-le gt)) in
-    keeps (bin_note s l) (λ (q : List ℕ). times p q ≡ 0) (λ x y n step z. foreign_step s l p x y n.did step ne z) h (new_bin l s.handles) m (bin_runs s l h m t e) new
+    keeps (bin_note s l) (λ (q : List ℕ). times p q ≡ 0) (λ x y n step z. foreign_step s l p x y n.did step ne z) h
+    (new_bin l s.handles) m (bin_runs s l h m t e) new
 
 -- ---- Where handles stand.
 
-one_place : (s : Shape) (l p x : ℕ) → place_lane s x ≡ l → (cond {A = ℕ} (eqb x p) 1 0 ≡ 0) ⊎ (Bin l ≡ Bin (place_lane s p))
-one_place s l p x e = dite (ℕ_discrete x p) (λ same. inr (ap Bin (sym e ∙ ap (place_lane s) same))) (λ ne. inl (none_here x p ne))
+one_place : (s : Shape) (l p x : ℕ) → place_lane s x ≡ l
+    → (cond {A = ℕ} (eqb x p) 1 0 ≡ 0) ⊎ (Bin l ≡ Bin (place_lane s p))
+one_place s l p x e =
+    dite (ℕ_discrete x p) (λ same. inr (ap Bin (sym e ∙ ap (place_lane s) same))) (λ ne. inl (none_here x p ne))
 
 bin_placed : (s : Shape) (l : ℕ) (q m : List ℕ) (d : Did) → IsBinStep s l q d m → IsPlaced s (Bin l) d
 bin_placed s l q m (Handle x) t p = ⊎_elim (λ z. inl (omega (arith, z))) (λ e. inr e) (one_place s l p x t.0)
@@ -143,13 +167,15 @@ bin_placed s l q m NoHandle t p = inl refl
 bin_placed s l q m (Home x) t p = ⊎_elim (λ z. inl (omega (arith, z))) (λ e. inr e) (one_place s l p x t.0)
 bin_placed s l q m d t p = absurd t
 
-arena_placed : (s : Shape) (o : Object) (a : ℕ) (x y : ArenaState) (d : Did) → IsArenaStep a x d y → IsPlaced s o d × IsMailed o d
+arena_placed : (s : Shape) (o : Object) (a : ℕ) (x y : ArenaState) (d : Did) → IsArenaStep a x d y
+    → IsPlaced s o d × IsMailed o d
 arena_placed s o a x y (Take c r) t = (λ p. inl refl, λ p g. inl refl)
 arena_placed s o a x y (Full c) t = (λ p. inl refl, λ p g. inl refl)
 arena_placed s o a x y (Give r) t = (λ p. inl refl, λ p g. inl refl)
 arena_placed s o a x y d t = absurd t
 
-cache_placed : (s : Shape) (o : Object) (l c : ℕ) (x y : CacheState) (d : Did) → IsCacheStep l c x d y → IsPlaced s o d × IsMailed o d
+cache_placed : (s : Shape) (o : Object) (l c : ℕ) (x y : CacheState) (d : Did) → IsCacheStep l c x d y
+    → IsPlaced s o d × IsMailed o d
 cache_placed s o l c x y (Hit r) t = (λ p. inl refl, λ p g. inl refl)
 cache_placed s o l c x y (Shed r) t = (λ p. inl refl, λ p g. inl refl)
 cache_placed s o l c x y (Kept r) t = (λ p. inl refl, λ p g. inl refl)
@@ -159,7 +185,8 @@ cache_placed s o l c x y (Trim k) t = (λ p. inl refl, λ p g. inl refl)
 cache_placed s o l c x y (Close k) t = (λ p. inl refl, λ p g. inl refl)
 cache_placed s o l c x y d t = absurd t
 
-place_placed : (s : Shape) (o : Object) (p : ℕ) (n : Noted) (x y : RootPlace) (d : Did) → IsPlaceStep p x d n.region y → IsPlaced s o d × IsMailed o d
+place_placed : (s : Shape) (o : Object) (p : ℕ) (n : Noted) (x y : RootPlace) (d : Did) → IsPlaceStep p x d n.region y
+    → IsPlaced s o d × IsMailed o d
 place_placed s o p n x y (Birth r z) t = (λ p. inl refl, λ p g. inl refl)
 place_placed s o p n x y (End r) t = (λ p. inl refl, λ p g. inl refl)
 place_placed s o p n x y (Set i bs) t = (λ p. inl refl, λ p g. inl refl)
@@ -185,34 +212,48 @@ placed s (Root p) h n t = let k = last_place s p h n t in (place_placed s (Root 
 abbrev load : ℕ → ℕ → List Parcel → ℕ
 load p g qs = sum_by (parcel_weight p g) qs
 
-mail_step : (p g : ℕ) (q m : List Parcel) (d : Did) → IsMailStep q d m → load p g q + did_post p g d ≡ did_fetch p g d + load p g m
-mail_step p g q m (Post x) t = let a = ap (load p g) t in let b = sum_by_push (parcel_weight p g) q x in omega (arith, a, b)
-mail_step p g q m (Fetch x) t = let a = ap (load p g) t in let b = sum_by-cons (parcel_weight p g) x m in omega (arith, a, b)
+mail_step : (p g : ℕ) (q m : List Parcel) (d : Did) → IsMailStep q d m
+    → load p g q + did_post p g d ≡ did_fetch p g d + load p g m
+mail_step p g q m (Post x) t =
+    let a = ap (load p g) t in let b = sum_by_push (parcel_weight p g) q x in omega (arith, a, b)
+mail_step p g q m (Fetch x) t =
+    let a = ap (load p g) t in let b = sum_by-cons (parcel_weight p g) x m in omega (arith, a, b)
 mail_step p g q m d t = absurd t
 
 -- no root is fetched more often than it was posted
-pub delivered : (s : Shape) (f t p g : ℕ) (h : List Noted) → IsHistory s (Mail f t) h → sum_by (λ (n : Noted). did_fetch p g n.did) h ≤ sum_by (λ (n : Noted). did_post p g n.did) h
+pub delivered : (s : Shape) (f t p g : ℕ) (h : List Noted) → IsHistory s (Mail f t) h
+    → sum_by (λ (n : Noted). did_fetch p g n.did) h ≤ sum_by (λ (n : Noted). did_post p g n.did) h
 delivered s f u p g h t =
     let m = mail_there s f u h t in
-    let a = balance mail_note (load p g) (λ n. did_post p g n.did) (λ n. did_fetch p g n.did) (λ x y n step. mail_step p g x y n.did step) h [] m.0 (mail_runs s f u h m.0 t m.1) in
+    let a = balance mail_note (load p g) (λ n. did_post p g n.did) (λ n. did_fetch p g n.did)
+    (λ x y n step. mail_step p g x y n.did step) h [] m.0 (mail_runs s f u h m.0 t m.1) in
     let z : load p g [] ≡ 0 = refl in omega (arith, a, z)
 
 -- what is fetched next was posted
 mail_front : (w : Parcel → ℕ) (q m : List Parcel) (x : Parcel) → IsMailStep q (Fetch x) m → w x ≤ sum_by w q
-mail_front w q m x t = let a = ap (λ (l : List Parcel). sum_by w l) t in let b = sum_by-cons w x m in omega (arith, a, b)
+mail_front w q m x t =
+    let a = ap (λ (l : List Parcel). sum_by w l) t in let b = sum_by-cons w x m in omega (arith, a, b)
 
 abbrev by_root : RootId → Parcel → ℕ
 by_root r q = view_of_root r q.view
 
-root_step : (r : RootId) (q m : List Parcel) (d : Did) → IsMailStep q d m → sum_by (by_root r) q + did_post_of r d ≡ did_fetch_of r d + sum_by (by_root r) m
-root_step r q m (Post x) t = let a = ap (λ (l : List Parcel). sum_by (by_root r) l) t in let b = sum_by_push (by_root r) q x in omega (arith, a, b)
-root_step r q m (Fetch x) t = let a = ap (λ (l : List Parcel). sum_by (by_root r) l) t in let b = sum_by-cons (by_root r) x m in omega (arith, a, b)
+root_step : (r : RootId) (q m : List Parcel) (d : Did) → IsMailStep q d m
+    → sum_by (by_root r) q + did_post_of r d ≡ did_fetch_of r d + sum_by (by_root r) m
+root_step r q m (Post x) t =
+    let a = ap (λ (l : List Parcel). sum_by (by_root r) l) t in let b = sum_by_push (by_root r) q x in
+    omega (arith, a, b)
+root_step r q m (Fetch x) t =
+    let a = ap (λ (l : List Parcel). sum_by (by_root r) l) t in let b = sum_by-cons (by_root r) x m in
+    omega (arith, a, b)
 root_step r q m d t = absurd t
 
-pub posted_before : (s : Shape) (f u : ℕ) (r : RootId) (h : List Noted) (n : Noted) (x : Parcel) → IsHistory s (Mail f u) h → IsHistory s (Mail f u) (h ++ n ∷ []) → n.did ≡ Fetch x → view_of_root r x.view ≤ sum_by (λ (n : Noted). did_post_of r n.did) h
+pub posted_before : (s : Shape) (f u : ℕ) (r : RootId) (h : List Noted) (n : Noted) (x : Parcel)
+    → IsHistory s (Mail f u) h → IsHistory s (Mail f u) (h ++ n ∷ []) → n.did ≡ Fetch x
+    → view_of_root r x.view ≤ sum_by (λ (n : Noted). did_post_of r n.did) h
 posted_before s f u r h n x t more is =
     let k = next_mail s f u h n more in
-    let a = balance mail_note (λ q. sum_by (by_root r) q) (λ n. did_post_of r n.did) (λ n. did_fetch_of r n.did) (λ x y n step. root_step r x y n.did step) h [] k.0 (mail_runs s f u h k.0 t k.2) in
+    let a = balance mail_note (λ q. sum_by (by_root r) q) (λ n. did_post_of r n.did) (λ n. did_fetch_of r n.did)
+    (λ x y n step. root_step r x y n.did step) h [] k.0 (mail_runs s f u h k.0 t k.2) in
     let low = mail_front (by_root r) k.0 k.1 x (subst (λ (d : Did). IsMailStep k.0 d k.1) is k.3) in
     let z : sum_by (by_root r) [] ≡ 0 = refl in omega (arith, a, low, z)
 

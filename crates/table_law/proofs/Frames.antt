@@ -27,9 +27,11 @@ from_one g a b pages what (Some spot) s = record { takings = s.takings; out = s.
 from_new : (g : Geometry) (a : Arena) (pages : ℕ) (what : Use) (o : Option ℕ) → Leaves a (run_from_new g a pages what o)
 from_new g a pages what None = tt
 from_new g a pages what (Some c) =
-    from_one g a (opened g a c) pages what (first_holding g (opened g a c) pages (c ∷ [])) (record { takings = refl; out = refl })
+    from_one g a (opened g a c) pages what (first_holding g (opened g a c) pages (c ∷ []))
+    (record { takings = refl; out = refl })
 
-run_leaves : (g : Geometry) (a : Arena) (pages : ℕ) (what : Use) (o : Option (ℕ × ℕ)) → Leaves a (run_taken g a pages what o)
+run_leaves : (g : Geometry) (a : Arena) (pages : ℕ) (what : Use) (o : Option (ℕ × ℕ))
+    → Leaves a (run_taken g a pages what o)
 run_leaves g a pages what (Some spot) = record { takings = refl; out = refl }
 run_leaves g a pages what None = from_new g a pages what (first_unused a.chunks)
 
@@ -65,14 +67,16 @@ small_leaves g a class [] =
     subpage_leaves g a class (take_run g a (subpage_pages g class) what)
     (run_leaves g a (subpage_pages g class) what (first_holding g a (subpage_pages g class) (walk a.lists)))
 
-whole_leaves : (g : Geometry) (a : Arena) (o : Option (ℕ × ℕ × Arena)) → Leaves a o → Leaves a (option_map (λ t. (t.0, page_of g * t.1, t.2)) o)
+whole_leaves : (g : Geometry) (a : Arena) (o : Option (ℕ × ℕ × Arena)) → Leaves a o
+    → Leaves a (option_map (λ t. (t.0, page_of g * t.1, t.2)) o)
 whole_leaves g a None s = tt
 whole_leaves g a (Some t) s = s
 
 pub take_leaves : (g : Geometry) (a : Arena) (class : ℕ) → Leaves a (take_class g a class)
 take_leaves g a class = by (is_small g class)
   where
-    by : (b : Bool) → Leaves a (if b then take_small g a class (front_of a class) else option_map (λ t. (t.0, page_of g * t.1, t.2)) (take_run g a (pages_of g class) Whole))
+    by : (b : Bool) → Leaves a (if b then take_small g a class (front_of a class) else option_map
+        (λ t. (t.0, page_of g * t.1, t.2)) (take_run g a (pages_of g class) Whole))
     by true = small_leaves g a class (front_of a class)
     by false =
         whole_leaves g a (take_run g a (pages_of g class) Whole)
@@ -80,14 +84,17 @@ take_leaves g a class = by (is_small g class)
 
 idle_leaves : (g : Geometry) (a b : Arena) (class c page : ℕ) → SameOut a b → SameOut a (idle_given g b class c page)
 idle_leaves g a b class c page s =
-    either a b (run_given g (with_front b class (without_spot c page (front_of b class))) c page) (is_alone (front_of b class)) s
+    either a b (run_given g (with_front b class (without_spot c page (front_of b class))) c page)
+    (is_alone (front_of b class)) s
     (record { takings = s.takings; out = s.out })
 
-back_leaves : (g : Geometry) (a : Arena) (class c page k : ℕ) (e : Elements) → SameOut a (element_given g a class c page k e)
+back_leaves : (g : Geometry) (a : Arena) (class c page k : ℕ) (e : Elements)
+    → SameOut a (element_given g a class c page k e)
 back_leaves g a class c page k e =
     let b : Arena = with_elements a c page class (with_back e k) in
     let d : Arena = (if is_full e then with_front b class ((c, page) ∷ front_of b class) else b) in
-    let s : SameOut a d = either a (with_front b class ((c, page) ∷ front_of b class)) b (is_full e) (record { takings = refl; out = refl }) (record { takings = refl; out = refl }) in
+    let s : SameOut a d = either a (with_front b class ((c, page) ∷ front_of b class)) b (is_full e)
+    (record { takings = refl; out = refl }) (record { takings = refl; out = refl }) in
     either a (idle_given g d class c page) d (is_idle (with_back e k)) (idle_leaves g a d class c page s) s
 
 some_leaves : (g : Geometry) (a : Arena) (class c page k : ℕ) (o : Option Elements) →

@@ -13,8 +13,16 @@ use Rattle.table_law.proofs.Regions.{regioned, of_class}
 
 pub in_place : (s : Shape) (o : Object) (h : List Noted) (n : Noted) → IsHistory s o (h ++ n ∷ []) → IsInPlace s o n
 in_place s o h n t =
-    record { placed = placed s o h n t; mailed = mailed s o h n t; rooted = rooted s o h n t; regioned = regioned s o h n t; of_class = of_class s o h n t }
+    record {
+      placed = placed s o h n t;
+      mailed = mailed s o h n t;
+      rooted = rooted s o h n t;
+      regioned =
+          regioned s o h n t;
+      of_class = of_class s o h n t;
+    }
 
 -- a history with a note that may follow it
-pub longer : (s : Shape) (o : Object) (h : List Noted) (n : Noted) → IsHistory s o h → NotedMayFollow s o h n → IsHistory s o (h ++ n ∷ [])
+pub longer : (s : Shape) (o : Object) (h : List Noted) (n : Noted) → IsHistory s o h → NotedMayFollow s o h n
+    → IsHistory s o (h ++ n ∷ [])
 longer s o h n t f = record { accepted = f.accepted; right = right_push o h n t.right f.right }

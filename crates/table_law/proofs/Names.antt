@@ -33,8 +33,10 @@ same_root-is a b e =
     let more : Bool = (a.generation == b.generation) && (a.capacity == b.capacity) in
     let second : more ≡ true = and-second (a.place == b.place) more e in
     let place = eqb-true a.place b.place (and-first (a.place == b.place) more e) in
-    let generation = eqb-true a.generation b.generation (and-first (a.generation == b.generation) (a.capacity == b.capacity) second) in
-    let capacity = eqb-true a.capacity b.capacity (and-second (a.generation == b.generation) (a.capacity == b.capacity) second) in
+    let generation = eqb-true a.generation b.generation
+    (and-first (a.generation == b.generation) (a.capacity == b.capacity) second) in
+    let capacity = eqb-true a.capacity b.capacity
+    (and-second (a.generation == b.generation) (a.capacity == b.capacity) second) in
     λ i. record { place = place i; generation = generation i; capacity = capacity i }
 
 -- a root is the same as another, or it is another one
@@ -74,12 +76,14 @@ same_taking-is a b e =
 pub same_taking-both : (q a b : RegionId) → same_taking a b ≡ true → same_taking q b ≡ same_taking q a
 same_taking-both q a b e =
     let s = same_taking-is a b e in
-    λ i. same_place q.place (sym s.place i) && ((q.class == sym s.class i) && ((q.taking == sym s.taking i) && (q.owner == sym s.owner i)))
+    λ i. same_place q.place (sym s.place i)
+    && ((q.class == sym s.class i) && ((q.taking == sym s.taking i) && (q.owner == sym s.owner i)))
 
 pub same_taking-key : (q r x : RegionId) → same_taking q r ≡ true → same_taking q x ≡ same_taking r x
 same_taking-key q r x e =
     let s = same_taking-is q r e in
-    λ i. same_place (s.place i) x.place && ((s.class i == x.class) && ((s.taking i == x.taking) && (s.owner i == x.owner)))
+    λ i. same_place (s.place i) x.place
+    && ((s.class i == x.class) && ((s.taking i == x.taking) && (s.owner i == x.owner)))
 
 pub same_taking-refl : (a : RegionId) → same_taking a a ≡ true
 same_taking-refl a = λ i. on i
@@ -101,7 +105,14 @@ pub same_region-is : (a b : RegionId) → same_region a b ≡ true → a ≡ b
 same_region-is a b e =
     let same = same_taking-is a b (and-first (same_taking a b) (a.uses == b.uses) e) in
     let uses = eqb-true a.uses b.uses (and-second (same_taking a b) (a.uses == b.uses) e) in
-    λ i. record { place = same.place i; class = same.class i; taking = same.taking i; uses = uses i; owner = same.owner i }
+    λ i. record {
+      place = same.place i;
+      class = same.class i;
+      taking = same.taking i;
+      uses = uses i;
+      owner =
+          same.owner i;
+    }
 
 same_view-is : (a b : ViewData) → same_view a b ≡ true → a ≡ b
 same_view-is a b e =

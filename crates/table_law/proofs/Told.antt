@@ -19,16 +19,19 @@ use Rattle.table_law.proofs.Steps.{IsBinStep, OfLane, bin_told, of_new, IsMailSt
 
 -- ---- What an object is after its history.
 
-pub arena_there : (s : Shape) (a : ℕ) (h : List Noted) → IsHistory s (Arena a) h → (x : ArenaState) × IsArenaAfter s a h x
+pub arena_there : (s : Shape) (a : ℕ) (h : List Noted) → IsHistory s (Arena a) h
+    → (x : ArenaState) × IsArenaAfter s a h x
 arena_there s a h t = there (arena_after s a (noted_dids h)) t.accepted
 
-pub cache_there : (s : Shape) (l c : ℕ) (h : List Noted) → IsHistory s (Cache l c) h → (x : CacheState) × IsCacheAfter l c h x
+pub cache_there : (s : Shape) (l c : ℕ) (h : List Noted) → IsHistory s (Cache l c) h
+    → (x : CacheState) × IsCacheAfter l c h x
 cache_there s l c h t = there (cache_after l c (noted_dids h)) t.accepted
 
 pub bin_there : (s : Shape) (l : ℕ) (h : List Noted) → IsHistory s (Bin l) h → (m : List ℕ) × IsBinAfter s l h m
 bin_there s l h t = there (bin_after s l (noted_dids h)) t.accepted
 
-pub mail_there : (s : Shape) (f u : ℕ) (h : List Noted) → IsHistory s (Mail f u) h → (m : List Parcel) × (mail_after (noted_dids h) ≡ Some m)
+pub mail_there : (s : Shape) (f u : ℕ) (h : List Noted) → IsHistory s (Mail f u) h
+    → (m : List Parcel) × (mail_after (noted_dids h) ≡ Some m)
 mail_there s f u h t = there (mail_after (noted_dids h)) t.accepted
 
 pub place_there : (s : Shape) (p : ℕ) (h : List Noted) → IsHistory s (Root p) h → (x : RootPlace) × IsPlaceAfter p h x
@@ -42,13 +45,19 @@ bin_note s l q n m = IsBinStep s l q n.did m
 new_of : (s : Shape) (l : ℕ) → OfLane s l (new_bin l s.handles)
 new_of s l = of_new s l s.handles (omega arith)
 
-pub bin_runs : (s : Shape) (l : ℕ) (h : List Noted) (m : List ℕ) → IsHistory s (Bin l) h → IsBinAfter s l h m → Runs (bin_note s l) (new_bin l s.handles) h m
-bin_runs s l h m t e = told (bin_step l s.handles) (Bin l) (λ b q. OfLane s l q) (bin_note s l) (λ b x y n of _ is. bin_told s l x y n.did of is) h [] (new_bin l s.handles) m (new_of s l) t.right e
+pub bin_runs : (s : Shape) (l : ℕ) (h : List Noted) (m : List ℕ) → IsHistory s (Bin l) h → IsBinAfter s l h m
+    → Runs (bin_note s l) (new_bin l s.handles) h m
+bin_runs s l h m t e =
+    told (bin_step l s.handles) (Bin l) (λ b q. OfLane s l q) (bin_note s l)
+    (λ b x y n of _ is. bin_told s l x y n.did of is) h [] (new_bin l s.handles) m (new_of s l) t.right e
 
-pub last_bin : (s : Shape) (l : ℕ) (h : List Noted) (n : Noted) → IsHistory s (Bin l) (h ++ n ∷ []) → (q : List ℕ) × (m : List ℕ) × IsBinStep s l q n.did m
+pub last_bin : (s : Shape) (l : ℕ) (h : List Noted) (n : Noted) → IsHistory s (Bin l) (h ++ n ∷ [])
+    → (q : List ℕ) × (m : List ℕ) × IsBinStep s l q n.did m
 last_bin s l h n t =
-    let m = bin_there s l (h ++ n ∷ []) t in let k = last_note (bin_step l s.handles) h n (new_bin l s.handles) m.0 m.1 in
-    let of = kept (bin_step l s.handles) (OfLane s l) (λ x y d of is. (bin_told s l x y d of is).1) h (new_bin l s.handles) k.0 (new_of s l) k.1 in
+    let m = bin_there s l (h ++ n ∷ []) t in let k =
+    last_note (bin_step l s.handles) h n (new_bin l s.handles) m.0 m.1 in
+    let of = kept (bin_step l s.handles) (OfLane s l) (λ x y d of is. (bin_told s l x y d of is).1) h
+    (new_bin l s.handles) k.0 (new_of s l) k.1 in
     (k.0, m.0, (bin_told s l k.0 m.0 n.did of k.2).0)
 
 -- ---- Mails.
@@ -56,15 +65,20 @@ last_bin s l h n t =
 abbrev pub mail_note : List Parcel → Noted → List Parcel → Type 0
 mail_note q n m = IsMailStep q n.did m
 
-pub mail_runs : (s : Shape) (f u : ℕ) (h : List Noted) (m : List Parcel) → IsHistory s (Mail f u) h → mail_after (noted_dids h) ≡ Some m → Runs mail_note [] h m
-mail_runs s f u h m t e = told mail_step (Mail f u) (λ b q. Unit {0}) mail_note (λ b x y n _ _ is. (mail_told x y n.did is, tt)) h [] [] m tt t.right e
+pub mail_runs : (s : Shape) (f u : ℕ) (h : List Noted) (m : List Parcel) → IsHistory s (Mail f u) h
+    → mail_after (noted_dids h) ≡ Some m → Runs mail_note [] h m
+mail_runs s f u h m t e =
+    told mail_step (Mail f u) (λ b q. Unit {0}) mail_note (λ b x y n _ _ is. (mail_told x y n.did is, tt)) h [] [] m tt
+    t.right e
 
-pub last_mail : (s : Shape) (f u : ℕ) (h : List Noted) (n : Noted) → IsHistory s (Mail f u) (h ++ n ∷ []) → (q : List Parcel) × (m : List Parcel) × IsMailStep q n.did m
+pub last_mail : (s : Shape) (f u : ℕ) (h : List Noted) (n : Noted) → IsHistory s (Mail f u) (h ++ n ∷ [])
+    → (q : List Parcel) × (m : List Parcel) × IsMailStep q n.did m
 last_mail s f u h n t =
     let m = mail_there s f u (h ++ n ∷ []) t in let k = last_note mail_step h n [] m.0 m.1 in
     (k.0, m.0, mail_told k.0 m.0 n.did k.2)
 
-pub next_mail : (s : Shape) (f u : ℕ) (h : List Noted) (n : Noted) → IsHistory s (Mail f u) (h ++ n ∷ []) → (q : List Parcel) × (m : List Parcel) × (mail_after (noted_dids h) ≡ Some q) × IsMailStep q n.did m
+pub next_mail : (s : Shape) (f u : ℕ) (h : List Noted) (n : Noted) → IsHistory s (Mail f u) (h ++ n ∷ [])
+    → (q : List Parcel) × (m : List Parcel) × (mail_after (noted_dids h) ≡ Some q) × IsMailStep q n.did m
 next_mail s f u h n t =
     let m = mail_there s f u (h ++ n ∷ []) t in let k = last_note mail_step h n [] m.0 m.1 in
     (k.0, m.0, k.1, mail_told k.0 m.0 n.did k.2)
@@ -74,14 +88,20 @@ next_mail s f u h n t =
 abbrev pub arena_note : ℕ → ArenaState → Noted → ArenaState → Type 0
 arena_note a x n y = IsArenaStep a x n.did y
 
-pub arena_runs : (s : Shape) (a : ℕ) (h : List Noted) (x : ArenaState) → IsHistory s (Arena a) h → IsArenaAfter s a h x → Runs (arena_note a) (new_arena (geometry_of s) s.chunks) h x
-arena_runs s a h x t e = told (arena_step (geometry_of s) a) (Arena a) (λ b y. OfArena a y.out) (arena_note a) (λ b x y n of _ is. arena_told (geometry_of s) a x y n.did of is) h [] (new_arena (geometry_of s) s.chunks) x tt t.right e
+pub arena_runs : (s : Shape) (a : ℕ) (h : List Noted) (x : ArenaState) → IsHistory s (Arena a) h → IsArenaAfter s a h x
+    → Runs (arena_note a) (new_arena (geometry_of s) s.chunks) h x
+arena_runs s a h x t e =
+    told (arena_step (geometry_of s) a) (Arena a) (λ b y. OfArena a y.out) (arena_note a)
+    (λ b x y n of _ is. arena_told (geometry_of s) a x y n.did of is) h [] (new_arena (geometry_of s) s.chunks) x tt
+    t.right e
 
-pub last_arena : (s : Shape) (a : ℕ) (h : List Noted) (n : Noted) → IsHistory s (Arena a) (h ++ n ∷ []) → (x : ArenaState) × (y : ArenaState) × IsArenaAfter s a h x × IsArenaStep a x n.did y
+pub last_arena : (s : Shape) (a : ℕ) (h : List Noted) (n : Noted) → IsHistory s (Arena a) (h ++ n ∷ [])
+    → (x : ArenaState) × (y : ArenaState) × IsArenaAfter s a h x × IsArenaStep a x n.did y
 last_arena s a h n t =
     let g = geometry_of s in
     let y = arena_there s a (h ++ n ∷ []) t in let k = last_note (arena_step g a) h n (new_arena g s.chunks) y.0 y.1 in
-    let of = kept (arena_step g a) (λ (z : ArenaState). OfArena a z.out) (λ x y d of is. (arena_told g a x y d of is).1) h (new_arena g s.chunks) k.0 tt k.1 in
+    let of = kept (arena_step g a) (λ (z : ArenaState). OfArena a z.out) (λ x y d of is. (arena_told g a x y d of is).1)
+    h (new_arena g s.chunks) k.0 tt k.1 in
     (k.0, y.0, k.1, (arena_told g a k.0 y.0 n.did of k.2).0)
 
 -- ---- Caches.
@@ -89,15 +109,20 @@ last_arena s a h n t =
 abbrev pub cache_note : ℕ → ℕ → CacheState → Noted → CacheState → Type 0
 cache_note l c x n y = IsCacheStep l c x n.did y
 
-pub cache_runs : (s : Shape) (l c : ℕ) (h : List Noted) (x : CacheState) → IsHistory s (Cache l c) h → IsCacheAfter l c h x → Runs (cache_note l c) new_cache h x
-cache_runs s l c h x t e = told (lane_cache_step l c) (Cache l c) (λ b y. Unit {0}) (cache_note l c) (λ b x y n _ _ is. (cache_told l c x y n.did is, tt)) h [] new_cache x tt t.right e
+pub cache_runs : (s : Shape) (l c : ℕ) (h : List Noted) (x : CacheState) → IsHistory s (Cache l c) h
+    → IsCacheAfter l c h x → Runs (cache_note l c) new_cache h x
+cache_runs s l c h x t e =
+    told (lane_cache_step l c) (Cache l c) (λ b y. Unit {0}) (cache_note l c)
+    (λ b x y n _ _ is. (cache_told l c x y n.did is, tt)) h [] new_cache x tt t.right e
 
-pub last_cache : (s : Shape) (l c : ℕ) (h : List Noted) (n : Noted) → IsHistory s (Cache l c) (h ++ n ∷ []) → (x : CacheState) × (y : CacheState) × IsCacheStep l c x n.did y
+pub last_cache : (s : Shape) (l c : ℕ) (h : List Noted) (n : Noted) → IsHistory s (Cache l c) (h ++ n ∷ [])
+    → (x : CacheState) × (y : CacheState) × IsCacheStep l c x n.did y
 last_cache s l c h n t =
     let y = cache_there s l c (h ++ n ∷ []) t in let k = last_note (lane_cache_step l c) h n new_cache y.0 y.1 in
     (k.0, y.0, cache_told l c k.0 y.0 n.did k.2)
 
-pub next_cache : (s : Shape) (l c : ℕ) (h : List Noted) (n : Noted) → IsHistory s (Cache l c) (h ++ n ∷ []) → (x : CacheState) × (y : CacheState) × IsCacheAfter l c h x × IsCacheStep l c x n.did y
+pub next_cache : (s : Shape) (l c : ℕ) (h : List Noted) (n : Noted) → IsHistory s (Cache l c) (h ++ n ∷ [])
+    → (x : CacheState) × (y : CacheState) × IsCacheAfter l c h x × IsCacheStep l c x n.did y
 next_cache s l c h n t =
     let y = cache_there s l c (h ++ n ∷ []) t in let k = last_note (lane_cache_step l c) h n new_cache y.0 y.1 in
     (k.0, y.0, k.1, cache_told l c k.0 y.0 n.did k.2)
@@ -111,21 +136,25 @@ place_note p x n y = IsPlaceStep p x n.did n.region y
 abbrev IsThere : ℕ → List Noted → RootPlace → Type 0
 IsThere p before x = IsPlaceAfter p before x × FitsPlace p x
 
-one_more : (p : ℕ) (before : List Noted) (x y : RootPlace) (n : Noted) → IsThere p before x → IsRightAt (Root p) before n → place_step p x n.did ≡ Some y →
+one_more : (p : ℕ) (before : List Noted) (x y : RootPlace) (n : Noted) → IsThere p before x
+    → IsRightAt (Root p) before n → place_step p x n.did ≡ Some y →
     place_note p x n y × IsThere p (before ++ n ∷ []) y
 one_more p before x y n t right is =
     let region : n.region ≡ region_for n.did x.present = subst_region t.0 right.1 in
     let k = place_told p x y n t.1 region is in
     (k.0, (next_note (place_step p) before n new_place x y t.0 is, k.1))
   where
-    subst_region : IsPlaceAfter p before x → n.region ≡ region_for n.did (present_in (place_after p (noted_dids before))) → n.region ≡ region_for n.did x.present
+    subst_region : IsPlaceAfter p before x → n.region
+        ≡ region_for n.did (present_in (place_after p (noted_dids before))) → n.region ≡ region_for n.did x.present
     subst_region e r = let f = ap (λ (o : Option RootPlace). region_for n.did (present_in o)) e in cc (r, f)
 
 new_there : (p : ℕ) → IsThere p [] new_place
 new_there p = (refl, λ q e. absurd (cc e))
 
-pub place_runs : (s : Shape) (p : ℕ) (h : List Noted) (x : RootPlace) → IsHistory s (Root p) h → IsPlaceAfter p h x → Runs (place_note p) new_place h x
-place_runs s p h x t e = told (place_step p) (Root p) (IsThere p) (place_note p) (one_more p) h [] new_place x (new_there p) t.right e
+pub place_runs : (s : Shape) (p : ℕ) (h : List Noted) (x : RootPlace) → IsHistory s (Root p) h → IsPlaceAfter p h x
+    → Runs (place_note p) new_place h x
+place_runs s p h x t e =
+    told (place_step p) (Root p) (IsThere p) (place_note p) (one_more p) h [] new_place x (new_there p) t.right e
 
 -- what is present was born at the place
 pub place_fits : (p : ℕ) (h : List Noted) (x : RootPlace) → IsPlaceAfter p h x → FitsPlace p x

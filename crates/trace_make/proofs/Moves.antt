@@ -72,7 +72,8 @@ not_stuck lanes n state some =
     let P : ℕ → Type 0 = λ (l : ℕ). moves (command_count (ring lanes n state)) (ring lanes n state)
     (replicate l 0) ≡ replicate l (8 * n) in
     let at_end : resting (ring lanes n state) ≡ replicate (length (ring lanes n state)) (8 * n) =
-    subst P (sym as_many) (moves-end lanes n state (command_count (ring lanes n state)) 0 (omega arith) (omega (arith, total, more))) in
+    subst P (sym as_many) (moves-end lanes n state (command_count (ring lanes n state)) 0 (omega arith)
+    (omega (arith, total, more))) in
     ap (first_waiting 0 (ring lanes n state)) at_end
     ∙ none_waits (ring lanes n state) 0 (8 * n)
     (All-given (λ (cs : List Command). length cs ≡ 8 * n) (ring_lane lanes n state) lanes

@@ -22,7 +22,8 @@ abbrev Named : ℕ → Read Command → Type 0
 Named lanes read = IfSome read (λ p. names_lanes lanes p.0 ≡ true)
 
 -- what holds whatever a step gives
-pub through : {A B : Type 0} (P : B → Type 0) (o : Option A) (next : A → Option B) → ((a : A) → IfSome (next a) P) → IfSome (o >>= next) P
+pub through : {A B : Type 0} (P : B → Type 0) (o : Option A) (next : A → Option B) → ((a : A) → IfSome (next a) P)
+    → IfSome (o >>= next) P
 through P None next h = tt
 through P (Some a) next h = h a
 
@@ -33,11 +34,13 @@ passed test a = elim (test a) as (λ (t : Bool). test a ≡ t → IfSome (if t t
 ] refl
 
 -- what a step gives, where that is known
-pub through_if : {A B : Type 0} (Q : A → Type 0) (P : B → Type 0) (o : Option A) (next : A → Option B) → IfSome o Q → ((a : A) → Q a → IfSome (next a) P) → IfSome (o >>= next) P
+pub through_if : {A B : Type 0} (Q : A → Type 0) (P : B → Type 0) (o : Option A) (next : A → Option B) → IfSome o Q
+    → ((a : A) → Q a → IfSome (next a) P) → IfSome (o >>= next) P
 through_if Q P None next known h = tt
 through_if Q P (Some a) next known h = h a known
 
-as_read : {A : Type 0} (Q : A → Type 0) (lanes : ℕ) (command : A → Command) (read : Read A) → IfSome read (λ p. Q p.0) → ((a : A) → Q a → names_lanes lanes (command a) ≡ true) → Named lanes (read_as command read)
+as_read : {A : Type 0} (Q : A → Type 0) (lanes : ℕ) (command : A → Command) (read : Read A) → IfSome read (λ p. Q p.0)
+    → ((a : A) → Q a → names_lanes lanes (command a) ≡ true) → Named lanes (read_as command read)
 as_read Q lanes command None known h = tt
 as_read Q lanes command (Some p) known h = h p.0 known
 
@@ -65,7 +68,8 @@ read_named : (lanes : ℕ) (names : Mentions) (ds : List Data) → Named lanes (
 unfolding read_of
 read_named lanes names ds = search (through) depth 9
 
-slice_named : (lanes : ℕ) (retained : Bool) (names : Mentions) (ds : List Data) → Named lanes (slice_of retained names ds)
+slice_named : (lanes : ℕ) (retained : Bool) (names : Mentions) (ds : List Data)
+    → Named lanes (slice_of retained names ds)
 unfolding slice_of
 slice_named lanes retained names ds = search (through) depth 9
 
@@ -78,11 +82,14 @@ lane_after names name lane = do
   a ← mentioned names name
   Some ((a.0, lane), a.1)
 
-lane_next : (lanes : ℕ) (names : Mentions) (name : List ℕ) (d : Data) → IfSome (lane_number_in lanes d >>= lane_after names name) (λ p. nat_lt p.0.1 lanes ≡ true)
+lane_next : (lanes : ℕ) (names : Mentions) (name : List ℕ) (d : Data)
+    → IfSome (lane_number_in lanes d >>= lane_after names name) (λ p. nat_lt p.0.1 lanes ≡ true)
 lane_next lanes names name d =
-    through_if (λ lane. nat_lt lane lanes ≡ true) (λ (p : (ℕ × ℕ) × Mentions). nat_lt p.0.1 lanes ≡ true) (lane_number_in lanes d) (lane_after names name) (lane_number_named lanes d) (λ lane below. below)
+    through_if (λ lane. nat_lt lane lanes ≡ true) (λ (p : (ℕ × ℕ) × Mentions). nat_lt p.0.1 lanes ≡ true)
+    (lane_number_in lanes d) (lane_after names name) (lane_number_named lanes d) (λ lane below. below)
 
-lane_named : (lanes : ℕ) (names : Mentions) (ds : List Data) → IfSome (name_and_lane_in lanes names ds) (λ p. nat_lt p.0.1 lanes ≡ true)
+lane_named : (lanes : ℕ) (names : Mentions) (ds : List Data)
+    → IfSome (name_and_lane_in lanes names ds) (λ p. nat_lt p.0.1 lanes ≡ true)
 unfolding name_and_lane_in
 lane_named lanes names ds = search (through, lane_next) depth 9
 
@@ -97,15 +104,26 @@ form_named words.Write lanes names ds = write_named lanes names ds
 form_named words.Read lanes names ds = read_named lanes names ds
 form_named words.Slice lanes names ds = slice_named lanes false names ds
 form_named words.RetainedSlice lanes names ds = slice_named lanes true names ds
-form_named words.Dup lanes names ds = as_read (λ p. Unit {0}) lanes (λ p. commands.Dup p.0 p.1) _ (any_read (two_names_in names ds)) (λ p any. refl)
-form_named words.Retain lanes names ds = as_read (λ p. Unit {0}) lanes commands.Retain _ (any_read (one_name_in names ds)) (λ p any. refl)
-form_named words.Release lanes names ds = as_read (λ p. Unit {0}) lanes commands.Release _ (any_read (one_name_in names ds)) (λ p any. refl)
-form_named words.Refcnt lanes names ds = as_read (λ p. Unit {0}) lanes commands.Refcnt _ (any_read (one_name_in names ds)) (λ p any. refl)
-form_named words.Touch lanes names ds = as_read (λ p. Unit {0}) lanes commands.Touch _ (any_read (one_name_in names ds)) (λ p any. refl)
-form_named words.Forget lanes names ds = as_read (λ p. Unit {0}) lanes commands.Forget _ (any_read (one_name_in names ds)) (λ p any. refl)
-form_named words.Send lanes names ds = as_read (λ p. nat_lt p.1 lanes ≡ true) lanes (λ p. commands.Send p.0 p.1) _ (lane_named lanes names ds) (λ p below. below)
-form_named words.Recv lanes names ds = as_read (λ p. nat_lt p.1 lanes ≡ true) lanes (λ p. commands.Recv p.0 p.1) _ (lane_named lanes names ds) (λ p below. below)
+form_named words.Dup lanes names ds =
+    as_read (λ p. Unit {0}) lanes (λ p. commands.Dup p.0 p.1) _ (any_read (two_names_in names ds)) (λ p any. refl)
+form_named words.Retain lanes names ds =
+    as_read (λ p. Unit {0}) lanes commands.Retain _ (any_read (one_name_in names ds)) (λ p any. refl)
+form_named words.Release lanes names ds =
+    as_read (λ p. Unit {0}) lanes commands.Release _ (any_read (one_name_in names ds)) (λ p any. refl)
+form_named words.Refcnt lanes names ds =
+    as_read (λ p. Unit {0}) lanes commands.Refcnt _ (any_read (one_name_in names ds)) (λ p any. refl)
+form_named words.Touch lanes names ds =
+    as_read (λ p. Unit {0}) lanes commands.Touch _ (any_read (one_name_in names ds)) (λ p any. refl)
+form_named words.Forget lanes names ds =
+    as_read (λ p. Unit {0}) lanes commands.Forget _ (any_read (one_name_in names ds)) (λ p any. refl)
+form_named words.Send lanes names ds =
+    as_read (λ p. nat_lt p.1 lanes ≡ true) lanes (λ p. commands.Send p.0 p.1) _ (lane_named lanes names ds)
+    (λ p below. below)
+form_named words.Recv lanes names ds =
+    as_read (λ p. nat_lt p.1 lanes ≡ true) lanes (λ p. commands.Recv p.0 p.1) _ (lane_named lanes names ds)
+    (λ p below. below)
 
-pub command_named : (lanes : ℕ) (names : Mentions) (d : Data) → IfSome (command_in lanes names d) (λ p. names_lanes lanes p.0 ≡ true)
+pub command_named : (lanes : ℕ) (names : Mentions) (d : Data)
+    → IfSome (command_in lanes names d) (λ p. names_lanes lanes p.0 ≡ true)
 unfolding command_in
 command_named lanes names d = search (through, form_named) depth 9

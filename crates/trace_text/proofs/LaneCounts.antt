@@ -13,14 +13,16 @@ use Rattle.pool_law.specs.Traces.{byte_limit, bytes_asked, command_limit}
 use Rattle.trace_text.specs.Reading.{accepted, lanes_after, lanes_in, limited, trace_in}
 use Rattle.trace_text.proofs.ReadingFits.{accepted_so, in_turn}
 
-map_ok : {X A : Type 0} (f : X → Result A TraceNo) (o : Option X) (why : TraceNo) (a : A) → option_map_or f o (Err why) ≡ Ok a
+map_ok : {X A : Type 0} (f : X → Result A TraceNo) (o : Option X) (why : TraceNo) (a : A)
+    → option_map_or f o (Err why) ≡ Ok a
     → (x : X) × (f x ≡ Ok a)
 map_ok f (Some x) why a e = (x, e)
 map_ok f None why a e = absurd (cc)
 
 after_many : (n : ℕ) (front : List (List Command)) (ds : List Data) (out : List (List Command))
     → lanes_after n front ds ≡ Ok out → length out ≡ length front + length ds
-after_many n front [] out e = let same : front ≡ out = cc in omega (arith, ap (λ (l : List (List Command)). length l) same)
+after_many n front [] out e =
+    let same : front ≡ out = cc in omega (arith, ap (λ (l : List (List Command)). length l) same)
 after_many n front (d ∷ ds) out e =
     let r = in_turn (lane_in n (length front) d) (λ lane. lanes_after n (front ++ lane ∷ []) ds) out e in
     omega (arith, after_many n (front ++ r.0 ∷ []) ds out r.1.1, length-append front (r.0 ∷ []))
@@ -43,7 +45,8 @@ three false false false x y z lanes out e = (refl, cc)
 within : (lanes out : List (List Command)) → limited lanes ≡ Ok out → (lanes ≡ out) × (length lanes ≤ 16)
 unfolding limited
 within lanes out e =
-    let r = three (nat_lt 16 (length lanes)) (nat_lt command_limit (command_count lanes)) (nat_lt byte_limit (bytes_asked lanes)) _ _ _ lanes out e in
+    let r = three (nat_lt 16 (length lanes)) (nat_lt command_limit (command_count lanes))
+    (nat_lt byte_limit (bytes_asked lanes)) _ _ _ lanes out e in
     let test : nat_lt 16 (length lanes) ≡ false = r.0 in
     (r.1, grind (arith, nat_tests))
 

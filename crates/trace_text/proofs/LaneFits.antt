@@ -17,7 +17,8 @@ use Rattle.trace_text.proofs.FormSteps.{names_lanes, command_named, through_if}
 -- ---- Commands.
 
 -- a command that names lanes which are there, behind commands that it may follow
-fits : (shape : Shape) (earlier : List Command) (c : Command) → names_lanes shape.lanes c ≡ true → may_follow earlier c ≡ true → fits_after shape earlier c ≡ true
+fits : (shape : Shape) (earlier : List Command) (c : Command) → names_lanes shape.lanes c ≡ true
+    → may_follow earlier c ≡ true → fits_after shape earlier c ≡ true
 fits shape earlier (commands.Send name lane) named follows = named
 fits shape earlier (commands.Recv fresh lane) named follows = rw (named, follows) refl
 fits shape earlier (commands.Compose fresh names) named follows = cc
@@ -28,8 +29,10 @@ split_true true b h = (refl, h)
 split_true false b h = cc
 
 -- one more command behind those that fit
-fit_more : (shape : Shape) (earlier cs : List Command) (c : Command) → all_fit shape earlier cs ≡ true → fits_after shape (earlier ++ cs) c ≡ true → all_fit shape earlier (cs ++ c ∷ []) ≡ true
-fit_more shape earlier [] c all last = let here : fits_after shape earlier c ≡ true = rw append-nil at last in rw here refl
+fit_more : (shape : Shape) (earlier cs : List Command) (c : Command) → all_fit shape earlier cs ≡ true
+    → fits_after shape (earlier ++ cs) c ≡ true → all_fit shape earlier (cs ++ c ∷ []) ≡ true
+fit_more shape earlier [] c all last =
+    let here : fits_after shape earlier c ≡ true = rw append-nil at last in rw here refl
 fit_more shape earlier (x ∷ cs) c all last =
     let (first, rest) = split_true (fits_after shape earlier x) (all_fit shape (earlier ++ x ∷ []) cs) all in
     let next : fits_after shape ((earlier ++ x ∷ []) ++ cs) c ≡ true = rw append_assoc last in
@@ -46,36 +49,44 @@ after_command read next = do
   command ← only_if (may_follow read.commands) next.0
   Some (with_command read next.1 command)
 
-command_fits : (shape : Shape) (read : LaneRead) (next : Command × Mentions) → FitsSo shape read.commands → names_lanes shape.lanes next.0 ≡ true
+command_fits : (shape : Shape) (read : LaneRead) (next : Command × Mentions) → FitsSo shape read.commands
+    → names_lanes shape.lanes next.0 ≡ true
     → IfSome (after_command read next) (λ r. FitsSo shape r.commands)
 command_fits shape read next fit named =
     elim (may_follow read.commands next.0) as (λ (t : Bool). may_follow read.commands next.0 ≡ t
-    → IfSome ((if t then Some next.0 else None) >>= (λ command. Some (with_command read next.1 command))) (λ r. FitsSo shape r.commands)) [
+    → IfSome ((if t then Some next.0 else None) >>= (λ command. Some (with_command read next.1 command)))
+    (λ r. FitsSo shape r.commands)) [
       | true ↦ λ e. fit_more shape [] read.commands next.0 fit (fits shape read.commands next.0 named e)
       | false ↦ λ e. tt
     ] refl
 
-row_fits : (shape : Shape) (read : LaneRead) (d : Data) → FitsSo shape read.commands → IfSome (with_row shape.lanes read d) (λ r. FitsSo shape r.commands)
+row_fits : (shape : Shape) (read : LaneRead) (d : Data) → FitsSo shape read.commands
+    → IfSome (with_row shape.lanes read d) (λ r. FitsSo shape r.commands)
 unfolding with_row
 row_fits shape read d fit =
-    through_if (λ (p : Command × Mentions). names_lanes shape.lanes p.0 ≡ true) (λ (r : LaneRead). FitsSo shape r.commands) (command_in shape.lanes read.names d) (after_command read)
+    through_if (λ (p : Command × Mentions). names_lanes shape.lanes p.0 ≡ true)
+    (λ (r : LaneRead). FitsSo shape r.commands) (command_in shape.lanes read.names d) (after_command read)
     (command_named shape.lanes read.names d) (λ next named. command_fits shape read next fit named)
 
-rows_fit : (shape : Shape) (lane : ℕ) (read : LaneRead) (ds : List Data) (commands : List Command) → FitsSo shape read.commands → commands_after shape.lanes lane read ds ≡ Ok commands → FitsSo shape commands
+rows_fit : (shape : Shape) (lane : ℕ) (read : LaneRead) (ds : List Data) (commands : List Command)
+    → FitsSo shape read.commands → commands_after shape.lanes lane read ds ≡ Ok commands → FitsSo shape commands
 rows_fit shape lane read [] commands fit is = let same : read.commands ≡ commands = cc in rw same at fit
 rows_fit shape lane read (d ∷ ds) commands fit is =
     elim (with_row shape.lanes read d) as (λ (o : Option LaneRead). IfSome o (λ r. FitsSo shape r.commands)
-    → option_map_or (λ next. commands_after shape.lanes lane next ds) o (Err (refusals.Shape lane (length read.commands))) ≡ Ok commands → FitsSo shape commands) [
+    → option_map_or (λ next. commands_after shape.lanes lane next ds) o
+    (Err (refusals.Shape lane (length read.commands))) ≡ Ok commands → FitsSo shape commands) [
       | None ↦ λ known e. cc
       | Some next ↦ λ known e. rows_fit shape lane next ds commands known e
     ] (row_fits shape read d fit) is
 
 -- ---- A lane.
 
-pub lane_fits : (shape : Shape) (lane : ℕ) (d : Data) (commands : List Command) → lane_in shape.lanes lane d ≡ Ok commands → FitsSo shape commands
+pub lane_fits : (shape : Shape) (lane : ℕ) (d : Data) (commands : List Command)
+    → lane_in shape.lanes lane d ≡ Ok commands → FitsSo shape commands
 unfolding lane_in
 lane_fits shape lane d commands is =
-    elim (array_in d) as (λ (o : Option (List Data)). option_map_or (commands_after shape.lanes lane nothing_read) o (Err (refusals.Shape lane 0)) ≡ Ok commands → FitsSo shape commands) [
+    elim (array_in d) as (λ (o : Option (List Data)). option_map_or (commands_after shape.lanes lane nothing_read) o
+    (Err (refusals.Shape lane 0)) ≡ Ok commands → FitsSo shape commands) [
       | None ↦ λ e. cc
       | Some ds ↦ λ e. rows_fit shape lane nothing_read ds commands refl e
     ] is

@@ -18,47 +18,67 @@ pub rest_at : (values : List Value) (i : ℕ) (value : Value) → i < length val
     → drop i (map view values) ≡ view value ∷ drop (i + 1) (map view values)
 rest_at values i value h is =
     let below : i < length (map view values) = omega (arith, length-map values view) in
-    let here : get_or (map view values) i (view value) ≡ view value = get_or-map view values i value (view value) h ∙ ap view (sym is) in
+    let here : get_or (map view values) i (view value) ≡ view value = get_or-map view values i value (view value) h
+    ∙ ap view (sym is) in
     rw (add-one, drop-cons (map view values) i (view value), here) refl
 
 -- a row that is a command
-pub row_taken : (lanes lane : ℕ) (old new : LaneRead) (i : ℕ) (rows : List Value) (row : Value) (all : Result (List Command) TraceNo) → i < length rows → row ≡ get_or rows i row
+pub row_taken : (lanes lane : ℕ) (old new : LaneRead) (i : ℕ) (rows : List Value) (row : Value)
+    (all : Result (List Command) TraceNo) → i < length rows → row ≡ get_or rows i row
     → all ≡ commands_after lanes lane old (drop i (map view rows)) → with_row lanes old (view row) ≡ Some new
     → all ≡ commands_after lanes lane new (drop (i + 1) (map view rows))
 row_taken lanes lane old new i rows row all h is before taken = rw (before, rest_at rows i row h is, taken) refl
 
 -- a row that is none
-pub row_refused : (e : TraceNo) (lanes lane : ℕ) (old new : LaneRead) (i : ℕ) (rows : List Value) (row : Value) (all : Result (List Command) TraceNo) → i < length rows → row ≡ get_or rows i row
-    → all ≡ commands_after lanes lane old (drop i (map view rows)) → TakesRow (Err e) lane old new (with_row lanes old (view row))
+pub row_refused : (e : TraceNo) (lanes lane : ℕ) (old new : LaneRead) (i : ℕ) (rows : List Value) (row : Value)
+    (all : Result (List Command) TraceNo) → i < length rows → row ≡ get_or rows i row
+    → all ≡ commands_after lanes lane old (drop i (map view rows))
+    → TakesRow (Err e) lane old new (with_row lanes old (view row))
     → GivesAs {A = List Command} (λ commands. commands) (Err e) all
 row_refused refusals.Memory lanes lane old new i rows row all h is before refused = tt
-row_refused refusals.Syntax lanes lane old new i rows row all h is before (none, why) = rw (before, rest_at rows i row h is, none, why) refl
-row_refused (refusals.Shape l n) lanes lane old new i rows row all h is before (none, why) = rw (before, rest_at rows i row h is, none, why) refl
-row_refused (refusals.Limit limit) lanes lane old new i rows row all h is before (none, why) = rw (before, rest_at rows i row h is, none, why) refl
-row_refused (refusals.Stuck l n) lanes lane old new i rows row all h is before (none, why) = rw (before, rest_at rows i row h is, none, why) refl
-row_refused refusals.Options lanes lane old new i rows row all h is before (none, why) = rw (before, rest_at rows i row h is, none, why) refl
+row_refused refusals.Syntax lanes lane old new i rows row all h is before (none, why) =
+    rw (before, rest_at rows i row h is, none, why) refl
+row_refused (refusals.Shape l n) lanes lane old new i rows row all h is before (none, why) =
+    rw (before, rest_at rows i row h is, none, why) refl
+row_refused (refusals.Limit limit) lanes lane old new i rows row all h is before (none, why) =
+    rw (before, rest_at rows i row h is, none, why) refl
+row_refused (refusals.Stuck l n) lanes lane old new i rows row all h is before (none, why) =
+    rw (before, rest_at rows i row h is, none, why) refl
+row_refused refusals.Options lanes lane old new i rows row all h is before (none, why) =
+    rw (before, rest_at rows i row h is, none, why) refl
 
 -- ---- Lanes.
 
 -- a lane that has its form
-pub lane_taken : (lanes : ℕ) (front new : List (List Command)) (i : ℕ) (values : List Value) (value : Value) (all : Reading) → i < length values → value ≡ get_or values i value
-    → all ≡ lanes_after lanes front (drop i (map view values)) → (lane : List Command) × ((lane_in lanes (length front) (view value) ≡ Ok lane) × (new ≡ front ++ lane ∷ []))
+pub lane_taken : (lanes : ℕ) (front new : List (List Command)) (i : ℕ) (values : List Value) (value : Value)
+    (all : Reading) → i < length values → value ≡ get_or values i value
+    → all ≡ lanes_after lanes front (drop i (map view values))
+    → (lane : List Command) × ((lane_in lanes (length front) (view value) ≡ Ok lane) × (new ≡ front ++ lane ∷ []))
     → all ≡ lanes_after lanes new (drop (i + 1) (map view values))
-lane_taken lanes front new i values value all h is before (lane, (taken, more)) = rw (before, rest_at values i value h is, taken, more) refl
+lane_taken lanes front new i values value all h is before (lane, (taken, more)) =
+    rw (before, rest_at values i value h is, taken, more) refl
 
 -- a lane that has none
-pub lane_refused : (e : TraceNo) (lanes : ℕ) (front new : List (List Command)) (i : ℕ) (values : List Value) (value : Value) (all : Reading) → i < length values → value ≡ get_or values i value
-    → all ≡ lanes_after lanes front (drop i (map view values)) → TakesLane (Err e) front new (lane_in lanes (length front) (view value)) → GivesLanes (Err e) all
+pub lane_refused : (e : TraceNo) (lanes : ℕ) (front new : List (List Command)) (i : ℕ) (values : List Value)
+    (value : Value) (all : Reading) → i < length values → value ≡ get_or values i value
+    → all ≡ lanes_after lanes front (drop i (map view values))
+    → TakesLane (Err e) front new (lane_in lanes (length front) (view value)) → GivesLanes (Err e) all
 lane_refused refusals.Memory lanes front new i values value all h is before refused = tt
-lane_refused refusals.Syntax lanes front new i values value all h is before refused = rw (before, rest_at values i value h is, refused) refl
-lane_refused (refusals.Shape l n) lanes front new i values value all h is before refused = rw (before, rest_at values i value h is, refused) refl
-lane_refused (refusals.Limit limit) lanes front new i values value all h is before refused = rw (before, rest_at values i value h is, refused) refl
-lane_refused (refusals.Stuck l n) lanes front new i values value all h is before refused = rw (before, rest_at values i value h is, refused) refl
-lane_refused refusals.Options lanes front new i values value all h is before refused = rw (before, rest_at values i value h is, refused) refl
+lane_refused refusals.Syntax lanes front new i values value all h is before refused =
+    rw (before, rest_at values i value h is, refused) refl
+lane_refused (refusals.Shape l n) lanes front new i values value all h is before refused =
+    rw (before, rest_at values i value h is, refused) refl
+lane_refused (refusals.Limit limit) lanes front new i values value all h is before refused =
+    rw (before, rest_at values i value h is, refused) refl
+lane_refused (refusals.Stuck l n) lanes front new i values value all h is before refused =
+    rw (before, rest_at values i value h is, refused) refl
+lane_refused refusals.Options lanes front new i values value all h is before refused =
+    rw (before, rest_at values i value h is, refused) refl
 
 -- ---- Refusals.
 
 -- a refusal that `?` gave on
-pub given_on : {A B : Type 0} (seen : A → B) (r : Result A TraceNo) (e : TraceNo) (all : Result B TraceNo) → IsErrAnd r (λ f. f ≡ e) → GivesAs seen (Err e) all → GivesAs seen r all
+pub given_on : {A B : Type 0} (seen : A → B) (r : Result A TraceNo) (e : TraceNo) (all : Result B TraceNo)
+    → IsErrAnd r (λ f. f ≡ e) → GivesAs seen (Err e) all → GivesAs seen r all
 given_on seen (Ok a) e all never given = absurd never
 given_on seen (Err f) e all same given = rw same given

@@ -21,28 +21,40 @@ use Rattle.trace_text.proofs.LaneFits.{FitsSo, lane_fits}
 
 -- ---- Lanes.
 
-lanes_fit : (shape : Shape) (front : List (List Command)) (ds : List Data) (lanes : List (List Command)) → All (FitsSo shape) front → lanes_after shape.lanes front ds ≡ Ok lanes → All (FitsSo shape) lanes
+lanes_fit : (shape : Shape) (front : List (List Command)) (ds : List Data) (lanes : List (List Command))
+    → All (FitsSo shape) front → lanes_after shape.lanes front ds ≡ Ok lanes → All (FitsSo shape) lanes
 lanes_fit shape front [] lanes fit is = let same : front ≡ lanes = cc in rw same at fit
 lanes_fit shape front (d ∷ ds) lanes fit is =
-    elim (lane_in shape.lanes (length front) d) as (λ (r : Result (List Command) TraceNo). lane_in shape.lanes (length front) d ≡ r
+    elim (lane_in shape.lanes (length front) d) as (λ (r : Result (List Command) TraceNo). lane_in shape.lanes
+    (length front) d ≡ r
     → (r >>= (λ lane. lanes_after shape.lanes (front ++ lane ∷ []) ds)) ≡ Ok lanes → All (FitsSo shape) lanes) [
-      | Ok lane ↦ λ e more. lanes_fit shape (front ++ lane ∷ []) ds lanes (All-push (FitsSo shape) front lane fit (lane_fits shape (length front) d lane e)) more
+      | Ok lane ↦
+          λ e more. lanes_fit shape (front ++ lane ∷ []) ds lanes
+          (All-push (FitsSo shape) front lane fit (lane_fits shape (length front) d lane e)) more
       | Err why ↦ λ e never. cc
     ] refl is
 
 -- as many lanes as values
-lanes_long : (count : ℕ) (front : List (List Command)) (ds : List Data) (lanes : List (List Command)) → lanes_after count front ds ≡ Ok lanes → length lanes ≡ length front + length ds
+lanes_long : (count : ℕ) (front : List (List Command)) (ds : List Data) (lanes : List (List Command))
+    → lanes_after count front ds ≡ Ok lanes → length lanes ≡ length front + length ds
 lanes_long count front [] lanes is = let same : front ≡ lanes = cc in rw same (omega arith)
 lanes_long count front (d ∷ ds) lanes is =
-    elim (lane_in count (length front) d) as (λ (r : Result (List Command) TraceNo). (r >>= (λ lane. lanes_after count (front ++ lane ∷ []) ds)) ≡ Ok lanes → length lanes ≡ length front + length (d ∷ ds)) [
-      | Ok lane ↦ λ more. let long = lanes_long count (front ++ lane ∷ []) ds lanes more in omega (arith, long, length-append front (lane ∷ []))
+    elim (lane_in count (length front) d) as (λ (r : Result (List Command) TraceNo).
+    (r >>= (λ lane. lanes_after count (front ++ lane ∷ []) ds)) ≡ Ok lanes
+    → length lanes ≡ length front + length (d ∷ ds)) [
+      | Ok lane ↦
+          λ more. let long =
+          lanes_long count (front ++ lane ∷ []) ds lanes more in
+          omega (arith, long, length-append front (lane ∷ []))
       | Err why ↦ λ never. cc
     ] is
 
-trace_fits : (shape : Shape) (d : Data) (lanes : List (List Command)) → trace_in d ≡ Ok lanes → shape.lanes ≡ length lanes → All (FitsSo shape) lanes
+trace_fits : (shape : Shape) (d : Data) (lanes : List (List Command)) → trace_in d ≡ Ok lanes
+    → shape.lanes ≡ length lanes → All (FitsSo shape) lanes
 unfolding trace_in
 trace_fits shape d lanes is count =
-    elim (array_in d) as (λ (o : Option (List Data)). option_map_or lanes_in o (Err (refusals.Shape 0 0)) ≡ Ok lanes → All (FitsSo shape) lanes) [
+    elim (array_in d) as (λ (o : Option (List Data)). option_map_or lanes_in o (Err (refusals.Shape 0 0)) ≡ Ok lanes
+    → All (FitsSo shape) lanes) [
       | None ↦ λ e. cc
       | Some values ↦ values_fit values
     ] is
@@ -50,9 +62,11 @@ trace_fits shape d lanes is count =
     values_fit : (values : List Data) → lanes_in values ≡ Ok lanes → All (FitsSo shape) lanes
     values_fit [] e = cc
     values_fit (v ∷ vs) e =
-        let long : length lanes ≡ length (v ∷ vs) = lanes_long (length (v ∷ vs)) [] (v ∷ vs) lanes e ∙ zero-add (length (v ∷ vs)) in
+        let long : length lanes ≡ length (v ∷ vs) = lanes_long (length (v ∷ vs)) [] (v ∷ vs) lanes e
+        ∙ zero-add (length (v ∷ vs)) in
         let same : length (v ∷ vs) ≡ shape.lanes = sym (count ∙ long) in
-        lanes_fit shape [] (v ∷ vs) lanes (λ k d below. absurd (omega arith)) (subst (λ (n : ℕ). lanes_after n [] (v ∷ vs) ≡ Ok lanes) same e)
+        lanes_fit shape [] (v ∷ vs) lanes (λ k d below. absurd (omega arith))
+        (subst (λ (n : ℕ). lanes_after n [] (v ∷ vs) ≡ Ok lanes) same e)
 
 -- ---- What each lane is given.
 
@@ -61,7 +75,8 @@ lane_short [] k = omega arith
 lane_short (cs ∷ rest) zero = omega arith
 lane_short (cs ∷ rest) (suc k) = let short = lane_short rest k in omega (arith, short)
 
-lane_fit : (shape : Shape) (lanes : List (List Command)) (k : ℕ) → All (FitsSo shape) lanes → FitsSo shape (of_lane lanes k)
+lane_fit : (shape : Shape) (lanes : List (List Command)) (k : ℕ) → All (FitsSo shape) lanes
+    → FitsSo shape (of_lane lanes k)
 lane_fit shape lanes k fit = elim (cases_lt k (length lanes)) [
   | inl below ↦ rw (slice_get-get_or lanes k [] below) (fit k [] below)
   | inr past ↦ rw (slice_get_past lanes k past) refl
@@ -75,14 +90,16 @@ pub in_turn : {A B : Type 0} (r : Result A TraceNo) (next : A → Result B Trace
 in_turn (Ok a) next b is = (a, (refl, is))
 in_turn (Err why) next b is = cc
 
-limited_so : (lanes found : List (List Command)) → limited lanes ≡ Ok found → (lanes ≡ found) × (command_count lanes ≤ command_limit)
+limited_so : (lanes found : List (List Command)) → limited lanes ≡ Ok found
+    → (lanes ≡ found) × (command_count lanes ≤ command_limit)
 unfolding limited
 limited_so lanes found is = grind (arith, is)
 
 unstuck_so : (lanes found : List (List Command)) → unstuck lanes ≡ Ok found → lanes ≡ found
 unfolding unstuck
 unstuck_so lanes found is =
-    elim (stuck_at lanes) as (λ (o : Option (ℕ × ℕ)). option_map_or (λ place. Err (refusals.Stuck place.0 place.1)) o (Ok lanes) ≡ Ok found → lanes ≡ found) [
+    elim (stuck_at lanes) as (λ (o : Option (ℕ × ℕ)). option_map_or (λ place. Err (refusals.Stuck place.0 place.1)) o
+    (Ok lanes) ≡ Ok found → lanes ≡ found) [
       | None ↦ λ e. cc
       | Some place ↦ λ e. cc
     ] is
@@ -94,7 +111,8 @@ unfolding accepted
 accepted_so d lanes is =
     let (few, (few_is, moves)) = in_turn (trace_in d >>= limited) unstuck lanes is in
     let (formed, (formed_is, in_limits)) = in_turn (trace_in d) limited few few_is in
-    let bounded = subst (λ (found : List (List Command)). limited formed ≡ Ok found) (unstuck_so few lanes moves) in_limits in
+    let bounded = subst (λ (found : List (List Command)). limited formed ≡ Ok found) (unstuck_so few lanes moves)
+    in_limits in
     (formed, (formed_is, bounded))
 
 -- the lanes that are accepted are what a run needs

@@ -16,7 +16,8 @@ value_of_text text d utf8 e = rw (is_utf8-from_IsUtf8 text utf8, e) refl
 pub no_value : (text : List ℕ) → (IsUtf8 text → read text ≡ None) → value_of text ≡ Err Syntax
 unfolding value_of
 no_value text none =
-    elim (is_utf8 text) as (λ (b : Bool). is_utf8 text ≡ b → (if b then ok_or (read text) Syntax else Err Syntax) ≡ Err Syntax) [
+    elim (is_utf8 text) as (λ (b : Bool). is_utf8 text ≡ b
+    → (if b then ok_or (read text) Syntax else Err Syntax) ≡ Err Syntax) [
       | true ↦ λ e. rw (none (IsUtf8-from_is_utf8 text e)) refl
       | false ↦ λ e. refl
     ] refl

@@ -10,5 +10,6 @@ pub listed-items_of : (ds : List Data) → listed (items_of ds) ≡ ds
 listed-items_of [] = refl
 listed-items_of (d ∷ ds) = ap (λ (es : List Data). d ∷ es) (listed-items_of ds)
 
-pub item_view : (values : List Value) (i : ℕ) (d : Value) → i < length values → item_at (map view values) i ≡ view (get_or values i d)
+pub item_view : (values : List Value) (i : ℕ) (d : Value) → i < length values
+    → item_at (map view values) i ≡ view (get_or values i d)
 item_view values i d h = get_or-map view values i d null h

@@ -214,6 +214,7 @@ fn made(alloc: Global, change: Change) -> Result<Run, AllocError> {
         lanes: vec![in alloc; Items::of(commands(alloc)?)]?,
         logs: vec![in alloc; log]?,
         used: 8192,
+        free: 4186112,
         leaks: Vec::new(alloc),
     };
     run_of(alloc, parts)

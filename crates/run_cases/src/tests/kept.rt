@@ -53,6 +53,7 @@ fn made(alloc: Global, hit: RegionId) -> Result<Run, AllocError> {
         lanes: vec![in alloc; Items::of(commands)]?,
         logs: vec![in alloc; log]?,
         used: 8192,
+        free: 4186112,
         leaks: Vec::new(alloc),
     };
     run_of(alloc, parts)

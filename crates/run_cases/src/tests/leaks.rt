@@ -28,6 +28,7 @@ fn staying(alloc: Global, leaks: Vec<Leak>) -> Result<Run, AllocError> {
         lanes: vec![in alloc; Items::of(commands)]?,
         logs: vec![in alloc; log_of(replies, notes)]?,
         used: 8192,
+        free: 4186112,
         leaks,
     };
     run_of(alloc, parts)

@@ -137,6 +137,7 @@ fn made(alloc: Global, run: &Smallest) -> Result<Run, AllocError> {
         lanes: vec![in alloc; commands(alloc)?]?,
         logs: vec![in alloc; log]?,
         used: run.used,
+        free: 4186112,
         leaks: Vec::new(alloc),
     };
     run_of(alloc, parts)

@@ -144,6 +144,7 @@ fn made(alloc: Global, case: Case) -> Result<Run, AllocError> {
         lanes: commands(alloc)?,
         logs: vec![in alloc; sender(alloc, case)?, receiver]?,
         used: 8192,
+        free: 4186112,
         leaks: leaks(alloc)?,
     };
     run_of(alloc, parts)

@@ -111,6 +111,7 @@ fn made(alloc: Global, run: Second) -> Result<Run, AllocError> {
         lanes: commands(alloc)?,
         logs: vec![in alloc; sending, receiving]?,
         used: 8192,
+        free: 4186112,
         leaks: Vec::new(alloc),
     };
     run_of(alloc, parts)

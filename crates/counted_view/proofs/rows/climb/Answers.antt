@@ -15,10 +15,13 @@ loop-parent-preserved c =
     let here : slice_get rows at ≡ Some x = slice_get_read rows (length rows) at x refl within c.index.ensures in
     let ends : ended_parent x ≡ Some p = sym c.in-Some.ensures in
     let below : p < at = ended_below rows at p x kept.owing here ends in
-    let there : slice_get rows p ≡ Some y = slice_get_read rows (length rows) p y refl (omega (arith, below, within)) c.index_mut.ensures.value in
+    let there : slice_get rows p ≡ Some y = slice_get_read rows (length rows) p y refl (omega (arith, below, within))
+    c.index_mut.ensures.value in
     record {
       owing = IsOwing-step rows at p x y kept.owing here ends there;
-      climbed = HasClimbed-step rows at p x y kept.owing here ends there c.args.rows.now.items c.args.start c.loop-parent.ended kept.climbed;
+      climbed =
+          HasClimbed-step rows at p x y kept.owing here ends there c.args.rows.now.items c.args.start
+          c.loop-parent.ended kept.climbed;
       len = length-set rows p (lessened y) ∙ kept.len;
       room = kept.room;
     }

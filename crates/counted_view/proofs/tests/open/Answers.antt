@@ -5,7 +5,8 @@ use Rattle.counted_view.specs.declared.tests.TheConstants.{LAYOUT}
 use Rattle.counted_view.proofs.tests.open.Goals as goal
 
 -- the last of one element
-only_one : {X : Type 0} (P : X → Type 0) (items rest : List X) (a : X) → length items ≡ 1 → items ≡ rest ++ a ∷ [] → HoldsAt P items 0 → P a
+only_one : {X : Type 0} (P : X → Type 0) (items rest : List X) (a : X) → length items ≡ 1 → items ≡ rest ++ a ∷ []
+    → HoldsAt P items 0 → P a
 only_one {X} P items rest a many e each = go rest e
   where
     go : (rest : List X) → items ≡ rest ++ a ∷ [] → P a
@@ -17,4 +18,5 @@ only_one {X} P items rest a many e each = go rest e
 pub returns-clause-seat : goal.returns-clause-seat
 returns-clause-seat c =
     let s = c.in_ok-pool.ensures.seats in
-    only_one (IsOpened LAYOUT (1 ∷ []) c.in_ok-pool.pool 0) c.in_ok-pool.seats.items c.pop.new.self.items c.in-Some.seat s.many c.in-Some.ensures.items (s.each 0 (omega arith))
+    only_one (IsOpened LAYOUT (1 ∷ []) c.in_ok-pool.pool 0) c.in_ok-pool.seats.items c.pop.new.self.items c.in-Some.seat
+    s.many c.in-Some.ensures.items (s.each 0 (omega arith))

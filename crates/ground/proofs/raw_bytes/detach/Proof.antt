@@ -81,7 +81,8 @@ module _ (A : RattleType) (L : Laws A) (g : Ghosts A.Denot) (d dd : Dict) where
       abbrev toks : SProp 𝓤
       toks = alive 𝓛 ended.signature z.0.0 z.0.1
 
-      walks : ent 𝓤 ((walk_of 𝓛 ended stayed held).pre z) (WpFn 𝓤 H C Λ function ((walk_of 𝓛 ended stayed held).args z) Post)
+      walks : ent 𝓤 ((walk_of 𝓛 ended stayed held).pre z)
+          (WpFn 𝓤 H C Λ function ((walk_of 𝓛 ended stayed held).args z) Post)
       walks =
           let a = z.0.3 in
           let vss = z.0.4 in
@@ -91,21 +92,28 @@ module _ (A : RattleType) (L : Laws A) (g : Ghosts A.Denot) (d dd : Dict) where
           let Asked = 0 < v.len in
           let e : S.Denot = record { ptr = v.ptr; len = v.len } in
           let r : (Run.the_row).Denot = record { ptr = v.ptr; items = v.items } in
-          qed 𝓛 ((raw toks ⊛ ‵ (owns (types_at ended.signature.params z.0.0) a vss)) ∷ (raw (fact 𝓤 (z.0.0.0 ⊑ A.lives)) ⊛ raw (fact 𝓤 Asked)) ∷ []) ∵
+          qed 𝓛 ((raw toks ⊛ ‵ (owns (types_at ended.signature.params z.0.0) a vss))
+          ∷ (raw (fact 𝓤 (z.0.0.0 ⊑ A.lives)) ⊛ raw (fact 𝓤 Asked)) ∷ []) ∵
           move ! (1 ∷ []) $ split ! $ drop ! $ heard ! Asked (λ asked. split ! $ move ! (1 ∷ []) $
-          fsplit ! $ tells ! V (vec_laws.the_row_laws u8 P g (of_field u8-field u8-laws refl (copy_shared u8-field u8-copy)) LP) v vss.0 (λ u is good. move ! (1 ∷ []) $ drop ! $
+          fsplit ! $ tells ! V (vec_laws.the_row_laws u8 P g
+          (of_field u8-field u8-laws refl (copy_shared u8-field u8-copy)) LP) v vss.0
+          (λ u is good. move ! (1 ∷ []) $ drop ! $
           let inner = as_fields ((layout V) ∷ []) (u ∷ []) (good, tt) in
-          use1 𝓛 (‵ (raw_bytes_owns v.ptr v.items) ⊛ ‵ (Sole.the_own P g e (one u ∷ []))) (carve P g 𝓛 v u asked) $ split ! $
-          none_made ! $ fjoin ! $ move ! (1 ∷ []) $ nothing ! $ fpack ! (Typed S.mir (one u ∷ [])) (λ _. ftrue) (inner, tt) $ fjoin ! $ move ! (1 ∷ 0 ∷ []) $
+          use1 𝓛 (‵ (raw_bytes_owns v.ptr v.items) ⊛ ‵ (Sole.the_own P g e (one u ∷ []))) (carve P g 𝓛 v u asked) $
+          split ! $
+          none_made ! $ fjoin ! $ move ! (1 ∷ []) $ nothing ! $ fpack ! (Typed S.mir (one u ∷ [])) (λ _. ftrue)
+          (inner, tt) $ fjoin ! $ move ! (1 ∷ 0 ∷ []) $
           two_made ! Run.the_row S r e none (one u) $
           regoal ! (λ (us : List Val). prop (WpFn 𝓤 H C Λ function (us ++ []) Post)) is refl $
           enter ! C Λ function (u ∷ []) Post $ alloc_all ! (λ l. pass_all ! refl (good, tt) $
           sets ! (agg ! (no_more !)) refl (tt, tt) $
           sets ! (of_opd ! (get ! refl)) refl good $
           sets ! (agg ! (and_then ! (get ! refl) (no_more !))) refl inner $
-          sets ! (agg ! (and_then ! (get ! refl) (and_then ! (get ! refl) (no_more !)))) refl (as_fields (layout Run.the_row ∷ layout S ∷ []) (none ∷ one u ∷ []) ((tt, tt), (inner, tt))) $
+          sets ! (agg ! (and_then ! (get ! refl) (and_then ! (get ! refl) (no_more !)))) refl
+          (as_fields (layout Run.the_row ∷ layout S ∷ []) (none ∷ one u ∷ []) ((tt, tt), (inner, tt))) $
           returns ! (look_at ! 0 refl) $ free_all ! refl $
-          suffices ! _ (ends_at 𝓛 ended stayed held z (two none (one u)) (r, e) ((tt, (tt, (tt, (tt, tt)))), tt) (tt, tt)) $ says ! (refl, refl, refl, refl) $
+          suffices ! _ (ends_at 𝓛 ended stayed held z (two none (one u)) (r, e) ((tt, (tt, (tt, (tt, tt)))), tt)
+          (tt, tt)) $ says ! (refl, refl, refl, refl) $
           nothing ! $ nothing ! $ fjoin ! $ move ! (2 ∷ 0 ∷ 1 ∷ []) $ done !)))
 
     meets : (𝓣 : Tables 𝓤 H) → Meets 𝓛 ended.signature (WpFn 𝓤 H 𝓣.C 𝓣.Λ function) (closing 𝓛 ended held)
@@ -117,5 +125,7 @@ pub detach_spec : {M : Type 1} → stated.statement M
 unfolding tables_of
 detach_spec 𝓤 𝓛 𝓜 𝓡 wired A L g d dd met md =
     let 𝓣 : Tables 𝓤 𝓛.H = tables_of 𝓤 𝓛.H 𝓜 (tables 𝓤 𝓛.H 𝓜 𝓡 𝓡.env) in
-    entered 𝓤 𝓛.H (triple_of 𝓛 (ended A L g d dd).signature (closing 𝓛 (ended A L g d dd) (held A L g d dd 𝓛 𝓜.mem 𝓡.returns))) 𝓣.C 𝓣.Λ (#self (args A L g d dd)) (function A L g d dd)
+    entered 𝓤 𝓛.H (triple_of 𝓛 (ended A L g d dd).signature
+    (closing 𝓛 (ended A L g d dd) (held A L g d dd 𝓛 𝓜.mem 𝓡.returns))) 𝓣.C 𝓣.Λ (#self (args A L g d dd))
+    (function A L g d dd)
     (code.unfolded 𝓤 𝓛.H 𝓜 𝓡 wired (A, tt) d dd) (meets A L g d dd 𝓛 𝓜.mem 𝓡.returns 𝓣)

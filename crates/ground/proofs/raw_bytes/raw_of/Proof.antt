@@ -58,14 +58,16 @@ module _ {M : Type 1} {𝓤 : Ura M} (𝓛 : Logic 𝓤) (at_mem : Memory → SP
   abbrev held : Clauses 𝓤 ended
   held = F.clauses 𝓛 at_mem run
 
-  module _ (C : Calls 𝓤 H) (Λ : Loops 𝓤 H) (framed : FmC 𝓤 H 𝓛.laws C) (called : Triple 𝓤 (C key) (Dislodges 𝓛 at_mem run)) (z : (walk_of 𝓛 ended stayed held).Ghost) where
+  module _ (C : Calls 𝓤 H) (Λ : Loops 𝓤 H) (framed : FmC 𝓤 H 𝓛.laws C)
+      (called : Triple 𝓤 (C key) (Dislodges 𝓛 at_mem run)) (z : (walk_of 𝓛 ended stayed held).Ghost) where
     abbrev Post : Val → SProp 𝓤
     Post = (walk_of 𝓛 ended stayed held).post z
 
     abbrev toks : SProp 𝓤
     toks = alive 𝓛 ended.signature z.0.0 z.0.1
 
-    walks : ent 𝓤 ((walk_of 𝓛 ended stayed held).pre z) (WpFn 𝓤 H C Λ function ((walk_of 𝓛 ended stayed held).args z) Post)
+    walks : ent 𝓤 ((walk_of 𝓛 ended stayed held).pre z)
+        (WpFn 𝓤 H C Λ function ((walk_of 𝓛 ended stayed held).args z) Post)
     walks =
         let a = z.0.3 in
         let vss = z.0.4 in
@@ -78,9 +80,11 @@ module _ {M : Type 1} {𝓤 : Ura M} (𝓛 : Logic 𝓤) (at_mem : Memory → SP
         let y = at_dislodge 𝓛 at_mem run v u in
         regoal ! (λ (us : List Val). prop (WpFn 𝓤 H C Λ function (us ++ []) Post)) is refl $
         enter ! C Λ function (u ∷ []) Post $ alloc_all ! (λ l. pass_all ! refl (good, tt) $
-        sets ! (of_opd ! (get ! refl)) refl good $ use1 𝓛 (raw ((Dislodges 𝓛 at_mem run).pre y)) (dislodge_goes 𝓛 at_mem run v u) $
+        sets ! (of_opd ! (get ! refl)) refl good $ use1 𝓛 (raw ((Dislodges 𝓛 at_mem run).pre y))
+        (dislodge_goes 𝓛 at_mem run v u) $
         calls_at ! framed (Dislodges 𝓛 at_mem run) called y (and_then ! (get ! refl) (no_more !)) (λ w.
-        use1 𝓛 (later (given ((w ≡ vint w64 v.len) × (v.len < 2 ^ 64)) (‵ (raw_bytes_owns v.ptr v.items)))) (dislodge_gives 𝓛 at_mem run v u asked w) $ await ! tt $ learn ! (λ got.
+        use1 𝓛 (later (given ((w ≡ vint w64 v.len) × (v.len < 2 ^ 64)) (‵ (raw_bytes_owns v.ptr v.items))))
+        (dislodge_gives 𝓛 at_mem run v u asked w) $ await ! tt $ learn ! (λ got.
         lands_as ! got.0 refl (tt, record { fits = got.1 }) $
         sets ! (agg ! (no_more !)) refl (tt, tt) $
         none_made ! $ fjoin ! $
@@ -88,7 +92,8 @@ module _ {M : Type 1} {𝓤 : Ura M} (𝓛 : Logic 𝓤) (at_mem : Memory → SP
         suffices ! _ (ends_at 𝓛 ended stayed held z none r (tt, tt) (tt, tt)) $ says ! (refl, refl) $
         nothing ! $ nothing ! $ fjoin ! $ move ! (2 ∷ 0 ∷ 1 ∷ []) $ done !)))))
 
-  meets : (𝓣 : Tables 𝓤 H) → Triple 𝓤 (𝓣.C key) (Dislodges 𝓛 at_mem run) → Meets 𝓛 ended.signature (WpFn 𝓤 H 𝓣.C 𝓣.Λ function) (closing 𝓛 ended held)
+  meets : (𝓣 : Tables 𝓤 H) → Triple 𝓤 (𝓣.C key) (Dislodges 𝓛 at_mem run)
+      → Meets 𝓛 ended.signature (WpFn 𝓤 H 𝓣.C 𝓣.Λ function) (closing 𝓛 ended held)
   meets 𝓣 called =
       walk_Meets 𝓛 ended stayed (Goes-blank 𝓛 0 (plain (λ _. Housed)) yes (λ κs x f. tt), tt) held
       (WpFn 𝓤 H 𝓣.C 𝓣.Λ function) (WpFn-mono 𝓤 H 𝓛.laws 𝓣 function) (walks 𝓣.C 𝓣.Λ (fm_of 𝓤 H 𝓛.laws 𝓣) called)
@@ -98,4 +103,6 @@ unfolding tables_of
 raw_of_spec 𝓤 𝓛 𝓜 𝓡 wired =
     let 𝓣 : Tables 𝓤 𝓛.H = tables_of 𝓤 𝓛.H 𝓜 (tables 𝓤 𝓛.H 𝓜 𝓡 𝓡.env) in
     entered 𝓤 𝓛.H (triple_of 𝓛 ended.signature (closing 𝓛 ended (held 𝓛 𝓜.mem 𝓡.returns))) 𝓣.C 𝓣.Λ #self function
-    (code.unfolded 𝓤 𝓛.H 𝓜 𝓡 wired) (meets 𝓛 𝓜.mem 𝓡.returns 𝓣 (callee.met 𝓤 𝓛 𝓜 𝓡 (code.calls-std_alloc::vec::lodged::Vec+T+Lodged::dislodge 𝓡.env wired) u8 byte_laws))
+    (code.unfolded 𝓤 𝓛.H 𝓜 𝓡 wired)
+    (meets 𝓛 𝓜.mem 𝓡.returns 𝓣 (callee.met 𝓤 𝓛 𝓜 𝓡
+    (code.calls-std_alloc::vec::lodged::Vec+T+Lodged::dislodge 𝓡.env wired) u8 byte_laws))

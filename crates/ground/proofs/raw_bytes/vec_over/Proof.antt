@@ -51,7 +51,10 @@ abbrev ended : Ended
 ended = F.ended
 
 abbrev stayed : Stays ended.signature.params ended.kept
-stayed = (stay_dropped (plain (λ _. RawPtr)) yes, (stay_dropped (plain (λ _. usize)) yes, (stay_dropped (plain (λ _. Run.the_row)) yes, tt)))
+stayed = (
+  stay_dropped (plain (λ _. RawPtr)) yes,
+  (stay_dropped (plain (λ _. usize)) yes, (stay_dropped (plain (λ _. Run.the_row)) yes, tt)),
+)
 
 module _ {M : Type 1} {𝓤 : Ura M} (𝓛 : Logic 𝓤) (at_mem : Memory → SProp 𝓤) (run : Routine → Fun 𝓤) where
   open 𝓛 use {H}
@@ -59,14 +62,16 @@ module _ {M : Type 1} {𝓤 : Ura M} (𝓛 : Logic 𝓤) (at_mem : Memory → SP
   abbrev held : Clauses 𝓤 ended
   held = F.clauses 𝓛 at_mem run
 
-  module _ (C : Calls 𝓤 H) (Λ : Loops 𝓤 H) (framed : FmC 𝓤 H 𝓛.laws C) (called : Triple 𝓤 (C key) (Lodges 𝓛 at_mem run)) (z : (walk_of 𝓛 ended stayed held).Ghost) where
+  module _ (C : Calls 𝓤 H) (Λ : Loops 𝓤 H) (framed : FmC 𝓤 H 𝓛.laws C) (called : Triple 𝓤 (C key) (Lodges 𝓛 at_mem run))
+      (z : (walk_of 𝓛 ended stayed held).Ghost) where
     abbrev Post : Val → SProp 𝓤
     Post = (walk_of 𝓛 ended stayed held).post z
 
     abbrev toks : SProp 𝓤
     toks = alive 𝓛 ended.signature z.0.0 z.0.1
 
-    walks : ent 𝓤 ((walk_of 𝓛 ended stayed held).pre z) (WpFn 𝓤 H C Λ function ((walk_of 𝓛 ended stayed held).args z) Post)
+    walks : ent 𝓤 ((walk_of 𝓛 ended stayed held).pre z)
+        (WpFn 𝓤 H C Λ function ((walk_of 𝓛 ended stayed held).args z) Post)
     walks =
         let a = z.0.3 in
         let vss = z.0.4 in
@@ -76,28 +81,48 @@ module _ {M : Type 1} {𝓤 : Ura M} (𝓛 : Logic 𝓤) (at_mem : Memory → SP
         let Asked = (a.1.1.0.ptr ≡ p) × (length xs ≡ n) × (0 < n) × (n < 2 ^ 63) in
         qed 𝓛 ((raw toks ⊛ ‵ (owns (types_at ended.signature.params z.0.0) a vss)) ∷ raw (fact 𝓤 Asked) ∷ []) ∵
         move ! (1 ∷ []) $ heard ! Asked (λ asked. split ! $ move ! (1 ∷ []) $
-        fsplit ! $ feq_l ! (λ is₀. fsplit ! $ fsplit ! $ feq_l ! (λ is₁. flt_l ! (λ fits. fsplit ! $ fsplit ! $ none_had ! vss.1.1.0 (λ is₂. move ! (1 ∷ []) $ drop ! $
-        rewrite ! 0 (λ r. ‵ (raw_bytes_owns r xs)) asked.0 refl $ in_a_block ! p (λ r. raw_bytes_owns r xs) (id⊢ 𝓤 (never 𝓤)) (λ b o at.
+        fsplit ! $ feq_l ! (λ is₀. fsplit ! $ fsplit ! $
+        feq_l ! (λ is₁. flt_l ! (λ fits. fsplit ! $ fsplit ! $ none_had ! vss.1.1.0
+        (λ is₂. move ! (1 ∷ []) $ drop ! $
+        rewrite ! 0 (λ r. ‵ (raw_bytes_owns r xs)) asked.0 refl $ in_a_block ! p (λ r. raw_bytes_owns r xs)
+        (id⊢ 𝓤 (never 𝓤)) (λ b o at.
         let y = at_lodge 𝓛 at_mem run b o n xs in
-        regoal ! (λ (us : List Val). prop (WpFn 𝓤 H C Λ function (us ++ (vss.1.0 ++ (vss.1.1.0 ++ []))) Post)) (is₀ ∙ ap (λ r. ptr_val r ∷ []) at) refl $
-        regoal ! (λ (us : List Val). prop (WpFn 𝓤 H C Λ function ((vptr b o ∷ []) ++ (us ++ (vss.1.1.0 ++ []))) Post)) is₁ refl $
-        regoal ! (λ (us : List Val). prop (WpFn 𝓤 H C Λ function ((vptr b o ∷ []) ++ ((vint w64 n ∷ []) ++ (us ++ []))) Post)) is₂ refl $
-        enter ! C Λ function (vptr b o ∷ vint w64 n ∷ none ∷ []) Post $ alloc_all ! (λ l. pass_all ! refl ((tt, tt), ((tt, record { fits = fits }), ((tt, tt), tt))) $
-        first ! $ blocks ! $ use1 𝓛 (raw ((Lodges 𝓛 at_mem run).pre y)) (lodge_goes 𝓛 at_mem run b o n xs asked.1 asked.2 asked.3) $
-        calls_at_last ! framed (Lodges 𝓛 at_mem run) called y (and_then ! (get ! refl) (and_then ! (get ! refl) (and_then ! (get ! refl) (no_more !)))) (λ v.
-        use1 𝓛 (later (some (λ (r : Vec ℕ Lodged). given (IsLodged 𝓛 at_mem run b o n xs r) (‵ (Housed.own_val r (v ∷ [])))))) (lodge_gives 𝓛 at_mem run b o n xs v) $
+        regoal ! (λ (us : List Val). prop (WpFn 𝓤 H C Λ function (us ++ (vss.1.0 ++ (vss.1.1.0 ++ []))) Post))
+        (is₀ ∙ ap (λ r. ptr_val r ∷ []) at) refl $
+        regoal ! (λ (us : List Val). prop (WpFn 𝓤 H C Λ function ((vptr b o ∷ []) ++ (us ++ (vss.1.1.0 ++ []))) Post))
+        is₁ refl $
+        regoal ! (λ (us : List Val). prop
+        (WpFn 𝓤 H C Λ function ((vptr b o ∷ []) ++ ((vint w64 n ∷ []) ++ (us ++ []))) Post)) is₂ refl $
+        enter ! C Λ function (vptr b o ∷ vint w64 n ∷ none ∷ []) Post $
+        alloc_all ! (λ l. pass_all ! refl ((tt, tt), ((tt, record { fits = fits }), ((tt, tt), tt))) $
+        first ! $ blocks ! $ use1 𝓛 (raw ((Lodges 𝓛 at_mem run).pre y))
+        (lodge_goes 𝓛 at_mem run b o n xs asked.1 asked.2 asked.3) $
+        calls_at_last ! framed (Lodges 𝓛 at_mem run) called y
+        (and_then ! (get ! refl) (and_then ! (get ! refl) (and_then ! (get ! refl) (no_more !)))) (λ v.
+        use1 𝓛 (later (some (λ (r : Vec ℕ Lodged). given (IsLodged 𝓛 at_mem run b o n xs r)
+        (‵ (Housed.own_val r (v ∷ [])))))) (lodge_gives 𝓛 at_mem run b o n xs v) $
         await ! tt $ pick ! (λ r. learn ! (λ is. tells ! Housed housed-laws r (v ∷ []) (λ u same good.
         let fine : Good Housed v = subst (Good Housed) (sym (ap only same)) good in
         rewrite ! 0 (λ w. ‵ (Housed.own_val r (w ∷ []))) (sym (ap only same)) refl $ lands_last ! refl fine $
-        exec ! C Λ (env function.locals l) (seq (assign (place 0 []) (rv_opd (copy (place 4 [])))) return) (at_ret (env function.locals l) Post) $
+        exec ! C Λ (env function.locals l) (seq (assign (place 0 []) (rv_opd (copy (place 4 [])))) return)
+        (at_ret (env function.locals l) Post) $
         sets ! (of_opd ! (get ! refl)) refl fine $
         returns ! (look_at ! 0 refl) $ free_all ! refl $
-        suffices ! _ (ends_at 𝓛 ended stayed held z v r (tt, (tt, (tt, tt))) (tt, (tt, (tt, tt)))) $ says ! (is.0, is.1, is.2, is.3 ∙ sym at) $
-        nothing ! $ nothing ! $ fjoin ! $ nothing ! $ fjoin ! $ nothing ! $ fjoin ! $ move ! (2 ∷ 0 ∷ 1 ∷ []) $ done !)))))))))))
+        suffices ! _ (ends_at 𝓛 ended stayed held z v r (tt, (tt, (tt, tt))) (tt, (tt, (tt, tt)))) $
+        says ! (is.0, is.1, is.2, is.3 ∙ sym at) $
+        nothing ! $ nothing ! $ fjoin ! $ nothing ! $ fjoin ! $ nothing ! $ fjoin ! $ move ! (2 ∷ 0 ∷ 1 ∷ []) $ done
+        !)))))))))))
 
-  meets : (𝓣 : Tables 𝓤 H) → Triple 𝓤 (𝓣.C key) (Lodges 𝓛 at_mem run) → Meets 𝓛 ended.signature (WpFn 𝓤 H 𝓣.C 𝓣.Λ function) (closing 𝓛 ended held)
+  meets : (𝓣 : Tables 𝓤 H) → Triple 𝓤 (𝓣.C key) (Lodges 𝓛 at_mem run)
+      → Meets 𝓛 ended.signature (WpFn 𝓤 H 𝓣.C 𝓣.Λ function) (closing 𝓛 ended held)
   meets 𝓣 called =
-      walk_Meets 𝓛 ended stayed (Goes-blank 𝓛 0 (plain (λ _. RawPtr)) yes (λ κs x f. tt), (Goes-blank 𝓛 0 (plain (λ _. usize)) yes (λ κs x f. tt), (Goes-blank 𝓛 0 (plain (λ _. Run.the_row)) yes (λ κs x f. tt), tt))) held
+      walk_Meets 𝓛 ended stayed (
+        Goes-blank 𝓛 0 (plain (λ _. RawPtr)) yes (λ κs x f. tt),
+        (
+          Goes-blank 𝓛 0 (plain (λ _. usize)) yes (λ κs x f. tt),
+          (Goes-blank 𝓛 0 (plain (λ _. Run.the_row)) yes (λ κs x f. tt), tt),
+        ),
+      ) held
       (WpFn 𝓤 H 𝓣.C 𝓣.Λ function) (WpFn-mono 𝓤 H 𝓛.laws 𝓣 function) (walks 𝓣.C 𝓣.Λ (fm_of 𝓤 H 𝓛.laws 𝓣) called)
 
 pub vec_over_spec : {M : Type 1} → stated.statement M
@@ -105,4 +130,5 @@ unfolding tables_of
 vec_over_spec 𝓤 𝓛 𝓜 𝓡 wired =
     let 𝓣 : Tables 𝓤 𝓛.H = tables_of 𝓤 𝓛.H 𝓜 (tables 𝓤 𝓛.H 𝓜 𝓡 𝓡.env) in
     entered 𝓤 𝓛.H (triple_of 𝓛 ended.signature (closing 𝓛 ended (held 𝓛 𝓜.mem 𝓡.returns))) 𝓣.C 𝓣.Λ #self function
-    (code.unfolded 𝓤 𝓛.H 𝓜 𝓡 wired) (meets 𝓛 𝓜.mem 𝓡.returns 𝓣 (callee.met 𝓤 𝓛 𝓜 𝓡 (code.calls-std_alloc::vec::lodge 𝓡.env wired) u8 byte_laws))
+    (code.unfolded 𝓤 𝓛.H 𝓜 𝓡 wired)
+    (meets 𝓛 𝓜.mem 𝓡.returns 𝓣 (callee.met 𝓤 𝓛 𝓜 𝓡 (code.calls-std_alloc::vec::lodge 𝓡.env wired) u8 byte_laws))

@@ -66,7 +66,8 @@ both_in : (s p q : Segment) (xs : List ℕ) (r r' r'' : Racked) → BothOut s p 
     → ((j : ℕ) → IsElement r' j q → r'' ≡ with_element r' j q.bytes) → r'' ≡ pushed s (overwritten p xs).bytes q.bytes
 both_in s p q xs r r' r'' out pushes pushes' =
     let w = overwritten p xs in
-    back 0 q r' r'' (with_element (pulled s) 3 w.bytes) (back 3 w r r' (pulled s) out.rack (written s p xs out.last) pushes)
+    back 0 q r' r'' (with_element (pulled s) 3 w.bytes)
+    (back 3 w r r' (pulled s) out.rack (written s p xs out.last) pushes)
     out.first pushes'
 
 pub pull-last-requires : goal.pull-last-requires
@@ -84,7 +85,8 @@ push-requires g c =
     let p = c.pull-last.result in
     let xs = slice_set c.bytes_mut.result.now 1 9 in
     let new = is_new c.new.result x c.expect-ground.ensures c.new.ensures.whole c.new.ensures.zeros in
-    let out = both_out s p c.pull-first.result c.of-rack.result c.pull-last.new.self c.pull-first.new.self new c.of-rack.ensures
+    let out = both_out s p c.pull-first.result c.of-rack.result c.pull-last.new.self c.pull-first.new.self new
+    c.of-rack.ensures
     c.pull-last.ensures.place c.pull-last.ensures.rack c.pull-first.ensures.place c.pull-first.ensures.rack in
     let P : Racked → Type 0 = λ x. IsOutOf x (overwritten p xs) in
     subst P (sym out.rack) (3, written s p xs out.last, refl)
@@ -100,7 +102,8 @@ push-requires-2 g c =
     let out = both_out s p q c.of-rack.result c.pull-last.new.self c.pull-first.new.self new c.of-rack.ensures
     c.pull-last.ensures.place c.pull-last.ensures.rack c.pull-first.ensures.place c.pull-first.ensures.rack in
     let P : Racked → Type 0 = λ x. IsOutOf x q in
-    let one = back 3 (overwritten p xs) c.pull-first.new.self c.push.new.self (pulled s) out.rack (written s p xs out.last) c.push.ensures in
+    let one = back 3 (overwritten p xs) c.pull-first.new.self c.push.new.self (pulled s) out.rack
+    (written s p xs out.last) c.push.ensures in
     subst P (sym one) (0, out.first, refl)
 
 pub into_piece-whole-requires : goal.into_piece-whole-requires
@@ -114,7 +117,8 @@ into_piece-whole-requires g c =
     let out = both_out s p q c.of-rack.result c.pull-last.new.self c.pull-first.new.self new c.of-rack.ensures
     c.pull-last.ensures.place c.pull-last.ensures.rack c.pull-first.ensures.place c.pull-first.ensures.rack in
     let P : Racked → Type 0 = λ x. AllIn x.cells in
-    subst P (sym (both_in s p q xs c.pull-first.new.self c.push.new.self c.push-2.new.self out c.push.ensures c.push-2.ensures)) tt
+    subst P (sym (both_in s p q xs c.pull-first.new.self c.push.new.self c.push-2.new.self out c.push.ensures
+    c.push-2.ensures)) tt
 
 pub close-requires-clause-whole : goal.close-requires-clause-whole
 close-requires-clause-whole g c =
@@ -126,7 +130,8 @@ close-requires-clause-whole g c =
     let new = is_new c.new.result x c.expect-ground.ensures c.new.ensures.whole c.new.ensures.zeros in
     let out = both_out s p q c.of-rack.result c.pull-last.new.self c.pull-first.new.self new c.of-rack.ensures
     c.pull-last.ensures.place c.pull-last.ensures.rack c.pull-first.ensures.place c.pull-first.ensures.rack in
-    let e = both_in s p q xs c.pull-first.new.self c.push.new.self c.push-2.new.self out c.push.ensures c.push-2.ensures in
+    let e = both_in s p q xs c.pull-first.new.self c.push.new.self c.push-2.new.self out c.push.ensures
+    c.push-2.ensures in
     let piece = c.into_piece-whole.ensures in (
       piece.place.1 ∙ ap (λ (x : Racked). x.start) e ∙ new.whole.0,
       piece.len ∙ ap (λ (x : Racked). length x.cells * x.each) e ∙ sym new.long ∙ new.whole.1
@@ -143,6 +148,7 @@ close-requires-clause-deed g c =
     let new = is_new c.new.result x c.expect-ground.ensures c.new.ensures.whole c.new.ensures.zeros in
     let out = both_out s p q c.of-rack.result c.pull-last.new.self c.pull-first.new.self new c.of-rack.ensures
     c.pull-last.ensures.place c.pull-last.ensures.rack c.pull-first.ensures.place c.pull-first.ensures.rack in
-    let e = both_in s p q xs c.pull-first.new.self c.push.new.self c.push-2.new.self out c.push.ensures c.push-2.ensures in
+    let e = both_in s p q xs c.pull-first.new.self c.push.new.self c.push-2.new.self out c.push.ensures
+    c.push-2.ensures in
     let same = IfOk-at_ok (λ y. y.1 ≡ y.0.origin) c.expect-ground.ensures c.new.ensures.deed in
     same ∙ sym (c.into_piece-whole.ensures.place.0 ∙ ap (λ (z : Racked). z.origin) e)

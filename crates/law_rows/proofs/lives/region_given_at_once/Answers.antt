@@ -10,7 +10,8 @@ pub returns-clause-lives : goal.returns-clause-lives
 returns-clause-lives c = (refl, (refl, refl))
 
 pub returns-clause-order : goal.returns-clause-order
-returns-clause-order c = (refl, ((refl, omega arith), (refl, ((refl, omega arith), (refl, ((refl, omega arith), refl))))))
+returns-clause-order c =
+    (refl, ((refl, omega arith), (refl, ((refl, omega arith), (refl, ((refl, omega arith), refl))))))
 
 pub returns-clause-before : goal.returns-clause-before
 returns-clause-before c = record {

@@ -1,4 +1,5 @@
--- What follows what, and where in the logs each note stands: the root ends in the second log, and its region comes back in the first.
+-- What follows what, and where in the logs each note stands: the root ends in the second log, and its region
+-- comes back in the first.
 use Rattle.std.proofs.Common.{refl, arith}
 use Rattle.law_rows.proofs.lives.region_handed_over.Goals as goal
 
@@ -6,4 +7,22 @@ pub returns-clause-lives : goal.returns-clause-lives
 returns-clause-lives c = (refl, (refl, (refl, (refl, refl))))
 
 pub returns-clause-order : goal.returns-clause-order
-returns-clause-order c = (refl, ((refl, omega arith), (refl, ((refl, omega arith), (refl, ((refl, omega arith), (refl, ((refl, omega arith), (refl, ((refl, omega arith), refl))))))))))
+returns-clause-order c = (
+  refl,
+  (
+    (refl, omega arith),
+    (
+      refl,
+      (
+        (refl, omega arith),
+        (
+          refl,
+          (
+            (refl, omega arith),
+            (refl, ((refl, omega arith), (refl, ((refl, omega arith), refl)))),
+          ),
+        ),
+      ),
+    ),
+  ),
+)

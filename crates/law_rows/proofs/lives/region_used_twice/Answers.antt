@@ -11,7 +11,52 @@ pub returns-clause-lives : goal.returns-clause-lives
 returns-clause-lives c = (refl, (refl, (refl, (refl, (refl, (refl, (refl, (refl, refl))))))))
 
 pub returns-clause-order : goal.returns-clause-order
-returns-clause-order c = (refl, ((refl, omega arith), (refl, ((refl, omega arith), (refl, ((refl, omega arith), (refl, ((refl, omega arith), (refl, ((refl, omega arith), (refl, ((refl, omega arith), (refl, ((refl, omega arith), (refl, ((refl, omega arith), (refl, ((refl, omega arith), refl))))))))))))))))))
+returns-clause-order c = (
+  refl,
+  (
+    (refl, omega arith),
+    (
+      refl,
+      (
+        (refl, omega arith),
+        (
+          refl,
+          (
+            (refl, omega arith),
+            (
+              refl,
+              (
+                (refl, omega arith),
+                (
+                  refl,
+                  (
+                    (refl, omega arith),
+                    (
+                      refl,
+                      (
+                        (refl, omega arith),
+                        (
+                          refl,
+                          (
+                            (refl, omega arith),
+                            (
+                              refl,
+                              ((refl, omega arith), (refl, ((refl, omega arith), refl))),
+                            ),
+                          ),
+                        ),
+                      ),
+                    ),
+                  ),
+                ),
+              ),
+            ),
+          ),
+        ),
+      ),
+    ),
+  ),
+)
 
 pub returns-clause-apart : goal.returns-clause-apart
 returns-clause-apart c = record {
@@ -20,6 +65,7 @@ returns-clause-apart c = record {
   region = least_region 2;
   ended = (refl, refl);
   born = (refl, refl);
-  between = event 0 10 least_cache 2 (Did.Kept (least_region 1)) ∷ event 0 13 least_cache 3 (Did.Hit (least_region 1)) ∷ [];
+  between =
+      event 0 10 least_cache 2 (Did.Kept (least_region 1)) ∷ event 0 13 least_cache 3 (Did.Hit (least_region 1)) ∷ [];
   order = (inl (refl, omega arith), (refl, (inr (refl, omega arith), (refl, inl (refl, omega arith)))));
 }

@@ -13,7 +13,8 @@ join-requires c =
     let new = c.loop-run.new.items in
     let left = c.pop_back.new.self.items in
     let r = c.in-Some.run' in
-    let m : Merges runs (left ++ r ∷ []) new = subst (λ xs. Merges runs xs new) c.in-Some.ensures.items c.loop-run.invariant in
+    let m : Merges runs (left ++ r ∷ []) new = subst (λ xs. Merges runs xs new) c.in-Some.ensures.items
+    c.loop-run.invariant in
     (merges-more runs left new r m).0
 
 pub loop-run-preserved : goal.loop-run-preserved
@@ -22,6 +23,7 @@ loop-run-preserved c =
     let new = c.loop-run.new.items in
     let left = c.pop_back.new.self.items in
     let r = c.in-Some.run' in
-    let m : Merges runs (left ++ r ∷ []) new = subst (λ xs. Merges runs xs new) c.in-Some.ensures.items c.loop-run.invariant in
+    let m : Merges runs (left ++ r ∷ []) new = subst (λ xs. Merges runs xs new) c.in-Some.ensures.items
+    c.loop-run.invariant in
     let next : Merges runs left (joined r new) = (merges-more runs left new r m).1 in
     subst (Merges runs left) (sym c.in_ok-join.ensures) next

@@ -12,7 +12,8 @@ returns-in-None c =
     let i = c.loop-did.did-index in
     let there : i < length dids = search rules in
     sym
-    (after-one (arena_step c.args.sizes.now c.args.number) dids i c.loop-did.arena c.did-item.result there c.did-item.is None
+    (after-one (arena_step c.args.sizes.now c.args.number) dids i c.loop-did.arena c.did-item.result there c.did-item.is
+    None
     (sym c.in-None.is ∙ c.in_ok-next.ensures))
     ∙ c.loop-did.invariant
     ∙ ap (λ s. after (arena_step c.args.sizes.now c.args.number) s (dids_behind dids)) c.in_ok-arena.ensures
@@ -26,7 +27,8 @@ loop-did-preserved c =
     let i = c.loop-did.did-index in
     let there : i < length dids = search rules in
     sym
-    (after-one (arena_step c.args.sizes.now c.args.number) dids i c.loop-did.arena c.did-item.result there c.did-item.is (Some c.in-Some.next)
+    (after-one (arena_step c.args.sizes.now c.args.number) dids i c.loop-did.arena c.did-item.result there c.did-item.is
+    (Some c.in-Some.next)
     (sym c.in-Some.is ∙ c.in_ok-next.ensures))
     ∙ c.loop-did.invariant
 

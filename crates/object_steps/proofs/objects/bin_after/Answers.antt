@@ -11,7 +11,8 @@ returns-in-None c =
     let i = c.loop-did.did-index in
     let there : i < length dids = search rules in
     sym
-    (after-one (bin_step c.args.lane c.args.shape.now.handles) dids i c.loop-did.bin c.did-item.result there c.did-item.is None
+    (after-one (bin_step c.args.lane c.args.shape.now.handles) dids i c.loop-did.bin c.did-item.result there
+    c.did-item.is None
     (sym c.in-None.is ∙ c.in_ok-next.ensures))
     ∙ c.loop-did.invariant
     ∙ ap (λ s. after (bin_step c.args.lane c.args.shape.now.handles) s (dids_behind dids)) c.in_ok-bin.ensures
@@ -22,6 +23,7 @@ loop-did-preserved c =
     let i = c.loop-did.did-index in
     let there : i < length dids = search rules in
     sym
-    (after-one (bin_step c.args.lane c.args.shape.now.handles) dids i c.loop-did.bin c.did-item.result there c.did-item.is (Some c.in-Some.next)
+    (after-one (bin_step c.args.lane c.args.shape.now.handles) dids i c.loop-did.bin c.did-item.result there
+    c.did-item.is (Some c.in-Some.next)
     (sym c.in-Some.is ∙ c.in_ok-next.ensures))
     ∙ c.loop-did.invariant

@@ -22,6 +22,7 @@ loop-did-preserved c =
     let i = c.loop-did.did-index in
     let there : i < length dids = search rules in
     sym
-    (after-one (place_step c.args.number) dids i c.loop-did.place c.did-item.result there c.did-item.is (Some c.in-Some.next)
+    (after-one (place_step c.args.number) dids i c.loop-did.place c.did-item.result there c.did-item.is
+    (Some c.in-Some.next)
     (sym c.in-Some.is ∙ c.in_ok-next.ensures))
     ∙ c.loop-did.invariant

@@ -28,14 +28,18 @@ loop-did-preserved c =
     let there : i < length dids = search rules in
     let next : Some c.in-Some.next ≡ place_step c.args.number c.loop-did.place c.did-item.result.now =
     sym c.in-Some.is ∙ c.in_ok-next.ensures in
-    let pushed : c.push.new.self.items ≡ c.loop-did.told.items ++ told_by c.did-item.result.now c.loop-did.place.present ∷ [] =
+    let pushed : c.push.new.self.items ≡ c.loop-did.told.items ++ told_by c.did-item.result.now c.loop-did.place.present
+    ∷ [] =
     c.in_ok-push.ensures.items ∙ ap (λ (t : Told). c.loop-did.told.items ++ t ∷ []) c.told-here.ensures in
     record {
       after =
-          sym (after-one (place_step c.args.number) dids i c.loop-did.place c.did-item.result there c.did-item.is (Some c.in-Some.next) next)
+          sym (after-one (place_step c.args.number) dids i c.loop-did.place c.did-item.result there c.did-item.is
+          (Some c.in-Some.next) next)
           ∙ c.loop-did.invariant.after;
       told =
-          ap (λ (xs : List Told). xs ++ told_of_each c.args.number c.in-Some.next (drop (i + 1) (dids_behind dids))) pushed
-          ∙ told-more c.args.number dids i c.loop-did.place c.in-Some.next c.loop-did.told.items c.did-item.result there c.did-item.is next
+          ap (λ (xs : List Told). xs ++ told_of_each c.args.number c.in-Some.next (drop (i + 1) (dids_behind dids)))
+          pushed
+          ∙ told-more c.args.number dids i c.loop-did.place c.in-Some.next c.loop-did.told.items c.did-item.result there
+          c.did-item.is next
           ∙ c.loop-did.invariant.told;
     }

@@ -4,8 +4,10 @@ use Rattle.pool_arena.proofs.stock.close_all.Goals as goal
 
 pub close-requires : goal.close-requires
 close-requires c =
-    All-last IsAllFree c.pop.new.self.items c.loop-place.places.items c.in-Some.place (c.in-Some.ensures {u = tt}).items c.loop-place.invariant
+    All-last IsAllFree c.pop.new.self.items c.loop-place.places.items c.in-Some.place (c.in-Some.ensures {u = tt}).items
+    c.loop-place.invariant
 
 pub loop-place-preserved : goal.loop-place-preserved
 loop-place-preserved c =
-    All-front IsAllFree c.pop.new.self.items c.loop-place.places.items c.in-Some.place (c.in-Some.ensures {u = tt}).items c.loop-place.invariant
+    All-front IsAllFree c.pop.new.self.items c.loop-place.places.items c.in-Some.place
+    (c.in-Some.ensures {u = tt}).items c.loop-place.invariant

@@ -13,8 +13,18 @@ module _ (n a : ArenaState) (is : IsNew 0 8192 4 1 n) (r : RegionId) (one : Take
 
   one_taking : (a.takings ≡ 1) × (r.taking ≡ 1)
   one_taking = (
-    omega (arith, new-takings 0 8192 4 1 n is, take-takings n a 38 0 r [] (new-out 0 8192 4 1 n (inr (inl refl)) is) one),
-    omega (arith, new-takings 0 8192 4 1 n is, taken-number n a 38 0 r [] (new-out 0 8192 4 1 n (inr (inl refl)) is) one),
+    omega (
+      arith,
+      new-takings 0 8192 4 1 n is,
+      take-takings n a 38 0 r [] (new-out 0 8192 4 1 n (inr (inl refl)) is)
+          one,
+    ),
+    omega (
+      arith,
+      new-takings 0 8192 4 1 n is,
+      taken-number n a 38 0 r [] (new-out 0 8192 4 1 n (inr (inl refl)) is)
+          one,
+    ),
   )
 
   module _ (b : ArenaState) (s : RegionId) (two : Takes a 38 0 b s) where
@@ -45,7 +55,8 @@ module _ (n a : ArenaState) (is : IsNew 0 8192 4 1 n) (r : RegionId) (one : Take
         has_left =
             subst (λ (out : List RegionId). HasOut x out)
             (left-first r (s ∷ t ∷ []) ∙ left-other r s (t ∷ []) (λ e. omega (arith, e, one_taking.1, two_takings.1))
-            ∙ ap (λ (out : List RegionId). s ∷ out) (left-other r t [] (λ e. omega (arith, e, one_taking.1, three_takings.1))))
+            ∙ ap (λ (out : List RegionId). s ∷ out)
+            (left-other r t [] (λ e. omega (arith, e, one_taking.1, three_takings.1))))
             (give-out d r (r ∷ s ∷ t ∷ []) has_three (inl refl) x gone)
 
         third_out : IsOutOf x t
@@ -55,7 +66,8 @@ module _ (n a : ArenaState) (is : IsNew 0 8192 4 1 n) (r : RegionId) (one : Take
           has_middle : HasOut y (s ∷ [])
           has_middle =
               subst (λ (out : List RegionId). HasOut y out)
-              (left-other t s (t ∷ []) (λ e. omega (arith, e, two_takings.1, three_takings.1)) ∙ ap (λ (out : List RegionId). s ∷ out) (left-first t []))
+              (left-other t s (t ∷ []) (λ e. omega (arith, e, two_takings.1, three_takings.1))
+              ∙ ap (λ (out : List RegionId). s ∷ out) (left-first t []))
               (give-out x t (s ∷ t ∷ []) has_left (inr (inl refl)) y gone_too)
 
           takings_then : y.takings ≡ 3
@@ -89,13 +101,16 @@ module _ (n a : ArenaState) (is : IsNew 0 8192 4 1 n) (r : RegionId) (one : Take
 
               module _ (v : ArenaState) (last : Gives u q v) where
                 rests : AtRest v
-                rests = none-out v (subst (λ (out : List RegionId). HasOut v out) (left-first q []) (give-out u q (q ∷ []) has_fourth (inl refl) v last))
+                rests =
+                    none-out v (subst (λ (out : List RegionId). HasOut v out) (left-first q [])
+                    (give-out u q (q ∷ []) has_fourth (inl refl) v last))
 
                 has_places : 0 < length v.chunks
                 has_places = omega (arith, some-places u q fourth_out, last.same.places)
 
 pub take-a-requires-clause-takings : goal.take-a-requires-clause-takings
-take-a-requires-clause-takings g c = omega (arith, new-takings 0 8192 4 1 c.new_arena-arena.result c.new_arena-arena.ensures.new)
+take-a-requires-clause-takings g c =
+    omega (arith, new-takings 0 8192 4 1 c.new_arena-arena.result c.new_arena-arena.ensures.new)
 
 pub take-b-requires-clause-class : goal.take-b-requires-clause-class
 take-b-requires-clause-class g c =
@@ -104,25 +119,33 @@ take-b-requires-clause-class g c =
 
 pub take-b-requires-clause-takings : goal.take-b-requires-clause-takings
 take-b-requires-clause-takings g c =
-    omega (arith, (one_taking c.new_arena-arena.result c.take-a.new.arena c.new_arena-arena.ensures.new c.take-a.result.id c.take-a.ensures.takes).0)
+    omega (
+      arith,
+      (one_taking c.new_arena-arena.result c.take-a.new.arena c.new_arena-arena.ensures.new
+          c.take-a.result.id c.take-a.ensures.takes).0,
+    )
 
 pub take-c-requires-clause-class : goal.take-c-requires-clause-class
 take-c-requires-clause-class g c =
     subst (λ (h : Geometry). 38 < class_count h)
-    (sym (c.take-b.ensures.takes.same.geometry ∙ c.take-a.ensures.takes.same.geometry ∙ c.new_arena-arena.ensures.geometry)) (lit< tt)
+    (sym (c.take-b.ensures.takes.same.geometry ∙ c.take-a.ensures.takes.same.geometry
+    ∙ c.new_arena-arena.ensures.geometry)) (lit< tt)
 
 pub take-c-requires-clause-takings : goal.take-c-requires-clause-takings
 take-c-requires-clause-takings g c =
     omega (
       arith,
-      (two_takings c.new_arena-arena.result c.take-a.new.arena c.new_arena-arena.ensures.new c.take-a.result.id c.take-a.ensures.takes
+      (two_takings c.new_arena-arena.result c.take-a.new.arena c.new_arena-arena.ensures.new c.take-a.result.id
+          c.take-a.ensures.takes
           c.take-b.new.arena c.take-b.result.id c.take-b.ensures.takes).0,
     )
 
 pub give-requires-clause-out : goal.give-requires-clause-out
 give-requires-clause-out g c =
-    first_out c.new_arena-arena.result c.take-a.new.arena c.new_arena-arena.ensures.new c.take-a.result.id c.take-a.ensures.takes
-    c.take-b.new.arena c.take-b.result.id c.take-b.ensures.takes c.take-c.new.arena c.take-c.result.id c.take-c.ensures.takes
+    first_out c.new_arena-arena.result c.take-a.new.arena c.new_arena-arena.ensures.new c.take-a.result.id
+    c.take-a.ensures.takes
+    c.take-b.new.arena c.take-b.result.id c.take-b.ensures.takes c.take-c.new.arena c.take-c.result.id
+    c.take-c.ensures.takes
 
 pub give-requires-clause-place : goal.give-requires-clause-place
 give-requires-clause-place g c =
@@ -135,8 +158,10 @@ give-requires-clause-place g c =
 
 pub give-requires-2-clause-out : goal.give-requires-2-clause-out
 give-requires-2-clause-out g c =
-    third_out c.new_arena-arena.result c.take-a.new.arena c.new_arena-arena.ensures.new c.take-a.result.id c.take-a.ensures.takes
-    c.take-b.new.arena c.take-b.result.id c.take-b.ensures.takes c.take-c.new.arena c.take-c.result.id c.take-c.ensures.takes
+    third_out c.new_arena-arena.result c.take-a.new.arena c.new_arena-arena.ensures.new c.take-a.result.id
+    c.take-a.ensures.takes
+    c.take-b.new.arena c.take-b.result.id c.take-b.ensures.takes c.take-c.new.arena c.take-c.result.id
+    c.take-c.ensures.takes
     c.give.new.self c.give.ensures.gives
 
 pub give-requires-2-clause-place : goal.give-requires-2-clause-place
@@ -146,28 +171,35 @@ give-requires-2-clause-place g c =
     let two = c.take-b.ensures.takes.same in
     let three = c.take-c.ensures.takes.same in
     let back = c.give.ensures.gives.same in
-    first-place c.take-b.new.arena c.give.new.self c.take-c.result.id c.take-c.result.piece (two.number ∙ one.number ∙ new)
+    first-place c.take-b.new.arena c.give.new.self c.take-c.result.id c.take-c.result.piece
+    (two.number ∙ one.number ∙ new)
     (back.number ∙ three.number ∙ two.number ∙ one.number ∙ new) (back.grounds ∙ three.grounds) c.take-c.ensures.place
 
 pub take-d-requires-clause-class : goal.take-d-requires-clause-class
 take-d-requires-clause-class g c =
     subst (λ (h : Geometry). 42 < class_count h)
-    (sym (c.give-2.ensures.gives.same.geometry ∙ c.give.ensures.gives.same.geometry ∙ c.take-c.ensures.takes.same.geometry
-    ∙ c.take-b.ensures.takes.same.geometry ∙ c.take-a.ensures.takes.same.geometry ∙ c.new_arena-arena.ensures.geometry)) (lit< tt)
+    (sym (c.give-2.ensures.gives.same.geometry ∙ c.give.ensures.gives.same.geometry
+    ∙ c.take-c.ensures.takes.same.geometry
+    ∙ c.take-b.ensures.takes.same.geometry ∙ c.take-a.ensures.takes.same.geometry ∙ c.new_arena-arena.ensures.geometry))
+    (lit< tt)
 
 pub take-d-requires-clause-takings : goal.take-d-requires-clause-takings
 take-d-requires-clause-takings g c =
     omega (
       arith,
-      takings_then c.new_arena-arena.result c.take-a.new.arena c.new_arena-arena.ensures.new c.take-a.result.id c.take-a.ensures.takes
-          c.take-b.new.arena c.take-b.result.id c.take-b.ensures.takes c.take-c.new.arena c.take-c.result.id c.take-c.ensures.takes
+      takings_then c.new_arena-arena.result c.take-a.new.arena c.new_arena-arena.ensures.new c.take-a.result.id
+          c.take-a.ensures.takes
+          c.take-b.new.arena c.take-b.result.id c.take-b.ensures.takes c.take-c.new.arena c.take-c.result.id
+          c.take-c.ensures.takes
           c.give.new.self c.give.ensures.gives c.give-2.new.self c.give-2.ensures.gives,
     )
 
 pub give-requires-3-clause-out : goal.give-requires-3-clause-out
 give-requires-3-clause-out g c =
-    second_out c.new_arena-arena.result c.take-a.new.arena c.new_arena-arena.ensures.new c.take-a.result.id c.take-a.ensures.takes
-    c.take-b.new.arena c.take-b.result.id c.take-b.ensures.takes c.take-c.new.arena c.take-c.result.id c.take-c.ensures.takes
+    second_out c.new_arena-arena.result c.take-a.new.arena c.new_arena-arena.ensures.new c.take-a.result.id
+    c.take-a.ensures.takes
+    c.take-b.new.arena c.take-b.result.id c.take-b.ensures.takes c.take-c.new.arena c.take-c.result.id
+    c.take-c.ensures.takes
     c.give.new.self c.give.ensures.gives c.give-2.new.self c.give-2.ensures.gives
     c.take-d.new.arena c.take-d.result.id c.take-d.ensures.takes
 
@@ -181,12 +213,15 @@ give-requires-3-clause-place g c =
     let again = c.give-2.ensures.gives.same in
     let four = c.take-d.ensures.takes.same in
     first-place c.take-a.new.arena c.take-d.new.arena c.take-b.result.id c.take-b.result.piece (one.number ∙ new)
-    (four.number ∙ again.number ∙ back.number ∙ three.number ∙ two.number ∙ one.number ∙ new) (four.grounds ∙ again.grounds ∙ back.grounds ∙ three.grounds ∙ two.grounds) c.take-b.ensures.place
+    (four.number ∙ again.number ∙ back.number ∙ three.number ∙ two.number ∙ one.number ∙ new)
+    (four.grounds ∙ again.grounds ∙ back.grounds ∙ three.grounds ∙ two.grounds) c.take-b.ensures.place
 
 pub give-requires-4-clause-out : goal.give-requires-4-clause-out
 give-requires-4-clause-out g c =
-    fourth_out c.new_arena-arena.result c.take-a.new.arena c.new_arena-arena.ensures.new c.take-a.result.id c.take-a.ensures.takes
-    c.take-b.new.arena c.take-b.result.id c.take-b.ensures.takes c.take-c.new.arena c.take-c.result.id c.take-c.ensures.takes
+    fourth_out c.new_arena-arena.result c.take-a.new.arena c.new_arena-arena.ensures.new c.take-a.result.id
+    c.take-a.ensures.takes
+    c.take-b.new.arena c.take-b.result.id c.take-b.ensures.takes c.take-c.new.arena c.take-c.result.id
+    c.take-c.ensures.takes
     c.give.new.self c.give.ensures.gives c.give-2.new.self c.give-2.ensures.gives
     c.take-d.new.arena c.take-d.result.id c.take-d.ensures.takes c.give-3.new.self c.give-3.ensures.gives
 
@@ -200,19 +235,27 @@ give-requires-4-clause-place g c =
     let again = c.give-2.ensures.gives.same in
     let four = c.take-d.ensures.takes.same in
     let third = c.give-3.ensures.gives.same in
-    first-place c.give-2.new.self c.give-3.new.self c.take-d.result.id c.take-d.result.piece (again.number ∙ back.number ∙ three.number ∙ two.number ∙ one.number ∙ new)
-    (third.number ∙ four.number ∙ again.number ∙ back.number ∙ three.number ∙ two.number ∙ one.number ∙ new) (third.grounds ∙ four.grounds) c.take-d.ensures.place
+    first-place c.give-2.new.self c.give-3.new.self c.take-d.result.id c.take-d.result.piece
+    (again.number ∙ back.number ∙ three.number ∙ two.number ∙ one.number ∙ new)
+    (third.number ∙ four.number ∙ again.number ∙ back.number ∙ three.number ∙ two.number ∙ one.number ∙ new)
+    (third.grounds ∙ four.grounds) c.take-d.ensures.place
 
 pub chunk_now-requires : goal.chunk_now-requires
 chunk_now-requires g c =
-    has_places c.new_arena-arena.result c.take-a.new.arena c.new_arena-arena.ensures.new c.take-a.result.id c.take-a.ensures.takes
-    c.take-b.new.arena c.take-b.result.id c.take-b.ensures.takes c.take-c.new.arena c.take-c.result.id c.take-c.ensures.takes
+    has_places c.new_arena-arena.result c.take-a.new.arena c.new_arena-arena.ensures.new c.take-a.result.id
+    c.take-a.ensures.takes
+    c.take-b.new.arena c.take-b.result.id c.take-b.ensures.takes c.take-c.new.arena c.take-c.result.id
+    c.take-c.ensures.takes
     c.give.new.self c.give.ensures.gives c.give-2.new.self c.give-2.ensures.gives
-    c.take-d.new.arena c.take-d.result.id c.take-d.ensures.takes c.give-3.new.self c.give-3.ensures.gives c.give-4.new.self c.give-4.ensures.gives
+    c.take-d.new.arena c.take-d.result.id c.take-d.ensures.takes c.give-3.new.self c.give-3.ensures.gives
+    c.give-4.new.self c.give-4.ensures.gives
 
 pub close-requires : goal.close-requires
 close-requires g c =
-    rests c.new_arena-arena.result c.take-a.new.arena c.new_arena-arena.ensures.new c.take-a.result.id c.take-a.ensures.takes
-    c.take-b.new.arena c.take-b.result.id c.take-b.ensures.takes c.take-c.new.arena c.take-c.result.id c.take-c.ensures.takes
+    rests c.new_arena-arena.result c.take-a.new.arena c.new_arena-arena.ensures.new c.take-a.result.id
+    c.take-a.ensures.takes
+    c.take-b.new.arena c.take-b.result.id c.take-b.ensures.takes c.take-c.new.arena c.take-c.result.id
+    c.take-c.ensures.takes
     c.give.new.self c.give.ensures.gives c.give-2.new.self c.give-2.ensures.gives
-    c.take-d.new.arena c.take-d.result.id c.take-d.ensures.takes c.give-3.new.self c.give-3.ensures.gives c.give-4.new.self c.give-4.ensures.gives
+    c.take-d.new.arena c.take-d.result.id c.take-d.ensures.takes c.give-3.new.self c.give-3.ensures.gives
+    c.give-4.new.self c.give-4.ensures.gives

@@ -13,7 +13,13 @@ module _ (n a : ArenaState) (is : IsNew 0 8192 4 1 n) (r : RegionId) (one : Take
   has_one = take-out n a 40 0 r [] (new-out 0 8192 4 1 n (inr (inl refl)) is) one
 
   one_taking : a.takings ≡ 1
-  one_taking = omega (arith, new-takings 0 8192 4 1 n is, take-takings n a 40 0 r [] (new-out 0 8192 4 1 n (inr (inl refl)) is) one)
+  one_taking =
+      omega (
+        arith,
+        new-takings 0 8192 4 1 n is,
+        take-takings n a 40 0 r [] (new-out 0 8192 4 1 n (inr (inl refl)) is)
+            one,
+      )
 
   module _ (b : ArenaState) (s : RegionId) (two : Takes a 40 0 b s) where
     has_two : HasOut b (r ∷ s ∷ [])
@@ -24,7 +30,15 @@ module _ (n a : ArenaState) (is : IsNew 0 8192 4 1 n) (r : RegionId) (one : Take
 
     apart : r.taking ≢ s.taking
     apart e =
-        omega (arith, e, taken-number n a 40 0 r [] (new-out 0 8192 4 1 n (inr (inl refl)) is) one, taken-number a b 40 0 s (r ∷ []) has_one two, one_taking, new-takings 0 8192 4 1 n is)
+        omega (
+          arith,
+          e,
+          taken-number n a 40 0 r [] (new-out 0 8192 4 1 n (inr (inl refl)) is) one,
+          taken-number a b 40
+              0 s (r ∷ []) has_one two,
+          one_taking,
+          new-takings 0 8192 4 1 n is,
+        )
 
     module _ (d : ArenaState) (t : RegionId) (three : Takes b 40 0 d t) where
       has_three : HasOut d (r ∷ s ∷ t ∷ [])
@@ -63,33 +77,43 @@ module _ (n a : ArenaState) (is : IsNew 0 8192 4 1 n) (r : RegionId) (one : Take
               out-of z q (out ++ q ∷ []) (take-out y z 44 0 q out has_last four) (taken-last q out)
 
 pub take-a-requires-clause-takings : goal.take-a-requires-clause-takings
-take-a-requires-clause-takings g c = omega (arith, new-takings 0 8192 4 1 c.new_arena-arena.result c.new_arena-arena.ensures.new)
+take-a-requires-clause-takings g c =
+    omega (arith, new-takings 0 8192 4 1 c.new_arena-arena.result c.new_arena-arena.ensures.new)
 
 pub take-b-requires-clause-class : goal.take-b-requires-clause-class
 take-b-requires-clause-class g c =
-    subst (λ (h : Geometry). 40 < class_count h) (sym (c.take-a.ensures.takes.same.geometry ∙ c.new_arena-arena.ensures.geometry)) (lit< tt)
+    subst (λ (h : Geometry). 40 < class_count h)
+    (sym (c.take-a.ensures.takes.same.geometry ∙ c.new_arena-arena.ensures.geometry)) (lit< tt)
 
 pub take-b-requires-clause-takings : goal.take-b-requires-clause-takings
 take-b-requires-clause-takings g c =
-    omega (arith, one_taking c.new_arena-arena.result c.take-a.new.arena c.new_arena-arena.ensures.new c.take-a.result.id c.take-a.ensures.takes)
+    omega (
+      arith,
+      one_taking c.new_arena-arena.result c.take-a.new.arena c.new_arena-arena.ensures.new
+          c.take-a.result.id c.take-a.ensures.takes,
+    )
 
 pub take-c-requires-clause-class : goal.take-c-requires-clause-class
 take-c-requires-clause-class g c =
     subst (λ (h : Geometry). 40 < class_count h)
-    (sym (c.take-b.ensures.takes.same.geometry ∙ c.take-a.ensures.takes.same.geometry ∙ c.new_arena-arena.ensures.geometry)) (lit< tt)
+    (sym (c.take-b.ensures.takes.same.geometry ∙ c.take-a.ensures.takes.same.geometry
+    ∙ c.new_arena-arena.ensures.geometry)) (lit< tt)
 
 pub take-c-requires-clause-takings : goal.take-c-requires-clause-takings
 take-c-requires-clause-takings g c =
     omega (
       arith,
-      two_takings c.new_arena-arena.result c.take-a.new.arena c.new_arena-arena.ensures.new c.take-a.result.id c.take-a.ensures.takes
+      two_takings c.new_arena-arena.result c.take-a.new.arena c.new_arena-arena.ensures.new c.take-a.result.id
+          c.take-a.ensures.takes
           c.take-b.new.arena c.take-b.result.id c.take-b.ensures.takes,
     )
 
 pub give-requires-clause-out : goal.give-requires-clause-out
 give-requires-clause-out g c =
-    first_out c.new_arena-arena.result c.take-a.new.arena c.new_arena-arena.ensures.new c.take-a.result.id c.take-a.ensures.takes
-    c.take-b.new.arena c.take-b.result.id c.take-b.ensures.takes c.take-c.new.arena c.take-c.result.id c.take-c.ensures.takes
+    first_out c.new_arena-arena.result c.take-a.new.arena c.new_arena-arena.ensures.new c.take-a.result.id
+    c.take-a.ensures.takes
+    c.take-b.new.arena c.take-b.result.id c.take-b.ensures.takes c.take-c.new.arena c.take-c.result.id
+    c.take-c.ensures.takes
 
 pub give-requires-clause-place : goal.give-requires-clause-place
 give-requires-clause-place g c =
@@ -97,13 +121,16 @@ give-requires-clause-place g c =
     let one = c.take-a.ensures.takes.same in
     let two = c.take-b.ensures.takes.same in
     let three = c.take-c.ensures.takes.same in
-    first-place c.new_arena-arena.result c.take-c.new.arena c.take-a.result.id c.take-a.result.piece new (three.number ∙ two.number ∙ one.number ∙ new)
+    first-place c.new_arena-arena.result c.take-c.new.arena c.take-a.result.id c.take-a.result.piece new
+    (three.number ∙ two.number ∙ one.number ∙ new)
     (three.grounds ∙ two.grounds ∙ one.grounds) c.take-a.ensures.place
 
 pub give-requires-2-clause-out : goal.give-requires-2-clause-out
 give-requires-2-clause-out g c =
-    second_out c.new_arena-arena.result c.take-a.new.arena c.new_arena-arena.ensures.new c.take-a.result.id c.take-a.ensures.takes
-    c.take-b.new.arena c.take-b.result.id c.take-b.ensures.takes c.take-c.new.arena c.take-c.result.id c.take-c.ensures.takes c.give.new.self c.give.ensures.gives
+    second_out c.new_arena-arena.result c.take-a.new.arena c.new_arena-arena.ensures.new c.take-a.result.id
+    c.take-a.ensures.takes
+    c.take-b.new.arena c.take-b.result.id c.take-b.ensures.takes c.take-c.new.arena c.take-c.result.id
+    c.take-c.ensures.takes c.give.new.self c.give.ensures.gives
 
 pub give-requires-2-clause-place : goal.give-requires-2-clause-place
 give-requires-2-clause-place g c =
@@ -113,26 +140,32 @@ give-requires-2-clause-place g c =
     let three = c.take-c.ensures.takes.same in
     let back = c.give.ensures.gives.same in
     first-place c.take-a.new.arena c.give.new.self c.take-b.result.id c.take-b.result.piece (one.number ∙ new)
-    (back.number ∙ three.number ∙ two.number ∙ one.number ∙ new) (back.grounds ∙ three.grounds ∙ two.grounds) c.take-b.ensures.place
+    (back.number ∙ three.number ∙ two.number ∙ one.number ∙ new) (back.grounds ∙ three.grounds ∙ two.grounds)
+    c.take-b.ensures.place
 
 pub take-d-requires-clause-class : goal.take-d-requires-clause-class
 take-d-requires-clause-class g c =
     subst (λ (h : Geometry). 44 < class_count h)
-    (sym (c.give-2.ensures.gives.same.geometry ∙ c.give.ensures.gives.same.geometry ∙ c.take-c.ensures.takes.same.geometry ∙ c.take-b.ensures.takes.same.geometry
+    (sym (c.give-2.ensures.gives.same.geometry ∙ c.give.ensures.gives.same.geometry
+    ∙ c.take-c.ensures.takes.same.geometry ∙ c.take-b.ensures.takes.same.geometry
     ∙ c.take-a.ensures.takes.same.geometry ∙ c.new_arena-arena.ensures.geometry)) (lit< tt)
 
 pub take-d-requires-clause-takings : goal.take-d-requires-clause-takings
 take-d-requires-clause-takings g c =
     omega (
       arith,
-      takings_then c.new_arena-arena.result c.take-a.new.arena c.new_arena-arena.ensures.new c.take-a.result.id c.take-a.ensures.takes
-          c.take-b.new.arena c.take-b.result.id c.take-b.ensures.takes c.take-c.new.arena c.take-c.result.id c.take-c.ensures.takes c.give.new.self c.give.ensures.gives
+      takings_then c.new_arena-arena.result c.take-a.new.arena c.new_arena-arena.ensures.new c.take-a.result.id
+          c.take-a.ensures.takes
+          c.take-b.new.arena c.take-b.result.id c.take-b.ensures.takes c.take-c.new.arena c.take-c.result.id
+          c.take-c.ensures.takes c.give.new.self c.give.ensures.gives
           c.give-2.new.self c.give-2.ensures.gives,
     )
 
 pub chunk_now-requires : goal.chunk_now-requires
 chunk_now-requires g c =
     some-places c.take-d.new.arena c.take-d.result.id
-    (fourth_out c.new_arena-arena.result c.take-a.new.arena c.new_arena-arena.ensures.new c.take-a.result.id c.take-a.ensures.takes
-    c.take-b.new.arena c.take-b.result.id c.take-b.ensures.takes c.take-c.new.arena c.take-c.result.id c.take-c.ensures.takes c.give.new.self c.give.ensures.gives
+    (fourth_out c.new_arena-arena.result c.take-a.new.arena c.new_arena-arena.ensures.new c.take-a.result.id
+    c.take-a.ensures.takes
+    c.take-b.new.arena c.take-b.result.id c.take-b.ensures.takes c.take-c.new.arena c.take-c.result.id
+    c.take-c.ensures.takes c.give.new.self c.give.ensures.gives
     c.give-2.new.self c.give-2.ensures.gives c.take-d.new.arena c.take-d.result.id c.take-d.ensures.takes)

@@ -12,5 +12,6 @@ take-second-requires-clause-takings g c =
     omega (
       arith,
       new-takings 0 8192 3 1 a c.new_arena-arena.ensures.new,
-      take-takings a c.take-region.new.arena 43 0 c.take-region.result.id [] (new-out 0 8192 3 1 a (inr (inl refl)) c.new_arena-arena.ensures.new) c.take-region.ensures.takes,
+      take-takings a c.take-region.new.arena 43 0 c.take-region.result.id []
+          (new-out 0 8192 3 1 a (inr (inl refl)) c.new_arena-arena.ensures.new) c.take-region.ensures.takes,
     )

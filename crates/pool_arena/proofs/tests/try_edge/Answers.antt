@@ -36,14 +36,17 @@ module _ (a b d : ArenaState) (page small normal : ℕ) (is_page : IsPage page) 
   module _ (x : ArenaState) (gives : Gives d s x) where
     has_first : HasOut x (r ∷ [])
     has_first =
-        subst (λ (out : List RegionId). HasOut x out) (left-other s r (s ∷ []) apart ∙ ap (λ (out : List RegionId). r ∷ out) (left-first s []))
+        subst (λ (out : List RegionId). HasOut x out)
+        (left-other s r (s ∷ []) apart ∙ ap (λ (out : List RegionId). r ∷ out) (left-first s []))
         (give-out d s (r ∷ s ∷ []) has_two (inr (inl refl)) x gives)
 
     first_out : IsOutOf x r
     first_out = out-of x r (r ∷ []) has_first (inl refl)
 
     rest : (y : ArenaState) → Gives x r y → AtRest y
-    rest y later = none-out y (subst (λ (out : List RegionId). HasOut y out) (left-first r []) (give-out x r (r ∷ []) has_first (inl refl) y later))
+    rest y later =
+        none-out y (subst (λ (out : List RegionId). HasOut y out) (left-first r [])
+        (give-out x r (r ∷ []) has_first (inl refl) y later))
 
 pub chunk_now-requires : goal.chunk_now-requires
 chunk_now-requires g c =
@@ -70,7 +73,8 @@ take-b-requires-clause-takings g c =
 
 pub give-requires-clause-out : goal.give-requires-clause-out
 give-requires-clause-out g c =
-    second_out c.arena_of-arena.result c.take-a.new.arena c.take-b.new.arena c.args.edge.page c.args.edge.classes.0 c.args.edge.classes.1
+    second_out c.arena_of-arena.result c.take-a.new.arena c.take-b.new.arena c.args.edge.page c.args.edge.classes.0
+    c.args.edge.classes.1
     c.requires.page.page c.arena_of-arena.ensures.new c.take-a.result.id c.take-b.result.id
     c.take-a.ensures.takes c.take-b.ensures.takes
 
@@ -78,11 +82,13 @@ pub give-requires-clause-place : goal.give-requires-clause-place
 give-requires-clause-place g c =
     let number = c.take-a.ensures.takes.same.number ∙ c.arena_of-arena.ensures.new.number_is in
     let same = c.take-b.ensures.takes.same in
-    first-place c.take-a.new.arena c.take-b.new.arena c.take-b.result.id c.take-b.result.piece number (same.number ∙ number) same.grounds c.take-b.ensures.place
+    first-place c.take-a.new.arena c.take-b.new.arena c.take-b.result.id c.take-b.result.piece number
+    (same.number ∙ number) same.grounds c.take-b.ensures.place
 
 pub give-requires-2-clause-out : goal.give-requires-2-clause-out
 give-requires-2-clause-out g c =
-    first_out c.arena_of-arena.result c.take-a.new.arena c.take-b.new.arena c.args.edge.page c.args.edge.classes.0 c.args.edge.classes.1
+    first_out c.arena_of-arena.result c.take-a.new.arena c.take-b.new.arena c.args.edge.page c.args.edge.classes.0
+    c.args.edge.classes.1
     c.requires.page.page c.arena_of-arena.ensures.new c.take-a.result.id c.take-b.result.id
     c.take-a.ensures.takes c.take-b.ensures.takes c.give.new.self c.give.ensures.gives
 
@@ -92,18 +98,22 @@ give-requires-2-clause-place g c =
     let one = c.take-a.ensures.takes.same in
     let two = c.take-b.ensures.takes.same in
     let back = c.give.ensures.gives.same in
-    first-place c.arena_of-arena.result c.give.new.self c.take-a.result.id c.take-a.result.piece new (back.number ∙ two.number ∙ one.number ∙ new)
+    first-place c.arena_of-arena.result c.give.new.self c.take-a.result.id c.take-a.result.piece new
+    (back.number ∙ two.number ∙ one.number ∙ new)
     (back.grounds ∙ two.grounds ∙ one.grounds) c.take-a.ensures.place
 
 pub chunk_now-requires-2 : goal.chunk_now-requires-2
 chunk_now-requires-2 g c =
-    let out = first_out c.arena_of-arena.result c.take-a.new.arena c.take-b.new.arena c.args.edge.page c.args.edge.classes.0 c.args.edge.classes.1
+    let out = first_out c.arena_of-arena.result c.take-a.new.arena c.take-b.new.arena c.args.edge.page
+    c.args.edge.classes.0 c.args.edge.classes.1
     c.requires.page.page c.arena_of-arena.ensures.new c.take-a.result.id c.take-b.result.id
     c.take-a.ensures.takes c.take-b.ensures.takes c.give.new.self c.give.ensures.gives in
     omega (arith, some-places c.give.new.self c.take-a.result.id out, c.give-2.ensures.gives.same.places)
 
 pub close-requires : goal.close-requires
 close-requires g c =
-    rest c.arena_of-arena.result c.take-a.new.arena c.take-b.new.arena c.args.edge.page c.args.edge.classes.0 c.args.edge.classes.1
+    rest c.arena_of-arena.result c.take-a.new.arena c.take-b.new.arena c.args.edge.page c.args.edge.classes.0
+    c.args.edge.classes.1
     c.requires.page.page c.arena_of-arena.ensures.new c.take-a.result.id c.take-b.result.id
-    c.take-a.ensures.takes c.take-b.ensures.takes c.give.new.self c.give.ensures.gives c.give-2.new.self c.give-2.ensures.gives
+    c.take-a.ensures.takes c.take-b.ensures.takes c.give.new.self c.give.ensures.gives c.give-2.new.self
+    c.give-2.ensures.gives

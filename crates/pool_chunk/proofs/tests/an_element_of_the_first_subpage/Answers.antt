@@ -8,5 +8,6 @@ pub take_element-requires : goal.take_element-requires
 take_element-requires g c =
     let before = c.crosses-chunk.result in
     let after = c.take_subpage.new.self in
-    let taken = subst (λ (o : Option ℕ). IfSome o (λ page. TakesSubpage before after 32 page)) c.expect-page.ensures c.take_subpage.ensures.some in
+    let taken = subst (λ (o : Option ℕ). IfSome o (λ page. TakesSubpage before after 32 page)) c.expect-page.ensures
+    c.take_subpage.ensures.some in
     subpage-there before after c.free.ensures.chunk 32 c.expect-page.result taken

@@ -10,6 +10,8 @@ invariant-loop-k g l = record {
   past : l.slot < l.k;
   full : (j : ℕ) → l.k ≤ j → j < l.end → slice_index_or (slots_filled l.closed.slots) j false ≡ true;
   empty : (j : ℕ) → l.slot < j → j < l.k → slice_index_or (slots_filled l.closed.slots) j false ≡ false;
-  before : (j : ℕ) → j ≤ l.slot → slice_index_or (slots_filled l.closed.slots) j false ≡ slice_index_or (slots_filled l.fn.closed.slots) j false;
-  behind : (j : ℕ) → l.end ≤ j → slice_index_or (slots_filled l.closed.slots) j false ≡ slice_index_or (slots_filled l.fn.closed.slots) j false;
+  before : (j : ℕ) → j ≤ l.slot → slice_index_or (slots_filled l.closed.slots) j false
+      ≡ slice_index_or (slots_filled l.fn.closed.slots) j false;
+  behind : (j : ℕ) → l.end ≤ j → slice_index_or (slots_filled l.closed.slots) j false
+      ≡ slice_index_or (slots_filled l.fn.closed.slots) j false;
 }

@@ -13,6 +13,7 @@ invariant-loop-i g l = record {
   room : objects_of l.shape ≤ vec_capacity l.homes;
   same : slots_items l.closed.slots ≡ slots_items l.fn.closed.slots;
   count : slots_len l.closed.slots ≡ slots_of l.shape;
-  full : (k : ℕ) → slot_at l.shape l.i ≤ k → k < slots_of l.shape → slice_index_or (slots_filled l.closed.slots) k false ≡ true;
+  full : (k : ℕ) → slot_at l.shape l.i ≤ k → k < slots_of l.shape
+      → slice_index_or (slots_filled l.closed.slots) k false ≡ true;
   empty : (k : ℕ) → k < slot_at l.shape l.i → slice_index_or (slots_filled l.closed.slots) k false ≡ false;
 }

@@ -13,18 +13,25 @@ use Rattle.pool_table.proofs.tests.a_second_claim_is_held.Goals as goal
 
 pub done-noted_at-requires-clause-section : goal.done-noted_at-requires-clause-section
 done-noted_at-requires-clause-section g c =
-    let got = c.in-Ok.ensures.got in let first = c.in_ok-table.ensures.first in let shape = c.in_ok-table.field-0.table.layout.shape in
+    let got = c.in-Ok.ensures.got in let first = c.in_ok-table.ensures.first in let shape =
+    c.in_ok-table.field-0.table.layout.shape in
     let h : List Noted = got.history in let items : List Noted = c.in-Ok.section.home.notes.items in
     let known : (view_of c.in_ok-table.field-0.first).setting ≡ Some first.0 = ap (λ m. m.0.setting) first.1.1 in
     let numbered : (view_of c.in_ok-table.field-0.first).own.number ≡ Some 0 = ap (λ m. m.0.own.number) first.1.1 in
     let number : (view_of c.claim.new.seat).own.number ≡ Some 0 = ap (λ v. v.own.number) got.view ∙ numbered in
-    let stood : items ≡ h = subst (λ (y : Option Setting). IfSome y (λ (g : Setting). items ≡ h)) known got.learned.stands_for in
-    let len : length items ≡ 0 = (let a = c.if-before-gt0.false in let b = c.len-before.ensures in let d : length items ≡ c.len-before.result = search (rules, b) in omega (arith, a, d)) in
+    let stood : items ≡ h = subst (λ (y : Option Setting). IfSome y (λ (g : Setting). items ≡ h)) known
+    got.learned.stands_for in
+    let len : length items ≡ 0 = (let a = c.if-before-gt0.false in let b = c.len-before.ensures in let d : length items
+    ≡ c.len-before.result = search (rules, b) in omega (arith, a, d)) in
     let same = c.write.ensures.same in let object = same.0 ∙ got.object in
     let n : Noted = record { did = Handle 0; lane = None; watch = None; root = None; region = None } in record {
       history = h;
-      inside = subst (λ (y : Object × Slot). IsInside shape c.claim.new.seat.seat.me y.0 y.1 h) (λ q. (sym object q, sym same.1 q)) got.inside;
-      follows = first_handle shape c.write.new.section.object h (view_of c.claim.new.seat).own.number (ap (λ l. l.shape.handles) c.in_ok-table.ensures.layout) object (sym stood ∙ none_of items len);
+      inside =
+          subst (λ (y : Object × Slot). IsInside shape c.claim.new.seat.seat.me y.0 y.1 h)
+          (λ q. (sym object q, sym same.1 q)) got.inside;
+      follows =
+          first_handle shape c.write.new.section.object h (view_of c.claim.new.seat).own.number
+          (ap (λ l. l.shape.handles) c.in_ok-table.ensures.layout) object (sym stood ∙ none_of items len);
       stands_for = record {
         setting = first.0;
         known = ap (λ v. v.setting) got.view ∙ known;

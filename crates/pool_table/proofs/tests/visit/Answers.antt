@@ -11,10 +11,14 @@ idle-requires-clause-section c =
     let got = c.in-Ok.ensures.got in let given = c.requires.seat in
     let known : (view_of c.args.seat.now).setting ≡ Some given.0 = ap (λ m. m.0.setting) given.1.1 in record {
       history = got.history;
-      inside = subst (λ (o : Object). IsInside c.args.table.now.layout.shape c.claim.new.seat.seat.me o c.in-Ok.section.slot got.history) (sym got.object) got.inside;
+      inside =
+          subst (λ (o : Object). IsInside c.args.table.now.layout.shape c.claim.new.seat.seat.me o c.in-Ok.section.slot
+          got.history) (sym got.object) got.inside;
       stands_for = record {
         setting = given.0;
         known = ap (λ v. v.setting) got.view ∙ known;
-        stands_for = subst (λ (y : Option Setting). IfSome y (λ (g : Setting). c.in-Ok.section.home.notes.items ≡ got.history)) known got.learned.stands_for;
+        stands_for =
+            subst (λ (y : Option Setting). IfSome y (λ (g : Setting). c.in-Ok.section.home.notes.items ≡ got.history))
+            known got.learned.stands_for;
       };
     }

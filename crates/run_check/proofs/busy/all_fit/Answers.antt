@@ -27,7 +27,8 @@ returns-then-not-may_come c =
       λ e. absurd (cc e),
       λ all.
           absurd (false≢true (sym c.if-not-may_come.true
-          ∙ c.may_come.ensures.1 (λ object. (next notes i note there step object (had_of s object) (c.loop-note.invariant.on all object)).0))),
+          ∙ c.may_come.ensures.1 (λ object.
+          (next notes i note there step object (had_of s object) (c.loop-note.invariant.on all object)).0))),
     )
 
 pub loop-note-preserved : goal.loop-note-preserved
@@ -58,7 +59,8 @@ returns c =
     let past : length notes ≤ i = search rules in (
       λ _.
           c.loop-note.invariant.back (λ object.
-          subst (λ (ns : List Note). FitFrom object (had_of c.loop-note.marked object) ns) (sym (drop_all i notes past)) tt),
+          subst (λ (ns : List Note). FitFrom object (had_of c.loop-note.marked object) ns) (sym (drop_all i notes past))
+          tt),
       λ _. refl,
     )
 

@@ -21,7 +21,8 @@ returns c =
     let Q = λ (cs : List (List Command)) (ls : List LaneLog).
     IsTrue good
     ↔ ((lane : ℕ) → lane < length ls →
-    IsLaneLog run.shape lane (of_lane cs lane) (of_lane (replies_in ls) lane) (of_lane (entries_of (notes_in ls)) lane)) in
+    IsLaneLog run.shape lane (of_lane cs lane) (of_lane (replies_in ls) lane)
+    (of_lane (entries_of (notes_in ls)) lane)) in
     let h : Q run.trace.lanes run.logs =
     subst (λ (ls : List LaneLog). Q run.trace.lanes ls) c.items.ensures
     (subst (λ (cs : List (List Command)). Q cs c.items.result.now) c.items-lanes.ensures c.in_ok-good.ensures) in (

@@ -22,7 +22,8 @@ returns-then-not-branch c = (
   λ e. absurd (cc e),
   λ right.
       absurd (false≢true (sym c.if-not-branch.true ∙ c.in_ok-all_count.ensures.1 (λ lane root.
-      subst (λ (ls : List LaneLog). CountsHold root 0 (of_lane (entries_of (notes_in ls)) lane)) (sym c.items-logs.ensures)
+      subst (λ (ls : List LaneLog). CountsHold root 0 (of_lane (entries_of (notes_in ls)) lane))
+      (sym c.items-logs.ensures)
       (right.counts.lanes root lane)))),
 )
 
@@ -32,7 +33,8 @@ returns-then-not-branch-2 c = (
   λ right.
       absurd (false≢true (sym c.if-not-branch-2.true ∙ c.in_ok-all_total.ensures.1
       (subst
-      (λ (ls : List LaneLog). (root : RootId) → 0 < count_over (is_birth root) (entries_of (notes_in ls)) → TotalHolds root (entries_of (notes_in ls)))
+      (λ (ls : List LaneLog). (root : RootId) → 0 < count_over (is_birth root) (entries_of (notes_in ls))
+      → TotalHolds root (entries_of (notes_in ls)))
       (sym c.items-logs.ensures) right.counts.totals))),
 )
 
@@ -41,7 +43,8 @@ returns-then-not-branch-3 c = (
   λ e. absurd (cc e),
   λ right.
       absurd (false≢true (sym c.if-not-branch-3.true ∙ c.in_ok-all_born.ensures.1
-      (subst (λ (ls : List LaneLog). AreBorn (entries_of (notes_in ls))) (sym c.items-logs.ensures) right.counts.born))),
+      (subst (λ (ls : List LaneLog). AreBorn (entries_of (notes_in ls))) (sym c.items-logs.ensures)
+      right.counts.born))),
 )
 
 pub returns-then-not-branch-4 : goal.returns-then-not-branch-4
@@ -50,7 +53,8 @@ returns-then-not-branch-4 c = (
   λ right.
       absurd (false≢true (sym c.if-not-branch-4.true ∙ c.in_ok-all_look.ensures.1 (λ lane root.
       subst
-      (λ (ls : List LaneLog). LooksHold root (others_retains root lane 0 (entries_of (notes_in ls))) 0 0 0 (of_lane (entries_of (notes_in ls)) lane))
+      (λ (ls : List LaneLog). LooksHold root (others_retains root lane 0 (entries_of (notes_in ls))) 0 0 0
+      (of_lane (entries_of (notes_in ls)) lane))
       (sym c.items-logs.ensures) (right.counts.looks root lane)))),
 )
 
@@ -68,18 +72,21 @@ returns c =
       λ e. record {
         counts = record {
           lanes = λ root lane.
-              subst (λ (ls : List LaneLog). CountsHold root 0 (of_lane (entries_of (notes_in ls)) lane)) c.items-logs.ensures
+              subst (λ (ls : List LaneLog). CountsHold root 0 (of_lane (entries_of (notes_in ls)) lane))
+              c.items-logs.ensures
               (c.in_ok-all_count.ensures.0 c.if-not-branch.false lane root);
           totals =
               subst
-              (λ (ls : List LaneLog). (root : RootId) → 0 < count_over (is_birth root) (entries_of (notes_in ls)) → TotalHolds root (entries_of (notes_in ls)))
+              (λ (ls : List LaneLog). (root : RootId) → 0 < count_over (is_birth root) (entries_of (notes_in ls))
+              → TotalHolds root (entries_of (notes_in ls)))
               c.items-logs.ensures (c.in_ok-all_total.ensures.0 c.if-not-branch-2.false);
           born =
               subst (λ (ls : List LaneLog). AreBorn (entries_of (notes_in ls))) c.items-logs.ensures
               (c.in_ok-all_born.ensures.0 c.if-not-branch-3.false);
           looks = λ root lane.
               subst
-              (λ (ls : List LaneLog). LooksHold root (others_retains root lane 0 (entries_of (notes_in ls))) 0 0 0 (of_lane (entries_of (notes_in ls)) lane))
+              (λ (ls : List LaneLog). LooksHold root (others_retains root lane 0 (entries_of (notes_in ls))) 0 0 0
+              (of_lane (entries_of (notes_in ls)) lane))
               c.items-logs.ensures (c.in_ok-all_look.ensures.0 c.if-not-branch-4.false lane root);
         };
         leaks = sym c.items.ensures ∙ c.in_ok-good.ensures.0 e ∙ by ∙ law;

@@ -18,7 +18,8 @@ returns-then-not-branch c =
       λ e. absurd (cc e),
       λ right.
           absurd (false≢true (sym c.if-not-branch.true ∙ c.in_ok-all_busy.ensures.1 (λ lane.
-          subst (λ (ls : List LaneLog). BusyHolds lane (history_in m) (of_lane (notes_in ls) lane)) (sym c.items-logs.ensures)
+          subst (λ (ls : List LaneLog). BusyHolds lane (history_in m) (of_lane (notes_in ls) lane))
+          (sym c.items-logs.ensures)
           (busy-back run.shape logs m c.requires.histories lane (right.busy lane))))),
     )
 
@@ -33,7 +34,8 @@ returns c =
             c.items-logs.ensures (c.all_stand.ensures.0 c.if-not-all_stand.false lane);
         busy = λ lane.
             busy-on run.shape logs m c.requires.histories lane
-            (subst (λ (ls : List LaneLog). BusyHolds lane (history_in m) (of_lane (notes_in ls) lane)) c.items-logs.ensures
+            (subst (λ (ls : List LaneLog). BusyHolds lane (history_in m) (of_lane (notes_in ls) lane))
+            c.items-logs.ensures
             (c.in_ok-all_busy.ensures.0 c.if-not-branch.false lane));
         chunks =
             sym c.items.ensures

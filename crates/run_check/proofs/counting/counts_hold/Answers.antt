@@ -45,7 +45,8 @@ returns-then-not-may_note c =
       λ all.
           absurd (false≢true (sym c.if-not-may_note.true ∙ may.1
           (stepwise-asks NeedsHold after CountsHold counts-front counts-back old old e es
-          (λ root. subst (λ (xs : List Entry). CountsHold root (old root) xs) here (c.loop-at.invariant.on all root))))),
+          (λ root. subst (λ (xs : List Entry). CountsHold root (old root) xs) here
+          (c.loop-at.invariant.on all root))))),
     )
 
 pub loop-at-preserved : goal.loop-at-preserved

@@ -21,19 +21,24 @@ returns c =
     let others = λ (q : RootId). others_sum q c.args.lane 0 c.args.tallies.now in
     let is : c.args.note.now ≡ Note.Ref r (RefDid.Look found) =
     c.in-Ref.is ∙ ap (λ (d : RefDid). Note.Ref r d) c.in-Look.is in
-    let first : IsTrue good ↔ LookHolds r (sums_in s r).retains (sums_in s r).releases c.of-count.result c.in_ok-others.others found =
+    let first : IsTrue good ↔ LookHolds r (sums_in s r).retains (sums_in s r).releases c.of-count.result
+    c.in_ok-others.others found =
     subst (λ (w : Sums). IsTrue good ↔ LookHolds r w.retains w.releases c.of-count.result c.in_ok-others.others found)
     c.of-sums.ensures
-    (subst (λ (n : ℕ). IsTrue good ↔ LookHolds r c.of-sums.result.retains c.of-sums.result.releases c.of-count.result c.in_ok-others.others n)
+    (subst (λ (n : ℕ). IsTrue good ↔ LookHolds r c.of-sums.result.retains c.of-sums.result.releases c.of-count.result
+    c.in_ok-others.others n)
     c.from.ensures (c.in_ok-good.ensures r)) in
-    let second : IsTrue good ↔ LookHolds r (sums_in s r).retains (sums_in s r).releases (count_in k r) c.in_ok-others.others found =
-    subst (λ (n : ℕ). IsTrue good ↔ LookHolds r (sums_in s r).retains (sums_in s r).releases n c.in_ok-others.others found)
+    let second : IsTrue good ↔ LookHolds r (sums_in s r).retains (sums_in s r).releases (count_in k r)
+    c.in_ok-others.others found =
+    subst (λ (n : ℕ). IsTrue good ↔ LookHolds r (sums_in s r).retains (sums_in s r).releases n c.in_ok-others.others
+    found)
     c.of-count.ensures first in
     let one : IsTrue good ↔ LookHolds r (sums_in s r).retains (sums_in s r).releases (count_in k r) (others r) found =
     subst (λ (n : ℕ). IsTrue good ↔ LookHolds r (sums_in s r).retains (sums_in s r).releases (count_in k r) n found)
     c.in_ok-others.ensures second in
     subst
     (λ (n : Note). IsTrue good
-    ↔ ((root : RootId) → LookAt root (sums_in s root).retains (sums_in s root).releases (count_in k root) (others root) n))
+    ↔ ((root : RootId) → LookAt root (sums_in s root).retains (sums_in s root).releases (count_in k root) (others root)
+    n))
     (sym is)
     (look-each good r found (λ q. (sums_in s q).retains) (λ q. (sums_in s q).releases) (count_in k) others one)

@@ -55,8 +55,10 @@ returns-then-not-branch c =
       λ e. absurd (cc e),
       λ all.
           absurd (false≢true (sym c.if-not-branch.true ∙ c.in_ok-look_holds.ensures.1
-          (stepwise-asks (LookAsks others) passed_on (LookRest others) (looks-front others) (looks-back others) old old e es
-          (λ root. subst (λ (xs : List Entry). LookRest others root (old root) xs) here (c.loop-note.invariant.on all root))))),
+          (stepwise-asks (LookAsks others) passed_on (LookRest others) (looks-front others) (looks-back others) old old
+          e es
+          (λ root. subst (λ (xs : List Entry). LookRest others root (old root) xs) here
+          (c.loop-note.invariant.on all root))))),
     )
 
 pub loop-note-preserved : goal.loop-note-preserved
@@ -80,12 +82,15 @@ loop-note-preserved c =
     }) in
     record {
       on = λ all.
-          stepwise-on (LookAsks others) passed_on (LookRest others) (looks-front others) (looks-back others) old new e es step
-          (λ root. subst (λ (xs : List Entry). LookRest others root (old root) xs) here (c.loop-note.invariant.on all root));
+          stepwise-on (LookAsks others) passed_on (LookRest others) (looks-front others) (looks-back others) old new e
+          es step
+          (λ root. subst (λ (xs : List Entry). LookRest others root (old root) xs) here
+          (c.loop-note.invariant.on all root));
       back = λ rest.
           c.loop-note.invariant.back (λ root.
           subst (λ (xs : List Entry). LookRest others root (old root) xs) (sym here)
-          (stepwise-back (LookAsks others) passed_on (LookRest others) (looks-front others) (looks-back others) old new e es step
+          (stepwise-back (LookAsks others) passed_on (LookRest others) (looks-front others) (looks-back others) old new
+          e es step
           (c.in_ok-look_holds.ensures.0 c.if-not-branch.false) rest root));
     }
 

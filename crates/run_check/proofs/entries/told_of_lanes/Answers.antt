@@ -17,7 +17,9 @@ loop-log-preserved c shape are =
     let here : of_lane (notes_in logs) i ≡ log.notes = notes-at logs i log there c.log-item.is in
     let both = c.in_ok-lane.ensures shape (notes_in logs) i are (c.items.ensures ∙ sym here) in
     let this : IsToldOf (notes_in logs) told log = record {
-      entries = subst (λ (ns : List Note). entries_in ns told.items ≡ map (entry_of (notes_in logs)) ns) c.items.ensures both.0;
+      entries =
+          subst (λ (ns : List Note). entries_in ns told.items ≡ map (entry_of (notes_in logs)) ns) c.items.ensures
+          both.0;
       as_many = both.1 ∙ ap length c.items.ensures;
     } in
     zip-push (IsToldOf (notes_in logs)) c.loop-log.told.items c.push.new.self.items logs i told log

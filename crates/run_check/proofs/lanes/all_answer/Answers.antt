@@ -41,7 +41,8 @@ returns-then-not-branch c =
     let asked : lane < length lanes = omega (arith, there, c.requires.as_many) in
     let first : List Command = get_or lanes lane c.index-lanes-lane.result in
     let commands : of_lane lanes lane ≡ c.items-commands.result.now =
-    lane-at lanes lane first asked (ap (get_or lanes lane) c.index-lanes-lane.is) ∙ sym c.index-lanes-lane.is ∙ sym c.items-commands.ensures in
+    lane-at lanes lane first asked (ap (get_or lanes lane) c.index-lanes-lane.is) ∙ sym c.index-lanes-lane.is
+    ∙ sym c.items-commands.ensures in
     let replies : of_lane (replies_in logs) lane ≡ c.items-replies.result.now =
     replies-get logs lane c.index-logs-lane.result there ∙ sym c.items-replies.ensures in (
       λ e. absurd (cc e),
@@ -60,11 +61,13 @@ loop-lane-preserved c =
     let asked : lane < length lanes = omega (arith, there, c.requires.as_many) in
     let first : List Command = get_or lanes lane c.index-lanes-lane.result in
     let commands : of_lane lanes lane ≡ c.items-commands.result.now =
-    lane-at lanes lane first asked (ap (get_or lanes lane) c.index-lanes-lane.is) ∙ sym c.index-lanes-lane.is ∙ sym c.items-commands.ensures in
+    lane-at lanes lane first asked (ap (get_or lanes lane) c.index-lanes-lane.is) ∙ sym c.index-lanes-lane.is
+    ∙ sym c.items-commands.ensures in
     let replies : of_lane (replies_in logs) lane ≡ c.items-replies.result.now =
     replies-get logs lane c.index-logs-lane.result there ∙ sym c.items-replies.ensures in
     below_more
-    (λ (k : ℕ). IsLaneLog shape k (of_lane lanes k) (of_lane (replies_in logs) k) (of_lane (entries_of (notes_in logs)) k))
+    (λ (k : ℕ). IsLaneLog shape k (of_lane lanes k) (of_lane (replies_in logs) k)
+    (of_lane (entries_of (notes_in logs)) k))
     lane c.loop-lane.invariant
     (same-log _ _ _ _ _ _ _ _ (sym commands) (sym replies) c.log_at-log.ensures.entries
     (c.in_ok-is_lane_log.ensures.0 c.if-not-branch.false))

@@ -18,7 +18,8 @@ returns-then-not-branch c =
       λ all.
           absurd (false≢true (sym c.if-not-branch.true ∙ c.in_ok-looks_hold.ensures.1 (λ root.
           subst (λ (n : ℕ). LooksHold root n 0 0 0 (entries c.log_at.result))
-          (sym (others-counted (entry_of logs) (entry-bare logs) root lane 0 c.args.tallies.now c.args.logs.now c.requires.tallies))
+          (sym (others-counted (entry_of logs) (entry-bare logs) root lane 0 c.args.tallies.now c.args.logs.now
+          c.requires.tallies))
           (subst (λ (es : List Entry). LooksHold root (others_retains root lane 0 (entries_of logs)) 0 0 0 es)
           (sym c.log_at.ensures.entries) (all lane root))))),
     )

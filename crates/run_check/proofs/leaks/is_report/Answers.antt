@@ -24,7 +24,8 @@ loop-lane-preserved c =
     let report : List Leak = drop c.loop-lane.at leaks in
     let there : lane < length logs = search rules in
     let told : report ≡ these ++ drop next leaks =
-    subst (λ (o : Option ℕ). Tells these report (option_map (λ n. drop n leaks) o)) c.in-Some.is c.in_ok-found.ensures in
+    subst (λ (o : Option ℕ). Tells these report (option_map (λ n. drop n leaks) o)) c.in-Some.is
+    c.in_ok-found.ensures in
     let front : A lane (drop lane logs) ≡ these ++ A (lane + 1) rest =
     ap (λ (ls : List LaneLog). A lane ls)
     (drop_more logs lane log there ∙ ap (λ (l : LaneLog). l ∷ rest) (sym at))

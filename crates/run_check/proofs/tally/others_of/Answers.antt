@@ -11,9 +11,11 @@ loop-at-preserved c =
     let at = c.loop-at.at in
     let more = c.other_retains-more.result in
     let there : at < length tallies = search rules in
-    let step : others_sum root lane at (drop at tallies) ≡ more + others_sum root lane (at + 1) (drop (at + 1) tallies) =
+    let step : others_sum root lane at (drop at tallies)
+    ≡ more + others_sum root lane (at + 1) (drop (at + 1) tallies) =
     others-step root lane at at tallies c.index-tallies-at.result there c.index-tallies-at.is
     ∙ ap (λ (n : ℕ). n + others_sum root lane (at + 1) (drop (at + 1) tallies)) (sym c.other_retains-more.ensures) in
     let next : c.in_ok-next.next ≡ c.loop-at.all + more = c.in_ok-next.ensures in
-    let before : c.loop-at.all + others_sum root lane at (drop at tallies) ≡ others_sum root lane 0 tallies = c.loop-at.invariant in
+    let before : c.loop-at.all + others_sum root lane at (drop at tallies)
+    ≡ others_sum root lane 0 tallies = c.loop-at.invariant in
     omega (arith, step, next, before)

@@ -26,7 +26,8 @@ returns-then-not-branch c =
           absurd (false≢true (sym c.if-not-branch.true ∙ c.in_ok-names_hold.ensures.1
           (subst (λ (ns : List Note). NamesHold tallies ns) here
           (over-hold g bare names_root right (notes_in logs)
-          (λ root some. subst (λ (n : ℕ). 0 < n) (sym (births-are g bare tallies root logs c.requires)) (all root some)) i)))),
+          (λ root some. subst (λ (n : ℕ). 0 < n) (sym (births-are g bare tallies root logs c.requires)) (all root some))
+          i)))),
     )
 
 pub loop-log-preserved : goal.loop-log-preserved
@@ -51,6 +52,7 @@ returns c =
     each-notes (λ k (ns : List Note). NamesHold tallies ns) logs c.loop-log.log-index c.loop-log.invariant
     (search rules) (λ k. tt) in (
       λ _ root some.
-          subst (λ (n : ℕ). 0 < n) (births-are g bare tallies root logs c.requires) (over-back g bare names_root right (notes_in logs) each root some),
+          subst (λ (n : ℕ). 0 < n) (births-are g bare tallies root logs c.requires)
+          (over-back g bare names_root right (notes_in logs) each root some),
       λ _. refl,
     )

@@ -51,6 +51,7 @@ returns c =
     each-notes (λ k (ns : List Note). BirthsHold tallies ns) logs c.loop-log.log-index c.loop-log.invariant
     (search rules) (λ k. tt) in (
       λ _ root some.
-          totals-on g bare tallies root logs c.requires (over-back g bare is_birth right (notes_in logs) each root some),
+          totals-on g bare tallies root logs c.requires
+          (over-back g bare is_birth right (notes_in logs) each root some),
       λ _. refl,
     )

@@ -18,8 +18,11 @@ returns-in-Ok-clause-stands c measures setting h n is here len at =
     cache_more (Did.Kept r.id) c.in-Cache.cache.value c.put.new.self
     (subst (λ q. Makes q (Did.Kept r.id) c.put.new.self) now c.in-Ok.ensures.kept)
     measures setting h n is
-    (subst (All (IsRegionOf setting.grounds)) (sym c.in-Ok.ensures.ok) (in_place_more setting.grounds c.deref_mut.result.now.regions r all here))
-    (subst (All As) (sym c.in-Ok.ensures.ok) (All-append As c.deref_mut.result.now.regions (r ∷ []) (subst Lens (sym now) at.lens) (All-cons As r [] len (All-nil As))))
+    (subst (All (IsRegionOf setting.grounds)) (sym c.in-Ok.ensures.ok)
+    (in_place_more setting.grounds c.deref_mut.result.now.regions r all here))
+    (subst (All As) (sym c.in-Ok.ensures.ok)
+    (All-append As c.deref_mut.result.now.regions (r ∷ []) (subst Lens (sym now) at.lens)
+    (All-cons As r [] len (All-nil As))))
     at
   where
     As : Region → Type 0

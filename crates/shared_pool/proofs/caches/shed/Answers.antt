@@ -29,7 +29,8 @@ returns-clause-here c measures setting h at =
     let lens = subst Lens (sym c.deref_mut.ensures.value) at.lens in (
       in_place_front setting.grounds c.shed.result c.shed.new.self.regions
           (subst (All (IsRegionOf setting.grounds)) c.shed.ensures.front
-          (subst (λ (q : Queue). All (IsRegionOf setting.grounds) q.regions) (sym c.deref_mut.ensures.value) at.stands.in_place)),
+          (subst (λ (q : Queue). All (IsRegionOf setting.grounds) q.regions) (sym c.deref_mut.ensures.value)
+          at.stands.in_place)),
       All-head (λ r. HasClassLength r.id) c.shed.result c.shed.new.self.regions
           (subst (All (λ r. HasClassLength r.id)) c.shed.ensures.front lens),
     )

@@ -8,7 +8,8 @@ use Rattle.shared_pool.proofs.last_chunks.add_arena.Given as goal
 abbrev pub invariant-loop-chunk : goal.invariant-loop-chunk
 invariant-loop-chunk l =
     record {
-      items : l.ends.items ++ chunk_ends_from l.arena.geometry l.arena.number (law_of l.arena []) l.chunk (drop l.chunk l.arena.chunks) ≡ l.fn.ends.items ++ arena_chunks l.arena;
+      items : l.ends.items ++ chunk_ends_from l.arena.geometry l.arena.number (law_of l.arena []) l.chunk
+          (drop l.chunk l.arena.chunks) ≡ l.fn.ends.items ++ arena_chunks l.arena;
       most : length l.ends.items ≤ length l.fn.ends.items + l.chunk;
       capacity : vec_capacity l.fn.ends ≤ vec_capacity l.ends;
     }

@@ -8,5 +8,6 @@ use Rattle.shared_pool.proofs.live_roots.told_at.Goals as goal
 
 pub returns-clause-same : goal.returns-clause-same
 returns-clause-same c =
-    ap (λ (x : PlaceState). Some (Root (with_value c.in-Some-Root.place x))) (c.told.ensures.same ∙ c.deref_mut.ensures.value)
+    ap (λ (x : PlaceState). Some (Root (with_value c.in-Some-Root.place x)))
+    (c.told.ensures.same ∙ c.deref_mut.ensures.value)
     ∙ sym (c.in-Some-Root.is ∙ ap (λ (x : Home). Some x) c.in-Some-Root.field-0-is)

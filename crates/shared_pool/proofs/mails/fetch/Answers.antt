@@ -19,15 +19,20 @@ returns-clause-stands c =
     go None some = tt
     go (Some p) some = λ measures setting h n is at.
         let rest : List Parcel = c.fetch.new.self.parcels in
-        subst (IsMailAt measures setting (h ++ n ∷ [])) (ap (λ (m : MailState). with_parcels m rest) (sym c.deref_mut.ensures.value) ∙ sym c.fetch.ensures.rest)
-        (fetched measures setting h n p c.in-Mail.mail.value rest is (ap (λ (m : MailState). m.parcels) (sym c.deref_mut.ensures.value) ∙ some) (subst (HomeStands measures setting h) (sym c.home.ensures.value ∙ c.in-Mail.is) at))
+        subst (IsMailAt measures setting (h ++ n ∷ []))
+        (ap (λ (m : MailState). with_parcels m rest) (sym c.deref_mut.ensures.value) ∙ sym c.fetch.ensures.rest)
+        (fetched measures setting h n p c.in-Mail.mail.value rest is
+        (ap (λ (m : MailState). m.parcels) (sym c.deref_mut.ensures.value) ∙ some)
+        (subst (HomeStands measures setting h) (sym c.home.ensures.value ∙ c.in-Mail.is) at))
 
 pub returns-clause-unchanged : goal.returns-clause-unchanged
 returns-clause-unchanged c = go c.fetch.result c.fetch.ensures.same
   where
     go : (r : Option Parcel) → IfNone r (c.fetch.new.self ≡ c.deref_mut.result.now) →
         IfNone r (Mail (with_value c.in-Mail.mail c.fetch.new.self) ≡ c.args.section.now.home)
-    go None same = ap (λ (m : MailState). Mail (with_value c.in-Mail.mail m)) (same ∙ c.deref_mut.ensures.value) ∙ (sym c.in-Mail.is ∙ c.home.ensures.value)
+    go None same =
+        ap (λ (m : MailState). Mail (with_value c.in-Mail.mail m)) (same ∙ c.deref_mut.ensures.value)
+        ∙ (sym c.in-Mail.is ∙ c.home.ensures.value)
     go (Some p) same = tt
 
 pub returns-clause-front : goal.returns-clause-front

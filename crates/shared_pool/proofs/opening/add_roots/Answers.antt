@@ -4,4 +4,5 @@ use Rattle.shared_pool.proofs.opening.add_roots.Goals as goal
 
 pub loop-preserved : goal.loop-preserved
 loop-preserved c =
-    adds_push (λ k. IsNewRoot) c.loop.counter c.args.homes.now.items c.loop.homes.items c.add.new.homes.items c.in_ok-home.home c.loop.invariant c.in_ok-home.ensures c.in_ok-add.ensures
+    adds_push (λ k. IsNewRoot) c.loop.counter c.args.homes.now.items c.loop.homes.items c.add.new.homes.items
+    c.in_ok-home.home c.loop.invariant c.in_ok-home.ensures c.in_ok-add.ensures

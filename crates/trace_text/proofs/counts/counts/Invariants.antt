@@ -8,5 +8,6 @@ invariant-loop-command l = record {
   size : length l.list.items ≡ l.command-index + 1;
   bound : l.total ≤ l.command-index;
   now : l.total ≡ how_many (meets l.side l.lane) (take l.command-index l.commands);
-  each : (k : ℕ) → k ≤ l.command-index → slice_index l.list.items k ≡ how_many (meets l.side l.lane) (take k l.commands);
+  each : (k : ℕ) → k ≤ l.command-index → slice_index l.list.items k
+      ≡ how_many (meets l.side l.lane) (take k l.commands);
 }

@@ -6,5 +6,6 @@ use Rattle.trace_text.proofs.counts.tables.Given as goal
 abbrev pub invariant-loop-lane : goal.invariant-loop-lane
 invariant-loop-lane l = record {
   size : length l.list.items ≡ l.lane-index;
-  each : (k : ℕ) (d : Vec (Vec ℕ Global) Global) → k < l.lane-index → AreRows l.side (length l.lanes) (of_lane l.lanes k) (get_or l.list.items k d).items;
+  each : (k : ℕ) (d : Vec (Vec ℕ Global) Global) → k < l.lane-index
+      → AreRows l.side (length l.lanes) (of_lane l.lanes k) (get_or l.list.items k d).items;
 }

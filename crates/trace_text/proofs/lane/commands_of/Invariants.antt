@@ -5,4 +5,5 @@ use Rattle.trace_text.proofs.lane.commands_of.Given as goal
 
 abbrev pub invariant-loop-row : goal.invariant-loop-row
 invariant-loop-row l =
-    commands_after l.lanes l.lane nothing_read (map view l.rows) ≡ commands_after l.lanes l.lane l.reader (drop l.row-index (map view l.rows))
+    commands_after l.lanes l.lane nothing_read (map view l.rows)
+    ≡ commands_after l.lanes l.lane l.reader (drop l.row-index (map view l.rows))

@@ -6,4 +6,6 @@ pub returns-in-Ok : goal.returns-in-Ok
 returns-in-Ok c = value_of_text _ _ c.in-Ok.ensures.ok.0 c.in-Ok.ensures.ok.1
 
 pub returns-else-is_memory : goal.returns-else-is_memory
-returns-else-is_memory c = no_value _ (c.in-Err.ensures.err (λ memory. let told : c.is_memory.result ≡ true = c.is_memory.ensures.1 memory in cc))
+returns-else-is_memory c =
+    no_value _ (c.in-Err.ensures.err
+    (λ memory. let told : c.is_memory.result ≡ true = c.is_memory.ensures.1 memory in cc))

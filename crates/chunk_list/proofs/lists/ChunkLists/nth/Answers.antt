@@ -11,21 +11,25 @@ returns-clause-chunk c =
     let last = c.chain-last.ensures in
     let from_init = YieldsList-from_chain
     (YieldsList-at last.first (YieldsList-from_deque here.init.numbers (c.iter.ensures.rest ∙ c.chunks.ensures.items)))
-    (YieldsList-at last.second (YieldsList-from_deque here.q075.numbers (c.iter-2.ensures.rest ∙ c.chunks-2.ensures.items)))
+    (YieldsList-at last.second (YieldsList-from_deque here.q075.numbers
+    (c.iter-2.ensures.rest ∙ c.chunks-2.ensures.items)))
     last.first_done last.second_done in
     let third = c.chain-rest.ensures in
     let from_q000 = YieldsList-from_chain
-    (YieldsList-at third.first (YieldsList-from_deque here.q000.numbers (c.iter-3.ensures.rest ∙ c.chunks-3.ensures.items)))
+    (YieldsList-at third.first (YieldsList-from_deque here.q000.numbers
+    (c.iter-3.ensures.rest ∙ c.chunks-3.ensures.items)))
     (YieldsList-at third.second from_init)
     third.first_done third.second_done in
     let second = c.chain-rest-2.ensures in
     let from_q025 = YieldsList-from_chain
-    (YieldsList-at second.first (YieldsList-from_deque here.q025.numbers (c.iter-4.ensures.rest ∙ c.chunks-4.ensures.items)))
+    (YieldsList-at second.first (YieldsList-from_deque here.q025.numbers
+    (c.iter-4.ensures.rest ∙ c.chunks-4.ensures.items)))
     (YieldsList-at second.second from_q000)
     second.first_done second.second_done in
     let first = c.chain-asked.ensures in
     let from_q050 = YieldsList-from_chain
-    (YieldsList-at first.first (YieldsList-from_deque here.q050.numbers (c.iter-5.ensures.rest ∙ c.chunks-5.ensures.items)))
+    (YieldsList-at first.first (YieldsList-from_deque here.q050.numbers
+    (c.iter-5.ensures.rest ∙ c.chunks-5.ensures.items)))
     (YieldsList-at first.second from_q025)
     first.first_done first.second_done in
     c.copied.ensures

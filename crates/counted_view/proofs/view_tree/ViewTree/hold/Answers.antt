@@ -14,9 +14,11 @@ use Rattle.counted_view.proofs.view_tree.ViewTree.hold.Goals as goal
 counted : goal.invariant_of-self
 counted c =
     let rows : List Row = c.self.inside.rows.items in let v = c.args.number in let x : Row = c.index_mut.result.now in
-    let may : retain_no (if_held (slice_get (map shown rows) v)) ≡ None = subst (λ (s : NestState). retain_no (held_view s v) ≡ None) (sym c.self.view_is) c.requires in
+    let may : retain_no (if_held (slice_get (map shown rows) v))
+    ≡ None = subst (λ (s : NestState). retain_no (held_view s v) ≡ None) (sym c.self.view_is) c.requires in
     let lets = let_if_retained _ may in
-    let at : slice_get rows v ≡ Some x = slice_get_read rows (length rows) v x refl (let_within rows v lets) c.index_mut.ensures.value in
+    let at : slice_get rows v ≡ Some x = slice_get_read rows (length rows) v x refl (let_within rows v lets)
+    c.index_mut.ensures.value in
     let held : 0 < x.holds = let_held rows v x at lets in
     let holds : x.holds ≤ 65535 = (c.self.invariant.counted v x at).holds in
     let few : x.holds < 65535 = omega (arith, few_if_retained rows v x at held may) in
@@ -35,17 +37,23 @@ invariant_of-self c = counted c
 pub returns-clause-state : goal.returns-clause-state
 returns-clause-state c =
     let rows : List Row = c.self.inside.rows.items in let v = c.args.number in let x : Row = c.index_mut.result.now in
-    let may : retain_no (if_held (slice_get (map shown rows) v)) ≡ None = subst (λ (s : NestState). retain_no (held_view s v) ≡ None) (sym c.self.view_is) c.requires in
-    let at : slice_get rows v ≡ Some x = slice_get_read rows (length rows) v x refl (let_within rows v (let_if_retained _ may)) c.index_mut.ensures.value in
+    let may : retain_no (if_held (slice_get (map shown rows) v))
+    ≡ None = subst (λ (s : NestState). retain_no (held_view s v) ≡ None) (sym c.self.view_is) c.requires in
+    let at : slice_get rows v ≡ Some x = slice_get_read rows (length rows) v x refl
+    (let_within rows v (let_if_retained _ may)) c.index_mut.ensures.value in
     ap (λ (vs : List NestedView). nest_of c.self.inside.root c.self.inside.bound vs) (views-retained rows v x at)
     ∙ ap (λ (s : NestState). after_call s (Retain v)) c.self.view_is
 
 pub returns-clause-root : goal.returns-clause-root
 returns-clause-root c =
     let rows : List Row = c.self.inside.rows.items in let v = c.args.number in let x : Row = c.index_mut.result.now in
-    let may : retain_no (if_held (slice_get (map shown rows) v)) ≡ None = subst (λ (s : NestState). retain_no (held_view s v) ≡ None) (sym c.self.view_is) c.requires in
-    let at : slice_get rows v ≡ Some x = slice_get_read rows (length rows) v x refl (let_within rows v (let_if_retained _ may)) c.index_mut.ensures.value in
+    let may : retain_no (if_held (slice_get (map shown rows) v))
+    ≡ None = subst (λ (s : NestState). retain_no (held_view s v) ≡ None) (sym c.self.view_is) c.requires in
+    let at : slice_get rows v ≡ Some x = slice_get_read rows (length rows) v x refl
+    (let_within rows v (let_if_retained _ may)) c.index_mut.ensures.value in
     let now : AreCounted (set rows v (held_once_more x)) = (counted c).counted in
     root_counts-rows c.self.inside.root c.self.inside.bound (set rows v (held_once_more x)) now
     ∙ root_sum-more rows v x (held_once_more x) at (omega arith)
-    ∙ ap (λ (k : ℕ). k + one (v == 0)) (sym (root_counts-rows c.self.inside.root c.self.inside.bound rows c.self.invariant.counted) ∙ ap root_counts c.self.view_is)
+    ∙ ap (λ (k : ℕ). k + one (v == 0))
+    (sym (root_counts-rows c.self.inside.root c.self.inside.bound rows c.self.invariant.counted)
+    ∙ ap root_counts c.self.view_is)

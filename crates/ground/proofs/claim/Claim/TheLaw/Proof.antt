@@ -15,4 +15,5 @@ pub shares : statement
 shares =
     of_Lends C.struct C.the_codes C.the_heap C.the_lent
     (λ d p. one_shr_laws (claim d.name d.start d.len)) tt (λ M 𝓤 𝓛 d p κ ts inc sp.
-    qed 𝓛 (‵ (fbor κ (claim d.name d.start d.len full_share)) ∷ raw (lfts 𝓛 ts) ∷ []) ∵ updating ! $ bor_fracture ! tt (claim d.name d.start d.len) full_share $ now ! $ done !)
+    qed 𝓛 (‵ (fbor κ (claim d.name d.start d.len full_share)) ∷ raw (lfts 𝓛 ts) ∷ []) ∵ updating ! $ bor_fracture ! tt
+    (claim d.name d.start d.len) full_share $ now ! $ done !)

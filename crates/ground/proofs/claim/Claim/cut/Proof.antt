@@ -57,33 +57,43 @@ module _ {M : Type 1} {𝓤 : Ura M} (𝓛 : Logic 𝓤) (at_mem : Memory → SP
     abbrev toks : SProp 𝓤
     toks = alive 𝓛 ended.signature z.0.0 z.0.1
 
-    walks : ent 𝓤 ((walk_of 𝓛 ended stayed held).pre z) (WpFn 𝓤 H C Λ function ((walk_of 𝓛 ended stayed held).args z) Post)
+    walks : ent 𝓤 ((walk_of 𝓛 ended stayed held).pre z)
+        (WpFn 𝓤 H C Λ function ((walk_of 𝓛 ended stayed held).args z) Post)
     walks =
         let a = z.0.3 in
         let vss = z.0.4 in
         let s = a.0 in
         let n = a.1.0 in
         let front : (Part.the_row).Denot = record s { len = n } in
-        let back : (Part.the_row).Denot = record { name = s.name; start = s.start + n; len = s.len - n; size = s.size } in
+        let back : (Part.the_row).Denot = record
+        { name = s.name; start = s.start + n; len = s.len - n; size = s.size } in
         let Asked = n ≤ s.len in
         qed 𝓛 ((raw toks ⊛ ‵ (owns (types_at ended.signature.params z.0.0) a vss)) ∷ raw (fact 𝓤 Asked) ∷ []) ∵
         move ! (1 ∷ []) $ heard ! Asked (λ asked. split ! $ move ! (1 ∷ []) $
-        fsplit ! $ fsplit ! $ none_had ! vss.0 (λ is₀. move ! (1 ∷ []) $ fsplit ! $ fsplit ! $ feq_l ! (λ is₁. flt_l ! (λ fits. drop ! $
+        fsplit ! $ fsplit ! $ none_had ! vss.0
+        (λ is₀. move ! (1 ∷ []) $ fsplit ! $ fsplit ! $ feq_l ! (λ is₁. flt_l ! (λ fits. drop ! $
         regoal ! (λ (us : List Val). prop (WpFn 𝓤 H C Λ function (us ++ (vss.1.0 ++ [])) Post)) is₀ refl $
         regoal ! (λ (us : List Val). prop (WpFn 𝓤 H C Λ function ((none ∷ []) ++ (us ++ [])) Post)) is₁ refl $
-        enter ! C Λ function (none ∷ vint w64 n ∷ []) Post $ alloc_all ! (λ l. pass_all ! refl ((tt, tt), ((tt, record { fits = fits }), tt)) $
+        enter ! C Λ function (none ∷ vint w64 n ∷ []) Post $
+        alloc_all ! (λ l. pass_all ! refl ((tt, tt), ((tt, record { fits = fits }), tt)) $
         sets ! (agg ! (no_more !)) refl (tt, tt) $
         sets ! (agg ! (no_more !)) refl (tt, tt) $
         sets ! (agg ! (and_then ! (get ! refl) (and_then ! (get ! refl) (no_more !)))) refl (tt, (tt, (tt, tt))) $
-        use1 𝓛 (later (‵ (claim_owns s.name s.start n) ⊛ ‵ (claim_owns s.name (s.start + n) (s.len - n)))) (claim_cut 𝓛 s.name s.start s.len n asked) $ await ! tt $ split ! $
-        none_made ! $ fjoin ! $ move ! (1 ∷ []) $ none_made ! $ fjoin ! $ move ! (1 ∷ 0 ∷ []) $ two_made ! Part.the_row Part.the_row front back none none $
+        use1 𝓛 (later (‵ (claim_owns s.name s.start n) ⊛ ‵ (claim_owns s.name (s.start + n) (s.len - n))))
+        (claim_cut 𝓛 s.name s.start s.len n asked) $ await ! tt $ split ! $
+        none_made ! $ fjoin ! $ move ! (1 ∷ []) $ none_made ! $ fjoin ! $ move ! (1 ∷ 0 ∷ []) $ two_made ! Part.the_row
+        Part.the_row front back none none $
         returns ! (look_at ! 0 refl) $ free_all ! refl $
-        suffices ! _ (ends_at 𝓛 ended stayed held z (two none none) (front, back) (tt, (tt, tt)) (tt, (tt, tt))) $ says ! (refl, refl, refl, refl, refl, refl, refl, refl) $
+        suffices ! _ (ends_at 𝓛 ended stayed held z (two none none) (front, back) (tt, (tt, tt)) (tt, (tt, tt))) $
+        says ! (refl, refl, refl, refl, refl, refl, refl, refl) $
         nothing ! $ nothing ! $ fjoin ! $ nothing ! $ fjoin ! $ move ! (2 ∷ 0 ∷ 1 ∷ []) $ done !)))))
 
   meets : (𝓣 : Tables 𝓤 H) → Meets 𝓛 ended.signature (WpFn 𝓤 H 𝓣.C 𝓣.Λ function) (closing 𝓛 ended held)
   meets 𝓣 =
-      walk_Meets 𝓛 ended stayed (Goes-blank 𝓛 0 (plain (λ _. Part.the_row)) yes (λ κs x f. tt), (Goes-blank 𝓛 0 (plain (λ _. usize)) yes (λ κs x f. tt), tt)) held
+      walk_Meets 𝓛 ended stayed (
+        Goes-blank 𝓛 0 (plain (λ _. Part.the_row)) yes (λ κs x f. tt),
+        (Goes-blank 𝓛 0 (plain (λ _. usize)) yes (λ κs x f. tt), tt),
+      ) held
       (WpFn 𝓤 H 𝓣.C 𝓣.Λ function) (WpFn-mono 𝓤 H 𝓛.laws 𝓣 function) (walks 𝓣.C 𝓣.Λ)
 
 pub cut_spec : {M : Type 1} → stated.statement M

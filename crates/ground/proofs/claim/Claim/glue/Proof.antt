@@ -56,7 +56,8 @@ module _ {M : Type 1} {𝓤 : Ura M} (𝓛 : Logic 𝓤) (at_mem : Memory → SP
     abbrev toks : SProp 𝓤
     toks = alive 𝓛 ended.signature z.0.0 z.0.1
 
-    walks : ent 𝓤 ((walk_of 𝓛 ended stayed held).pre z) (WpFn 𝓤 H C Λ function ((walk_of 𝓛 ended stayed held).args z) Post)
+    walks : ent 𝓤 ((walk_of 𝓛 ended stayed held).pre z)
+        (WpFn 𝓤 H C Λ function ((walk_of 𝓛 ended stayed held).args z) Post)
     walks =
         let a = z.0.3 in
         let vss = z.0.4 in
@@ -66,21 +67,28 @@ module _ {M : Type 1} {𝓤 : Ura M} (𝓛 : Logic 𝓤) (at_mem : Memory → SP
         let Asked = (t.name ≡ s.name) × (t.start ≡ s.start + s.len) in
         qed 𝓛 ((raw toks ⊛ ‵ (owns (types_at ended.signature.params z.0.0) a vss)) ∷ raw (fact 𝓤 Asked) ∷ []) ∵
         move ! (1 ∷ []) $ heard ! Asked (λ asked. split ! $ move ! (1 ∷ []) $
-        fsplit ! $ fsplit ! $ none_had ! vss.0 (λ is₀. move ! (1 ∷ []) $ fsplit ! $ fsplit ! $ none_had ! vss.1.0 (λ is₁. move ! (1 ∷ []) $ drop ! $
+        fsplit ! $ fsplit ! $ none_had ! vss.0
+        (λ is₀. move ! (1 ∷ []) $ fsplit ! $ fsplit ! $ none_had ! vss.1.0 (λ is₁. move ! (1 ∷ []) $ drop ! $
         regoal ! (λ (us : List Val). prop (WpFn 𝓤 H C Λ function (us ++ (vss.1.0 ++ [])) Post)) is₀ refl $
         regoal ! (λ (us : List Val). prop (WpFn 𝓤 H C Λ function ((none ∷ []) ++ (us ++ [])) Post)) is₁ refl $
         enter ! C Λ function (none ∷ none ∷ []) Post $ alloc_all ! (λ l. pass_all ! refl ((tt, tt), ((tt, tt), tt)) $
         sets ! (agg ! (no_more !)) refl (tt, tt) $
-        rewrite ! 0 (λ γ. ‵ (claim_owns γ t.start t.len)) asked.0 refl $ rewrite ! 0 (λ o. ‵ (claim_owns s.name o t.len)) asked.1 refl $ move ! (1 ∷ 0 ∷ []) $
-        use2 𝓛 (later (‵ (claim_owns s.name s.start (s.len + t.len)))) (claim_glue 𝓛 s.name s.start s.len t.len) $ await ! tt $
+        rewrite ! 0 (λ γ. ‵ (claim_owns γ t.start t.len)) asked.0 refl $ rewrite ! 0
+        (λ o. ‵ (claim_owns s.name o t.len)) asked.1 refl $ move ! (1 ∷ 0 ∷ []) $
+        use2 𝓛 (later (‵ (claim_owns s.name s.start (s.len + t.len)))) (claim_glue 𝓛 s.name s.start s.len t.len) $
+        await ! tt $
         none_made ! $ fjoin ! $
         returns ! (look_at ! 0 refl) $ free_all ! refl $
-        suffices ! _ (ends_at 𝓛 ended stayed held z none both (tt, (tt, tt)) (tt, (tt, tt))) $ says ! (refl, refl, refl, refl) $
+        suffices ! _ (ends_at 𝓛 ended stayed held z none both (tt, (tt, tt)) (tt, (tt, tt))) $
+        says ! (refl, refl, refl, refl) $
         nothing ! $ nothing ! $ fjoin ! $ nothing ! $ fjoin ! $ move ! (2 ∷ 0 ∷ 1 ∷ []) $ done !))))
 
   meets : (𝓣 : Tables 𝓤 H) → Meets 𝓛 ended.signature (WpFn 𝓤 H 𝓣.C 𝓣.Λ function) (closing 𝓛 ended held)
   meets 𝓣 =
-      walk_Meets 𝓛 ended stayed (Goes-blank 𝓛 0 (plain (λ _. Part.the_row)) yes (λ κs x f. tt), (Goes-blank 𝓛 0 (plain (λ _. Part.the_row)) yes (λ κs x f. tt), tt)) held
+      walk_Meets 𝓛 ended stayed (
+        Goes-blank 𝓛 0 (plain (λ _. Part.the_row)) yes (λ κs x f. tt),
+        (Goes-blank 𝓛 0 (plain (λ _. Part.the_row)) yes (λ κs x f. tt), tt),
+      ) held
       (WpFn 𝓤 H 𝓣.C 𝓣.Λ function) (WpFn-mono 𝓤 H 𝓛.laws 𝓣 function) (walks 𝓣.C 𝓣.Λ)
 
 pub glue_spec : {M : Type 1} → stated.statement M

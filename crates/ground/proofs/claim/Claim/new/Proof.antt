@@ -58,7 +58,8 @@ module _ {M : Type 1} {𝓤 : Ura M} (𝓛 : Logic 𝓤) (at_mem : Memory → SP
     abbrev toks : SProp 𝓤
     toks = alive 𝓛 ended.signature z.0.0 z.0.1
 
-    walks : ent 𝓤 ((walk_of 𝓛 ended stayed held).pre z) (WpFn 𝓤 H C Λ function ((walk_of 𝓛 ended stayed held).args z) Post)
+    walks : ent 𝓤 ((walk_of 𝓛 ended stayed held).pre z)
+        (WpFn 𝓤 H C Λ function ((walk_of 𝓛 ended stayed held).args z) Post)
     walks =
         let a = z.0.3 in
         let vss = z.0.4 in
@@ -67,7 +68,8 @@ module _ {M : Type 1} {𝓤 : Ura M} (𝓛 : Logic 𝓤) (at_mem : Memory → SP
         move ! (1 ∷ []) $ drop ! $ split ! $ move ! (1 ∷ []) $
         fsplit ! $ fsplit ! $ feq_l ! (λ is₀. flt_l ! (λ fits. drop ! $
         regoal ! (λ (us : List Val). prop (WpFn 𝓤 H C Λ function (us ++ []) Post)) is₀ refl $
-        enter ! C Λ function (vint w64 n ∷ []) Post $ alloc_all ! (λ l. pass_all ! refl ((tt, record { fits = fits }), tt) $
+        enter ! C Λ function (vint w64 n ∷ []) Post $
+        alloc_all ! (λ l. pass_all ! refl ((tt, record { fits = fits }), tt) $
         sets ! (agg ! (no_more !)) refl (tt, tt) $
         use0 𝓛 (later (some (λ (γ : GName). ‵ (claim_owns γ 0 n)))) (claim_new 𝓛 n) $ await ! tt $ pick ! (λ γ.
         let made : (Part.the_row).Denot = record { name = γ; start = 0; len = n; size = n } in

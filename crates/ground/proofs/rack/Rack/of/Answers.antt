@@ -12,7 +12,8 @@ invariant_of-result c =
     let len = c.len-len.result in
     let at = c.as_mut_ptr-at.ensures.value in
     let same = c.as_mut_ptr-at.ensures.unchanged in
-    let items : c.of-raw_piece.result.items ≡ p.bytes.items = c.of-raw_piece.ensures.1 ∙ c.raw_of.ensures.1 ∙ ap (λ v. v.items) same in
+    let items : c.of-raw_piece.result.items ≡ p.bytes.items = c.of-raw_piece.ensures.1 ∙ c.raw_of.ensures.1
+    ∙ ap (λ v. v.items) same in
     let whole : length p.bytes.items % n ≡ 0 = ap (λ s. length s.bytes % n) c.piece.view_is ∙ c.requires.1 in
     let long : length c.of-raw_piece.result.items ≡ len = ap length items ∙ sym p.bytes.ok.0 ∙ sym c.len-len.ensures in
     let none_over : len % n ≡ 0 = ap (λ (m : ℕ). m % n) (c.len-len.ensures ∙ p.bytes.ok.0) ∙ whole in
@@ -22,4 +23,7 @@ invariant_of-result c =
     rack_made c.of.result p c.as_mut_ptr-at.result n len (len / n) c.of-raw_piece.result.items
     (c.of.ensures.0 ∙ c.of-raw_piece.ensures.0 ∙ c.raw_of.ensures.0 ∙ ap (λ v. v.ptr) same ∙ sym at)
     (c.of.ensures.3 ∙ c.of-raw_piece.ensures.3 ∙ c.piece.invariant.claimed.0)
-    c.of.ensures.4 (c.of.ensures.5 ∙ c.of-raw_piece.ensures.5) c.of.ensures.1 long all (omega (arith, c.len-len.ensures, c.piece.invariant.some)) c.requires.0 at (subst L (sym at) c.piece.invariant.placed) (subst C (sym at) c.piece.invariant.above) (omega (arith, c.len-len.ensures, c.piece.invariant.within)) c.piece.invariant.small
+    c.of.ensures.4 (c.of.ensures.5 ∙ c.of-raw_piece.ensures.5) c.of.ensures.1 long all
+    (omega (arith, c.len-len.ensures, c.piece.invariant.some)) c.requires.0 at
+    (subst L (sym at) c.piece.invariant.placed) (subst C (sym at) c.piece.invariant.above)
+    (omega (arith, c.len-len.ensures, c.piece.invariant.within)) c.piece.invariant.small

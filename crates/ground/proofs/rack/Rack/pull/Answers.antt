@@ -9,7 +9,8 @@ use Rattle.ground.proofs.RackPulled.{rack_left, element_is, element_far, element
 use Rattle.ground.proofs.rack.Rack.pull.Goals as goal
 
 -- the element that is asked for is in the raw rack
-has : (r v : Racked) (o : Option RawRack) (sh : RawRack) (i : ℕ) (bs : List ℕ) → r ≡ v → r.cells ≡ cells_in o → o ≡ Some sh → HasCell i (Some bs) v.cells → HasCell i (Some bs) sh.cells
+has : (r v : Racked) (o : Option RawRack) (sh : RawRack) (i : ℕ) (bs : List ℕ) → r ≡ v → r.cells ≡ cells_in o
+    → o ≡ Some sh → HasCell i (Some bs) v.cells → HasCell i (Some bs) sh.cells
 has r v o sh i bs same cells e h =
     let P : Racked → Type 0 = λ x. HasCell i (Some bs) x.cells in
     let C : Option RawRack → Type 0 = λ x. HasCell i (Some bs) (cells_in x) in
@@ -42,7 +43,8 @@ vec_over-requires c =
     let e = sym c.take.ensures.value ∙ c.in-Some.is in
     let bs = c.pull-raw_piece.result.0.items in
     let is = element_bytes r sh c.args.i bs c.self.invariant e c.pull-raw_piece.ensures.1 in (
-      c.parts-raw_bytes.ensures.0 ∙ c.pull-raw_piece.ensures.0 ∙ far_ptr sh.ptr r.at c.args.i sh.each r.each is.3 is.5 ∙ sym c.byte_add-at.ensures.value,
+      c.parts-raw_bytes.ensures.0 ∙ c.pull-raw_piece.ensures.0 ∙ far_ptr sh.ptr r.at c.args.i sh.each r.each is.3 is.5
+          ∙ sym c.byte_add-at.ensures.value,
       ap length c.parts-raw_bytes.ensures.1 ∙ is.0,
       is.1,
       omega (arith, is.2),
@@ -53,7 +55,8 @@ invariant_of-self c =
     let r = c.self.inside in
     let sh = c.in-Some.raw_rack in
     let e = sym c.take.ensures.value ∙ c.in-Some.is in
-    rack_left r sh c.pull-raw_piece.result.1 c.replace-empty.new.dest c.args.i c.pull-raw_piece.result.0.items c.self.invariant e c.pull-raw_piece.ensures.1
+    rack_left r sh c.pull-raw_piece.result.1 c.replace-empty.new.dest c.args.i c.pull-raw_piece.result.0.items
+    c.self.invariant e c.pull-raw_piece.ensures.1
     c.replace-empty.ensures.after c.pull-raw_piece.ensures.6
 
 pub invariant_of-result : goal.invariant_of-result
@@ -63,6 +66,10 @@ invariant_of-result c =
     let e = sym c.take.ensures.value ∙ c.in-Some.is in
     let bs = c.pull-raw_piece.result.0.items in
     let is = element_bytes r sh c.args.i bs c.self.invariant e c.pull-raw_piece.ensures.1 in
-    let start : c.parts-raw_bytes.result.1.start ≡ r.start + c.args.i * r.each = c.parts-raw_bytes.ensures.3 ∙ c.pull-raw_piece.ensures.3 ∙ ap₂ (λ (x k : ℕ). x + c.args.i * k) is.4 is.5 in
-    element_is r sh c.args.i bs c.vec_over.result c.parts-raw_bytes.result.1 c.self.invariant e c.pull-raw_piece.ensures.1
-    (c.vec_over.ensures.3 ∙ c.byte_add-at.ensures.value) c.vec_over.ensures.1 start (c.parts-raw_bytes.ensures.4 ∙ c.pull-raw_piece.ensures.4 ∙ is.5) (c.parts-raw_bytes.ensures.5 ∙ c.pull-raw_piece.ensures.5)
+    let start : c.parts-raw_bytes.result.1.start ≡ r.start + c.args.i * r.each = c.parts-raw_bytes.ensures.3
+    ∙ c.pull-raw_piece.ensures.3 ∙ ap₂ (λ (x k : ℕ). x + c.args.i * k) is.4 is.5 in
+    element_is r sh c.args.i bs c.vec_over.result c.parts-raw_bytes.result.1 c.self.invariant e
+    c.pull-raw_piece.ensures.1
+    (c.vec_over.ensures.3 ∙ c.byte_add-at.ensures.value) c.vec_over.ensures.1 start
+    (c.parts-raw_bytes.ensures.4 ∙ c.pull-raw_piece.ensures.4 ∙ is.5)
+    (c.parts-raw_bytes.ensures.5 ∙ c.pull-raw_piece.ensures.5)

@@ -23,7 +23,9 @@ record Placed (r : Inside) (sh : RawRack) (p : PieceInside) (i : ℕ) : Type 0 w
   size : p.claim.size ≡ sh.size
   long : length p.bytes.items ≡ r.each
 
-place : (r : Inside) (sh : RawRack) (p : PieceInside) (v : Racked) (s : Segment) (i : ℕ) → IsRack r → IsPiece p → r.raw_rack ≡ Some sh → rack_of r ≡ v → segment_of p ≡ s → IsElement v i s → HasCell i None v.cells → Placed r sh p i
+place : (r : Inside) (sh : RawRack) (p : PieceInside) (v : Racked) (s : Segment) (i : ℕ) → IsRack r → IsPiece p
+    → r.raw_rack ≡ Some sh → rack_of r ≡ v → segment_of p ≡ s → IsElement v i s → HasCell i None v.cells
+    → Placed r sh p i
 place r sh p v s i is piece e same here element none =
     let E : Racked → Type 0 = λ x. IsElement x i s × HasCell i None x.cells in
     let known = subst E (sym same) (element, none) in
@@ -35,7 +37,9 @@ place r sh p v s i is piece e same here element none =
       index = index_of p.start r.start i r.each at.1 is.some;
       start = at.1;
       cell = subst C e known.1;
-      pointer = at_pointer p.bytes.ptr r.at (i * r.each) piece.placed is.placed (ap (λ (o : Origin). o.block) at.0) (omega (arith, first, at.1, piece.above, is.above));
+      pointer =
+          at_pointer p.bytes.ptr r.at (i * r.each) piece.placed is.placed (ap (λ (o : Origin). o.block) at.0)
+          (omega (arith, first, at.1, piece.above, is.above));
       name = ap (λ (o : Origin). o.name) at.0 ∙ ap name_in e;
       size = ap (λ (o : Origin). o.size) at.0 ∙ ap size_in e;
       long = at.2;
@@ -48,13 +52,16 @@ push-raw_rack-requires c =
     let sh = c.in-Some.raw_rack in
     let e = sym c.take.ensures.value ∙ c.in-Some.is in
     let i = c.requires.0 in
-    let w = place r sh p c.args.self.now c.args.piece i c.self.invariant c.piece.invariant e c.self.view_is c.piece.view_is c.requires.1 c.requires.2 in
+    let w = place r sh p c.args.self.now c.args.piece i c.self.invariant c.piece.invariant e c.self.view_is
+    c.piece.view_is c.requires.1 c.requires.2 in
     let o = opened r sh c.self.invariant e in
     rw w.index (
       w.cell,
-      c.of-raw_piece.ensures.0 ∙ c.raw_of.ensures.0 ∙ w.pointer ∙ ap₂ (λ (x : Ptr) (k : ℕ). x +ₚ i * k) (sym o.raw_rack.0) (sym o.raw_rack.2),
+      c.of-raw_piece.ensures.0 ∙ c.raw_of.ensures.0 ∙ w.pointer
+          ∙ ap₂ (λ (x : Ptr) (k : ℕ). x +ₚ i * k) (sym o.raw_rack.0) (sym o.raw_rack.2),
       c.of-raw_piece.ensures.2 ∙ w.name,
-      c.of-raw_piece.ensures.3 ∙ c.piece.invariant.claimed.0 ∙ w.start ∙ ap₂ (λ (x k : ℕ). x + i * k) (sym o.raw_rack.1) (sym o.raw_rack.2),
+      c.of-raw_piece.ensures.3 ∙ c.piece.invariant.claimed.0 ∙ w.start
+          ∙ ap₂ (λ (x k : ℕ). x + i * k) (sym o.raw_rack.1) (sym o.raw_rack.2),
       c.of-raw_piece.ensures.4 ∙ c.piece.invariant.claimed.1 ∙ p.bytes.ok.0 ∙ w.long ∙ sym o.raw_rack.2,
     )
 
@@ -66,10 +73,13 @@ invariant_of-self c =
     let e = sym c.take.ensures.value ∙ c.in-Some.is in
     let i = c.requires.0 in
     let j = (p.start - r.start) / r.each in
-    let w = place r sh p c.args.self.now c.args.piece i c.self.invariant c.piece.invariant e c.self.view_is c.piece.view_is c.requires.1 c.requires.2 in
+    let w = place r sh p c.args.self.now c.args.piece i c.self.invariant c.piece.invariant e c.self.view_is
+    c.piece.view_is c.requires.1 c.requires.2 in
     let K : ℕ → Type 0 = λ k. HasCell k None sh.cells in
-    rack_with r sh c.push-raw_rack.result c.replace-empty.new.dest j c.of-raw_piece.result.items c.self.invariant e (subst K (sym w.index) w.cell)
-    c.replace-empty.ensures.after c.push-raw_rack.ensures (ap length (c.of-raw_piece.ensures.1 ∙ c.raw_of.ensures.1) ∙ w.long)
+    rack_with r sh c.push-raw_rack.result c.replace-empty.new.dest j c.of-raw_piece.result.items c.self.invariant e
+    (subst K (sym w.index) w.cell)
+    c.replace-empty.ensures.after c.push-raw_rack.ensures
+    (ap length (c.of-raw_piece.ensures.1 ∙ c.raw_of.ensures.1) ∙ w.long)
 
 pub returns : goal.returns
 returns c = λ k is.
@@ -78,7 +88,11 @@ returns c = λ k is.
     let sh = c.in-Some.raw_rack in
     let e = sym c.take.ensures.value ∙ c.in-Some.is in
     let j = (p.start - r.start) / r.each in
-    let here : p.start ≡ r.start + k * r.each = ap (λ (s : Segment). s.start) c.piece.view_is ∙ is.1 ∙ sym (ap (λ (v : Racked). v.start + k * v.each) c.self.view_is) in
-    let bytes : c.of-raw_piece.result.items ≡ c.args.piece.bytes = c.of-raw_piece.ensures.1 ∙ c.raw_of.ensures.1 ∙ ap (λ (s : Segment). s.bytes) c.piece.view_is in
-    view_with r sh c.push-raw_rack.result c.replace-empty.new.dest j k c.of-raw_piece.result.items c.args.piece.bytes e c.replace-empty.ensures.after c.push-raw_rack.ensures (index_of p.start r.start k r.each here c.self.invariant.some) bytes
+    let here : p.start ≡ r.start + k * r.each = ap (λ (s : Segment). s.start) c.piece.view_is ∙ is.1
+    ∙ sym (ap (λ (v : Racked). v.start + k * v.each) c.self.view_is) in
+    let bytes : c.of-raw_piece.result.items ≡ c.args.piece.bytes = c.of-raw_piece.ensures.1 ∙ c.raw_of.ensures.1
+    ∙ ap (λ (s : Segment). s.bytes) c.piece.view_is in
+    view_with r sh c.push-raw_rack.result c.replace-empty.new.dest j k c.of-raw_piece.result.items c.args.piece.bytes e
+    c.replace-empty.ensures.after c.push-raw_rack.ensures
+    (index_of p.start r.start k r.each here c.self.invariant.some) bytes
     ∙ ap (λ (v : Racked). with_element v k c.args.piece.bytes) c.self.view_is

@@ -12,5 +12,6 @@ use Rattle.ground.proofs.raw_bytes.Block.TheLaw.Statement.{statement}
 pub shares : (T : RattleType) (g : Ghosts T.Denot) (L : Laws T) → statement T g L
 shares T g L = record {
   shr_laws = λ d b o. nothing_shr_laws;
-  shares = λ M 𝓤 𝓛 d κ ts b o. Lends-nothing 𝓛 (part_at (C.the_written T g) full_share d b o) (C.the_written T g).lives κ ts;
+  shares =
+      λ M 𝓤 𝓛 d κ ts b o. Lends-nothing 𝓛 (part_at (C.the_written T g) full_share d b o) (C.the_written T g).lives κ ts;
 }

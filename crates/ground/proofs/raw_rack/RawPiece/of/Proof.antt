@@ -57,15 +57,19 @@ module _ {M : Type 1} {𝓤 : Ura M} (𝓛 : Logic 𝓤) (at_mem : Memory → SP
     abbrev toks : SProp 𝓤
     toks = alive 𝓛 ended.signature z.0.0 z.0.1
 
-    walks : ent 𝓤 ((walk_of 𝓛 ended stayed held).pre z) (WpFn 𝓤 H C Λ function ((walk_of 𝓛 ended stayed held).args z) Post)
+    walks : ent 𝓤 ((walk_of 𝓛 ended stayed held).pre z)
+        (WpFn 𝓤 H C Λ function ((walk_of 𝓛 ended stayed held).args z) Post)
     walks =
         let a = z.0.3 in
         let vss = z.0.4 in
         let s = a.0 in
         let t = a.1.0 in
         qed 𝓛 ((raw toks ⊛ ‵ (owns (types_at ended.signature.params z.0.0) a vss)) ∷ ‵ ftrue ∷ []) ∵
-        move ! (1 ∷ []) $ drop ! $ let raw_piece : (RawPieceRow.the_row).Denot = record { ptr = s.ptr; items = s.items; name = t.name; start = t.start; len = t.len; size = t.size } in split ! $ move ! (1 ∷ []) $
-        fsplit ! $ fsplit ! $ none_had ! vss.0 (λ is0. move ! (1 ∷ []) $ fsplit ! $ fsplit ! $ none_had ! vss.1.0 (λ is1. move ! (1 ∷ []) $ drop ! $
+        move ! (1 ∷ []) $ drop ! $ let raw_piece : (RawPieceRow.the_row).Denot =
+        record { ptr = s.ptr; items = s.items; name = t.name; start = t.start; len = t.len; size = t.size } in
+        split ! $ move ! (1 ∷ []) $
+        fsplit ! $ fsplit ! $ none_had ! vss.0
+        (λ is0. move ! (1 ∷ []) $ fsplit ! $ fsplit ! $ none_had ! vss.1.0 (λ is1. move ! (1 ∷ []) $ drop ! $
         regoal ! (λ (us : List Val). prop (WpFn 𝓤 H C Λ function (us ++ (vss.1.0 ++ [])) Post)) is0 refl $
         regoal ! (λ (us : List Val). prop (WpFn 𝓤 H C Λ function ((none ∷ []) ++ (us ++ [])) Post)) is1 refl $
         enter ! C Λ function (none ∷ none ∷ []) Post $ alloc_all ! (λ l. pass_all ! refl (((tt, tt), ((tt, tt), tt))) $
@@ -73,12 +77,16 @@ module _ {M : Type 1} {𝓤 : Ura M} (𝓛 : Logic 𝓤) (at_mem : Memory → SP
         move ! (1 ∷ 0 ∷ []) $ fjoin ! $
         none_made ! $ fjoin ! $
         returns ! (look_at ! 0 refl) $ free_all ! refl $
-        suffices ! _ (ends_at 𝓛 ended stayed held z none raw_piece (tt, (tt, tt)) (tt, (tt, tt))) $ says ! (refl, refl, refl, refl, refl, refl) $
+        suffices ! _ (ends_at 𝓛 ended stayed held z none raw_piece (tt, (tt, tt)) (tt, (tt, tt))) $
+        says ! (refl, refl, refl, refl, refl, refl) $
         nothing ! $ nothing ! $ fjoin ! $ nothing ! $ fjoin ! $ move ! (2 ∷ 0 ∷ 1 ∷ []) $ done !)))
 
   meets : (𝓣 : Tables 𝓤 H) → Meets 𝓛 ended.signature (WpFn 𝓤 H 𝓣.C 𝓣.Λ function) (closing 𝓛 ended held)
   meets 𝓣 =
-      walk_Meets 𝓛 ended stayed (Goes-blank 𝓛 0 (plain (λ _. RawBytesRow.the_row)) yes (λ κs x f. tt), (Goes-blank 𝓛 0 (plain (λ _. ClaimRow.the_row)) yes (λ κs x f. tt), tt)) held
+      walk_Meets 𝓛 ended stayed (
+        Goes-blank 𝓛 0 (plain (λ _. RawBytesRow.the_row)) yes (λ κs x f. tt),
+        (Goes-blank 𝓛 0 (plain (λ _. ClaimRow.the_row)) yes (λ κs x f. tt), tt),
+      ) held
       (WpFn 𝓤 H 𝓣.C 𝓣.Λ function) (WpFn-mono 𝓤 H 𝓛.laws 𝓣 function) (walks 𝓣.C 𝓣.Λ)
 
 pub of_spec : {M : Type 1} → stated.statement M

@@ -57,13 +57,17 @@ module _ {M : Type 1} {𝓤 : Ura M} (𝓛 : Logic 𝓤) (at_mem : Memory → SP
     abbrev toks : SProp 𝓤
     toks = alive 𝓛 ended.signature z.0.0 z.0.1
 
-    walks : ent 𝓤 ((walk_of 𝓛 ended stayed held).pre z) (WpFn 𝓤 H C Λ function ((walk_of 𝓛 ended stayed held).args z) Post)
+    walks : ent 𝓤 ((walk_of 𝓛 ended stayed held).pre z)
+        (WpFn 𝓤 H C Λ function ((walk_of 𝓛 ended stayed held).args z) Post)
     walks =
         let a = z.0.3 in
         let vss = z.0.4 in
         let x = a.0 in
         qed 𝓛 ((raw toks ⊛ ‵ (owns (types_at ended.signature.params z.0.0) a vss)) ∷ ‵ ftrue ∷ []) ∵
-        move ! (1 ∷ []) $ drop ! $ let front : (RawBytesRow.the_row).Denot = record { ptr = x.ptr; items = x.items } in let back : (ClaimRow.the_row).Denot = record { name = x.name; start = x.start; len = x.len; size = x.size } in split ! $ move ! (1 ∷ []) $
+        move ! (1 ∷ []) $ drop ! $ let front : (RawBytesRow.the_row).Denot = record { ptr = x.ptr; items = x.items } in
+        let back : (ClaimRow.the_row).Denot = record
+        { name = x.name; start = x.start; len = x.len; size = x.size } in
+        split ! $ move ! (1 ∷ []) $
         fsplit ! $ fsplit ! $ none_had ! vss.0 (λ is0. move ! (1 ∷ []) $ drop ! $
         regoal ! (λ (us : List Val). prop (WpFn 𝓤 H C Λ function (us ++ []) Post)) is0 refl $
         enter ! C Λ function (none ∷ []) Post $ alloc_all ! (λ l. pass_all ! refl (((tt, tt), tt)) $
@@ -71,9 +75,11 @@ module _ {M : Type 1} {𝓤 : Ura M} (𝓛 : Logic 𝓤) (at_mem : Memory → SP
         sets ! (agg ! (no_more !)) refl (tt, tt) $
         sets ! (agg ! (and_then ! (get ! refl) (and_then ! (get ! refl) (no_more !)))) refl (tt, (tt, (tt, tt))) $
         fsplit ! $
-        none_made ! $ fjoin ! $ move ! (1 ∷ []) $ none_made ! $ fjoin ! $ move ! (1 ∷ 0 ∷ []) $ two_made ! RawBytesRow.the_row ClaimRow.the_row front back none none $
+        none_made ! $ fjoin ! $ move ! (1 ∷ []) $ none_made ! $ fjoin ! $ move ! (1 ∷ 0 ∷ []) $
+        two_made ! RawBytesRow.the_row ClaimRow.the_row front back none none $
         returns ! (look_at ! 0 refl) $ free_all ! refl $
-        suffices ! _ (ends_at 𝓛 ended stayed held z (two none none) (front, back) (tt, tt) (tt, tt)) $ says ! (refl, refl, refl, refl, refl, refl) $
+        suffices ! _ (ends_at 𝓛 ended stayed held z (two none none) (front, back) (tt, tt) (tt, tt)) $
+        says ! (refl, refl, refl, refl, refl, refl) $
         nothing ! $ nothing ! $ fjoin ! $ move ! (2 ∷ 0 ∷ 1 ∷ []) $ done !))
 
   meets : (𝓣 : Tables 𝓤 H) → Meets 𝓛 ended.signature (WpFn 𝓤 H 𝓣.C 𝓣.Λ function) (closing 𝓛 ended held)

@@ -44,7 +44,10 @@ abbrev ended : Ended
 ended = F.ended
 
 abbrev stayed : Stays ended.signature.params ended.kept
-stayed = (stay_dropped (plain (λ _. RawPieceRow.the_row)) yes, (stay_dropped (plain (λ _. usize)) yes, (stay_dropped (plain (λ _. usize)) yes, tt)))
+stayed = (
+  stay_dropped (plain (λ _. RawPieceRow.the_row)) yes,
+  (stay_dropped (plain (λ _. usize)) yes, (stay_dropped (plain (λ _. usize)) yes, tt)),
+)
 
 module _ {M : Type 1} {𝓤 : Ura M} (𝓛 : Logic 𝓤) (at_mem : Memory → SProp 𝓤) (run : Routine → Fun 𝓤) where
   open 𝓛 use {H}
@@ -59,7 +62,8 @@ module _ {M : Type 1} {𝓤 : Ura M} (𝓛 : Logic 𝓤) (at_mem : Memory → SP
     abbrev toks : SProp 𝓤
     toks = alive 𝓛 ended.signature z.0.0 z.0.1
 
-    walks : ent 𝓤 ((walk_of 𝓛 ended stayed held).pre z) (WpFn 𝓤 H C Λ function ((walk_of 𝓛 ended stayed held).args z) Post)
+    walks : ent 𝓤 ((walk_of 𝓛 ended stayed held).pre z)
+        (WpFn 𝓤 H C Λ function ((walk_of 𝓛 ended stayed held).args z) Post)
     walks =
         let a = z.0.3 in
         let vss = z.0.4 in
@@ -68,23 +72,50 @@ module _ {M : Type 1} {𝓤 : Ura M} (𝓛 : Logic 𝓤) (at_mem : Memory → SP
         let k = a.1.1.0 in
         let Asked : Type 0 = (length a.0.items ≡ a.1.1.0 * a.1.0) × (a.0.len ≡ a.1.1.0 * a.1.0) in
         qed 𝓛 ((raw toks ⊛ ‵ (owns (types_at ended.signature.params z.0.0) a vss)) ∷ raw (fact 𝓤 Asked) ∷ []) ∵
-        move ! (1 ∷ []) $ heard ! Asked (λ asked. let raw_rack : (RawRackRow.the_row).Denot = record { ptr = x.ptr; cells = cells_of n k x.items; name = x.name; start = x.start; each = n; size = x.size } in split ! $ move ! (1 ∷ []) $
-        fsplit ! $ fsplit ! $ none_had ! vss.0 (λ is0. move ! (1 ∷ []) $ fsplit ! $ fsplit ! $ feq_l ! (λ is1. flt_l ! (λ fits1. fsplit ! $ fsplit ! $ feq_l ! (λ is2. flt_l ! (λ fits2. drop ! $
-        regoal ! (λ (us : List Val). prop (WpFn 𝓤 H C Λ function (us ++ (vss.1.0 ++ (vss.1.1.0 ++ []))) Post)) is0 refl $
-        regoal ! (λ (us : List Val). prop (WpFn 𝓤 H C Λ function ((none ∷ []) ++ (us ++ (vss.1.1.0 ++ []))) Post)) is1 refl $
-        regoal ! (λ (us : List Val). prop (WpFn 𝓤 H C Λ function ((none ∷ []) ++ ((vint w64 a.1.0 ∷ []) ++ (us ++ []))) Post)) is2 refl $
-        enter ! C Λ function (none ∷ vint w64 a.1.0 ∷ vint w64 a.1.1.0 ∷ []) Post $ alloc_all ! (λ l. pass_all ! refl (((tt, tt), ((tt, record { fits = fits1 }), ((tt, record { fits = fits2 }), tt)))) $
+        move ! (1 ∷ []) $ heard ! Asked
+        (λ asked. let raw_rack : (RawRackRow.the_row).Denot =
+        record {
+          ptr = x.ptr;
+          cells = cells_of n k x.items;
+          name = x.name;
+          start = x.start;
+          each = n;
+          size =
+              x.size;
+        } in split ! $ move ! (1 ∷ []) $
+        fsplit ! $ fsplit ! $ none_had ! vss.0
+        (λ is0. move ! (1 ∷ []) $ fsplit ! $ fsplit ! $
+        feq_l ! (λ is1. flt_l ! (λ fits1. fsplit ! $ fsplit ! $ feq_l ! (λ is2. flt_l ! (λ fits2. drop ! $
+        regoal ! (λ (us : List Val). prop (WpFn 𝓤 H C Λ function (us ++ (vss.1.0 ++ (vss.1.1.0 ++ []))) Post)) is0
+        refl $
+        regoal ! (λ (us : List Val). prop (WpFn 𝓤 H C Λ function ((none ∷ []) ++ (us ++ (vss.1.1.0 ++ []))) Post)) is1
+        refl $
+        regoal ! (λ (us : List Val). prop
+        (WpFn 𝓤 H C Λ function ((none ∷ []) ++ ((vint w64 a.1.0 ∷ []) ++ (us ++ []))) Post)) is2 refl $
+        enter ! C Λ function (none ∷ vint w64 a.1.0 ∷ vint w64 a.1.1.0 ∷ []) Post $
+        alloc_all ! (λ l. pass_all ! refl
+        (((tt, tt), ((tt, record { fits = fits1 }), ((tt, record { fits = fits2 }), tt)))) $
         sets ! (agg ! (no_more !)) refl (tt, tt) $
-        fsplit ! $ move ! (1 ∷ []) $ rewrite ! 0 (λ m. ‵ (claim_owns x.name x.start m)) asked.1 refl $ move ! (1 ∷ 0 ∷ []) $
-        use2 𝓛 (later (‵ (raw_rack_owns x.name n (cells_of n k x.items) x.ptr x.start))) (raw_rack_of 𝓛 x.name n k x.ptr x.start x.items asked.0) $ await ! tt $
+        fsplit ! $ move ! (1 ∷ []) $ rewrite ! 0 (λ m. ‵ (claim_owns x.name x.start m)) asked.1 refl $
+        move ! (1 ∷ 0 ∷ []) $
+        use2 𝓛 (later (‵ (raw_rack_owns x.name n (cells_of n k x.items) x.ptr x.start)))
+        (raw_rack_of 𝓛 x.name n k x.ptr x.start x.items asked.0) $ await ! tt $
         none_made ! $ fjoin ! $
         returns ! (look_at ! 0 refl) $ free_all ! refl $
-        suffices ! _ (ends_at 𝓛 ended stayed held z none raw_rack (tt, (tt, (tt, tt))) (tt, (tt, (tt, tt)))) $ says ! (refl, refl, refl, refl, refl, refl) $
-        nothing ! $ nothing ! $ fjoin ! $ nothing ! $ fjoin ! $ nothing ! $ fjoin ! $ move ! (2 ∷ 0 ∷ 1 ∷ []) $ done !)))))))
+        suffices ! _ (ends_at 𝓛 ended stayed held z none raw_rack (tt, (tt, (tt, tt))) (tt, (tt, (tt, tt)))) $
+        says ! (refl, refl, refl, refl, refl, refl) $
+        nothing ! $ nothing ! $ fjoin ! $ nothing ! $ fjoin ! $ nothing ! $ fjoin ! $ move ! (2 ∷ 0 ∷ 1 ∷ []) $ done
+        !)))))))
 
   meets : (𝓣 : Tables 𝓤 H) → Meets 𝓛 ended.signature (WpFn 𝓤 H 𝓣.C 𝓣.Λ function) (closing 𝓛 ended held)
   meets 𝓣 =
-      walk_Meets 𝓛 ended stayed (Goes-blank 𝓛 0 (plain (λ _. RawPieceRow.the_row)) yes (λ κs x f. tt), (Goes-blank 𝓛 0 (plain (λ _. usize)) yes (λ κs x f. tt), (Goes-blank 𝓛 0 (plain (λ _. usize)) yes (λ κs x f. tt), tt))) held
+      walk_Meets 𝓛 ended stayed (
+        Goes-blank 𝓛 0 (plain (λ _. RawPieceRow.the_row)) yes (λ κs x f. tt),
+        (
+          Goes-blank 𝓛 0 (plain (λ _. usize)) yes (λ κs x f. tt),
+          (Goes-blank 𝓛 0 (plain (λ _. usize)) yes (λ κs x f. tt), tt),
+        ),
+      ) held
       (WpFn 𝓤 H 𝓣.C 𝓣.Λ function) (WpFn-mono 𝓤 H 𝓛.laws 𝓣 function) (walks 𝓣.C 𝓣.Λ)
 
 pub of_spec : {M : Type 1} → stated.statement M

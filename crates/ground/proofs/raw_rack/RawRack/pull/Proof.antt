@@ -61,7 +61,8 @@ module _ {M : Type 1} {𝓤 : Ura M} (𝓛 : Logic 𝓤) (at_mem : Memory → SP
     abbrev toks : SProp 𝓤
     toks = alive 𝓛 ended.signature z.0.0 z.0.1
 
-    walks : ent 𝓤 ((walk_of 𝓛 ended stayed held).pre z) (WpFn 𝓤 H C Λ function ((walk_of 𝓛 ended stayed held).args z) Post)
+    walks : ent 𝓤 ((walk_of 𝓛 ended stayed held).pre z)
+        (WpFn 𝓤 H C Λ function ((walk_of 𝓛 ended stayed held).args z) Post)
     walks =
         let a = z.0.3 in
         let vss = z.0.4 in
@@ -69,23 +70,46 @@ module _ {M : Type 1} {𝓤 : Ura M} (𝓛 : Logic 𝓤) (at_mem : Memory → SP
         let i = a.1.0 in
         let Asked : Type 0 = (bs : List ℕ) × HasCell a.1.0 (Some bs) a.0.cells in
         qed 𝓛 ((raw toks ⊛ ‵ (owns (types_at ended.signature.params z.0.0) a vss)) ∷ raw (fact 𝓤 Asked) ∷ []) ∵
-        move ! (1 ∷ []) $ heard ! Asked (λ asked. let raw_piece : (RawPieceRow.the_row).Denot = record { ptr = x.ptr +ₚ i * x.each; items = asked.0; name = x.name; start = x.start + i * x.each; len = x.each; size = x.size } in let raw_rack : (RawRackRow.the_row).Denot = record x { cells = with_cell i None x.cells } in split ! $ move ! (1 ∷ []) $
-        fsplit ! $ fsplit ! $ none_had ! vss.0 (λ is0. move ! (1 ∷ []) $ fsplit ! $ fsplit ! $ feq_l ! (λ is1. flt_l ! (λ fits1. drop ! $
+        move ! (1 ∷ []) $ heard ! Asked
+        (λ asked. let raw_piece : (RawPieceRow.the_row).Denot =
+        record {
+          ptr = x.ptr +ₚ i * x.each;
+          items = asked.0;
+          name = x.name;
+          start = x.start + i * x.each;
+          len =
+              x.each;
+          size =
+              x.size;
+        } in let raw_rack : (RawRackRow.the_row).Denot = record x {
+          cells =
+              with_cell i None x.cells;
+        } in split ! $ move ! (1 ∷ []) $
+        fsplit ! $ fsplit ! $ none_had ! vss.0
+        (λ is0. move ! (1 ∷ []) $ fsplit ! $ fsplit ! $ feq_l ! (λ is1. flt_l ! (λ fits1. drop ! $
         regoal ! (λ (us : List Val). prop (WpFn 𝓤 H C Λ function (us ++ (vss.1.0 ++ [])) Post)) is0 refl $
         regoal ! (λ (us : List Val). prop (WpFn 𝓤 H C Λ function ((none ∷ []) ++ (us ++ [])) Post)) is1 refl $
-        enter ! C Λ function (none ∷ vint w64 a.1.0 ∷ []) Post $ alloc_all ! (λ l. pass_all ! refl (((tt, tt), ((tt, record { fits = fits1 }), tt))) $
+        enter ! C Λ function (none ∷ vint w64 a.1.0 ∷ []) Post $
+        alloc_all ! (λ l. pass_all ! refl (((tt, tt), ((tt, record { fits = fits1 }), tt))) $
         sets ! (agg ! (no_more !)) refl (tt, tt) $
         sets ! (agg ! (no_more !)) refl (tt, tt) $
         sets ! (agg ! (and_then ! (get ! refl) (and_then ! (get ! refl) (no_more !)))) refl (tt, (tt, (tt, tt))) $
-        use1 𝓛 (‵ (cell_owns x.name x.each (Some asked.0) (x.ptr +ₚ i * x.each) (x.start + i * x.each)) ⊛ ‵ (raw_rack_owns x.name x.each (with_cell i None x.cells) x.ptr x.start)) (raw_rack_pull 𝓛 x.name x.each i (Some asked.0) x.cells x.ptr x.start asked.1) $ split ! $
-        none_made ! $ fjoin ! $ move ! (1 ∷ []) $ none_made ! $ fjoin ! $ move ! (1 ∷ 0 ∷ []) $ two_made ! RawPieceRow.the_row RawRackRow.the_row raw_piece raw_rack none none $
+        use1 𝓛 (‵ (cell_owns x.name x.each (Some asked.0) (x.ptr +ₚ i * x.each) (x.start + i * x.each)) ⊛ ‵
+        (raw_rack_owns x.name x.each (with_cell i None x.cells) x.ptr x.start))
+        (raw_rack_pull 𝓛 x.name x.each i (Some asked.0) x.cells x.ptr x.start asked.1) $ split ! $
+        none_made ! $ fjoin ! $ move ! (1 ∷ []) $ none_made ! $ fjoin ! $ move ! (1 ∷ 0 ∷ []) $
+        two_made ! RawPieceRow.the_row RawRackRow.the_row raw_piece raw_rack none none $
         returns ! (look_at ! 0 refl) $ free_all ! refl $
-        suffices ! _ (ends_at 𝓛 ended stayed held z (two none none) (raw_piece, raw_rack) (tt, (tt, tt)) (tt, (tt, tt))) $ says ! (refl, asked.1, refl, refl, refl, refl, refl) $
+        suffices ! _ (ends_at 𝓛 ended stayed held z (two none none) (raw_piece, raw_rack) (tt, (tt, tt))
+        (tt, (tt, tt))) $ says ! (refl, asked.1, refl, refl, refl, refl, refl) $
         nothing ! $ nothing ! $ fjoin ! $ nothing ! $ fjoin ! $ move ! (2 ∷ 0 ∷ 1 ∷ []) $ done !)))))
 
   meets : (𝓣 : Tables 𝓤 H) → Meets 𝓛 ended.signature (WpFn 𝓤 H 𝓣.C 𝓣.Λ function) (closing 𝓛 ended held)
   meets 𝓣 =
-      walk_Meets 𝓛 ended stayed (Goes-blank 𝓛 0 (plain (λ _. RawRackRow.the_row)) yes (λ κs x f. tt), (Goes-blank 𝓛 0 (plain (λ _. usize)) yes (λ κs x f. tt), tt)) held
+      walk_Meets 𝓛 ended stayed (
+        Goes-blank 𝓛 0 (plain (λ _. RawRackRow.the_row)) yes (λ κs x f. tt),
+        (Goes-blank 𝓛 0 (plain (λ _. usize)) yes (λ κs x f. tt), tt),
+      ) held
       (WpFn 𝓤 H 𝓣.C 𝓣.Λ function) (WpFn-mono 𝓤 H 𝓛.laws 𝓣 function) (walks 𝓣.C 𝓣.Λ)
 
 pub pull_spec : {M : Type 1} → stated.statement M

@@ -46,7 +46,10 @@ abbrev ended : Ended
 ended = F.ended
 
 abbrev stayed : Stays ended.signature.params ended.kept
-stayed = (stay_dropped (plain (λ _. RawRackRow.the_row)) yes, (stay_dropped (plain (λ _. RawPieceRow.the_row)) yes, (stay_dropped (plain (λ _. usize)) yes, tt)))
+stayed = (
+  stay_dropped (plain (λ _. RawRackRow.the_row)) yes,
+  (stay_dropped (plain (λ _. RawPieceRow.the_row)) yes, (stay_dropped (plain (λ _. usize)) yes, tt)),
+)
 
 module _ {M : Type 1} {𝓤 : Ura M} (𝓛 : Logic 𝓤) (at_mem : Memory → SProp 𝓤) (run : Routine → Fun 𝓤) where
   open 𝓛 use {H}
@@ -61,34 +64,55 @@ module _ {M : Type 1} {𝓤 : Ura M} (𝓛 : Logic 𝓤) (at_mem : Memory → SP
     abbrev toks : SProp 𝓤
     toks = alive 𝓛 ended.signature z.0.0 z.0.1
 
-    walks : ent 𝓤 ((walk_of 𝓛 ended stayed held).pre z) (WpFn 𝓤 H C Λ function ((walk_of 𝓛 ended stayed held).args z) Post)
+    walks : ent 𝓤 ((walk_of 𝓛 ended stayed held).pre z)
+        (WpFn 𝓤 H C Λ function ((walk_of 𝓛 ended stayed held).args z) Post)
     walks =
         let a = z.0.3 in
         let vss = z.0.4 in
         let x = a.0 in
         let y = a.1.0 in
         let i = a.1.1.0 in
-        let Asked : Type 0 = HasCell a.1.1.0 None a.0.cells × (a.1.0.ptr ≡ (a.0.ptr +ₚ a.1.1.0 * a.0.each)) × (a.1.0.name ≡ a.0.name) × (a.1.0.start ≡ a.0.start + a.1.1.0 * a.0.each) × (a.1.0.len ≡ a.0.each) in
+        let Asked : Type 0 = HasCell a.1.1.0 None a.0.cells × (a.1.0.ptr ≡ (a.0.ptr +ₚ a.1.1.0 * a.0.each))
+        × (a.1.0.name ≡ a.0.name) × (a.1.0.start ≡ a.0.start + a.1.1.0 * a.0.each) × (a.1.0.len ≡ a.0.each) in
         qed 𝓛 ((raw toks ⊛ ‵ (owns (types_at ended.signature.params z.0.0) a vss)) ∷ raw (fact 𝓤 Asked) ∷ []) ∵
-        move ! (1 ∷ []) $ heard ! Asked (λ asked. let raw_rack : (RawRackRow.the_row).Denot = record x { cells = with_cell i (Some y.items) x.cells } in split ! $ move ! (1 ∷ []) $
-        fsplit ! $ fsplit ! $ none_had ! vss.0 (λ is0. move ! (1 ∷ []) $ fsplit ! $ fsplit ! $ none_had ! vss.1.0 (λ is1. move ! (1 ∷ []) $ fsplit ! $ fsplit ! $ feq_l ! (λ is2. flt_l ! (λ fits2. drop ! $
-        regoal ! (λ (us : List Val). prop (WpFn 𝓤 H C Λ function (us ++ (vss.1.0 ++ (vss.1.1.0 ++ []))) Post)) is0 refl $
-        regoal ! (λ (us : List Val). prop (WpFn 𝓤 H C Λ function ((none ∷ []) ++ (us ++ (vss.1.1.0 ++ []))) Post)) is1 refl $
-        regoal ! (λ (us : List Val). prop (WpFn 𝓤 H C Λ function ((none ∷ []) ++ ((none ∷ []) ++ (us ++ []))) Post)) is2 refl $
-        enter ! C Λ function (none ∷ none ∷ vint w64 a.1.1.0 ∷ []) Post $ alloc_all ! (λ l. pass_all ! refl (((tt, tt), ((tt, tt), ((tt, record { fits = fits2 }), tt)))) $
+        move ! (1 ∷ []) $ heard ! Asked
+        (λ asked. let raw_rack : (RawRackRow.the_row).Denot =
+        record x { cells = with_cell i (Some y.items) x.cells } in split ! $ move ! (1 ∷ []) $
+        fsplit ! $ fsplit ! $ none_had ! vss.0
+        (λ is0. move ! (1 ∷ []) $ fsplit ! $ fsplit ! $ none_had ! vss.1.0
+        (λ is1. move ! (1 ∷ []) $ fsplit ! $ fsplit ! $ feq_l ! (λ is2. flt_l ! (λ fits2. drop ! $
+        regoal ! (λ (us : List Val). prop (WpFn 𝓤 H C Λ function (us ++ (vss.1.0 ++ (vss.1.1.0 ++ []))) Post)) is0
+        refl $
+        regoal ! (λ (us : List Val). prop (WpFn 𝓤 H C Λ function ((none ∷ []) ++ (us ++ (vss.1.1.0 ++ []))) Post)) is1
+        refl $
+        regoal ! (λ (us : List Val). prop (WpFn 𝓤 H C Λ function ((none ∷ []) ++ ((none ∷ []) ++ (us ++ []))) Post)) is2
+        refl $
+        enter ! C Λ function (none ∷ none ∷ vint w64 a.1.1.0 ∷ []) Post $
+        alloc_all ! (λ l. pass_all ! refl (((tt, tt), ((tt, tt), ((tt, record { fits = fits2 }), tt)))) $
         sets ! (agg ! (no_more !)) refl (tt, tt) $
         fsplit ! $ rewrite ! 0 (λ r. ‵ (raw_bytes_owns r y.items)) asked.1 refl $ move ! (1 ∷ []) $
-        rewrite ! 0 (λ m. ‵ (claim_owns m y.start y.len)) asked.2 refl $ rewrite ! 0 (λ m. ‵ (claim_owns x.name m y.len)) asked.3 refl $ rewrite ! 0 (λ m. ‵ (claim_owns x.name (x.start + i * x.each) m)) asked.4 refl $
+        rewrite ! 0 (λ m. ‵ (claim_owns m y.start y.len)) asked.2 refl $ rewrite ! 0
+        (λ m. ‵ (claim_owns x.name m y.len)) asked.3 refl $ rewrite ! 0
+        (λ m. ‵ (claim_owns x.name (x.start + i * x.each) m)) asked.4 refl $
         move ! (1 ∷ 0 ∷ []) $ fjoin ! $
-        use2 𝓛 (‵ (raw_rack_owns x.name x.each (with_cell i (Some y.items) x.cells) x.ptr x.start)) (raw_rack_push 𝓛 x.name x.each i (Some y.items) x.cells x.ptr x.start asked.0) $
+        use2 𝓛 (‵ (raw_rack_owns x.name x.each (with_cell i (Some y.items) x.cells) x.ptr x.start))
+        (raw_rack_push 𝓛 x.name x.each i (Some y.items) x.cells x.ptr x.start asked.0) $
         none_made ! $ fjoin ! $
         returns ! (look_at ! 0 refl) $ free_all ! refl $
-        suffices ! _ (ends_at 𝓛 ended stayed held z none raw_rack (tt, (tt, (tt, tt))) (tt, (tt, (tt, tt)))) $ says ! refl $
-        nothing ! $ nothing ! $ fjoin ! $ nothing ! $ fjoin ! $ nothing ! $ fjoin ! $ move ! (2 ∷ 0 ∷ 1 ∷ []) $ done !))))))
+        suffices ! _ (ends_at 𝓛 ended stayed held z none raw_rack (tt, (tt, (tt, tt))) (tt, (tt, (tt, tt)))) $
+        says ! refl $
+        nothing ! $ nothing ! $ fjoin ! $ nothing ! $ fjoin ! $ nothing ! $ fjoin ! $ move ! (2 ∷ 0 ∷ 1 ∷ []) $ done
+        !))))))
 
   meets : (𝓣 : Tables 𝓤 H) → Meets 𝓛 ended.signature (WpFn 𝓤 H 𝓣.C 𝓣.Λ function) (closing 𝓛 ended held)
   meets 𝓣 =
-      walk_Meets 𝓛 ended stayed (Goes-blank 𝓛 0 (plain (λ _. RawRackRow.the_row)) yes (λ κs x f. tt), (Goes-blank 𝓛 0 (plain (λ _. RawPieceRow.the_row)) yes (λ κs x f. tt), (Goes-blank 𝓛 0 (plain (λ _. usize)) yes (λ κs x f. tt), tt))) held
+      walk_Meets 𝓛 ended stayed (
+        Goes-blank 𝓛 0 (plain (λ _. RawRackRow.the_row)) yes (λ κs x f. tt),
+        (
+          Goes-blank 𝓛 0 (plain (λ _. RawPieceRow.the_row)) yes (λ κs x f. tt),
+          (Goes-blank 𝓛 0 (plain (λ _. usize)) yes (λ κs x f. tt), tt),
+        ),
+      ) held
       (WpFn 𝓤 H 𝓣.C 𝓣.Λ function) (WpFn-mono 𝓤 H 𝓛.laws 𝓣 function) (walks 𝓣.C 𝓣.Λ)
 
 pub push_spec : {M : Type 1} → stated.statement M

@@ -59,24 +59,41 @@ module _ {M : Type 1} {𝓤 : Ura M} (𝓛 : Logic 𝓤) (at_mem : Memory → SP
     abbrev toks : SProp 𝓤
     toks = alive 𝓛 ended.signature z.0.0 z.0.1
 
-    walks : ent 𝓤 ((walk_of 𝓛 ended stayed held).pre z) (WpFn 𝓤 H C Λ function ((walk_of 𝓛 ended stayed held).args z) Post)
+    walks : ent 𝓤 ((walk_of 𝓛 ended stayed held).pre z)
+        (WpFn 𝓤 H C Λ function ((walk_of 𝓛 ended stayed held).args z) Post)
     walks =
         let a = z.0.3 in
         let vss = z.0.4 in
         let x = a.0 in
-        let Asked : Type 0 = (b : List ℕ) × (cs : List Cell) × (bs : List ℕ) × (a.0.cells ≡ Some b ∷ cs) × AreAllIn a.0.each a.0.cells bs in
+        let Asked : Type 0 = (b : List ℕ) × (cs : List Cell) × (bs : List ℕ) × (a.0.cells ≡ Some b ∷ cs)
+        × AreAllIn a.0.each a.0.cells bs in
         qed 𝓛 ((raw toks ⊛ ‵ (owns (types_at ended.signature.params z.0.0) a vss)) ∷ raw (fact 𝓤 Asked) ∷ []) ∵
-        move ! (1 ∷ []) $ heard ! Asked (λ asked. let raw_piece : (RawPieceRow.the_row).Denot = record { ptr = x.ptr; items = asked.2; name = x.name; start = x.start; len = length x.cells * x.each; size = x.size } in split ! $ move ! (1 ∷ []) $
+        move ! (1 ∷ []) $ heard ! Asked
+        (λ asked. let raw_piece : (RawPieceRow.the_row).Denot =
+        record {
+          ptr = x.ptr;
+          items = asked.2;
+          name = x.name;
+          start = x.start;
+          len =
+              length x.cells * x.each;
+          size = x.size;
+        } in split ! $ move ! (1 ∷ []) $
         fsplit ! $ fsplit ! $ none_had ! vss.0 (λ is0. move ! (1 ∷ []) $ drop ! $
         regoal ! (λ (us : List Val). prop (WpFn 𝓤 H C Λ function (us ++ []) Post)) is0 refl $
         enter ! C Λ function (none ∷ []) Post $ alloc_all ! (λ l. pass_all ! refl (((tt, tt), tt)) $
         sets ! (agg ! (no_more !)) refl (tt, tt) $
         rewrite ! 0 (λ c. ‵ (raw_rack_owns x.name x.each c x.ptr x.start)) asked.3 refl $
-        use1 𝓛 (later (‵ (raw_bytes_owns x.ptr asked.2) ⊛ ‵ (claim_owns x.name x.start (suc (length asked.1) * x.each)))) (raw_rack_whole 𝓛 x.name x.each asked.0 asked.1 x.ptr x.start asked.2 (subst (λ (c : List Cell). AreAllIn x.each c asked.2) asked.3 asked.4)) $ await ! tt $ split ! $
-        move ! (1 ∷ []) $ rewrite ! 0 (λ k. ‵ (claim_owns x.name x.start (k * x.each))) (sym (ap length asked.3)) refl $ move ! (1 ∷ 0 ∷ []) $ fjoin ! $
+        use1 𝓛 (later (‵ (raw_bytes_owns x.ptr asked.2) ⊛ ‵
+        (claim_owns x.name x.start (suc (length asked.1) * x.each))))
+        (raw_rack_whole 𝓛 x.name x.each asked.0 asked.1 x.ptr x.start asked.2
+        (subst (λ (c : List Cell). AreAllIn x.each c asked.2) asked.3 asked.4)) $ await ! tt $ split ! $
+        move ! (1 ∷ []) $ rewrite ! 0 (λ k. ‵ (claim_owns x.name x.start (k * x.each))) (sym (ap length asked.3)) refl $
+        move ! (1 ∷ 0 ∷ []) $ fjoin ! $
         none_made ! $ fjoin ! $
         returns ! (look_at ! 0 refl) $ free_all ! refl $
-        suffices ! _ (ends_at 𝓛 ended stayed held z none raw_piece (tt, tt) (tt, tt)) $ says ! (asked.4, refl, refl, refl, refl, refl) $
+        suffices ! _ (ends_at 𝓛 ended stayed held z none raw_piece (tt, tt) (tt, tt)) $
+        says ! (asked.4, refl, refl, refl, refl, refl) $
         nothing ! $ nothing ! $ fjoin ! $ move ! (2 ∷ 0 ∷ 1 ∷ []) $ done !)))
 
   meets : (𝓣 : Tables 𝓤 H) → Meets 𝓛 ended.signature (WpFn 𝓤 H 𝓣.C 𝓣.Λ function) (closing 𝓛 ended held)

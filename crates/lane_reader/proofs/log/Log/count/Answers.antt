@@ -35,4 +35,5 @@ returns c =
     let whole = length-entries log.notes.now log.told.now in
     let all : i ≡ min (length (entries log)) c.args.at.place =
     omega (arith, c.loop-note-test.false, c.min.ensures, c.loop-note.auto.note-index-end) in
-    c.loop-note.invariant.same ∙ ap (count_from c.args.root.now c.args.first) (take-min (entries log) c.args.at.place i all)
+    c.loop-note.invariant.same ∙ ap (count_from c.args.root.now c.args.first)
+    (take-min (entries log) c.args.at.place i all)

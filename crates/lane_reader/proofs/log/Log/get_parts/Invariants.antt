@@ -10,5 +10,7 @@ use Rattle.lane_reader.proofs.log.Log.get_parts.Given as goal
 abbrev pub invariant-loop-part : goal.invariant-loop-part
 invariant-loop-part l =
     (before : Entries) →
-    where_same l.rest (get_parts (ranges (map part_of (drop l.part-index l.parts)) l.skip l.left) (log_from before l.self l.here))
-    ≡ where_same l.fn.these (get_parts (ranges (map part_of l.parts) l.fn.index l.fn.len) (log_from before l.self l.fn.at))
+    where_same l.rest (get_parts (ranges (map part_of (drop l.part-index l.parts)) l.skip l.left)
+    (log_from before l.self l.here))
+    ≡ where_same l.fn.these (get_parts (ranges (map part_of l.parts) l.fn.index l.fn.len)
+    (log_from before l.self l.fn.at))

@@ -9,5 +9,7 @@ use Rattle.lane_reader.proofs.log.Log.set_parts.Given as goal
 abbrev pub invariant-loop-part : goal.invariant-loop-part
 invariant-loop-part l =
     (before : Entries) →
-    set_parts (ranges (map part_of (drop l.part-index l.parts)) l.skip (length l.rest)) l.rest (log_from before l.self l.here)
-    ≡ set_parts (ranges (map part_of l.parts) l.fn.index (length l.fn.bytes)) l.fn.bytes (log_from before l.self l.fn.at)
+    set_parts (ranges (map part_of (drop l.part-index l.parts)) l.skip (length l.rest)) l.rest
+    (log_from before l.self l.here)
+    ≡ set_parts (ranges (map part_of l.parts) l.fn.index (length l.fn.bytes)) l.fn.bytes
+    (log_from before l.self l.fn.at)

@@ -12,8 +12,10 @@ pub returns-clause-arena : goal.returns-clause-arena
 returns-clause-arena c e there =
     let old : Chunk = chunk_at c.args.self.now c.args.place in
     let is : c.in_ok-chunk.chunk ≡ replaced c.args.page (λ r. with_element_back c.args.element r ∷ []) old =
-    c.in_ok-chunk.ensures ∙ ap (replaced c.args.page (λ r. with_element_back c.args.element r ∷ [])) c.take_chunk.ensures.chunk in
-    let both = moved c.args.class c.args.page old c.in_ok-chunk.chunk (with_element_back c.args.element) e (with_back e c.args.element) there (λ n. refl) is in (
+    c.in_ok-chunk.ensures ∙ ap (replaced c.args.page (λ r. with_element_back c.args.element r ∷ []))
+    c.take_chunk.ensures.chunk in
+    let both = moved c.args.class c.args.page old c.in_ok-chunk.chunk (with_element_back c.args.element) e
+    (with_back e c.args.element) there (λ n. refl) is in (
       c.is_idle_at-is_idle.ensures (with_back e c.args.element) both.1,
       put-taken c.args.self.now c.take_chunk.new.self c.put_chunk.new.self c.args.place (Some c.in_ok-chunk.chunk)
           c.take_chunk.ensures.rest c.put_chunk.ensures

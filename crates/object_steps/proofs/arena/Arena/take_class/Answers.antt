@@ -17,12 +17,15 @@ returns-in_default c =
     let g = c.args.sizes.now in
     let run = c.in_ok-place.ensures.spot (pages_of g c.args.class) c.pages_of-pages.ensures.capped in
     gives-no_normal g c.args.self.now c.take_run.new.self c.args.class (sym c.if-is_small.ensures.small)
-    (subst (GivesSpot (take_run g c.args.self.now (pages_of g c.args.class) Whole) c.args.self.now c.take_run.new.self) c.in_default.is run)
+    (subst (GivesSpot (take_run g c.args.self.now (pages_of g c.args.class) Whole) c.args.self.now c.take_run.new.self)
+    c.in_default.is run)
 
 pub returns : goal.returns
 returns c =
     let g = c.args.sizes.now in
     let run = c.in_ok-place.ensures.spot (pages_of g c.args.class) c.pages_of-pages.ensures.capped in
     rw (c.wide_page.ensures.page, c.from.ensures)
-    (gives-normal g c.args.self.now c.take_run.new.self c.args.class (sym c.if-is_small.ensures.small) c.in-Some.place c.in-Some.page
-    (subst (GivesSpot (take_run g c.args.self.now (pages_of g c.args.class) Whole) c.args.self.now c.take_run.new.self) c.in-Some.is run))
+    (gives-normal g c.args.self.now c.take_run.new.self c.args.class (sym c.if-is_small.ensures.small) c.in-Some.place
+    c.in-Some.page
+    (subst (GivesSpot (take_run g c.args.self.now (pages_of g c.args.class) Whole) c.args.self.now c.take_run.new.self)
+    c.in-Some.is run))

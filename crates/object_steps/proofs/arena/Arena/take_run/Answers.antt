@@ -11,16 +11,21 @@ use Rattle.object_steps.proofs.arena.Arena.take_run.Goals as goal
 
 pub returns-in-Some-clause-spot : goal.returns-in-Some-clause-spot
 returns-in-Some-clause-spot c wanted capped =
-    let held : first_holding c.args.sizes.now c.args.self.now wanted (walk c.args.self.now.lists) ≡ Some (c.in-Some.place, c.in-Some.page) =
+    let held : first_holding c.args.sizes.now c.args.self.now wanted (walk c.args.self.now.lists)
+    ≡ Some (c.in-Some.place, c.in-Some.page) =
     sym (c.in_ok-place.ensures.spot wanted capped) ∙ c.in-Some.is in
-    let room : HasRoomAt c.args.self.now c.in-Some.place c.in-Some.page c.args.pages = rw c.in-Some.is at c.in_ok-place.ensures.room in
-    let same : wanted ≡ c.args.pages = room-same c.args.self.now c.in-Some.place c.in-Some.page wanted c.args.pages room capped in
-    gives-held c.args.sizes.now c.args.self.now wanted (use_of c.args.what) (c.in-Some.place, c.in-Some.page) c.args.pages
+    let room : HasRoomAt c.args.self.now c.in-Some.place c.in-Some.page c.args.pages =
+    rw c.in-Some.is at c.in_ok-place.ensures.room in
+    let same : wanted ≡ c.args.pages = room-same c.args.self.now c.in-Some.place c.in-Some.page wanted c.args.pages room
+    capped in
+    gives-held c.args.sizes.now c.args.self.now wanted (use_of c.args.what) (c.in-Some.place, c.in-Some.page)
+    c.args.pages
     c.give_run.new.self held same c.in_ok-give_run.ensures
 
 pub returns-in-Some-clause-begins : goal.returns-in-Some-clause-begins
 returns-in-Some-clause-begins c =
-    let room : HasRoomAt c.args.self.now c.in-Some.place c.in-Some.page c.args.pages = rw c.in-Some.is at c.in_ok-place.ensures.room in
+    let room : HasRoomAt c.args.self.now c.in-Some.place c.in-Some.page c.args.pages =
+    rw c.in-Some.is at c.in_ok-place.ensures.room in
     ap (λ a. run_at c.in-Some.page (chunk_at a c.in-Some.place)) c.in_ok-give_run.ensures
     ∙ run-begins c.args.sizes.now c.args.self.now c.in-Some.place c.in-Some.page c.args.pages (use_of c.args.what) room
 
@@ -31,17 +36,21 @@ returns-then-pages-chunk_pages-clause-spot c wanted capped =
     sym (c.in_ok-place.ensures.spot wanted capped) ∙ c.in_default.is in
     let unused : first_unused c.args.self.now.chunks ≡ Some place = sym c.in-Some-first_unused.ensures.place in
     let more : chunk_pages c.args.sizes.now < wanted =
-    capped-more wanted c.args.pages (chunk_pages c.args.sizes.now) capped (omega arith) (omega (arith, c.chunk_pages.ensures.pages, c.if-pages-chunk_pages.true)) in
+    capped-more wanted c.args.pages (chunk_pages c.args.sizes.now) capped (omega arith)
+    (omega (arith, c.chunk_pages.ensures.pages, c.if-pages-chunk_pages.true)) in
     gives-too_many c.args.sizes.now c.args.self.now wanted (use_of c.args.what) place held unused
     c.in-Some-first_unused.ensures.within more
 
 pub give_run-requires-2 : goal.give_run-requires-2
 give_run-requires-2 c =
     let place : ℕ = c.in-Some-first_unused.place in
-    let few : c.args.pages ≤ chunk_pages c.args.sizes.now = omega (arith, c.chunk_pages.ensures.pages, c.if-pages-chunk_pages.false) in
-    let within : chunk_pages c.args.sizes.now ≤ 2 ^ 11 = omega (arith, c.chunk_pages.ensures.pages, c.chunk_pages.ensures.within) in
+    let few : c.args.pages ≤ chunk_pages c.args.sizes.now =
+    omega (arith, c.chunk_pages.ensures.pages, c.if-pages-chunk_pages.false) in
+    let within : chunk_pages c.args.sizes.now ≤ 2 ^ 11 =
+    omega (arith, c.chunk_pages.ensures.pages, c.chunk_pages.ensures.within) in
     subst (λ a. HasRoomAt a place 0 c.args.pages) (sym c.in_ok-open.ensures)
-    (opened-room c.args.sizes.now c.args.self.now place c.args.pages c.in-Some-first_unused.ensures.within c.requires few within)
+    (opened-room c.args.sizes.now c.args.self.now place c.args.pages c.in-Some-first_unused.ensures.within c.requires
+    few within)
 
 pub returns-clause-spot : goal.returns-clause-spot
 returns-clause-spot c wanted capped =
@@ -49,19 +58,26 @@ returns-clause-spot c wanted capped =
     let held : first_holding c.args.sizes.now c.args.self.now wanted (walk c.args.self.now.lists) ≡ None =
     sym (c.in_ok-place.ensures.spot wanted capped) ∙ c.in_default.is in
     let unused : first_unused c.args.self.now.chunks ≡ Some place = sym c.in-Some-first_unused.ensures.place in
-    let few : c.args.pages ≤ chunk_pages c.args.sizes.now = omega (arith, c.chunk_pages.ensures.pages, c.if-pages-chunk_pages.false) in
-    let same : wanted ≡ c.args.pages = capped-same wanted c.args.pages capped (omega (arith, few, c.chunk_pages.ensures.pages, c.chunk_pages.ensures.within)) in
-    gives-opened c.args.sizes.now c.args.self.now wanted (use_of c.args.what) place c.args.pages c.give_run-2.new.self held unused
+    let few : c.args.pages ≤ chunk_pages c.args.sizes.now =
+    omega (arith, c.chunk_pages.ensures.pages, c.if-pages-chunk_pages.false) in
+    let same : wanted ≡ c.args.pages = capped-same wanted c.args.pages capped
+    (omega (arith, few, c.chunk_pages.ensures.pages, c.chunk_pages.ensures.within)) in
+    gives-opened c.args.sizes.now c.args.self.now wanted (use_of c.args.what) place c.args.pages c.give_run-2.new.self
+    held unused
     c.in-Some-first_unused.ensures.within same few
-    (c.in_ok-give_run-2.ensures ∙ ap (λ a. with_run c.args.sizes.now a place 0 c.args.pages (use_of c.args.what)) c.in_ok-open.ensures)
+    (c.in_ok-give_run-2.ensures ∙ ap (λ a. with_run c.args.sizes.now a place 0 c.args.pages (use_of c.args.what))
+    c.in_ok-open.ensures)
 
 pub returns-clause-begins : goal.returns-clause-begins
 returns-clause-begins c =
     let place : ℕ = c.in-Some-first_unused.place in
-    let few : c.args.pages ≤ chunk_pages c.args.sizes.now = omega (arith, c.chunk_pages.ensures.pages, c.if-pages-chunk_pages.false) in
-    let within : chunk_pages c.args.sizes.now ≤ 2 ^ 11 = omega (arith, c.chunk_pages.ensures.pages, c.chunk_pages.ensures.within) in
+    let few : c.args.pages ≤ chunk_pages c.args.sizes.now =
+    omega (arith, c.chunk_pages.ensures.pages, c.if-pages-chunk_pages.false) in
+    let within : chunk_pages c.args.sizes.now ≤ 2 ^ 11 =
+    omega (arith, c.chunk_pages.ensures.pages, c.chunk_pages.ensures.within) in
     let room : HasRoomAt c.open.new.self place 0 c.args.pages =
     subst (λ a. HasRoomAt a place 0 c.args.pages) (sym c.in_ok-open.ensures)
-    (opened-room c.args.sizes.now c.args.self.now place c.args.pages c.in-Some-first_unused.ensures.within c.requires few within) in
+    (opened-room c.args.sizes.now c.args.self.now place c.args.pages c.in-Some-first_unused.ensures.within c.requires
+    few within) in
     ap (λ a. run_at 0 (chunk_at a place)) c.in_ok-give_run-2.ensures
     ∙ run-begins c.args.sizes.now c.open.new.self place 0 c.args.pages (use_of c.args.what) room

@@ -32,15 +32,19 @@ returns c =
     let run : GivesSpot (take_run g old pages what) old c.take_run.new.self (Some (place, page)) =
     subst (GivesSpot (take_run g old pages what) old c.take_run.new.self) c.in-Some-2.is
     (c.in_ok-place.ensures.spot pages (inl refl)) in
-    let same_run : GivesSpot (take_run g old (subpage_pages g class) (Sub class (new_elements (element_count g class)))) old
+    let same_run : GivesSpot (take_run g old (subpage_pages g class) (Sub class (new_elements (element_count g class))))
+    old
     c.take_run.new.self (Some (place, page)) =
     subst (λ (o : Option Spotted). GivesSpot o old c.take_run.new.self (Some (place, page)))
     (λ i. take_run g old (pages_is i) (what_is i)) run in
-    let begins : run_at page (chunk_at c.take_run.new.self place) ≡ Some (Used pages what) = rw c.in-Some-2.is at c.in_ok-place.ensures.begins in
-    let some : 0 < element_count g class = omega (arith, c.element_count.ensures.count, c.element_count.ensures.within) in
+    let begins : run_at page (chunk_at c.take_run.new.self place)
+    ≡ Some (Used pages what) = rw c.in-Some-2.is at c.in_ok-place.ensures.begins in
+    let some : 0 < element_count g class = omega
+    (arith, c.element_count.ensures.count, c.element_count.ensures.within) in
     IfOk-weaker c.take_element-2.result _ _
     (λ r h. rw empty
-    (gives-new g old class (subpage_pages g class) (element_count g class) place page c.take_run.new.self c.push_subpage.new.self
+    (gives-new g old class (subpage_pages g class) (element_count g class) place page c.take_run.new.self
+    c.push_subpage.new.self
     c.take_element-2.new.self r empty some same_run (begins ∙ (λ i. Some (Used (pages_is i) (what_is i))))
     c.in_ok-push_subpage.ensures h))
     c.take_element-2.ensures

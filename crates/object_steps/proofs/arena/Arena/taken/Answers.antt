@@ -16,10 +16,12 @@ returns-then-not-is_region c =
     let region = c.args.region.now in
     let takings : c.count.result ≡ mid.takings = c.count.ensures ∙ ap (λ (a : Arena). a.takings) c.self.view_is in
     let other : c.is_region.result ≡ false = search rules in
-    let differs : same_region region (region_of c.args.number c.args.class region.owner (mid.takings + 1) c.in-Some.place c.in-Some.offset) ≡ false =
+    let differs : same_region region
+    (region_of c.args.number c.args.class region.owner (mid.takings + 1) c.in-Some.place c.in-Some.offset) ≡ false =
     sym
     (c.is_region.ensures.same
-    ∙ ap (λ (t : ℕ). same_region region (region_of c.args.number c.args.class region.owner (t + 1) c.in-Some.place c.in-Some.offset)) takings)
+    ∙ ap (λ (t : ℕ). same_region region
+    (region_of c.args.number c.args.class region.owner (t + 1) c.in-Some.place c.in-Some.offset)) takings)
     ∙ other in
     sym (noted-other g c.args.number old mid c.args.class region c.in-Some.place c.in-Some.offset spot differs)
 
@@ -33,10 +35,12 @@ returns c =
     let region = c.args.region.now in
     let takings : c.count.result ≡ mid.takings = c.count.ensures ∙ ap (λ (a : Arena). a.takings) c.self.view_is in
     let is : c.is_region.result ≡ true = search rules in
-    let same : same_region region (region_of c.args.number c.args.class region.owner (mid.takings + 1) c.in-Some.place c.in-Some.offset) ≡ true =
+    let same : same_region region (region_of c.args.number c.args.class region.owner (mid.takings + 1) c.in-Some.place
+    c.in-Some.offset) ≡ true =
     sym
     (c.is_region.ensures.same
-    ∙ ap (λ (t : ℕ). same_region region (region_of c.args.number c.args.class region.owner (t + 1) c.in-Some.place c.in-Some.offset)) takings)
+    ∙ ap (λ (t : ℕ). same_region region
+    (region_of c.args.number c.args.class region.owner (t + 1) c.in-Some.place c.in-Some.offset)) takings)
     ∙ is in
     let taking : c.self.inside.takings.0 + 1 ≡ region.taking = search rules in
     let first : Arena = record {

@@ -9,7 +9,8 @@ pub merge-requires : goal.merge-requires
 merge-requires c =
     let old = c.self.inside.runs.items in
     let new : c.append.new.self.items ≡ replaced c.args.page freed old = grind (arith, common_steps) in
-    let are : AreRuns c.append.new.self.items = subst AreRuns (sym new) (freed_are_runs c.args.page old c.self.invariant) in
+    let are : AreRuns c.append.new.self.items = subst AreRuns (sym new)
+    (freed_are_runs c.args.page old c.self.invariant) in
     are.few
 
 pub invariant_of-result : goal.invariant_of-result

@@ -14,4 +14,8 @@ returns-in_default c =
     let none : list_any (λ other. same_taking c.args.region.now other) (out_in slots) ≡ false =
     sym (ap (λ items. list_any (λ other. same_taking c.args.region.now other) (out_in items)) c.deref.ensures.value)
     ∙ c.in_default.ensures in
-    rw (← c.self.view_is) (λ i. (length slots, kept (λ other. same_taking c.args.region.now other) (out_in slots) none i))
+    rw (← c.self.view_is) (λ i. (
+      length slots,
+      kept (λ other. same_taking c.args.region.now other) (out_in slots) none
+          i,
+    ))

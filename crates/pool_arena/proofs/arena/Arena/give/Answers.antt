@@ -10,7 +10,8 @@ use Rattle.pool_arena.proofs.StandingLaws.{gives-stands}
 use Rattle.pool_arena.proofs.arena.Arena.give.Goals as goal
 
 -- the piece of a region begins at its place
-starts : (piece : Segment) (id : RegionId) (whole : Segment) (r : RegionId) → piece ≡ whole → id ≡ r → whole.start ≡ r.place.offset → piece.start ≡ id.place.offset
+starts : (piece : Segment) (id : RegionId) (whole : Segment) (r : RegionId) → piece ≡ whole → id ≡ r
+    → whole.start ≡ r.place.offset → piece.start ≡ id.place.offset
 starts piece id whole r piece_is id_is begins =
     ap (λ (s : Segment). s.start) piece_is ∙ begins ∙ ap (λ (x : RegionId). x.place.offset) (sym id_is)
 
@@ -25,7 +26,8 @@ invariant_of-self c =
       number = c.self.invariant.number;
       orderly =
           given-orderly c.self.inside.stock c.give.new.self id piece.start c.self.invariant.orderly out.1
-          (starts piece id c.args.region.piece c.args.region.id c.into_parts-piece.ensures.piece c.into_parts-piece.ensures.id c.requires.place.place.start) c.give.ensures;
+          (starts piece id c.args.region.piece c.args.region.id c.into_parts-piece.ensures.piece
+          c.into_parts-piece.ensures.id c.requires.place.place.start) c.give.ensures;
     }
 
 pub returns-clause-gives : goal.returns-clause-gives
@@ -34,7 +36,8 @@ returns-clause-gives c =
     (subst (λ (a : ArenaState). Gives a id new) c.self.view_is
     (record {
       step = λ out.
-          ap (λ (n : ℕ). left out (given_place old.geometry (arena_with old c.self.inside.takings out) id.class id.place.chunk n)) (sym at)
+          ap (λ (n : ℕ). left out (given_place old.geometry (arena_with old c.self.inside.takings out) id.class
+          id.place.chunk n)) (sym at)
           ∙ ap (left out) (c.give.ensures.law c.self.inside.takings out);
       same =
           record {
@@ -58,7 +61,9 @@ returns-clause-gives c =
     new = state_in (record { number = c.self.inside.number; stock = c.give.new.self; takings = c.self.inside.takings })
 
     at : piece.start ≡ id.place.offset
-    at = starts piece id c.args.region.piece c.args.region.id c.into_parts-piece.ensures.piece c.into_parts-piece.ensures.id c.requires.place.place.start
+    at =
+        starts piece id c.args.region.piece c.args.region.id c.into_parts-piece.ensures.piece
+        c.into_parts-piece.ensures.id c.requires.place.place.start
 
     left : List RegionId → Arena → Arena
     left out a = record a { out = without_taking id out }

@@ -13,5 +13,7 @@ invariant_of-result c =
       number = c.requires.number;
       orderly =
           subst (λ (g : Geometry). IsOrderly g (arena_in c.in_ok-stock.stock)) (sym made.geometry)
-          (subst (λ (a : Arena). IsOrderly (of_pages c.args.order c.args.page) a) (sym made.new) (new-orderly (of_pages c.args.order c.args.page) c.args.chunks c.requires.sizes.page c.requires.sizes.least));
+          (subst (λ (a : Arena). IsOrderly (of_pages c.args.order c.args.page) a) (sym made.new)
+          (new-orderly (of_pages c.args.order c.args.page) c.args.chunks c.requires.sizes.page
+          c.requires.sizes.least));
     }

@@ -10,7 +10,8 @@ use Rattle.pool_arena.proofs.RestLaws.{whole-free}
 use Rattle.pool_arena.proofs.place.ChunkPlace.close.Goals as goal
 
 -- the chunk of a place of which all is free is new, be it in use or not
-chunk-new : (p : Inside) (v : PlaceState) → place_in p ≡ v → IsPlace p → IsAllFree v → IsChunk p.chunk.geometry p.chunk.runs → p.chunk.runs ≡ new_chunk p.chunk.geometry
+chunk-new : (p : Inside) (v : PlaceState) → place_in p ≡ v → IsPlace p → IsAllFree v
+    → IsChunk p.chunk.geometry p.chunk.runs → p.chunk.runs ≡ new_chunk p.chunk.geometry
 chunk-new p v seen is free whole = by p.used refl
   where
     by : (used : Bool) → p.used ≡ used → p.chunk.runs ≡ new_chunk p.chunk.geometry

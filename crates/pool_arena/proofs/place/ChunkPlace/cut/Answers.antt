@@ -14,7 +14,8 @@ use Rattle.pool_arena.proofs.place.ChunkPlace.cut.Goals as goal
 use Rattle.pool_arena.proofs.place.ChunkPlace.cut.Goals.{in-Some, in-None}
 
 -- the run that the chunk gives is cut off the place
-run-cut : (p : Inside) (v : PlaceState) (new : ChunkState) (pages word : ℕ) (piece : Segment) → place_in p ≡ v → p.used ≡ true
+run-cut : (p : Inside) (v : PlaceState) (new : ChunkState) (pages word : ℕ) (piece : Segment) → place_in p ≡ v
+    → p.used ≡ true
     → TakesRun p.chunk new pages piece word
     → Cuts v (Wanted.Run pages) (place_in (record { chunk = new; deed = p.deed; used = p.used })) (Cut.Run piece)
 run-cut p v new pages word piece seen used takes =
@@ -24,7 +25,8 @@ run-cut p v new pages word piece seen used takes =
       long = takes.long;
       run = subst (λ (s : ChunkState). IsChosen s pages (takes.page, takes.long)) same takes.run;
       rest = place-changed p v new (taken_at takes.page pages Whole) seen used takes.rest;
-      given = subst (λ (s : ChunkState). IsBytesAt s (page_start s takes.page) (page_start s pages) piece) same takes.piece;
+      given =
+          subst (λ (s : ChunkState). IsBytesAt s (page_start s takes.page) (page_start s pages) piece) same takes.piece;
     }
 
 pub returns-after-take_run-clause-some : goal.returns-after-take_run-clause-some

@@ -31,7 +31,8 @@ invariant_of-self c =
     (run-used p v c.args.page _ c.self.view_is c.requires.subpage.run)
 
 -- an element of a subpage that is back leaves it idle, or with others out
-idle-or : (e : Elements) (k : ℕ) (f : Freed) (b : Bool) → f ≡ freed_by e k → (f ≡ Freed.Idle → b ≡ true) → (f ≡ Freed.Element → b ≡ false) → b ≡ is_idle (with_back e k)
+idle-or : (e : Elements) (k : ℕ) (f : Freed) (b : Bool) → f ≡ freed_by e k → (f ≡ Freed.Idle → b ≡ true)
+    → (f ≡ Freed.Element → b ≡ false) → b ≡ is_idle (with_back e k)
 idle-or e k f b is when_idle when_not = by (is_idle (with_back e k)) refl
   where
     by : (idle : Bool) → is_idle (with_back e k) ≡ idle → b ≡ is_idle (with_back e k)
@@ -67,8 +68,10 @@ returns-clause-chunk c =
     let v = c.args.self.now in
     subst (λ (s : ChunkState). (out : IsElementOut s c.args.page c.args.index c.args.piece)
     → place_in (record { chunk = c.give_element.new.self; deed = c.self.inside.deed; used = c.self.inside.used })
-    ≡ with_chunk v (Some (with_elements c.args.page out.subpage.class (with_back out.subpage.elements c.args.index) (runs_of v))))
+    ≡ with_chunk v (Some (with_elements c.args.page out.subpage.class (with_back out.subpage.elements c.args.index)
+    (runs_of v))))
     (seen c)
     (λ o. place-changed c.self.inside v c.give_element.new.self
-    (λ runs. with_elements c.args.page o.subpage.class (with_back o.subpage.elements c.args.index) runs) c.self.view_is (used c)
+    (λ runs. with_elements c.args.page o.subpage.class (with_back o.subpage.elements c.args.index) runs) c.self.view_is
+    (used c)
     (c.give_element.ensures.chunk o))

@@ -27,5 +27,6 @@ new-requires-2-clause-sizes c = subst IsGeometry (sym (sizes c)) c.requires
 pub new-requires-2-clause-chunk : goal.new-requires-2-clause-chunk
 new-requires-2-clause-chunk c =
     let made = c.in_ok-piece.ensures {u = tt} in
-    let size = ap length made.zeros ∙ length-replicate (c.args.page * c.pow.result) 0 ∙ ap (λ n. c.args.page * n) c.pow.ensures in
+    let size = ap length made.zeros ∙ length-replicate (c.args.page * c.pow.result) 0
+    ∙ ap (λ n. c.args.page * n) c.pow.ensures in
     (made.whole, size ∙ sym (ap chunk_bytes (sizes c)))

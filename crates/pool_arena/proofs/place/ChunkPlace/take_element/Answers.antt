@@ -16,6 +16,7 @@ unreachable-requires c =
     let v = c.args.self.now in
     let used = run-used p v c.args.page _ c.self.view_is c.requires.0.run in
     let full =
-    subst (λ (s : ChunkState). (sub : HasSubpage s c.args.page) → IsNone c.take_element.result ↔ (is_full sub.elements ≡ true))
+    subst (λ (s : ChunkState). (sub : HasSubpage s c.args.page)
+    → IsNone c.take_element.result ↔ (is_full sub.elements ≡ true))
     (place-chunk p v c.self.view_is used) c.take_element.ensures.full in
     none-left c.take_element.result c.in_default.not-Some (full c.requires.0) c.requires.1

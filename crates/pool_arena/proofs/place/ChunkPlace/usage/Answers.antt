@@ -18,15 +18,19 @@ pub returns-then-percent-eq0-clause-usage : goal.returns-then-percent-eq0-clause
 returns-then-percent-eq0-clause-usage c =
     let g = c.args.self.now.geometry in
     let runs = runs_of c.args.self.now in
-    let size : c.used.result + c.free-free.result ≡ chunk_bytes g = omega (arith, c.free-free.ensures.bytes, c.used.ensures.whole) in
+    let size : c.used.result + c.free-free.result ≡ chunk_bytes g =
+    omega (arith, c.free-free.ensures.bytes, c.used.ensures.whole) in
     sym (ap (λ (b : Bool). if b then 99 else 100 - 0) (eq-eqb 0 0 refl)) ∙
-    usage-some g runs c.free-free.result (c.used.result + c.free-free.result) 0 c.free-free.ensures.bytes size c.if-free-eq0.false (sym c.if-percent-eq0.true)
+    usage-some g runs c.free-free.result (c.used.result + c.free-free.result) 0 c.free-free.ensures.bytes size
+    c.if-free-eq0.false (sym c.if-percent-eq0.true)
 
 pub returns-else-percent-eq0-clause-usage : goal.returns-else-percent-eq0-clause-usage
 returns-else-percent-eq0-clause-usage c =
     let g = c.args.self.now.geometry in
     let runs = runs_of c.args.self.now in
     let percent = c.free-free.result * 100 / (c.used.result + c.free-free.result) in
-    let size : c.used.result + c.free-free.result ≡ chunk_bytes g = omega (arith, c.free-free.ensures.bytes, c.used.ensures.whole) in
+    let size : c.used.result + c.free-free.result ≡ chunk_bytes g =
+    omega (arith, c.free-free.ensures.bytes, c.used.ensures.whole) in
     sym (ap (λ (b : Bool). if b then 99 else 100 - percent) (ne_eqb percent 0 c.if-percent-eq0.false)) ∙
-    usage-some g runs c.free-free.result (c.used.result + c.free-free.result) percent c.free-free.ensures.bytes size c.if-free-eq0.false refl
+    usage-some g runs c.free-free.result (c.used.result + c.free-free.result) percent c.free-free.ensures.bytes size
+    c.if-free-eq0.false refl

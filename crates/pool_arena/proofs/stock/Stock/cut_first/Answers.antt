@@ -21,30 +21,38 @@ cut_from-requires-clause-wanted c =
 
 pub cut_from-requires-clause-there : goal.cut_from-requires-clause-there
 cut_from-requires-clause-there c =
-    let at = ap (λ (s : StockState). slice_get (walk s.lists) c.loop-chunk.k) (sym c.self.view_is) ∙ sym c.nth.ensures.chunk ∙ c.in-Some.is in
-    let orderly = subst (λ (s : StockState). IsOrderly s.geometry (arena_in s)) (sym c.loop-chunk.invariant.same) c.requires.orderly in
+    let at = ap (λ (s : StockState). slice_get (walk s.lists) c.loop-chunk.k) (sym c.self.view_is)
+    ∙ sym c.nth.ensures.chunk ∙ c.in-Some.is in
+    let orderly = subst (λ (s : StockState). IsOrderly s.geometry (arena_in s)) (sym c.loop-chunk.invariant.same)
+    c.requires.orderly in
     walked-chunk c.loop-chunk.self orderly c.loop-chunk.k c.in-Some.chunk at
 
 pub cut_from-requires-clause-some : goal.cut_from-requires-clause-some
 cut_from-requires-clause-some c =
-    let orderly = subst (λ (s : StockState). IsOrderly s.geometry (arena_in s)) (sym c.loop-chunk.invariant.same) c.requires.orderly in
+    let orderly = subst (λ (s : StockState). IsOrderly s.geometry (arena_in s)) (sym c.loop-chunk.invariant.same)
+    c.requires.orderly in
     (orderly.sound c.in-Some.chunk).none_empty
 
 pub returns-in-Some-cut_from-clause-some : goal.returns-in-Some-cut_from-clause-some
 returns-in-Some-cut_from-clause-some c =
-    let at = ap (λ (s : StockState). slice_get (walk s.lists) c.loop-chunk.k) (sym c.self.view_is) ∙ sym c.nth.ensures.chunk ∙ c.in-Some.is in
-    let start = subst (λ (s : StockState). slice_get (walk s.lists) c.loop-chunk.k ≡ Some c.in-Some.chunk) c.loop-chunk.invariant.same at in
-    let cuts = subst (λ (s : StockState). CutsFrom s c.in-Some.chunk c.args.wanted c.cut_from.new.self c.in-Some-cut_from.cut) c.loop-chunk.invariant.same (c.in-Some-cut_from.ensures {u = tt}).some in
+    let at = ap (λ (s : StockState). slice_get (walk s.lists) c.loop-chunk.k) (sym c.self.view_is)
+    ∙ sym c.nth.ensures.chunk ∙ c.in-Some.is in
+    let start = subst (λ (s : StockState). slice_get (walk s.lists) c.loop-chunk.k ≡ Some c.in-Some.chunk)
+    c.loop-chunk.invariant.same at in
+    let cuts = subst (λ (s : StockState). CutsFrom s c.in-Some.chunk c.args.wanted c.cut_from.new.self
+    c.in-Some-cut_from.cut) c.loop-chunk.invariant.same (c.in-Some-cut_from.ensures {u = tt}).some in
     record {
       cuts = cuts;
       first = λ takings out.
           c.loop-chunk.invariant.rest takings out
-          ∙ first-found c.args.self.now c.args.wanted takings out c.loop-chunk.k c.in-Some.chunk cuts.page cuts.long start cuts.run;
+          ∙ first-found c.args.self.now c.args.wanted takings out c.loop-chunk.k c.in-Some.chunk cuts.page cuts.long
+          start cuts.run;
     }
 
 pub loop-chunk-smaller : goal.loop-chunk-smaller
 loop-chunk-smaller c =
-    let at = ap (λ (s : StockState). slice_get (walk s.lists) c.loop-chunk.k) (sym c.self.view_is) ∙ sym c.nth.ensures.chunk ∙ c.in-Some.is in
+    let at = ap (λ (s : StockState). slice_get (walk s.lists) c.loop-chunk.k) (sym c.self.view_is)
+    ∙ sym c.nth.ensures.chunk ∙ c.in-Some.is in
     let less = slice_get-below (walk c.loop-chunk.self.lists) c.loop-chunk.k c.in-Some.chunk at in
     let same : length (walk c.cut_from.new.self.lists) ≡ length (walk c.loop-chunk.self.lists) =
     ap (λ (s : StockState). length (walk s.lists)) (c.in_default-cut_from.ensures {u = tt}).none.0 in
@@ -54,9 +62,12 @@ pub loop-chunk-preserved : goal.loop-chunk-preserved
 loop-chunk-preserved c =
     let old = c.args.self.now in
     let k = c.loop-chunk.k in
-    let at = ap (λ (s : StockState). slice_get (walk s.lists) k) (sym c.self.view_is) ∙ sym c.nth.ensures.chunk ∙ c.in-Some.is in
-    let start = subst (λ (s : StockState). slice_get (walk s.lists) k ≡ Some c.in-Some.chunk) c.loop-chunk.invariant.same at in
-    let none = subst (λ (s : StockState). found_in s c.in-Some.chunk c.args.wanted ≡ None) c.loop-chunk.invariant.same (c.in_default-cut_from.ensures {u = tt}).none.1 in
+    let at = ap (λ (s : StockState). slice_get (walk s.lists) k) (sym c.self.view_is) ∙ sym c.nth.ensures.chunk
+    ∙ c.in-Some.is in
+    let start = subst (λ (s : StockState). slice_get (walk s.lists) k ≡ Some c.in-Some.chunk)
+    c.loop-chunk.invariant.same at in
+    let none = subst (λ (s : StockState). found_in s c.in-Some.chunk c.args.wanted ≡ None) c.loop-chunk.invariant.same
+    (c.in_default-cut_from.ensures {u = tt}).none.1 in
     record {
       same = (c.in_default-cut_from.ensures {u = tt}).none.0 ∙ c.loop-chunk.invariant.same;
       rest = λ takings out.
@@ -70,7 +81,8 @@ returns-clause-none c =
     let old = c.args.self.now in
     let k = c.loop-chunk.k in
     let at : slice_get (walk c.loop-chunk.self.lists) k ≡ None =
-    ap (λ (s : StockState). slice_get (walk s.lists) k) (sym c.self.view_is) ∙ sym c.nth.ensures.chunk ∙ c.in_default.is in
+    ap (λ (s : StockState). slice_get (walk s.lists) k) (sym c.self.view_is) ∙ sym c.nth.ensures.chunk
+    ∙ c.in_default.is in
     let start = subst (λ (s : StockState). slice_get (walk s.lists) k ≡ None) c.loop-chunk.invariant.same at in (
       c.loop-chunk.invariant.same,
       λ takings out. c.loop-chunk.invariant.rest takings out ∙ first-none old c.args.wanted takings out k start,

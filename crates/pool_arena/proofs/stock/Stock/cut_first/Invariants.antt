@@ -8,7 +8,8 @@ abbrev pub invariant-loop-chunk : goal.invariant-loop-chunk
 invariant-loop-chunk l =
     record {
       same : l.self ≡ l.fn.self;
-      rest : (takings : ℕ) (out : List RegionId) → first_from l.fn.self l.wanted 0 takings out ≡ first_from l.fn.self l.wanted l.k takings out;
+      rest : (takings : ℕ) (out : List RegionId) → first_from l.fn.self l.wanted 0 takings out
+          ≡ first_from l.fn.self l.wanted l.k takings out;
     }
 
 abbrev pub decreases-loop-chunk : goal.decreases-loop-chunk

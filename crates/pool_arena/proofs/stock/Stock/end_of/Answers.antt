@@ -16,12 +16,15 @@ use Rattle.pool_arena.proofs.StockLaws.{place-chunk_of, place-chunk_at, place-ge
 use Rattle.pool_arena.proofs.stock.Stock.end_of.Goals as goal
 
 -- the place is in use where the chunk is in a list
-module _ (s : Inside) (is : IsStock s) (v : StockState) (chunk : ℕ) (x : PlaceState) (seen : stock_in s ≡ v) (within : chunk < length v.chunks) (listed : AreListed v)
+module _ (s : Inside) (is : IsStock s) (v : StockState) (chunk : ℕ) (x : PlaceState) (seen : stock_in s ≡ v)
+    (within : chunk < length v.chunks) (listed : AreListed v)
     (here : x ≡ slice_index_or s.places.items chunk x) where
   found : slice_get s.places.items chunk ≡ Some x
   found =
-      let less : chunk < length (stock_in s).chunks = subst (λ (w : StockState). chunk < length w.chunks) (sym seen) within in
-      found-is s.places.items chunk x (omega (arith, less, length-map s.places.items (λ (p : PlaceState). p.chunk))) here
+      let less : chunk < length (stock_in s).chunks =
+      subst (λ (w : StockState). chunk < length w.chunks) (sym seen) within in
+      found-is s.places.items chunk x (omega (arith, less, length-map s.places.items (λ (p : PlaceState). p.chunk)))
+      here
 
   chunk_is : chunk_of (arena_in v) chunk ≡ x.chunk
   chunk_is = ap (λ (w : StockState). chunk_of (arena_in w) chunk) (sym seen) ∙ place-chunk_of s chunk x found
@@ -42,18 +45,24 @@ module _ (s : Inside) (is : IsStock s) (v : StockState) (chunk : ℕ) (x : Place
 
 pub used-requires : goal.used-requires
 used-requires c =
-    let listed = ap (λ (w : StockState). list_of w.lists c.args.chunk) (sym c.self.view_is) ∙ sym (c.in_ok-list.ensures {u = tt}).list in
-    used_there c.self.inside c.self.invariant c.args.self.now c.args.chunk c.index-place.result.now c.self.view_is c.requires.within c.requires.listed c.index-place.ensures
+    let listed = ap (λ (w : StockState). list_of w.lists c.args.chunk) (sym c.self.view_is)
+    ∙ sym (c.in_ok-list.ensures {u = tt}).list in
+    used_there c.self.inside c.self.invariant c.args.self.now c.args.chunk c.index-place.result.now c.self.view_is
+    c.requires.within c.requires.listed c.index-place.ensures
     c.in_ok-list.list listed
 
 pub returns-clause-some : goal.returns-clause-some
 returns-clause-some c =
     let v = c.args.self.now in
     let x = c.index-place.result.now in
-    let listed = ap (λ (w : StockState). list_of w.lists c.args.chunk) (sym c.self.view_is) ∙ sym (c.in_ok-list.ensures {u = tt}).list in
-    let runs = runs_are c.self.inside c.self.invariant v c.args.chunk x c.self.view_is c.requires.within c.requires.listed c.index-place.ensures in
-    let g = geometry_is c.self.inside c.self.invariant v c.args.chunk x c.self.view_is c.requires.within c.requires.listed c.index-place.ensures in (
-      has c.self.inside c.self.invariant v c.args.chunk x c.self.view_is c.requires.within c.requires.listed c.index-place.ensures c.in_ok-list.list listed,
+    let listed = ap (λ (w : StockState). list_of w.lists c.args.chunk) (sym c.self.view_is)
+    ∙ sym (c.in_ok-list.ensures {u = tt}).list in
+    let runs = runs_are c.self.inside c.self.invariant v c.args.chunk x c.self.view_is c.requires.within
+    c.requires.listed c.index-place.ensures in
+    let g = geometry_is c.self.inside c.self.invariant v c.args.chunk x c.self.view_is c.requires.within
+    c.requires.listed c.index-place.ensures in (
+      has c.self.inside c.self.invariant v c.args.chunk x c.self.view_is c.requires.within c.requires.listed
+          c.index-place.ensures c.in_ok-list.list listed,
       listed,
       c.used.ensures.bytes ∙ (λ i. used_bytes (g i) (runs i)),
       c.free.ensures.bytes ∙ (λ i. free_bytes (g i) (runs i)),

@@ -21,8 +21,10 @@ use Rattle.pool_arena.proofs.GiveLaws.{given-law, begins-within, begins-name, wh
 use Rattle.pool_arena.proofs.stock.Stock.give_run.Goals as goal
 
 -- what is asked, by the fields
-module _ (s : Inside) (is : IsStock s) (v : StockState) (class c : ℕ) (piece : Segment) (seen : stock_in s ≡ v) (whole : is_small v.geometry class ≡ false)
-    (orderly : IsOrderly v.geometry (arena_in v)) (asked : IsPlaceOut v class c piece) (x : PlaceState) (here : x ≡ slice_index_or s.places.items c x) where
+module _ (s : Inside) (is : IsStock s) (v : StockState) (class c : ℕ) (piece : Segment) (seen : stock_in s ≡ v)
+    (whole : is_small v.geometry class ≡ false)
+    (orderly : IsOrderly v.geometry (arena_in v)) (asked : IsPlaceOut v class c piece) (x : PlaceState)
+    (here : x ≡ slice_index_or s.places.items c x) where
   abbrev out : IsPlaceOut (stock_in s) class c piece
   out = subst (λ (w : StockState). IsPlaceOut w class c piece) (sym seen) asked
 
@@ -39,25 +41,34 @@ module _ (s : Inside) (is : IsStock s) (v : StockState) (class c : ℕ) (piece :
   some = subst (λ (rs : Chunk). NoneEmpty rs) (place-chunk_at s c x found) (order.sound c).none_empty
 
   order_is : (y : PlaceState) → y.geometry ≡ x.geometry → chunk_bytes y.geometry ≤ 2 ^ 24
-  order_is y same = subst (λ (g : Geometry). chunk_bytes g ≤ 2 ^ 24) (sym (same ∙ place-geometry s c x found is)) is.sizes.chunk
+  order_is y same =
+      subst (λ (g : Geometry). chunk_bytes g ≤ 2 ^ 24) (sym (same ∙ place-geometry s c x found is)) is.sizes.chunk
 
 pub give_run-requires : goal.give_run-requires
 give_run-requires c =
     let s = c.self.inside in
     let v = c.args.self.now in
     let x = c.index_mut-place.result.now in
-    let o = out s c.self.invariant v c.args.class c.args.chunk c.args.piece c.self.view_is c.requires.whole c.requires.orderly c.requires.out x c.index_mut-place.ensures.value in
-    let r = run s c.self.invariant v c.args.class c.args.chunk c.args.piece c.self.view_is c.requires.whole c.requires.orderly c.requires.out x c.index_mut-place.ensures.value in
+    let o = out s c.self.invariant v c.args.class c.args.chunk c.args.piece c.self.view_is c.requires.whole
+    c.requires.orderly c.requires.out x c.index_mut-place.ensures.value in
+    let r = run s c.self.invariant v c.args.class c.args.chunk c.args.piece c.self.view_is c.requires.whole
+    c.requires.orderly c.requires.out x c.index_mut-place.ensures.value in
     whole-run_out s c.args.class c.args.chunk c.args.piece o r x
-    (found s c.self.invariant v c.args.class c.args.chunk c.args.piece c.self.view_is c.requires.whole c.requires.orderly c.requires.out x c.index_mut-place.ensures.value)
-    c.self.invariant (some s c.self.invariant v c.args.class c.args.chunk c.args.piece c.self.view_is c.requires.whole c.requires.orderly c.requires.out x c.index_mut-place.ensures.value)
+    (found s c.self.invariant v c.args.class c.args.chunk c.args.piece c.self.view_is c.requires.whole
+    c.requires.orderly c.requires.out x c.index_mut-place.ensures.value)
+    c.self.invariant (some s c.self.invariant v c.args.class c.args.chunk c.args.piece c.self.view_is c.requires.whole
+    c.requires.orderly c.requires.out x c.index_mut-place.ensures.value)
     (c.start.result / s.page)
-    (ap₂ (λ n p. n / p) c.start.ensures.start c.self.invariant.page ∙ whole-page_is (stock_in s) (page-some s.classes c.self.invariant.sizes.page) c.args.class c.args.chunk c.args.piece o r)
+    (ap₂ (λ n p. n / p) c.start.ensures.start c.self.invariant.page
+    ∙ whole-page_is (stock_in s) (page-some s.classes c.self.invariant.sizes.page) c.args.class c.args.chunk
+    c.args.piece o r)
 
 pub settle-requires-clause-bytes : goal.settle-requires-clause-bytes
 settle-requires-clause-bytes c =
-    order_is c.self.inside c.self.invariant c.args.self.now c.args.class c.args.chunk c.args.piece c.self.view_is c.requires.whole c.requires.orderly c.requires.out
-    c.index_mut-place.result.now c.index_mut-place.ensures.value c.give_run.new.self (ap (λ (p : PlaceState). p.geometry) c.give_run.ensures)
+    order_is c.self.inside c.self.invariant c.args.self.now c.args.class c.args.chunk c.args.piece c.self.view_is
+    c.requires.whole c.requires.orderly c.requires.out
+    c.index_mut-place.result.now c.index_mut-place.ensures.value c.give_run.new.self
+    (ap (λ (p : PlaceState). p.geometry) c.give_run.ensures)
 
 abbrev after : goal.After-self-1 → Inside
 after c =
@@ -69,24 +80,30 @@ after c =
       fronts = c.self.inside.fronts;
     }
 
-settles : (c : goal.After-self-1) → Settles c.self.inside (after c) c.args.chunk c.index_mut-place.result.now c.settle.new.place (runs_of c.give_run.new.self)
+settles : (c : goal.After-self-1) → Settles c.self.inside (after c) c.args.chunk c.index_mut-place.result.now
+    c.settle.new.place (runs_of c.give_run.new.self)
 settles c =
     let s = c.self.inside in
     let v = c.args.self.now in
     let x = c.index_mut-place.result.now in
-    let r = run s c.self.invariant v c.args.class c.args.chunk c.args.piece c.self.view_is c.requires.whole c.requires.orderly c.requires.out x c.index_mut-place.ensures.value in
+    let r = run s c.self.invariant v c.args.class c.args.chunk c.args.piece c.self.view_is c.requires.whole
+    c.requires.orderly c.requires.out x c.index_mut-place.ensures.value in
     let name =
     begins-name s v.geometry
-    (order s c.self.invariant v c.args.class c.args.chunk c.args.piece c.self.view_is c.requires.whole c.requires.orderly c.requires.out x c.index_mut-place.ensures.value)
+    (order s c.self.invariant v c.args.class c.args.chunk c.args.piece c.self.view_is c.requires.whole
+    c.requires.orderly c.requires.out x c.index_mut-place.ensures.value)
     c.args.chunk r.page (Used r.pages Whole) r.begins in
     settles-of s (after c) c.self.invariant c.args.chunk x c.give_run.new.self c.settle.new.place name.0
-    (found s c.self.invariant v c.args.class c.args.chunk c.args.piece c.self.view_is c.requires.whole c.requires.orderly c.requires.out x c.index_mut-place.ensures.value)
-    (ap (λ (p : PlaceState). p.origin) c.give_run.ensures) (ap (λ (p : PlaceState). p.geometry) c.give_run.ensures) name.1 refl refl
+    (found s c.self.invariant v c.args.class c.args.chunk c.args.piece c.self.view_is c.requires.whole
+    c.requires.orderly c.requires.out x c.index_mut-place.ensures.value)
+    (ap (λ (p : PlaceState). p.origin) c.give_run.ensures) (ap (λ (p : PlaceState). p.geometry) c.give_run.ensures)
+    name.1 refl refl
     c.settle.ensures.lists c.settle.ensures.place c.settle.ensures.list c.settle.ensures.within
 
 pub invariant_of-self : goal.invariant_of-self
 invariant_of-self c =
-    settle-held c.self.inside (after c) c.args.chunk c.index_mut-place.result.now c.settle.new.place (runs_of c.give_run.new.self) (settles c) c.self.invariant c.self.invariant.fronts
+    settle-held c.self.inside (after c) c.args.chunk c.index_mut-place.result.now c.settle.new.place
+    (runs_of c.give_run.new.self) (settles c) c.self.invariant c.self.invariant.fronts
 
 pub returns : goal.returns
 returns c =
@@ -94,23 +111,33 @@ returns c =
     let v = c.args.self.now in
     let x = c.index_mut-place.result.now in
     let page = c.start.result / s.page in
-    let o = out s c.self.invariant v c.args.class c.args.chunk c.args.piece c.self.view_is c.requires.whole c.requires.orderly c.requires.out x c.index_mut-place.ensures.value in
-    let r = run s c.self.invariant v c.args.class c.args.chunk c.args.piece c.self.view_is c.requires.whole c.requires.orderly c.requires.out x c.index_mut-place.ensures.value in
+    let o = out s c.self.invariant v c.args.class c.args.chunk c.args.piece c.self.view_is c.requires.whole
+    c.requires.orderly c.requires.out x c.index_mut-place.ensures.value in
+    let r = run s c.self.invariant v c.args.class c.args.chunk c.args.piece c.self.view_is c.requires.whole
+    c.requires.orderly c.requires.out x c.index_mut-place.ensures.value in
     let at =
-    found s c.self.invariant v c.args.class c.args.chunk c.args.piece c.self.view_is c.requires.whole c.requires.orderly c.requires.out x c.index_mut-place.ensures.value in
+    found s c.self.invariant v c.args.class c.args.chunk c.args.piece c.self.view_is c.requires.whole c.requires.orderly
+    c.requires.out x c.index_mut-place.ensures.value in
     let page_is : page ≡ r.page =
     ap₂ (λ n p. n / p) c.start.ensures.start c.self.invariant.page
-    ∙ whole-page_is (stock_in s) (page-some s.classes c.self.invariant.sizes.page) c.args.class c.args.chunk c.args.piece o r in
-    let begins = subst (λ (n : ℕ). Begins n (Used r.pages Whole) (runs_of x)) (sym page_is) (whole-begins s c.args.class c.args.chunk c.args.piece o r x at) in
+    ∙ whole-page_is (stock_in s) (page-some s.classes c.self.invariant.sizes.page) c.args.class c.args.chunk
+    c.args.piece o r in
+    let begins = subst (λ (n : ℕ). Begins n (Used r.pages Whole) (runs_of x)) (sym page_is)
+    (whole-begins s c.args.class c.args.chunk c.args.piece o r x at) in
     let becomes =
-    given-law s (after c) c.self.invariant c.args.chunk page r.pages Whole x c.give_run.new.self c.settle.new.place begins
-    (some s c.self.invariant v c.args.class c.args.chunk c.args.piece c.self.view_is c.requires.whole c.requires.orderly c.requires.out x c.index_mut-place.ensures.value)
+    given-law s (after c) c.self.invariant c.args.chunk page r.pages Whole x c.give_run.new.self c.settle.new.place
+    begins
+    (some s c.self.invariant v c.args.class c.args.chunk c.args.piece c.self.view_is c.requires.whole c.requires.orderly
+    c.requires.out x c.index_mut-place.ensures.value)
     c.give_run.ensures (settles c) (stock_in s).fronts refl in
-    let small : is_small s.classes c.args.class ≡ false = ap (λ (w : StockState). is_small w.geometry c.args.class) c.self.view_is ∙ c.requires.whole in
-    subst (λ (w : StockState). Becomes w (λ a. given_place w.geometry a c.args.class c.args.chunk c.args.piece.start) (stock_in (after c))) c.self.view_is
+    let small : is_small s.classes c.args.class ≡ false =
+    ap (λ (w : StockState). is_small w.geometry c.args.class) c.self.view_is ∙ c.requires.whole in
+    subst (λ (w : StockState). Becomes w (λ a. given_place w.geometry a c.args.class c.args.chunk c.args.piece.start)
+    (stock_in (after c))) c.self.view_is
     (record {
       law = λ takings out.
-          by-run s.classes c.args.class c.args.chunk page c.args.piece.start (arena_with (stock_in s) takings out) small (ap₂ (λ n p. n / p) (sym c.start.ensures.start) (sym c.self.invariant.page))
+          by-run s.classes c.args.class c.args.chunk page c.args.piece.start (arena_with (stock_in s) takings out) small
+          (ap₂ (λ n p. n / p) (sym c.start.ensures.start) (sym c.self.invariant.page))
           ∙ becomes.law takings out;
       geometry = becomes.geometry;
       grounds = becomes.grounds;

@@ -6,6 +6,7 @@ use Rattle.pool_arena.proofs.stock.Stock.is_small.Goals as goal
 
 pub returns-then-class-count : goal.returns-then-class-count
 returns-then-class-count c =
-    let past : class_count c.self.inside.classes ≤ c.args.class = omega (arith, c.count.ensures, c.if-class-count.true) in
+    let past : class_count c.self.inside.classes ≤ c.args.class =
+    omega (arith, c.count.ensures, c.if-class-count.true) in
     subst (λ (v : StockState). false ≡ is_small v.geometry c.args.class) c.self.view_is
     (sym (past-not_small c.self.inside.classes c.self.invariant.sizes.page c.args.class c.self.invariant.least past))

@@ -24,13 +24,15 @@ after c =
 asked : (c : goal.After-add-list) → HasNoChunk (stock_in c.self.inside) c.args.chunk
 asked c = subst (λ (v : StockState). HasNoChunk v c.args.chunk) (sym c.self.view_is) c.requires
 
-writes : (c : goal.After-add-list) → Written c.self.inside (after c) c.args.chunk c.index_mut.result.now c.start.new.self
+writes : (c : goal.After-add-list) → Written c.self.inside (after c) c.args.chunk c.index_mut.result.now
+    c.start.new.self
 writes c =
     let s = c.self.inside in
     record {
       found =
           found-is s.places.items c.args.chunk c.index_mut.result.now
-          (omega (arith, (asked c).within, length-map s.places.items (λ (p : PlaceState). p.chunk))) c.index_mut.ensures.value;
+          (omega (arith, (asked c).within, length-map s.places.items (λ (p : PlaceState). p.chunk)))
+          c.index_mut.ensures.value;
       items = refl;
       origin = ap (λ (p : PlaceState). p.origin) c.start.ensures;
       geometry = ap (λ (p : PlaceState). p.geometry) c.start.ensures;

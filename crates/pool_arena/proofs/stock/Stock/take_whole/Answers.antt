@@ -7,5 +7,6 @@ use Rattle.pool_arena.proofs.stock.Stock.take_whole.Goals as goal
 pub cut-requires-clause-wanted : goal.cut-requires-clause-wanted
 cut-requires-clause-wanted c =
     let sizes = subst (λ (s : StockState). IsGeometry s.geometry) c.self.view_is c.self.invariant.sizes in
-    let page_class = subst (λ (s : StockState). IsPageClass s.geometry c.pages_of-pages.result) c.self.view_is c.pages_of-pages.ensures.page_class in
+    let page_class = subst (λ (s : StockState). IsPageClass s.geometry c.pages_of-pages.result) c.self.view_is
+    c.pages_of-pages.ensures.page_class in
     whole-wanted c.args.self.now.geometry sizes c.pages_of-pages.result page_class

@@ -9,4 +9,5 @@ pub returns-clause-bytes : goal.returns-clause-bytes
 returns-clause-bytes c =
     let s = c.self.inside in
     let P : ChunkState → Type 0 = λ v. c.free_bytes.result ≡ free_bytes v.geometry v.runs in
-    subst P c.self.view_is (c.free_bytes.ensures ∙ free-bytes s.classes s.map.runs (entries_in s) (runs_in s) s.map.page c.self.invariant.runs c.self.invariant.page)
+    subst P c.self.view_is (c.free_bytes.ensures ∙ free-bytes s.classes s.map.runs (entries_in s) (runs_in s) s.map.page
+    c.self.invariant.runs c.self.invariant.page)

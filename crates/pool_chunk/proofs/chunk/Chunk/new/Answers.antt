@@ -15,15 +15,29 @@ new-requires-2-clause-chunk c = ground-pages c.args.order c.args.piece c.require
 pub invariant_of-result : goal.invariant_of-result
 invariant_of-result c =
     let slots = c.in-Ok-no_runs.ensures {u = tt} ∙ ap (λ (n : ℕ). replicate n Slot.Nothing) c.pow.ensures in
-    let classes = c.in-Ok.ensures {u = tt} ∙ ap (λ (n : ℕ). of_pages c.args.order (n / 2 ^ c.args.order)) c.len.ensures.len in
-    new-held (record { map = c.in-Ok-new.map; classes = c.in-Ok.classes; bytes = c.len-bytes.result; slots = c.in-Ok-no_runs.slots })
+    let classes = c.in-Ok.ensures {u = tt} ∙ ap (λ (n : ℕ). of_pages c.args.order (n / 2 ^ c.args.order))
+    c.len.ensures.len in
+    new-held (record {
+      map = c.in-Ok-new.map;
+      classes = c.in-Ok.classes;
+      bytes = c.len-bytes.result;
+      slots =
+          c.in-Ok-no_runs.slots;
+    })
     c.args.order c.args.piece c.requires.sizes c.requires.chunk
     (c.in-Ok-new.ensures {u = tt}) classes c.len-bytes.ensures.len slots
 
 pub returns-in-Ok-new : goal.returns-in-Ok-new
 returns-in-Ok-new c =
     let slots = c.in-Ok-no_runs.ensures {u = tt} ∙ ap (λ (n : ℕ). replicate n Slot.Nothing) c.pow.ensures in
-    let classes = c.in-Ok.ensures {u = tt} ∙ ap (λ (n : ℕ). of_pages c.args.order (n / 2 ^ c.args.order)) c.len.ensures.len in
-    new-state (record { map = c.in-Ok-new.map; classes = c.in-Ok.classes; bytes = c.len-bytes.result; slots = c.in-Ok-no_runs.slots })
+    let classes = c.in-Ok.ensures {u = tt} ∙ ap (λ (n : ℕ). of_pages c.args.order (n / 2 ^ c.args.order))
+    c.len.ensures.len in
+    new-state (record {
+      map = c.in-Ok-new.map;
+      classes = c.in-Ok.classes;
+      bytes = c.len-bytes.result;
+      slots =
+          c.in-Ok-no_runs.slots;
+    })
     c.args.order c.args.piece c.requires.sizes c.requires.chunk
     (c.in-Ok-new.ensures {u = tt}) classes c.len-bytes.ensures.len slots

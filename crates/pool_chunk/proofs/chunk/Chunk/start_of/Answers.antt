@@ -22,7 +22,8 @@ index-requires c =
 -- a page at which nothing begins is behind the start of the run
 behind : (c : goal.In-loop-self) (h : IsInUse c.args.self.now c.args.page) → h.start < c.loop-self.at
 behind c =
-    let P : ChunkState → Type 0 = λ v. (h : IsInUse v c.args.page) → h.start ≤ c.loop-self.at → h.start < c.loop-self.at in
+    let P : ChunkState → Type 0 = λ v. (h : IsInUse v c.args.page) → h.start ≤ c.loop-self.at
+    → h.start < c.loop-self.at in
     let all =
     subst P c.self.view_is (λ h from.
     start-behind c.self.inside c.self.invariant c.args.page h c.loop-self.at c.index.result.now from c.index.ensures

@@ -25,7 +25,8 @@ pub take-requires : goal.take-requires
 take-requires c =
     let G : ChunkState → Type 0 = λ x. IsPageClass x.geometry c.args.pages in
     let P : Geometry → Type 0 = λ g. IsPageClass g c.args.pages in
-    subst P (ap₂ of_pages (sym c.self.invariant.same) (sym c.self.invariant.page)) (subst G (sym c.self.view_is) c.requires)
+    subst P (ap₂ of_pages (sym c.self.invariant.same) (sym c.self.invariant.page))
+    (subst G (sym c.self.view_is) c.requires)
 
 pub fill-requires-clause-within : goal.fill-requires-clause-within
 fill-requires-clause-within c =
@@ -33,43 +34,65 @@ fill-requires-clause-within c =
     let taken = (c.in-Some.ensures {u = tt}).some in
     let begins = taken-begins s c.self.invariant c.take.new.self c.args.pages c.in-Some.page c.in-Some.piece taken in
     subst (λ (slots : List Slot). c.in-Some.page < length slots) (sym c.deref_mut.ensures.value)
-    (slot-within s.classes s.map.runs s.slots.items (runs_in s) c.self.invariant.runs c.in-Some.page (Free taken.long) begins.0)
+    (slot-within s.classes s.map.runs s.slots.items (runs_in s) c.self.invariant.runs c.in-Some.page (Free taken.long)
+    begins.0)
 
 pub fill-requires-clause-nothing : goal.fill-requires-clause-nothing
 fill-requires-clause-nothing c =
     let s = c.self.inside in
     let taken = (c.in-Some.ensures {u = tt}).some in
     let begins = taken-begins s c.self.invariant c.take.new.self c.args.pages c.in-Some.page c.in-Some.piece taken in
-    subst (λ (slots : List Slot). (d : Slot) → get_or slots c.in-Some.page d ≡ Slot.Nothing) (sym c.deref_mut.ensures.value)
-    (slot-nothing s.classes s.map.runs s.slots.items (runs_in s) c.self.invariant.runs c.in-Some.page taken.long begins.0)
+    subst (λ (slots : List Slot). (d : Slot) → get_or slots c.in-Some.page d ≡ Slot.Nothing)
+    (sym c.deref_mut.ensures.value)
+    (slot-nothing s.classes s.map.runs s.slots.items (runs_in s) c.self.invariant.runs c.in-Some.page taken.long
+    begins.0)
 
 pub place_pack-requires : goal.place_pack-requires
 place_pack-requires c =
-    taken-few c.self.inside c.self.invariant c.take.new.self c.args.pages c.in-Some.page c.in-Some.piece (c.in-Some.ensures {u = tt}).some
+    taken-few c.self.inside c.self.invariant c.take.new.self c.args.pages c.in-Some.page c.in-Some.piece
+    (c.in-Some.ensures {u = tt}).some
 
 abbrev after : goal.After-place_pack → Inside
-after c = record { map = c.take.new.self; classes = c.self.inside.classes; bytes = c.self.inside.bytes; slots = with_items c.self.inside.slots c.fill.new.slots }
+after c =
+    record {
+      map = c.take.new.self;
+      classes = c.self.inside.classes;
+      bytes = c.self.inside.bytes;
+      slots =
+          with_items c.self.inside.slots c.fill.new.slots;
+    }
 
-follows : (c : goal.After-place_pack) → Follows c.self.inside (after c) (taken_from c.in-Some.page c.args.pages c.self.inside.map.runs) (slice_set c.self.inside.slots.items c.in-Some.page (Slot.Run c.args.pages))
+follows : (c : goal.After-place_pack) → Follows c.self.inside (after c)
+    (taken_from c.in-Some.page c.args.pages c.self.inside.map.runs)
+    (slice_set c.self.inside.slots.items c.in-Some.page (Slot.Run c.args.pages))
 follows c =
     let s = c.self.inside in
     record {
       map_is = (c.in-Some.ensures {u = tt}).some.rest;
       classes = refl;
       bytes = refl;
-      slots_are = written s.slots c.deref_mut.result.now c.fill.new.slots c.in-Some.page (Slot.Run c.args.pages) c.deref_mut.ensures.value c.fill.ensures;
+      slots_are =
+          written s.slots c.deref_mut.result.now c.fill.new.slots c.in-Some.page (Slot.Run c.args.pages)
+          c.deref_mut.ensures.value c.fill.ensures;
     }
 
 pub invariant_of-self-in-Some : goal.invariant_of-self-in-Some
 invariant_of-self-in-Some c =
-    taken-held c.self.inside c.self.invariant c.take.new.self c.args.pages c.in-Some.page c.in-Some.piece (c.in-Some.ensures {u = tt}).some
-    (after c) Whole (Slot.Run c.args.pages) (some c.self.inside c.args.self.now c.args.pages c.self.invariant c.self.view_is c.requires) refl tt (follows c) tt
+    taken-held c.self.inside c.self.invariant c.take.new.self c.args.pages c.in-Some.page c.in-Some.piece
+    (c.in-Some.ensures {u = tt}).some
+    (after c) Whole (Slot.Run c.args.pages)
+    (some c.self.inside c.args.self.now c.args.pages c.self.invariant c.self.view_is c.requires) refl tt (follows c)
+    tt
 
 pub returns-in-None-clause-none : goal.returns-in-None-clause-none
 returns-in-None-clause-none c =
     let s = c.self.inside in
     let none = (c.in-None.ensures {u = tt}).none in
-    rw (← c.self.view_is) (ap (λ (m : FreeRuns). state_in (record s { map = m })) none.0, chosen-same s c.args.pages c.self.invariant ∙ none.1)
+    rw (← c.self.view_is) (
+      ap (λ (m : FreeRuns). state_in (record s { map = m })) none.0,
+      chosen-same s c.args.pages
+          c.self.invariant ∙ none.1,
+    )
 
 pub returns-in-Some-clause-some : goal.returns-in-Some-clause-some
 returns-in-Some-clause-some c =
@@ -82,5 +105,8 @@ returns-in-Some-clause-some c =
       run = taken-chosen s is c.take.new.self c.args.pages c.in-Some.page c.in-Some.piece taken;
       piece = bytes-at s is c.in-Some.page c.args.pages c.in-Some.piece taken.piece;
       place = c.place_pack.ensures;
-      rest = taken-state s is c.take.new.self c.args.pages c.in-Some.page c.in-Some.piece taken (after c) Whole (Slot.Run c.args.pages) (some c.self.inside c.args.self.now c.args.pages c.self.invariant c.self.view_is c.requires) refl tt (follows c);
+      rest =
+          taken-state s is c.take.new.self c.args.pages c.in-Some.page c.in-Some.piece taken (after c) Whole
+          (Slot.Run c.args.pages) (some c.self.inside c.args.self.now c.args.pages c.self.invariant c.self.view_is
+          c.requires) refl tt (follows c);
     })

@@ -16,12 +16,20 @@ pub exchange-taken-requires : goal.exchange-taken-requires
 exchange-taken-requires g c =
     let s = c.args.self.now.layout.shape in let i = slot_of s c.args.object in (
       c.claim_word-found.ensures.same.0 ∙ c.requires.own,
-      took g.H.Told.stands c.args.self.now.layout c.args.object i c.object_slot-slot.result.home c.claim_word-found.result c.args.seat.now.seat.me c.claim_word-found.new.seat.me c.requires.outside.1 c.object_slot-slot.ensures.home
-          (got_in g.H.Told.stands c.args.self.now.layout c.args.object c.args.mark (step (slots_of s) (word_of s c.args.object) 1 0 none) c.args.seat.now.seat.me c.claim_word-found.result c.claim_word-found.new.seat.me c.claim_word-found.ensures.told c.if-found-eq1.false),
+      took g.H.Told.stands c.args.self.now.layout c.args.object i c.object_slot-slot.result.home
+          c.claim_word-found.result c.args.seat.now.seat.me c.claim_word-found.new.seat.me c.requires.outside.1
+          c.object_slot-slot.ensures.home
+          (got_in g.H.Told.stands c.args.self.now.layout c.args.object c.args.mark
+          (step (slots_of s) (word_of s c.args.object) 1 0 none) c.args.seat.now.seat.me c.claim_word-found.result
+          c.claim_word-found.new.seat.me c.claim_word-found.ensures.told c.if-found-eq1.false),
     )
 
 pub returns-then-found-eq1-clause-free : goal.returns-then-found-eq1-clause-free
 returns-then-found-eq1-clause-free g c =
-    let l = c.args.self.now.layout in let s = l.shape in let o = c.args.object in let v = c.args.seat.now.seat.me.0 in let found = c.claim_word-found.result in
-    let held : WasHeld g.H.Told.stands l o (found / 2) v = was_held g.H.Told.stands l o c.args.mark (step (slots_of s) (word_of s o) 1 0 none) c.args.seat.now.seat.me found c.claim_word-found.new.seat.me c.claim_word-found.ensures.told c.if-found-eq1.true in
-    λ p e holds. never_held g.H.Told.stands l p (found / 2) v (subst (IsObjectOf s) e c.requires.object) (subst (λ x. WasHeld g.H.Told.stands l x (found / 2) v) e held) holds
+    let l = c.args.self.now.layout in let s = l.shape in let o = c.args.object in let v = c.args.seat.now.seat.me.0 in
+    let found = c.claim_word-found.result in
+    let held : WasHeld g.H.Told.stands l o (found / 2) v =
+    was_held g.H.Told.stands l o c.args.mark (step (slots_of s) (word_of s o) 1 0 none) c.args.seat.now.seat.me
+    found c.claim_word-found.new.seat.me c.claim_word-found.ensures.told c.if-found-eq1.true in
+    λ p e holds. never_held g.H.Told.stands l p (found / 2) v (subst (IsObjectOf s) e c.requires.object)
+    (subst (λ x. WasHeld g.H.Told.stands l x (found / 2) v) e held) holds

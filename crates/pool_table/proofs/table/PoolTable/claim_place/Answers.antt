@@ -14,15 +14,24 @@ use Rattle.pool_table.proofs.table.PoolTable.claim_place.Goals as goal
 pub exchange-taken-requires : goal.exchange-taken-requires
 exchange-taken-requires g c =
     let l = c.args.self.now.layout in let s = l.shape in let p = c.args.place in let i = slot_of s (Root p) in
-    let got : GotIn g.H.Told.stands l (Root p) i c.args.seat.now.seat.me c.claim_place_word-found.result c.claim_place_word-found.new.seat.me =
-    got_in g.H.Told.stands l (Root p) c.args.mark (step (slots_of s) (word_of s (Root p)) 1 0 none) c.args.seat.now.seat.me c.claim_place_word-found.result c.claim_place_word-found.new.seat.me c.claim_place_word-found.ensures.told c.if-found-eq1.false in
+    let got : GotIn g.H.Told.stands l (Root p) i c.args.seat.now.seat.me c.claim_place_word-found.result
+    c.claim_place_word-found.new.seat.me =
+    got_in g.H.Told.stands l (Root p) c.args.mark (step (slots_of s) (word_of s (Root p)) 1 0 none)
+    c.args.seat.now.seat.me c.claim_place_word-found.result c.claim_place_word-found.new.seat.me
+    c.claim_place_word-found.ensures.told c.if-found-eq1.false in
     let lt : p < s.lanes * s.handles = got.5.object in (
       c.claim_place_word-found.ensures.same.0 ∙ c.requires.own,
-      took g.H.Told.stands l (Root p) i c.place_slot-slot.result.home c.claim_place_word-found.result c.args.seat.now.seat.me c.claim_place_word-found.new.seat.me c.requires.outside.1 (c.place_slot-slot.ensures.home lt) got,
+      took g.H.Told.stands l (Root p) i c.place_slot-slot.result.home c.claim_place_word-found.result
+          c.args.seat.now.seat.me c.claim_place_word-found.new.seat.me c.requires.outside.1
+          (c.place_slot-slot.ensures.home lt) got,
     )
 
 pub returns-then-found-eq1-clause-free : goal.returns-then-found-eq1-clause-free
 returns-then-found-eq1-clause-free g c =
-    let l = c.args.self.now.layout in let s = l.shape in let p = c.args.place in let v = c.args.seat.now.seat.me.0 in let found = c.claim_place_word-found.result in
-    let held : WasHeld g.H.Told.stands l (Root p) (found / 2) v = was_held g.H.Told.stands l (Root p) c.args.mark (step (slots_of s) (word_of s (Root p)) 1 0 none) c.args.seat.now.seat.me found c.claim_place_word-found.new.seat.me c.claim_place_word-found.ensures.told c.if-found-eq1.true in
+    let l = c.args.self.now.layout in let s = l.shape in let p = c.args.place in let v = c.args.seat.now.seat.me.0 in
+    let found = c.claim_place_word-found.result in
+    let held : WasHeld g.H.Told.stands l (Root p) (found / 2) v =
+    was_held g.H.Told.stands l (Root p) c.args.mark (step (slots_of s) (word_of s (Root p)) 1 0 none)
+    c.args.seat.now.seat.me found c.claim_place_word-found.new.seat.me c.claim_place_word-found.ensures.told
+    c.if-found-eq1.true in
     never_held g.H.Told.stands l p (found / 2) v (held_place g.H.Told.stands l p (found / 2) v held) held

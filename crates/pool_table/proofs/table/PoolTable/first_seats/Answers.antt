@@ -8,22 +8,41 @@ pub split_seat-seat-requires : goal.split_seat-seat-requires
 split_seat-seat-requires g c = let l = c.args.self.now.layout in let i = c.loop-i.i in let t = c.loop-i-test.true in (
   c.loop-i.invariant.own,
   some_word l.shape _ c.args.self.now.shape.some_lane c.args.self.now.words,
-  cuts_as g.H.Told.stands l _ c.loop-i.rest.id i (l.shape.lanes - i) (g.H.Told.settles c.args.self.now.table.shared.key.homes.value.items) c.loop-i.rest.me.0 c.args.self.now.key (omega (arith, t)) (ap (λ m. m.0) c.loop-i.invariant.rest),
+  cuts_as g.H.Told.stands l _ c.loop-i.rest.id i (l.shape.lanes - i)
+      (g.H.Told.settles c.args.self.now.table.shared.key.homes.value.items) c.loop-i.rest.me.0 c.args.self.now.key
+      (omega (arith, t)) (ap (λ m. m.0) c.loop-i.invariant.rest),
 )
 
 pub invariant_of-push : goal.invariant_of-push
 invariant_of-push g c = let l = c.args.self.now.layout in let i = c.loop-i.i in let t = c.loop-i-test.true in
-    record { numbered = ap (λ m. m.0.own.number) c.split_seat-seat.ensures.4 ∙ ap (λ v. v.own.number) (cut_views g.H.Told.stands l i (l.shape.lanes - i) (g.H.Told.settles c.args.self.now.table.shared.key.homes.value.items) c.loop-i.rest.me.0 (omega (arith, t)) (ap (λ m. m.0) c.loop-i.invariant.rest)).0 }
+    record {
+      numbered = ap (λ m. m.0.own.number) c.split_seat-seat.ensures.4
+          ∙ ap (λ v. v.own.number) (cut_views g.H.Told.stands l i (l.shape.lanes - i)
+          (g.H.Told.settles c.args.self.now.table.shared.key.homes.value.items) c.loop-i.rest.me.0 (omega (arith, t))
+          (ap (λ m. m.0) c.loop-i.invariant.rest)).0;
+    }
 
 pub loop-i-preserved : goal.loop-i-preserved
 loop-i-preserved g c = let l = c.args.self.now.layout in let i = c.loop-i.i in let t = c.loop-i-test.true in
-    let cv = cut_views g.H.Told.stands l i (l.shape.lanes - i) (g.H.Told.settles c.args.self.now.table.shared.key.homes.value.items) c.loop-i.rest.me.0 (omega (arith, t)) (ap (λ m. m.0) c.loop-i.invariant.rest) in
+    let cv = cut_views g.H.Told.stands l i (l.shape.lanes - i)
+    (g.H.Told.settles c.args.self.now.table.shared.key.homes.value.items) c.loop-i.rest.me.0 (omega (arith, t))
+    (ap (λ m. m.0) c.loop-i.invariant.rest) in
     let less : l.shape.lanes - i - 1 ≡ l.shape.lanes - (i + 1) = omega (arith, t) in
     let long : length c.loop-i.seats.items ≡ i = search (rules, c.loop-i.invariant.many) in record {
-      rest = c.split_seat-seat.ensures.2 ∙ (λ q. ((cv.1 ∙ ap (λ n. rest_view l (i + 1) n (g.H.Told.settles c.args.self.now.table.shared.key.homes.value.items)) less) q, ap (λ m. m.1) c.loop-i.invariant.rest q));
+      rest =
+          c.split_seat-seat.ensures.2 ∙ (λ q. (
+            (cv.1 ∙ ap (λ n. rest_view l (i + 1) n
+                (g.H.Told.settles c.args.self.now.table.shared.key.homes.value.items)) less) q,
+            ap (λ m. m.1)
+                c.loop-i.invariant.rest q,
+          ));
       own = c.split_seat-seat.ensures.0 ∙ c.loop-i.invariant.own;
       many = c.in-Ok.ensures.len ∙ (let a = c.loop-i.invariant.many in omega (arith, a));
       room = (let a = c.loop-i.invariant.room in let b = c.push-pushed.ensures.capacity in omega (arith, a, b));
-      made = made_push (λ k s. (s.seat.table_id ≡ c.args.self.now.table.shared.table_id) × (s.seat.me ≡ (lane_view l k (g.H.Told.settles c.args.self.now.table.shared.key.homes.value.items), []))) c.loop-i.seats.items c.push-pushed.new.self.items _ i long c.in-Ok.ensures.items c.loop-i.invariant.made
+      made =
+          made_push (λ k s. (s.seat.table_id ≡ c.args.self.now.table.shared.table_id)
+          × (s.seat.me ≡ (lane_view l k (g.H.Told.settles c.args.self.now.table.shared.key.homes.value.items), [])))
+          c.loop-i.seats.items c.push-pushed.new.self.items _ i long c.in-Ok.ensures.items
+          c.loop-i.invariant.made
           (c.split_seat-seat.ensures.3 ∙ c.loop-i.invariant.own, c.split_seat-seat.ensures.4 ∙ ap (λ v. (v, [])) cv.0);
     }

@@ -5,9 +5,16 @@ use Rattle.pool_table.proofs.table.PoolTable.first_seats.Given as goal
 
 abbrev pub invariant-loop-i : goal.invariant-loop-i
 invariant-loop-i g l = record {
-  rest : l.rest.me ≡ (rest_view l.self.layout l.i (l.self.layout.shape.lanes - l.i) (g.H.Told.settles l.self.table.shared.key.homes.value.items), []);
+  rest : l.rest.me ≡ (
+    rest_view l.self.layout l.i (l.self.layout.shape.lanes - l.i)
+        (g.H.Told.settles l.self.table.shared.key.homes.value.items),
+    [],
+  );
   own : l.rest.table_id ≡ l.self.table.shared.table_id;
   many : vec_len l.seats ≡ l.i;
   room : l.self.layout.shape.lanes ≤ vec_capacity l.seats;
-  made : (k : ℕ) → k < l.i → HoldsAt (λ s. (s.seat.table_id ≡ l.self.table.shared.table_id) × (s.seat.me ≡ (lane_view l.self.layout k (g.H.Told.settles l.self.table.shared.key.homes.value.items), []))) l.seats.items k;
+  made : (k : ℕ) → k < l.i → HoldsAt
+      (λ s. (s.seat.table_id ≡ l.self.table.shared.table_id)
+      × (s.seat.me ≡ (lane_view l.self.layout k (g.H.Told.settles l.self.table.shared.key.homes.value.items), [])))
+      l.seats.items k;
 }

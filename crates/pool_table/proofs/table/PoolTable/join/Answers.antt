@@ -8,5 +8,6 @@ join_seat-requires g c = (
   c.requires.other_own,
   c.requires.other_outside.1,
   some_word c.args.self.now.layout.shape _ c.args.self.now.shape.some_lane c.args.self.now.words,
-  joins_as g.H.Told.stands c.args.self.now.layout _ _ _ _ _ c.args.self.now.key c.requires.outside.0 c.requires.other_outside.0,
+  joins_as g.H.Told.stands c.args.self.now.layout _ _ _ _ _ c.args.self.now.key c.requires.outside.0
+      c.requires.other_outside.0,
 )

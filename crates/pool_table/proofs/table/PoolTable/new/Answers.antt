@@ -12,8 +12,12 @@ use Rattle.pool_table.proofs.table.PoolTable.new.Goals as goal
 pub new-requires : goal.new-requires
 new-requires g c =
     let gs : Setting = g.H.Told.settles c.args.homes.items in
-    subst (λ (y : Setting). IsSound g.H.Told.stands c.args.layout (opening c.as_slice.result.now c.wrapped-slots.result.items (first_view c.args.layout y))) (ap (λ v. g.H.Told.settles v.items) (sym c.of.ensures))
-    (opens_as g.H.Told.stands c.args.layout gs _ _ c.args.homes.items c.requires.shape c.requires.turns c.requires.moves (subst (IsOpening c.args.layout.shape) (sym c.as_slice.ensures.value) c.in-Ok.ensures.words) c.wrapped-slots.ensures.slots c.requires.homes c.requires.stand)
+    subst (λ (y : Setting). IsSound g.H.Told.stands c.args.layout
+    (opening c.as_slice.result.now c.wrapped-slots.result.items (first_view c.args.layout y)))
+    (ap (λ v. g.H.Told.settles v.items) (sym c.of.ensures))
+    (opens_as g.H.Told.stands c.args.layout gs _ _ c.args.homes.items c.requires.shape c.requires.turns c.requires.moves
+    (subst (IsOpening c.args.layout.shape) (sym c.as_slice.ensures.value) c.in-Ok.ensures.words)
+    c.wrapped-slots.ensures.slots c.requires.homes c.requires.stand)
 
 pub invariant_of-table : goal.invariant_of-table
 invariant_of-table g c =
@@ -22,15 +26,22 @@ invariant_of-table g c =
       room_for_words = c.in-Ok.ensures.spare_words;
       key = search (rules);
       words = search (rules);
-      slots = c.in-Ok-new.ensures.ok.1 ∙ (ap length c.wrapped-slots.ensures.slots ∙ laid_many s c.args.homes.items c.requires.homes);
+      slots =
+          c.in-Ok-new.ensures.ok.1 ∙ (ap length c.wrapped-slots.ensures.slots
+          ∙ laid_many s c.args.homes.items c.requires.homes);
       shape = c.requires.shape;
     }
 
 pub unwrapped-requires-clause-room : goal.unwrapped-requires-clause-room
 unwrapped-requires-clause-room g c =
-    let same = ap (λ l. filter_map (λ x. x) l) (c.in-Err.ensures.err ∙ c.wrapped-slots.ensures.slots) ∙ gathered_all c.args.layout.shape 0 c.args.homes.items in
-    let a = c.wrapped-slots.ensures.homes.1 in let long : length c.args.homes.items ≡ vec_len c.args.homes = search (rules) in
-    subst (λ (n : ℕ). n ≤ vec_capacity c.wrapped-slots.new.homes) (sym (ap length same)) (let g : length c.args.homes.items ≤ vec_capacity c.wrapped-slots.new.homes = omega (arith, long, a) in g)
+    let same = ap (λ l. filter_map (λ x. x) l) (c.in-Err.ensures.err ∙ c.wrapped-slots.ensures.slots)
+    ∙ gathered_all c.args.layout.shape 0 c.args.homes.items in
+    let a = c.wrapped-slots.ensures.homes.1 in let long : length c.args.homes.items
+    ≡ vec_len c.args.homes = search (rules) in
+    subst (λ (n : ℕ). n ≤ vec_capacity c.wrapped-slots.new.homes) (sym (ap length same))
+    (let g : length c.args.homes.items ≤ vec_capacity c.wrapped-slots.new.homes = omega (arith, long, a) in g)
 
 pub returns-clause-err : goal.returns-clause-err
-returns-clause-err g c = c.unwrapped.ensures ∙ (ap (λ l. filter_map (λ x. x) l) (c.in-Err.ensures.err ∙ c.wrapped-slots.ensures.slots) ∙ gathered_all c.args.layout.shape 0 c.args.homes.items)
+returns-clause-err g c =
+    c.unwrapped.ensures ∙ (ap (λ l. filter_map (λ x. x) l) (c.in-Err.ensures.err ∙ c.wrapped-slots.ensures.slots)
+    ∙ gathered_all c.args.layout.shape 0 c.args.homes.items)

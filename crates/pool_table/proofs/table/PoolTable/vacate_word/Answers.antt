@@ -9,9 +9,11 @@ pub fetch_add-requires : goal.fetch_add-requires
 fetch_add-requires g c = (
   c.requires.own,
   within g.H.Told.stands c.args.self.now.layout _ _ c.root_index-word.ensures.within c.args.self.now.words,
-  vacates_as g.H.Told.stands c.args.self.now.layout _ _ _ _ _ c.args.root _ c.args.self.now.key c.args.self.now.slots c.requires.named c.root_index-word.ensures.there c.requires.outside c.requires.token c.requires.ended,
+  vacates_as g.H.Told.stands c.args.self.now.layout _ _ _ _ _ c.args.root _ c.args.self.now.key c.args.self.now.slots
+      c.requires.named c.root_index-word.ensures.there c.requires.outside c.requires.token c.requires.ended,
 )
 
 pub returns-clause-hand : goal.returns-clause-hand
 returns-clause-hand g c = let shape = c.args.self.now.layout.shape in
-    vacates_told g.R.Rooted.root c.args.root (step (slots_of shape) (count_word_of shape c.args.root.place) 1 0 none) c.args.seat.now.me c.fetch_add.result c.fetch_add.new.seat.me c.requires.named c.fetch_add.ensures.2.0
+    vacates_told g.R.Rooted.root c.args.root (step (slots_of shape) (count_word_of shape c.args.root.place) 1 0 none)
+    c.args.seat.now.me c.fetch_add.result c.fetch_add.new.seat.me c.requires.named c.fetch_add.ensures.2.0

@@ -14,7 +14,8 @@ returns-in-At c =
     (λ (n : Note). IsTrue c.may_note.result ↔ ((object : Object) → MayCome object (had_of m object) n))
     (sym c.in-At.is)
     (note-may (had_of m) c.in-At.object c.in-At.number c.in-At.did c.may_note.result
-    (subst (λ (h : Had). IsTrue c.may_note.result ↔ (least_after h.mark ≤ c.in-At.number)) c.of.ensures c.may_note.ensures))
+    (subst (λ (h : Had). IsTrue c.may_note.result ↔ (least_after h.mark ≤ c.in-At.number)) c.of.ensures
+    c.may_note.ensures))
 
 pub returns-in-Busy : goal.returns-in-Busy
 returns-in-Busy c =

@@ -16,6 +16,8 @@ returns c other =
     let had : Had = c.args.had in
     let old : Option Had = get key_cmp c.args.self.now.map (object_key other) in
     ap (λ (o : Option Had). unwrap_or o none_had) (c.in_ok-insert.ensures.updates.0 (object_key other))
-    ∙ ap (λ (k : ℕ × ℕ × ℕ). unwrap_or (if is_at (key_cmp k) (object_key other) then Some had else old) none_had) c.object_key.ensures
-    ∙ ap (λ (b : Bool). unwrap_or (if b then Some had else old) none_had) (is_at-object object other ∙ same-object-swap object other)
+    ∙ ap (λ (k : ℕ × ℕ × ℕ). unwrap_or (if is_at (key_cmp k) (object_key other) then Some had else old) none_had)
+    c.object_key.ensures
+    ∙ ap (λ (b : Bool). unwrap_or (if b then Some had else old) none_had)
+    (is_at-object object other ∙ same-object-swap object other)
     ∙ had-put (same_object other object) had old

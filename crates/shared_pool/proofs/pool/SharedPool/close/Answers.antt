@@ -20,32 +20,47 @@ close_with-homes-requires-clause-all c =
 
 pub chunk_ends-chunks-requires-clause-arenas : goal.chunk_ends-chunks-requires-clause-arenas
 chunk_ends-chunks-requires-clause-arenas c =
-    subst (λ (y : Layout × List (Option Home)). AreArenas y.0.shape y.1) (λ i. (c.args.self.same_layout i, sym c.deref.ensures.value i))
-    (arenas c.args.self c.args.seats.items c.requires.seats (view_of c.joined-seat.result) c.joined-seat.ensures.parts c.joined-seat.ensures.settled c.close_with-homes.result.0.items c.close_with-homes.result.1.items c.close_with-homes.ensures)
+    subst (λ (y : Layout × List (Option Home)). AreArenas y.0.shape y.1)
+    (λ i. (c.args.self.same_layout i, sym c.deref.ensures.value i))
+    (arenas c.args.self c.args.seats.items c.requires.seats (view_of c.joined-seat.result) c.joined-seat.ensures.parts
+    c.joined-seat.ensures.settled c.close_with-homes.result.0.items c.close_with-homes.result.1.items
+    c.close_with-homes.ensures)
 
 pub live_roots-live-requires-clause-places : goal.live_roots-live-requires-clause-places
 live_roots-live-requires-clause-places c =
-    subst (λ (y : Layout × List (Option Home)). ArePlaces y.0.shape y.1) (λ i. (c.args.self.same_layout i, sym c.deref_mut.ensures.value i))
-    (places c.args.self c.args.seats.items c.requires.seats (view_of c.joined-seat.result) c.joined-seat.ensures.parts c.joined-seat.ensures.settled c.close_with-homes.result.0.items c.close_with-homes.result.1.items c.close_with-homes.ensures)
+    subst (λ (y : Layout × List (Option Home)). ArePlaces y.0.shape y.1)
+    (λ i. (c.args.self.same_layout i, sym c.deref_mut.ensures.value i))
+    (places c.args.self c.args.seats.items c.requires.seats (view_of c.joined-seat.result) c.joined-seat.ensures.parts
+    c.joined-seat.ensures.settled c.close_with-homes.result.0.items c.close_with-homes.result.1.items
+    c.close_with-homes.ensures)
 
 pub returns-clause-whole : goal.returns-clause-whole
 returns-clause-whole c =
-    whole c.args.self c.args.seats.items c.requires.seats (view_of c.joined-seat.result) c.joined-seat.ensures.parts c.joined-seat.ensures.settled c.close_with-homes.result.0.items c.close_with-homes.result.1.items c.close_with-homes.ensures
+    whole c.args.self c.args.seats.items c.requires.seats (view_of c.joined-seat.result) c.joined-seat.ensures.parts
+    c.joined-seat.ensures.settled c.close_with-homes.result.0.items c.close_with-homes.result.1.items
+    c.close_with-homes.ensures
 
 pub returns-clause-chunks : goal.returns-clause-chunks
 returns-clause-chunks c =
     c.of.ensures ∙ c.chunk_ends-chunks.ensures
     ∙ (λ i. chunks_from (c.deref.ensures.value i) (below (sym c.args.self.same_layout i).shape.arenas))
-    ∙ chunks c.args.self c.args.seats.items c.requires.seats (view_of c.joined-seat.result) c.joined-seat.ensures.parts c.joined-seat.ensures.settled c.close_with-homes.result.0.items c.close_with-homes.result.1.items c.close_with-homes.ensures
+    ∙ chunks c.args.self c.args.seats.items c.requires.seats (view_of c.joined-seat.result) c.joined-seat.ensures.parts
+    c.joined-seat.ensures.settled c.close_with-homes.result.0.items c.close_with-homes.result.1.items
+    c.close_with-homes.ensures
 
 pub returns-clause-live : goal.returns-clause-live
 returns-clause-live c =
     let layout : c.args.self.layout ≡ c.args.self.table.layout = sym c.args.self.same_layout in
-    let is : c.of-2.result ≡ told_from c.args.self.table.layout.shape c.close_with-homes.result.0.items c.close_with-homes.result.1.items (below (c.args.self.table.layout.shape.lanes * c.args.self.table.layout.shape.handles)) =
+    let is : c.of-2.result ≡ told_from c.args.self.table.layout.shape c.close_with-homes.result.0.items
+    c.close_with-homes.result.1.items
+    (below (c.args.self.table.layout.shape.lanes * c.args.self.table.layout.shape.handles)) =
     c.of-2.ensures ∙ c.live_roots-live.ensures.live
-    ∙ (λ i. told_from (layout i).shape (c.deref_mut.ensures.value i) (c.deref-2.ensures.value i) (below ((layout i).shape.lanes * (layout i).shape.handles))) in
+    ∙ (λ i. told_from (layout i).shape (c.deref_mut.ensures.value i) (c.deref-2.ensures.value i)
+    (below ((layout i).shape.lanes * (layout i).shape.handles))) in
     subst (λ (xs : List LiveRoot). AreLiveRoots (parts_in c.args.seats.items) xs) (sym is)
-    (live c.args.self c.args.seats.items c.requires.seats (view_of c.joined-seat.result) c.joined-seat.ensures.parts c.joined-seat.ensures.settled c.close_with-homes.result.0.items c.close_with-homes.result.1.items c.close_with-homes.ensures)
+    (live c.args.self c.args.seats.items c.requires.seats (view_of c.joined-seat.result) c.joined-seat.ensures.parts
+    c.joined-seat.ensures.settled c.close_with-homes.result.0.items c.close_with-homes.result.1.items
+    c.close_with-homes.ensures)
 
 pub close_arenas-requires-clause-out : goal.close_arenas-requires-clause-out
 close_arenas-requires-clause-out c =
@@ -53,5 +68,12 @@ close_arenas-requires-clause-out c =
     let same : c.live_roots-live.new.homes ≡ homes = c.live_roots-live.ensures.same ∙ c.deref_mut.ensures.value in
     let long = ap (λ (xs : List (Option Home)). length xs) same in let many = c.close_with-homes.result.0.ok.0 in
     subst (λ (y : Layout × List (Option Home)). AreOut y.0.shape.arenas y.1 (left_of y.1))
-    (λ i. (c.args.self.same_layout i, sym (written c.close_with-homes.result.0.len c.live_roots-live.new.homes homes (omega (arith, long, many)) ∙ same) i))
-    (out c.args.self c.args.seats.items c.requires.seats (view_of c.joined-seat.result) c.joined-seat.ensures.parts c.joined-seat.ensures.settled c.close_with-homes.result.0.items c.close_with-homes.result.1.items c.close_with-homes.ensures)
+    (λ i. (
+      c.args.self.same_layout i,
+      sym
+          (written c.close_with-homes.result.0.len c.live_roots-live.new.homes homes (omega (arith, long, many)) ∙ same)
+          i,
+    ))
+    (out c.args.self c.args.seats.items c.requires.seats (view_of c.joined-seat.result) c.joined-seat.ensures.parts
+    c.joined-seat.ensures.settled c.close_with-homes.result.0.items c.close_with-homes.result.1.items
+    c.close_with-homes.ensures)

@@ -4,7 +4,8 @@ use Rattle.shared_pool.proofs.OpeningSeats.{opened}
 use Rattle.shared_pool.proofs.pool.SharedPool.new.Goals as goal
 
 pub new-requires-clause-stand : goal.new-requires-clause-stand
-new-requires-clause-stand c = all_stand c.args.layout.shape c.args.mail.now c.fill.new.homes.items c.requires.mail c.in-Ok.ensures
+new-requires-clause-stand c =
+    all_stand c.args.layout.shape c.args.mail.now c.fill.new.homes.items c.requires.mail c.in-Ok.ensures
 
 pub returns-in-Ok-new-clause-seats : goal.returns-in-Ok-new-clause-seats
 returns-in-Ok-new-clause-seats c =

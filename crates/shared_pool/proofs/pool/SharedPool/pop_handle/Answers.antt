@@ -16,16 +16,25 @@ use Rattle.shared_pool.proofs.pool.SharedPool.pop_handle.Goals as goal
 pub note-number-requires-clause-section : goal.note-number-requires-clause-section
 note-number-requires-clause-section c =
     let got = c.in-Ok.ensures.got in let pop = c.pop-handle in let seat = c.requires.seat in
-    ends c.args.self.now.table.layout (Bin c.lane_of-lane.result) c.args.seat.now c.claim.new.seat c.in-Ok.section got seat.setting seat.settled pop.new.section c.noted-noted.result
-    (next c.args.self.now.table.layout c.lane_of-lane.result c.args.seat.now c.claim.new.seat c.in-Ok.section got seat.setting seat.settled pop.new.section (popped pop.result) pop.ensures.same.0 pop.ensures.same.1 pop.ensures.bin pop.ensures.stands c.noted-noted.result (c.noted-noted.ensures ∙ ap plain c.taken.ensures))
+    ends c.args.self.now.table.layout (Bin c.lane_of-lane.result) c.args.seat.now c.claim.new.seat c.in-Ok.section got
+    seat.setting seat.settled pop.new.section c.noted-noted.result
+    (next c.args.self.now.table.layout c.lane_of-lane.result c.args.seat.now c.claim.new.seat c.in-Ok.section got
+    seat.setting seat.settled pop.new.section (popped pop.result) pop.ensures.same.0 pop.ensures.same.1
+    pop.ensures.bin pop.ensures.stands c.noted-noted.result (c.noted-noted.ensures ∙ ap plain c.taken.ensures))
 
 pub returns-clause-did : goal.returns-clause-did
 returns-clause-did c =
     let got = c.in-Ok.ensures.got in let pop = c.pop-handle in let seat = c.requires.seat in
     let n : c.noted-noted.result ≡ plain (popped pop.result) = c.noted-noted.ensures ∙ ap plain c.taken.ensures in
-    subst (λ (x : ℕ × Noted). IsNoted c.args.self.now c.args.seat.now c.note-number.new.seat (Bin x.0) c.note-number.result x.1) (λ i. (c.lane_of-lane.ensures.lane i, n i))
-    (made c.args.self.now.table.layout (Bin c.lane_of-lane.result) c.args.seat.now c.claim.new.seat c.in-Ok.section got seat.setting seat.settled c.args.self.now c.note-number.new.seat pop.new.section c.note-number.result c.noted-noted.result refl
-    (next c.args.self.now.table.layout c.lane_of-lane.result c.args.seat.now c.claim.new.seat c.in-Ok.section got seat.setting seat.settled pop.new.section (popped pop.result) pop.ensures.same.0 pop.ensures.same.1 pop.ensures.bin pop.ensures.stands c.noted-noted.result n) c.note-number.ensures.number c.note-number.ensures.noted)
+    subst (λ (x : ℕ × Noted). IsNoted c.args.self.now c.args.seat.now c.note-number.new.seat (Bin x.0)
+    c.note-number.result x.1) (λ i. (c.lane_of-lane.ensures.lane i, n i))
+    (made c.args.self.now.table.layout (Bin c.lane_of-lane.result) c.args.seat.now c.claim.new.seat c.in-Ok.section got
+    seat.setting seat.settled c.args.self.now c.note-number.new.seat pop.new.section c.note-number.result
+    c.noted-noted.result refl
+    (next c.args.self.now.table.layout c.lane_of-lane.result c.args.seat.now c.claim.new.seat c.in-Ok.section got
+    seat.setting seat.settled pop.new.section (popped pop.result) pop.ensures.same.0 pop.ensures.same.1
+    pop.ensures.bin pop.ensures.stands c.noted-noted.result n) c.note-number.ensures.number
+    c.note-number.ensures.noted)
 
 pub returns-clause-handle : goal.returns-clause-handle
 returns-clause-handle c =
@@ -33,9 +42,18 @@ returns-clause-handle c =
     let old = c.args.seat.now in let l = c.args.self.now.table.layout in let lane = c.lane_of-lane.result in
     let n = c.noted-noted.result in
     let is : n ≡ plain (popped pop.result) = c.noted-noted.ensures ∙ ap plain c.taken.ensures in
-    let next = next l lane old c.claim.new.seat c.in-Ok.section got seat.setting seat.settled pop.new.section (popped pop.result) pop.ensures.same.0 pop.ensures.same.1 pop.ensures.bin pop.ensures.stands n is in
+    let next = next l lane old c.claim.new.seat c.in-Ok.section got seat.setting seat.settled pop.new.section
+    (popped pop.result) pop.ensures.same.0 pop.ensures.same.1 pop.ensures.bin pop.ensures.stands n is in
     let v = view_of old in
-    let seen = made l (Bin lane) old c.claim.new.seat c.in-Ok.section got seat.setting seat.settled c.args.self.now c.note-number.new.seat pop.new.section c.note-number.result n refl next c.note-number.ensures.number c.note-number.ensures.noted in
-    let home = is_bin seat.setting got.history lane l.shape.handles c.in-Ok.section.home (stood l (Bin lane) old c.claim.new.seat c.in-Ok.section got seat.setting seat.settled) in
-    subst (λ (k : ℕ). IfSome pop.result (λ h. HoldsHandle c.args.self.now c.note-number.new.seat h × (h.lane ≡ k))) c.lane_of-lane.ensures.lane
-    (popped_held c.args.self.now lane old c.claim.new.seat c.note-number.new.seat c.in-Ok.section got seat.setting seat.settled c.note-number.result (v.turns - 1) (noted_by v.own.number n) pop.result (ap (λ (x : Noted). x.did) is) (below v.own.number seat.lane lane l.shape.lanes seat.number c.lane_of-lane.ensures.number seat.below) next.follows home pop.ensures.own pop.ensures.some_handle (ap (λ m. m.0) seen.seat))
+    let seen = made l (Bin lane) old c.claim.new.seat c.in-Ok.section got seat.setting seat.settled c.args.self.now
+    c.note-number.new.seat pop.new.section c.note-number.result n refl next c.note-number.ensures.number
+    c.note-number.ensures.noted in
+    let home = is_bin seat.setting got.history lane l.shape.handles c.in-Ok.section.home
+    (stood l (Bin lane) old c.claim.new.seat c.in-Ok.section got seat.setting seat.settled) in
+    subst (λ (k : ℕ). IfSome pop.result (λ h. HoldsHandle c.args.self.now c.note-number.new.seat h × (h.lane ≡ k)))
+    c.lane_of-lane.ensures.lane
+    (popped_held c.args.self.now lane old c.claim.new.seat c.note-number.new.seat c.in-Ok.section got seat.setting
+    seat.settled c.note-number.result (v.turns - 1) (noted_by v.own.number n) pop.result
+    (ap (λ (x : Noted). x.did) is)
+    (below v.own.number seat.lane lane l.shape.lanes seat.number c.lane_of-lane.ensures.number seat.below)
+    next.follows home pop.ensures.own pop.ensures.some_handle (ap (λ m. m.0) seen.seat))

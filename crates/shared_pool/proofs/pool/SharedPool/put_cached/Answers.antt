@@ -18,28 +18,45 @@ pub note-number-requires-clause-section : goal.note-number-requires-clause-secti
 note-number-requires-clause-section c =
     let got = c.in-Ok.ensures.got in let seat = c.requires.seat in let old = c.args.seat.now in
     let l = c.args.self.now.table.layout in let r = c.args.region in
-    let here = subst (λ (y : Option Setting). IfSome y (λ t. IsInPlace t.grounds r.id.place r.piece)) seat.settled c.requires.region.here in
-    ends l (Cache r.id.owner r.id.class) old c.claim.new.seat c.in-Ok.section got seat.setting seat.settled c.put-put.new.section c.noted-noted.result
-    (next l r.id.owner r.id.class old c.claim.new.seat c.in-Ok.section got seat.setting seat.settled c.put-put.new.section (was_put r.id c.put-put.result) c.put-put.ensures.same.0 c.put-put.ensures.same.1 c.put-put.ensures.cache (put_own r.id c.put-put.result)
-    (λ m did_is. c.put-put.ensures.stands (measures_of l.shape (Cache r.id.owner r.id.class)) seat.setting got.history m did_is here c.requires.region.len (stood l (Cache r.id.owner r.id.class) old c.claim.new.seat c.in-Ok.section got seat.setting seat.settled))
+    let here = subst (λ (y : Option Setting). IfSome y (λ t. IsInPlace t.grounds r.id.place r.piece)) seat.settled
+    c.requires.region.here in
+    ends l (Cache r.id.owner r.id.class) old c.claim.new.seat c.in-Ok.section got seat.setting seat.settled
+    c.put-put.new.section c.noted-noted.result
+    (next l r.id.owner r.id.class old c.claim.new.seat c.in-Ok.section got seat.setting seat.settled
+    c.put-put.new.section (was_put r.id c.put-put.result) c.put-put.ensures.same.0 c.put-put.ensures.same.1
+    c.put-put.ensures.cache (put_own r.id c.put-put.result)
+    (λ m did_is. c.put-put.ensures.stands (measures_of l.shape (Cache r.id.owner r.id.class)) seat.setting got.history m
+    did_is here c.requires.region.len
+    (stood l (Cache r.id.owner r.id.class) old c.claim.new.seat c.in-Ok.section got seat.setting seat.settled))
     c.noted-noted.result (c.noted-noted.ensures ∙ ap plain c.answered.ensures))
 
 pub note-number-requires-clause-hands : goal.note-number-requires-clause-hands
 note-number-requires-clause-hands c =
     let got = c.in-Ok.ensures.got in let r = c.args.region in
-    puts_down (view_of c.claim.new.seat) (view_of c.args.seat.now) (Cache r.id.owner r.id.class) got.history r.id c.put-put.result c.noted-noted.result.did got.view (ap (λ (x : Noted). x.did) (c.noted-noted.ensures ∙ ap plain c.answered.ensures)) c.requires.region.hand
+    puts_down (view_of c.claim.new.seat) (view_of c.args.seat.now) (Cache r.id.owner r.id.class) got.history r.id
+    c.put-put.result c.noted-noted.result.did got.view
+    (ap (λ (x : Noted). x.did) (c.noted-noted.ensures ∙ ap plain c.answered.ensures)) c.requires.region.hand
 
 pub returns-clause-did : goal.returns-clause-did
 returns-clause-did c =
     let got = c.in-Ok.ensures.got in let seat = c.requires.seat in let old = c.args.seat.now in
     let l = c.args.self.now.table.layout in let r = c.args.region in
-    let here = subst (λ (y : Option Setting). IfSome y (λ t. IsInPlace t.grounds r.id.place r.piece)) seat.settled c.requires.region.here in
-    let n : c.noted-noted.result ≡ plain (was_put r.id c.put-put.result) = c.noted-noted.ensures ∙ ap plain c.answered.ensures in
+    let here = subst (λ (y : Option Setting). IfSome y (λ t. IsInPlace t.grounds r.id.place r.piece)) seat.settled
+    c.requires.region.here in
+    let n : c.noted-noted.result ≡ plain (was_put r.id c.put-put.result) = c.noted-noted.ensures
+    ∙ ap plain c.answered.ensures in
     subst (IsNoted c.args.self.now old c.note-number.new.seat (Cache r.id.owner r.id.class) c.note-number.result) n
-    (made l (Cache r.id.owner r.id.class) old c.claim.new.seat c.in-Ok.section got seat.setting seat.settled c.args.self.now c.note-number.new.seat c.put-put.new.section c.note-number.result c.noted-noted.result refl
-    (next l r.id.owner r.id.class old c.claim.new.seat c.in-Ok.section got seat.setting seat.settled c.put-put.new.section (was_put r.id c.put-put.result) c.put-put.ensures.same.0 c.put-put.ensures.same.1 c.put-put.ensures.cache (put_own r.id c.put-put.result)
-    (λ m did_is. c.put-put.ensures.stands (measures_of l.shape (Cache r.id.owner r.id.class)) seat.setting got.history m did_is here c.requires.region.len (stood l (Cache r.id.owner r.id.class) old c.claim.new.seat c.in-Ok.section got seat.setting seat.settled))
+    (made l (Cache r.id.owner r.id.class) old c.claim.new.seat c.in-Ok.section got seat.setting seat.settled
+    c.args.self.now c.note-number.new.seat c.put-put.new.section c.note-number.result c.noted-noted.result refl
+    (next l r.id.owner r.id.class old c.claim.new.seat c.in-Ok.section got seat.setting seat.settled
+    c.put-put.new.section (was_put r.id c.put-put.result) c.put-put.ensures.same.0 c.put-put.ensures.same.1
+    c.put-put.ensures.cache (put_own r.id c.put-put.result)
+    (λ m did_is. c.put-put.ensures.stands (measures_of l.shape (Cache r.id.owner r.id.class)) seat.setting got.history m
+    did_is here c.requires.region.len
+    (stood l (Cache r.id.owner r.id.class) old c.claim.new.seat c.in-Ok.section got seat.setting seat.settled))
     c.noted-noted.result n) c.note-number.ensures.number c.note-number.ensures.noted)
 
 pub returns-in-Err-clause-seat : goal.returns-in-Err-clause-seat
-returns-in-Err-clause-seat c = held_seat c.args.self.now (Cache c.args.region.id.owner c.args.region.id.class) true c.args.seat.now c.claim.new.seat c.in-Err.held c.requires.seat c.claim.ensures.same c.in-Err.ensures.held
+returns-in-Err-clause-seat c =
+    held_seat c.args.self.now (Cache c.args.region.id.owner c.args.region.id.class) true c.args.seat.now
+    c.claim.new.seat c.in-Err.held c.requires.seat c.claim.ensures.same c.in-Err.ensures.held

@@ -15,26 +15,39 @@ pub put-requires-clause-homeless : goal.put-requires-clause-homeless
 put-requires-clause-homeless c =
     let got = c.in-Ok.ensures.got in let seat = c.requires.seat in let h = c.requires.handle in
     let l = c.args.self.now.table.layout in let lane = c.lane.result in
-    let home = is_bin seat.setting got.history lane l.shape.handles c.in-Ok.section.home (stood l (Bin lane) c.args.seat.now c.claim.new.seat c.in-Ok.section got seat.setting seat.settled) in
-    homeless l lane c.args.seat.now c.claim.new.seat c.in-Ok.section got seat.setting seat.settled c.args.handle home (sym c.lane.ensures) h.lane h.hand
+    let home = is_bin seat.setting got.history lane l.shape.handles c.in-Ok.section.home
+    (stood l (Bin lane) c.args.seat.now c.claim.new.seat c.in-Ok.section got seat.setting seat.settled) in
+    homeless l lane c.args.seat.now c.claim.new.seat c.in-Ok.section got seat.setting seat.settled c.args.handle home
+    (sym c.lane.ensures) h.lane h.hand
 
 pub note-number-requires-clause-section : goal.note-number-requires-clause-section
 note-number-requires-clause-section c =
     let got = c.in-Ok.ensures.got in let put = c.put in let seat = c.requires.seat in
-    ends c.args.self.now.table.layout (Bin c.lane.result) c.args.seat.now c.claim.new.seat c.in-Ok.section got seat.setting seat.settled put.new.section c.noted-noted.result
-    (next c.args.self.now.table.layout c.lane.result c.args.seat.now c.claim.new.seat c.in-Ok.section got seat.setting seat.settled put.new.section (Did.Home c.args.handle.place) put.ensures.same.0 put.ensures.same.1 put.ensures.bin put.ensures.stands c.noted-noted.result
+    ends c.args.self.now.table.layout (Bin c.lane.result) c.args.seat.now c.claim.new.seat c.in-Ok.section got
+    seat.setting seat.settled put.new.section c.noted-noted.result
+    (next c.args.self.now.table.layout c.lane.result c.args.seat.now c.claim.new.seat c.in-Ok.section got seat.setting
+    seat.settled put.new.section (Did.Home c.args.handle.place) put.ensures.same.0 put.ensures.same.1
+    put.ensures.bin put.ensures.stands c.noted-noted.result
     (c.noted-noted.ensures ∙ ap (λ p. plain (Did.Home p)) c.place.ensures))
 
 pub note-number-requires-clause-hands : goal.note-number-requires-clause-hands
 note-number-requires-clause-hands c =
     let h = c.requires.handle in let n = c.noted-noted.ensures ∙ ap (λ p. plain (Did.Home p)) c.place.ensures in
     let got = c.in-Ok.ensures.got in
-    comes_home_inside (view_of c.claim.new.seat) (view_of c.args.seat.now) (Bin c.lane.result) got.history c.args.handle.place c.noted-noted.result.did got.view (ap (λ (x : Noted). x.did) n) h.hand h.waits
+    comes_home_inside (view_of c.claim.new.seat) (view_of c.args.seat.now) (Bin c.lane.result) got.history
+    c.args.handle.place c.noted-noted.result.did got.view (ap (λ (x : Noted). x.did) n) h.hand h.waits
 
 pub returns-clause-did : goal.returns-clause-did
 returns-clause-did c =
     let got = c.in-Ok.ensures.got in let put = c.put in let seat = c.requires.seat in
-    let n : c.noted-noted.result ≡ plain (Did.Home c.args.handle.place) = c.noted-noted.ensures ∙ ap (λ p. plain (Did.Home p)) c.place.ensures in
-    subst (λ (x : ℕ × Noted). IsNoted c.args.self.now c.args.seat.now c.note-number.new.seat (Bin x.0) c.note-number.result x.1) (λ i. (c.lane.ensures i, n i))
-    (made c.args.self.now.table.layout (Bin c.lane.result) c.args.seat.now c.claim.new.seat c.in-Ok.section got seat.setting seat.settled c.args.self.now c.note-number.new.seat put.new.section c.note-number.result c.noted-noted.result refl
-    (next c.args.self.now.table.layout c.lane.result c.args.seat.now c.claim.new.seat c.in-Ok.section got seat.setting seat.settled put.new.section (Did.Home c.args.handle.place) put.ensures.same.0 put.ensures.same.1 put.ensures.bin put.ensures.stands c.noted-noted.result n) c.note-number.ensures.number c.note-number.ensures.noted)
+    let n : c.noted-noted.result ≡ plain (Did.Home c.args.handle.place) = c.noted-noted.ensures
+    ∙ ap (λ p. plain (Did.Home p)) c.place.ensures in
+    subst (λ (x : ℕ × Noted). IsNoted c.args.self.now c.args.seat.now c.note-number.new.seat (Bin x.0)
+    c.note-number.result x.1) (λ i. (c.lane.ensures i, n i))
+    (made c.args.self.now.table.layout (Bin c.lane.result) c.args.seat.now c.claim.new.seat c.in-Ok.section got
+    seat.setting seat.settled c.args.self.now c.note-number.new.seat put.new.section c.note-number.result
+    c.noted-noted.result refl
+    (next c.args.self.now.table.layout c.lane.result c.args.seat.now c.claim.new.seat c.in-Ok.section got seat.setting
+    seat.settled put.new.section (Did.Home c.args.handle.place) put.ensures.same.0 put.ensures.same.1
+    put.ensures.bin put.ensures.stands c.noted-noted.result n) c.note-number.ensures.number
+    c.note-number.ensures.noted)

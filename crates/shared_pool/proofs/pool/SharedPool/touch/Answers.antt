@@ -9,18 +9,31 @@ use Rattle.shared_pool.proofs.pool.SharedPool.touch.Goals as goal
 
 pub touch-requires-clause-may : goal.touch-requires-clause-may
 touch-requires-clause-may c =
-    let l = c.args.self.now.table.layout in let root = c.args.root in let got = c.in-Ok.ensures.got in let seat = c.requires.seat in
-    accessible l root c.args.seat.now c.claim_place.new.seat c.in-Ok.section got seat.setting seat.settled (counts_root l root c.args.seat.now c.claim_place.new.seat c.in-Ok.section got c.requires.counts) 0 0 (omega arith)
+    let l = c.args.self.now.table.layout in let root = c.args.root in let got = c.in-Ok.ensures.got in let seat =
+    c.requires.seat in
+    accessible l root c.args.seat.now c.claim_place.new.seat c.in-Ok.section got seat.setting seat.settled
+    (counts_root l root c.args.seat.now c.claim_place.new.seat c.in-Ok.section got c.requires.counts) 0 0
+    (omega arith)
 
 pub note-number-requires-clause-section : goal.note-number-requires-clause-section
 note-number-requires-clause-section c =
-    let l = c.args.self.now.table.layout in let root = c.args.root in let got = c.in-Ok.ensures.got in let seat = c.requires.seat in let call = c.touch in
-    ends l (Root root.place) c.args.seat.now c.claim_place.new.seat c.in-Ok.section got seat.setting seat.settled call.new.section (access root Did.Touch)
-    (accessing l root c.args.seat.now c.claim_place.new.seat c.in-Ok.section call.new.section got seat.setting seat.settled c.lane_of-lane.result Did.Touch (Access.Touch c.lane_of-lane.result) c.requires.counts c.lane_of-lane.ensures.number (λ k. refl) refl refl refl refl call.ensures.same.0 call.ensures.same.1 call.ensures.place call.ensures.did)
+    let l = c.args.self.now.table.layout in let root = c.args.root in let got = c.in-Ok.ensures.got in let seat =
+    c.requires.seat in let call = c.touch in
+    ends l (Root root.place) c.args.seat.now c.claim_place.new.seat c.in-Ok.section got seat.setting seat.settled
+    call.new.section (access root Did.Touch)
+    (accessing l root c.args.seat.now c.claim_place.new.seat c.in-Ok.section call.new.section got seat.setting
+    seat.settled c.lane_of-lane.result Did.Touch (Access.Touch c.lane_of-lane.result) c.requires.counts
+    c.lane_of-lane.ensures.number (λ k. refl) refl refl refl refl call.ensures.same.0 call.ensures.same.1
+    call.ensures.place call.ensures.did)
 
 pub returns-clause-did : goal.returns-clause-did
 returns-clause-did c =
-    let l = c.args.self.now.table.layout in let root = c.args.root in let got = c.in-Ok.ensures.got in let seat = c.requires.seat in let call = c.touch in
-    made l (Root root.place) c.args.seat.now c.claim_place.new.seat c.in-Ok.section got seat.setting seat.settled c.args.self.now c.note-number.new.seat call.new.section c.note-number.result (access root Did.Touch) refl
-    (accessing l root c.args.seat.now c.claim_place.new.seat c.in-Ok.section call.new.section got seat.setting seat.settled c.lane_of-lane.result Did.Touch (Access.Touch c.lane_of-lane.result) c.requires.counts c.lane_of-lane.ensures.number (λ k. refl) refl refl refl refl call.ensures.same.0 call.ensures.same.1 call.ensures.place call.ensures.did)
+    let l = c.args.self.now.table.layout in let root = c.args.root in let got = c.in-Ok.ensures.got in let seat =
+    c.requires.seat in let call = c.touch in
+    made l (Root root.place) c.args.seat.now c.claim_place.new.seat c.in-Ok.section got seat.setting seat.settled
+    c.args.self.now c.note-number.new.seat call.new.section c.note-number.result (access root Did.Touch) refl
+    (accessing l root c.args.seat.now c.claim_place.new.seat c.in-Ok.section call.new.section got seat.setting
+    seat.settled c.lane_of-lane.result Did.Touch (Access.Touch c.lane_of-lane.result) c.requires.counts
+    c.lane_of-lane.ensures.number (λ k. refl) refl refl refl refl call.ensures.same.0 call.ensures.same.1
+    call.ensures.place call.ensures.did)
     c.note-number.ensures.number c.note-number.ensures.noted

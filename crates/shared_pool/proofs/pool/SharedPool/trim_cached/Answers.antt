@@ -22,11 +22,14 @@ trim-quota-requires-clause-no_quota c =
     let got = c.in-Ok.ensures.got in let seat = c.requires.seat in let old = c.args.seat.now in
     let l = c.args.self.now.table.layout in let lane = c.lane_of.result in let class = c.args.class in
     let at = stood l (Cache lane class) old c.claim.new.seat c.in-Ok.section got seat.setting seat.settled in
-    let lt = below (view_of old).own.number seat.lane lane l.shape.lanes seat.number c.lane_of.ensures.number seat.below in
-    cache_has l.shape seat.setting lane class got.history c.in-Ok.section.home (λ q. q.quota ≡ 0) at (is_cache seat.setting got.history lane class c.in-Ok.section.home at)
+    let lt = below (view_of old).own.number seat.lane lane l.shape.lanes seat.number c.lane_of.ensures.number
+    seat.below in
+    cache_has l.shape seat.setting lane class got.history c.in-Ok.section.home (λ q. q.quota ≡ 0) at
+    (is_cache seat.setting got.history lane class c.in-Ok.section.home at)
     (λ q x after is.
     ap (λ y. y.quota) (sym is)
-    ∙ quota_is l lane class (lt, c.requires.class) (view_of old) got.history c.in-Ok.section.home got.learned c.lane_of.ensures.number x after
+    ∙ quota_is l lane class (lt, c.requires.class) (view_of old) got.history c.in-Ok.section.home got.learned
+    c.lane_of.ensures.number x after
     ∙ ap (λ k. quota_left k class (view_of old).own.notes) c.lane_of.ensures.lane
     ∙ c.requires.no_quota)
     got.learned.accepted
@@ -35,9 +38,13 @@ pub note-number-requires-clause-section : goal.note-number-requires-clause-secti
 note-number-requires-clause-section c =
     let got = c.in-Ok.ensures.got in let seat = c.requires.seat in let old = c.args.seat.now in
     let l = c.args.self.now.table.layout in let lane = c.lane_of.result in let class = c.args.class in
-    ends l (Cache lane class) old c.claim.new.seat c.in-Ok.section got seat.setting seat.settled c.trim-quota.new.section c.noted-noted.result
-    (next l lane class old c.claim.new.seat c.in-Ok.section got seat.setting seat.settled c.trim-quota.new.section (Did.Trim c.trim-quota.result) c.trim-quota.ensures.same.0 c.trim-quota.ensures.same.1 c.trim-quota.ensures.cache (refl)
-    (λ m did_is. c.trim-quota.ensures.stands (measures_of l.shape (Cache lane class)) seat.setting got.history m did_is (stood l (Cache lane class) old c.claim.new.seat c.in-Ok.section got seat.setting seat.settled))
+    ends l (Cache lane class) old c.claim.new.seat c.in-Ok.section got seat.setting seat.settled
+    c.trim-quota.new.section c.noted-noted.result
+    (next l lane class old c.claim.new.seat c.in-Ok.section got seat.setting seat.settled c.trim-quota.new.section
+    (Did.Trim c.trim-quota.result) c.trim-quota.ensures.same.0 c.trim-quota.ensures.same.1
+    c.trim-quota.ensures.cache (refl)
+    (λ m did_is. c.trim-quota.ensures.stands (measures_of l.shape (Cache lane class)) seat.setting got.history m did_is
+    (stood l (Cache lane class) old c.claim.new.seat c.in-Ok.section got seat.setting seat.settled))
     c.noted-noted.result (c.noted-noted.ensures))
 
 pub returns-clause-did : goal.returns-clause-did
@@ -45,10 +52,15 @@ returns-clause-did c =
     let got = c.in-Ok.ensures.got in let seat = c.requires.seat in let old = c.args.seat.now in
     let l = c.args.self.now.table.layout in let lane = c.lane_of.result in let class = c.args.class in
     let n : c.noted-noted.result ≡ plain (Did.Trim c.trim-quota.result) = c.noted-noted.ensures in
-    subst (λ (x : ℕ × Noted). IsNoted c.args.self.now old c.note-number.new.seat (Cache x.0 class) c.note-number.result x.1) (λ i. (c.lane_of.ensures.lane i, n i))
-    (made l (Cache lane class) old c.claim.new.seat c.in-Ok.section got seat.setting seat.settled c.args.self.now c.note-number.new.seat c.trim-quota.new.section c.note-number.result c.noted-noted.result refl
-    (next l lane class old c.claim.new.seat c.in-Ok.section got seat.setting seat.settled c.trim-quota.new.section (Did.Trim c.trim-quota.result) c.trim-quota.ensures.same.0 c.trim-quota.ensures.same.1 c.trim-quota.ensures.cache (refl)
-    (λ m did_is. c.trim-quota.ensures.stands (measures_of l.shape (Cache lane class)) seat.setting got.history m did_is (stood l (Cache lane class) old c.claim.new.seat c.in-Ok.section got seat.setting seat.settled))
+    subst (λ (x : ℕ × Noted). IsNoted c.args.self.now old c.note-number.new.seat (Cache x.0 class) c.note-number.result
+    x.1) (λ i. (c.lane_of.ensures.lane i, n i))
+    (made l (Cache lane class) old c.claim.new.seat c.in-Ok.section got seat.setting seat.settled c.args.self.now
+    c.note-number.new.seat c.trim-quota.new.section c.note-number.result c.noted-noted.result refl
+    (next l lane class old c.claim.new.seat c.in-Ok.section got seat.setting seat.settled c.trim-quota.new.section
+    (Did.Trim c.trim-quota.result) c.trim-quota.ensures.same.0 c.trim-quota.ensures.same.1
+    c.trim-quota.ensures.cache (refl)
+    (λ m did_is. c.trim-quota.ensures.stands (measures_of l.shape (Cache lane class)) seat.setting got.history m did_is
+    (stood l (Cache lane class) old c.claim.new.seat c.in-Ok.section got seat.setting seat.settled))
     c.noted-noted.result (n)) c.note-number.ensures.number c.note-number.ensures.noted)
 
 pub returns-clause-bound : goal.returns-clause-bound
@@ -56,8 +68,13 @@ returns-clause-bound c =
     let got = c.in-Ok.ensures.got in let seat = c.requires.seat in let old = c.args.seat.now in
     let l = c.args.self.now.table.layout in let lane = c.lane_of.result in let class = c.args.class in
     let v = view_of old in
-    let follows = next l lane class old c.claim.new.seat c.in-Ok.section got seat.setting seat.settled c.trim-quota.new.section (Did.Trim c.trim-quota.result) c.trim-quota.ensures.same.0 c.trim-quota.ensures.same.1 c.trim-quota.ensures.cache (refl)
-    (λ m did_is. c.trim-quota.ensures.stands (measures_of l.shape (Cache lane class)) seat.setting got.history m did_is (stood l (Cache lane class) old c.claim.new.seat c.in-Ok.section got seat.setting seat.settled))
+    let follows = next l lane class old c.claim.new.seat c.in-Ok.section got seat.setting seat.settled
+    c.trim-quota.new.section (Did.Trim c.trim-quota.result) c.trim-quota.ensures.same.0 c.trim-quota.ensures.same.1
+    c.trim-quota.ensures.cache (refl)
+    (λ m did_is. c.trim-quota.ensures.stands (measures_of l.shape (Cache lane class)) seat.setting got.history m did_is
+    (stood l (Cache lane class) old c.claim.new.seat c.in-Ok.section got seat.setting seat.settled))
     c.noted-noted.result (c.noted-noted.ensures) in
-    subst (λ (k : ℕ). c.trim-quota.result + in_own (gives_of k class) v ≤ in_own (takes_of class) v) c.lane_of.ensures.lane
-    (trim_bound l lane class v got.history c.in-Ok.section.home got.learned c.lane_of.ensures.number c.trim-quota.result (noted_by v.own.number c.noted-noted.result) (ap (λ (x : Noted). x.did) c.noted-noted.ensures) follows.follows)
+    subst (λ (k : ℕ). c.trim-quota.result + in_own (gives_of k class) v ≤ in_own (takes_of class) v)
+    c.lane_of.ensures.lane
+    (trim_bound l lane class v got.history c.in-Ok.section.home got.learned c.lane_of.ensures.number c.trim-quota.result
+    (noted_by v.own.number c.noted-noted.result) (ap (λ (x : Noted). x.did) c.noted-noted.ensures) follows.follows)

@@ -12,27 +12,43 @@ use Rattle.shared_pool.proofs.pool.SharedPool.with_bytes.Goals as goal
 
 pub show-answer-requires-clause-may : goal.show-answer-requires-clause-may
 show-answer-requires-clause-may g c =
-    let l = c.args.self.now.table.layout in let root = c.args.root in let got = c.in-Ok.ensures.got in let seat = c.requires.seat in
-    accessible l root c.args.seat.now c.claim_place.new.seat c.in-Ok.section got seat.setting seat.settled (counts_root l root c.args.seat.now c.claim_place.new.seat c.in-Ok.section got c.requires.counts) c.args.offset c.args.len c.requires.range
+    let l = c.args.self.now.table.layout in let root = c.args.root in let got = c.in-Ok.ensures.got in let seat =
+    c.requires.seat in
+    accessible l root c.args.seat.now c.claim_place.new.seat c.in-Ok.section got seat.setting seat.settled
+    (counts_root l root c.args.seat.now c.claim_place.new.seat c.in-Ok.section got c.requires.counts) c.args.offset
+    c.args.len c.requires.range
 
 pub note_shown-number-requires-clause-section : goal.note_shown-number-requires-clause-section
 note_shown-number-requires-clause-section g c =
-    let l = c.args.self.now.table.layout in let root = c.args.root in let got = c.in-Ok.ensures.got in let seat = c.requires.seat in let call = c.show-answer in
+    let l = c.args.self.now.table.layout in let root = c.args.root in let got = c.in-Ok.ensures.got in let seat =
+    c.requires.seat in let call = c.show-answer in
     let bytes : List ℕ = bytes_at (home_bytes call.new.section.home) c.args.offset c.args.len in
-    ends l (Root root.place) c.args.seat.now c.claim_place.new.seat c.in-Ok.section got seat.setting seat.settled call.new.section (access root (Did.Get c.args.offset bytes))
-    (accessing l root c.args.seat.now c.claim_place.new.seat c.in-Ok.section call.new.section got seat.setting seat.settled c.lane_of-lane.result (Did.Get c.args.offset bytes) (Access.Get c.lane_of-lane.result c.args.offset (length bytes)) c.requires.counts c.lane_of-lane.ensures.number (λ k. refl) refl refl refl refl call.ensures.same.0 call.ensures.same.1 call.ensures.place call.ensures.did)
+    ends l (Root root.place) c.args.seat.now c.claim_place.new.seat c.in-Ok.section got seat.setting seat.settled
+    call.new.section (access root (Did.Get c.args.offset bytes))
+    (accessing l root c.args.seat.now c.claim_place.new.seat c.in-Ok.section call.new.section got seat.setting
+    seat.settled c.lane_of-lane.result (Did.Get c.args.offset bytes)
+    (Access.Get c.lane_of-lane.result c.args.offset (length bytes)) c.requires.counts
+    c.lane_of-lane.ensures.number (λ k. refl) refl refl refl refl call.ensures.same.0 call.ensures.same.1
+    call.ensures.place call.ensures.did)
 
 pub note_shown-number-requires-clause-object : goal.note_shown-number-requires-clause-object
 note_shown-number-requires-clause-object g c = c.show-answer.ensures.same.0 ∙ c.in-Ok.ensures.got.object
 
 pub returns-clause-did : goal.returns-clause-did
 returns-clause-did g c =
-    let l = c.args.self.now.table.layout in let root = c.args.root in let got = c.in-Ok.ensures.got in let seat = c.requires.seat in let call = c.show-answer in
+    let l = c.args.self.now.table.layout in let root = c.args.root in let got = c.in-Ok.ensures.got in let seat =
+    c.requires.seat in let call = c.show-answer in
     let bytes : List ℕ = bytes_at (home_bytes call.new.section.home) c.args.offset c.args.len in (
       bytes,
       call.ensures.len,
       call.ensures.answer,
-      made l (Root root.place) c.args.seat.now c.claim_place.new.seat c.in-Ok.section got seat.setting seat.settled c.args.self.now c.note_shown-number.new.seat call.new.section c.note_shown-number.result (access root (Did.Get c.args.offset bytes)) refl
-          (accessing l root c.args.seat.now c.claim_place.new.seat c.in-Ok.section call.new.section got seat.setting seat.settled c.lane_of-lane.result (Did.Get c.args.offset bytes) (Access.Get c.lane_of-lane.result c.args.offset (length bytes)) c.requires.counts c.lane_of-lane.ensures.number (λ k. refl) refl refl refl refl call.ensures.same.0 call.ensures.same.1 call.ensures.place call.ensures.did)
+      made l (Root root.place) c.args.seat.now c.claim_place.new.seat c.in-Ok.section got seat.setting seat.settled
+          c.args.self.now c.note_shown-number.new.seat call.new.section c.note_shown-number.result
+          (access root (Did.Get c.args.offset bytes)) refl
+          (accessing l root c.args.seat.now c.claim_place.new.seat c.in-Ok.section call.new.section got seat.setting
+          seat.settled c.lane_of-lane.result (Did.Get c.args.offset bytes)
+          (Access.Get c.lane_of-lane.result c.args.offset (length bytes)) c.requires.counts
+          c.lane_of-lane.ensures.number (λ k. refl) refl refl refl refl call.ensures.same.0
+          call.ensures.same.1 call.ensures.place call.ensures.did)
           c.note_shown-number.ensures.number c.note_shown-number.ensures.noted,
     )

@@ -10,24 +10,42 @@ use Rattle.shared_pool.proofs.pool.SharedPool.write.Goals as goal
 
 pub set-requires-clause-may : goal.set-requires-clause-may
 set-requires-clause-may c =
-    let l = c.args.self.now.table.layout in let root = c.args.root in let got = c.in-Ok.ensures.got in let seat = c.requires.seat in
-    accessible l root c.args.seat.now c.claim_place.new.seat c.in-Ok.section got seat.setting seat.settled (counts_root l root c.args.seat.now c.claim_place.new.seat c.in-Ok.section got c.requires.counts) c.args.offset (length c.args.bytes.now) c.requires.range
+    let l = c.args.self.now.table.layout in let root = c.args.root in let got = c.in-Ok.ensures.got in let seat =
+    c.requires.seat in
+    accessible l root c.args.seat.now c.claim_place.new.seat c.in-Ok.section got seat.setting seat.settled
+    (counts_root l root c.args.seat.now c.claim_place.new.seat c.in-Ok.section got c.requires.counts) c.args.offset
+    (length c.args.bytes.now) c.requires.range
 
 pub note_set-number-requires-clause-section : goal.note_set-number-requires-clause-section
 note_set-number-requires-clause-section c =
-    let l = c.args.self.now.table.layout in let root = c.args.root in let got = c.in-Ok.ensures.got in let seat = c.requires.seat in let call = c.set in
-    ends l (Root root.place) c.args.seat.now c.claim_place.new.seat c.in-Ok.section got seat.setting seat.settled call.new.section (access root (Did.Set c.args.offset c.args.bytes.now))
-    (accessing l root c.args.seat.now c.claim_place.new.seat c.in-Ok.section call.new.section got seat.setting seat.settled c.lane_of-lane.result (Did.Set c.args.offset c.args.bytes.now) (Access.Set c.lane_of-lane.result c.args.offset (length c.args.bytes.now)) c.requires.counts c.lane_of-lane.ensures.number (λ k. refl) refl refl refl refl call.ensures.same.0 call.ensures.same.1 call.ensures.place call.ensures.did)
+    let l = c.args.self.now.table.layout in let root = c.args.root in let got = c.in-Ok.ensures.got in let seat =
+    c.requires.seat in let call = c.set in
+    ends l (Root root.place) c.args.seat.now c.claim_place.new.seat c.in-Ok.section got seat.setting seat.settled
+    call.new.section (access root (Did.Set c.args.offset c.args.bytes.now))
+    (accessing l root c.args.seat.now c.claim_place.new.seat c.in-Ok.section call.new.section got seat.setting
+    seat.settled c.lane_of-lane.result (Did.Set c.args.offset c.args.bytes.now)
+    (Access.Set c.lane_of-lane.result c.args.offset (length c.args.bytes.now)) c.requires.counts
+    c.lane_of-lane.ensures.number (λ k. refl) refl refl refl refl call.ensures.same.0 call.ensures.same.1
+    call.ensures.place call.ensures.did)
 
 pub returns-clause-did : goal.returns-clause-did
 returns-clause-did c =
-    let l = c.args.self.now.table.layout in let root = c.args.root in let got = c.in-Ok.ensures.got in let seat = c.requires.seat in let call = c.set in
-    made l (Root root.place) c.args.seat.now c.claim_place.new.seat c.in-Ok.section got seat.setting seat.settled c.args.self.now c.note_set-number.new.seat call.new.section c.note_set-number.result (access root (Did.Set c.args.offset c.args.bytes.now)) refl
-    (accessing l root c.args.seat.now c.claim_place.new.seat c.in-Ok.section call.new.section got seat.setting seat.settled c.lane_of-lane.result (Did.Set c.args.offset c.args.bytes.now) (Access.Set c.lane_of-lane.result c.args.offset (length c.args.bytes.now)) c.requires.counts c.lane_of-lane.ensures.number (λ k. refl) refl refl refl refl call.ensures.same.0 call.ensures.same.1 call.ensures.place call.ensures.did)
+    let l = c.args.self.now.table.layout in let root = c.args.root in let got = c.in-Ok.ensures.got in let seat =
+    c.requires.seat in let call = c.set in
+    made l (Root root.place) c.args.seat.now c.claim_place.new.seat c.in-Ok.section got seat.setting seat.settled
+    c.args.self.now c.note_set-number.new.seat call.new.section c.note_set-number.result
+    (access root (Did.Set c.args.offset c.args.bytes.now)) refl
+    (accessing l root c.args.seat.now c.claim_place.new.seat c.in-Ok.section call.new.section got seat.setting
+    seat.settled c.lane_of-lane.result (Did.Set c.args.offset c.args.bytes.now)
+    (Access.Set c.lane_of-lane.result c.args.offset (length c.args.bytes.now)) c.requires.counts
+    c.lane_of-lane.ensures.number (λ k. refl) refl refl refl refl call.ensures.same.0 call.ensures.same.1
+    call.ensures.place call.ensures.did)
     c.note_set-number.ensures.number c.note_set-number.ensures.noted
 
 pub note_set-number-requires-clause-object : goal.note_set-number-requires-clause-object
 note_set-number-requires-clause-object c = c.set.ensures.same.0 ∙ c.in-Ok.ensures.got.object
 
 pub returns-in-Err-clause-seat : goal.returns-in-Err-clause-seat
-returns-in-Err-clause-seat c = held_seat c.args.self.now (Root c.args.root.place) c.args.mark c.args.seat.now c.claim_place.new.seat c.in-Err.held c.requires.seat c.claim_place.ensures.same c.in-Err.ensures.held
+returns-in-Err-clause-seat c =
+    held_seat c.args.self.now (Root c.args.root.place) c.args.mark c.args.seat.now c.claim_place.new.seat c.in-Err.held
+    c.requires.seat c.claim_place.ensures.same c.in-Err.ensures.held

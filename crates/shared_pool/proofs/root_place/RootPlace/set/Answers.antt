@@ -11,7 +11,11 @@ use Rattle.shared_pool.proofs.root_place.RootPlace.set.Goals as goal
 
 pub returns : goal.returns
 returns c = let lane = c.args.lane in let at = c.args.offset in let r = c.in-Some.root in
-    is_set c.self.inside r c.record.new.self c.args.self.now c.self.view_is c.in-Some.is lane at c.args.bytes.now c.requires
+    is_set c.self.inside r c.record.new.self c.args.self.now c.self.view_is c.in-Some.is lane at c.args.bytes.now
+    c.requires
     (ap root_seen c.record.ensures
-    ∙ ap (λ (q : Root). root_seen (record q { handle = with_tracker q.handle (with_access q.handle.tracker (Access.Set lane at c.count-len.result)) })) c.lay.ensures
-    ∙ ap (λ (k : ℕ). accessed (root_seen r) (laid_over r.piece.bytes at c.args.bytes.now) (Access.Set lane at k)) c.count-len.ensures)
+    ∙ ap (λ (q : Root). root_seen (record q
+    { handle = with_tracker q.handle (with_access q.handle.tracker (Access.Set lane at c.count-len.result)) }))
+    c.lay.ensures
+    ∙ ap (λ (k : ℕ). accessed (root_seen r) (laid_over r.piece.bytes at c.args.bytes.now) (Access.Set lane at k))
+    c.count-len.ensures)

@@ -8,7 +8,10 @@ use Rattle.shared_pool.proofs.tests.rounds.come_home.Goals as goal
 
 pub returns-clause-spends : goal.returns-clause-spends
 returns-clause-spends g c =
-    let pool = c.args.pool.now in let first = c.args.seat.now in let second = c.put_handle.new.seat in let third = c.put_cached.new.seat in let id = c.args.region.id in let h = c.args.handle in let put = c.in-Did-default-Kept.field-1 in
+    let pool = c.args.pool.now in let first = c.args.seat.now in let second = c.put_handle.new.seat in let third =
+    c.put_cached.new.seat in let id =
+    c.args.region.id in let h = c.args.handle in let put = c.in-Did-default-Kept.field-1 in
     spends_both 1 0 1 0 first second third
     (note_costs pool first second (Bin h.lane) c.in-Did.number (plain (Did.Home h.place)) c.in-Did.ensures.did refl)
-    (note_costs pool second third (Cache id.owner id.class) c.in-Did-default-Kept.number (plain (was_put id put)) c.in-Did-default-Kept.ensures.did (put_no_more id put).0)
+    (note_costs pool second third (Cache id.owner id.class) c.in-Did-default-Kept.number (plain (was_put id put))
+    c.in-Did-default-Kept.ensures.did (put_no_more id put).0)

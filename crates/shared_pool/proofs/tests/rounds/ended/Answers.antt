@@ -6,7 +6,8 @@ use Rattle.shared_pool.proofs.tests.rounds.ended.Goals as goal
 
 pub returns-clause-spends : goal.returns-clause-spends
 returns-clause-spends g c =
-    let a = c.args.seat.now in let b = c.retain.new.seat in let d = c.look.new.seat in let e = c.release.new.seat in let f = c.release-2.new.seat in let root = c.args.root in
+    let a = c.args.seat.now in let b = c.retain.new.seat in let d = c.look.new.seat in let e = c.release.new.seat in
+    let f = c.release-2.new.seat in let root = c.args.root in
     spends_both 0 1 0 0 a e f
     (spends_both 0 1 0 0 a d e
     (spends_both 0 1 0 0 a b d

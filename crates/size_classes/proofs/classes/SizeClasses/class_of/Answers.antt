@@ -15,7 +15,8 @@ returns-then-class-count-clause-none c =
     let g = c.args.self.now in
     let h : IsGeometry g = subst IsGeometry c.self.view_is c.self.invariant.geometry in
     let least = c.least_class-class.ensures in
-    let within = class_of-within g h c.args.n c.least_class-class.result (omega (arith, least.few)) least.first (omega arith) in
+    let within = class_of-within g h c.args.n c.least_class-class.result (omega (arith, least.few)) least.first
+    (omega arith) in
     (λ e. absurd (cc e), λ above. absurd (omega (arith, within, above)))
 
 pub returns-else-class-count-clause-class : goal.returns-else-class-count-clause-class
@@ -30,5 +31,6 @@ returns-else-class-count-clause-none c =
     let g = c.args.self.now in
     let h : IsGeometry g = subst IsGeometry c.self.view_is c.self.invariant.geometry in
     let least = c.least_class-class.ensures in
-    let above = class_of-above g h c.args.n c.least_class-class.result (omega (arith, least.few)) least.first (omega arith) in
+    let above = class_of-above g h c.args.n c.least_class-class.result (omega (arith, least.few)) least.first
+    (omega arith) in
     (λ _. above, λ _. refl)

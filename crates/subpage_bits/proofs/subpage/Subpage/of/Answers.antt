@@ -26,5 +26,17 @@ pub returns : goal.returns
 returns c =
     let n = c.args.size in
     let k = length c.args.run.bytes / n in
-    ap (λ (r : Racked). record { origin = r.origin; start = r.start; size = r.each; elements = record { out = map cell_out r.cells; remembered = None } }) c.of.ensures
-    ∙ ap (λ (l : List Bool). record { origin = c.args.run.origin; start = c.args.run.start; size = n; elements = record { out = l; remembered = None } }) (flags_new n k c.args.run.bytes)
+    ap (λ (r : Racked). record {
+      origin = r.origin;
+      start = r.start;
+      size = r.each;
+      elements =
+          record { out = map cell_out r.cells; remembered = None };
+    }) c.of.ensures
+    ∙ ap (λ (l : List Bool). record {
+      origin = c.args.run.origin;
+      start = c.args.run.start;
+      size = n;
+      elements =
+          record { out = l; remembered = None };
+    }) (flags_new n k c.args.run.bytes)
