@@ -32,7 +32,8 @@ longer text rest left e h =
     rw e (let long : length (text ++ rest) ≡ length text + length rest = length-append text rest in omega arith)
 
 -- of a long text no more is read than shows that it is long
-same_reading : (words : Options) (left : List ℕ) (new : Option (List ℕ)) (text : List ℕ) → ReadsText (Some left) new text
+same_reading : (words : Options) (left : List ℕ) (new : Option (List ℕ)) (text : List ℕ)
+    → ReadsText (Some left) new text
     → reading_for words text ≡ reading_for words left
 same_reading words left None text h = absurd h.bytes
 same_reading words left (Some rest) text h = elim (cases_lt text_limit (length text)) [
@@ -64,7 +65,8 @@ same_options words options origin h e =
     cc
 
 -- so a text has one reading beside words
-read_as : (words : List (List ℕ)) (src : SourceSpan) (text : List ℕ) (options : RunOptions) (was : IsRead words src text)
+read_as : (words : List (List ℕ)) (src : SourceSpan) (text : List ℕ) (options : RunOptions)
+    (was : IsRead words src text)
     (r : Result Accepted TraceNo) → options_of words ≡ Some options
     → reading_for was.words_are.options.pool text ≡ r → reading_for options.pool text ≡ r
 read_as words src text options was r formed e =
@@ -78,7 +80,8 @@ at_origin words options origin h e =
     ap (λ (p : RunOptions). p.origin) (same_options words options origin h e) ∙ h.origin_is
 
 -- what is said of options is said for their origin
-for_origin : (words : List (List ℕ)) (s : Status) (o : Outcome) (options : RunOptions) (src : SourceSpan) (out : SinkSpan)
+for_origin : (words : List (List ℕ)) (s : Status) (o : Outcome) (options : RunOptions) (src : SourceSpan)
+    (out : SinkSpan)
     (origin : Origin) → HaveOrigin words origin → options_of words ≡ Some options → ExplainsOptions s o options src out
     → ExplainsOrigin origin s o options src out
 unfolding ExplainsOptions
@@ -103,9 +106,10 @@ by_source : (s : Status) (o : Outcome) (options : RunOptions) (src : SourceSpan)
     (accepted : Accepted) → ExplainsSource s o options src out → src.left ≡ Some text
     → (Rose src.faults src.faults_then → ⊥) → reading_for options.pool text ≡ Ok accepted → IsTaken out → IsDone s
 unfolding ExplainsSource ExplainsText
-by_source ReadFault o options src out text accepted (bare, unwritten, rose) told faults here taken = absurd (faults rose)
+by_source ReadFault o options src out text accepted (bare, unwritten, rose) told faults here taken =
+    absurd (faults rose)
 by_source Memory o options src out text accepted e told faults here taken = inr (inr refl)
-by_source Trace o options src out text accepted (was, (reads, same, (why, (refused, is, unwritten)))) told faults here taken =
+by_source Trace o options src out text accepted (was, (reads, same, (why, (refused, rest)))) told faults here taken =
     let both = told_reading options.pool _ _ _ _ told reads ∙ here in
     absurd (not_both (reading_for options.pool was) accepted why both refused)
 by_source Words o options src out text accepted (was, (reads, same, (found, (there, e)))) told faults here taken =
@@ -116,7 +120,8 @@ by_source Whole o options src out text accepted e told faults here taken = inl r
 by_source Leaks o options src out text accepted e told faults here taken = inr (inl refl)
 
 -- of a trace that is read
-by_options : (s : Status) (o : Outcome) (words : List (List ℕ)) (options : RunOptions) (src : SourceSpan) (out : SinkSpan)
+by_options : (s : Status) (o : Outcome) (words : List (List ℕ)) (options : RunOptions) (src : SourceSpan)
+    (out : SinkSpan)
     → options_of words ≡ Some options → ExplainsOptions s o options src out → (text : List ℕ) (accepted : Accepted)
     (was : IsRead words src text) → reading_for was.words_are.options.pool text ≡ Ok accepted → IsTaken out → IsDone s
 by_options s o words options src out formed e text accepted was here taken =
@@ -170,7 +175,7 @@ refused_source : (s : Status) (o : Outcome) (options : RunOptions) (src : Source
 unfolding ExplainsSource ExplainsText
 refused_source ReadFault o options src out text why (bare, unwritten, rose) told faults refused = absurd (faults rose)
 refused_source Memory o options src out text why e told faults refused = inr refl
-refused_source Trace o options src out text why (was, (reads, same, (found, (there, is, unwritten)))) told faults refused =
+refused_source Trace o options src out text why (was, (reads, same, (found, (there, is, rest)))) told faults refused =
     let here = told_reading options.pool _ _ _ _ told reads ∙ refused in
     let same_why : found ≡ why = one_refusal (reading_for options.pool was) found why there here in
     inl (refl, is.refusal ∙ ap Some same_why)

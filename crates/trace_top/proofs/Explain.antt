@@ -15,7 +15,8 @@ use Rattle.trace_top.specs.Words.{options_of}
 use Rattle.trace_top.specs.Outcomes.{SourceSpan, SinkSpan, IsUnread, Explains, ExplainsOptions, ExplainsOrigin, ExplainsGenerated, ExplainsSource, ExplainsText, ExplainsRun}
 
 pub of_run : (s : Status) (o : Outcome) (options : RunOptions) (text : List ℕ) (accepted : Accepted) (out : SinkSpan)
-    → reading_for options.pool text ≡ Ok accepted → ExplainsRun s o options accepted out → ExplainsText s o options text out
+    → reading_for options.pool text ≡ Ok accepted → ExplainsRun s o options accepted out
+    → ExplainsText s o options text out
 unfolding ExplainsText ExplainsRun
 of_run Whole o options text accepted out is e = (accepted, (is, e))
 of_run Leaks o options text accepted out is e = (accepted, (is, e))
@@ -53,10 +54,12 @@ pub unread : (left : Option (List ℕ)) (faults : ℕ)
 unread left faults = record { left = kept_as_is left; faults = refl }
 
 -- the trace is generated
-pub of_generated : (s : Status) (o : Outcome) (options : RunOptions) (g : Generation) (src : SourceSpan) (out : SinkSpan)
+pub of_generated : (s : Status) (o : Outcome) (options : RunOptions) (g : Generation) (src : SourceSpan)
+    (out : SinkSpan)
     → options.origin ≡ Generated g → ExplainsGenerated s o options g src out → ExplainsOptions s o options src out
 unfolding ExplainsOptions
-of_generated s o options g src out is e = subst (λ (origin : Origin). ExplainsOrigin origin s o options src out) (sym is) e
+of_generated s o options g src out is e =
+    subst (λ (origin : Origin). ExplainsOrigin origin s o options src out) (sym is) e
 
 -- words that have a form have another status
 never_words : (origin : Origin) (o : Outcome) (options : RunOptions) (src : SourceSpan) (out : SinkSpan)
@@ -65,7 +68,8 @@ unfolding ExplainsSource ExplainsText ExplainsRun
 never_words Source o options src out (text, (reads, same, (accepted, (is, never)))) = never
 never_words (Generated g) o options src out (unread, never) = never
 
-pub of_options : (s : Status) (o : Outcome) (words : List (List ℕ)) (options : RunOptions) (src : SourceSpan) (out : SinkSpan)
+pub of_options : (s : Status) (o : Outcome) (words : List (List ℕ)) (options : RunOptions) (src : SourceSpan)
+    (out : SinkSpan)
     → options_of words ≡ Some options → ExplainsOptions s o options src out → Explains s o words src out
 unfolding Explains ExplainsOptions
 of_options Whole o words options src out formed e = (options, (formed, e))

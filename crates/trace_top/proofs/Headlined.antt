@@ -17,7 +17,8 @@ none_is : (run : Option Run) → run ≡ None → IfSome run Headline
 none_is run is = subst (λ (r : Option Run). IfSome r Headline) (sym is) tt
 
 played : (o : Outcome) (accepted : Accepted) (run : Run) → HasRun o accepted run → IfSome o.run Headline
-played o accepted run has = subst (λ (r : Option Run). IfSome r Headline) (sym has.run) (headline-holds run has.played_is.legal)
+played o accepted run has =
+    subst (λ (r : Option Run). IfSome r Headline) (sym has.run) (headline-holds run has.played_is.legal)
 
 -- of a trace that is run
 by_run : (s : Status) (o : Outcome) (options : RunOptions) (accepted : Accepted) (out : SinkSpan)
@@ -39,7 +40,8 @@ by_source ReadFault o options src out (bare, unwritten, rose) = none_is o.run ba
 by_source Memory o options src out (bare, unwritten, same) = none_is o.run bare.run
 by_source Trace o options src out (text, (reads, same, (why, (refused, is, unwritten)))) = none_is o.run is.run
 by_source Words o options src out (text, (reads, same, (accepted, (is, e)))) = by_run Words o options accepted out e
-by_source WriteFault o options src out (text, (reads, same, (accepted, (is, e)))) = by_run WriteFault o options accepted out e
+by_source WriteFault o options src out (text, (reads, same, (accepted, (is, e)))) =
+    by_run WriteFault o options accepted out e
 by_source Whole o options src out (text, (reads, same, (accepted, (is, e)))) = by_run Whole o options accepted out e
 by_source Leaks o options src out (text, (reads, same, (accepted, (is, e)))) = by_run Leaks o options accepted out e
 

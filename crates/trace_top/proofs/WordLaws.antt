@@ -1,13 +1,12 @@
 -- What the words give and ask for, from the first word on.
-use Rattle.std.proofs.Common.{◌≡◌, ℕ, ◌<◌, ◌≤◌, List, [], ◌∷◌, length, refl, true, false, Bool, arith, Some, None, sym, ap, subst}
-use Rattle.std.specs.Prelude.{Option, IfSome, if◌then◌else◌, ◌&&◌, option_map, option_and_then}
+use Rattle.std.proofs.Common.{◌≡◌, ℕ, ◌<◌, ◌≤◌, List, [], ◌∷◌, length, refl, true, false, Bool, arith, Some, None, sym, ap}
+use Rattle.std.specs.Prelude.{Option, if◌then◌else◌, ◌&&◌, option_map, option_and_then}
 use Rattle.std.proofs.lemmas.Bool.Decides.{nat_tests}
 use Rattle.trace_top.specs.declared.settings.Setting.{Setting}
-use Rattle.trace_top.specs.declared.settings.Setting.TheVariants.{Order, Arenas, Chunks, Handles, Workers, Interval, Generate, Lanes, Commands}
-use Rattle.trace_top.specs.declared.words.Given.{Given}
-use Rattle.trace_top.specs.declared.words.Asked.{Asked}
+use Rattle.trace_top.specs.declared.asked.Given.{Given}
+use Rattle.trace_top.specs.declared.asked.Asked.{Asked}
 use Rattle.trace_top.specs.Settings.{RowData, is_within, number_for, row_of}
-use Rattle.trace_top.specs.Words.{AreWithin, IsInRange, asked_from, asked_with, before, first_given, given_alone, given_by, givens_in, is_whole, with_given}
+use Rattle.trace_top.specs.Words.{IsInRange, asked_from, asked_with, before, first_given, given_alone, given_by, givens_in, is_whole, with_given}
 
 -- what is asked for with all words that are left
 abbrev pub asked_in : Asked → List (List ℕ) → Option Asked

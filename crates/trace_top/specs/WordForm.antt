@@ -5,8 +5,8 @@ use Rattle.std.specs.Str.Parse.{digits_value}
 use Rattle.pool_law.specs.declared.run.Level.{Level}
 use Rattle.trace_text.specs.Options.{level_word}
 use Rattle.trace_top.specs.declared.settings.Setting.{Setting}
-use Rattle.trace_top.specs.declared.words.Given.{Given}
-use Rattle.trace_top.specs.declared.words.Given.TheVariants as givens
+use Rattle.trace_top.specs.declared.asked.Given.{Given}
+use Rattle.trace_top.specs.declared.asked.Given.TheVariants as givens
 use Rattle.trace_top.specs.declared.words.RunOptions.{RunOptions}
 use Rattle.trace_top.specs.Settings.{history_name, is_numeral, level_name, row_of}
 use Rattle.trace_top.specs.Words.{options_given}

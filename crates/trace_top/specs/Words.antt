@@ -1,5 +1,5 @@
 -- The words of the command line.
-use Rattle.std.specs.Prelude.{⊤, ℕ, ◌*◌, ◌≤◌, nat_le, nat_lt, ◌==◌, ◌||◌, ◌&&◌, Bool, true, false, not, if◌then◌else◌, List, [], ◌∷◌, length, Option, Some, None, IfSome, is_some, is_none, unwrap_or, option_map, option_and_then}
+use Rattle.std.specs.Prelude.{⊤, ℕ, ◌*◌, ◌≤◌, nat_le, nat_lt, ◌==◌, ◌||◌, ◌&&◌, Bool, true, false, not, if◌then◌else◌, List, [], ◌∷◌, length, Option, Some, None, IfSome, is_some, is_none, option_map, option_and_then}
 use Rattle.std.specs.List.{position_or_len, before_first, after_first}
 use Rattle.std.specs.Option.{option_map_or}
 use Rattle.std.specs.Str.{bytes_eq}
@@ -7,9 +7,9 @@ use Rattle.pool_law.specs.declared.run.Options.{Options}
 use Rattle.trace_text.specs.Options.{level_named}
 use Rattle.trace_top.specs.declared.settings.Setting.{Setting}
 use Rattle.trace_top.specs.declared.settings.Setting.TheVariants.{Order, Arenas, Chunks, Handles, Workers, Interval, Generate, Lanes, Commands}
-use Rattle.trace_top.specs.declared.words.Given.{Given}
-use Rattle.trace_top.specs.declared.words.Given.TheVariants as givens
-use Rattle.trace_top.specs.declared.words.Asked.{Asked}
+use Rattle.trace_top.specs.declared.asked.Given.{Given}
+use Rattle.trace_top.specs.declared.asked.Given.TheVariants as givens
+use Rattle.trace_top.specs.declared.asked.Asked.{Asked}
 use Rattle.trace_top.specs.declared.words.Generation.{Generation}
 use Rattle.trace_top.specs.declared.words.RunOptions.{RunOptions}
 use Rattle.trace_top.specs.declared.words.Origin.{Origin}

@@ -13,6 +13,7 @@ use std::alloc::{AllocError, Global};
 
 // How many caches a lane has, and how many asks it sweeps them behind.
 const CACHES: u64 = CACHED_CLASSES as u64;
+
 const SWEEP_PERIOD: u64 = 8192;
 
 /// The layout of a pool for these lanes.

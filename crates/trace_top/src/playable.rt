@@ -1,5 +1,5 @@
 //! Which traces are played until lanes make composites: those without any.
-ghost use Rattle.std.specs.Prelude.{◌≡◌, ℕ, ◌≤◌, All, IfOk, length};
+ghost use Rattle.std.specs.Prelude.{◌≡◌, ◌≤◌, All, IfOk, length};
 ghost use Rattle.lane_core.specs.Opened.{IsPlain};
 ghost use Rattle.pool_law.specs.Traces.{AreLanes};
 ghost use Rattle.trace_text.specs.Options.{AreOptions};

@@ -1,7 +1,5 @@
 //! What the words and a trace ask of the pool, and the pool that this gives.
 ghost use Rattle.std.specs.Prelude.{◌≡◌, ◌≤◌, true};
-ghost use Rattle.size_classes.specs.Sizes.{IsPage};
-ghost use Rattle.pool_law.specs.Traces.{AreLanes};
 ghost use Rattle.trace_text.specs.Options.{AreOptions};
 ghost use Rattle.trace_top.specs.Pools.{AreSound, all_chunk_bytes, bytes_of_chunk, is_within_memory, or_default, over, shape_of};
 ghost use Rattle.trace_top.specs.Settings.{row_of};

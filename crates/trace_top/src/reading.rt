@@ -1,10 +1,10 @@
 //! A text beside words: its trace, and the pool that both ask for.
-ghost use Rattle.std.specs.Prelude.{◌≡◌, ◌≤◌, All, IfOk, length};
+ghost use Rattle.std.specs.Prelude.{◌≤◌, All, IfOk, length};
 ghost use Rattle.lane_core.specs.Opened.{IsPlain};
 ghost use Rattle.pool_law.specs.Traces.{AreLanes};
 ghost use Rattle.trace_text.specs.Options.{AreOptions};
 ghost use Rattle.trace_text.specs.Reading.{Gives};
-ghost use Rattle.trace_top.specs.Pools.{AreSound, reading_for, within_bounds};
+ghost use Rattle.trace_top.specs.Pools.{AreSound, reading_for};
 
 use crate::playable::read_playable;
 use crate::pools::{is_within_memory, over};

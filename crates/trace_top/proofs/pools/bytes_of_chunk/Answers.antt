@@ -1,4 +1,4 @@
-use Rattle.std.proofs.Common.{◌≡◌, ◌*◌, ◌^◌, ◌≤◌, arith}
+use Rattle.std.proofs.Common.{◌*◌, ◌^◌, ◌≤◌, arith}
 use Rattle.trace_top.proofs.PoolLaws.{chunk_most}
 use Rattle.trace_top.proofs.pools.bytes_of_chunk.Goals as goal
 
