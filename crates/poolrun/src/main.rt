@@ -20,6 +20,8 @@ mod rows;
 mod sweeps;
 #[cfg(test)]
 mod tests;
+#[cfg(test)]
+mod versions;
 
 fn main(rt: HostRuntime) -> ExitCode {
     let outcome = match words(&rt) {

@@ -7,10 +7,10 @@ use std::thread::Threads;
 use trace_top::{SafeSink, SafeSource, Status, line_of};
 
 /// Words, a trace, its status, and its text.
-type Row = (&'static str, &'static str, Status, &'static str);
+pub(crate) type Row = (&'static str, &'static str, Status, &'static str);
 
 // Runs each row, and compares its status and its text.
-fn expect<R: Threads + Wait + Sync + AllocGlobal + Abort>(
+pub(crate) fn expect<R: Threads + Wait + Sync + AllocGlobal + Abort>(
     rt: &R,
     rows: &[Row],
 ) -> Result<(), Fail> {

@@ -11,13 +11,16 @@ use Rattle.std.proofs.lemmas.List.{drop_all, take_all, drop-drop, take-append-dr
 
 -- the front of a buffer into which a part was copied
 pub front_copied : (part rest : List ℕ) (n : ℕ) → length part ≡ n → take n (part ++ rest) ≡ part
-front_copied part rest n e = let front : take (length part) (part ++ rest) ≡ part = take-append_seam part rest in rw e at front
+front_copied part rest n e =
+    let front : take (length part) (part ++ rest) ≡ part = take-append_seam part rest in
+    rw e at front
 
 -- what was left is the part, and what is left then
 pub read_is : (xs part rest : List ℕ) (at n : ℕ) → part ≡ take n (drop at xs) → length part ≡ n
     → drop at xs ≡ take n (part ++ rest) ++ drop (at + n) xs
 read_is xs part rest at n e long =
-    rw (front_copied part rest n long, e) (sym (ap (λ (ys : List ℕ). take n (drop at xs) ++ ys) (sym (drop-drop n at xs)) ∙ take-append-drop n (drop at xs)))
+    rw (front_copied part rest n long, e)
+    (sym (ap (λ (ys : List ℕ). take n (drop at xs) ++ ys) (sym (drop-drop n at xs)) ∙ take-append-drop n (drop at xs)))
 
 pub nothing_left : (xs : List ℕ) (at : ℕ) → length xs ≤ at → drop at xs ≡ []
 nothing_left xs at h = drop_all at xs h
@@ -31,7 +34,8 @@ pub front_more : (text : List ℕ) (at n : ℕ) → at ≤ length text
 front_more text at n h =
     let whole : take at text ++ drop at text ≡ text = take-append-drop at text in
     let long : length (take at text) ≡ at = omega (arith, length-take at text) in
-    let joined : take (length (take at text) + n) (take at text ++ drop at text) ≡ take at text ++ take n (drop at text) = take-append-add (take at text) (drop at text) n in
+    let joined : take (length (take at text) + n) (take at text ++ drop at text)
+    ≡ take at text ++ take n (drop at text) = take-append-add (take at text) (drop at text) n in
     rw (rest_is text at) (sym (rw (whole, long) at joined))
 
 -- more of a text was appended

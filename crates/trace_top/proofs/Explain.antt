@@ -2,31 +2,31 @@
 use Rattle.std.proofs.Common.{◌≡◌, ℕ, List, None, Some, refl, sym, subst}
 use Rattle.std.specs.Prelude.{Ok, Option}
 use Rattle.std.specs.Io.KnownBytes.{Keeps}
-use Rattle.pool_law.specs.declared.command.Command.{Command}
-use Rattle.trace_top.specs.Playable.{reading_of}
 use Rattle.trace_top.specs.declared.answer.Status.{Status}
 use Rattle.trace_top.specs.declared.answer.Status.TheVariants.{Whole, Leaks, Words, Trace, ReadFault, WriteFault, Memory}
 use Rattle.trace_top.specs.declared.answer.Outcome.{Outcome}
 use Rattle.trace_top.specs.declared.words.Generation.{Generation}
-use Rattle.trace_top.specs.declared.words.Options.{Options}
+use Rattle.trace_top.specs.declared.words.RunOptions.{RunOptions}
 use Rattle.trace_top.specs.declared.words.Origin.{Origin}
 use Rattle.trace_top.specs.declared.words.Origin.TheVariants.{Source, Generated}
 use Rattle.trace_top.specs.Transfer.{ReadsText}
+use Rattle.trace_top.specs.Pools.{Accepted, reading_for}
 use Rattle.trace_top.specs.Words.{options_of}
 use Rattle.trace_top.specs.Outcomes.{SourceSpan, SinkSpan, IsUnread, Explains, ExplainsOptions, ExplainsOrigin, ExplainsGenerated, ExplainsSource, ExplainsText, ExplainsRun}
 
-pub of_run : (s : Status) (o : Outcome) (options : Options) (text : List ℕ) (lanes : List (List Command)) (out : SinkSpan)
-    → reading_of text ≡ Ok lanes → ExplainsRun s o options lanes out → ExplainsText s o options text out
+pub of_run : (s : Status) (o : Outcome) (options : RunOptions) (text : List ℕ) (accepted : Accepted) (out : SinkSpan)
+    → reading_for options.pool text ≡ Ok accepted → ExplainsRun s o options accepted out
+    → ExplainsText s o options text out
 unfolding ExplainsText ExplainsRun
-of_run Whole o options text lanes out accepted e = (lanes, (accepted, e))
-of_run Leaks o options text lanes out accepted e = (lanes, (accepted, e))
-of_run Words o options text lanes out accepted e = (lanes, (accepted, e))
-of_run Trace o options text lanes out accepted e = absurd e
-of_run ReadFault o options text lanes out accepted e = (lanes, (accepted, e))
-of_run WriteFault o options text lanes out accepted e = (lanes, (accepted, e))
-of_run Memory o options text lanes out accepted e = e
+of_run Whole o options text accepted out is e = (accepted, (is, e))
+of_run Leaks o options text accepted out is e = (accepted, (is, e))
+of_run Words o options text accepted out is e = (accepted, (is, e))
+of_run Trace o options text accepted out is e = absurd e
+of_run ReadFault o options text accepted out is e = (accepted, (is, e))
+of_run WriteFault o options text accepted out is e = (accepted, (is, e))
+of_run Memory o options text accepted out is e = e
 
-pub of_text : (s : Status) (o : Outcome) (options : Options) (text : List ℕ) (src : SourceSpan) (out : SinkSpan)
+pub of_text : (s : Status) (o : Outcome) (options : RunOptions) (text : List ℕ) (src : SourceSpan) (out : SinkSpan)
     → ReadsText src.left src.left_then text → src.faults_then ≡ src.faults → ExplainsText s o options text out
     → ExplainsSource s o options src out
 unfolding ExplainsSource ExplainsText ExplainsRun
@@ -34,12 +34,12 @@ of_text Whole o options text src out reads same e = (text, (reads, same, e))
 of_text Leaks o options text src out reads same e = (text, (reads, same, e))
 of_text Words o options text src out reads same e = (text, (reads, same, e))
 of_text Trace o options text src out reads same e = (text, (reads, same, e))
-of_text ReadFault o options text src out reads same (lanes, (accepted, never)) = absurd never
+of_text ReadFault o options text src out reads same (accepted, (is, never)) = absurd never
 of_text WriteFault o options text src out reads same e = (text, (reads, same, e))
 of_text Memory o options text src out reads same (bare, unwritten) = (bare, unwritten, same)
 
 -- the trace is read from the source
-pub of_source : (s : Status) (o : Outcome) (options : Options) (src : SourceSpan) (out : SinkSpan)
+pub of_source : (s : Status) (o : Outcome) (options : RunOptions) (src : SourceSpan) (out : SinkSpan)
     → options.origin ≡ Source → ExplainsSource s o options src out → ExplainsOptions s o options src out
 unfolding ExplainsOptions
 of_source s o options src out is e = subst (λ (origin : Origin). ExplainsOrigin origin s o options src out) (sym is) e
@@ -54,19 +54,22 @@ pub unread : (left : Option (List ℕ)) (faults : ℕ)
 unread left faults = record { left = kept_as_is left; faults = refl }
 
 -- the trace is generated
-pub of_generated : (s : Status) (o : Outcome) (options : Options) (g : Generation) (src : SourceSpan) (out : SinkSpan)
+pub of_generated : (s : Status) (o : Outcome) (options : RunOptions) (g : Generation) (src : SourceSpan)
+    (out : SinkSpan)
     → options.origin ≡ Generated g → ExplainsGenerated s o options g src out → ExplainsOptions s o options src out
 unfolding ExplainsOptions
-of_generated s o options g src out is e = subst (λ (origin : Origin). ExplainsOrigin origin s o options src out) (sym is) e
+of_generated s o options g src out is e =
+    subst (λ (origin : Origin). ExplainsOrigin origin s o options src out) (sym is) e
 
 -- words that have a form have another status
-never_words : (origin : Origin) (o : Outcome) (options : Options) (src : SourceSpan) (out : SinkSpan)
+never_words : (origin : Origin) (o : Outcome) (options : RunOptions) (src : SourceSpan) (out : SinkSpan)
     → ExplainsOrigin origin Words o options src out → ⊥
 unfolding ExplainsSource ExplainsText ExplainsRun
-never_words Source o options src out (text, (reads, same, (lanes, (accepted, never)))) = never
+never_words Source o options src out (text, (reads, same, (accepted, (is, never)))) = never
 never_words (Generated g) o options src out (unread, never) = never
 
-pub of_options : (s : Status) (o : Outcome) (words : List (List ℕ)) (options : Options) (src : SourceSpan) (out : SinkSpan)
+pub of_options : (s : Status) (o : Outcome) (words : List (List ℕ)) (options : RunOptions) (src : SourceSpan)
+    (out : SinkSpan)
     → options_of words ≡ Some options → ExplainsOptions s o options src out → Explains s o words src out
 unfolding Explains ExplainsOptions
 of_options Whole o words options src out formed e = (options, (formed, e))

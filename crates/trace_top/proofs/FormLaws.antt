@@ -12,10 +12,11 @@ use Rattle.pool_law.specs.declared.run.Level.{Level}
 use Rattle.pool_law.specs.declared.run.Level.TheVariants.{Disabled, Simple, Advanced, Paranoid}
 use Rattle.trace_top.specs.declared.settings.Setting.{Setting}
 use Rattle.trace_top.specs.declared.settings.Setting.TheVariants.{Order, Arenas, Chunks, Handles, Workers, Interval, Generate, Lanes, Commands}
-use Rattle.trace_top.specs.declared.words.Given.{Given}
-use Rattle.trace_top.specs.declared.words.Given.TheVariants as givens
-use Rattle.trace_top.specs.declared.words.Options.{Options}
-use Rattle.trace_top.specs.Settings.{history_name, is_numeral, is_within, level_name, level_named, level_word, levels, named, number_for, row_of, settings}
+use Rattle.trace_top.specs.declared.asked.Given.{Given}
+use Rattle.trace_top.specs.declared.asked.Given.TheVariants as givens
+use Rattle.trace_top.specs.declared.words.RunOptions.{RunOptions}
+use Rattle.trace_text.specs.Options.{level_named, level_word, levels}
+use Rattle.trace_top.specs.Settings.{history_name, is_numeral, is_within, level_name, named, number_for, row_of, settings}
 use Rattle.trace_top.specs.Words.{given_alone, given_by, givens_in, has_sign, is_flag, is_sign, is_whole, level_given, number_given, options_given, options_of, with_given}
 use Rattle.trace_top.proofs.WordLaws.{inside, kept}
 use Rattle.trace_top.specs.WordForm.{HasForm, IsNumberFor, IsValued, OfHistory, OfLevel, OfNumber, Written, given_of, name_and_value, words_of}
@@ -159,7 +160,8 @@ first_back : (w : Written) (rest : List (List ℕ)) (gs : List Given) → IsValu
     → givens_in (words_of w ++ rest) ≡ Some (given_of w ∷ gs)
 unfolding is_whole given_alone
 first_back (OfNumber s value in_one) rest gs valued there =
-    valued_back (Some s) value in_one rest (givens.Number s (digits_value 10 value)) gs (number_back s value valued) there
+    valued_back (Some s) value in_one rest (givens.Number s (digits_value 10 value)) gs (number_back s value valued)
+    there
 first_back (OfLevel l in_one) rest gs valued there =
     valued_back None (level_word l) in_one rest (givens.Level l) gs (level_back l) there
 first_back OfHistory rest gs valued there = givens_one history_name rest refl ∙ rw there refl
@@ -168,7 +170,8 @@ pub read_back : (ws : List Written) → All IsValued ws → givens_in (flat_map 
 unfolding givens_in
 read_back [] h = refl
 read_back (w ∷ ws) h =
-    first_back w (flat_map words_of ws) (map given_of ws) (All-head IsValued w ws h) (read_back ws (All-tail IsValued w ws h))
+    first_back w (flat_map words_of ws) (map given_of ws) (All-head IsValued w ws h)
+    (read_back ws (All-tail IsValued w ws h))
 
 -- ---- what is read is written
 
@@ -246,7 +249,8 @@ reads_by_level n text g in_one is e =
     elim (level_named text) as (λ (o : Option Level). level_named text ≡ o
     → option_map (λ l. givens.Level l) o ≡ Some g → Reads n text g in_one) [
       | None ↦ λ has f. absurd (none_some g f)
-      | Some l ↦ λ has f. subst (λ (x : Given). Reads n text x in_one) (same_some _ g f) (reads_level n text l in_one is has)
+      | Some l ↦ λ has f. subst (λ (x : Given). Reads n text x in_one) (same_some _ g f)
+          (reads_level n text l in_one is has)
     ] refl e
 
 reads : (n text : List ℕ) (g : Given) (in_one : Bool) → given_by n text ≡ Some g → Reads n text g in_one
@@ -343,7 +347,8 @@ two_first : (word next : List ℕ) (rest : List (List ℕ)) (others : Option (Li
 two_first word next rest others gs e more =
     let s = splits (given_by word next) others gs e in
     let words : List (List ℕ) = word ∷ next ∷ rest in
-    subst (Spells words) s.all (valued_first word next false words rest s.first s.rest refl s.here (more s.rest s.there))
+    subst (Spells words) s.all
+    (valued_first word next false words rest s.first s.rest refl s.here (more s.rest s.there))
 
 pub spelled : (words : List (List ℕ)) (gs : List Given) → givens_in words ≡ Some gs → Spells words gs
 unfolding givens_in
@@ -366,7 +371,7 @@ spelled (word ∷ next ∷ words) gs e =
 
 -- ---- both ways
 
-pub form_from : (words : List (List ℕ)) (options : Options) → options_of words ≡ Some options → HasForm words options
+pub form_from : (words : List (List ℕ)) (options : RunOptions) → options_of words ≡ Some options → HasForm words options
 unfolding options_of
 form_from words options e =
     elim (givens_in words) as (λ (gs : Option (List Given)). givens_in words ≡ gs
@@ -377,6 +382,6 @@ form_from words options e =
           record { written = s.written; spelling = s.spelling; values = s.values; asked = rw s.giving f }
     ] refl e
 
-pub form_to : (words : List (List ℕ)) (options : Options) → HasForm words options → options_of words ≡ Some options
+pub form_to : (words : List (List ℕ)) (options : RunOptions) → HasForm words options → options_of words ≡ Some options
 unfolding options_of
 form_to words options h = rw (h.spelling, read_back h.written h.values) h.asked

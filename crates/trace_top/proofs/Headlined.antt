@@ -1,49 +1,51 @@
 -- What a run gives, where there is one.
 use Rattle.std.proofs.Common.{◌≡◌, ℕ, List, None, sym, subst}
 use Rattle.std.specs.Prelude.{Option, IfSome}
-use Rattle.pool_law.specs.declared.command.Command.{Command}
 use Rattle.pool_law.specs.declared.run.Run.{Run}
 use Rattle.run_laws.specs.Headline.{Headline}
 use Rattle.run_laws.proofs.HeadlineLaw.{headline-holds}
 use Rattle.trace_top.specs.declared.answer.Status.{Status}
 use Rattle.trace_top.specs.declared.answer.Status.TheVariants.{Whole, Leaks, Words, Trace, ReadFault, WriteFault, Memory}
 use Rattle.trace_top.specs.declared.answer.Outcome.{Outcome}
-use Rattle.trace_top.specs.declared.words.Options.{Options}
+use Rattle.trace_top.specs.declared.words.RunOptions.{RunOptions}
 use Rattle.trace_top.specs.declared.words.Origin.{Origin}
 use Rattle.trace_top.specs.declared.words.Origin.TheVariants.{Source, Generated}
+use Rattle.trace_top.specs.Pools.{Accepted}
 use Rattle.trace_top.specs.Outcomes.{SourceSpan, SinkSpan, HasRun, Explains, ExplainsOptions, ExplainsOrigin, ExplainsSource, ExplainsText, ExplainsRun}
 
 none_is : (run : Option Run) → run ≡ None → IfSome run Headline
 none_is run is = subst (λ (r : Option Run). IfSome r Headline) (sym is) tt
 
-played : (o : Outcome) (options : Options) (lanes : List (List Command)) (run : Run) → HasRun o options lanes run → IfSome o.run Headline
-played o options lanes run has = subst (λ (r : Option Run). IfSome r Headline) (sym has.run) (headline-holds run has.played_is.legal)
+played : (o : Outcome) (accepted : Accepted) (run : Run) → HasRun o accepted run → IfSome o.run Headline
+played o accepted run has =
+    subst (λ (r : Option Run). IfSome r Headline) (sym has.run) (headline-holds run has.played_is.legal)
 
 -- of a trace that is run
-by_run : (s : Status) (o : Outcome) (options : Options) (lanes : List (List Command)) (out : SinkSpan)
-    → ExplainsRun s o options lanes out → IfSome o.run Headline
+by_run : (s : Status) (o : Outcome) (options : RunOptions) (accepted : Accepted) (out : SinkSpan)
+    → ExplainsRun s o options accepted out → IfSome o.run Headline
 unfolding ExplainsRun
-by_run Words o options lanes out e = absurd e
-by_run ReadFault o options lanes out e = absurd e
-by_run Trace o options lanes out e = absurd e
-by_run Memory o options lanes out (bare, unwritten) = none_is o.run bare.run
-by_run WriteFault o options lanes out (run, (has, cut)) = played o options lanes run has
-by_run Whole o options lanes out (run, (has, written, leaks)) = played o options lanes run has
-by_run Leaks o options lanes out (run, (has, written, leaks)) = played o options lanes run has
+by_run Words o options accepted out e = absurd e
+by_run ReadFault o options accepted out e = absurd e
+by_run Trace o options accepted out e = absurd e
+by_run Memory o options accepted out (bare, unwritten) = none_is o.run bare.run
+by_run WriteFault o options accepted out (run, (has, cut)) = played o accepted run has
+by_run Whole o options accepted out (run, (has, written, leaks)) = played o accepted run has
+by_run Leaks o options accepted out (run, (has, written, leaks)) = played o accepted run has
 
 -- of a source that is to be read
-by_source : (s : Status) (o : Outcome) (options : Options) (src : SourceSpan) (out : SinkSpan)
+by_source : (s : Status) (o : Outcome) (options : RunOptions) (src : SourceSpan) (out : SinkSpan)
     → ExplainsSource s o options src out → IfSome o.run Headline
 unfolding ExplainsSource ExplainsText
 by_source ReadFault o options src out (bare, unwritten, rose) = none_is o.run bare.run
 by_source Memory o options src out (bare, unwritten, same) = none_is o.run bare.run
 by_source Trace o options src out (text, (reads, same, (why, (refused, is, unwritten)))) = none_is o.run is.run
-by_source Words o options src out (text, (reads, same, (lanes, (accepted, e)))) = by_run Words o options lanes out e
-by_source WriteFault o options src out (text, (reads, same, (lanes, (accepted, e)))) = by_run WriteFault o options lanes out e
-by_source Whole o options src out (text, (reads, same, (lanes, (accepted, e)))) = by_run Whole o options lanes out e
-by_source Leaks o options src out (text, (reads, same, (lanes, (accepted, e)))) = by_run Leaks o options lanes out e
+by_source Words o options src out (text, (reads, same, (accepted, (is, e)))) = by_run Words o options accepted out e
+by_source WriteFault o options src out (text, (reads, same, (accepted, (is, e)))) =
+    by_run WriteFault o options accepted out e
+by_source Whole o options src out (text, (reads, same, (accepted, (is, e)))) = by_run Whole o options accepted out e
+by_source Leaks o options src out (text, (reads, same, (accepted, (is, e)))) = by_run Leaks o options accepted out e
 
-by_origin : (origin : Origin) (s : Status) (o : Outcome) (options : Options) (src : SourceSpan) (out : SinkSpan)
+by_origin : (origin : Origin) (s : Status) (o : Outcome) (options : RunOptions) (src : SourceSpan) (out : SinkSpan)
     → ExplainsOrigin origin s o options src out → IfSome o.run Headline
 by_origin Source s o options src out e = by_source s o options src out e
 by_origin (Generated g) s o options src out (unread, e) = by_run s o options _ out e

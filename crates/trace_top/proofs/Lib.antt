@@ -7,6 +7,7 @@ pub mod Plain
 pub mod Exact
 pub mod Explain
 pub mod Numerals
+pub mod PoolLaws
 pub mod WordLaws
 pub mod FormLaws
 pub mod Headlined

@@ -45,7 +45,8 @@ pushed_last (x ∷ xs) y = pushed_last xs y
 pub removed : {X : Type 0} (xs : List X) (n : ℕ) (left : List X) (x : X) → left ≡ drop n xs → n < length xs
     → x ≡ get_or left 0 x → slice_get xs n ≡ Some x
 removed xs n left x is h at =
-    slice_get_read xs (length xs) n x refl h (at ∙ ap (λ l. get_or l 0 x) is ∙ get_or-drop n xs 0 x ∙ ap (λ k. get_or xs k x) (omega arith))
+    slice_get_read xs (length xs) n x refl h
+    (at ∙ ap (λ l. get_or l 0 x) is ∙ get_or-drop n xs 0 x ∙ ap (λ k. get_or xs k x) (omega arith))
 
 pub left_next : {X : Type 0} (xs : List X) (n : ℕ) (left : List X) → left ≡ drop n xs → drop 1 left ≡ drop (n + 1) xs
 left_next xs n left is = ap (drop 1) is ∙ drop-drop 1 n xs
@@ -65,7 +66,8 @@ pub at_all : {X : Type 0} (P : X → Type 0) (xs : List X) → All P xs → (i :
 at_all P xs all i x e = subst P (get_or_from_slice_get xs i x x e) (all i x (slice_get_within xs i x e))
 
 -- a lane's list, read by index
-pub log_read : {X : Type 0} (xs : List (List X)) (i : ℕ) (x : List X) → i < length xs → x ≡ get_or xs i x → of_lane xs i ≡ x
+pub log_read : {X : Type 0} (xs : List (List X)) (i : ℕ) (x : List X) → i < length xs → x ≡ get_or xs i x
+    → of_lane xs i ≡ x
 log_read xs i x h at = unwrap_or-slice_get xs i [] ∙ sym (get_or_read xs i x h at [])
 
 pub log_found : {X : Type 0} (xs : List (List X)) (i : ℕ) (x : List X) → slice_get xs i ≡ Some x → of_lane xs i ≡ x

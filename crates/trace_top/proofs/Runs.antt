@@ -49,7 +49,8 @@ pub runs_set : (trace : List (List Command)) (pool : SharedPool) (lanes : List L
 runs_set trace pool lanes i old new stood is same all j x e =
     ⊎_elim
     (λ (h : (j ≡ i) × (new ≡ x)).
-    subst (λ (p : ℕ × Lane). RunsLane trace pool p.0 p.1) (λ k. (sym h.0 k, h.1 k)) (runs_later trace pool i old new (all i old stood) is same))
+    subst (λ (p : ℕ × Lane). RunsLane trace pool p.0 p.1) (λ k. (sym h.0 k, h.1 k))
+    (runs_later trace pool i old new (all i old stood) is same))
     (λ before. all j x before)
     (set_cases lanes i new j x e)
 
@@ -66,11 +67,13 @@ same_commands [] [] len at = refl
 same_commands [] (l ∷ ls) len at = absurd (omega (arith, len))
 same_commands (cs ∷ trace) [] len at = absurd (omega (arith, len))
 same_commands (cs ∷ trace) (l ∷ ls) len at =
-    λ k. same_some _ _ (sym (at zero l refl)) k ∷ same_commands trace ls (omega (arith, len)) (λ i x e. at (suc i) x e) k
+    λ k. same_some _ _ (sym (at zero l refl)) k
+    ∷ same_commands trace ls (omega (arith, len)) (λ i x e. at (suc i) x e) k
 
 -- lanes that have finished may be closed with their pool
 pub are_finished : (trace : List (List Command)) (pool : SharedPool) (lanes : List Lane)
-    → length lanes ≡ pool.table.layout.shape.lanes → AllRun trace pool lanes → AllFinished lanes → AreFinished pool lanes
+    → length lanes ≡ pool.table.layout.shape.lanes → AllRun trace pool lanes → AllFinished lanes
+    → AreFinished pool lanes
 are_finished trace pool lanes many runs done = record {
   many = many;
   each = λ k below d.
@@ -111,17 +114,20 @@ module _ {G : Ghosts Home Noted} where
       → ((lane : ℕ) → AreCommands shape (of_lane trace lane)) → All (All IsPlain) trace
       → ((lane : ℕ) → lane < length trace → HasRoomFor layout (of_lane trace lane)) → AreSent trace mail
       → AreOpened layout mail pool seats → AreReady pool shape trace seats
-  ready trace shape layout mail pool seats limits same lanes layout_is commands plain room sent opened i cs s found stands =
+  ready trace shape layout mail pool seats limits same lanes layout_is commands plain room sent opened i cs s found
+      stands =
       let here = slice_get_within trace i cs found in
       let are = log_found trace i cs found in
-      let below : i < layout.shape.lanes = subst (λ (n : ℕ). i < n) (sym lanes ∙ sym (ap (λ (x : Shape). x.lanes) layout_is)) here in
+      let below : i < layout.shape.lanes =
+      subst (λ (n : ℕ). i < n) (sym lanes ∙ sym (ap (λ (x : Shape). x.lanes) layout_is)) here in
       let o = subst (IsOpened layout mail pool i) (get_or_from_slice_get seats i s s stands) (opened.each i below s) in
       record {
         commands_are = record {
           commands_are = subst (AreCommands shape) are (commands i);
           plain = at_all (All IsPlain) trace plain i cs found;
         };
-        seat_is = first_seat trace shape layout mail pool i cs s limits same lanes (subst (HasRoomFor layout) are (room i here)) sent found o;
+        seat_is = first_seat trace shape layout mail pool i cs s limits same lanes
+            (subst (HasRoomFor layout) are (room i here)) sent found o;
         number = ap (λ n. unwrap_or n 0) o.number;
       }
 

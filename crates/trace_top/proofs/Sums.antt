@@ -24,7 +24,8 @@ counted_is : {X : Type 0} (p : X → Bool) (xs : List X) → counted p xs ≡ co
 counted_is p xs = is_count_by (counted p) p refl (λ x xs. refl) xs
 
 pub count_more : {X : Type 0} (p : X → Bool) (x : X) (xs : List X) → count_by p (x ∷ xs) ≡ one (p x) + count_by p xs
-count_more p x xs = sym (counted_is p (x ∷ xs)) ∙ by_case (p x) (counted p xs) ∙ ap (λ n. one (p x) + n) (counted_is p xs)
+count_more p x xs =
+    sym (counted_is p (x ∷ xs)) ∙ by_case (p x) (counted p xs) ∙ ap (λ n. one (p x) + n) (counted_is p xs)
   where
     by_case : (b : Bool) (n : ℕ) → cond b (1 + n) n ≡ one b + n
     by_case true n = refl

@@ -43,11 +43,13 @@ stand_in trace pool places i l all belongs j x e =
     (set_cases places i (Some l) j (Some x) e)
 
 -- all lanes stand at their places
-pub all_stand : (trace : List (List Command)) (pool : Option SharedPool) (lanes : List Lane) → AllBelong trace pool lanes
+pub all_stand : (trace : List (List Command)) (pool : Option SharedPool) (lanes : List Lane)
+    → AllBelong trace pool lanes
     → AllStand trace pool (map Some lanes)
 all_stand trace pool lanes all i l e = all i l (taken lanes i l e)
   where
-    taken : (lanes : List Lane) (i : ℕ) (l : Lane) → slice_get (map Some lanes) i ≡ Some (Some l) → slice_get lanes i ≡ Some l
+    taken : (lanes : List Lane) (i : ℕ) (l : Lane) → slice_get (map Some lanes) i ≡ Some (Some l)
+        → slice_get lanes i ≡ Some l
     taken [] i l e = absurd (cc)
     taken (x ∷ xs) zero l e = same_some _ _ e
     taken (x ∷ xs) (suc i) l e = taken xs i l e
@@ -57,11 +59,13 @@ empties_full [] = refl
 empties_full (x ∷ xs) = empties_full xs
 
 -- and come out of them
-pub all_belong : (trace : List (List Command)) (pool : Option SharedPool) (lanes : List Lane) (places : List (Option Lane))
+pub all_belong : (trace : List (List Command)) (pool : Option SharedPool) (lanes : List Lane)
+    (places : List (Option Lane))
     → map Some lanes ≡ places → AllStand trace pool places → AllBelong trace pool lanes
 all_belong trace pool lanes places is all i l e = all i l (sym (ap (λ ps. slice_get ps i) is) ∙ put lanes i l e)
   where
-    put : (lanes : List Lane) (i : ℕ) (l : Lane) → slice_get lanes i ≡ Some l → slice_get (map Some lanes) i ≡ Some (Some l)
+    put : (lanes : List Lane) (i : ℕ) (l : Lane) → slice_get lanes i ≡ Some l
+        → slice_get (map Some lanes) i ≡ Some (Some l)
     put [] i l e = absurd (cc)
     put (x ∷ xs) zero l e = ap Some e
     put (x ∷ xs) (suc i) l e = put xs i l e
@@ -105,7 +109,8 @@ empties_rest (None ∷ ps) e = absurd (omega (arith, e))
 -- with the pool that is named
 pub belongs : (trace : List (List Command)) (named : Option SharedPool) (pool : SharedPool) (i : ℕ) (l : Lane)
     → named ≡ Some pool → RunsLane trace pool i l → BelongsAt trace named i l
-belongs trace named pool i l is runs = subst (λ (o : Option SharedPool). IfSome o (λ p. RunsLane trace p i l)) (sym is) runs
+belongs trace named pool i l is runs =
+    subst (λ (o : Option SharedPool). IfSome o (λ p. RunsLane trace p i l)) (sym is) runs
 
 pub runs : (trace : List (List Command)) (named : Option SharedPool) (pool : SharedPool) (i : ℕ) (l : Lane)
     → named ≡ Some pool → BelongsAt trace named i l → RunsLane trace pool i l
@@ -120,7 +125,8 @@ pub all_runs : (trace : List (List Command)) (named : Option SharedPool) (pool :
 all_runs trace named pool lanes is all i l e = runs trace named pool i l is (all i l e)
 
 -- a lane that was stepped belongs where it belonged
-pub belongs_later : (trace : List (List Command)) (named : Option SharedPool) (pool : SharedPool) (i : ℕ) (old new : Lane)
+pub belongs_later : (trace : List (List Command)) (named : Option SharedPool) (pool : SharedPool) (i : ℕ)
+    (old new : Lane)
     → named ≡ Some pool → BelongsAt trace named i old → IsLane pool new → SameLane old new → BelongsAt trace named i new
 belongs_later trace named pool i old new is at lane same =
     belongs trace named pool i new is (runs_later trace pool i old new (runs trace named pool i old is at) lane same)
@@ -133,7 +139,8 @@ get_map [] i l e = absurd (cc)
 get_map (x ∷ xs) zero l e = ap (λ (o : Lane). Some o.commands) (same_some _ _ e)
 get_map (x ∷ xs) (suc i) l e = get_map xs i l e
 
-get_mapped : (lanes : List Lane) (i : ℕ) (cs : List Command) → slice_get (map (λ (l : Lane). l.commands) lanes) i ≡ Some cs
+get_mapped : (lanes : List Lane) (i : ℕ) (cs : List Command)
+    → slice_get (map (λ (l : Lane). l.commands) lanes) i ≡ Some cs
     → (l : Lane) × (slice_get lanes i ≡ Some l) × (l.commands ≡ cs)
 get_mapped [] i cs e = absurd (cc)
 get_mapped (x ∷ xs) zero cs e = (x, refl, same_some _ _ e)

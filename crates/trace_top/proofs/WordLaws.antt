@@ -1,15 +1,12 @@
 -- What the words give and ask for, from the first word on.
-use Rattle.std.proofs.Common.{◌≡◌, ℕ, ◌<◌, ◌≤◌, List, [], ◌∷◌, length, refl, true, false, Bool, arith, Some, None, sym, ap, subst}
-use Rattle.std.specs.Prelude.{Option, IfSome, if◌then◌else◌, ◌&&◌, option_map, option_and_then}
+use Rattle.std.proofs.Common.{◌≡◌, ℕ, ◌<◌, ◌≤◌, List, [], ◌∷◌, length, refl, true, false, Bool, arith, Some, None, sym, ap}
+use Rattle.std.specs.Prelude.{Option, if◌then◌else◌, ◌&&◌, option_map, option_and_then}
 use Rattle.std.proofs.lemmas.Bool.Decides.{nat_tests}
 use Rattle.trace_top.specs.declared.settings.Setting.{Setting}
-use Rattle.trace_top.specs.declared.settings.Setting.TheVariants.{Order, Arenas, Chunks, Handles, Workers, Interval, Generate, Lanes, Commands}
-use Rattle.trace_top.specs.declared.words.Given.{Given}
-use Rattle.trace_top.specs.declared.words.Asked.{Asked}
-use Rattle.trace_top.specs.declared.words.Options.{Options}
-use Rattle.trace_top.specs.declared.words.Origin.{Origin}
+use Rattle.trace_top.specs.declared.asked.Given.{Given}
+use Rattle.trace_top.specs.declared.asked.Asked.{Asked}
 use Rattle.trace_top.specs.Settings.{RowData, is_within, number_for, row_of}
-use Rattle.trace_top.specs.Words.{AreSound, AreWithin, IsInRange, all_chunk_bytes, asked_from, asked_with, before, first_given, given_alone, given_by, givens_in, is_whole, options_for, options_from, or_default, origin_for, with_given}
+use Rattle.trace_top.specs.Words.{IsInRange, asked_from, asked_with, before, first_given, given_alone, given_by, givens_in, is_whole, with_given}
 
 -- what is asked for with all words that are left
 abbrev pub asked_in : Asked → List (List ℕ) → Option Asked
@@ -126,56 +123,3 @@ in_range s text n e =
     let within : is_within (row_of s) n ≡ true = rw (sym h.2) h.1 in
     let both = inside (row_of s) n within in
     record { least = both.0; greatest = both.1 }
-
--- a default is in its range
-default_in_range : (s : Setting) → IsInRange s (row_of s).default
-default_in_range Order = record { least = omega arith; greatest = omega arith }
-default_in_range Arenas = record { least = omega arith; greatest = omega arith }
-default_in_range Chunks = record { least = omega arith; greatest = omega arith }
-default_in_range Handles = record { least = omega arith; greatest = omega arith }
-default_in_range Workers = record { least = omega arith; greatest = omega arith }
-default_in_range Interval = record { least = omega arith; greatest = omega arith }
-default_in_range Generate = record { least = omega arith; greatest = omega arith }
-default_in_range Lanes = record { least = omega arith; greatest = omega arith }
-default_in_range Commands = record { least = omega arith; greatest = omega arith }
-
--- and so is what stands in the options
-or_in_range : (s : Setting) (asked : Option ℕ) → IfSome asked (IsInRange s) → IsInRange s (or_default s asked)
-or_in_range s None h = default_in_range s
-or_in_range s (Some n) h = h
-
--- options with all numbers in their ranges, and all chunks within their bound
-sound : (a : Asked) (origin : Origin) → AreWithin a → all_chunk_bytes (options_from a origin) ≤ 536870912
-    → AreSound (options_from a origin)
-sound a origin h memory lanes some few =
-    let order = or_in_range Order a.order h.order in
-    let arenas = or_in_range Arenas a.arenas h.arenas in
-    let chunks = or_in_range Chunks a.chunks h.chunks in
-    let handles = or_in_range Handles a.handles h.handles in
-    let interval = or_in_range Interval a.interval h.interval in
-    record {
-      order_least = order.least;
-      order_most = order.greatest;
-      arenas_least = arenas.least;
-      arenas_most = arenas.greatest;
-      chunks_least = chunks.least;
-      chunks_most = chunks.greatest;
-      memory = memory;
-      handles_least = handles.least;
-      handles_most = handles.greatest;
-      lanes_least = some;
-      lanes_most = few;
-      interval_least = interval.least;
-      interval_most = interval.greatest;
-    }
-
--- options that are asked for, with all chunks within their bound
-pub sound_options : (a : Asked) (o : Options) → AreWithin a → Some o ≡ options_for a → all_chunk_bytes o ≤ 536870912
-    → AreSound o
-sound_options a o h e memory =
-    elim (origin_for a) as (λ (origin : Option Origin). Some o ≡ option_map (options_from a) origin → AreSound o) [
-      | None ↦ λ f. absurd (some_none o (sym f))
-      | Some origin ↦ λ f.
-          let same : o ≡ options_from a origin = cc in
-          subst AreSound (sym same) (sound a origin h (subst (λ (p : Options). all_chunk_bytes p ≤ 536870912) same memory))
-    ] e

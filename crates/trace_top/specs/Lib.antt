@@ -6,6 +6,7 @@ pub mod Settings
 pub mod Words
 pub mod WordForm
 pub mod Playable
+pub mod Pools
 pub mod Needs
 pub mod Standing
 pub mod Places

@@ -24,6 +24,7 @@ refusal_text (refusals.Limit limit) = codes "limit " ++ limit_text limit
 refusal_text (refusals.Stuck lane line) =
     codes "stuck " ++ decimal lane ++ codes "." ++ decimal line
 refusal_text refusals.Memory = codes "memory"
+refusal_text refusals.Options = codes "options"
 
 -- the line of a text that is refused
 abbrev pub refused_line : Option TraceNo → List ℕ

@@ -1,16 +1,14 @@
 -- What each status says: of the outcome, of what was read and of what was written.
 use Rattle.std.specs.Prelude.{◌≡◌, ◌≢◌, ◌⊎◌, Bool, ℕ, List, [], length, Option, Some, None, Ok, Err}
 use Rattle.std.specs.Io.KnownBytes.{Appends, Keeps}
-use Rattle.pool_law.specs.declared.command.Command.{Command}
 use Rattle.pool_law.specs.declared.run.Run.{Run}
 use Rattle.pool_law.specs.Text.{text_of}
 use Rattle.pool_law.specs.Summary.{summary_of}
 use Rattle.lane_core.specs.Played.{IsPlayed}
 use Rattle.trace_make.specs.Generated.{generated}
-use Rattle.trace_top.specs.Playable.{reading_of}
 use Rattle.trace_text.specs.declared.TraceNo.{TraceNo}
 use Rattle.trace_top.specs.declared.words.Generation.{Generation}
-use Rattle.trace_top.specs.declared.words.Options.{Options}
+use Rattle.trace_top.specs.declared.words.RunOptions.{RunOptions}
 use Rattle.trace_top.specs.declared.words.Origin.{Origin}
 use Rattle.trace_top.specs.declared.words.Origin.TheVariants.{Source, Generated}
 use Rattle.trace_top.specs.declared.answer.Status.{Status}
@@ -18,7 +16,8 @@ use Rattle.trace_top.specs.declared.answer.Status.TheVariants.{Whole, Leaks, Wor
 use Rattle.trace_top.specs.declared.answer.Outcome.{Outcome}
 use Rattle.trace_top.specs.Ends.{Rose, TakesSome}
 use Rattle.trace_top.specs.Transfer.{ReadsText}
-use Rattle.trace_top.specs.Words.{options_of, shape_of}
+use Rattle.trace_top.specs.Pools.{Accepted, reading_for, shape_of}
+use Rattle.trace_top.specs.Words.{options_of}
 
 -- a source before and after a call
 pub record SourceSpan : Type 0 where
@@ -75,13 +74,12 @@ pub record IsRefused (o : Outcome) (why : TraceNo) : Type 0 where
   pub run : o.run ≡ None
   pub refusal : o.refusal ≡ Some why
 
--- the outcome has this run, which was played, of these lanes, with the shape that was asked for
-pub record HasRun (o : Outcome) (options : Options)
-    (lanes : List (List Command)) (played : Run) : Type 0 where
+-- the outcome has this run, which was played, of these lanes, with the pool that was asked for
+pub record HasRun (o : Outcome) (accepted : Accepted) (played : Run) : Type 0 where
   pub run : o.run ≡ Some played
   pub refusal : o.refusal ≡ None
-  pub trace : played.trace.lanes ≡ lanes
-  pub shape : played.shape ≡ shape_of options (length lanes)
+  pub trace : played.trace.lanes ≡ accepted.0
+  pub shape : played.shape ≡ shape_of accepted.1 (length accepted.0)
   pub played_is : IsPlayed played
 
 -- what is to be written of a run: its text, with its history or without; of a generated trace the
@@ -91,17 +89,17 @@ text_from Source history run = text_of run history
 text_from (Generated g) history run = summary_of run g.start
 
 -- what is to be written of a run with these options
-abbrev pub text_for : Options → Run → List ℕ
+abbrev pub text_for : RunOptions → Run → List ℕ
 text_for options run = text_from options.origin options.history run
 
 -- what was written is all that is to be written of the run
-pub record IsWritten (options : Options) (run : Run) (out : SinkSpan) : Type 0 where
+pub record IsWritten (options : RunOptions) (run : Run) (out : SinkSpan) : Type 0 where
   pub text : Appends out.got out.got_then (text_for options run)
   pub faults : out.faults_then ≡ out.faults
 
 -- the sink failed, or took nothing of a piece that isn't empty, and got a front of what is to be
 -- written of the run
-pub record IsCutOff (options : Options) (run : Run) (out : SinkSpan) : Type 0 where
+pub record IsCutOff (options : RunOptions) (run : Run) (out : SinkSpan) : Type 0 where
   pub front : TakesSome out.got out.got_then (text_for options run)
   pub cause : Rose out.faults out.faults_then ⊎ Rose out.empty out.empty_then
 
@@ -109,29 +107,30 @@ pub record IsCutOff (options : Options) (run : Run) (out : SinkSpan) : Type 0 wh
 -- words with a form, of all words.
 
 -- an accepted trace was run and written, or cut off, or there was no memory
-unfoldable pub ExplainsRun : Status → Outcome → Options → List (List Command) → SinkSpan → Type 0
-ExplainsRun Whole o options lanes out =
+unfoldable pub ExplainsRun : Status → Outcome → RunOptions → Accepted → SinkSpan → Type 0
+ExplainsRun Whole o options accepted out =
     (run : Run)
-    × (HasRun o options lanes run × IsWritten options run out × (run.leaks ≡ []))
-ExplainsRun Leaks o options lanes out =
+    × (HasRun o accepted run × IsWritten options run out × (run.leaks ≡ []))
+ExplainsRun Leaks o options accepted out =
     (run : Run)
-    × (HasRun o options lanes run × IsWritten options run out × (run.leaks ≢ []))
-ExplainsRun WriteFault o options lanes out =
-    (run : Run) × (HasRun o options lanes run × IsCutOff options run out)
-ExplainsRun Memory o options lanes out = IsBare o × IsUnwritten out
-ExplainsRun _ o options lanes out = ⊥
+    × (HasRun o accepted run × IsWritten options run out × (run.leaks ≢ []))
+ExplainsRun WriteFault o options accepted out =
+    (run : Run) × (HasRun o accepted run × IsCutOff options run out)
+ExplainsRun Memory o options accepted out = IsBare o × IsUnwritten out
+ExplainsRun _ o options accepted out = ⊥
 
 -- the text that was read is refused as a trace, or accepted
-unfoldable pub ExplainsText : Status → Outcome → Options → List ℕ → SinkSpan → Type 0
+unfoldable pub ExplainsText : Status → Outcome → RunOptions → List ℕ → SinkSpan → Type 0
 ExplainsText Trace o options text out =
-    (why : TraceNo) × ((reading_of text ≡ Err why) × IsRefused o why × IsUnwritten out)
+    (why : TraceNo)
+    × ((reading_for options.pool text ≡ Err why) × IsRefused o why × IsUnwritten out)
 ExplainsText Memory o options text out = IsBare o × IsUnwritten out
 ExplainsText s o options text out =
-    (lanes : List (List Command))
-    × ((reading_of text ≡ Ok lanes) × ExplainsRun s o options lanes out)
+    (accepted : Accepted)
+    × ((reading_for options.pool text ≡ Ok accepted) × ExplainsRun s o options accepted out)
 
 -- the source failed, or a text was read
-unfoldable pub ExplainsSource : Status → Outcome → Options → SourceSpan → SinkSpan → Type 0
+unfoldable pub ExplainsSource : Status → Outcome → RunOptions → SourceSpan → SinkSpan → Type 0
 ExplainsSource ReadFault o options src out =
     IsBare o × IsUnwritten out × Rose src.faults src.faults_then
 ExplainsSource Memory o options src out =
@@ -142,18 +141,18 @@ ExplainsSource s o options src out =
 
 -- nothing was read, and the trace that is generated was run
 abbrev pub ExplainsGenerated :
-    Status → Outcome → Options → Generation → SourceSpan → SinkSpan → Type 0
+    Status → Outcome → RunOptions → Generation → SourceSpan → SinkSpan → Type 0
 ExplainsGenerated s o options g src out =
-    IsUnread src × ExplainsRun s o options (generated g.start g.lanes g.commands) out
+    IsUnread src × ExplainsRun s o options (generated g.start g.lanes g.commands, options.pool) out
 
 -- the trace is that of the source, or is generated
 abbrev pub ExplainsOrigin :
-    Origin → Status → Outcome → Options → SourceSpan → SinkSpan → Type 0
+    Origin → Status → Outcome → RunOptions → SourceSpan → SinkSpan → Type 0
 ExplainsOrigin Source s o options src out = ExplainsSource s o options src out
 ExplainsOrigin (Generated g) s o options src out = ExplainsGenerated s o options g src out
 
 -- the trace comes from where the options say
-unfoldable pub ExplainsOptions : Status → Outcome → Options → SourceSpan → SinkSpan → Type 0
+unfoldable pub ExplainsOptions : Status → Outcome → RunOptions → SourceSpan → SinkSpan → Type 0
 ExplainsOptions s o options src out = ExplainsOrigin options.origin s o options src out
 
 -- the words have no form, or they are options
@@ -161,13 +160,13 @@ unfoldable pub Explains : Status → Outcome → List (List ℕ) → SourceSpan 
 Explains Words o words src out =
     IsBare o × IsUnread src × IsUnwritten out × (options_of words ≡ None)
 Explains s o words src out =
-    (options : Options) × ((options_of words ≡ Some options) × ExplainsOptions s o options src out)
+    (options : RunOptions) × ((options_of words ≡ Some options) × ExplainsOptions s o options src out)
 
 -- ---- When the run must succeed, and when it must refuse.
 
 -- the words are options, and the trace comes from here
 pub record HaveOrigin (words : List (List ℕ)) (origin : Origin) : Type 0 where
-  pub options : Options
+  pub options : RunOptions
   pub formed : options_of words ≡ Some options
   pub origin_is : options.origin ≡ origin
 
@@ -190,13 +189,14 @@ IsDone s = (s ≡ Whole) ⊎ ((s ≡ Leaks) ⊎ (s ≡ Memory))
 -- an accepted trace is run and written, and so is a generated one, or there was no memory
 pub record Completes (s : Status) (words : List (List ℕ)) (src : SourceSpan) (out : SinkSpan) :
     Type 0 where
-  pub read : (text : List ℕ) (lanes : List (List Command)) →
-      IsRead words src text → reading_of text ≡ Ok lanes → IsTaken out → IsDone s
+  pub read : (text : List ℕ) (accepted : Accepted) → (was : IsRead words src text) →
+      reading_for was.words_are.options.pool text ≡ Ok accepted → IsTaken out → IsDone s
   pub generated : (g : Generation) →
       HaveOrigin words (Generated g) → IsTaken out → IsDone s
 
 -- a text that is no trace is refused as such, or there was no memory
 unfoldable pub Refuses : Status → Option TraceNo → List (List ℕ) → SourceSpan → Type 0
 Refuses s refusal words src =
-    (text : List ℕ) (why : TraceNo) → IsRead words src text → reading_of text ≡ Err why
+    (text : List ℕ) (why : TraceNo) (was : IsRead words src text)
+    → reading_for was.words_are.options.pool text ≡ Err why
     → ((s ≡ Trace) × (refusal ≡ Some why)) ⊎ (s ≡ Memory)

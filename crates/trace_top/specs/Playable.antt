@@ -1,9 +1,11 @@
 -- Which traces are played: those without composites. What isn't played is refused as if it had no
 -- form.
-use Rattle.std.specs.Prelude.{ℕ, ◌+◌, Bool, true, false, if◌then◌else◌, List, [], ◌∷◌, Option, Some, None, Ok, Err}
+use Rattle.std.specs.Prelude.{ℕ, ◌+◌, Bool, true, false, if◌then◌else◌, List, [], ◌∷◌, Option, Some, None, Result, Ok, Err}
 use Rattle.std.specs.Option.{option_map_or}
 use Rattle.pool_law.specs.declared.command.Command.{Command}
 use Rattle.pool_law.specs.declared.command.Command.TheVariants.{Compose, Add}
+use Rattle.pool_law.specs.declared.run.Options.{Options}
+use Rattle.trace_text.specs.declared.TraceNo.{TraceNo}
 use Rattle.trace_text.specs.declared.TraceNo.TheVariants.{Shape}
 use Rattle.trace_text.specs.Reading.{◌>>=◌, Reading, reading_of as text_reading}
 
@@ -31,5 +33,5 @@ playable lanes =
     option_map_or (λ place. Err (Shape place.0 place.1)) (unplayed_place 0 lanes) (Ok lanes)
 
 -- what a text is read as, as far as it is played
-abbrev pub reading_of : List ℕ → Reading
-reading_of text = text_reading text >>= playable
+abbrev pub reading_of : List ℕ → Result (List (List Command) × Options) TraceNo
+reading_of text = text_reading text >>= (λ read. playable read.0 >>= (λ lanes. Ok (lanes, read.1)))

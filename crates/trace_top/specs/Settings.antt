@@ -5,8 +5,6 @@ use Rattle.std.specs.List.{list_all}
 use Rattle.std.specs.Str.{bytes_eq}
 use Rattle.std.specs.Str.Parse.{digits_value}
 use Rattle.trace_top.specs.declared.settings.Setting.{Setting}
-use Rattle.pool_law.specs.declared.run.Level.{Level}
-use Rattle.pool_law.specs.declared.run.Level.TheVariants.{Disabled, Simple, Advanced, Paranoid}
 use Rattle.trace_top.specs.declared.settings.Setting.TheVariants.{Order, Arenas, Chunks, Handles, Workers, Interval, Generate, Lanes, Commands}
 
 -- a row: the word of an option with a number, the least and the greatest number for it, and the
@@ -75,18 +73,3 @@ level_name = codes "--level"
 
 abbrev pub history_name : List ℕ
 history_name = codes "--history"
-
--- the word of a level
-abbrev pub level_word : Level → List ℕ
-level_word Disabled = codes "disabled"
-level_word Simple = codes "simple"
-level_word Advanced = codes "advanced"
-level_word Paranoid = codes "paranoid"
-
--- all levels
-abbrev pub levels : List Level
-levels = Disabled ∷ Simple ∷ Advanced ∷ Paranoid ∷ []
-
--- the level that a word names
-unfoldable pub level_named : List ℕ → Option Level
-level_named word = find (λ l. bytes_eq (level_word l) word) levels

@@ -3,11 +3,12 @@ use Rattle.std.specs.Prelude.{⊤, ◌≡◌, ℕ, ◌≤◌, Bool, true, if◌t
 use Rattle.std.specs.List.{flat_map}
 use Rattle.std.specs.Str.Parse.{digits_value}
 use Rattle.pool_law.specs.declared.run.Level.{Level}
+use Rattle.trace_text.specs.Options.{level_word}
 use Rattle.trace_top.specs.declared.settings.Setting.{Setting}
-use Rattle.trace_top.specs.declared.words.Given.{Given}
-use Rattle.trace_top.specs.declared.words.Given.TheVariants as givens
-use Rattle.trace_top.specs.declared.words.Options.{Options}
-use Rattle.trace_top.specs.Settings.{history_name, is_numeral, level_name, level_word, row_of}
+use Rattle.trace_top.specs.declared.asked.Given.{Given}
+use Rattle.trace_top.specs.declared.asked.Given.TheVariants as givens
+use Rattle.trace_top.specs.declared.words.RunOptions.{RunOptions}
+use Rattle.trace_top.specs.Settings.{history_name, is_numeral, level_name, row_of}
 use Rattle.trace_top.specs.Words.{options_given}
 
 -- an option as it is written: a number by its text, or a level, each with whether name and value
@@ -46,7 +47,7 @@ given_of (OfLevel l in_one) = givens.Level l
 given_of OfHistory = givens.History
 
 -- the words are options that are written so, in any order, and these are what they give
-pub record HasForm (words : List (List ℕ)) (options : Options) : Type 0 where
+pub record HasForm (words : List (List ℕ)) (options : RunOptions) : Type 0 where
   pub written : List Written
   pub spelling : words ≡ flat_map words_of written
   pub values : All IsValued written

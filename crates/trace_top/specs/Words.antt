@@ -1,22 +1,21 @@
 -- The words of the command line.
-use Rattle.std.specs.Prelude.{⊤, ℕ, ◌*◌, ◌≤◌, nat_le, nat_lt, ◌==◌, ◌||◌, ◌&&◌, Bool, true, false, not, if◌then◌else◌, List, [], ◌∷◌, length, Option, Some, None, IfSome, is_some, is_none, unwrap_or, option_map, option_and_then}
+use Rattle.std.specs.Prelude.{⊤, ℕ, ◌*◌, ◌≤◌, nat_le, nat_lt, ◌==◌, ◌||◌, ◌&&◌, Bool, true, false, not, if◌then◌else◌, List, [], ◌∷◌, length, Option, Some, None, IfSome, is_some, is_none, option_map, option_and_then}
 use Rattle.std.specs.List.{position_or_len, before_first, after_first}
 use Rattle.std.specs.Option.{option_map_or}
 use Rattle.std.specs.Str.{bytes_eq}
-use Rattle.size_classes.specs.Sizes.{chunk_bytes, of_order}
-use Rattle.pool_law.specs.Limits.{IsShape}
-use Rattle.pool_law.specs.declared.run.Shape.{Shape}
-use Rattle.pool_law.specs.declared.run.Level.TheVariants as levels
+use Rattle.pool_law.specs.declared.run.Options.{Options}
+use Rattle.trace_text.specs.Options.{level_named}
 use Rattle.trace_top.specs.declared.settings.Setting.{Setting}
 use Rattle.trace_top.specs.declared.settings.Setting.TheVariants.{Order, Arenas, Chunks, Handles, Workers, Interval, Generate, Lanes, Commands}
-use Rattle.trace_top.specs.declared.words.Given.{Given}
-use Rattle.trace_top.specs.declared.words.Given.TheVariants as givens
-use Rattle.trace_top.specs.declared.words.Asked.{Asked}
+use Rattle.trace_top.specs.declared.asked.Given.{Given}
+use Rattle.trace_top.specs.declared.asked.Given.TheVariants as givens
+use Rattle.trace_top.specs.declared.asked.Asked.{Asked}
 use Rattle.trace_top.specs.declared.words.Generation.{Generation}
-use Rattle.trace_top.specs.declared.words.Options.{Options}
+use Rattle.trace_top.specs.declared.words.RunOptions.{RunOptions}
 use Rattle.trace_top.specs.declared.words.Origin.{Origin}
 use Rattle.trace_top.specs.declared.words.Origin.TheVariants.{Source, Generated}
-use Rattle.trace_top.specs.Settings.{history_name, level_name, level_named, named, number_for, row_of}
+use Rattle.trace_top.specs.Pools.{is_within_memory, or_default}
+use Rattle.trace_top.specs.Settings.{history_name, level_name, named, number_for, row_of}
 
 -- ---- What the words give.
 
@@ -119,11 +118,7 @@ asked_from a (g ∷ gs) = option_and_then (λ b. asked_from b gs) (asked_with a 
 abbrev pub asked_by : List (List ℕ) → Option Asked
 asked_by words = option_and_then (asked_from nothing) (givens_in words)
 
--- ---- The options that these are.
-
--- the number that is asked for, or the option's default
-abbrev pub or_default : Setting → Option ℕ → ℕ
-or_default s asked = unwrap_or asked (row_of s).default
+-- ---- What is asked of the run.
 
 -- nothing is asked for that speaks of a generated trace alone
 abbrev pub is_for_source : Asked → Bool
@@ -158,59 +153,46 @@ abbrev pub origin_for : Asked → Option Origin
 origin_for a =
     option_map_or (generated_from a) a.generate (if is_for_source a then Some Source else None)
 
--- the options that are asked for, the others at their defaults, with this origin
-abbrev pub options_from : Asked → Origin → Options
+-- what is asked of the pool; no word speaks of the page
+abbrev pub pool_asked : Asked → Options
+pool_asked a = record {
+  page = None;
+  order = a.order;
+  arenas = a.arenas;
+  chunks = a.chunks;
+  handles = a.handles;
+  level = a.level;
+  interval = a.interval;
+}
+
+-- what is asked of the run, with this origin
+abbrev pub options_from : Asked → Origin → RunOptions
 options_from a origin = record {
   origin = origin;
-  order = or_default Order a.order;
-  arenas = or_default Arenas a.arenas;
-  chunks = or_default Chunks a.chunks;
-  handles = or_default Handles a.handles;
+  pool = pool_asked a;
   workers = or_default Workers a.workers;
-  level = unwrap_or a.level levels.Simple;
-  interval = or_default Interval a.interval;
   history = a.history;
 }
 
 -- the options that are asked for; none where two of them have no form together
-abbrev pub options_for : Asked → Option Options
+abbrev pub options_for : Asked → Option RunOptions
 options_for a = option_map (options_from a) (origin_for a)
 
--- the bytes of all chunks of all arenas
-abbrev pub all_chunk_bytes : Options → ℕ
-all_chunk_bytes o = o.arenas * (o.chunks * chunk_bytes (of_order o.order))
-
--- the options, where all chunks are within their bound
-abbrev pub within_memory : Options → Option Options
-within_memory o = if nat_le (all_chunk_bytes o) 536870912 then Some o else None
+-- the options, where a pool of the default page is within its bounds
+abbrev pub within_memory : RunOptions → Option RunOptions
+within_memory o = if is_within_memory o.pool then Some o else None
 
 -- the options that are given, each at most once
-abbrev pub options_given : List Given → Option Options
+abbrev pub options_given : List Given → Option RunOptions
 options_given givens =
     option_and_then (λ asked. option_and_then within_memory (options_for asked))
     (asked_from nothing givens)
 
 -- the options that the words are, where they have a form
-unfoldable pub options_of : List (List ℕ) → Option Options
+unfoldable pub options_of : List (List ℕ) → Option RunOptions
 options_of words = option_and_then options_given (givens_in words)
 
--- ---- What the options ask for.
-
--- the shape of a run of so many lanes
-abbrev pub shape_of : Options → ℕ → Shape
-shape_of o lanes = record {
-  order = o.order;
-  arenas = o.arenas;
-  chunks = o.chunks;
-  handles = o.handles;
-  lanes = lanes;
-  level = o.level;
-  interval = o.interval;
-}
-
--- they ask for a pool that can be made, for each number of lanes
-abbrev pub AreSound : Options → Type 0
-AreSound o = (lanes : ℕ) → 1 ≤ lanes → lanes ≤ 16 → IsShape (shape_of o lanes)
+-- ---- Where a trace comes from.
 
 -- a trace can be generated from this
 pub record IsGeneration (g : Generation) : Type 0 where

@@ -2,6 +2,7 @@
 #![tactic(auto)]
 
 mod answer;
+mod asked;
 mod bell;
 mod crew;
 mod ends;
@@ -14,6 +15,8 @@ mod needs;
 mod output;
 mod play;
 mod playable;
+mod pools;
+mod reading;
 mod settings;
 mod sinks;
 mod sources;

@@ -66,6 +66,7 @@ fn push_refusal(text: &mut String, why: TraceNo) -> Result<(), AllocError>
         }
         TraceNo::Stuck { lane, line } => write!(text, "stuck {lane}.{line}"),
         TraceNo::Memory => text.push_str("memory"),
+        TraceNo::Options => text.push_str("options"),
     }
 }
 

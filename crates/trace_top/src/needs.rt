@@ -8,7 +8,13 @@ ghost use Rattle.trace_top.specs.Needs.{AreSent, HasRoomFor, is_move, is_send};
 
 use pool_law::{Command, CommandList, Shape};
 use pool_table::Layout;
+use size_classes::CACHED_CLASSES;
 use std::alloc::{AllocError, Global};
+
+// How many caches a lane has, and how many asks it sweeps them behind.
+const CACHES: u64 = CACHED_CLASSES as u64;
+
+const SWEEP_PERIOD: u64 = 8192;
 
 /// The layout of a pool for these lanes.
 pub fn layout_for(lanes: &[CommandList], shape: &Shape) -> Layout
@@ -78,7 +84,7 @@ fn turns_of(commands: &[Command]) -> u64
         notes += notes_of(command, composites);
         asks += asks_of(command);
     }
-    notes + 40 * (1 + asks / 8192) + 2 * asks
+    notes + CACHES * (1 + asks / SWEEP_PERIOD) + 2 * asks
 }
 
 // Whether one of the commands makes a composite.

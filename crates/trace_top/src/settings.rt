@@ -3,9 +3,8 @@ ghost use Rattle.std.specs.Prelude.{◌≡◌, ◌<◌, ◌^◌, ◌&&◌, nat_l
 ghost use Rattle.std.specs.Char.{is_ascii_digit};
 ghost use Rattle.std.specs.List.{list_all};
 ghost use Rattle.std.specs.Str.Parse.{digits_value};
-ghost use Rattle.trace_top.specs.Settings.{is_numeral, level_named, level_word, named, number_for, row_of};
+ghost use Rattle.trace_top.specs.Settings.{is_numeral, named, number_for, row_of};
 
-use pool_law::Level;
 use std::marker::Model;
 
 /// An option of the command line that has a number.
@@ -42,14 +41,6 @@ const SETTINGS: [Setting; 9] = [
     Setting::Generate,
     Setting::Lanes,
     Setting::Commands,
-];
-
-/// All levels, in their order.
-const LEVELS: [Level; 4] = [
-    Level::Disabled,
-    Level::Simple,
-    Level::Advanced,
-    Level::Paranoid,
 ];
 
 /// A row of the table: the word of an option, its range, and its number where it isn't given.
@@ -154,28 +145,6 @@ pub fn named(word: &str) -> Option<Setting>
         .iter()
         .copied()
         .find(|setting| setting.row().name() == word)
-}
-
-/// The level that a word names.
-#[tactic(auto, unfolding(crate::specs::Settings::level_named))]
-pub fn level_named(word: &str) -> Option<Level>
-    ensures { result ≡ level_named word.now }
-{
-    LEVELS
-        .iter()
-        .copied()
-        .find(|level| level_word(*level) == word)
-}
-
-fn level_word(level: Level) -> &'static str
-    ensures { result.now ≡ level_word level }
-{
-    match level {
-        Level::Disabled => "disabled",
-        Level::Simple => "simple",
-        Level::Advanced => "advanced",
-        Level::Paranoid => "paranoid",
-    }
 }
 
 // Whether a text is 1 to 20 decimal digits.

@@ -6,23 +6,26 @@ ghost use Rattle.run_laws.specs.Headline.{Headline};
 ghost use Rattle.trace_make.specs.Generated.{generated};
 ghost use Rattle.pool_law.specs.Traces.{AreLanes};
 ghost use Rattle.trace_top.specs.Outcomes.{Completes, Explains, ExplainsOptions, ExplainsRun, ExplainsSource, ExplainsText, Refuses, sink_span, source_span, text_for};
-ghost use Rattle.trace_top.specs.Words.{AreSound, IsGeneration, IsOrigin, options_of, shape_of};
+ghost use Rattle.trace_text.specs.Options.{AreOptions};
+ghost use Rattle.trace_top.specs.Pools.{AreSound, shape_of};
+ghost use Rattle.trace_top.specs.Words.{IsGeneration, IsOrigin, options_of};
 
 use crate::answer::{Outcome, Status, bare};
 use crate::input::{Input, read_all};
 use crate::output::{Output, write_all};
 use crate::play::play;
-use crate::playable::read_playable;
-use crate::words::{Generation, Options, Origin, read_words, shape};
+use crate::pools::shape;
+use crate::reading::read_for;
+use crate::words::{Generation, Origin, RunOptions, read_words};
 use crate::{Sink, Source};
 use lane_core::{Gate, Played};
-use pool_law::{Bytes, Trace};
+use pool_law::{Bytes, Options, Trace};
 use run_report::{summary_of, text_of};
 use std::alloc::{AllocError, Global};
 use std::sync::Wait;
 use std::thread::Threads;
 use trace_make::make;
-use trace_text::TraceNo;
+use trace_text::{Read, TraceNo};
 
 /// Reads the words and then the trace, runs it, and writes the text of the run. Where the words ask
 /// for a generated trace, it makes that one in place of reading the source, of which it then reads
@@ -92,12 +95,13 @@ fn answer<R: Threads + Wait + Sync, S: Source, K: Sink, G: Gate>(
 fn with_options<R: Threads + Wait + Sync, S: Source, K: Sink, G: Gate>(
     rt: &R,
     alloc: Global,
-    options: &Options,
+    options: &RunOptions,
     src: &mut S,
     out: &mut K,
     gate: &G,
 ) -> Outcome
-    requires sound { AreSound options.now }
+    requires sound { AreSound options.now.pool }
+    requires within { AreOptions options.now.pool }
     requires origin { IsOrigin options.now.origin }
     requires open { (lane line : ℕ) → G.stops gate.now lane line ≡ false }
     ensures { ExplainsOptions result.status result options.now
@@ -121,12 +125,12 @@ fn with_options<R: Threads + Wait + Sync, S: Source, K: Sink, G: Gate>(
 fn with_source<R: Threads + Wait + Sync, S: Source, K: Sink, G: Gate>(
     rt: &R,
     alloc: Global,
-    options: &Options,
+    options: &RunOptions,
     src: &mut S,
     out: &mut K,
     gate: &G,
 ) -> Outcome
-    requires sound { AreSound options.now }
+    requires within { AreOptions options.now.pool }
     requires open { (lane line : ℕ) → G.stops gate.now lane line ≡ false }
     ensures { ExplainsSource result.status result options.now
         (source_span S.left S.faults src.old src.new)
@@ -143,18 +147,18 @@ fn with_source<R: Threads + Wait + Sync, S: Source, K: Sink, G: Gate>(
 fn with_text<R: Threads + Wait + Sync, K: Sink, G: Gate>(
     rt: &R,
     alloc: Global,
-    options: &Options,
+    options: &RunOptions,
     text: &[u8],
     out: &mut K,
     gate: &G,
 ) -> Outcome
-    requires sound { AreSound options.now }
+    requires within { AreOptions options.now.pool }
     requires open { (lane line : ℕ) → G.stops gate.now lane line ≡ false }
     ensures { ExplainsText result.status result options.now text.now
         (sink_span K.got K.faults K.empty_takes out.old out.new) }
 {
-    match read_playable(alloc, text) {
-        Ok(trace) => with_trace(rt, alloc, options, trace, out, gate),
+    match read_for(alloc, &options.pool, text) {
+        Ok(read) => with_trace(rt, alloc, options, read, out, gate),
         Err(TraceNo::Memory) => bare(Status::Memory),
         Err(why) => Outcome {
             status: Status::Trace,
@@ -168,16 +172,18 @@ fn with_text<R: Threads + Wait + Sync, K: Sink, G: Gate>(
 fn with_generation<R: Threads + Wait + Sync, K: Sink, G: Gate>(
     rt: &R,
     alloc: Global,
-    options: &Options,
+    options: &RunOptions,
     generation: &Generation,
     out: &mut K,
     gate: &G,
 ) -> Outcome
-    requires sound { AreSound options.now }
+    requires sound { AreSound options.now.pool }
     requires generation { IsGeneration generation.now }
     requires open { (lane line : ℕ) → G.stops gate.now lane line ≡ false }
-    ensures { ExplainsRun result.status result options.now
-        (generated generation.now.start generation.now.lanes generation.now.commands)
+    ensures { ExplainsRun result.status result options.now (
+      generated generation.now.start generation.now.lanes generation.now.commands,
+      options.now.pool,
+    )
         (sink_span K.got K.faults K.empty_takes out.old out.new) }
 {
     let Generation {
@@ -186,7 +192,13 @@ fn with_generation<R: Threads + Wait + Sync, K: Sink, G: Gate>(
         commands,
     } = *generation;
     match make(alloc, start, lanes, commands) {
-        Ok(trace) => with_trace(rt, alloc, options, trace, out, gate),
+        Ok(trace) => {
+            let read = Read {
+                trace,
+                options: options.pool,
+            };
+            with_trace(rt, alloc, options, read, out, gate)
+        }
         Err(AllocError) => bare(Status::Memory),
     }
 }
@@ -195,31 +207,41 @@ fn with_generation<R: Threads + Wait + Sync, K: Sink, G: Gate>(
 fn with_trace<R: Threads + Wait + Sync, K: Sink, G: Gate>(
     rt: &R,
     alloc: Global,
-    options: &Options,
-    trace: Trace,
+    options: &RunOptions,
+    read: Read,
     out: &mut K,
     gate: &G,
 ) -> Outcome
-    requires sound { AreSound options.now }
+    requires sound { AreSound read.options }
     requires open { (lane line : ℕ) → G.stops gate.now lane line ≡ false }
-    requires lanes { AreLanes trace.lanes }
-    requires plain { All (All IsPlain) trace.lanes }
-    requires some_lane { 1 ≤ length trace.lanes }
-    requires few_lanes { length trace.lanes ≤ 16 }
-    ensures { ExplainsRun result.status result options.now trace.lanes
+    requires lanes { AreLanes read.trace.lanes }
+    requires plain { All (All IsPlain) read.trace.lanes }
+    requires some_lane { 1 ≤ length read.trace.lanes }
+    requires few_lanes { length read.trace.lanes ≤ 16 }
+    ensures { ExplainsRun result.status result options.now (read.trace.lanes, read.options)
         (sink_span K.got K.faults K.empty_takes out.old out.new) }
 {
-    let shape = shape(options, trace.lanes.items().len() as u32);
+    let Read {
+        trace,
+        options: pool,
+    } = read;
+    let shape = shape(&pool, trace.lanes.items().len() as u32);
     match play(rt, alloc, trace, &shape, options.workers, gate) {
-        Ok(played) => with_run(alloc, options, played, out),
+        Ok(played) => with_run(alloc, options, &pool, played, out),
         Err(_) => bare(Status::Memory),
     }
 }
 
 #[tactic(auto, unfolding(crate::specs::Outcomes::ExplainsRun))]
-fn with_run<K: Sink>(alloc: Global, options: &Options, played: Played, out: &mut K) -> Outcome
-    requires shape { played.shape ≡ shape_of options.now (length played.trace.lanes) }
-    ensures { ExplainsRun result.status result options.now played.trace.lanes
+fn with_run<K: Sink>(
+    alloc: Global,
+    options: &RunOptions,
+    pool: &Options,
+    played: Played,
+    out: &mut K,
+) -> Outcome
+    requires shape { played.shape ≡ shape_of pool.now (length played.trace.lanes) }
+    ensures { ExplainsRun result.status result options.now (played.trace.lanes, pool.now)
         (sink_span K.got K.faults K.empty_takes out.old out.new) }
 {
     let Ok(text) = text_for(alloc, options, &played) else {
@@ -233,7 +255,7 @@ fn with_run<K: Sink>(alloc: Global, options: &Options, played: Played, out: &mut
 }
 
 // What is to be written of a run: its text, or its summary where its trace is generated.
-fn text_for(alloc: Global, options: &Options, played: &Played) -> Result<Bytes, AllocError>
+fn text_for(alloc: Global, options: &RunOptions, played: &Played) -> Result<Bytes, AllocError>
     ensures { IfOk result (λ bytes. bytes ≡ text_for options.now played.now) }
 {
     let run = played.run();

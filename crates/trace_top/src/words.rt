@@ -1,20 +1,14 @@
 //! The words of the command line.
-ghost use Rattle.std.specs.Prelude.{◌≡◌, ◌≤◌, ◌<◌, true, length, map, string_bytes, IfSome, option_map};
-ghost use Rattle.pool_law.specs.Limits.{IsShape};
-ghost use Rattle.trace_top.specs.Settings.{row_of};
-ghost use Rattle.trace_top.specs.Words.{AreSound, AreWithin, IsInRange, IsOrigin, IsWithin, all_chunk_bytes, asked_by, first_given, given_alone, given_by, is_whole, level_given, number_given, options_of, or_default, shape_of};
+ghost use Rattle.std.specs.Prelude.{◌≡◌, ◌<◌, true, length, map, string_bytes, IfSome, option_map};
+ghost use Rattle.trace_text.specs.Options.{AreOptions};
+ghost use Rattle.trace_top.specs.Pools.{AreSound};
+ghost use Rattle.trace_top.specs.Words.{AreWithin, IsOrigin, IsWithin, asked_by, first_given, given_alone, given_by, is_whole, level_given, number_given, options_of};
 
-use crate::settings::{Setting, level_named, named};
-use pool_law::{Level, Shape};
-
-// The most bytes that all chunks of all arenas may have together.
-const ALL_CHUNKS_MOST: u64 = 536_870_912;
-
-// The bytes of a page.
-const PAGE_BYTES: u64 = 8192;
-
-// The commands of a block of a generated trace, of which each lane has one at least.
-const BLOCK_LEN: u32 = 8;
+use crate::asked::{Asked, Given};
+use crate::pools::is_within_memory;
+use crate::settings::named;
+use pool_law::Options;
+use trace_text::level_named;
 
 /// Where the trace comes from.
 #[derive(Clone, Copy)]
@@ -36,228 +30,15 @@ pub struct Generation {
 
 /// What the words ask for.
 #[derive(Clone, Copy)]
-pub struct Options {
+pub struct RunOptions {
+    /// Where the trace comes from.
     pub origin: Origin,
-    /// A chunk has `2^order` pages.
-    pub order: u32,
-    pub arenas: u32,
-    /// The most chunks of an arena.
-    pub chunks: u32,
-    /// The buffers that a lane may hold at a time.
-    pub handles: u32,
+    /// What they ask of the pool.
+    pub pool: Options,
     /// The threads that step the lanes.
     pub workers: u32,
-    /// How leaks are sampled.
-    pub level: Level,
-    /// One root in so many is sampled.
-    pub interval: u32,
     /// Whether the text has the notes of all lanes.
     pub history: bool,
-}
-
-/// An option as it is given.
-#[derive(Clone, Copy)]
-pub enum Given {
-    /// An option with its number.
-    Number { setting: Setting, number: u64 },
-    /// How leaks are sampled.
-    Level(Level),
-    /// The text has the notes of all lanes.
-    History,
-}
-
-/// What was asked for so far.
-#[derive(Clone, Copy)]
-pub struct Asked {
-    pub order: Option<u64>,
-    pub arenas: Option<u64>,
-    pub chunks: Option<u64>,
-    pub handles: Option<u64>,
-    pub workers: Option<u64>,
-    pub interval: Option<u64>,
-    pub generate: Option<u64>,
-    pub lanes: Option<u64>,
-    pub commands: Option<u64>,
-    pub level: Option<Level>,
-    pub history: bool,
-}
-
-impl Asked {
-    ghost use Rattle.std.specs.Prelude.{◌≡◌, IfSome};
-    ghost use Rattle.trace_top.specs.Words.{AreWithin, IsInRange, IsWithin, asked_with, generated_from, is_for_generated, is_for_source, nothing, options_for, options_from, origin_for, with_number};
-
-    // Nothing is asked for.
-    fn nothing() -> Asked
-        ensures { result ≡ nothing }
-    {
-        Asked {
-            order: None,
-            arenas: None,
-            chunks: None,
-            handles: None,
-            workers: None,
-            interval: None,
-            generate: None,
-            lanes: None,
-            commands: None,
-            level: None,
-            history: false,
-        }
-    }
-
-    // With one more option; None where it was asked for before.
-    #[tactic(auto, unfolding(crate::specs::Words::asked_with))]
-    fn with(self, given: Given) -> Option<Asked>
-        requires given { IsWithin given }
-        requires before { AreWithin self }
-        ensures value { result ≡ asked_with self given }
-        ensures within { IfSome result AreWithin }
-    {
-        match given {
-            Given::Number { setting, number } => self.with_number(setting, number),
-            Given::Level(level) if self.level.is_none() => Some(Asked {
-                level: Some(level),
-                ..self
-            }),
-            Given::History if !self.history => Some(Asked {
-                history: true,
-                ..self
-            }),
-            Given::Level(_) | Given::History => None,
-        }
-    }
-
-    #[tactic(auto, unfolding(crate::specs::Words::with_number))]
-    fn with_number(self, setting: Setting, number: u64) -> Option<Asked>
-        requires range { IsInRange setting number }
-        requires before { AreWithin self }
-        ensures value { result ≡ with_number self setting number }
-        ensures within { IfSome result AreWithin }
-    {
-        match setting {
-            Setting::Order if self.order.is_none() => Some(Asked {
-                order: Some(number),
-                ..self
-            }),
-            Setting::Arenas if self.arenas.is_none() => Some(Asked {
-                arenas: Some(number),
-                ..self
-            }),
-            Setting::Chunks if self.chunks.is_none() => Some(Asked {
-                chunks: Some(number),
-                ..self
-            }),
-            Setting::Handles if self.handles.is_none() => Some(Asked {
-                handles: Some(number),
-                ..self
-            }),
-            Setting::Workers if self.workers.is_none() => Some(Asked {
-                workers: Some(number),
-                ..self
-            }),
-            Setting::Interval if self.interval.is_none() => Some(Asked {
-                interval: Some(number),
-                ..self
-            }),
-            Setting::Generate if self.generate.is_none() => Some(Asked {
-                generate: Some(number),
-                ..self
-            }),
-            Setting::Lanes if self.lanes.is_none() => Some(Asked {
-                lanes: Some(number),
-                ..self
-            }),
-            Setting::Commands if self.commands.is_none() => Some(Asked {
-                commands: Some(number),
-                ..self
-            }),
-            _ => None,
-        }
-    }
-
-    // The options that are asked for, the others at their defaults; None where two of them have no
-    // form together.
-    fn options(self) -> Option<Options>
-        requires { AreWithin self }
-        ensures { result ≡ options_for self }
-    {
-        let origin = self.origin()?;
-        Some(self.options_from(origin))
-    }
-
-    // The options that are asked for, the others at their defaults, with this origin.
-    fn options_from(self, origin: Origin) -> Options
-        requires { AreWithin self }
-        ensures { result ≡ options_from self origin }
-    {
-        Options {
-            origin,
-            order: or_default(Setting::Order, self.order),
-            arenas: or_default(Setting::Arenas, self.arenas),
-            chunks: or_default(Setting::Chunks, self.chunks),
-            handles: or_default(Setting::Handles, self.handles),
-            workers: or_default(Setting::Workers, self.workers),
-            level: self.level.unwrap_or(Level::Simple),
-            interval: or_default(Setting::Interval, self.interval),
-            history: self.history,
-        }
-    }
-
-    // Where the trace comes from; None where two options have no form together.
-    fn origin(self) -> Option<Origin>
-        requires { AreWithin self }
-        ensures { result ≡ origin_for self }
-    {
-        match self.generate {
-            Some(start) => self.generated_from(start),
-            None if self.is_for_source() => Some(Origin::Source),
-            None => None,
-        }
-    }
-
-    // The trace is generated from this start, where all else that is asked for has a form beside it.
-    fn generated_from(self, start: u64) -> Option<Origin>
-        requires { AreWithin self }
-        ensures { result ≡ generated_from self start }
-    {
-        let generation = Generation {
-            start,
-            lanes: or_default(Setting::Lanes, self.lanes),
-            commands: or_default(Setting::Commands, self.commands),
-        };
-        if self.is_for_generated() && BLOCK_LEN * generation.lanes <= generation.commands {
-            Some(Origin::Generated(generation))
-        } else {
-            None
-        }
-    }
-
-    // Whether nothing is asked for that speaks of a generated trace alone.
-    fn is_for_source(self) -> bool
-        ensures { result ≡ is_for_source self }
-    {
-        self.lanes.is_none() && self.commands.is_none()
-    }
-
-    // Whether nothing is asked for that has no form beside a generated trace.
-    fn is_for_generated(self) -> bool
-        ensures { result ≡ is_for_generated self }
-    {
-        self.order.is_none()
-            && self.arenas.is_none()
-            && self.chunks.is_none()
-            && self.handles.is_none()
-            && !self.history
-    }
-}
-
-// The number that is asked for, or the option's default.
-fn or_default(setting: Setting, asked: Option<u64>) -> u32
-    requires small { (row_of setting).greatest ≤ 65536 }
-    requires range { IfSome asked (IsInRange setting) }
-    ensures { result ≡ or_default setting asked }
-{
-    asked.unwrap_or(setting.row().default()) as u32
 }
 
 // The option of a name with the value of a text.
@@ -347,41 +128,16 @@ fn asked_by(words: &[String]) -> Option<Asked>
 
 /// The options that the words are; None exactly where the words have no form.
 #[tactic(auto, unfolding(crate::specs::Words::options_of))]
-pub fn read_words(words: &[String]) -> Option<Options>
+pub fn read_words(words: &[String]) -> Option<RunOptions>
     ensures value { result ≡ options_of (map string_bytes words.now) }
-    ensures sound { IfSome result AreSound }
+    ensures sound { IfSome result (λ options. AreSound options.pool) }
+    ensures within { IfSome result (λ options. AreOptions options.pool) }
     ensures origin { IfSome result (λ options. IsOrigin options.origin) }
 {
     let options = asked_by(words)?.options()?;
-    if all_chunk_bytes(&options) <= ALL_CHUNKS_MOST {
+    if is_within_memory(&options.pool) {
         Some(options)
     } else {
         None
-    }
-}
-
-// The bytes of all chunks of all arenas.
-fn all_chunk_bytes(options: &Options) -> u64
-    requires order { options.now.order ≤ 11 }
-    requires arenas { options.now.arenas ≤ 8 }
-    requires chunks { options.now.chunks ≤ 8 }
-    ensures { result ≡ all_chunk_bytes options.now }
-{
-    let chunk = PAGE_BYTES * (1u64 << options.order);
-    u64::from(options.arenas) * (u64::from(options.chunks) * chunk)
-}
-
-/// The shape of a run of so many lanes.
-pub fn shape(options: &Options, lanes: u32) -> Shape
-    ensures { result ≡ shape_of options.now lanes }
-{
-    Shape {
-        order: options.order,
-        arenas: options.arenas,
-        chunks: options.chunks,
-        handles: options.handles,
-        lanes,
-        level: options.level,
-        interval: options.interval,
     }
 }

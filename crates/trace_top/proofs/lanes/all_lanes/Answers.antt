@@ -19,10 +19,22 @@ new-requires-clause-commands c =
     let n = c.loop-i._i in
     let trace = c.args.trace.items in
     let seats = c.args.seats.items in
-    let in_trace : n < length trace = grind (arith, common_steps, c.loop-i-test.true, c.len-count.ensures, c.args.trace.ok.0) in
-    let in_seats : n < length seats = grind (arith, common_steps, inv.seats_len, c.loop-i-test.true, c.len-count.ensures, c.requires.count, c.args.seats.ok.0) in
-    let its = removed trace n c.loop-i.trace.items c.remove-commands.result inv.trace in_trace c.remove-commands.ensures.value in
-    let mine = removed seats n c.loop-i.seats.items c.remove-seat.result inv.seats in_seats c.remove-seat.ensures.value in
+    let in_trace : n < length trace =
+    grind (arith, common_steps, c.loop-i-test.true, c.len-count.ensures, c.args.trace.ok.0) in
+    let in_seats : n < length seats =
+    grind (
+      arith,
+      common_steps,
+      inv.seats_len,
+      c.loop-i-test.true,
+      c.len-count.ensures,
+      c.requires.count,
+      c.args.seats.ok.0,
+    ) in
+    let its =
+    removed trace n c.loop-i.trace.items c.remove-commands.result inv.trace in_trace c.remove-commands.ensures.value in
+    let mine =
+    removed seats n c.loop-i.seats.items c.remove-seat.result inv.seats in_seats c.remove-seat.ensures.value in
     (c.requires.ready n c.remove-commands.result c.remove-seat.result its mine).commands_are
 
 pub new-requires-clause-seat : goal.new-requires-clause-seat
@@ -31,10 +43,22 @@ new-requires-clause-seat c =
     let n = c.loop-i._i in
     let trace = c.args.trace.items in
     let seats = c.args.seats.items in
-    let in_trace : n < length trace = grind (arith, common_steps, c.loop-i-test.true, c.len-count.ensures, c.args.trace.ok.0) in
-    let in_seats : n < length seats = grind (arith, common_steps, inv.seats_len, c.loop-i-test.true, c.len-count.ensures, c.requires.count, c.args.seats.ok.0) in
-    let its = removed trace n c.loop-i.trace.items c.remove-commands.result inv.trace in_trace c.remove-commands.ensures.value in
-    let mine = removed seats n c.loop-i.seats.items c.remove-seat.result inv.seats in_seats c.remove-seat.ensures.value in
+    let in_trace : n < length trace =
+    grind (arith, common_steps, c.loop-i-test.true, c.len-count.ensures, c.args.trace.ok.0) in
+    let in_seats : n < length seats =
+    grind (
+      arith,
+      common_steps,
+      inv.seats_len,
+      c.loop-i-test.true,
+      c.len-count.ensures,
+      c.requires.count,
+      c.args.seats.ok.0,
+    ) in
+    let its =
+    removed trace n c.loop-i.trace.items c.remove-commands.result inv.trace in_trace c.remove-commands.ensures.value in
+    let mine =
+    removed seats n c.loop-i.seats.items c.remove-seat.result inv.seats in_seats c.remove-seat.ensures.value in
     (c.args.pool.now, (c.requires.ready n c.remove-commands.result c.remove-seat.result its mine).seat_is)
 
 pub given_back-requires-clause-seats : goal.given_back-requires-clause-seats
@@ -42,20 +66,36 @@ given_back-requires-clause-seats c i s e =
     let inv = c.loop-i.invariant in
     let n = c.loop-i._i in
     let all = c.args.seats.items in
-    let in_range : n < length all = grind (arith, common_steps, inv.seats_len, c.loop-i-test.true, c.len-count.ensures, c.requires.count, c.args.seats.ok.0) in
-    let seats = seats_are c.args.trace.items c.args.shape.now c.args.pool.now all (sym c.args.seats.ok.0 ∙ c.requires.count ∙ c.args.trace.ok.0) c.requires.ready in
+    let in_range : n < length all =
+    grind (
+      arith,
+      common_steps,
+      inv.seats_len,
+      c.loop-i-test.true,
+      c.len-count.ensures,
+      c.requires.count,
+      c.args.seats.ok.0,
+    ) in
+    let seats =
+    seats_are c.args.trace.items c.args.shape.now c.args.pool.now all
+    (sym c.args.seats.ok.0 ∙ c.requires.count ∙ c.args.trace.ok.0) c.requires.ready in
     let left = c.remove-seat.ensures.by_index.2 ∙ left_next all n c.loop-i.seats.items inv.seats in
     let back : c.in-Err.seat ≡ c.remove-seat.result = ap (λ p. p.1) c.in-Err.ensures.err in
-    let mine = seats n c.remove-seat.result (removed all n c.loop-i.seats.items c.remove-seat.result inv.seats in_range c.remove-seat.ensures.value) in
+    let mine =
+    seats n c.remove-seat.result
+    (removed all n c.loop-i.seats.items c.remove-seat.result inv.seats in_range c.remove-seat.ensures.value) in
     ⊎_elim
     (λ (rest : slice_get c.remove-seat.new.self.items i ≡ Some s).
     let r = get_drop all (n + 1) i s (ap (λ l. slice_get l i) (sym left) ∙ rest) in
     seats r.0 s r.1)
-    (λ (h : (i ≡ length c.remove-seat.new.self.items) × (c.in-Err.seat ≡ s)). subst (IsPoolSeat c.args.pool.now) (sym back ∙ h.1) mine)
-    (pushed c.remove-seat.new.self.items c.in-Err.seat i s (ap (λ l. slice_get l i) (sym c.push_reserved-in-Err.ensures.items) ∙ e))
+    (λ (h : (i ≡ length c.remove-seat.new.self.items) × (c.in-Err.seat ≡ s)). subst (IsPoolSeat c.args.pool.now)
+    (sym back ∙ h.1) mine)
+    (pushed c.remove-seat.new.self.items c.in-Err.seat i s
+    (ap (λ l. slice_get l i) (sym c.push_reserved-in-Err.ensures.items) ∙ e))
 
 pub given_back-requires-clause-lanes : goal.given_back-requires-clause-lanes
-given_back-requires-clause-lanes c = are_lanes c.args.trace.items c.args.pool.now c.loop-i.lanes.items c.loop-i.invariant.made
+given_back-requires-clause-lanes c =
+    are_lanes c.args.trace.items c.args.pool.now c.loop-i.lanes.items c.loop-i.invariant.made
 
 pub loop-i-preserved : goal.loop-i-preserved
 loop-i-preserved c =
@@ -65,10 +105,22 @@ loop-i-preserved c =
     let seats = c.args.seats.items in
     let pool = c.args.pool.now in
     let lane = c.in-Ok-new.lane in
-    let in_trace : n < length trace = grind (arith, common_steps, c.loop-i-test.true, c.len-count.ensures, c.args.trace.ok.0) in
-    let in_seats : n < length seats = grind (arith, common_steps, inv.seats_len, c.loop-i-test.true, c.len-count.ensures, c.requires.count, c.args.seats.ok.0) in
-    let its = removed trace n c.loop-i.trace.items c.remove-commands.result inv.trace in_trace c.remove-commands.ensures.value in
-    let mine = removed seats n c.loop-i.seats.items c.remove-seat.result inv.seats in_seats c.remove-seat.ensures.value in
+    let in_trace : n < length trace =
+    grind (arith, common_steps, c.loop-i-test.true, c.len-count.ensures, c.args.trace.ok.0) in
+    let in_seats : n < length seats =
+    grind (
+      arith,
+      common_steps,
+      inv.seats_len,
+      c.loop-i-test.true,
+      c.len-count.ensures,
+      c.requires.count,
+      c.args.seats.ok.0,
+    ) in
+    let its =
+    removed trace n c.loop-i.trace.items c.remove-commands.result inv.trace in_trace c.remove-commands.ensures.value in
+    let mine =
+    removed seats n c.loop-i.seats.items c.remove-seat.result inv.seats in_seats c.remove-seat.ensures.value in
     let ready = c.requires.ready n c.remove-commands.result c.remove-seat.result its mine in
     let runs : RunsLane trace pool n lane = record {
       number = ap lane_of c.in-Ok-new.ensures.seat ∙ ready.number;

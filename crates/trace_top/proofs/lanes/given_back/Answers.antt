@@ -19,6 +19,8 @@ loop-lane-preserved c =
       lanes = λ i l e. inv.lanes i l (ap (λ xs. slice_get xs i) were ∙ pushed_before left lane i l e);
       seats = λ i s e. ⊎_elim
           (λ (rest : slice_get c.loop-lane.seats.items i ≡ Some s). inv.seats i s rest)
-          (λ (h : (i ≡ length c.loop-lane.seats.items) × (c.abandon.result ≡ s)). subst (IsPoolSeat c.args.pool.now) h.1 mine)
-          (pushed c.loop-lane.seats.items c.abandon.result i s (ap (λ l. slice_get l i) (sym c.push_reserved.ensures.items) ∙ e));
+          (λ (h : (i ≡ length c.loop-lane.seats.items) × (c.abandon.result ≡ s)). subst (IsPoolSeat c.args.pool.now) h.1
+          mine)
+          (pushed c.loop-lane.seats.items c.abandon.result i s
+          (ap (λ l. slice_get l i) (sym c.push_reserved.ensures.items) ∙ e));
     }

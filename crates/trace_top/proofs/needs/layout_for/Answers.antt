@@ -23,7 +23,8 @@ loop-commands-preserved c =
     subst (λ (xs : List Command). note_bound xs ≤ c.max-turns.result) c.items-in-loop-commands.ensures
     (subst (λ (n : ℕ). n ≤ c.max-turns.result) turns.turns new_turns) in
     record {
-      moves = each_more (λ (xs : List Command). (left_for_all xs).moves) lanes i cs c.loop-commands.moves c.max-moves.result
+      moves = each_more (λ (xs : List Command). (left_for_all xs).moves) lanes i cs c.loop-commands.moves
+          c.max-moves.result
           below c.commands-item.is old_moves these_moves inv.moves;
       turns = each_more note_bound lanes i cs c.loop-commands.turns c.max-turns.result
           below c.commands-item.is old_turns these_turns inv.turns;

@@ -34,11 +34,18 @@ loop-index-preserved c =
     let inv = c.loop-index.invariant in
     let within : n / length lanes < length lanes =
     (div-lt_iff_lt-mul (some_lane n (length lanes) c.loop-index-test.true)).1 c.loop-index-test.true in
-    let these = c.items.ensures ∙ sym (log_read lanes (n / length lanes) c.index-lanes-index.result within c.index-lanes-index.is) in
+    let these =
+    c.items.ensures
+    ∙ sym (log_read lanes (n / length lanes) c.index-lanes-index.result within c.index-lanes-index.is) in
     let last : c.sends_to.result ≡ at lanes n =
     c.sends_to.ensures ∙ ap (λ (cs : List Command). (left_for_all cs).sends (n % length lanes)) these in
     record {
-      many = omega (arith, ap (λ (l : List ℕ). length l) c.in_ok-push.ensures.items, length-append c.loop-index.mail.items (c.sends_to.result ∷ []), inv.many);
+      many = omega (
+        arith,
+        ap (λ (l : List ℕ). length l) c.in_ok-push.ensures.items,
+        length-append c.loop-index.mail.items (c.sends_to.result ∷ []),
+        inv.many,
+      );
       sent_so = sent_more lanes _ _ n c.sends_to.result inv.many c.in_ok-push.ensures.items inv.sent_so last;
     }
 
@@ -46,5 +53,6 @@ pub returns-clause-sent : goal.returns-clause-sent
 returns-clause-sent c sender to from_in to_in =
     let lanes = c.args.lanes.now in
     let n = length lanes in
-    c.loop-index.invariant.sent_so (sender * n + to) (omega (arith, mul-add-lt sender n to n from_in to_in, c.loop-index-test.false))
+    c.loop-index.invariant.sent_so (sender * n + to)
+    (omega (arith, mul-add-lt sender n to n from_in to_in, c.loop-index-test.false))
     ∙ (λ j. Some (sent lanes (div-mul-add sender n to to_in j) (mod-mul-add sender n to to_in j)))

@@ -10,7 +10,8 @@ pub loop-command-preserved : goal.loop-command-preserved
 loop-command-preserved c =
     let cs = c.args.commands.now in let i = c.loop-command.command-index in let inv = c.loop-command.invariant in
     let below : i < length cs = omega arith in
-    let notes = sum_more (most_notes c.any_composes-composites.result) cs i c.command-item.result below c.command-item.is in
+    let notes =
+    sum_more (most_notes c.any_composes-composites.result) cs i c.command-item.result below c.command-item.is in
     let asks = sum_more may_ask cs i c.command-item.result below c.command-item.is in
     let n = c.notes_of-notes.ensures in let a = c.asks_of-asks.ensures in
     let old_n = inv.notes in let old_a = inv.asks in let few_n = inv.few_notes in let few_a = inv.few_asks in

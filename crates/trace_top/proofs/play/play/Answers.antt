@@ -24,12 +24,20 @@ all_lanes-requires-clause-ready g c =
     let layout = c.layout_for-layout.result in
     let pool = c.in_ok-pool.pool in
     let seats = c.in_ok-pool.seats.items in
-    let shape = sym (ap (λ (l : Layout). l.shape) (pool.same_layout ∙ c.in_ok-pool.ensures.layout) ∙ c.layout_for-layout.ensures.shape) in
-    let room = subst (λ (t : List (List Command)). (lane : ℕ) → lane < length t → HasRoomFor layout (of_lane t lane)) c.items.ensures c.layout_for-layout.ensures.room in
-    let sent = subst (λ (t : List (List Command)). AreSent t c.in_ok-mail.mail.items) c.items-2.ensures c.in_ok-mail.ensures.sent in
-    let opened = subst (λ (m : List ℕ). AreOpened layout m pool seats) c.deref.ensures.value c.in_ok-pool.ensures.seats in
+    let shape =
+    sym (ap (λ (l : Layout). l.shape) (pool.same_layout ∙ c.in_ok-pool.ensures.layout)
+    ∙ c.layout_for-layout.ensures.shape) in
+    let room =
+    subst (λ (t : List (List Command)). (lane : ℕ) → lane < length t → HasRoomFor layout (of_lane t lane))
+    c.items.ensures c.layout_for-layout.ensures.room in
+    let sent =
+    subst (λ (t : List (List Command)). AreSent t c.in_ok-mail.mail.items) c.items-2.ensures
+    c.in_ok-mail.ensures.sent in
+    let opened =
+    subst (λ (m : List ℕ). AreOpened layout m pool seats) c.deref.ensures.value c.in_ok-pool.ensures.seats in
     subst (λ (t : List (List Command)). AreReady pool c.args.shape.now t seats) (sym c.into_items.ensures)
-    (ready trace c.args.shape.now layout c.in_ok-mail.mail.items pool seats c.requires.shape shape c.requires.lanes c.layout_for-layout.ensures.shape c.requires.commands c.requires.plain room sent opened)
+    (ready trace c.args.shape.now layout c.in_ok-mail.mail.items pool seats c.requires.shape shape c.requires.lanes
+    c.layout_for-layout.ensures.shape c.requires.commands c.requires.plain room sent opened)
 
 pub abandon-requires : goal.abandon-requires
 abandon-requires g c = record { seats = all_at (IsPoolSeat c.in_ok-pool.pool) _ c.in-Err.ensures.err }
@@ -43,7 +51,8 @@ returns-in-Ok-ended-clause-trace g c =
     let pool = c.in_ok-pool.pool in
     let after = c.step_together-lanes.result.0 in
     let runs = c.step_together-lanes.ensures.runs trace
-    (subst (λ (t : List (List Command)). AllRun t pool c.in-Ok.made.0.items) c.into_items.ensures c.in-Ok.ensures.lanes) in
+    (subst (λ (t : List (List Command)). AllRun t pool c.in-Ok.made.0.items) c.into_items.ensures
+    c.in-Ok.ensures.lanes) in
     let many : length after.items ≡ length trace =
     sym after.ok.0 ∙ c.step_together-lanes.ensures.count ∙ c.in-Ok.ensures.count ∙ c.into_items.result.ok.0
     ∙ ap (λ (t : List (List Command)). length t) c.into_items.ensures in
@@ -51,7 +60,8 @@ returns-in-Ok-ended-clause-trace g c =
     (λ r e. e.trace ∙ same_commands trace after.items many (λ i l h. (runs i l h).commands)) c.finish.ensures
 
 pub abandon-requires-in-Err-ended : goal.abandon-requires-in-Err-ended
-abandon-requires-in-Err-ended g c = record { seats = all_at (IsPoolSeat c.in_ok-pool.pool) _ c.given_back-seats.ensures.seats }
+abandon-requires-in-Err-ended g c =
+    record { seats = all_at (IsPoolSeat c.in_ok-pool.pool) _ c.given_back-seats.ensures.seats }
 
 pub finish-requires-clause-lanes : goal.finish-requires-clause-lanes
 finish-requires-clause-lanes g c =
@@ -59,10 +69,15 @@ finish-requires-clause-lanes g c =
     let pool = c.in_ok-pool.pool in
     let after = c.step_together-lanes.result.0 in
     let runs = c.step_together-lanes.ensures.runs trace
-    (subst (λ (t : List (List Command)). AllRun t pool c.in-Ok.made.0.items) c.into_items.ensures c.in-Ok.ensures.lanes) in
-    let shape = sym (ap (λ (l : Layout). l.shape) (pool.same_layout ∙ c.in_ok-pool.ensures.layout) ∙ c.layout_for-layout.ensures.shape) in
+    (subst (λ (t : List (List Command)). AllRun t pool c.in-Ok.made.0.items) c.into_items.ensures
+    c.in-Ok.ensures.lanes) in
+    let shape =
+    sym (ap (λ (l : Layout). l.shape) (pool.same_layout ∙ c.in_ok-pool.ensures.layout)
+    ∙ c.layout_for-layout.ensures.shape) in
     let many : length after.items ≡ length trace =
     sym after.ok.0 ∙ c.step_together-lanes.ensures.count ∙ c.in-Ok.ensures.count ∙ c.into_items.result.ok.0
     ∙ ap (λ (t : List (List Command)). length t) c.into_items.ensures in
-    let done : AllFinished after.items = on_ok (AllFinished after.items) c.step_together-lanes.result.1 _ c.in-Ok-ended.is c.step_together-lanes.ensures.finished in
+    let done : AllFinished after.items =
+    on_ok (AllFinished after.items) c.step_together-lanes.result.1 _ c.in-Ok-ended.is
+    c.step_together-lanes.ensures.finished in
     are_finished trace pool after.items (many ∙ sym c.requires.lanes ∙ ap (λ s. s.lanes) shape) runs done

@@ -38,19 +38,21 @@ loop-i-preserved g c = record {
   count = c.step_at.ensures.count ∙ c.loop-i.invariant.count;
   finished = λ all k x below e. elim c.if-branch.branch [
     | then-branch w ↦
-        one_more c.loop-i.lanes.items c.step_at.new.lanes.items c.loop-i.i k x c.in_ok-over.over w.if-branch.true below e
-        (c.loop-i.invariant.finished (sym w.over-is ∙ all)) c.in_ok-over.ensures.same c.in_ok-over.ensures.finished
+        one_more c.loop-i.lanes.items c.step_at.new.lanes.items c.loop-i.i k x c.in_ok-over.over w.if-branch.true below
+        e (c.loop-i.invariant.finished (sym w.over-is ∙ all)) c.in_ok-over.ensures.same c.in_ok-over.ensures.finished
     | else-branch w ↦ absurd (never _ (w.over-is ∙ w.if-branch.false) all)
   ];
 }
 
 -- where all had finished at each place, all have
 pub returns-clause-finished : goal.returns-clause-finished
-returns-clause-finished g c = when c.loop-i.over (λ over i l e. c.loop-i.invariant.finished over i l (within i (slice_get_within _ _ _ e)) e)
+returns-clause-finished g c =
+    when c.loop-i.over (λ over i l e. c.loop-i.invariant.finished over i l (within i (slice_get_within _ _ _ e)) e)
   where
     when : (b : Bool) → (b ≡ true → AllFinished c.loop-i.lanes.items) → OnTrue b (AllFinished c.loop-i.lanes.items)
     when true all = all refl
     when false all = tt
 
     within : (i : ℕ) → i < length c.loop-i.lanes.items → i < c.loop-i.i
-    within i h = grind (arith, common_steps, h, c.loop-i-test.false, c.len-i-end.ensures, c.loop-i.invariant.count, c.loop-i.lanes.ok)
+    within i h = grind
+        (arith, common_steps, h, c.loop-i-test.false, c.len-i-end.ensures, c.loop-i.invariant.count, c.loop-i.lanes.ok)

@@ -9,13 +9,15 @@ loop-i-preserved c =
     let inv = c.loop-i.invariant in
     let n = c.loop-i._i in
     let all = c.args.lanes.items in
-    let in_range : n < length all = grind (arith, common_steps, c.loop-i-test.true, c.len-count.ensures, c.args.lanes.ok.0) in
+    let in_range : n < length all =
+    grind (arith, common_steps, c.loop-i-test.true, c.len-count.ensures, c.args.lanes.ok.0) in
     let its = removed all n c.loop-i.lanes.items c.remove-lane.result inv.left in_range c.remove-lane.ensures.value in
     record {
       left = c.remove-lane.ensures.by_index.2 ∙ left_next all n c.loop-i.lanes.items inv.left;
       count = omega (arith, inv.count, c.remove-lane.ensures.len);
       room = c.remove-lane.ensures.capacity ∙ inv.room;
-      places = c.push_reserved.ensures.items ∙ ap (λ ps. ps ++ Some c.remove-lane.result ∷ []) inv.places ∙ seat_more all n _ its;
+      places = c.push_reserved.ensures.items ∙ ap (λ ps. ps ++ Some c.remove-lane.result ∷ []) inv.places
+          ∙ seat_more all n _ its;
       places_len = omega (arith, c.push_reserved.ensures.len, inv.places_len);
       places_room = rw c.push_reserved.ensures.capacity inv.places_room;
     }

@@ -11,9 +11,11 @@ invariant_of-self g c =
     let places = c.self.inside.places.items in
     let inv = c.self.invariant in
     let at = c.args.at in
-    let in_range : at < length places = grind (arith, common_steps, c.if-at-len.false, c.len.ensures, c.self.inside.places.ok) in
+    let in_range : at < length places =
+    grind (arith, common_steps, c.if-at-len.false, c.len.ensures, c.self.inside.places.ok) in
     let none : c.index.result.now ≡ None = search rules in
-    let was : slice_get places at ≡ Some None = slice_get_read places (length places) at c.index.result.now refl in_range c.index.ensures ∙ ap Some none in
+    let was : slice_get places at ≡ Some None =
+    slice_get_read places (length places) at c.index.result.now refl in_range c.index.ensures ∙ ap Some none in
     rw c.fill.ensures (
       stand_in _ _ places at c.args.lane inv.0 c.requires.lane,
       omega (arith, c.sub.ensures.total, inv.1, empties_in places at c.args.lane was),

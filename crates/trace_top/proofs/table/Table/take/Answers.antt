@@ -7,12 +7,15 @@ use Rattle.trace_top.proofs.table.Table.take.Given as Given
 use Rattle.trace_top.proofs.table.Table.take.Goals as goal
 
 -- the lane that goes out stood there
-stood : (g : Given.Over) (c : goal.After-add g) → slice_get c.self.inside.places.items c.in_ok-at.at ≡ Some (Some c.in-Some.lane)
+stood : (g : Given.Over) (c : goal.After-add g)
+    → slice_get c.self.inside.places.items c.in_ok-at.at ≡ Some (Some c.in-Some.lane)
 stood g c =
     let places = c.self.inside.places.items in
     let at = c.in_ok-at.at in
-    let in_range : at < length places = grind (arith, common_steps, c.in_ok-at.ensures, c.self.invariant.2, c.self.inside.places.ok) in
-    slice_get_read places (length places) at c.index_mut.result.now refl in_range c.index_mut.ensures.value ∙ ap Some (sym c.take.ensures.value ∙ c.in-Some.is)
+    let in_range : at < length places =
+    grind (arith, common_steps, c.in_ok-at.ensures, c.self.invariant.2, c.self.inside.places.ok) in
+    slice_get_read places (length places) at c.index_mut.result.now refl in_range c.index_mut.ensures.value
+    ∙ ap Some (sym c.take.ensures.value ∙ c.in-Some.is)
 
 pub invariant_of-self : goal.invariant_of-self
 invariant_of-self g c =
