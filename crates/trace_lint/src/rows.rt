@@ -156,13 +156,13 @@ pub const OPTIONS: &str = r#"{} => 1:1: refused options: the key "version" is mi
 
 /// Texts, and the line for each: lanes that wait for ever.
 pub const STUCK: &str =
-    r#"[[["recv","x",1]],[["recv","y",0]]] => 1:3: refused stuck 0.0: ["recv","x",1]: lane 0 waits here for ever: it is its recv number 1 from lane 1, which sends to lane 0 0 times
-[[["recv","x",0]]] => 1:3: refused stuck 0.0: ["recv","x",0]: lane 0 waits here for ever: it is its recv number 1 from lane 0, which sends to lane 0 0 times
+    r#"[[["recv","x",1]],[["recv","y",0]]] => 1:3: refused stuck 0.0: ["recv","x",1]: lane 0 waits here for ever: it is its recv number 1 from lane 1, which sends nothing to lane 0
+[[["recv","x",0]]] => 1:3: refused stuck 0.0: ["recv","x",0]: lane 0 waits here for ever: it is its recv number 1 from lane 0, which sends nothing to lane 0
 [[["recv","x",0],["send","x",0]]] => 1:3: refused stuck 0.0: ["recv","x",0]: lane 0 waits here for ever: it is its recv number 1 from lane 0, and the send that it waits for stands behind it
 [[["send","a",1]],[["recv","x",0],["touch","x"],["recv","y",0]]] => 1:49: refused stuck 1.2: ["recv","y",0]: lane 1 waits here for ever: it is its recv number 2 from lane 0, which sends to lane 1 once
-[[],[["recv","x",0]],[["recv","x",0]]] => 1:6: refused stuck 1.0: ["recv","x",0]: lane 1 waits here for ever: it is its recv number 1 from lane 0, which sends to lane 1 0 times
+[[],[["recv","x",0]],[["recv","x",0]]] => 1:6: refused stuck 1.0: ["recv","x",0]: lane 1 waits here for ever: it is its recv number 1 from lane 0, which sends nothing to lane 1
 [[["recv","x",1],["send","x",1]],[["recv","y",0],["send","y",0]]] => 1:3: refused stuck 0.0: ["recv","x",1]: lane 0 waits here for ever: it is its recv number 1 from lane 1, which waits for ever itself before that send
-{"version":2,"lanes":[[["recv","x",0]]]} => 1:24: refused stuck 0.0: ["recv","x",0]: lane 0 waits here for ever: it is its recv number 1 from lane 0, which sends to lane 0 0 times
+{"version":2,"lanes":[[["recv","x",0]]]} => 1:24: refused stuck 0.0: ["recv","x",0]: lane 0 waits here for ever: it is its recv number 1 from lane 0, which sends nothing to lane 0
 [[["send","a",1],["send","a",1]],[["recv","x",0],["recv","y",0],["send","x",2],["recv","z",0]],[["recv","x",1]]] => 1:80: refused stuck 1.3: ["recv","z",0]: lane 1 waits here for ever: it is its recv number 3 from lane 0, which sends to lane 1 2 times
 "#;
 

@@ -39,6 +39,8 @@ fn reason(alloc: Global, lanes: Lanes<'_>, lane: usize, line: usize) -> Result<S
         reason.push_str("and the send that it waits for stands behind it")?;
     } else if sent >= wanted {
         reason.push_str("which waits for ever itself before that send")?;
+    } else if sent == 0 {
+        write!(reason, "which sends nothing to lane {lane}")?;
     } else if sent == 1 {
         write!(reason, "which sends to lane {lane} once")?;
     } else {

@@ -134,7 +134,7 @@ fn counts_lines_and_bytes(rt: HostRuntime) -> Result<(), Fail> {
         (
             "[[],\n [ [\"recv\" , \"x\", 0] ] ]",
             "2:4: refused stuck 1.0: [\"recv\" , \"x\", 0]: lane 1 waits here for ever: \
-                it is its recv number 1 from lane 0, which sends to lane 1 0 times",
+                it is its recv number 1 from lane 0, which sends nothing to lane 1",
         ),
     ];
     for (text, want) in rows {
