@@ -2,12 +2,13 @@
 //! with ` => ` between them.
 
 /// Texts, and the line for each: the whole, lanes, and words.
-pub const WHOLE: &str = r#"null => 1:1: refused shape 0.0: null: a trace is an array of lanes
-  "lanes" => 1:3: refused shape 0.0: "lanes": a trace is an array of lanes
+pub const WHOLE: &str =
+    r#"null => 1:1: refused shape 0.0: null: a trace is an array of lanes, and this is none
+  "lanes" => 1:3: refused shape 0.0: "lanes": a trace is an array of lanes, and this is none
 [ ] => 1:1: refused shape 0.0: [ ]: the trace has no lane
-[5] => 1:2: refused shape 0.0: 5: a lane is an array of commands
-[[],{}] => 1:5: refused shape 1.0: {}: a lane is an array of commands
-[[],[["touch","a"]] , "]" ] => 1:23: refused shape 2.0: "]": a lane is an array of commands
+[5] => 1:2: refused shape 0.0: 5: a lane is an array of commands, and this is none
+[[],{}] => 1:5: refused shape 1.0: {}: a lane is an array of commands, and this is none
+[[],[["touch","a"]] , "]" ] => 1:23: refused shape 2.0: "]": a lane is an array of commands, and this is none
 [[5]] => 1:3: refused shape 0.0: 5: a command is an array, and this is none
 [[],["x"]] => 1:6: refused shape 1.0: "x": a command is an array, and this is none
 [[{"touch":"a"}]] => 1:3: refused shape 0.0: {"touch":"a"}: a command is an array, and this is none
@@ -147,11 +148,11 @@ pub const OPTIONS: &str = r#"{} => 1:1: refused options: the key "version" is mi
 {"version":2,"options":{"order":3,"level" :  1},"lanes":[[]]} => 1:46: refused options: the level is none of disabled, simple, advanced, paranoid
 {"version":2,"options":{"page":1},"lanes":[]} => 1:32: refused options: the page is none of 4096, 8192, 16384, 32768
 {"version":2,"lanes":[]} => 1:22: refused shape 0.0: []: the trace has no lane
-{"version":2,"lanes":null} => 1:22: refused shape 0.0: null: a trace is an array of lanes
-{"version":2,"lanes":{"version":2,"lanes":[[]]}} => 1:22: refused shape 0.0: {"version":2,"lanes":[[]]}: a trace is an array of lanes
-{"version":2,"lanes":[[],{}]} => 1:26: refused shape 1.0: {}: a lane is an array of commands
+{"version":2,"lanes":null} => 1:22: refused shape 0.0: null: a trace is an array of lanes, and this is none
+{"version":2,"lanes":{"version":2,"lanes":[[]]}} => 1:22: refused shape 0.0: {"version":2,"lanes":[[]]}: a trace is an array of lanes, and this is none
+{"version":2,"lanes":[[],{}]} => 1:26: refused shape 1.0: {}: a lane is an array of commands, and this is none
 {"lanes":[[]],"version":2,"lanes":[[],[["touch","B"]]],"options":{}} => 1:49: refused shape 1.0: ["touch","B"]: the name of the view has a character that is none of a to z, 0 to 9 and _
-[{"version":2,"lanes":[[]]}] => 1:2: refused shape 0.0: {"version":2,"lanes":[[]]}: a lane is an array of commands
+[{"version":2,"lanes":[[]]}] => 1:2: refused shape 0.0: {"version":2,"lanes":[[]]}: a lane is an array of commands, and this is none
 "#;
 
 /// Texts, and the line for each: lanes that wait for ever.

@@ -15,14 +15,24 @@ pub fn shape_fault(
     line: usize,
 ) -> Result<Fault, AllocError> {
     let Some(values) = array_of(lanes.value) else {
-        return plain_fault(alloc, lanes.text, lanes.at, "a trace is an array of lanes");
+        return plain_fault(
+            alloc,
+            lanes.text,
+            lanes.at,
+            "a trace is an array of lanes, and this is none",
+        );
     };
     let Some(value) = values.get(lane) else {
         return plain_fault(alloc, lanes.text, lanes.at, "the trace has no lane");
     };
     let lane_at = lanes.lane_place(lane);
     let Some(rows) = array_of(value) else {
-        return plain_fault(alloc, lanes.text, lane_at, "a lane is an array of commands");
+        return plain_fault(
+            alloc,
+            lanes.text,
+            lane_at,
+            "a lane is an array of commands, and this is none",
+        );
     };
     let row_at = item_place(lanes.text, lane_at, line);
     let Some(row) = rows.get(line) else {
