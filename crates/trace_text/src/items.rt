@@ -12,7 +12,9 @@ use std::alloc::{AllocError, Global};
 /// Why a row is no command.
 #[derive(Clone, Copy)]
 pub enum RowNo {
+    /// It has no form.
     Form,
+    /// There was no memory for it.
     Memory,
 }
 
@@ -26,6 +28,7 @@ impl From<AllocError> for RowNo {
     }
 }
 
+/// The items of an array.
 pub fn array_of(value: &Value) -> Option<&[Value]>
     ensures { option_map (λ values. map view values.now) result ≡ array_in (view value.now) }
 {
@@ -35,6 +38,7 @@ pub fn array_of(value: &Value) -> Option<&[Value]>
     }
 }
 
+/// The text of a name.
 #[tactic(auto, unfolding(crate::specs::Items::name_in))]
 pub fn name_of(value: &Value) -> Option<&str>
     ensures { option_map (λ name. name.now) result ≡ name_in (view value.now) }
@@ -64,6 +68,7 @@ fn is_byte_of_name(byte: u8) -> bool
     (b'a' <= byte && byte <= b'z') || (b'0' <= byte && byte <= b'9') || byte == b'_'
 }
 
+/// A number below 2^32.
 #[tactic(auto, unfolding(crate::specs::Items::number_in))]
 pub fn number_of(value: &Value) -> Option<u32>
     ensures { result ≡ number_in (view value.now) }

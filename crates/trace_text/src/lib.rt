@@ -16,9 +16,12 @@ mod stuck;
 mod tests;
 mod words;
 
-pub use options::level_named;
+pub use items::{RowNo, array_of, bytes_of, lane_number_of, name_of, number_of};
+pub use limits::{BYTE_LIMIT, COMMAND_LIMIT, LANE_LIMIT};
+pub use options::{OPTION_KEYS, VERSION_KEYS, level_from, level_named, number_from, page_from};
 use pool_law::{Options, Trace};
 pub use reading::{TEXT_LIMIT, read_trace};
+pub use words::{Word, word_from};
 
 /// What a text is read as.
 #[derive(Drop)]

@@ -8,13 +8,14 @@ ghost use Rattle.trace_text.specs.Reading.{GivesLanes, limited};
 use crate::{Limit, TraceNo};
 use pool_law::{Command, CommandList, Trace};
 
-const LANE_LIMIT: usize = 16;
+/// The most lanes.
+pub const LANE_LIMIT: usize = 16;
 
 /// The most commands of all lanes together.
-const COMMAND_LIMIT: usize = 65_536;
+pub const COMMAND_LIMIT: usize = 65_536;
 
 /// The most bytes that `get`, `tryget` and `read` ask to see, together.
-const BYTE_LIMIT: u64 = 67_108_864;
+pub const BYTE_LIMIT: u64 = 67_108_864;
 
 /// The trace, where it passes no limit.
 #[tactic(auto, unfolding(crate::specs::Reading::limited))]

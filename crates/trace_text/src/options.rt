@@ -19,9 +19,11 @@ const LEVELS: [Level; 4] = [
     Level::Paranoid,
 ];
 
-const VERSION_KEYS: [&str; 3] = ["version", "lanes", "options"];
+/// The keys of an object of version 2.
+pub const VERSION_KEYS: [&str; 3] = ["version", "lanes", "options"];
 
-const OPTION_KEYS: [&str; 7] = [
+/// The keys of options.
+pub const OPTION_KEYS: [&str; 7] = [
     "page", "order", "arenas", "chunks", "handles", "level", "interval",
 ];
 
@@ -164,7 +166,7 @@ fn level_at(object: &Value) -> Option<Option<Level>>
 
 /// A number from the least to the greatest.
 #[tactic(auto, unfolding(crate::specs::Options::number_from))]
-fn number_from(value: &Value, least: u32, greatest: u32) -> Option<u32>
+pub fn number_from(value: &Value, least: u32, greatest: u32) -> Option<u32>
     ensures { result ≡ number_from least greatest (view value.now) }
 {
     let number = value.as_u64()?;
@@ -177,7 +179,7 @@ fn number_from(value: &Value, least: u32, greatest: u32) -> Option<u32>
 
 /// The bytes of a page.
 #[tactic(auto, unfolding(crate::specs::Options::page_from))]
-fn page_from(value: &Value) -> Option<u32>
+pub fn page_from(value: &Value) -> Option<u32>
     ensures { result ≡ page_from (view value.now) }
 {
     let bytes = value.as_u64()?;
@@ -190,7 +192,7 @@ fn page_from(value: &Value) -> Option<u32>
 
 /// The level that a text names.
 #[tactic(auto, unfolding(crate::specs::Options::level_from))]
-fn level_from(value: &Value) -> Option<Level>
+pub fn level_from(value: &Value) -> Option<Level>
     ensures { result ≡ level_from (view value.now) }
 {
     level_named(value.as_str()?)

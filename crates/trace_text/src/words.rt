@@ -14,7 +14,7 @@ use std::alloc::Global;
 
 /// The first item of a command.
 #[derive(Clone, Copy)]
-enum Word {
+pub enum Word {
     Alloc,
     Set,
     TrySet,
@@ -55,7 +55,8 @@ const WORDS: [Word; 17] = [
 ];
 
 impl Word {
-    fn text(self) -> &'static str
+    /// The text of the word.
+    pub fn text(self) -> &'static str
         ensures { result.now ≡ text_of self }
     {
         match self {
@@ -82,7 +83,7 @@ impl Word {
 
 /// The word of this text.
 #[tactic(auto, unfolding(crate::specs::Words::word_of))]
-fn word_from(text: &str) -> Option<Word>
+pub fn word_from(text: &str) -> Option<Word>
     ensures { result ≡ word_of text.now }
 {
     word_among(&WORDS, text)
