@@ -31,7 +31,8 @@ pub struct Finding {
 
 /// Why a text is refused, and nothing where it is accepted.
 pub fn lint(alloc: Global, text: &[u8]) -> Result<Option<Finding>, AllocError>
-    ensures verdict { IfOk result (λ found. option_map (λ (finding : Finding). finding.refusal) found
+    ensures verdict { IfOk result (λ found.
+        option_map (λ (finding : Finding). finding.refusal) found
         ≡ result_err (reading_of text.now)) }
 {
     match refusal_of(alloc, text)? {
