@@ -109,7 +109,8 @@ unfolding ExplainsSource ExplainsText
 by_source ReadFault o options src out text accepted (bare, unwritten, rose) told faults here taken =
     absurd (faults rose)
 by_source Memory o options src out text accepted e told faults here taken = inr (inr refl)
-by_source Trace o options src out text accepted (was, (reads, same, (why, (refused, rest)))) told faults here taken =
+by_source Trace o options src out text accepted (was, (reads, same, (why, (refused, is, unwritten))))
+    told faults here taken =
     let both = told_reading options.pool _ _ _ _ told reads ∙ here in
     absurd (not_both (reading_for options.pool was) accepted why both refused)
 by_source Words o options src out text accepted (was, (reads, same, (found, (there, e)))) told faults here taken =
