@@ -48,6 +48,33 @@ fn runs_with_the_pages_that_a_trace_asks_for(rt: HostRuntime) -> Result<(), Fail
     expect(&rt, &[SMALL_PAGES, LARGE_PAGES, WORDS_WIN])
 }
 
+/// The most bytes of a chunk.
+const CHUNK_MOST: u32 = 16_777_216;
+
+#[test]
+fn takes_each_page_with_each_order(rt: HostRuntime) -> Result<(), Fail> {
+    for page in [4096_u32, 8192, 16_384, 32_768] {
+        for order in 3..12_u32 {
+            let options = format!(in rt.alloc();
+                r#"{{"page":{page},"order":{order},"arenas":1,"chunks":1}}"#
+            )?;
+            let text = format!(in rt.alloc();
+                r#"{{"version":2,"options":{options},"lanes":[[]]}}"#
+            )?;
+            let mut source = SafeSource::new(rt.alloc(), text.as_bytes())?;
+            let mut sink = SafeSink::new(rt.alloc(), 1000, 1000)?;
+            let outcome = play(&rt, "", &mut source, &mut sink)?;
+            let want = if page << order <= CHUNK_MOST {
+                Status::Whole
+            } else {
+                Status::Trace
+            };
+            assert_eq!(rt; outcome.status, want, "page {page} order {order}");
+        }
+    }
+    Ok(())
+}
+
 #[test]
 fn refuses_pools_that_are_too_large(rt: HostRuntime) -> Result<(), Fail> {
     let rows = [
