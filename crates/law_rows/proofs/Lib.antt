@@ -5,3 +5,4 @@ mod RootTests
 mod CountsComputed
 mod MarksComputed
 mod LegalComputed
+mod OrderedSteps

@@ -20,6 +20,7 @@ pub mod lives;
 pub mod logs;
 pub mod marks;
 pub mod odd_runs;
+pub mod orders;
 pub mod pages;
 pub mod places;
 pub mod refusals;

@@ -1,0 +1,166 @@
+-- When events happen: their places in the one order.
+use Rattle.std.proofs.Common.{inl, inr, ◌≡◌, ℕ, ◌≤◌, Bool, true, List, [], ◌∷◌, take, sym, ap, subst, arith, Some, ◌∙◌}
+use Rattle.std.specs.Prelude.{◌<◌, ◌⊎◌}
+use Rattle.pool_law.specs.declared.id.RootId.{RootId}
+use Rattle.pool_law.specs.declared.id.RegionId.{RegionId}
+use Rattle.pool_law.specs.declared.note.Object.{Object}
+use Rattle.pool_law.specs.declared.note.Did.TheVariants.{Birth, End}
+use Rattle.pool_law.specs.declared.note.RefDid.{RefDid}
+use Rattle.pool_law.specs.declared.note.Note.{Note}
+use Rattle.pool_law.specs.declared.note.Note.TheVariants.{At, Ref}
+use Rattle.pool_law.specs.declared.run.Run.{Run}
+use Rattle.pool_law.specs.Logs.{Logs}
+use Rattle.pool_law.specs.Counts.{is_birth, ends_root}
+use Rattle.pool_law.specs.Legal.{IsLegal, logs_of}
+use Rattle.pool_law.specs.Lives.{StandsAt, IsUse, Event, Stands, InOneLog, AtOneObject}
+use Rattle.pool_law.specs.Apart.{Leads}
+use Rattle.pool_law.proofs.SameLemmas.{same_root-is}
+use Rattle.pool_law.proofs.PatternLemmas.{same_root-refl}
+use Rattle.run_laws.specs.OneLog.{HasEnded, StandInOneLog}
+use Rattle.run_laws.proofs.PagedHistories.{paged}
+use Rattle.run_laws.proofs.Totals.{note-placed}
+use Rattle.run_laws.proofs.OverlapLaw.{Reaches}
+use Rattle.run_laws.proofs.RunLaws.{acts-of, roots-in_one_log}
+use Rattle.run_order.specs.Order.{made, InOneOrder}
+use Rattle.run_order.proofs.Fronts.{made-found, found-made}
+use Rattle.run_order.proofs.Positions.{place, there, noted, later-in_log, later-at_object}
+use Rattle.order_laws.specs.Moments.{is_end}
+
+pub birth-is : (root : RootId) (n : Note) → is_birth root n ≡ true
+    → (object : Object) × (number : ℕ) × (region : RegionId) × (n ≡ At object number (Birth root region))
+birth-is root (At object number (Birth r region)) e =
+    (object, number, region, ap (λ z. At object number (Birth z region)) (same_root-is r root e))
+birth-is root _ e = absurd (cc e)
+
+pub end-is : (root : RootId) (n : Note) → is_end root n ≡ true
+    → (object : Object) × (number : ℕ) × (n ≡ At object number (End root))
+end-is root (At object number (End r)) e =
+    (object, number, ap (λ z. At object number (End z)) (same_root-is r root e))
+end-is root _ e = absurd (cc e)
+
+module _ (logs : Logs) (o : InOneOrder logs) where
+  -- when an event happens
+  abbrev pub when : Event → ℕ
+  when e = place logs o e.lane e.at
+
+  pub one-later : (e f : Event) → Stands logs e → Stands logs f → InOneLog e f ⊎ AtOneObject e f → when e < when f
+  one-later e f s t (inl h) =
+      subst (λ lane. place logs o lane e.at < when f) (sym h.0)
+      (later-in_log logs o f.lane e.at f.at (At f.object f.number f.did) t h.1)
+  one-later e f s t (inr h) =
+      later-at_object logs o f.object e.number f.number e.did f.did e.lane e.at f.lane f.at
+      (s ∙ ap (λ object. Some (At object e.number e.did)) h.0) t h.1
+
+  pub leads-later : (e : Event) (fs : List Event) (g : Event) → Stands logs e → Stands logs g → Leads logs e fs g
+      → when e < when g
+  leads-later e [] g s t h = one-later e g s t h
+  leads-later e (f ∷ fs) g s t h =
+      omega (arith, one-later e f s h.1.0 h.0, leads-later f fs g h.1.0 t h.1.1)
+
+  pub reaches-later : (e g : Event) → Stands logs e → Stands logs g → Reaches logs e g → when e < when g
+  reaches-later e g s t h = leads-later e h.0 g s t h.1
+
+  -- what stands in a log is made in each front behind its place
+  pub stands-made : (test : Note → Bool) (lane at k : ℕ) (n : Note) → StandsAt logs lane at n → test n ≡ true
+      → place logs o lane at < k → 0 < made test (take k o.steps)
+  stands-made test lane at k n is passes low =
+      found-made test o.steps (place logs o lane at) k (record { lane = lane; note = n }) (there logs o lane at n is)
+      passes low
+
+  -- what is made in a front stands in a log, and before the front's end
+  pub made-stands : (test : Note → Bool) (k : ℕ) → 0 < made test (take k o.steps)
+      → (lane at : ℕ) × (n : Note) × StandsAt logs lane at n × (test n ≡ true) × (place logs o lane at < k)
+  made-stands test k more =
+      let f = made-found test o.steps k more in
+      let r = noted logs o f.0 f.1 f.3 in
+      (f.1.lane, r.0, f.1.note, r.1, f.4, omega (arith, f.2, r.2))
+
+module _ (run : Run) (legal : IsLegal run) (o : InOneOrder (logs_of run)) where
+  abbrev logs : Logs
+  logs = logs_of run
+
+  abbrev pub notes : StandInOneLog logs
+  notes = roots-in_one_log run legal
+
+  -- a birth stands at the place of its root
+  pub birth-stands : (root : RootId) (region : RegionId) (lane at number : ℕ) (object : Object)
+      → StandsAt logs lane at (At object number (Birth root region))
+      → StandsAt logs lane at (At (Object.Root root.place) number (Birth root region))
+  birth-stands root region lane at number object is =
+      is ∙ ap (λ x. Some (At x number (Birth root region)))
+      (note-placed run.shape logs (paged run legal) (acts-of run legal) lane at number object (Birth root region) is)
+
+  -- when a root is born
+  abbrev pub born_when : {root : RootId} {region : RegionId} → IsUse logs root region → ℕ
+  born_when u = place logs o u.lane u.at
+
+  -- a root is born once
+  pub born-same : (root : RootId) (a b : RegionId) (u : IsUse logs root a) (v : IsUse logs root b)
+      → born_when u ≡ born_when v
+  born-same root a b u v =
+      let once = (notes.born root a u).birth_once a b u v in λ i. place logs o (once.0 i) (once.1 i)
+
+  -- so two births at two moments are of two roots
+  pub born-apart : (root other : RootId) (a b : RegionId) (u : IsUse logs root a) (v : IsUse logs other b)
+      → born_when u < born_when v → root ≡ other → ⊥
+  born-apart root other a b u v less same =
+      let moved : IsUse logs root b =
+      record {
+        lane = v.lane;
+        at = v.at;
+        number = v.number;
+        birth = v.birth ∙ ap (λ z. Some (At (Object.Root z.place) v.number (Birth z b))) (sym same);
+      } in
+      omega (arith, less, born-same root a b u moved)
+
+  -- a front in which a root is born has its birth
+  pub birth-found : (root : RootId) (k : ℕ) → 0 < made (is_birth root) (take k o.steps)
+      → (region : RegionId) × (u : IsUse logs root region) × (born_when u < k)
+  birth-found root k more =
+      let f = made-stands logs o (is_birth root) k more in
+      let b = birth-is root f.2 f.4 in (
+        b.2,
+        record {
+          lane = f.0;
+          at = f.1;
+          number = b.1;
+          birth = birth-stands root b.2 f.0 f.1 b.1 b.0 (f.3 ∙ ap Some b.3);
+        },
+        f.5,
+      )
+
+  pub birth-before : (root : RootId) (region : RegionId) (u : IsUse logs root region) (k : ℕ)
+      → 0 < made (is_birth root) (take k o.steps) → born_when u < k
+  birth-before root region u k more =
+      let f = birth-found root k more in omega (arith, f.2, born-same root region f.0 u f.1)
+
+  -- the release that ends a root stands before its end
+  pub ended-first : (root : RootId) (f : Event) (k : ℕ) → Stands logs f → f.did ≡ End root → when logs o f ≤ k
+      → 0 < made (ends_root root) (take k o.steps)
+  ended-first root f k s is low =
+      let stands : StandsAt logs f.lane f.at (At f.object f.number (End root)) =
+      s ∙ ap (λ d. Some (At f.object f.number d)) is in
+      let here : f.object ≡ Object.Root root.place =
+      note-placed run.shape logs (paged run legal) (acts-of run legal) f.lane f.at f.number f.object (End root)
+      stands in
+      let h : HasEnded logs root =
+      notes.end root (record {
+        lane = f.lane;
+        at = f.at;
+        number = f.number;
+        stands = stands ∙ ap (λ object. Some (At object f.number (End root))) here;
+      }) in
+      let once = h.end_once h.end (record {
+        lane = f.lane;
+        at = f.at;
+        number = f.number;
+        stands = stands ∙ ap (λ object. Some (At object f.number (End root))) here;
+      }) in
+      let same : place logs o h.end.lane h.end.at ≡ when logs o f = (λ i. place logs o (once.0 i) (once.1 i)) in
+      let first : place logs o h.end.lane h.ended.at < place logs o h.end.lane h.end.at =
+      later-in_log logs o h.end.lane h.ended.at h.end.at (At (Object.Root root.place) h.end.number (End root))
+      h.end.stands h.order.0 in
+      let lane : place logs o h.ended.lane h.ended.at ≡ place logs o h.end.lane h.ended.at =
+      ap (λ l. place logs o l h.ended.at) (sym h.same_log.0) in
+      stands-made logs o (ends_root root) h.ended.lane h.ended.at k (Ref root RefDid.Ended) h.ended.stands
+      (same_root-refl root) (omega (arith, same, first, lane, low))

@@ -1,0 +1,8 @@
+-- No order fits, as the search tells.
+use Rattle.std.proofs.Common.{refl}
+use Rattle.run_order.specs.Forged.{freed_in_the_mail}
+use Rattle.run_order.proofs.Stuck.{in-no_order}
+use Rattle.run_order.proofs.forged.freed_in_the_mail_is_refused.Goals as goal
+
+pub returns : goal.returns
+returns c = record { refused = in-no_order 24 freed_in_the_mail refl }
