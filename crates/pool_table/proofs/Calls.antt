@@ -1,13 +1,13 @@
 -- The steps as the calls ask for them: the key, the object and the slot come by equations.
 use Rattle.step_law.specs.Settings.{Setting}
-use Rattle.std.proofs.Common.{◌≡◌, ◌≢◌, ℕ, ◌+◌, ◌-◌, ◌*◌, ◌%◌, ◌^◌, ◌<◌, List, [], ◌∷◌, ◌++◌, sym, refl, ◌∙◌, subst, arith, ◌/◌}
+use Rattle.std.proofs.Common.{◌≡◌, ◌≢◌, ℕ, ◌+◌, ◌-◌, ◌*◌, ◌%◌, ◌^◌, ◌<◌, ◌≤◌, List, [], ◌∷◌, ◌++◌, sym, refl, ◌∙◌, subst, arith, ◌/◌}
 use Rattle.std.specs.Prelude.{Option, Some, None, bit_or}
 use mathlib.Core.Option.{none}
 use Rattle.atomic_table.specs.Table.{Me, step, Allows, Splits, Joins}
 use Rattle.pool_law.specs.declared.run.Shape.{Shape}
 use Rattle.pool_law.specs.declared.note.Noted.{Noted}
 use Rattle.pool_law.specs.declared.note.Object.{Object}
-use Rattle.pool_law.specs.declared.note.Object.TheVariants.{Arena, Cache, Bin, Mail, Root}
+use Rattle.pool_law.specs.declared.note.Object.TheVariants.{Root}
 use Rattle.pool_law.specs.Homes.{IsObjectOf}
 use Rattle.pool_table.specs.Slots.{slots_of, slot_of}
 use Rattle.table_law.specs.Histories.{IsHistory}
@@ -18,7 +18,7 @@ use Rattle.pool_table.specs.declared.views.SeatView.{SeatView}
 use Rattle.pool_table.specs.Words.{words_of, word_of, count_word_of}
 use Rattle.pool_table.proofs.Words.{object_word}
 use Rattle.pool_law.specs.declared.id.RootId.{RootId}
-use Rattle.pool_table.specs.Hands.{PutsDown}
+use Rattle.pool_table.specs.Hands.{MayLeave, PutsDown}
 use Rattle.pool_table.specs.Hands.{InHand, Waits, HasEnded, MayEnter}
 use Rattle.pool_table.specs.Counts.{HasCount, HasToken}
 use Rattle.pool_table.proofs.Presence.{next_birth}
@@ -26,13 +26,12 @@ use Rattle.pool_law.specs.NotedHistories.{MayNote}
 use Rattle.pool_table.specs.Sound.{IsSound, IsMarked, WasHeld}
 use Rattle.pool_table.specs.declared.table.Slot.{Slot}
 use Rattle.pool_table.specs.Sections.{IsInside, StandsFor}
-use Rattle.pool_table.specs.Seats.{IsMail}
 use Rattle.pool_table.specs.Steps.{IsFree}
 use Rattle.std.specs.Prelude.{Bool, true, false, MatchBool}
 use Rattle.atomic_table.specs.Table.{Step, rest}
 use Rattle.pool_table.specs.Views.{blank, joined}
-use Rattle.pool_table.specs.Steps.{claims, marks_claims, GotIn, counts_one, dones, idles, blank_beside, retains, looks, releases, vacates, births}
-use Rattle.pool_table.proofs.Seatings.{splits_allowed, joins_allowed}
+use Rattle.pool_table.specs.Steps.{claims, marks_claims, GotIn, counts_one, dones, idles, blank_beside, share_left, share_of, retains, looks, releases, vacates, births}
+use Rattle.pool_table.proofs.Seatings.{splits_allowed, shares_allowed, joins_allowed}
 use Rattle.pool_table.proofs.Hands.{births_allowed, hand_place}
 use Rattle.pool_table.proofs.Exact.{born_place, count_born, token_born}
 use Rattle.pool_table.proofs.OneRoot.{one_allowed}
@@ -47,13 +46,6 @@ pub word_within : (s : Shape) (o : Object) (word words : ℕ) → IsObjectOf s o
     → word < words
 word_within s o word words fits is are =
     subst (λ (y : ℕ × ℕ). y.0 < y.1) (λ q. (sym is q, sym are q)) (object_word s o fits)
-
-pub unmarked_mail : (o : Object) → IsMail o → IsMarked o → ⊥
-unmarked_mail (Arena a) m k = k
-unmarked_mail (Cache c d) m k = m
-unmarked_mail (Bin b) m k = k
-unmarked_mail (Mail f t) m k = k
-unmarked_mail (Root p) m k = m
 
 -- what a birth tells, by the root's name
 pub births_told : {H : Type 0} (r root : RootId) (s : Step (Option H)) (me : Me (Option H) SeatView) (found : ℕ)
@@ -115,21 +107,27 @@ module _ {H : Type 0} (stands : List ℕ → Setting → List Noted → H → Ty
   pub idles_as : (l key : Layout) (o : Object) (slots : ℕ) (slot : Slot) (id id' : ℕ) (me me' : Me (Option H) SeatView)
       (h : List Noted) (home : H) → key ≡ l → slots ≡ slots_of l.shape → IsInside l.shape me o slot h → id' ≡ id
       → me' ≡ (me.0, (slot.home, Some home) ∷ [])
-      → IsMail o → StandsFor stands (measures_of l.shape o) me.0 h home
+      → MayLeave me.0 o → StandsFor stands (measures_of l.shape o) me.0 h home
       → Allows (IsSound stands key) slots id' me' slot.word (λ n. (n + (2 ^ 64 - 1)) % 2 ^ 64)
       (idles (step slots slot.word 1 0 none) me')
-  idles_as l key o slots slot id id' me me' h home ke se inside ide is mail stands_for =
+  idles_as l key o slots slot id id' me me' h home ke se inside ide is leave stands_for =
       subst (λ (y : Layout × ℕ × ℕ × ℕ × Me (Option H) SeatView). Allows (IsSound stands y.0) y.1 y.2 y.4 y.3
       (λ n. (n + (2 ^ 64 - 1)) % 2 ^ 64) (idles (step y.1 y.3 1 0 none) y.4))
       (λ q. (sym ke q, sym se q, sym ide q, sym inside.word_is q, sym is q))
       (idles_allowed stands l id (me.0, (slot.home, Some home) ∷ []) o slot.home h home inside.object inside.slot_is
-      inside.inside refl (unmarked_mail o mail) stands_for)
+      inside.inside refl leave stands_for)
 
   pub splits_as : (l key : Layout) (id : ℕ) (v : SeatView) → key ≡ l → v.inside ≡ None
       → Splits (IsSound stands key) id v v (blank_beside v)
   splits_as l key id v ke out =
       subst (λ (k : Layout). Splits (IsSound stands k) id v v (blank_beside v)) (sym ke)
       (splits_allowed stands l id v out)
+
+  pub shares_as : (l key : Layout) (n n' id : ℕ) (v : SeatView) → key ≡ l → n' ≡ n → v.inside ≡ None → n ≤ v.moves
+      → Splits (IsSound stands key) id v (share_left n' v) (share_of n' v)
+  shares_as l key n n' id v ke ne out le =
+      subst (λ (y : Layout × ℕ). Splits (IsSound stands y.0) id v (share_left y.1 v) (share_of y.1 v))
+      (λ i. (sym ke i, sym ne i)) (shares_allowed stands l n id v out le)
 
   pub joins_as : (l key : Layout) (id other : ℕ) (v w : SeatView) → key ≡ l → v.inside ≡ None → w.inside ≡ None
       → Joins (IsSound stands key) id v other w (joined v w) (blank None)
@@ -227,10 +225,10 @@ module _ {H : Type 0} (stands : List ℕ → Setting → List Noted → H → Ty
         (λ lt. vacates_allowed stands l id me root lt has ended out)))
 
     pub births_as : 0 < l.shape.handles → InHand root.place me.0
-        → (q : RootId) × (q.place ≡ root.place) × (q.capacity ≡ root.capacity) × Waits q me.0 → 0 < me.0.moves
-        → Allows (IsSound stands key) slots id me word (λ n. (n + 4294967297) % 2 ^ 64)
+        → (q : RootId) × (q.place ≡ root.place) × (q.capacity ≡ root.capacity) × Waits q me.0
+        × (q.generation < 4294967296) → Allows (IsSound stands key) slots id me word (λ n. (n + 4294967297) % 2 ^ 64)
         (counts_one (births root') (step slots word 4294967297 0 none) me)
-    births_as some_handle has waits moves =
+    births_as some_handle has waits =
         one_allowed stands key slots id me word (λ n. (n + 4294967297) % 2 ^ 64) (births root')
         (step slots word 4294967297 0 none)
         (subst (λ (y : Layout × ℕ × RootId). Allows (IsSound stands y.0) y.1 id me word (λ n. (n + 4294967297) % 2 ^ 64)
@@ -239,4 +237,4 @@ module _ {H : Type 0} (stands : List ℕ → Setting → List Noted → H → Ty
         (births root (step (slots_of l.shape) word 4294967297 0 none) me)
         (λ s r at. hand_place stands l some_handle s r id root.place me.0 at has) is
         (λ lt. births_allowed stands l id me root lt has waits
-        (λ s r lt g at less. next_birth stands l s r id root.place g me.0 lt at less) moves out)))
+        (λ s r lt g at less. next_birth stands l s r id root.place g me.0 lt at less) out)))

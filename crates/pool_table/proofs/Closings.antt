@@ -24,9 +24,10 @@ use Rattle.pool_table.specs.declared.views.SeatView.{SeatView}
 use Rattle.pool_table.specs.Views.{Face, parts_of, is_at, is_lane, is_numbered, face, strand, inside_at, is_in, inside_total, in_face, total, numbered, one_if}
 use Rattle.std.proofs.lemmas.List.Sums.{sum_by-cons}
 use Rattle.std.proofs.lemmas.List.Elements.{All-cons, All-nil}
-use Rattle.pool_table.specs.Counts.{IsCounted, weigh, on_root, on_place, ref_retain, reached}
+use Rattle.pool_table.specs.Counts.{IsCounted, weigh, on_root, on_place, place_tally, ref_retain, ref_kept}
 use Rattle.pool_table.proofs.Looks.{looks_regroup}
 use Rattle.pool_table.proofs.Order.{order_regroups}
+use Rattle.pool_table.proofs.Sequence.{one_regroups}
 use Rattle.pool_table.proofs.Births.{born_regroups}
 use Rattle.pool_table.proofs.Exact.{one_born}
 use Rattle.pool_table.specs.Births.{IsBorn}
@@ -36,6 +37,7 @@ use Rattle.pool_law.specs.declared.id.RegionId.{RegionId}
 use Rattle.pool_table.proofs.Ledgers.{sum_add}
 use Rattle.pool_table.proofs.Regions.{in_one_hold}
 use Rattle.pool_law.specs.declared.id.RootId.{RootId}
+use Rattle.pool_table.proofs.References.{small_count}
 use Rattle.pool_table.proofs.Counts.{other_kept}
 use Rattle.pool_table.proofs.Weights.{weigh_none}
 use Rattle.pool_table.specs.Sound.{IsSound, IsView, IsTold, IsIdle}
@@ -167,7 +169,17 @@ module _ {H : Type 0} (stands : List ℕ → Setting → List Noted → H → Ty
         home_count = wide;
         setting = r.setting;
         view = fine;
-        few = (let a = r.few in let b = r.moved in let c = sum_at reached s.views id v at in omega (arith, a, b, c));
+        few =
+            λ p lt k. let a =
+            alone_weighs s r id v at all (on_place ref_retain p) in let b =
+            alone_weighs s r id v at all (on_place ref_kept p) in
+            let c = k.beyond in let d = (r.counts p lt).beyond in let small = small_count stands l s r p lt in
+            let x : ℕ = k.count in let y : ℕ = (r.counts p lt).count in let t : ℕ = place_tally ref_retain p s.views in
+            let u : ℕ = place_tally ref_kept p s.views in let t' : ℕ = place_tally ref_retain p (v ∷ []) in
+            let u' : ℕ = place_tally ref_kept p (v ∷ []) in
+            let a' : t' ≡ t = a in let b' : u' ≡ u = b in let c' : t' ≡ u' + (x - 1) = c in let d' : t
+            ≡ u + (y - 1) = d in let small' : y ≤ 1073741824 = small in
+            omega (arith, a', b', c', d', small');
         alone =
             λ q t bq bt ep eg. one_born stands l s r q t (in_all s r id v at all q bq) (in_all s r id v at all t bt) ep
             eg;
@@ -188,6 +200,11 @@ module _ {H : Type 0} (stands : List ℕ → Setting → List Noted → H → Ty
             looks_regroup s.views (v ∷ []) (λ p g. alone_weighs s r id v at all (on_root ref_retain p g))
             (regroups s id v at) r.looks;
         order = order_regroups s.views (v ∷ []) (regroups s id v at) r.order;
+        one_order =
+            one_regroups l.shape s.views (v ∷ []) (alone_weighs s r id v at all)
+            (λ P empty each. All-cons (λ (u : SeatView). All P (parts_of u)) v []
+            (each_at (λ (u : SeatView). All P (parts_of u)) s.views id v each at)
+            (All-nil (λ (u : SeatView). All P (parts_of u)))) r.one_order;
         counts =
             λ p lt. subst (IsCounted p (v ∷ []))
             (ap (λ (ws : List ℕ). slice_index ws (count_word_of l.shape p)) same

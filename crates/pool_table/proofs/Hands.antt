@@ -1,6 +1,6 @@
 -- A view with a root place in its hands: the place is vacant.
 use Rattle.step_law.specs.Settings.{Setting}
-use Rattle.std.proofs.Common.{◌≡◌, ℕ, suc, ◌+◌, ◌-◌, ◌*◌, ◌/◌, ◌%◌, ◌^◌, ◌<◌, ◌≤◌, List, [], ◌∷◌, map, set, Bool, true, false, cond, eqb, true≢false, sym, refl, ap, ◌∙◌, subst, inr, ⊎_elim, arith, eq-eqb, ne_eqb}
+use Rattle.std.proofs.Common.{◌≡◌, ℕ, suc, ◌+◌, ◌*◌, ◌/◌, ◌%◌, ◌^◌, ◌<◌, ◌≤◌, List, [], ◌∷◌, map, set, Bool, true, false, cond, true≢false, sym, refl, ap, ◌∙◌, subst, inr, ⊎_elim, arith, eq-eqb, ne_eqb}
 use Rattle.std.proofs.Math.Nat.{div-lt_iff_lt-mul}
 use Rattle.std.specs.Prelude.{Option, None, All, sum_by, filter, slice_index}
 use Rattle.std.proofs.lemmas.List.Elements.{All-head, All-tail, All-weaker}
@@ -16,8 +16,7 @@ use Rattle.pool_law.specs.declared.note.Did.{Did}
 use Rattle.pool_law.specs.declared.note.Noted.{Noted}
 use Rattle.pool_law.specs.declared.note.Object.TheVariants.{Bin}
 use Rattle.pool_law.specs.declared.id.RootId.{RootId}
-use Rattle.pool_law.specs.declared.note.RefDid.{RefDid}
-use Rattle.pool_law.specs.declared.note.RefDid.TheVariants.{Born, Retain, Kept, Ended, Vacated, Look}
+use Rattle.pool_law.specs.declared.note.RefDid.TheVariants.{Born}
 use Rattle.pool_law.specs.Homes.{home_of, IsObjectOf}
 use Rattle.pool_table.specs.Slots.{slots_of}
 use Rattle.pool_table.specs.Words.{count_word_of}
@@ -29,7 +28,7 @@ use Rattle.pool_table.specs.declared.views.Layout.{Layout}
 use Rattle.pool_table.specs.declared.views.Part.{Part}
 use Rattle.pool_table.specs.declared.views.SeatView.{SeatView}
 use Rattle.pool_table.specs.Views.{parts_of, is_about, face, strand, noted_weight, noted_in, noted_total}
-use Rattle.pool_table.specs.Counts.{IsCounted, ref_born, ref_vacated, on_place, place_tally, any_gain, ref_gain, weigh, reached, on_root, on_exact, tally, with_ref, ref_loss, fetches, posts, HasCount}
+use Rattle.pool_table.specs.Counts.{IsCounted, ref_born, ref_vacated, on_place, place_tally, ref_gain, weigh, on_root, on_exact, tally, with_ref, ref_loss, fetches, posts, HasCount}
 use Rattle.pool_table.specs.Hands.{at_in, at_out, taken, put_down, InHand, IsBearing, Waits, at_birth_of, at_birth_as}
 use Rattle.pool_table.specs.Sound.{IsSound, IsView, Stands}
 use Rattle.pool_table.specs.Steps.{births}
@@ -37,6 +36,7 @@ use Rattle.pool_table.proofs.Counts.{born_kept, weigh_ref}
 use Rattle.pool_table.proofs.Weights.{weigh_none, strict_sum}
 use Rattle.pool_table.specs.Births.{IsBorn}
 use Rattle.pool_table.proofs.Exact.{counted_of}
+use Rattle.pool_table.proofs.Fitting.{born_fits}
 use Rattle.pool_table.proofs.References.{own_step, ref_changes, counted_more, settled_more, handy_less, orderly_born, exact_le}
 
 -- what a filter leaves out weighs nothing
@@ -135,41 +135,7 @@ module _ {H : Type 0} (stands : List ℕ → Setting → List Noted → H → Ty
       ≡ k.generation = b in let c' : va + 1 ≡ k.generation + k.vacant = c in
       omega (arith, strict', st', b', c', f)
 
-  born_le : (p : ℕ) (e : Entry) → on_place ref_born p e ≤ any_gain e
-  born_le p (At o k n) = omega arith
-  born_le p (Ref r d) = at_most (eqb r.place p) d
-    where
-      less : (d : RefDid) → ref_born d ≤ ref_gain d
-      less Born = omega arith
-      less Retain = omega arith
-      less Kept = omega arith
-      less Ended = omega arith
-      less Vacated = omega arith
-      less (Look k) = omega arith
-
-      at_most : (b : Bool) (d : RefDid) → cond {A = ℕ} b (ref_born d) 0 ≤ ref_gain d
-      at_most true d = less d
-      at_most false d = omega arith
-  born_le p (Busy b) = omega arith
-
-  pub small_generation : (s : St) (r : IsSound stands l s) (p : ℕ) (lt : p < l.shape.lanes * l.shape.handles)
-      → (r.counts p lt).generation < 1073741824
-  small_generation s r p lt =
-      let k = r.counts p lt in
-      let le : place_tally ref_born p s.views ≤ sum_by reached s.views =
-      sum_by-le-sum_by (weigh (on_place ref_born p)) reached s.views
-      (λ v. let a : weigh (on_place ref_born p) v ≤ weigh any_gain v =
-      sum_by-le-sum_by (λ (q : Part). sum_by (on_place ref_born p) q.notes)
-      (λ (q : Part). sum_by any_gain q.notes) (parts_of v)
-      (λ q. sum_by-le-sum_by (on_place ref_born p) any_gain q.notes (born_le p)) in
-      omega (arith, a)) in
-      let a = k.all_born in let b = r.moved in let c = r.few in
-      let x : ℕ = place_tally ref_born p s.views in let y : ℕ = sum_by reached s.views in let t : ℕ =
-      l.shape.lanes * l.moves in
-      let le' : x ≤ y = le in let a' : x ≡ k.generation = a in let b' : y ≤ t = b in let c' : t < 1073741824 = c in
-      omega (arith, le', a', b', c')
-
-  next_word : (word g c v : ℕ) → word ≡ g * 4294967296 + (2 * c + v) → c ≡ 0 → v ≡ 1 → g < 1073741824
+  next_word : (word g c v : ℕ) → word ≡ g * 4294967296 + (2 * c + v) → c ≡ 0 → v ≡ 1 → g + 1 < 4294967296
       → ((word + 4294967297) % 2 ^ 64 ≡ word + 4294967297) × (word / 4294967296 ≡ g)
   next_word word g c v e cz vo lt = (omega (arith, e, cz, vo, lt), omega (arith, e, cz, vo))
 
@@ -237,21 +203,23 @@ module _ {H : Type 0} (stands : List ℕ → Setting → List Noted → H → Ty
   pub births_allowed : (id : ℕ) (me : Me (Option H) SeatView) (root : RootId)
       → root.place < l.shape.lanes * l.shape.handles → InHand root.place me.0
       → (q : RootId) × (q.place ≡ root.place) × (q.capacity ≡ root.capacity) × Waits q me.0
-      → ((s : St) (r : IsSound stands l s) (lt : root.place < l.shape.lanes * l.shape.handles) (g : ℕ)
-      → get_elem? s.views id ≡ some me.0 → weigh (on_root ref_born root.place g) me.0 < weigh (at_birth_of root.place g)
-      me.0 → g ≡ (r.counts root.place lt).generation + 1) → 0 < me.0.moves → me.0.inside ≡ None
+      × (q.generation < 4294967296) → ((s : St) (r : IsSound stands l s)
+      (lt : root.place < l.shape.lanes * l.shape.handles) (g : ℕ) → get_elem? s.views id ≡ some me.0
+      → weigh (on_root ref_born root.place g) me.0 < weigh (at_birth_of root.place g) me.0
+      → g ≡ (r.counts root.place lt).generation + 1) → me.0.inside ≡ None
       → Allows (IsSound stands l) (slots_of l.shape) id me (count_word_of l.shape root.place)
       (λ n. (n + 4294967297) % 2 ^ 64)
       (births root (step (slots_of l.shape) (count_word_of l.shape root.place) 4294967297 0 none) me)
-  births_allowed id me root lt has waits next moves out s r _ at under =
+  births_allowed id me root lt has waits next out s r _ at under =
       let p : ℕ = root.place in let v : SeatView = me.0 in
       let bearing = waits_place waits in let less = waits_generation waits in let noted = waits_capacity waits in
       let this : (waits.0).generation ≡ (r.counts p lt).generation + 1 = next s r lt (waits.0).generation at less in
-      let k = r.counts p lt in let vac = hand_word s r id p v lt at has in let m : ℕ = v.moves - 1 in
-      let word : ℕ = slice_index s.words (count_word_of l.shape p) in
+      let k = r.counts p lt in let vac = hand_word s r id p v lt at has in let m : ℕ = v.moves in
+      let word : ℕ = slice_index s.words (count_word_of l.shape p) in let fits : k.generation + 1 < 4294967296 =
+      (let low = waits_low waits in omega (arith, this, low)) in
       let over : k.count ≡ 0 = dite (ℕ_discrete k.count 0) (λ z. z)
       (λ ne. let a = k.live (omega (arith, ne)) in absurd (omega (arith, a, vac))) in
-      let nx = next_word word k.generation k.count k.vacant k.word_is over vac (small_generation s r p lt) in
+      let nx = next_word word k.generation k.count k.vacant k.word_is over vac fits in
       let r' : RootId = record { place = p; generation = word / 4294967296 + 1; capacity = root.capacity } in
       let gen : r'.generation ≡ k.generation + 1 = ap (λ (n : ℕ). n + 1) nx.1 in
       let fine = each_at (IsView l.shape r.setting) s.views id v r.views at in (
@@ -259,8 +227,7 @@ module _ {H : Type 0} (stands : List ℕ → Setting → List Noted → H → Ty
         keeps,
         tt,
         ref_changes stands l s r id p ((word + 4294967297) % 2 ^ 64) m v r' Born lt refl out at
-            (awake_hand s r id p v at has)
-            (let n : ℕ = v.moves in let pos : 0 < n = moves in let g : 1 + (n - 1) ≤ n = omega (arith, pos) in g)
+            (awake_hand s r id p v at has) (let n : ℕ = v.moves in let g : 0 + n ≤ n + 0 = omega arith in g)
             (counted_more stands l v r' Born m fine.counted refl) (settled_more stands l v r' Born m fine.settled refl)
             (handy_less stands l v r' m fine.handy has) (orderly_born stands l v r' m fine.roots bearing
             (subst (λ (g : ℕ). weigh (on_root ref_born p g) v < weigh (at_birth_of p g) v) (this ∙ sym gen) less)
@@ -286,17 +253,17 @@ module _ {H : Type 0} (stands : List ℕ → Setting → List Noted → H → Ty
             omega (arith, none_yet, some_noted)))
             (λ k e. absurd (cc e))
             (subst (IsCounted p (set s.views id (with_ref v r' Born m))) (sym nx.0)
-            (born_kept p s.views id v r' m at refl word k gen vac))
+            (born_kept p s.views id v r' m at refl word k gen vac fits))
             (let some_noted : 0 < weigh (at_birth_as p r'.generation root.capacity) v =
             subst (λ (g : ℕ). 0 < weigh (at_birth_as p g root.capacity) v) (this ∙ sym gen) noted in let le =
             sum_at (weigh (at_birth_as p r'.generation root.capacity)) s.views id v at in
             let g : 0 < sum_by (weigh (at_birth_as p r'.generation root.capacity)) s.views =
             omega (arith, some_noted, le) in
-            g),
+            g)
+            (born_fits stands l s r r.one_order r' lt gen vac),
         (
-          (let a : word / 4294967296 ≡ k.generation = nx.1 in let b = small_generation s r p lt in
-              let g : word / 4294967296 < 1073741824 = subst (λ (n : ℕ). n < 1073741824) (sym a) b in
-              g),
+          (let a : word / 4294967296 ≡ k.generation = nx.1 in let g : word / 4294967296 + 1 < 4294967296 =
+              subst (λ (n : ℕ). n + 1 < 4294967296) (sym a) fits in g),
           refl,
           counts_it s r id v r' m at
               (let some_noted : 0 < weigh (at_birth_as p r'.generation root.capacity) v =
@@ -305,28 +272,34 @@ module _ {H : Type 0} (stands : List ℕ → Setting → List Noted → H → Ty
               omega (arith, some_noted, le)),
           λ q ep ec w. let gq : q.generation
               ≡ r'.generation =
-              next s r lt q.generation at (waits_generation (q, ep, ec, w))
+              next s r lt q.generation at (subst
+              (λ (p : ℕ). weigh (on_root ref_born p q.generation) me.0 < weigh
+              (at_birth_of p q.generation) me.0) ep w.generation)
               ∙ sym gen in λ i. record {
                 place = sym ep i;
-                generation = sym gq i;
-                capacity =
-                    sym ec i;
+                generation =
+                    sym gq i;
+                capacity = sym ec i;
               },
         ),
       )
     where
-      waits_place : (q : RootId) × (q.place ≡ root.place) × (q.capacity ≡ root.capacity) × Waits q me.0
-          → IsBearing root.place me.0
-      waits_place (q, ep, ec, w) = subst (λ (p : ℕ). IsBearing p me.0) ep w.place
+      waits_low : (w : (q : RootId) × (q.place ≡ root.place) × (q.capacity ≡ root.capacity) × Waits q me.0
+          × (q.generation < 4294967296)) → (w.0).generation < 4294967296
+      waits_low (q, ep, ec, w, low) = low
 
-      waits_generation : (w : (q : RootId) × (q.place ≡ root.place) × (q.capacity ≡ root.capacity) × Waits q me.0)
-          → weigh (on_root ref_born root.place (w.0).generation) me.0 < weigh (at_birth_of root.place (w.0).generation)
-          me.0
-      waits_generation (q, ep, ec, w) =
+      waits_place : (q : RootId) × (q.place ≡ root.place) × (q.capacity ≡ root.capacity) × Waits q me.0
+          × (q.generation < 4294967296) → IsBearing root.place me.0
+      waits_place (q, ep, ec, w, low) = subst (λ (p : ℕ). IsBearing p me.0) ep w.place
+
+      waits_generation : (w : (q : RootId) × (q.place ≡ root.place) × (q.capacity ≡ root.capacity) × Waits q me.0
+          × (q.generation < 4294967296)) → weigh (on_root ref_born root.place (w.0).generation) me.0 < weigh
+          (at_birth_of root.place (w.0).generation) me.0
+      waits_generation (q, ep, ec, w, low) =
           subst (λ (p : ℕ). weigh (on_root ref_born p q.generation) me.0 < weigh (at_birth_of p q.generation) me.0) ep
           w.generation
 
-      waits_capacity : (w : (q : RootId) × (q.place ≡ root.place) × (q.capacity ≡ root.capacity) × Waits q me.0)
-          → 0 < weigh (at_birth_as root.place (w.0).generation root.capacity) me.0
-      waits_capacity (q, ep, ec, w) =
+      waits_capacity : (w : (q : RootId) × (q.place ≡ root.place) × (q.capacity ≡ root.capacity) × Waits q me.0
+          × (q.generation < 4294967296)) → 0 < weigh (at_birth_as root.place (w.0).generation root.capacity) me.0
+      waits_capacity (q, ep, ec, w, low) =
           subst (λ (y : ℕ × ℕ). 0 < weigh (at_birth_as y.0 q.generation y.1) me.0) (λ i. (ep i, ec i)) w.capacity

@@ -1,5 +1,6 @@
 pub mod Lists
 pub mod Order
+pub mod Sequence
 pub mod Looks
 pub mod Births
 pub mod Makers
@@ -14,6 +15,7 @@ pub mod Holdings
 pub mod Weights
 pub mod Objects
 pub mod Tables
+pub mod Fitting
 pub mod Moves
 pub mod Seatings
 pub mod Calls
@@ -21,6 +23,7 @@ pub mod Openings
 pub mod Closings
 pub mod Starts
 pub mod Partition
+pub mod Beyond
 pub mod Exact
 pub mod Putting
 pub mod Transit
@@ -36,3 +39,4 @@ pub mod Presence
 pub mod RootCalls
 pub mod Turns
 mod Trials
+mod FirstRoot

@@ -1,6 +1,6 @@
 -- Each step of a section keeps the rule.
 use Rattle.step_law.specs.Settings.{Setting}
-use Rattle.std.proofs.Common.{◌≡◌, ◌≢◌, ◌⊎◌, ℕ, ◌+◌, ◌-◌, ◌*◌, ◌/◌, ◌%◌, ◌^◌, ◌<◌, ◌≤◌, List, [], ◌∷◌, ◌++◌, map, length, set, Bool, true, false, cond, eqb, sym, refl, ap, ◌∙◌, subst, inl, inr, ⊎_elim, arith, length-set, eq-eqb, ne_eqb, le_refl}
+use Rattle.std.proofs.Common.{◌≡◌, ◌≢◌, ◌⊎◌, ℕ, ◌+◌, ◌-◌, ◌*◌, ◌/◌, ◌%◌, ◌^◌, ◌<◌, ◌≤◌, List, [], ◌∷◌, ◌++◌, map, length, set, Bool, true, false, cond, eqb, sym, refl, ap, ◌∙◌, subst, inl, inr, ⊎_elim, arith, length-set, length-append, append-nil, eq-eqb, ne_eqb, le_refl}
 use Rattle.std.specs.Prelude.{Option, Some, None, IfSome, All, sum_by, count_by, slice_index, bit_or, bit_and}
 use Rattle.std.specs.Int.Bits.{or_add_and}
 use Rattle.std.proofs.lemmas.Nat.{and_mask}
@@ -20,13 +20,13 @@ use Rattle.step_law.proofs.Changes.{each_at, sum_at}
 use Rattle.pool_law.specs.declared.note.Held.{Held}
 use Rattle.pool_law.specs.declared.note.Noted.{Noted}
 use Rattle.pool_law.specs.declared.note.Object.{Object}
-use Rattle.pool_law.specs.declared.note.Object.TheVariants.{Root}
+use Rattle.pool_law.specs.declared.note.Object.TheVariants.{Arena, Cache, Bin, Mail, Root}
 use Rattle.pool_law.specs.Homes.{home_of, IsObjectOf}
 use Rattle.pool_table.specs.Slots.{slots_of, slot_of}
 use Rattle.pool_table.proofs.Slots.{slot_within}
 use Rattle.table_law.specs.Measures.{measures_of}
 use Rattle.pool_table.specs.Words.{word_of}
-use Rattle.table_law.specs.Histories.{IsHistory}
+use Rattle.table_law.specs.Histories.{IsHistory, root_after}
 use Rattle.pool_law.specs.Naming.{noted_by}
 use Rattle.table_law.proofs.Apart.{one_home}
 use Rattle.pool_table.specs.declared.views.Entry.{Entry}
@@ -48,11 +48,11 @@ use Rattle.pool_table.proofs.Regions.{arena_tells, few_uses, in_hand_once, next_
 use Rattle.pool_table.proofs.OwnCaches.{cache_tells}
 use Rattle.pool_table.proofs.Hands.{hand_place}
 use Rattle.pool_table.proofs.Makers.{each_may}
-use Rattle.pool_table.proofs.Places.{hand_bin}
+use Rattle.pool_table.proofs.Places.{hand_bin, never_held}
 use Rattle.pool_table.proofs.Presence.{tells_root, birth_alone, end_first}
 use Rattle.pool_table.specs.Counts.{weigh, on_root, gained, lost, ref_ended}
 use Rattle.pool_table.specs.Hands.{PutsDown}
-use Rattle.pool_table.specs.Hands.{put_down, taken, MayEnter, at_end, InHand, NoneWaits, IsOrderly}
+use Rattle.pool_table.specs.Hands.{put_down, taken, MayEnter, at_end, InHand, NoneWaits, MayLeave, IsOrderly}
 use Rattle.pool_table.proofs.Holdings.{note_handles}
 use Rattle.pool_table.proofs.Weights.{IsWeighedSame, same_parts, same_entry, counted_parts, counted_entry, settled_same, handy_parts, handy_entry, orderly_parts, orderly_entry, enters_none}
 use Rattle.pool_table.specs.Order.{IsBelow}
@@ -62,15 +62,17 @@ use Rattle.pool_table.proofs.Births.{born_same, born_entry}
 use Rattle.pool_table.proofs.Putting.{puts_at, note_born, fetched_place}
 use Rattle.pool_table.proofs.Exact.{counted_of, vacated_of}
 use Rattle.pool_table.proofs.Order.{IsNewest, newest, order_same, order_entry}
+use Rattle.pool_table.proofs.Sequence.{one_same, one_more}
+use Rattle.pool_table.proofs.Fitting.{noted_so_far}
 use Rattle.pool_table.proofs.Newest.{newest_note}
 use Rattle.pool_table.proofs.Numbers.{next_above, last_not_below}
 use Rattle.pool_law.specs.NotedHistories.{MayNote}
-use Rattle.pool_table.specs.Sound.{IsKept, IsSound, IsView, IsTold, IsMarked, Stands, Knows, WasHeld}
+use Rattle.pool_table.specs.Sound.{IsKept, IsSound, IsView, IsTold, IsMarked, Stands, Knows, WasHeld, WasPresent}
 use Rattle.pool_table.specs.Sections.{StandsFor}
 use Rattle.pool_table.specs.Steps.{IsFree}
 use Rattle.pool_table.specs.Steps.{GotIn, claims, marks_claims, dones, idles}
 use Rattle.pool_table.proofs.Objects.{claimed_kept, marked_kept, done_kept, idled_kept}
-use Rattle.pool_table.proofs.Tables.{changes, short, holder, strand_skips, strand_takes, alone_in}
+use Rattle.pool_table.proofs.Tables.{changes, short, holder, strand_skips, strand_takes, alone_in, alone_among}
 
 or_one : (n : ℕ) → bit_or n 1 + n % 2 ≡ n + 1
 or_one n =
@@ -352,9 +354,10 @@ module _ {H : Type 0} (stands : List ℕ → Setting → List Noted → H → Ty
             }) (le_refl (spent v))
             (looks_same s.views id v w at refl r.looks)
             (order_same s.views id v w at refl r.order)
+            (one_same l.shape s.views id v w at refl r.one_order)
             (born_same s.views id v w at refl r.born)
-            (length-set s.homes d none) (λ j ne. set_else s.homes d
-            j none ne) kept',
+            (length-set s.homes d none) (λ j ne. set_else
+            s.homes d j none ne) kept',
         (
           (let e : word % 2 ≡ 0 = omega (arith, w0) in e),
           (
@@ -453,9 +456,53 @@ module _ {H : Type 0} (stands : List ℕ → Setting → List Noted → H → Ty
         ),
       ))
 
+  -- a view that finds another in the section of a root place counts the root that is present
+  present_now : (s : State (Option H) SeatView) (r : IsSound stands l s) (id : ℕ) (v : SeatView) (o : Object)
+      (fits : IsObjectOf l.shape o) → get_elem? s.views id ≡ some v
+      → WasHeld stands l o (length (r.objects o fits).history) v → ((p : ℕ) → o ≡ Root p → MayEnter p v)
+      → WasPresent o (r.objects o fits).history (length (r.objects o fits).history)
+  present_now s r id v (Root p) fits at held may = one (may p refl)
+    where
+      one : MayEnter p v → WasPresent (Root p) (r.objects (Root p) fits).history
+          (length (r.objects (Root p) fits).history)
+      one (inl (q, here, inl has)) =
+          let h : List Noted = (r.objects (Root p) fits).history in let is : root_after p h
+          ≡ Some q = (tells_root stands l s r id v (Root p) fits at p refl).counted q here has in
+          (h, [], sym (append-nil h), refl, λ e. let g : Some q ≡ None = sym is ∙ e in absurd (cc g))
+      one (inl (q, here, inr tok)) =
+          absurd (never_held stands l p (length (r.objects (Root p) fits).history) v fits held (inr (q, here, tok)))
+      one (inr hand) = absurd (never_held stands l p (length (r.objects (Root p) fits).history) v fits held (inl hand))
+  present_now s r id v (Arena a) fits at held may = tt
+  present_now s r id v (Cache m c) fits at held may = tt
+  present_now s r id v (Bin b) fits at held may = tt
+  present_now s r id v (Mail f t) fits at held may = tt
+
+  -- where a section may end with no note, no mark is the history's length
+  calm_now : (s : State (Option H) SeatView) (r : IsSound stands l s) (id : ℕ) (v : SeatView) (o : Object)
+      (fits : IsObjectOf l.shape o) → get_elem? s.views id ≡ some v → MayLeave v o → (n : ℕ) → IsMarked o
+      → WasPresent o (r.objects o fits).history n → n ≢ length (r.objects o fits).history
+  calm_now s r id v (Root p) fits at leave n marked (early, late, is, many, there) = λ same.
+      let h : List Noted = (r.objects (Root p) fits).history in let gone : root_after p h
+      ≡ None = (tells_root stands l s r id v (Root p) fits at p refl).in_hand leave.0 leave.1 in
+      let a : length h ≡ length early + length late = ap length is
+      ∙ length-append early late in let x : ℕ = length h in let y : ℕ = length early in let z : ℕ = length late in
+      let a' : x ≡ y + z = a in let same' : n ≡ x = same in let many' : y ≡ n = many in let none : z
+      ≡ 0 = omega (arith, a', same', many') in
+      there (ap (root_after p) (sym (append-nil early)
+      ∙ (ap (λ (t : List Noted). early ++ t) (sym (nothing late none)) ∙ sym is)) ∙ gone)
+    where
+      nothing : (xs : List Noted) → length xs ≡ 0 → xs ≡ []
+      nothing [] e = refl
+      nothing (y ∷ ys) e = absurd (omega (arith, e))
+  calm_now s r id v (Arena a) fits at leave n marked w = absurd (leave)
+  calm_now s r id v (Cache m c) fits at leave n marked w = absurd (leave)
+  calm_now s r id v (Bin b) fits at leave n marked w = absurd (leave)
+  calm_now s r id v (Mail f t) fits at leave n marked w = absurd (marked)
+
   -- another was in the section, and the mark is kept
   marks : (id : ℕ) (me : Me (Option H) SeatView) (o : Object) (fits : IsObjectOf l.shape o) → IsFree me → 0 < me.0.turns
-      → IsMarked o → (s : State (Option H) SeatView) (r : IsSound stands l s) → get_elem? s.views id ≡ some me.0
+      → ((p : ℕ) → o ≡ Root p → MayEnter p me.0) → IsMarked o → (s : State (Option H) SeatView) (r : IsSound stands l s)
+      → get_elem? s.views id ≡ some me.0
       → inside_total (map (face l.shape (home_of l.shape o)) s.views) ≡ 1 → (word' : ℕ)
       → word' ≡ slice_index s.words (word_of l.shape o)
       → IsSound stands l (record {
@@ -465,7 +512,7 @@ module _ {H : Type 0} (stands : List ℕ → Setting → List Noted → H → Ty
             set s.views id (with_entry me.0
             (Busy (record { object = o; number = slice_index s.words (word_of l.shape o) / 2 })) me.0.turns);
       })
-  marks id me o fits out turn marked s r at one word' same =
+  marks id me o fits out turn may marked s r at one word' same =
       let i : ℕ = home_of l.shape o in let d : ℕ = slot_of l.shape o in let k = r.objects o fits in let h : List Noted =
       k.history in let n : ℕ = length h in let v : SeatView = me.0 in
       let word : ℕ = slice_index s.words (word_of l.shape o) in let t : ℕ =
@@ -474,7 +521,7 @@ module _ {H : Type 0} (stands : List ℕ → Setting → List Noted → H → Ty
       let b : Held = record { object = o; number = word / 2 } in let e : Entry = Busy b in let w : SeatView =
       with_entry v e v.turns in
       let bn : b.number ≡ n = half word n t one wi in
-      let light : IsWeighedSame v w = same_entry v e v.turns (λ f p g. refl) (λ f p. refl) refl in
+      let light : IsWeighedSame v w = same_entry v e v.turns (λ f p g. refl) (λ f p. refl) (λ f. refl) in
       let fine : IsView l.shape r.setting v = each_at (IsView l.shape r.setting) s.views id v r.views at in
       let vf : face l.shape i v ≡ record { parts = map (strand l.shape i) (parts_of v); inside = None } =
       outside_face i v out.0 in
@@ -483,7 +530,9 @@ module _ {H : Type 0} (stands : List ℕ → Setting → List Noted → H → Ty
       ≡ some (record { parts = map (strand l.shape i) (parts_of v); inside = None }) =
       at_map (face l.shape i) s.views id v at ∙ ap some vf in
       let kept = marked_kept stands l.shape r.setting o (map (face l.shape i) s.views) word (get_elem? s.homes d) id
-      (strand l.shape i v.own) (map (strand l.shape i) v.others) b k there one bn marked in
+      (strand l.shape i v.own) (map (strand l.shape i) v.others) b k there one bn marked
+      (subst (λ (y : ℕ). WasPresent o h y) (sym bn)
+      (present_now s r id v o fits at (was_held s r id v o fits at out.0 one) may)) in
       changes stands l s r id v w o word' s.homes fits at
       (λ j ne. entry_elsewhere v e v.turns j (ne_eqb i j (λ q. ne (sym q))) ∙ sym (outside_face j v out.0))
       (λ m. same_numbered v e v.turns m) light
@@ -500,6 +549,8 @@ module _ {H : Type 0} (stands : List ℕ → Setting → List Noted → H → Ty
       g)
       (looks_entry s.views id v w e at refl (λ r k is. absurd (cc is)) r.looks)
       (order_entry s.views id v w e at refl (newest e (unmarked_below b) s.views) r.order)
+      (one_more l.shape s.views id v w e at refl (alone_among stands l s r id v at) r.one_order
+      (bn ∙ noted_so_far stands l s r r.one_order o fits))
       (born_entry s.views id v w e at refl (λ q is. absurd (cc is)) r.born)
       refl (λ j ne. refl)
       (subst (λ (y : Face × ℕ). IsKept stands l.shape r.setting o (set (map (face l.shape i) s.views) id y.0) y.1
@@ -529,7 +580,7 @@ module _ {H : Type 0} (stands : List ℕ → Setting → List Noted → H → Ty
         with_entry me.0 (Busy (record { object = o; number = word / 2 })) me.0.turns,
         keeps,
         tt,
-        marks id me o fits out turn marked s r at one (bit_or word 1)
+        marks id me o fits out turn may marked s r at one (bit_or word 1)
             (or_odd word n (let e : word ≡ 2 * n + 1 = omega (arith, wi, one) in e)),
         (
           (λ (even : word % 2 ≡ 0). absurd (omega (arith, even, odd))),
@@ -686,7 +737,7 @@ module _ {H : Type 0} (stands : List ℕ → Setting → List Noted → H → Ty
       let follows : IsHistory l.shape o (k.history ++ nd ∷ []) =
       subst (λ (g : List Noted). IsHistory l.shape o (g ++ nd ∷ [])) hk accepted in
       let puts : PutsAt v nd.did = puts_at stands l s r id v at nd.did hands in
-      let light : IsWeighedSame v w = same_entry v ent (v.turns - 1) (λ f p g. refl) (λ f p. refl) refl in
+      let light : IsWeighedSame v w = same_entry v ent (v.turns - 1) (λ f p g. refl) (λ f p. refl) (λ f. refl) in
       let fine : IsView l.shape r.setting v = each_at (IsView l.shape r.setting) s.views id v r.views at in
       let wf = entry_here v ent (v.turns - 1) i (eq-eqb i i refl) in
       let gs : stands (measures_of l.shape o) r.setting (h ++ nd ∷ []) home =
@@ -734,6 +785,8 @@ module _ {H : Type 0} (stands : List ℕ → Setting → List Noted → H → Ty
             (order_entry s.views id v w ent at refl
             (subst (λ (z : ℕ). IsNewest (At o (z + 1) nd) s.views) (sym nk) (newest_note stands l s r o fits nd))
             r.order)
+            (one_more l.shape s.views id v w ent at refl (alone_among stands l s r id v at) r.one_order
+            (ap (λ (z : ℕ). z + 1) (nk ∙ noted_so_far stands l s r r.one_order o fits)))
             (born_entry s.views id v w ent at refl
             (note_born stands l s r id v at o fits (length h + 1) nd may.in_place.mailed hands follows) r.born)
             (length-set s.homes d (some (Some home))) (λ j ne. set_else s.homes d j (some (Some home)) ne) kept',
@@ -774,9 +827,9 @@ module _ {H : Type 0} (stands : List ℕ → Setting → List Noted → H → Ty
             × (◌≡◌ {A = List (ℕ × Option H)} [] []))) (sym e) (got.0, refl, refl),
       ))
 
-  -- a mail's section ends with no note
+  -- a section ends with no note
   idles_it : (id : ℕ) (v : SeatView) (o : Object) (fits : IsObjectOf l.shape o) (h : List Noted) (home : H)
-      → v.inside ≡ Some (record { object = o; number = length h; history = h }) → (IsMarked o → ⊥)
+      → v.inside ≡ Some (record { object = o; number = length h; history = h }) → MayLeave v o
       → StandsFor stands (measures_of l.shape o) v h home
       → (s : State (Option H) SeatView) (r : IsSound stands l s) → length s.homes ≡ slots_of l.shape
       → get_elem? s.views id ≡ some v
@@ -788,7 +841,7 @@ module _ {H : Type 0} (stands : List ℕ → Setting → List Noted → H → Ty
             set s.homes (slot_of l.shape o) (some (Some home));
         views = set s.views id (left v);
       }))
-  idles_it id v o fits h home e unmarked stands_for s r wide at =
+  idles_it id v o fits h home e leave stands_for s r wide at =
       let i : ℕ = home_of l.shape o in let d : ℕ = slot_of l.shape o in let k = r.objects o fits in let x : Inside =
       record { object = o; number = length h; history = h } in
       let known = in_section s r id v o fits x at e refl in let hk : h ≡ k.history = known.0 in let nk : length h
@@ -813,7 +866,7 @@ module _ {H : Type 0} (stands : List ℕ → Setting → List Noted → H → Ty
       subst (λ (g : Setting). stands (measures_of l.shape o) g h home)
       (same_setting v.setting stands_for.setting stands_for.known fine.setting_is) stands_for.stands_for in
       let kept = idled_kept stands l.shape r.setting o faces word (2 * n) (get_elem? s.homes d) id
-      (map (strand l.shape i) (parts_of v)) x home k w1 there unmarked
+      (map (strand l.shape i) (parts_of v)) x home k w1 there (calm_now s r id v o fits at leave)
       (subst (λ (g : List Noted). stands (measures_of l.shape o) r.setting g home) hk gs) in
       let inside : d < length s.homes = subst (λ (z : ℕ). d < z) (sym wide) (slot_within l.shape o fits) in (
         w1,
@@ -839,8 +892,8 @@ module _ {H : Type 0} (stands : List ℕ → Setting → List Noted → H → Ty
               beside = fine.beside;
             })
             (le_refl (spent v)) (looks_same s.views id v w at refl r.looks) (order_same s.views id v w at refl r.order)
-            (born_same s.views id v w at refl r.born) (length-set s.homes d (some (Some home)))
-            (λ j ne. set_else s.homes d j (some (Some home)) ne)
+            (one_same l.shape s.views id v w at refl r.one_order) (born_same s.views id v w at refl r.born)
+            (length-set s.homes d (some (Some home))) (λ j ne. set_else s.homes d j (some (Some home)) ne)
             (subst (λ (y : ℕ × maybe.Option (maybe.Option (Option H))). IsKept stands l.shape r.setting o
             (set faces id (face l.shape i w)) y.0 y.1)
             (λ q. (sym down q, sym (set_here s.homes d (some (Some home)) inside) q)) kept),
@@ -856,14 +909,14 @@ module _ {H : Type 0} (stands : List ℕ → Setting → List Noted → H → Ty
   pub idles_allowed : (id : ℕ) (me : Me (Option H) SeatView) (o : Object) (slot : ℕ) (h : List Noted) (home : H)
       → IsObjectOf l.shape o → slot ≡ slot_of l.shape o
       → me.0.inside ≡ Some (record { object = o; number = length h; history = h }) → me.1 ≡ (slot, Some home) ∷ []
-      → (IsMarked o → ⊥) → StandsFor stands (measures_of l.shape o) me.0 h home
+      → MayLeave me.0 o → StandsFor stands (measures_of l.shape o) me.0 h home
       → Allows (IsSound stands l) (slots_of l.shape) id me (word_of l.shape o) (λ n. (n + (2 ^ 64 - 1)) % 2 ^ 64)
       (idles (step (slots_of l.shape) (word_of l.shape o) 1 0 none) me)
-  idles_allowed id me o slot h home fits is e has unmarked stands_for =
+  idles_allowed id me o slot h home fits is e has leave stands_for =
       subst (λ (y : List (ℕ × Option H)). Allows (IsSound stands l) (slots_of l.shape) id (me.0, y) (word_of l.shape o)
       (λ n. (n + (2 ^ 64 - 1)) % 2 ^ 64) (idles (step (slots_of l.shape) (word_of l.shape o) 1 0 none) (me.0, y)))
       (ap (λ (z : ℕ). (z, Some home) ∷ []) (sym is) ∙ sym has)
-      (λ s r wide at _. let got = idles_it id me.0 o fits h home e unmarked stands_for s r wide at in (
+      (λ s r wide at _. let got = idles_it id me.0 o fits h home e leave stands_for s r wide at in (
         left me.0,
         gives,
         tt,

@@ -3,6 +3,7 @@ use Rattle.step_law.specs.Settings.{Setting}
 use Rattle.std.proofs.Common.{◌≡◌, ◌≢◌, ℕ, zero, suc, ◌+◌, ◌-◌, ◌*◌, ◌<◌, ◌≤◌, List, [], ◌∷◌, ◌++◌, length, get_or, set, Bool, true, false, cond, eqb, true≢false, sym, refl, ap, ◌∙◌, subst, ⊎_elim, arith, length-append, append-nil, eq-eqb, ne_eqb}
 use Rattle.std.specs.Prelude.{Option, Some, None, IfSome, All, sum_by, count_by, filter, filter_map, slice_get}
 use Rattle.std.proofs.lemmas.List.Elements.{All-cons, All-head, All-tail, All-push, All-set, All-weaker, All-nil, filter-append, filter_map-append}
+use Rattle.std.proofs.lemmas.List.{append_assoc}
 use Rattle.std.proofs.lemmas.List.Quantifiers.{all_pairs_push}
 use Rattle.std.proofs.lemmas.List.Sums.{sum_by-cons, sum_by_push}
 use Rattle.std.proofs.lemmas.Option.{slice_get_within}
@@ -16,6 +17,7 @@ use Rattle.pool_law.specs.declared.run.Shape.{Shape}
 use Rattle.pool_law.specs.declared.note.Held.{Held}
 use Rattle.pool_law.specs.declared.note.Noted.{Noted}
 use Rattle.pool_law.specs.declared.note.Object.{Object}
+use Rattle.pool_law.specs.declared.note.Object.TheVariants.{Arena, Cache, Bin, Mail, Root}
 use Rattle.table_law.specs.Histories.{IsHistory}
 use Rattle.table_law.specs.Measures.{measures_of}
 use Rattle.pool_table.specs.declared.views.Entry.{Entry}
@@ -23,13 +25,22 @@ use Rattle.pool_table.specs.declared.views.Entry.TheVariants.{At, Ref, Busy}
 use Rattle.pool_table.specs.declared.views.Part.{Part}
 use Rattle.pool_table.specs.declared.views.Inside.{Inside}
 use Rattle.pool_table.specs.Views.{Face, is_at, is_numbered, noted_of, is_lane, is_in, inside_total, in_face, total, noted_weight, noted_in, noted_total, empty_part, one_if}
-use Rattle.pool_table.specs.Sound.{Before, Tells, IsTold, Knows, IsKept, IsMarked}
+use Rattle.pool_table.specs.Sound.{Before, Tells, IsTold, Knows, IsKept, IsMarked, WasPresent}
+
+-- what was present once was present then, whatever notes come later
+present_longer : (o : Object) (h more : List Noted) (n : ℕ) → WasPresent o h n → WasPresent o (h ++ more) n
+present_longer (Root p) h more n (early, late, is, many, there) =
+    (early, late ++ more, ap (λ (x : List Noted). x ++ more) is ∙ append_assoc early late more, many, there)
+present_longer (Arena a) h more n w = tt
+present_longer (Cache m c) h more n w = tt
+present_longer (Bin b) h more n w = tt
+present_longer (Mail f t) h more n w = tt
 
 module _ (o : Object) where
   tells_looser : (h : List Noted) (limit limit' : ℕ) (lane : Option ℕ) → limit ≤ limit' → (e : Entry)
       → Tells o h limit lane e → Tells o h limit' lane e
   tells_looser h limit limit' lane le (At p k n) t = t
-  tells_looser h limit limit' lane le (Busy b) t = let a : b.number < limit = t.0 in (omega (arith, a), t.1)
+  tells_looser h limit limit' lane le (Busy b) t = let a : b.number < limit = t.0 in (omega (arith, a), t.1, t.2)
   tells_looser h limit limit' lane le (Ref r d) t = t
 
   pub looser : (h : List Noted) (limit limit' : ℕ) → limit ≤ limit' → (p : Part) → IsTold o h limit p
@@ -60,7 +71,8 @@ module _ (o : Object) where
   tells_longer : (h : List Noted) (more : List Noted) (limit limit' : ℕ) (lane : Option ℕ) → limit ≤ limit'
       → (e : Entry) → Tells o h limit lane e → Tells o (h ++ more) limit' lane e
   tells_longer h more limit limit' lane le (At p k n) t = (t.0, slice_get_front h more (k - 1) n t.1, t.2)
-  tells_longer h more limit limit' lane le (Busy b) t = let a : b.number < limit = t.0 in (omega (arith, a), t.1)
+  tells_longer h more limit limit' lane le (Busy b) t =
+      let a : b.number < limit = t.0 in (omega (arith, a), t.1, present_longer o h more b.number t.2)
   tells_longer h more limit limit' lane le (Ref r d) t = t
 
   filter_skips : (test : Noted → Bool) (h : List Noted) (x : Noted) → test x ≡ false
@@ -135,9 +147,9 @@ module _ (o : Object) where
 
   -- the part that keeps the mark
   pub marked_here : (h : List Noted) (b : Held) (limit : ℕ) (p : Part) → b.number ≡ length h → limit ≡ length h + 1
-      → IsMarked o → IsTold o h limit p → IsTold o h limit
-      (record { number = p.number; notes = p.notes ++ Busy b ∷ [] })
-  marked_here h b limit p is top mark t = record {
+      → IsMarked o → WasPresent o h b.number → IsTold o h limit p
+      → IsTold o h limit (record { number = p.number; notes = p.notes ++ Busy b ∷ [] })
+  marked_here h b limit p is top mark present t = record {
     ordered =
         all_pairs_push Before p.notes (Busy b) t.ordered
         (λ k d lt. before_mark h p.number limit b is
@@ -147,6 +159,7 @@ module _ (o : Object) where
         All-push (Tells o h limit p.number) p.notes (Busy b) t.told (
           (let l : ℕ = length h in let e : limit ≡ l + 1 = top in let f : b.number ≡ l = is in omega (arith, e, f)),
           mark,
+          present,
         );
     own =
         λ m e. filter_map-append noted_of p.notes (Busy b ∷ [])
@@ -212,22 +225,26 @@ module _ (o : Object) where
       (All-weaker (IsTold o h (limit f)) (λ (p : Part). count_by (is_numbered (length h + 1)) p.notes ≡ 0)
       (beyond_part h (limit f)) f.parts t)) faces all)
 
-  -- where no mark may stand, the limit says nothing
-  tells_any : (IsMarked o → ⊥) → (h : List Noted) (limit limit' : ℕ) (lane : Option ℕ) (e : Entry)
-      → Tells o h limit lane e → Tells o h limit' lane e
-  tells_any unmarked h limit limit' lane (At p k n) t = t
-  tells_any unmarked h limit limit' lane (Busy b) t = absurd (unmarked t.1)
-  tells_any unmarked h limit limit' lane (Ref r d) t = t
+  -- where no mark may be the history's length, each is below it
+  tells_calm : (h : List Noted) (limit limit' : ℕ) → ((n : ℕ) → IsMarked o → WasPresent o h n → n ≢ length h)
+      → limit ≤ length h + 1 → length h ≤ limit' → (lane : Option ℕ) (e : Entry) → Tells o h limit lane e
+      → Tells o h limit' lane e
+  tells_calm h limit limit' calm le more lane (At p k n) t = t
+  tells_calm h limit limit' calm le more lane (Busy b) t =
+      let l : ℕ = length h in let a : b.number < limit = t.0 in let le' : limit ≤ l + 1 = le in let more' : l ≤ limit' =
+      more in let ne : b.number ≢ l = calm b.number t.1 t.2 in
+      (omega (arith, a, le', more', ne), t.1, t.2)
+  tells_calm h limit limit' calm le more lane (Ref r d) t = t
 
-  pub any_limit_all : (IsMarked o → ⊥) → (h : List Noted) (limit limit' : ℕ) (ps : List Part)
-      → All (IsTold o h limit) ps → All (IsTold o h limit') ps
-  any_limit_all unmarked h limit limit' ps all = All-weaker (IsTold o h limit) (IsTold o h limit')
+  pub calm_all : (h : List Noted) (limit limit' : ℕ) → ((n : ℕ) → IsMarked o → WasPresent o h n → n ≢ length h)
+      → limit ≤ length h + 1 → length h ≤ limit' → (ps : List Part) → All (IsTold o h limit) ps
+      → All (IsTold o h limit') ps
+  calm_all h limit limit' calm le more ps all = All-weaker (IsTold o h limit) (IsTold o h limit')
       (λ p t. record {
         ordered = t.ordered;
         told =
             All-weaker (Tells o h limit p.number) (Tells o h limit' p.number)
-            (tells_any unmarked h limit limit' p.number)
-            p.notes t.told;
+            (tells_calm h limit limit' calm le more p.number) p.notes t.told;
         own = t.own;
       }) ps all
 
@@ -310,13 +327,13 @@ module _ {H : Type 0} (stands : List ℕ → Setting → List Noted → H → Ty
   pub marked_kept : (faces : List Face) (word : ℕ) (home : maybe.Option (maybe.Option (Option H))) (id : ℕ) (p : Part)
       (ps : List Part) (b : Held) (k : K faces word home)
       → get_elem? faces id ≡ some (record { parts = p ∷ ps; inside = None }) → inside_total faces ≡ 1
-      → b.number ≡ length k.history → IsMarked o → K
-      (set faces id (record {
+      → b.number ≡ length k.history → IsMarked o → WasPresent o k.history b.number
+      → K (set faces id (record {
         parts = record { number = p.number; notes = p.notes ++ Busy b ∷ [] } ∷ ps;
         inside =
             None;
       })) word home
-  marked_kept faces word home id p ps b k at busy bn mark =
+  marked_kept faces word home id p ps b k at busy bn mark present =
       let f : Face = record { parts = p ∷ ps; inside = None } in
       let p' : Part = record { number = p.number; notes = p.notes ++ Busy b ∷ [] } in
       let f' : Face = record { parts = p' ∷ ps; inside = None } in
@@ -346,7 +363,7 @@ module _ {H : Type 0} (stands : List ℕ → Setting → List Noted → H → Ty
             (looser_all o k.history (n + (t - 0)) (n + (t' - 0)) (p' ∷ ps)
             (let r : n + (t - 0) ≤ n + (t' - 0) = omega (arith, s) in r)
             (All-cons (IsTold o k.history (n + (t - 0))) p' ps
-            (marked_here o k.history b (n + (t - 0)) p bn lim mark
+            (marked_here o k.history b (n + (t - 0)) p bn lim mark present
             (All-head (IsTold o k.history (n + (t - 0))) p ps mine))
             (All-tail (IsTold o k.history (n + (t - 0))) p ps mine)));
         once =
@@ -448,13 +465,14 @@ module _ {H : Type 0} (stands : List ℕ → Setting → List Noted → H → Ty
         home_is = λ _. (y, refl, told_by);
       }
 
-  -- a mail's section ends with no note, and its home value still stands
+  -- a section ends with no note, and its home value still stands
   pub idled_kept : (faces : List Face) (found word : ℕ) (home : maybe.Option (maybe.Option (Option H))) (id : ℕ)
       (ps : List Part) (x : Inside) (y : H) (k : K faces found home)
-      → found ≡ word + 1 → get_elem? faces id ≡ some (record { parts = ps; inside = Some x }) → (IsMarked o → ⊥)
+      → found ≡ word + 1 → get_elem? faces id ≡ some (record { parts = ps; inside = Some x })
+      → ((n : ℕ) → IsMarked o → WasPresent o k.history n → n ≢ length k.history)
       → stands (measures_of shape o) setting k.history y
       → K (set faces id (record { parts = ps; inside = None })) word (some (some (Some y)))
-  idled_kept faces found word home id ps x y k more at unmarked told_by =
+  idled_kept faces found word home id ps x y k more at calm told_by =
       let f : Face = record { parts = ps; inside = Some x } in
       let f' : Face = record { parts = ps; inside = None } in
       let h : List Noted = k.history in let n : ℕ = length h in
@@ -470,8 +488,11 @@ module _ {H : Type 0} (stands : List ℕ → Setting → List Noted → H → Ty
         told =
             each_set (λ (g : Face). All (IsTold o h (n + (t - is_in g))) g.parts)
             (λ (g : Face). All (IsTold o h (n + (t' - is_in g))) g.parts) faces id f' k.told
-            (λ j g ne e all. any_limit_all o unmarked h (n + (t - is_in g)) (n + (t' - is_in g)) g.parts all)
-            (any_limit_all o unmarked h (n + (t - 1)) (n + (t' - 0)) ps
+            (λ j g ne e all. calm_all o h (n + (t - is_in g)) (n + (t' - is_in g)) calm
+            (let i : ℕ = is_in g in let q : n + (t - i) ≤ n + 1 = omega (arith, one) in q)
+            (let i : ℕ = is_in g in let q : n ≤ n + (t' - i) = omega arith in q) g.parts all)
+            (calm_all o h (n + (t - 1)) (n + (t' - 0)) calm (let q : n + (t - 1) ≤ n + 1 = omega (arith, one) in q)
+            (let q : n ≤ n + (t' - 0) = omega arith in q) ps
             (each_at (λ (g : Face). All (IsTold o h (n + (t - is_in g))) g.parts) faces id f k.told at));
         once = λ j lt. sum_same (in_face (is_numbered (j + 1))) faces id f f' at refl ∙ k.once j lt;
         as_many = sum_same (in_face is_at) faces id f f' at refl ∙ k.as_many;

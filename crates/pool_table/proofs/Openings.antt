@@ -26,11 +26,12 @@ use Rattle.pool_table.specs.declared.views.Layout.{Layout}
 use Rattle.pool_table.specs.declared.views.Part.{Part}
 use Rattle.pool_table.specs.declared.views.SeatView.{SeatView}
 use Rattle.pool_table.specs.Views.{Face, parts_of, noted_of, is_at, is_about, is_lane, face, strand, is_in, in_face, noted_weight, noted_in, total, numbered, spent, empty_part, inside_total}
-use Rattle.pool_table.specs.Counts.{IsCounted, weigh, on_root, on_place, any_gain, reached}
+use Rattle.pool_table.specs.Counts.{IsCounted, weigh, on_root, on_place, on_any, ref_retain, reached, returned}
 use Rattle.pool_table.proofs.Weights.{weigh_none, counted_none, beside_none, settled_none, handy_none, orderly_none, enters_none}
 use Rattle.pool_table.proofs.Counts.{never_born}
 use Rattle.pool_table.proofs.Looks.{looks_open}
 use Rattle.pool_table.proofs.Order.{order_opens}
+use Rattle.pool_table.proofs.Sequence.{one_opens}
 use Rattle.pool_table.proofs.Births.{born_opens}
 use Rattle.pool_table.specs.Sound.{IsKept, IsSound, IsView, IsTold, IsIdle, IsShape, Stands, Knows, OnceBelow}
 use Rattle.pool_table.specs.Steps.{lane_parts, first_view, rest_view, lane_view, first_lane, rest_of_lanes}
@@ -214,6 +215,10 @@ module _ {H : Type 0} (stands : List ℕ → Setting → List Noted → H → Ty
         born = born_opens (first_view l gs) (all_parts gs);
         looks = looks_open (first_view l gs) (all_parts gs);
         order = order_opens (first_view l gs) (all_parts gs);
+        one_order =
+            one_opens l.shape (first_view l gs)
+            (λ f. one (weigh f) (first_view l gs) ∙ sums_none f (parts_of (first_view l gs)) (all_parts gs))
+            (all_parts gs);
         room = room;
         budget =
             (let a = one spent (first_view l gs) in let b =
@@ -225,11 +230,12 @@ module _ {H : Type 0} (stands : List ℕ → Setting → List Noted → H → Ty
         few = few;
         moved =
             (let a = one reached (first_view l gs) in let b =
-            weigh_none any_gain (parts_of (first_view l gs)) (all_parts gs) in let t : ℕ =
+            weigh_none (on_any ref_retain) (parts_of (first_view l gs)) (all_parts gs) in let t : ℕ =
             l.shape.lanes * l.moves in let x : ℕ = sum_by reached (first_view l gs ∷ []) in let y : ℕ =
             reached (first_view l gs) in
-            let c : ℕ = weigh any_gain (first_view l gs) in let a' : x ≡ y = a in let b' : c ≡ 0 = b in let d : y
-            ≡ c + t = refl in let g : x ≤ t = omega (arith, a', b', d) in
+            let c : ℕ = weigh (on_any ref_retain) (first_view l gs) in let z : ℕ =
+            sum_by returned (first_view l gs ∷ []) in let a' : x ≡ y = a in let b' : c ≡ 0 = b in let d : y
+            ≡ c + t = refl in let g : x ≤ t + z = omega (arith, a', b', d) in
             g);
         counts =
             λ p lt. subst (IsCounted p (first_view l gs ∷ [])) (sym (is.counts p lt))
@@ -285,9 +291,7 @@ module _ {H : Type 0} (stands : List ℕ → Setting → List Noted → H → Ty
         notes = All-cons (λ (p : Part). p.notes ≡ []) (empty_part None) [] refl
             (All-nil (λ (p : Part). p.notes ≡ []));
         inside = refl;
-        moves = (let m : ℕ = l.moves in omega arith);
-        turns =
-            (let m : ℕ = l.turns in omega arith);
+        turns = (let m : ℕ = l.turns in omega arith);
       }
   rest_idle i (suc n) g all =
       absurd (numbered_parts i (suc n) (omega arith)

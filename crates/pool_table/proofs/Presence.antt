@@ -1,7 +1,8 @@
 -- What the history of a root place tells a view, from the steps on its word.
 use Rattle.step_law.specs.Settings.{Setting}
-use Rattle.std.proofs.Common.{◌≡◌, ◌≢◌, ℕ, ◌+◌, ◌*◌, ◌<◌, ◌≤◌, List, [], ◌∷◌, ◌++◌, sym, refl, ap, ◌∙◌, subst, inl, inr, arith, lt_of_not-le}
-use Rattle.std.specs.Prelude.{Option, Some, None, All, sum_by}
+use Rattle.std.proofs.Common.{◌≡◌, ◌≢◌, ℕ, ◌+◌, ◌*◌, ◌<◌, ◌≤◌, List, [], ◌∷◌, ◌++◌, Bool, true, false, cond, eqb, sym, refl, ap, ◌∙◌, subst, inl, inr, arith, lt_of_not-le}
+use Rattle.std.specs.Prelude.{Option, Some, None, All, sum_by, count_by}
+use Rattle.std.proofs.lemmas.List.Sums.{sum_by-le-sum_by}
 use Rattle.std.proofs.lemmas.List.Elements.{All-weaker}
 use mathlib.Core.Logic.{dite}
 use native.Mathlib.Decide.{ℕ_discrete, dec_le}
@@ -12,6 +13,8 @@ use Rattle.step_law.proofs.Changes.{sum_at}
 use Rattle.pool_law.specs.declared.run.Shape.{Shape}
 use Rattle.pool_law.specs.declared.note.Noted.{Noted}
 use Rattle.pool_law.specs.declared.id.RootId.{RootId}
+use Rattle.pool_law.specs.declared.note.Did.{Did}
+use Rattle.pool_law.specs.declared.note.Did.TheVariants.{Birth}
 use Rattle.pool_law.specs.declared.note.Object.{Object}
 use Rattle.pool_law.specs.declared.note.Object.TheVariants.{Root}
 use Rattle.pool_law.specs.Homes.{IsObjectOf}
@@ -21,6 +24,10 @@ use Rattle.pool_law.specs.Roots.{RootPlace}
 use Rattle.table_law.proofs.Steps.{root_in}
 use Rattle.table_law.proofs.Told.{place_there, last_place, root_is}
 use Rattle.table_law.proofs.Roots.{place_born, of_birth, place_births, place_ends, birth_step, end_step}
+use Rattle.pool_table.specs.declared.views.Entry.{Entry}
+use Rattle.pool_table.specs.declared.views.Entry.TheVariants.{At, Ref, Busy}
+use Rattle.pool_table.specs.declared.views.Part.{Part}
+use Rattle.pool_table.specs.Views.{parts_of, is_at, spent}
 use Rattle.pool_table.specs.declared.views.Layout.{Layout}
 use Rattle.pool_table.specs.declared.views.SeatView.{SeatView}
 use Rattle.pool_table.specs.Counts.{ref_born, ref_ended, ref_vacated, on_place, on_root, place_tally, tally, weigh}
@@ -32,7 +39,7 @@ use Rattle.pool_table.proofs.AtPlace.{CountsAt, IsPresentIn, TokenAt}
 use Rattle.pool_table.proofs.Exact.{root_notes, one_born, present_born, count_at, count_born, token_at, token_born, ends_at}
 use Rattle.pool_table.proofs.Weights.{weak_sum, strict_sum, weak_six, strict_six}
 use Rattle.pool_table.proofs.References.{live_word, token_word}
-use Rattle.pool_table.proofs.Hands.{taken_once, hand_word, small_generation}
+use Rattle.pool_table.proofs.Hands.{taken_once, hand_word}
 
 module _ {H : Type 0} (stands : List ℕ → Setting → List Noted → H → Type 0) (l : Layout) where
   abbrev St : Type 0
@@ -250,21 +257,53 @@ module _ {H : Type 0} (stands : List ℕ → Setting → List Noted → H → Ty
       ≡ k.generation = b in let hi' : bi ≤ k.generation + k.vacant = hi in
       absurd (omega (arith, a', b', hi', none)))
 
-  -- few roots were born at a place
+  -- each birth at a place is a note, and so spent a turn
+  birth_spends : (p : ℕ) (e : Entry) → at_birth p e ≤ cond {A = ℕ} (is_at e) 1 0
+  birth_spends p (At o k n) = by n.did
+    where
+      once : (b : Bool) → cond {A = ℕ} b 1 0 ≤ 1
+      once true = omega arith
+      once false = omega arith
+
+      by : (d : Did) → did_birth p d ≤ 1
+      by (Birth q g) = once (eqb q.place p)
+      by d = omega arith
+  birth_spends p (Ref r d) = omega arith
+  birth_spends p (Busy b) = omega arith
+
   few_births : (s : St) (r : IsSound stands l s) (p : ℕ) (lt : p < l.shape.lanes * l.shape.handles) (x : RootPlace)
-      → IsPlaceAfter p (r.objects (Root p) lt).history x → x.generation ≤ 1073741824
+      → IsPlaceAfter p (r.objects (Root p) lt).history x → x.generation ≤ l.shape.lanes * l.turns
   few_births s r p lt x after =
-      let k = r.counts p lt in let nb = history_births s r p lt x after in let hi = no_more s r p lt in let f =
-      k.free in let small = small_generation stands l s r p lt in
+      let nb = history_births s r p lt x after in
+      let le : sum_by (weigh (at_birth p)) s.views ≤ sum_by spent s.views =
+      sum_by-le-sum_by (weigh (at_birth p)) spent s.views
+      (λ v. let a : weigh (at_birth p) v ≤ sum_by (λ (q : Part). count_by is_at q.notes) (parts_of v) =
+      sum_by-le-sum_by (λ (q : Part). sum_by (at_birth p) q.notes) (λ (q : Part). count_by is_at q.notes)
+      (parts_of v) (λ q. sum_by-le-sum_by (at_birth p) (λ (e : Entry). cond {A = ℕ} (is_at e) 1 0)
+      q.notes (birth_spends p)) in omega (arith, a)) in
+      let b = r.budget in
+      let bi : ℕ = sum_by (weigh (at_birth p)) s.views in let n : ℕ = x.generation in let y : ℕ =
+      sum_by spent s.views in let t : ℕ = l.shape.lanes * l.turns in
+      let nb' : bi ≡ n = nb in let le' : bi ≤ y = le in let b' : y ≤ t = b in let g : n ≤ t =
+      omega (arith, nb', le', b') in
+      g
+
+  -- the generation of a place in hand fits its word
+  young_place : (s : St) (r : IsSound stands l s) (id : ℕ) (v : SeatView) (p : ℕ)
+      (lt : p < l.shape.lanes * l.shape.handles) → get_elem? s.views id ≡ some v → InHand p v → NoneWaits p v
+      → (x : RootPlace) → IsPlaceAfter p (r.objects (Root p) lt).history x → x.generation < 4294967296
+  young_place s r id v p lt at has none_waits x after =
+      let k = r.counts p lt in let nb = history_births s r p lt x after in let hi =
+      no_other s r id p v lt at has none_waits in let small = k.young in
       let bi : ℕ = sum_by (weigh (at_birth p)) s.views in let n : ℕ = x.generation in let nb' : bi
-      ≡ n = nb in let hi' : bi ≤ k.generation + k.vacant = hi in let small' : k.generation < 1073741824 = small in
-      omega (arith, nb', hi', f, small')
+      ≡ n = nb in let hi' : bi ≤ k.generation = hi in let small' : k.generation < 4294967296 = small in
+      omega (arith, nb', hi', small')
 
   -- what a view learns of a root place
   pub tells_root : (s : St) (r : IsSound stands l s) (id : ℕ) (v : SeatView) (o : Object) (fits : IsObjectOf l.shape o)
-      → get_elem? s.views id ≡ some v → (p : ℕ) → o ≡ Root p → TellsRoot p v (r.objects o fits).history
+      → get_elem? s.views id ≡ some v → (p : ℕ) → o ≡ Root p → TellsRoot l p v (r.objects o fits).history
   tells_root s r id v o fits at p e =
-      subst (λ (o : Object). (fits : IsObjectOf l.shape o) → TellsRoot p v (r.objects o fits).history) (sym e)
+      subst (λ (o : Object). (fits : IsObjectOf l.shape o) → TellsRoot l p v (r.objects o fits).history) (sym e)
       (λ lt. record {
         counted = λ q here has.
             let c = subst (λ (n : ℕ). CountsAt n q.generation v) here (count_at stands l s r id v at q has) in
@@ -281,6 +320,7 @@ module _ {H : Type 0} (stands : List ℕ → Setting → List Noted → H → Ty
             λ q here has. token_alone s r id p q.generation v lt at
             (subst (λ (n : ℕ). TokenAt n q.generation v) here (token_at stands l s r id v at q has));
         few = λ x after. few_births s r p lt x after;
+        young = λ has z x after. young_place s r id v p lt at has z x after;
       }) fits
 
   -- a view that may note a birth has none that waits

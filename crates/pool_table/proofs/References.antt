@@ -3,7 +3,7 @@ use Rattle.step_law.specs.Settings.{Setting}
 use Rattle.std.proofs.Common.{◌≡◌, ◌≢◌, ◌⊎◌, ℕ, ◌+◌, ◌-◌, ◌*◌, ◌/◌, ◌%◌, ◌^◌, ◌<◌, ◌≤◌, List, ◌∷◌, map, length, set, Bool, true, false, cond, eqb, sym, refl, ap, ◌∙◌, subst, inl, inr, ⊎_elim, arith, length-set, le_refl, get_or-set_same, get_or-set_other, lt_of_not-le, eq-eqb, ne_eqb, ◌++◌, []}
 use Rattle.std.specs.Prelude.{◌&&◌, Option, None, All, sum_by, count_by, slice_index}
 use Rattle.std.proofs.lemmas.List.Elements.{All-cons, All-head, All-tail, All-push, All-set, All-weaker}
-use Rattle.std.proofs.lemmas.List.Sums.{sum_by-cons, sum_by_push, sum_by-le-sum_by}
+use Rattle.std.proofs.lemmas.List.Sums.{sum_by-cons, sum_by_push}
 use mathlib.Core.Logic.{dite}
 use native.Mathlib.Decide.{ℕ_discrete, dec_le}
 use mathlib.Core.Option.{some, none}
@@ -24,13 +24,16 @@ use Rattle.pool_table.specs.declared.views.Layout.{Layout}
 use Rattle.pool_table.specs.declared.views.Part.{Part}
 use Rattle.pool_table.specs.declared.views.SeatView.{SeatView}
 use Rattle.pool_table.specs.Views.{Face, parts_of, is_at, is_lane, face, strand, inside_at, numbered, spent}
-use Rattle.pool_table.specs.Counts.{IsCounted, on_root, ref_gain, ref_loss, ref_ended, ref_vacated, ref_born, on_place, weigh, tally, at_gain, at_loss, any_gain, gained, lost, reached, HasCount, HasToken, with_ref, on_exact, on_this, ref_retain}
+use Rattle.pool_table.specs.Counts.{IsCounted, on_root, ref_gain, ref_loss, ref_ended, ref_vacated, ref_born, on_place, weigh, tally, at_gain, at_loss, on_any, gained, lost, reached, returned, ref_kept, HasCount, HasToken, with_ref, on_exact, on_this, ref_retain}
 use Rattle.pool_table.specs.Hands.{at_in, at_out, taken, put_down, InHand, at_birth, at_end, IsOrderly, IsBearing, at_birth_of, at_birth_as, HasEnded, HasNoEnd, ends}
 use Rattle.table_law.specs.NoteCounts.{is_root}
 use Rattle.pool_table.specs.Looks.{IsLookRight, retains_in}
 use Rattle.pool_table.specs.Order.{IsBelow}
 use Rattle.pool_table.proofs.Looks.{looks_entry, least_right, most_right}
 use Rattle.pool_table.proofs.Order.{newest, order_entry}
+use Rattle.pool_table.specs.Sequence.{Leave, FitsCount}
+use Rattle.pool_table.proofs.Sequence.{one_more}
+use Rattle.pool_table.proofs.Fitting.{left_here, vacated_fits}
 use Rattle.pool_table.proofs.Births.{born_entry}
 use Rattle.pool_table.proofs.Exact.{count_at, count_born, token_at, token_born, ended_at, none_ended}
 use Rattle.table_law.proofs.Names.{same_root-refl}
@@ -41,17 +44,9 @@ use Rattle.pool_table.proofs.AtPlace.{CountsAt, EndedAt, TokenAt}
 use Rattle.pool_table.proofs.Counts.{weigh_ref, sums_ref, elsewhere, other_place, place_elsewhere, other_kept, retained_kept, looked_kept, released_kept, ended_kept, vacated_kept}
 use Rattle.pool_table.proofs.Holdings.{held_more}
 use Rattle.pool_table.proofs.Weights.{weigh_none, strict_sum, enters_none}
-use Rattle.pool_table.proofs.Tables.{strand_skips}
+use Rattle.pool_table.proofs.Tables.{strand_skips, alone_among}
 use Rattle.pool_table.proofs.Transit.{transit}
-
-on_le : (p g : ℕ) (e : Entry) → on_root ref_gain p g e ≤ any_gain e
-on_le p g (At o k n) = omega arith
-on_le p g (Ref r d) = at_most (is_root p g r) (ref_gain d)
-  where
-    at_most : (b : Bool) (n : ℕ) → cond {A = ℕ} b n 0 ≤ n
-    at_most true n = le_refl n
-    at_most false n = omega arith
-on_le p g (Busy b) = omega arith
+use Rattle.pool_table.proofs.Beyond.{few_counts}
 
 -- a step on a count is above every note
 counts_below : (r : RootId) (d : RefDid) (y : Entry) → IsBelow y (Ref r d)
@@ -89,22 +84,16 @@ module _ {H : Type 0} (stands : List ℕ → Setting → List Noted → H → Ty
 
   -- no count passes the moves
   pub small_count : (s : St) (r : IsSound stands l s) (p : ℕ) (lt : p < l.shape.lanes * l.shape.handles)
-      → (r.counts p lt).count < 1073741824
+      → (r.counts p lt).count ≤ 1073741824
   small_count s r p lt =
-      let k = r.counts p lt in let g : ℕ = k.generation in
-      let le : tally ref_gain p g s.views ≤ sum_by reached s.views =
-      sum_by-le-sum_by (weigh (on_root ref_gain p g)) reached s.views
-      (λ v. let a : weigh (on_root ref_gain p g) v ≤ weigh any_gain v =
-      sum_by-le-sum_by (λ (q : Part). sum_by (on_root ref_gain p g) q.notes)
-      (λ (q : Part). sum_by any_gain q.notes) (parts_of v)
-      (λ q. sum_by-le-sum_by (on_root ref_gain p g) any_gain q.notes (on_le p g)) in
-      omega (arith, a)) in
-      let a = k.counts in let b = r.moved in let c = r.few in
-      let x : ℕ = tally ref_gain p g s.views in let y : ℕ = sum_by reached s.views in let t : ℕ =
-      l.shape.lanes * l.moves in let n : ℕ = k.count in
-      let le' : x ≤ y = le in let a' : x ≡ tally ref_loss p g s.views + n = a in let b' : y ≤ t = b in
-      let c' : t < 1073741824 = c in let g : n < 1073741824 = omega (arith, le', a', b', c') in
-      g
+      let notes = All-weaker (IsView l.shape r.setting)
+      (λ (v : SeatView). All (λ (q : Part). All (Stands l.shape q.number) q.notes) (parts_of v))
+      (λ v fine. fine.notes) s.views r.views in
+      let a = few_counts l.shape s.views (λ p. slice_index s.words (count_word_of l.shape p)) (l.shape.lanes * l.moves)
+      notes r.counts r.moved p lt in let b = r.few in
+      let c : ℕ = (r.counts p lt).count in let t : ℕ = l.shape.lanes * l.moves in let a' : c ≤ t + 1 = a in
+      let b' : t < 1073741824 = b in
+      omega (arith, a', b')
 
   face_ref : (j : ℕ) (v : SeatView) (r : RootId) (d : RefDid) (m : ℕ)
       → face l.shape j (with_ref v r d m) ≡ face l.shape j v
@@ -115,7 +104,7 @@ module _ {H : Type 0} (stands : List ℕ → Setting → List Noted → H → Ty
   -- the word of a root place and one view change
   pub ref_changes : (s : St) (r : IsSound stands l s) (id p n m : ℕ) (v : SeatView) (root : RootId) (d : RefDid)
       → p < l.shape.lanes * l.shape.handles → root.place ≡ p → v.inside ≡ None → get_elem? s.views id ≡ some v
-      → (All (λ (q : Part). q.number ≡ None) (parts_of v) → ⊥) → any_gain (Ref root d) + m ≤ v.moves
+      → (All (λ (q : Part). q.number ≡ None) (parts_of v) → ⊥) → ref_retain d + m ≤ v.moves + ref_kept d
       → ((p g : ℕ) → lost p g (with_ref v root d m) ≤ gained p g (with_ref v root d m))
       → ((p g : ℕ) → weigh (on_root ref_vacated p g) (with_ref v root d m) ≤ weigh (on_root ref_ended p g)
       (with_ref v root d m)) → ((p : ℕ) → put_down p (with_ref v root d m) ≤ taken p (with_ref v root d m))
@@ -124,13 +113,14 @@ module _ {H : Type 0} (stands : List ℕ → Setting → List Noted → H → Ty
       (retains_in (set s.views id (with_ref v root d m)) root.place root.generation)
       (v.own.notes ++ Ref root d ∷ []) v.own.notes)
       → IsCounted p (set s.views id (with_ref v root d m)) n → IsBorn s.views root
+      → FitsCount r.one_order.made root d
       → IsSound stands l (record {
         words = set s.words (count_word_of l.shape p) n;
         homes = s.homes;
         views =
             set s.views id (with_ref v root d m);
       })
-  ref_changes s r id p n m v root d lt rp out at awake moves counted settled handy roots look kept born =
+  ref_changes s r id p n m v root d lt rp out at awake moves counted settled handy roots look kept born fit =
       let w : SeatView = with_ref v root d m in let d' : ℕ = count_word_of l.shape p in
       let inside : d' < length s.words = subst (λ (n : ℕ). d' < n) (sym r.words) (count_word l.shape p lt) in
       let fine : IsView l.shape r.setting v = each_at (IsView l.shape r.setting) s.views id v r.views at in
@@ -192,6 +182,8 @@ module _ {H : Type 0} (stands : List ℕ → Setting → List Noted → H → Ty
             (let f : root ≡ q = cc is in f) (look k (let f : d ≡ Look k = cc is in f))) r.looks;
         order =
             order_entry s.views id v w (Ref root d) at refl (newest (Ref root d) (counts_below root d) s.views) r.order;
+        one_order =
+            one_more l.shape s.views id v w (Ref root d) at refl (alone_among stands l s r id v at) r.one_order fit;
         room = r.room;
         budget =
             subst (λ (x : ℕ). x ≤ l.shape.lanes * l.turns)
@@ -201,11 +193,16 @@ module _ {H : Type 0} (stands : List ℕ → Setting → List Noted → H → Ty
             omega (arith, a, b, made)))) r.budget;
         few = r.few;
         moved =
-            (let a = sum_set reached s.views id v w at in let b = weigh_ref any_gain v root d m in let c = r.moved in
+            (let a = sum_set reached s.views id v w at in let b = weigh_ref (on_any ref_retain) v root d m in let f =
+            sum_set returned s.views id v w at in let h =
+            weigh_ref (on_any ref_kept) v root d m in let c = r.moved in
             let x : ℕ = sum_by reached (set s.views id w) in let y : ℕ = sum_by reached s.views in let rv : ℕ =
             reached v in let rw : ℕ = reached w in let t : ℕ = l.shape.lanes * l.moves in
-            let a' : x + rv ≡ y + rw = a in let c' : y ≤ t = c in let up : rw ≤ rv = omega (arith, b, moves) in
-            let g : x ≤ t = omega (arith, a', c', up) in
+            let x2 : ℕ = sum_by returned (set s.views id w) in let y2 : ℕ = sum_by returned s.views in let kv : ℕ =
+            returned v in let kw : ℕ = returned w in
+            let f' : x2 + kv ≡ y2 + kw = f in let h' : kw ≡ kv + ref_kept d = h in
+            let a' : x + rv ≡ y + rw = a in let c' : y ≤ t + y2 = c in let up : rw ≤ rv + ref_kept d =
+            omega (arith, b, moves) in let g : x ≤ t + x2 = omega (arith, a', c', up, f', h') in
             g);
         counts = λ p' lt'. dite (ℕ_discrete p' p)
             (λ e. subst (λ (x : ℕ). IsCounted x (set s.views id w)
@@ -533,10 +530,10 @@ module _ {H : Type 0} (stands : List ℕ → Setting → List Noted → H → Ty
       let one : b' ≡ 1 = e0.0 over in let va : a' ≡ k.vacant = k.vacated born in
       (same, born, over, omega (arith, here', one, va))
 
-  low_part : (word g c v : ℕ) → word ≡ g * 4294967296 + (2 * c + v) → c < 1073741824 → v ≡ 0 → word % 4294967296 ≡ 2 * c
+  low_part : (word g c v : ℕ) → word ≡ g * 4294967296 + (2 * c + v) → c ≤ 1073741824 → v ≡ 0 → word % 4294967296 ≡ 2 * c
   low_part word g c v e lt z = let e' : word ≡ 4294967296 * g + 2 * c = omega (arith, e, z) in omega (arith, e', lt)
 
-  add_two : (word g c v : ℕ) → word ≡ g * 4294967296 + (2 * c + v) → c < 1073741824 → v ≤ 1
+  add_two : (word g c v : ℕ) → word ≡ g * 4294967296 + (2 * c + v) → c ≤ 1073741824 → v ≤ 1
       → word < 18446744073709551616 → (word + 2) % 2 ^ 64 ≡ word + 2
   add_two word g c v e lt le under = omega (arith, e, lt, le, under)
 
@@ -587,13 +584,15 @@ module _ {H : Type 0} (stands : List ℕ → Setting → List Noted → H → Ty
           tt,
           ref_changes s r id p ((word + 2) % 2 ^ 64) (v.moves - 1) v root Retain lt refl out at
               (awake_count s r id p root.generation v at has)
-              (let m : ℕ = v.moves in let pos : 0 < m = moves in let g : 1 + (m - 1) ≤ m = omega (arith, pos) in g)
+              (let m : ℕ = v.moves in let pos : 0 < m = moves in let g : 1 + (m - 1) ≤ m + 0 = omega (arith, pos) in
+              g)
               (counted_more v root Retain (v.moves - 1) fine.counted refl)
               (settled_more v root Retain (v.moves - 1) fine.settled refl)
               (handy_more v root Retain (v.moves - 1) fine.handy refl)
               (orderly_more v root Retain (v.moves - 1) fine.roots refl refl) (λ k e. absurd (cc e))
               (subst (IsCounted p (set s.views id (with_ref v root Retain (v.moves - 1)))) (sym up)
-              (retained_kept p s.views id v root (v.moves - 1) at refl word k live.0 live.1)) born,
+              (retained_kept p s.views id v root (v.moves - 1) at refl word k live.0 live.1)) born
+              (k.count, live.1, left_here stands l s r r.one_order root lt live.0),
           refl,
         )
 
@@ -609,7 +608,7 @@ module _ {H : Type 0} (stands : List ℕ → Setting → List Noted → H → Ty
           keeps,
           tt,
           ref_changes s r id p word v.moves v root d lt refl out at (awake_count s r id p root.generation v at has)
-              (let m : ℕ = v.moves in let g : 0 + m ≤ m = omega arith in g)
+              (let m : ℕ = v.moves in let g : 0 + m ≤ m + 0 = omega arith in g)
               (counted_more v root d v.moves fine.counted refl) (settled_more v root d v.moves fine.settled refl)
               (handy_more v root d v.moves fine.handy refl) (orderly_more v root d v.moves fine.roots refl refl)
               (λ n e. subst (λ (y : ℕ). IsLookRight root.place root.generation y
@@ -620,7 +619,11 @@ module _ {H : Type 0} (stands : List ℕ → Setting → List Noted → H → Ty
               (let low = low_part word k.generation k.count k.vacant k.word_is (small_count s r p lt)
               (k.live live.1) in omega (arith, low))))
               (looked_kept p s.views id v root v.moves at refl word (word % 4294967296 / 2) k live.0 live.1)
-              born,
+              born
+              (subst (λ (y : ℕ). (0 < y) × Leave r.one_order.made root y)
+              (let low = low_part word k.generation k.count k.vacant k.word_is (small_count s r p lt)
+              (k.live live.1) in let e : k.count ≡ word % 4294967296 / 2 = omega (arith, low) in e)
+              (live.1, left_here stands l s r r.one_order root lt live.0)),
           refl,
         )
 
@@ -637,10 +640,10 @@ module _ {H : Type 0} (stands : List ℕ → Setting → List Noted → H → Ty
         let low : word % 4294967296 ≡ 2 * k.count =
         low_part word k.generation k.count k.vacant k.word_is small (k.live live.1) in
         let fine = each_at (IsView l.shape r.setting) s.views id v r.views at in let c : ℕ = k.count in let c1 : 0 < c =
-        live.1 in
+        live.1 in let more_moves : ℕ = v.moves + 1 in
         let kd : IsCounted p s.views (rest + 2) = again p s.views word (rest + 2) k (sym down) in
-        let awake = awake_count s r id p root.generation v at has in let room : 0 + v.moves ≤ v.moves =
-        (let m : ℕ = v.moves in let g : 0 + m ≤ m = omega arith in g) in
+        let awake = awake_count s r id p root.generation v at has in let room : 0 + v.moves ≤ v.moves + 0 =
+        (let m : ℕ = v.moves in let g : 0 + m ≤ m + 0 = omega arith in g) in
         dite (ℕ_discrete k.count 1)
         (λ last. (
           with_ref v root Ended v.moves,
@@ -651,22 +654,30 @@ module _ {H : Type 0} (stands : List ℕ → Setting → List Noted → H → Ty
               (settled_more v root Ended v.moves fine.settled refl)
               (handy_more v root Ended v.moves fine.handy refl)
               (orderly_more v root Ended v.moves fine.roots refl refl) (λ k e. absurd (cc e))
-              (ended_kept p s.views id v root v.moves at refl rest kd live.0 last) born,
+              (ended_kept p s.views id v root v.moves at refl rest kd live.0 last) born
+              (subst (Leave r.one_order.made root) last
+              (left_here stands l s r r.one_order root lt live.0)),
           (
             (λ _. let e = ended_here s r id v root v.moves lt at counts in (refl, e.0, e.1)),
             (λ ne. absurd (ne (let g : word % 4294967296 ≡ 2 = omega (arith, low, last) in g))),
           ),
         ))
         (λ more. (
-          with_ref v root Kept v.moves,
+          with_ref v root Kept more_moves,
           keeps,
           tt,
-          ref_changes s r id p rest v.moves v root Kept lt refl out at awake room
-              (counted_less v root Kept v.moves fine.counted refl has)
-              (settled_more v root Kept v.moves fine.settled refl) (handy_more v root Kept v.moves fine.handy refl)
-              (orderly_more v root Kept v.moves fine.roots refl refl) (λ k e. absurd (cc e))
-              (released_kept p s.views id v root v.moves at refl rest kd live.0
-              (let q : c ≢ 1 = more in let g : 1 < c = omega (arith, q, c1) in g)) born,
+          ref_changes s r id p rest more_moves v root Kept lt refl out at awake
+              (let g : 0 + more_moves ≤ v.moves + 1 = omega arith in g)
+              (counted_less v root Kept more_moves fine.counted refl has)
+              (settled_more v root Kept more_moves fine.settled refl)
+              (handy_more v root Kept more_moves fine.handy refl)
+              (orderly_more v root Kept more_moves fine.roots refl refl) (λ k e. absurd (cc e))
+              (released_kept p s.views id v root more_moves at refl rest kd live.0
+              (let q : c ≢ 1 = more in let g : 1 < c = omega (arith, q, c1) in g)) born (
+                c,
+                (let q : c ≢ 1 = more in let g : 1 < c = omega (arith, q, c1) in g),
+                left_here stands l s r r.one_order root lt live.0,
+              ),
           (
             (λ two. absurd (more (let low' : word % 4294967296 ≡ 2 * c = low in let two' : word % 4294967296
                 ≡ 2 = two in let g : c ≡ 1 = omega (arith, low', two') in g))),
@@ -683,20 +694,24 @@ module _ {H : Type 0} (stands : List ℕ → Setting → List Noted → H → Ty
               vacant = k.vacant;
               word_is = sym e
                   ∙ k.word_is;
+              young = k.young;
               free = k.free;
               live = k.live;
               unborn = k.unborn;
               later = k.later;
-              born = k.born;
+              born =
+                  k.born;
               counts =
                   k.counts;
               past =
                   k.past;
               ended =
                   k.ended;
-              vacated = k.vacated;
+              vacated =
+                  k.vacated;
               all_born = k.all_born;
               all_vacated = k.all_vacated;
+              beyond = k.beyond;
             }
 
   awake_token : (s : St) (r : IsSound stands l s) (id p g : ℕ) (v : SeatView) → get_elem? s.views id ≡ some v
@@ -740,12 +755,13 @@ module _ {H : Type 0} (stands : List ℕ → Setting → List Noted → H → Ty
         tt,
         ref_changes s r id p ((word + 1) % 2 ^ 64) v.moves v root Vacated lt refl out at
             (awake_token s r id p root.generation v at has)
-            (let m : ℕ = v.moves in let g : 0 + m ≤ m = omega arith in g)
+            (let m : ℕ = v.moves in let g : 0 + m ≤ m + 0 = omega arith in g)
             (counted_more v root Vacated v.moves fine.counted refl) (settled_less v root v.moves fine.settled has)
             (handy_more v root Vacated v.moves fine.handy refl) (orderly_vacated v root v.moves fine.roots ended)
             (λ k e. absurd (cc e)) (subst (IsCounted p (set s.views id (with_ref v root Vacated v.moves)))
             (sym up) (vacated_kept p s.views id v root v.moves at refl word k tok.0 tok.1 tok.2 tok.3))
-            (token_born stands l s r id v at root token),
+            (token_born stands l s r id v at root token)
+            (vacated_fits stands l s r r.one_order root lt tok.0 tok.1 tok.2 tok.3),
         (refl, hand_after v root v.moves (fine.handy p)),
       )
     where

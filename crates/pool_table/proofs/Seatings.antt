@@ -1,6 +1,6 @@
 -- Seats are cut, joined and told the setting, and the rule stays.
 use Rattle.step_law.specs.Settings.{Setting}
-use Rattle.std.proofs.Common.{◌≡◌, ℕ, ◌+◌, ◌*◌, ◌≤◌, List, [], ◌∷◌, ◌++◌, map, set, cond, sym, refl, ap, ◌∙◌, subst, arith}
+use Rattle.std.proofs.Common.{◌≡◌, ℕ, ◌+◌, ◌-◌, ◌*◌, ◌≤◌, List, [], ◌∷◌, ◌++◌, map, set, cond, sym, refl, ap, ◌∙◌, subst, arith}
 use Rattle.std.specs.Prelude.{Option, None, All, sum_by, count_by, slice_index}
 use Rattle.std.proofs.lemmas.List.Elements.{All-cons, All-push, All-set, All-append, All-nil, All-map}
 use Rattle.std.proofs.lemmas.List.Sums.{sum_by-cons, sum_by_push, sum_by-append}
@@ -19,16 +19,17 @@ use Rattle.pool_table.specs.declared.views.Layout.{Layout}
 use Rattle.pool_table.specs.declared.views.Part.{Part}
 use Rattle.pool_table.specs.declared.views.SeatView.{SeatView}
 use Rattle.pool_table.specs.Views.{Face, parts_of, is_at, is_lane, face, strand, inside_at, is_in, in_face, noted_weight, noted_in, numbered, spent, empty_part, one_if, blank, joined}
-use Rattle.pool_table.specs.Counts.{weigh, on_root, on_place, ref_born, at_gain, at_loss, any_gain, reached, ref_gain, ref_loss, ref_ended, ref_vacated, on_exact, ref_retain, weigh_in}
+use Rattle.pool_table.specs.Counts.{weigh, on_root, on_place, ref_born, at_gain, at_loss, on_any, reached, returned, ref_kept, ref_gain, ref_loss, ref_ended, ref_vacated, on_exact, ref_retain, weigh_in}
 use Rattle.pool_table.specs.Hands.{at_in, at_out, at_birth, at_end, at_birth_of, at_birth_as}
 use Rattle.pool_table.proofs.Holdings.{held_both}
-use Rattle.pool_table.proofs.Weights.{counted_none, settled_none, handy_none, orderly_none, enters_none}
+use Rattle.pool_table.proofs.Weights.{counted_none, settled_none, handy_none, orderly_none, orderly_parts, enters_none}
 use Rattle.pool_table.proofs.Counts.{other_kept}
 use Rattle.pool_table.proofs.Looks.{looks_regroup}
 use Rattle.pool_table.proofs.Order.{order_regroups}
+use Rattle.pool_table.proofs.Sequence.{one_regroups}
 use Rattle.pool_table.proofs.Births.{born_regroups}
 use Rattle.pool_table.specs.Sound.{IsKept, IsSound, IsView, Stands, OnceBelow}
-use Rattle.pool_table.specs.Steps.{blank_beside}
+use Rattle.pool_table.specs.Steps.{blank_beside, share_left, share_of}
 use Rattle.pool_table.proofs.Objects.{split_kept, joined_kept}
 
 module _ {H : Type 0} (stands : List ℕ → Setting → List Noted → H → Type 0) (l : Layout) where
@@ -55,13 +56,16 @@ module _ {H : Type 0} (stands : List ℕ → Setting → List Noted → H → Ty
       omega (arith, a, b, e)) in
       let out : (j : ℕ) (u : SeatView) → u.inside ≡ None
       → is_in (face l.shape j u) ≡ 0 = (λ j u e. ap (λ y. one_if (inside_at l.shape j y)) e) in
+      let regrouped : (P : Part → Type 0) → P (empty_part None) → All (λ (u : SeatView). All P (parts_of u)) s.views
+      → All (λ (u : SeatView). All P (parts_of u)) (set s.views id left ++ right ∷ []) = (λ P empty all.
+      let got = shares P empty (each_at (λ (u : SeatView). All P (parts_of u)) s.views id v all at) in
+      All-push (λ (u : SeatView). All P (parts_of u)) (set s.views id left) right
+      (All-set (λ (u : SeatView). All P (parts_of u)) s.views id left got.0 all) got.1) in
       let regroups : (P : Part → Type 0) → ((q : Part) → q.notes ≡ [] → P q)
       → All (λ (u : SeatView). All P (parts_of u)) s.views
-      → All (λ (u : SeatView). All P (parts_of u)) (set s.views id left ++ right ∷ []) = (λ P none_of all.
-      let got = shares P (none_of (empty_part None) refl)
-      (each_at (λ (u : SeatView). All P (parts_of u)) s.views id v all at) in
-      All-push (λ (u : SeatView). All P (parts_of u)) (set s.views id left) right
-      (All-set (λ (u : SeatView). All P (parts_of u)) s.views id left got.0 all) got.1) in record {
+      → All (λ (u : SeatView). All P (parts_of u)) (set s.views id left ++ right ∷ []) =
+      (λ P none_of all. regrouped P (none_of (empty_part None) refl) all) in
+      record {
         setting = r.setting;
         words = r.words;
         homes = r.homes;
@@ -114,6 +118,9 @@ module _ {H : Type 0} (stands : List ℕ → Setting → List Noted → H → Ty
             (λ p g. same (weigh (on_root ref_retain p g))
             (adds (λ (q : Part). sum_by (on_root ref_retain p g) q.notes) refl)) regroups r.looks;
         order = order_regroups s.views (set s.views id left ++ right ∷ []) regroups r.order;
+        one_order =
+            one_regroups l.shape s.views (set s.views id left ++ right ∷ [])
+            (λ f. same (weigh f) (adds (λ (q : Part). sum_by f q.notes) refl)) regrouped r.one_order;
         room = r.room;
         budget =
             subst (λ (x : ℕ). x ≤ l.shape.lanes * l.turns)
@@ -121,9 +128,13 @@ module _ {H : Type 0} (stands : List ℕ → Setting → List Noted → H → Ty
             r.budget;
         few = r.few;
         moved =
-            subst (λ (x : ℕ). x ≤ l.shape.lanes * l.moves)
-            (sym (same reached (let a = adds (λ (q : Part). sum_by any_gain q.notes) refl in
-            omega (arith, a, moves)))) r.moved;
+            subst (λ (x : ℕ × ℕ). x.0 ≤ l.shape.lanes * l.moves + x.1)
+            (λ i. (
+              sym (same reached (let a = adds (λ (q : Part). sum_by (on_any ref_retain) q.notes) refl in
+                  omega (arith, a, moves))) i,
+              sym
+                  (same returned (adds (λ (q : Part). sum_by (on_any ref_kept) q.notes) refl)) i,
+            )) r.moved;
         counts =
             λ p lt. other_kept p s.views (set s.views id left ++ right ∷ [])
             (slice_index s.words (count_word_of l.shape p))
@@ -163,7 +174,59 @@ module _ {H : Type 0} (stands : List ℕ → Setting → List Noted → H → Ty
                 notes = All-cons (λ (p : Part). p.notes ≡ []) (empty_part None) [] refl
                     (All-nil (λ (p : Part). p.notes ≡ []));
                 inside = refl;
-                moves = refl;
+                turns = refl;
+              };
+          inside = tt;
+          notes =
+              All-cons (λ (p : Part). All (Stands l.shape p.number) p.notes) (empty_part None) []
+              (All-nil (Stands l.shape None)) (All-nil (λ (p : Part). All (Stands l.shape p.number) p.notes));
+        },
+      ))
+
+  -- a seat with some of the moves beside one in no section
+  pub shares_allowed : (n id : ℕ) (v : SeatView) → v.inside ≡ None → n ≤ v.moves
+      → Splits (IsSound stands l) id v (share_left n v) (share_of n v)
+  shares_allowed n id v out le s r at = cut_in_two s r id v (share_left n v) (share_of n v) at out out refl
+      (λ f z. let a : sum_by f (empty_part None ∷ [])
+      ≡ f (empty_part None) + 0 = sum_by-cons f (empty_part None) [] in omega (arith, a, z))
+      (λ P e all. (all, All-cons P (empty_part None) [] e (All-nil P)))
+      (let t : ℕ = v.turns in let g : t + 0 ≡ t = omega arith in g)
+      (let t : ℕ = v.moves in let le' : n ≤ t = le in let g : (t - n) + n ≡ t = omega (arith, le') in g)
+      (λ fine. (
+        record {
+          beside = fine.beside;
+          counted = fine.counted;
+          settled = fine.settled;
+          enters = enters_none (share_left n v) out;
+          handy = fine.handy;
+          roots = orderly_parts v (share_left n v) refl fine.roots;
+          setting_is = fine.setting_is;
+          unnumbered =
+              λ all. let i = fine.unnumbered all in record { notes = i.notes; inside = i.inside; turns = i.turns };
+          inside = fine.inside;
+          notes = fine.notes;
+        },
+        record {
+          beside = λ p g. omega arith;
+          counted =
+              counted_none (share_of n v) (All-cons (λ (p : Part). p.notes ≡ []) (empty_part None) [] refl
+              (All-nil (λ (p : Part). p.notes ≡ [])));
+          settled =
+              settled_none (share_of n v) (All-cons (λ (p : Part). p.notes ≡ []) (empty_part None) [] refl
+              (All-nil (λ (p : Part). p.notes ≡ [])));
+          enters = enters_none (share_of n v) refl;
+          handy =
+              handy_none (share_of n v) (All-cons (λ (p : Part). p.notes ≡ []) (empty_part None) [] refl
+              (All-nil (λ (p : Part). p.notes ≡ [])));
+          roots =
+              orderly_none (share_of n v) (All-cons (λ (p : Part). p.notes ≡ []) (empty_part None) [] refl
+              (All-nil (λ (p : Part). p.notes ≡ [])));
+          setting_is = fine.setting_is;
+          unnumbered =
+              λ _. record {
+                notes = All-cons (λ (p : Part). p.notes ≡ []) (empty_part None) [] refl
+                    (All-nil (λ (p : Part). p.notes ≡ []));
+                inside = refl;
                 turns = refl;
               };
           inside = tt;
@@ -195,15 +258,19 @@ module _ {H : Type 0} (stands : List ℕ → Setting → List Noted → H → Ty
       omega (arith, a, c, e)) in
       let out : (j : ℕ) (u : SeatView) → u.inside ≡ None
       → is_in (face l.shape j u) ≡ 0 = (λ j u e. ap (λ y. one_if (inside_at l.shape j y)) e) in
-      let regroups : (P : Part → Type 0) → ((q : Part) → q.notes ≡ [] → P q)
-      → All (λ (u : SeatView). All P (parts_of u)) s.views
-      → All (λ (u : SeatView). All P (parts_of u)) (set (set s.views id b) other z) = (λ P none_of all.
+      let regrouped : (P : Part → Type 0) → P (empty_part None) → All (λ (u : SeatView). All P (parts_of u)) s.views
+      → All (λ (u : SeatView). All P (parts_of u)) (set (set s.views id b) other z) = (λ P empty all.
       let mine = each_at (λ (u : SeatView). All P (parts_of u)) s.views id v all at in let theirs =
       each_at (λ (u : SeatView). All P (parts_of u)) s.views other w all before in
       All-set (λ (u : SeatView). All P (parts_of u)) (set s.views id b) other z
-      (All-cons P (empty_part None) [] (none_of (empty_part None) refl) (All-nil P))
+      (All-cons P (empty_part None) [] empty (All-nil P))
       (All-set (λ (u : SeatView). All P (parts_of u)) s.views id b (All-append P (parts_of v) (parts_of w) mine theirs)
-      all)) in record {
+      all)) in
+      let regroups : (P : Part → Type 0) → ((q : Part) → q.notes ≡ [] → P q)
+      → All (λ (u : SeatView). All P (parts_of u)) s.views
+      → All (λ (u : SeatView). All P (parts_of u)) (set (set s.views id b) other z) =
+      (λ P none_of all. regrouped P (none_of (empty_part None) refl) all) in
+      record {
         setting = r.setting;
         words = r.words;
         homes = r.homes;
@@ -265,6 +332,9 @@ module _ {H : Type 0} (stands : List ℕ → Setting → List Noted → H → Ty
             (λ p g. same (weigh (on_root ref_retain p g))
             (parts (λ (q : Part). sum_by (on_root ref_retain p g) q.notes) refl)) regroups r.looks;
         order = order_regroups s.views (set (set s.views id b) other z) regroups r.order;
+        one_order =
+            one_regroups l.shape s.views (set (set s.views id b) other z)
+            (λ f. same (weigh f) (parts (λ (q : Part). sum_by f q.notes) refl)) regrouped r.one_order;
         room = r.room;
         budget =
             subst (λ (x : ℕ). x ≤ l.shape.lanes * l.turns)
@@ -272,9 +342,13 @@ module _ {H : Type 0} (stands : List ℕ → Setting → List Noted → H → Ty
             let tw : ℕ = w.turns in omega (arith, a)))) r.budget;
         few = r.few;
         moved =
-            subst (λ (x : ℕ). x ≤ l.shape.lanes * l.moves)
-            (sym (same reached (let a = parts (λ (q : Part). sum_by any_gain q.notes) refl in omega (arith, a))))
-            r.moved;
+            subst (λ (x : ℕ × ℕ). x.0 ≤ l.shape.lanes * l.moves + x.1)
+            (λ i. (
+              sym (same reached (let a = parts (λ (q : Part). sum_by (on_any ref_retain) q.notes) refl in
+                  omega (arith, a))) i,
+              sym (same returned
+                  (parts (λ (q : Part). sum_by (on_any ref_kept) q.notes) refl)) i,
+            )) r.moved;
         counts =
             λ p lt. other_kept p s.views (set (set s.views id b) other z)
             (slice_index s.words (count_word_of l.shape p))
@@ -305,7 +379,6 @@ module _ {H : Type 0} (stands : List ℕ → Setting → List Noted → H → Ty
               notes = All-cons (λ (p : Part). p.notes ≡ []) (empty_part None) [] refl
                   (All-nil (λ (p : Part). p.notes ≡ []));
               inside = refl;
-              moves = refl;
               turns = refl;
             };
         inside = tt;
@@ -396,12 +469,8 @@ module _ {H : Type 0} (stands : List ℕ → Setting → List Noted → H → Ty
             fw.unnumbered (each_back (λ (p : Part). p.number ≡ None) (parts_of v) (parts_of w) all) in
             record {
               notes = All-append (λ (p : Part). p.notes ≡ []) (parts_of v) (parts_of w) iv.notes iw.notes;
-              inside =
-                  iv.inside;
-              moves =
-                  (let a = iv.moves in let b = iw.moves in omega (arith, a, b));
-              turns =
-                  (let a = iv.turns in let b = iw.turns in omega (arith, a, b));
+              inside = iv.inside;
+              turns = (let a = iv.turns in let b = iw.turns in omega (arith, a, b));
             };
         inside = fv.inside;
         notes =

@@ -25,11 +25,13 @@ use Rattle.pool_table.specs.declared.views.Layout.{Layout}
 use Rattle.pool_table.specs.declared.views.Part.{Part}
 use Rattle.pool_table.specs.declared.views.SeatView.{SeatView}
 use Rattle.pool_table.specs.Views.{Face, parts_of, is_at, is_about, is_lane, face, strand, is_in, inside_total, in_face, total, numbered, spent}
-use Rattle.pool_table.specs.Counts.{IsCounted, weigh, on_root, on_place, reached}
-use Rattle.pool_table.proofs.Weights.{IsWeighedSame, reached_same}
+use Rattle.pool_table.specs.Counts.{IsCounted, weigh, on_root, on_place, reached, returned}
+use Rattle.pool_table.proofs.Weights.{IsWeighedSame, reached_same, returned_same}
 use Rattle.pool_table.proofs.Counts.{other_kept}
 use Rattle.pool_table.specs.Looks.{AreLooksRight}
 use Rattle.pool_table.specs.Order.{AreInOrder}
+use Rattle.pool_table.specs.Sequence.{AreInOneOrder}
+use Rattle.pool_table.proofs.Sequence.{IsAlone}
 use Rattle.pool_table.specs.Births.{AreBorn}
 use Rattle.pool_table.specs.Sound.{IsKept, IsSound, IsView, OnceBelow}
 
@@ -42,7 +44,8 @@ module _ {H : Type 0} (stands : List ℕ → Setting → List Noted → H → Ty
       (homes' : List (maybe.Option (Option H))) → IsObjectOf l.shape o → get_elem? s.views id ≡ some v
       → ((j : ℕ) → j ≢ home_of l.shape o → face l.shape j w ≡ face l.shape j v)
       → ((m : ℕ) → numbered m w ≡ numbered m v) → IsWeighedSame v w → IsView l.shape r.setting w → spent w ≤ spent v
-      → AreLooksRight (set s.views id w) → AreInOrder (set s.views id w) → AreBorn (set s.views id w)
+      → AreLooksRight (set s.views id w) → AreInOrder (set s.views id w) → AreInOneOrder l.shape (set s.views id w)
+      → AreBorn (set s.views id w)
       → length homes' ≡ length s.homes → ((j : ℕ) → j ≢ slot_of l.shape o → get_elem? homes' j ≡ get_elem? s.homes j)
       → IsKept stands l.shape r.setting o
       (set (map (face l.shape (home_of l.shape o)) s.views) id (face l.shape (home_of l.shape o) w)) n
@@ -53,7 +56,7 @@ module _ {H : Type 0} (stands : List ℕ → Setting → List Noted → H → Ty
         views =
             set s.views id w;
       })
-  changes s r id v w o n homes' fits at elsewhere numbers refs fine spends looks order born wide homes kept =
+  changes s r id v w o n homes' fits at elsewhere numbers refs fine spends looks order one_order born wide homes kept =
       let i : ℕ = home_of l.shape o in
       let d : ℕ = word_of l.shape o in
       let inside : d < length s.words = subst (λ (n : ℕ). d < n) (sym r.words) (object_word l.shape o fits) in record {
@@ -89,6 +92,7 @@ module _ {H : Type 0} (stands : List ℕ → Setting → List Noted → H → Ty
         born = born;
         looks = looks;
         order = order;
+        one_order = one_order;
         room = r.room;
         budget = (let a = sum_set spent s.views id v w at in let b = r.budget in let c = spends in
             let x : ℕ = sum_by spent (set s.views id w) in let y : ℕ = sum_by spent s.views in let sv : ℕ = spent v in
@@ -98,8 +102,12 @@ module _ {H : Type 0} (stands : List ℕ → Setting → List Noted → H → Ty
             g);
         few = r.few;
         moved =
-            subst (λ (x : ℕ). x ≤ l.shape.lanes * l.moves)
-            (sym (sum_same reached s.views id v w at (reached_same v w refs))) r.moved;
+            subst (λ (x : ℕ × ℕ). x.0 ≤ l.shape.lanes * l.moves + x.1)
+            (λ i. (
+              sym (sum_same reached s.views id v w at (reached_same v w refs)) i,
+              sym
+                  (sum_same returned s.views id v w at (returned_same v w refs)) i,
+            )) r.moved;
         counts =
             λ p lt. subst (IsCounted p (set s.views id w))
             (sym (get_or-set_other s.words d (count_word_of l.shape p) n 0
@@ -114,9 +122,9 @@ module _ {H : Type 0} (stands : List ℕ → Setting → List Noted → H → Ty
   pub unseen : (s : St) (r : IsSound stands l s) (id : ℕ) (v w : SeatView) → get_elem? s.views id ≡ some v
       → ((j : ℕ) → face l.shape j w ≡ face l.shape j v) → ((m : ℕ) → numbered m w ≡ numbered m v) → IsWeighedSame v w
       → IsView l.shape r.setting w → spent w ≤ spent v → AreLooksRight (set s.views id w)
-      → AreInOrder (set s.views id w) → AreBorn (set s.views id w)
+      → AreInOrder (set s.views id w) → AreInOneOrder l.shape (set s.views id w) → AreBorn (set s.views id w)
       → IsSound stands l (record { words = s.words; homes = s.homes; views = set s.views id w })
-  unseen s r id v w at everywhere numbers refs fine spends looks order born = record {
+  unseen s r id v w at everywhere numbers refs fine spends looks order one_order born = record {
     setting = r.setting;
     words = r.words;
     homes = r.homes;
@@ -132,6 +140,7 @@ module _ {H : Type 0} (stands : List ℕ → Setting → List Noted → H → Ty
     born = born;
     looks = looks;
     order = order;
+    one_order = one_order;
     room = r.room;
     budget = (let a = sum_set spent s.views id v w at in let b = r.budget in let c = spends in
         let x : ℕ = sum_by spent (set s.views id w) in let y : ℕ = sum_by spent s.views in let sv : ℕ = spent v in
@@ -141,8 +150,12 @@ module _ {H : Type 0} (stands : List ℕ → Setting → List Noted → H → Ty
         g);
     few = r.few;
     moved =
-        subst (λ (x : ℕ). x ≤ l.shape.lanes * l.moves)
-        (sym (sum_same reached s.views id v w at (reached_same v w refs))) r.moved;
+        subst (λ (x : ℕ × ℕ). x.0 ≤ l.shape.lanes * l.moves + x.1)
+        (λ i. (
+          sym (sum_same reached s.views id v w at (reached_same v w refs)) i,
+          sym
+              (sum_same returned s.views id v w at (returned_same v w refs)) i,
+        )) r.moved;
     counts =
         λ p lt. other_kept p s.views (set s.views id w) (slice_index s.words (count_word_of l.shape p))
         (λ f g. sum_same (weigh (on_root f p g)) s.views id v w at (refs.refs f p g))
@@ -257,6 +270,26 @@ module _ {H : Type 0} (stands : List ℕ → Setting → List Noted → H → Ty
       (λ gt. let e = o.0 (lt_of_not-le gt) in omega (arith, e))
 
   -- no other part has the number of this view's own part
+  pub alone_among : (s : St) (r : IsSound stands l s) (id : ℕ) (v : SeatView) → get_elem? s.views id ≡ some v
+      → IsAlone s.views id v
+  alone_among s r id v at m own =
+      let t : ℕ = sum_by (numbered m) s.views in let most : t ≤ 1 = once_at_most l.shape.lanes m t (r.lanes m) in
+      let rest : ℕ = count_by (λ (p : Part). is_lane m p.number) v.others in
+      let mine : numbered m v ≡ cond {A = ℕ} (is_lane m v.own.number) 1 0 + rest =
+      sum_by-cons (λ (p : Part). cond {A = ℕ} (is_lane m p.number) 1 0) v.own v.others in
+      let one : cond {A = ℕ} (is_lane m v.own.number) 1 0 ≡ 1 = is_own m v.own.number own in
+      let le : numbered m v ≤ t = sum_at (numbered m) s.views id v at in
+      let n : ℕ = numbered m v in let mine' : n ≡ 1 + rest = omega (arith, mine, one) in let le' : n ≤ t = le in
+      let none_left : rest ≡ 0 = omega (arith, mine', le', most) in (
+        none_counted (λ (p : Part). is_lane m p.number) v.others none_left,
+        λ j u ne e.
+            let two : n + numbered m u ≤ t = sum_two (numbered m) s.views id j v u (λ k. ne (sym k)) at e in
+            let k : ℕ = numbered m u in let two' : n + k ≤ t = two in let z : k
+            ≡ 0 = omega (arith, mine', two', most) in
+            none_counted (λ (p : Part). is_lane m p.number) (parts_of u) z,
+      )
+
+  -- no other part has the number of this view's own part, as an object sees it
   pub alone_in : (s : St) (r : IsSound stands l s) (id i m : ℕ) (v : SeatView) → get_elem? s.views id ≡ some v
       → v.own.number ≡ Some m
       → All (λ (p : Part). is_lane m p.number ≡ false) (map (strand l.shape i) v.others)

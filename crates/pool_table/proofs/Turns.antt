@@ -98,7 +98,7 @@ module _ (p : ℕ) (views : List SeatView) (word : ℕ) (k : IsCounted p views w
       (λ other. past_root g (omega (arith, some)) (omega (arith, le, other))))
       (λ gt. no_root g (inr (omega (arith, gt)))))
 
-  tells : k.count < 1073741824 → sum_by (weigh (at_gain p (births_at p views))) views ≤ sum_by
+  tells : k.count ≤ 1073741824 → sum_by (weigh (at_gain p (births_at p views))) views ≤ sum_by
       (weigh (at_loss p (births_at p views))) views → WordTells p views word
   tells small posted =
       let sum = all k.generation in let counts = k.counts in

@@ -16,7 +16,7 @@ use Rattle.pool_table.specs.declared.views.Entry.{Entry}
 use Rattle.pool_table.specs.declared.views.Part.{Part}
 use Rattle.pool_table.specs.declared.views.SeatView.{SeatView}
 use Rattle.pool_table.specs.Views.{parts_of, with_entry}
-use Rattle.pool_table.specs.Counts.{ref_gain, ref_loss, ref_ended, ref_vacated, ref_born, weigh, on_root, on_place, at_gain, at_loss, any_gain, gained, lost, reached, on_exact, lost_beside, gained_beside}
+use Rattle.pool_table.specs.Counts.{ref_gain, ref_loss, ref_ended, ref_vacated, ref_born, weigh, on_root, on_place, at_gain, at_loss, on_any, ref_retain, ref_kept, gained, lost, reached, returned, on_exact, lost_beside, gained_beside}
 use Rattle.pool_table.specs.Hands.{at_in, at_out, taken, put_down, InHand, MayEnter, at_birth, at_end, IsOrderly, NoneWaits, at_birth_of, at_birth_as}
 use Rattle.pool_table.proofs.AtPlace.{CountsAt}
 use Rattle.pool_law.specs.declared.id.RegionId.{RegionId}
@@ -25,14 +25,14 @@ use Rattle.pool_table.proofs.Holdings.{Handles, held_same, held_none, held_more}
 pub record IsWeighedSame (v w : SeatView) : Type 0 where
   pub refs : (f : RefDid → ℕ) (p g : ℕ) → weigh (on_root f p g) w ≡ weigh (on_root f p g) v
   pub places : (f : RefDid → ℕ) (p : ℕ) → weigh (on_place f p) w ≡ weigh (on_place f p) v
-  pub any : weigh any_gain w ≡ weigh any_gain v
+  pub any : (f : RefDid → ℕ) → weigh (on_any f) w ≡ weigh (on_any f) v
   pub moves : w.moves ≡ v.moves
 
 pub same_parts : (v w : SeatView) → parts_of w ≡ parts_of v → w.moves ≡ v.moves → IsWeighedSame v w
 same_parts v w e m = record {
   refs = λ f p g. all (on_root f p g);
   places = λ f p. all (on_place f p);
-  any = all any_gain;
+  any = λ f. all (on_any f);
   moves = m;
 }
   where
@@ -47,11 +47,12 @@ weigh_entry f v e t =
     let c : g w.own ≡ g v.own + f e = sum_by_push f v.own.notes e in omega (arith, a, b, c)
 
 pub same_entry : (v : SeatView) (e : Entry) (t : ℕ) → ((f : RefDid → ℕ) (p g : ℕ) → on_root f p g e ≡ 0)
-    → ((f : RefDid → ℕ) (p : ℕ) → on_place f p e ≡ 0) → any_gain e ≡ 0 → IsWeighedSame v (with_entry v e t)
+    → ((f : RefDid → ℕ) (p : ℕ) → on_place f p e ≡ 0) → ((f : RefDid → ℕ) → on_any f e ≡ 0)
+    → IsWeighedSame v (with_entry v e t)
 same_entry v e t a h d = record {
   places = λ f p. let x = weigh_entry (on_place f p) v e t in let y = h f p in omega (arith, x, y);
   refs = λ f p g. let x = weigh_entry (on_root f p g) v e t in let y = a f p g in omega (arith, x, y);
-  any = (let x = weigh_entry any_gain v e t in omega (arith, x, d));
+  any = λ f. let x = weigh_entry (on_any f) v e t in let y = d f in omega (arith, x, y);
   moves = refl;
 }
 
@@ -131,7 +132,10 @@ pub settled_none : (v : SeatView) → All (λ (p : Part). p.notes ≡ []) (parts
 settled_none v all p g = let a = weigh_none (on_root ref_vacated p g) (parts_of v) all in omega (arith, a)
 
 pub reached_same : (v w : SeatView) → IsWeighedSame v w → reached w ≡ reached v
-reached_same v w s = let a = s.any in let b = s.moves in omega (arith, a, b)
+reached_same v w s = let a = s.any ref_retain in let b = s.moves in omega (arith, a, b)
+
+pub returned_same : (v w : SeatView) → IsWeighedSame v w → returned w ≡ returned v
+returned_same v w s = s.any ref_kept
 
 pub weak_sum : {A : Type 0} (a b c d : A → ℕ) (l : List A) → All (λ (x : A). a x + b x ≤ c x + d x) l
     → sum_by a l + sum_by b l ≤ sum_by c l + sum_by d l

@@ -1,6 +1,6 @@
 -- What the last seat knows when the table is closed: the logs are the parts of its view.
 use Rattle.step_law.specs.Settings.{Setting}
-use Rattle.std.specs.Prelude.{◌≡◌, ℕ, ◌+◌, ◌*◌, ◌<◌, List, [], ◌∷◌, length, Option, Some, IfSome, All, slice_index}
+use Rattle.std.specs.Prelude.{◌≡◌, ℕ, ◌+◌, ◌*◌, ◌<◌, ◌≤◌, List, [], ◌∷◌, length, Option, Some, IfSome, All, slice_index}
 use mathlib.Core.Option.{some}
 use lib.ListN.{get_elem?}
 use Rattle.pool_law.specs.declared.run.Shape.{Shape}
@@ -18,10 +18,11 @@ use Rattle.table_law.specs.Measures.{measures_of}
 use Rattle.pool_table.specs.declared.views.Layout.{Layout}
 use Rattle.pool_table.specs.declared.views.SeatView.{SeatView}
 use Rattle.pool_table.specs.Views.{is_at, is_numbered, face, in_face, numbered}
-use Rattle.pool_table.specs.Counts.{IsCounted, reached}
+use Rattle.pool_table.specs.Counts.{IsCounted}
 use Rattle.pool_table.specs.Births.{IsBorn, AreBorn}
 use Rattle.pool_table.specs.Looks.{AreLooksRight}
 use Rattle.pool_table.specs.Order.{AreInOrder}
+use Rattle.pool_table.specs.Sequence.{AreInOneOrder}
 use Rattle.pool_table.specs.Sound.{IsTold, IsView}
 use Rattle.pool_table.specs.Words.{listed_of}
 
@@ -57,8 +58,10 @@ pub record IsClosed {H : Type 0}
       IsWhole stands l.shape v o (slice_index words (home_of l.shape o)) homes
   pub counts : (p : ℕ) → p < l.shape.lanes * l.shape.handles →
       IsCounted p (v ∷ []) (slice_index words (objects_of l.shape + p))
-  -- births and retains are few, so that each word tells its count
-  pub few : reached v < 1073741824
+  -- the counts are few, so that each word tells its count
+  pub few : (p : ℕ) → p < l.shape.lanes * l.shape.handles →
+      (k : IsCounted p (v ∷ []) (slice_index words (objects_of l.shape + p))) →
+      k.count ≤ 1073741824
   -- each taking that is out is in the view's hands, in a cache or at a root place
   pub takings : (q : RegionId) (fits : q.place.arena < l.shape.arenas)
       (arena : ArenaState) (caches : ℕ → ℕ → CacheState) (places : ℕ → RootPlace) →
@@ -72,3 +75,5 @@ pub record IsClosed {H : Type 0}
   -- each look told the truth, and the notes are in order
   pub looks : AreLooksRight (v ∷ [])
   pub order : AreInOrder (v ∷ [])
+  -- all steps stand in one order, in which each fits those before it
+  pub one_order : AreInOneOrder l.shape (v ∷ [])

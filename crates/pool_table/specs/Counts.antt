@@ -1,5 +1,5 @@
 -- What a view counts of a root, and the word of a root's count.
-use Rattle.std.specs.Prelude.{◌≡◌, ℕ, ◌+◌, ◌*◌, ◌<◌, ◌≤◌, ◌⊎◌, ◌==◌, ◌&&◌, cond, List, [], ◌∷◌, ◌++◌, sum_by}
+use Rattle.std.specs.Prelude.{◌≡◌, ℕ, ◌+◌, ◌-◌, ◌*◌, ◌<◌, ◌≤◌, ◌⊎◌, ◌==◌, ◌&&◌, cond, List, [], ◌∷◌, ◌++◌, sum_by}
 use Rattle.pool_law.specs.declared.id.RootId.{RootId}
 use Rattle.pool_law.specs.declared.note.RefDid.{RefDid}
 use Rattle.pool_law.specs.declared.note.RefDid.TheVariants.{Born, Retain, Kept, Ended, Vacated, Look}
@@ -35,6 +35,14 @@ ref_retain Kept = 0
 ref_retain Ended = 0
 ref_retain Vacated = 0
 ref_retain (Look k) = 0
+
+abbrev pub ref_kept : RefDid → ℕ
+ref_kept Born = 0
+ref_kept Retain = 0
+ref_kept Kept = 1
+ref_kept Ended = 0
+ref_kept Vacated = 0
+ref_kept (Look k) = 0
 
 abbrev pub ref_born : RefDid → ℕ
 ref_born Born = 1
@@ -84,11 +92,11 @@ at_gain p g e = noted_weight (λ (n : Noted). did_fetch p g n.did) e
 abbrev pub at_loss : ℕ → ℕ → Entry → ℕ
 at_loss p g e = noted_weight (λ (n : Noted). did_post p g n.did) e
 
--- each birth and each retain, of whatever root
-abbrev pub any_gain : Entry → ℕ
-any_gain (At o k n) = 0
-any_gain (Ref r d) = ref_gain d
-any_gain (Busy b) = 0
+-- the steps on the words of all roots, weighed
+abbrev pub on_any : (RefDid → ℕ) → Entry → ℕ
+on_any weight (At o k n) = 0
+on_any weight (Ref r d) = weight d
+on_any weight (Busy b) = 0
 
 -- a view's count of a root is what it gained less what it lost
 abbrev pub gained : ℕ → ℕ → SeatView → ℕ
@@ -104,9 +112,13 @@ gained_beside p g v = weigh_in (on_root ref_gain p g) v.others + weigh_in (at_ga
 abbrev pub lost_beside : ℕ → ℕ → SeatView → ℕ
 lost_beside p g v = weigh_in (on_root ref_loss p g) v.others + weigh_in (at_loss p g) v.others
 
--- the births and retains made, and the moves left
+-- the retains made, with the moves left, and the releases that left their root alive. A retain
+-- takes a move from its seat, and such a release gives one to its own
 abbrev pub reached : SeatView → ℕ
-reached v = weigh any_gain v + v.moves
+reached v = weigh (on_any ref_retain) v + v.moves
+
+abbrev pub returned : SeatView → ℕ
+returned v = weigh (on_any ref_kept) v
 
 -- the same for all roots of the place p
 abbrev pub on_place : (RefDid → ℕ) → ℕ → Entry → ℕ
@@ -162,6 +174,7 @@ pub record IsCounted (p : ℕ) (views : List SeatView) (word : ℕ) : Type 0 whe
   pub count : ℕ
   pub vacant : ℕ
   pub word_is : word ≡ generation * 4294967296 + (2 * count + vacant)
+  pub young : generation < 4294967296
   pub free : vacant ≤ 1
   pub live : 0 < count → vacant ≡ 0
   pub unborn : generation ≡ 0 → (count ≡ 0) × (vacant ≡ 1)
@@ -181,6 +194,8 @@ pub record IsCounted (p : ℕ) (views : List SeatView) (word : ℕ) : Type 0 whe
   pub vacated : 0 < generation → tally ref_vacated p generation views ≡ vacant
   pub all_born : place_tally ref_born p views ≡ generation
   pub all_vacated : place_tally ref_vacated p views + 1 ≡ generation + vacant
+  -- the counts beyond the first are the retains that no release took back
+  pub beyond : place_tally ref_retain p views ≡ place_tally ref_kept p views + (count - 1)
 
 -- the view after a step on a reference word
 abbrev pub with_ref : SeatView → RootId → RefDid → ℕ → SeatView

@@ -6,6 +6,8 @@ use Rattle.pool_law.specs.declared.id.RegionId.{RegionId}
 use Rattle.pool_law.specs.declared.note.Did.{Did}
 use Rattle.pool_law.specs.declared.note.Did.TheVariants.{Give, Kept, Home, Post, Birth, End}
 use Rattle.pool_law.specs.declared.note.Noted.{Noted}
+use Rattle.pool_law.specs.declared.note.Object.{Object}
+use Rattle.pool_law.specs.declared.note.Object.TheVariants.{Mail, Root}
 use Rattle.table_law.specs.NoteCounts.{did_handle, did_home, did_birth, did_birth_of, did_birth_as, did_end, did_end_of, is_taking, uses_in, arena_out, arena_in, cache_out, cache_in, place_out, place_in}
 use Rattle.pool_table.specs.declared.views.Entry.{Entry}
 use Rattle.pool_table.specs.declared.views.SeatView.{SeatView}
@@ -53,9 +55,11 @@ pub record Waits (r : RootId) (v : SeatView) : Type 0 where
       weigh (on_root ref_born r.place r.generation) v < weigh (at_birth_of r.place r.generation) v
   pub capacity : 0 < weigh (at_birth_as r.place r.generation r.capacity) v
 
--- the birth that it has noted and not made is at this place, of this capacity
+-- the birth that it has noted and not made is at this place, of this capacity, and its generation
+-- fits the word
 abbrev pub IsAwaited : ℕ → ℕ → SeatView → Type 0
-IsAwaited p c v = (r : RootId) × (r.place ≡ p) × (r.capacity ≡ c) × Waits r v
+IsAwaited p c v =
+    (r : RootId) × (r.place ≡ p) × (r.capacity ≡ c) × Waits r v × (r.generation < 4294967296)
 
 abbrev pub NoneWaits : ℕ → SeatView → Type 0
 NoneWaits p v = weigh (at_birth p) v ≤ weigh (on_place ref_born p) v
@@ -156,6 +160,12 @@ pub record IsOrderly (v : SeatView) : Type 0 where
   pub borne_as : (p g c : ℕ) → weigh (on_exact ref_born p g c) v ≤ weigh (at_birth_as p g c) v
   -- no taking is laid down that isn't in hand
   pub held : (q : RegionId) → IsHeldRight q v
+
+-- its section may end with no note: that of a mail, or of a root place in hand where no birth waits
+abbrev pub MayLeave : SeatView → Object → Type 0
+MayLeave v (Mail f t) = ⊤
+MayLeave v (Root p) = InHand p v × NoneWaits p v
+MayLeave v o = ⊥
 
 -- a view may be in the section of a root place: it counts its root, has its end token, or has the
 -- place in hand

@@ -28,15 +28,18 @@ use Rattle.pool_table.specs.Sound.{IsView}
 
 -- what the history of a root place tells a view: the present root is the one that it counts, or
 -- that it ended and whose end it hasn't noted; the place in hand is vacant, where no birth waits
-pub record TellsRoot (p : ℕ) (v : SeatView) (h : List Noted) : Type 0 where
+pub record TellsRoot (l : Layout) (p : ℕ) (v : SeatView) (h : List Noted) : Type 0 where
   pub counted : (r : RootId) → r.place ≡ p → HasCount r v → root_after p h ≡ Some r
   pub ended : (r : RootId) → r.place ≡ p → HasToken r v → HasNoEnd r v →
       root_after p h ≡ Some r
   pub in_hand : InHand p v → NoneWaits p v → root_after p h ≡ None
   -- no birth waits where the last root isn't vacated
   pub none_waits : (r : RootId) → r.place ≡ p → HasToken r v → NoneWaits p v
-  -- few roots were born there
-  pub few : (x : RootPlace) → IsPlaceAfter p h x → x.generation ≤ 1073741824
+  -- each root that was born there has a note, and the place in hand is worn out at the latest with
+  -- the last generation that fits its word
+  pub few : (x : RootPlace) → IsPlaceAfter p h x → x.generation ≤ l.shape.lanes * l.turns
+  pub young : InHand p v → NoneWaits p v → (x : RootPlace) → IsPlaceAfter p h x →
+      x.generation < 4294967296
 
 -- the entries of the seat's own part, weighed
 abbrev pub in_own : (Entry → ℕ) → SeatView → ℕ
@@ -93,7 +96,7 @@ pub record Enters {H : Type 0}
   -- what a note that may come next takes up isn't in hand yet
   pub free : (q : RegionId) (n : Noted) → IsHistory l.shape o (h ++ n ∷ []) → 0 < did_take_up q n →
       IsLaidDown q v
-  pub root : (p : ℕ) → o ≡ Root p → TellsRoot p v h
+  pub root : (p : ℕ) → o ≡ Root p → TellsRoot l p v h
   -- a region in hand is out of its arena, with this place, class and owner
   pub arena : (a : ℕ) (x : ArenaState) → o ≡ Arena a → IsArenaAfter l.shape a h x →
       (r : RegionId) → r.place.arena ≡ a → HasTaking r v → is_out_of x r ≡ true

@@ -7,6 +7,7 @@ pub mod Order
 pub mod Numbers
 pub mod Hands
 pub mod Births
+pub mod Sequence
 pub mod Sound
 pub mod Learned
 pub mod Steps

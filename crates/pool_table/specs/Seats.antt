@@ -1,9 +1,7 @@
 -- What a contract sees of a seat.
-use Rattle.std.specs.Prelude.{◌≡◌, [], ⊤}
+use Rattle.std.specs.Prelude.{◌≡◌, []}
 use Rattle.step_law.specs.declared.Told.{Ghosts}
 use Rattle.pool_law.specs.declared.note.Noted.{Noted}
-use Rattle.pool_law.specs.declared.note.Object.{Object}
-use Rattle.pool_law.specs.declared.note.Object.TheVariants.{Mail}
 use Rattle.pool_table.specs.declared.views.SeatView.{SeatView}
 use Rattle.pool_table.specs.declared.table.PoolTable.{PoolTable}
 use Rattle.pool_table.specs.declared.table.PoolSeat.{PoolSeat}
@@ -29,7 +27,3 @@ module _ {H : Type 0} {G : Ghosts H Noted} where
   -- it knows this, and holds no home value
   abbrev pub HasView : PoolSeat H G → SeatView → Type 0
   HasView s v = s.seat.me ≡ (v, [])
-
-abbrev pub IsMail : Object → Type 0
-IsMail (Mail f t) = ⊤
-IsMail o = ⊥

@@ -1,7 +1,7 @@
 -- The table's rule: what holds of its words, its home values and the views of all seats between any
 -- two steps.
 use Rattle.step_law.specs.Settings.{Setting}
-use Rattle.std.specs.Prelude.{◌≡◌, ℕ, ◌+◌, ◌-◌, ◌*◌, ◌<◌, ◌≤◌, ◌≢◌, List, [], map, length, Option, Some, None, IfSome, filter, filter_map, sum_by, All, AllPairs, slice_get, slice_index, ⊤}
+use Rattle.std.specs.Prelude.{◌≡◌, ℕ, ◌+◌, ◌-◌, ◌*◌, ◌<◌, ◌≤◌, ◌≢◌, List, [], ◌++◌, map, length, Option, Some, None, IfSome, filter, filter_map, sum_by, All, AllPairs, slice_get, slice_index, ⊤}
 use mathlib.Core.Option.{some, none}
 use mathlib.Core.Option as maybe
 use lib.ListN.{get_elem?}
@@ -15,7 +15,7 @@ use Rattle.pool_law.specs.Homes.{home_of, objects_of, IsObjectOf}
 use Rattle.table_law.specs.Measures.{measures_of}
 use Rattle.pool_table.specs.Words.{words_of, word_of, count_word_of}
 use Rattle.pool_table.specs.Slots.{slot_at, slots_of, slot_of}
-use Rattle.table_law.specs.Histories.{IsHistory}
+use Rattle.table_law.specs.Histories.{IsHistory, root_after}
 use Rattle.table_law.specs.Standing.{IsInPlace}
 use Rattle.pool_table.specs.declared.views.Entry.{Entry}
 use Rattle.pool_table.specs.declared.views.Entry.TheVariants.{At, Ref, Busy}
@@ -23,11 +23,12 @@ use Rattle.pool_table.specs.declared.views.Part.{Part}
 use Rattle.pool_table.specs.declared.views.Inside.{Inside}
 use Rattle.pool_table.specs.declared.views.SeatView.{SeatView}
 use Rattle.pool_table.specs.declared.views.Layout.{Layout}
-use Rattle.pool_table.specs.Counts.{IsCounted, gained, lost, gained_beside, lost_beside, reached, weigh, on_root, ref_ended, ref_vacated}
+use Rattle.pool_table.specs.Counts.{IsCounted, gained, lost, gained_beside, lost_beside, reached, returned, weigh, on_root, ref_ended, ref_vacated}
 use Rattle.pool_table.specs.Hands.{put_down, taken, MayEnter, IsOrderly}
 use Rattle.pool_table.specs.Births.{AreBorn}
 use Rattle.pool_table.specs.Looks.{AreLooksRight}
 use Rattle.pool_table.specs.Order.{AreInOrder}
+use Rattle.pool_table.specs.Sequence.{AreInOneOrder}
 use Rattle.pool_table.specs.Numbers.{IsNotBelow}
 use Rattle.pool_table.specs.Views.{Face, parts_of, is_at, is_numbered, noted_of, is_lane, face, is_in, inside_total, total, noted_total, numbered, spent}
 
@@ -48,11 +49,18 @@ IsMarked (Cache l c) = ⊤
 IsMarked (Root p) = ⊤
 IsMarked o = ⊥
 
+-- after n of the notes of a root place a root was present there
+abbrev pub WasPresent : Object → List Noted → ℕ → Type 0
+WasPresent (Root p) h n =
+    (early : List Noted) × (late : List Noted) × (h ≡ early ++ late) × (length early ≡ n)
+    × (root_after p early ≢ None)
+WasPresent o h n = ⊤
+
 -- a note is the one that the history has at its number, by this part's seat; a mark is below the
--- limit
+-- limit, and was made where a root was present
 abbrev pub Tells : Object → List Noted → ℕ → Option ℕ → Entry → Type 0
 Tells o h limit lane (At p k n) = (0 < k) × (slice_get h (k - 1) ≡ Some n) × (n.lane ≡ lane)
-Tells o h limit lane (Busy b) = (b.number < limit) × IsMarked o
+Tells o h limit lane (Busy b) = (b.number < limit) × IsMarked o × WasPresent o h b.number
 Tells o h limit lane (Ref r d) = ⊤
 
 -- what a part's entries on one object are to the object's history
@@ -108,18 +116,17 @@ Stands s lane (At o k n) = NoteStands s lane o n
 Stands s lane (Ref r d) = r.place < s.lanes * s.handles
 Stands s lane (Busy b) = IsObjectOf s b.object × IsMarked b.object
 
--- a view with nothing but empty parts
+-- a view with nothing but empty parts, and moves
 pub record IsIdle (v : SeatView) : Type 0 where
   pub notes : All (λ (p : Part). p.notes ≡ []) (parts_of v)
   pub inside : v.inside ≡ None
-  pub moves : v.moves ≡ 0
   pub turns : v.turns ≡ 0
 
 -- what holds of one view
 pub record IsView (s : Shape) (setting : Setting) (v : SeatView) : Type 0 where
   -- all views have the same setting, as far as they know them
   pub setting_is : IfSome v.setting (λ (g : Setting). g ≡ setting)
-  -- a view without a numbered part has nothing
+  -- a view without a numbered part has nothing but moves
   pub unnumbered : All (λ (p : Part). p.number ≡ None) (parts_of v) → IsIdle v
   -- its section is on an object of the shape
   pub inside : IfSome v.inside (λ (x : Inside). IsObjectOf s x.object)
@@ -182,12 +189,14 @@ pub record IsSound {H : Type 0}
   -- each look told the truth, and notes that follow an earlier note have the higher numbers
   pub looks : AreLooksRight s.views
   pub order : AreInOrder s.views
-  -- the notes made and the turns left are within what was given, and so are births and retains with
-  -- the moves left; so no word overflows
+  -- all steps made so far stand in one order, in which each fits those before it
+  pub one_order : AreInOneOrder l.shape s.views
+  -- the notes made and the turns left are within what was given, and so are the moves left with the
+  -- retains that no release took back; so no word overflows
   pub room : l.shape.lanes * l.turns < 4611686018427387904
   pub budget : sum_by spent s.views ≤ l.shape.lanes * l.turns
   pub few : l.shape.lanes * l.moves < 1073741824
-  pub moved : sum_by reached s.views ≤ l.shape.lanes * l.moves
+  pub moved : sum_by reached s.views ≤ l.shape.lanes * l.moves + sum_by returned s.views
 
 -- at one moment, in this table, a seat had the view v while another was in the section of o after n
 -- notes

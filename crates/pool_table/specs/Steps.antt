@@ -126,6 +126,13 @@ rest_of_lanes v =
 abbrev pub blank_beside : SeatView → SeatView
 blank_beside v = blank v.setting
 
+-- so many moves are passed on, to a seat without anything else
+abbrev pub share_left : ℕ → SeatView → SeatView
+share_left n v = record v { moves = v.moves - n }
+
+abbrev pub share_of : ℕ → SeatView → SeatView
+share_of n v = record (blank v.setting) { moves = n }
+
 -- a seat in no section, which holds no home value
 abbrev pub IsFree : {H : Type 0} → Me (Option H) SeatView → Type 0
 IsFree me = (me.0.inside ≡ None) × (me.1 ≡ [])
@@ -180,14 +187,14 @@ module _ {H : Type 0} where
   looks r s me found after =
       after ≡ (with_ref me.0 r (Look (found % 4294967296 / 2)) me.0.moves, me.1)
 
-  -- the release that found the raw count 2 ends it
+  -- the release that found the raw count 2 ends it, and another gives back a move
   abbrev pub releases : RootId → Told H
   releases r s me found after =
       (found % 4294967296 ≡ 2 →
       (after ≡ (with_ref me.0 r Ended me.0.moves, me.1))
       × HasToken r (with_ref me.0 r Ended me.0.moves)
       × HasNoEnd r (with_ref me.0 r Ended me.0.moves))
-      × (found % 4294967296 ≢ 2 → after ≡ (with_ref me.0 r Kept me.0.moves, me.1))
+      × (found % 4294967296 ≢ 2 → after ≡ (with_ref me.0 r Kept (me.0.moves + 1), me.1))
 
   abbrev pub vacates : RootId → Told H
   vacates r s me found after =
@@ -199,6 +206,6 @@ module _ {H : Type 0} where
   births r s me found after =
       let root : RootId =
       record { place = r.place; generation = found / 4294967296 + 1; capacity = r.capacity } in
-      (found / 4294967296 < 1073741824) × (after ≡ (with_ref me.0 root Born (me.0.moves - 1), me.1))
-      × HasCount root (with_ref me.0 root Born (me.0.moves - 1))
+      (found / 4294967296 + 1 < 4294967296) × (after ≡ (with_ref me.0 root Born me.0.moves, me.1))
+      × HasCount root (with_ref me.0 root Born me.0.moves)
       × ((q : RootId) → q.place ≡ r.place → q.capacity ≡ r.capacity → Waits q me.0 → root ≡ q)

@@ -31,7 +31,6 @@ impl<H: Told<Note = Noted>> PoolTable<H> {
         requires outside { seat.old.me.0.inside ≡ None }
         requires hand { InHand root.place seat.old.me.0 }
         requires waits { IsAwaited root.place root.capacity seat.old.me.0 }
-        requires moves { 0 < seat.old.me.0.moves }
         ensures same { (seat.new.table_id ≡ seat.old.table_id) × (seat.new.id ≡ seat.old.id) }
         ensures counts { CountsOne seat.new.me.0 }
         ensures told { let shape = self.now.layout.shape in

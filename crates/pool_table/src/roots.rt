@@ -31,14 +31,14 @@ pub enum Dropped {
 
 impl<H: Told<Note = Noted>> PoolTable<H> {
     /// The birth of the next root at a place that the seat has in its hands, after the note of that
-    /// birth.
+    /// birth. It makes the root's first count, and takes no move. A place is worn out once its last
+    /// generation is the greatest that fits a word's half: no birth may be noted there any more.
     #[inline(always)]
     pub fn birth(&self, seat: &mut PoolSeat<H>, place: u32, capacity: u32) -> RootId
         requires own { IsSeatOf self.now seat.old }
         requires outside { IsOutside seat.old }
         requires hand { InHand place (view_of seat.old) }
         requires waits { IsAwaited place capacity (view_of seat.old) }
-        requires moves { 0 < (view_of seat.old).moves }
         ensures same { SameSeat seat.old seat.new }
         ensures place { result.place ≡ place }
         ensures capacity { result.capacity ≡ capacity }
@@ -47,7 +47,7 @@ impl<H: Told<Note = Noted>> PoolTable<H> {
         ensures counts { HasCount result (view_of seat.new) }
         ensures counts_one { CountsOne (view_of seat.new) }
         ensures noted { let v = view_of seat.old in
-            HasView seat.new (with_ref v result Born (v.moves - 1)) }
+            HasView seat.new (with_ref v result Born v.moves) }
     {
         let root = RootId {
             place,
@@ -62,7 +62,7 @@ impl<H: Told<Note = Noted>> PoolTable<H> {
         }
     }
 
-    /// One count more of a root that the seat counts.
+    /// One count more of a root that the seat counts, for one of its moves.
     #[inline(always)]
     pub fn retain(&self, seat: &mut PoolSeat<H>, root: RootId)
         requires own { IsSeatOf self.now seat.old }
@@ -78,7 +78,7 @@ impl<H: Told<Note = Noted>> PoolTable<H> {
     }
 
     /// One count less of a root that the seat counts. The release that finds one count left ends
-    /// the root.
+    /// the root, and any other gives the seat a move.
     #[inline(always)]
     pub fn release(&self, seat: &mut PoolSeat<H>, root: RootId) -> Dropped
         requires own { IsSeatOf self.now seat.old }

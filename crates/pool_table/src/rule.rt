@@ -90,6 +90,29 @@ impl Split<SeatView> for Blanks {
     ghost right = { blank_beside };
 }
 
+/// How many moves a split passes on.
+pub trait Sharing {
+    ghost use Rattle.std.specs.Prelude.{ℕ};
+
+    ghost moves: { ℕ };
+}
+
+impl Sharing for Brand {
+    ghost moves = { 0 };
+}
+
+pub struct Shares<M> {
+    of: PhantomData<M>,
+}
+
+impl<M: Sharing> Split<SeatView> for Shares<M> {
+    ghost use Rattle.pool_table.specs.Steps.{share_left, share_of};
+
+    ghost left = { share_left M.moves };
+
+    ghost right = { share_of M.moves };
+}
+
 /// Cuts off the first of the other parts, with its share of the moves and turns.
 pub struct Cuts;
 

@@ -1,12 +1,16 @@
 //! Seats: their numbers, and how they are split off and joined. No step here changes a word.
 
-ghost use Rattle.std.specs.Prelude.{◌≡◌};
+ghost use Rattle.std.specs.Prelude.{◌≡◌, ◌≤◌, None, []};
 ghost use Rattle.pool_table.specs.Views.{blank, joined};
+ghost use Rattle.pool_table.specs.Steps.{share_left, share_of};
 ghost use Rattle.pool_table.specs.Seats.{view_of, IsSeatOf, IsOutside, HasView, SameSeat};
 
-use crate::rule::{Blanks, Joins};
+use crate::rule::{Blanks, Joins, Shares, Sharing};
 use crate::table::{PoolSeat, PoolTable};
+use crate::views::SeatView;
+use atomic_table::Seat;
 use pool_law::Noted;
+use std::marker::Brand;
 use step_law::Told;
 
 impl<H: Told<Note = Noted>> PoolSeat<H> {
@@ -29,6 +33,44 @@ impl<H: Told<Note = Noted>> PoolTable<H> {
         ensures empty { HasView result (blank (view_of seat.old).setting) }
     {
         let other = self.table.shared.split_seat::<Blanks>(&mut seat.seat);
+        PoolSeat {
+            seat: other,
+            number: None,
+        }
+    }
+
+    // The split, by the number that its type has.
+    #[inline(always)]
+    fn share_seat<M: Sharing>(
+        &self,
+        seat: &mut Seat<Option<H>, SeatView>,
+        moves: u32,
+    ) -> Seat<Option<H>, SeatView>
+        requires named { M.moves ≡ moves }
+        requires own { seat.old.table_id ≡ self.now.table.shared.table_id }
+        requires outside { seat.old.me.0.inside ≡ None }
+        requires moves { moves ≤ seat.old.me.0.moves }
+        ensures same { (seat.new.table_id ≡ seat.old.table_id) × (seat.new.id ≡ seat.old.id) }
+        ensures left { seat.new.me ≡ (share_left moves seat.old.me.0, seat.old.me.1) }
+        ensures made { result.table_id ≡ seat.old.table_id }
+        ensures share { result.me ≡ (share_of moves seat.old.me.0, []) }
+    {
+        self.table.shared.split_seat::<Shares<M>>(seat)
+    }
+
+    /// A new seat with so many of the seat's moves, and without notes and turns. Joined into a
+    /// seat of another lane it hands the moves on: where retained roots go one way only, the moves
+    /// go with them, and this sends them back.
+    pub fn share(&self, seat: &mut PoolSeat<H>, moves: u32) -> PoolSeat<H>
+        requires own { IsSeatOf self.now seat.old }
+        requires outside { IsOutside seat.old }
+        requires moves { moves ≤ (view_of seat.old).moves }
+        ensures same { SameSeat seat.old seat.new }
+        ensures left { HasView seat.new (share_left moves (view_of seat.old)) }
+        ensures made { IsSeatOf self.now result }
+        ensures share { HasView result (share_of moves (view_of seat.old)) }
+    {
+        let other = self.share_seat::<Brand>(&mut seat.seat, moves);
         PoolSeat {
             seat: other,
             number: None,

@@ -15,8 +15,8 @@ ghost use Rattle.pool_table.specs.Hands.{MayEnter};
 ghost use Rattle.pool_table.specs.Views.{left, with_entry};
 ghost use Rattle.pool_law.specs.NotedHistories.{MayNote};
 ghost use Rattle.pool_table.specs.Sound.{IsMarked};
-ghost use Rattle.pool_table.specs.Seats.{view_of, IsSeatOf, IsOutside, HasView, SameSeat, IsMail};
-ghost use Rattle.pool_table.specs.Hands.{PutsDown};
+ghost use Rattle.pool_table.specs.Seats.{view_of, IsSeatOf, IsOutside, HasView, SameSeat};
+ghost use Rattle.pool_table.specs.Hands.{MayLeave, PutsDown};
 ghost use Rattle.pool_table.specs.Holders.{HoldsPlace};
 ghost use Rattle.pool_table.specs.Steps.{claims, marks_claims};
 ghost use Rattle.pool_table.specs.Sections.{GotSection, FoundHeld, MayEnd, MayIdle};
@@ -136,12 +136,13 @@ impl<H: Told<Note = Noted>> PoolTable<H> {
         found / 2 + 1
     }
 
-    /// Ends the section of a mail with no note, where its home value is as it was.
+    /// Ends a section with no note, where its home value is as it was: that of a mail, or that of a
+    /// root place in the seat's hands where no birth waits, as where the place is worn out.
     #[inline(always)]
     pub fn idle(&self, seat: &mut PoolSeat<H>, section: Section<H>)
         requires own { IsSeatOf self.now seat.old }
         requires section { MayIdle H.stands self.now.layout.shape seat.old section }
-        requires mail { IsMail section.object }
+        requires leaves { MayLeave (view_of seat.old) section.object }
         ensures same { SameSeat seat.old seat.new }
         ensures left { HasView seat.new (left (view_of seat.old)) }
     {

@@ -5,6 +5,8 @@ ghost use Rattle.std.specs.Prelude.{◌≡◌, ℕ, ◌<◌, ◌≤◌, ◌+◌,
 ghost use Rattle.pool_law.specs.declared.note.Noted.{Noted};
 ghost use Rattle.pool_table.specs.Opened.{IsFirstSeat};
 
+mod moves;
+
 use crate::{Layout, PoolSeat, PoolTable, Section};
 use pool_law::{Did, Level, Named, Noted, Object, Shape};
 use size_classes::DEFAULT_PAGE;

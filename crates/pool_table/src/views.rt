@@ -5,10 +5,16 @@ use pool_law::{Held, Noted, Object, RefDid, RootId, Shape};
 use std::collections::LinkedList;
 use std::marker::Model;
 
+/// A table's shape, and what each of its lanes has at the start.
 #[derive(Clone, Copy)]
 pub struct Layout {
     pub shape: Shape,
+    /// The moves of each lane. A retain takes one of its seat, and a release that leaves its root
+    /// alive gives one to its own; no other step takes or gives any. So the moves left in all seats
+    /// and all counts beyond the first of each root are as many together for ever. Where other
+    /// seats release what one retains they get its moves, and can hand them back by `share`.
     pub moves: u32,
+    /// The turns of each lane: one for each note that it makes on an object. None comes back.
     pub turns: u64,
 }
 

@@ -11,7 +11,7 @@ fetch_add-requires g c = (
   within g.H.Told.stands c.args.self.now.layout _ _ c.root_index-word.ensures.within c.args.self.now.words,
   births_as g.H.Told.stands c.args.self.now.layout _ _ _ _ _ c.args.root _ c.args.self.now.key c.args.self.now.slots
       c.requires.named c.root_index-word.ensures.there c.requires.outside c.args.self.now.shape.some_handle
-      c.requires.hand c.requires.waits c.requires.moves,
+      c.requires.hand c.requires.waits,
 )
 
 pub returns-clause-told : goal.returns-clause-told

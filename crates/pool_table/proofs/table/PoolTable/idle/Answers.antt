@@ -15,5 +15,5 @@ fetch_sub-requires g c = (
       c.exchange-empty.ensures.1 (c.exchange-empty.ensures.3
       ∙ ap (λ r. (c.args.seat.now.seat.me.0, (c.args.section.slot.home, Some c.args.section.home) ∷ rest r))
       c.requires.section.inside.holds)
-      c.requires.mail c.requires.section.stands_for,
+      c.requires.leaves c.requires.section.stands_for,
 )
