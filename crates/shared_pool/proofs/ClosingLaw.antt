@@ -11,12 +11,14 @@ use Rattle.shared_pool.specs.Closing.{AreLanes, AreWhole, HasNoPlace}
 use Rattle.shared_pool.proofs.ClosingWhole.{histories_hold}
 use Rattle.shared_pool.proofs.ClosingEntries.{entries_hold}
 use Rattle.shared_pool.proofs.ClosingOrder.{order_holds}
+use Rattle.shared_pool.proofs.ClosingOneOrder.{one_order_holds}
 use Rattle.shared_pool.proofs.ClosingBusy.{busy_holds}
 use Rattle.shared_pool.proofs.ClosingLooks.{looks_right}
 use Rattle.shared_pool.proofs.ClosingTotals.{totals_hold}
 use Rattle.shared_pool.proofs.ClosingNames.{named_born}
 
--- only histories, entries and busy marks need the lanes to be in order, and only totals that no place is in hand
+-- only histories, entries, busy marks and the one order need the lanes to be in order, and only totals that no place is
+-- in hand
 pub parts-whole : {H : Type 0} (stands : List ℕ → Setting → List Noted → H → Type 0) (l : Layout) (v : SeatView)
     (homes : List (Option H)) (words : List ℕ) →
     IsClosed stands l v homes words → AreLanes l.shape (parts_of v) → HasNoPlace v → AreWhole l.shape (parts_of v)
@@ -28,4 +30,5 @@ parts-whole stands l v homes words closed lanes none = record {
   looks = looks_right stands l v homes words closed;
   busy = busy_holds stands l v homes words closed lanes;
   order = order_holds stands l v homes words closed;
+  one_order = one_order_holds stands l v homes words closed lanes;
 }

@@ -26,7 +26,7 @@ use Rattle.pool_table.specs.declared.views.Layout.{Layout}
 use Rattle.pool_table.specs.declared.views.Part.{Part}
 use Rattle.pool_table.specs.declared.views.SeatView.{SeatView}
 use Rattle.pool_table.specs.Views.{parts_of, is_about, is_numbered}
-use Rattle.pool_table.specs.Counts.{IsCounted, on_root, on_this, weigh, weigh_in, tally, any_gain, ref_gain, ref_loss, ref_retain, ref_born, ref_ended, ref_vacated}
+use Rattle.pool_table.specs.Counts.{IsCounted, on_root, on_this, weigh, weigh_in, tally, ref_gain, ref_loss, ref_retain, ref_born, ref_ended, ref_vacated}
 use Rattle.pool_table.specs.Births.{IsBorn}
 use Rattle.pool_table.specs.Hands.{at_birth_as, at_end}
 use Rattle.pool_table.specs.Sound.{Tells, Stands}
@@ -107,15 +107,6 @@ this_root w r (Ref q d) = by (same_root q r) refl
         (λ i. eq-eqb q.place r.place (ap (λ (x : RootId). x.place) same) i && eq-eqb q.generation r.generation
         (ap (λ (x : RootId). x.generation) same) i) in
         let c = ap (λ (b : Bool). cond {A = ℕ} b (w d) 0) t in omega (arith, c)
-
-gain_any : (p g : ℕ) (e : Entry) → on_root ref_gain p g e ≤ any_gain e
-gain_any p g (At o k n) = omega arith
-gain_any p g (Busy b) = omega arith
-gain_any p g (Ref r d) = by (is_root p g r)
-  where
-    by : (b : Bool) → cond {A = ℕ} b (ref_gain d) 0 ≤ ref_gain d
-    by true = omega arith
-    by false = omega arith
 
 -- a birth, and an end, as they weigh
 birth_one : (o : Object) (k : ℕ) (n : Noted) (r : RootId) (z : RegionId) → n.did ≡ Birth r z
@@ -327,14 +318,7 @@ module _ {H : Type 0} (stands : List ℕ → Setting → List Noted → H → Ty
         sums (count_over (is_retain r) (entries_in (parts_of v))) (count_over (is_release r) (entries_in (parts_of v)))
         (tally ref_gain p g (v ∷ [])) (tally ref_loss p g (v ∷ [])) (omega (arith, gains, once, retains)) releases
         counts in
-        let most : tally ref_gain p g (v ∷ []) < 1073741824 =
-        (let a = one_is stands l v homes words closed (on_root ref_gain p g) in
-        let b = sum_by-le-sum_by (λ (q : Part). sum_by (on_root ref_gain p g) q.notes)
-        (λ (q : Part). sum_by any_gain q.notes) (parts_of v)
-        (λ q. sum_by-le-sum_by (on_root ref_gain p g) any_gain q.notes (gain_any p g)) in
-        let few = closed.few in let x : ℕ = weigh (on_root ref_gain p g) v in let y : ℕ = weigh any_gain v in
-        let b' : x ≤ y = b in let few' : y + v.moves < 1073741824 = few in
-        omega (arith, a, b', few')) in
+        let most : k.count ≤ 1073741824 = closed.few p (birth_place stands l v homes words closed r born) k in
         decoded (slice_index words (objects_of l.shape + p)) p g k (made stands l v homes words closed r born (none p))
         (total_of r (entries_in (parts_of v))) live all most
       where
@@ -342,12 +326,11 @@ module _ {H : Type 0} (stands : List ℕ → Setting → List Noted → H → Ty
         sums a b gain loss e f le = omega (arith, e, f, le)
 
         low : (generation count vacant word : ℕ) → word ≡ generation * 4294967296 + (2 * count + vacant) → vacant ≤ 1
-            → count < 1073741824 → word % 4294967296 / 2 ≡ count
+            → count ≤ 1073741824 → word % 4294967296 / 2 ≡ count
         low generation count vacant word is one few = omega (arith, is, one, few)
 
         decoded : (word p g : ℕ) (k : IsCounted p (v ∷ []) word) → 0 < tally ref_born p g (v ∷ []) → (t : ℕ) → t ≢ 0
-            → tally ref_gain p g (v ∷ []) ≡ tally ref_loss p g (v ∷ []) + t → tally ref_gain p g (v ∷ []) < 1073741824
-            → count_in word ≡ t
+            → tally ref_gain p g (v ∷ []) ≡ tally ref_loss p g (v ∷ []) + t → k.count ≤ 1073741824 → count_in word ≡ t
         decoded word p g k lt t live all most = dite (ℕ_discrete g 0)
             (λ z. let a = k.later ref_born g (inl z) in absurd (omega (arith, a, lt)))
             (λ some. dite (dec_le g k.generation)
@@ -359,7 +342,7 @@ module _ {H : Type 0} (stands : List ℕ → Setting → List Noted → H → Ty
             let loss : tally ref_loss p g (v ∷ [])
             ≡ tally ref_loss p k.generation (v ∷ []) = ap (λ (x : ℕ). tally ref_loss p x (v ∷ [])) same in
             let count : k.count ≡ t = omega (arith, c, gain, loss, all) in
-            low k.generation k.count k.vacant word k.word_is k.free (omega (arith, c, gain, most)) ∙ count)
+            low k.generation k.count k.vacant word k.word_is k.free most ∙ count)
             (λ other. let e = (k.past g (omega (arith, some)) (omega (arith, le, other))).0 in
             absurd (live (omega (arith, e, all)))))
             (λ gt. let a = k.later ref_born g (inr (omega (arith, gt))) in absurd (omega (arith, a, lt))))

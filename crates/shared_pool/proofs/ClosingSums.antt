@@ -78,7 +78,7 @@ some_weighs f (x ∷ xs) lt = dite (ℕ_discrete (f x) 0)
 -- ---- One entry.
 
 -- tests that pass together are the same
-tests_same : (a b : Bool) → (a ≡ true → b ≡ true) → (b ≡ true → a ≡ true) → a ≡ b
+pub tests_same : (a b : Bool) → (a ≡ true → b ≡ true) → (b ≡ true → a ≡ true) → a ≡ b
 tests_same true b f g = sym (f refl)
 tests_same false true f g = g refl
 tests_same false false f g = refl
@@ -96,7 +96,7 @@ root_test q r one = tests_same (same_root q r) (is_root r.place r.generation q)
     (eqb-true q.generation r.generation (and-second (q.place == r.place) (q.generation == r.generation) t)) in
     subst (λ (x : RootId). same_root q x ≡ true) e (same_root-refl q))
 
-nothing : (b : Bool) → 0 ≡ cond {A = ℕ} b 0 0
+pub nothing : (b : Bool) → 0 ≡ cond {A = ℕ} b 0 0
 nothing true = refl
 nothing false = refl
 
@@ -109,7 +109,7 @@ both_true true = refl
 both_true false = refl
 
 module _ (r : RootId) where
-  same_cond : (q : RootId) (w : ℕ) → (q.place ≡ r.place → q.generation ≡ r.generation → q ≡ r)
+  pub same_cond : (q : RootId) (w : ℕ) → (q.place ≡ r.place → q.generation ≡ r.generation → q ≡ r)
       → cond {A = ℕ} (same_root q r) w 0 ≡ cond {A = ℕ} (is_root r.place r.generation q) w 0
   same_cond q w one = ap (λ (b : Bool). cond {A = ℕ} b w 0) (root_test q r one)
 

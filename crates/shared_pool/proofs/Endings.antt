@@ -104,7 +104,7 @@ plain_watch (Birth root region) = tt
 plain_watch _ = refl
 
 -- a seat stays one of the pool's where only its own entries and its moves and turns change
-seat_stays : {G : Ghosts Home Noted} (pool : SharedPool) (old new : PoolSeat Home G) (v : SeatView)
+pub seat_stays : {G : Ghosts Home Noted} (pool : SharedPool) (old new : PoolSeat Home G) (v : SeatView)
     → IsPoolSeat pool old → SameSeat old new → HasView new v → v.inside ≡ None → v.others ≡ (view_of old).others
     → v.own.number ≡ (view_of old).own.number → v.setting ≡ (view_of old).setting → CountsOne v → IsPoolSeat pool new
 seat_stays pool old new v s same has outside others number setting counts =

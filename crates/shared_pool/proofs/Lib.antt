@@ -27,9 +27,12 @@ pub mod LooksHeld
 pub mod ClosingBirths
 pub mod ClosingTotals
 pub mod ClosingNames
+pub mod ClosingSteps
+pub mod ClosingOneOrder
 pub mod ClosingLaw
 pub mod PlaceBirths
 pub mod PlaceCalls
+pub mod BirthCalls
 pub mod PlaceEnds
 pub mod Keeps
 pub mod JoinedParts

@@ -39,7 +39,7 @@ use Rattle.pool_table.specs.Counts.{weigh, on_root, on_place, on_this, ref_born,
 use Rattle.pool_table.specs.Hands.{at_in, at_out, at_birth, at_birth_of, at_birth_as, ends, from_arena, to_arena, from_cache, to_cache, from_place, to_place, InHand, NoneWaits, Waits, HasEnded, HasRegion, IsLaidDown, IsOrderly}
 use Rattle.pool_table.proofs.Weights.{weigh_entry}
 use Rattle.shared_pool.specs.RootNotes.{birth, end_of}
-use Rattle.shared_pool.specs.RootPlaces.{RootState, PlaceState, law_root, law_place, PlaceStandsFor}
+use Rattle.shared_pool.specs.RootPlaces.{RootState, PlaceState, last_generation, law_root, law_place, PlaceStandsFor}
 use Rattle.shared_pool.specs.PlaceSteps.{MayBear, used, cleared, born_root, with_born}
 use Rattle.shared_pool.specs.declared.home.Home.{Home}
 use Rattle.shared_pool.specs.declared.home.Home.TheVariants.{Arena, Cache, Bin, Mail, Root}
@@ -52,13 +52,13 @@ use Rattle.shared_pool.proofs.PlaceHomes.{place_at}
 
 -- a vacant place of few roots may bear one
 pub may_bear : (p : ℕ) (h : List Noted) (s : PlaceState) → place_after p (noted_dids h) ≡ Some (law_place s)
-    → root_after p h ≡ None → s.generation ≤ 1073741824 → MayBear s
+    → root_after p h ≡ None → s.generation < last_generation → MayBear s
 may_bear p h s told is few =
     record {
       vacant = go s.present refl
           (sym (ap (λ (o : Option RootPlace). option_map (λ (x : Present). x.root) (present_in o)) told) ∙ is);
       few =
-          omega (arith, few);
+          few;
     }
   where
     go : (o : Option RootState) → s.present ≡ o → option_map (λ (x : Present). x.root) (option_map law_root o) ≡ None

@@ -14,7 +14,8 @@ use Rattle.pool_law.specs.declared.report.Watch.{Watch}
 use Rattle.pool_law.specs.Limits.{geometry_of}
 use Rattle.pool_law.specs.Naming.{noted_by}
 use Rattle.pool_law.specs.Places.{IsInPlace}
-use Rattle.table_law.specs.Histories.{IsHistory}
+use Rattle.pool_law.specs.Roots.{RootPlace}
+use Rattle.table_law.specs.Histories.{IsHistory, IsPlaceAfter}
 use Rattle.table_law.specs.Measures.{measures_of}
 use Rattle.handle_bin.specs.Bins.{HandleValue}
 use Rattle.pool_table.specs.declared.views.Entry.TheVariants.{At}
@@ -29,7 +30,7 @@ use Rattle.pool_table.specs.Hands.{InHand, NoneWaits}
 use Rattle.pool_table.specs.Seats.{view_of, HasView}
 use Rattle.pool_table.specs.Sections.{GotSection}
 use Rattle.shared_pool.specs.RootNotes.{birth, IsNotedWith}
-use Rattle.shared_pool.specs.RootPlaces.{law_place, PlaceStandsFor}
+use Rattle.shared_pool.specs.RootPlaces.{last_generation, law_place, PlaceStandsFor}
 use Rattle.shared_pool.specs.PlaceSteps.{MayBear, born_root, with_born}
 use Rattle.shared_pool.specs.declared.home.Home.{Home}
 use Rattle.shared_pool.specs.declared.home.Home.TheVariants.{Arena, Cache, Bin, Mail, Root}
@@ -50,35 +51,51 @@ module _ {G : Ghosts Home Noted} (l : Layout) (p : ℕ) (old new : PoolSeat Home
   place_here =
       is_place setting got.history p l.shape.handles l.shape.lanes l.shape.order l.shape.page section.home stands_here
 
-  -- a place in hand may bear a root
-  pub bears_here : InHand p (view_of old) → NoneWaits p (view_of old) → IfPlace section.home MayBear
+  -- a place in hand that isn't worn out may bear a root
+  pub bears_here : InHand p (view_of old) → NoneWaits p (view_of old)
+      → IfPlace section.home (λ y. y.generation < last_generation) → IfPlace section.home MayBear
   bears_here hand waits = go section.home (place_at l.shape setting p got.history section.home stands_here)
     where
       go : (home : Home) → IfPlace home (λ y. PlaceStandsFor setting.grounds p l.shape.handles got.history y)
-          → IfPlace home MayBear
-      go (Root y) at =
-          may_bear p got.history y.value at.told ((got.learned.root p refl).in_hand hand waits)
-          ((got.learned.root p refl).few (law_place y.value) at.told)
-      go (Arena a) at = tt
-      go (Cache q) at = tt
-      go (Bin b) at = tt
-      go (Mail m) at = tt
+          → IfPlace home (λ y. y.generation < last_generation) → IfPlace home MayBear
+      go (Root y) at young =
+          may_bear p got.history y.value at.told ((got.learned.root p refl).in_hand hand waits) young
+      go (Arena a) at young = tt
+      go (Cache q) at young = tt
+      go (Bin b) at young = tt
+      go (Mail m) at young = tt
+
+  -- the place after its history, where it is worn out
+  pub worn_here : IfPlace section.home (λ y. y.generation ≡ last_generation)
+      → (x : RootPlace) × IsPlaceAfter p got.history x × (x.generation ≡ last_generation)
+  worn_here =
+      go section.home place_here (place_at l.shape setting p got.history section.home stands_here)
+    where
+      go : (home : Home) → IsPlace home
+          → IfPlace home (λ y. PlaceStandsFor setting.grounds p l.shape.handles got.history y)
+          → IfPlace home (λ y. y.generation ≡ last_generation)
+          → (x : RootPlace) × IsPlaceAfter p got.history x × (x.generation ≡ last_generation)
+      go (Root y) is at worn = (law_place y.value, at.told, worn)
+      go (Arena a) is at worn = absurd is
+      go (Cache q) is at worn = absurd is
+      go (Bin b) is at worn = absurd is
+      go (Mail m) is at worn = absurd is
 
   -- after a birth its note follows
   pub born_next : (after : Section Home) (root : RootId) (region : Region) (handle : HandleValue) (watch : Option Watch)
-      → InHand p (view_of old) → NoneWaits p (view_of old) → after.object ≡ section.object → after.slot ≡ section.slot
-      → IsPlace after.home → root.place ≡ p → IfPlace section.home (λ y. root.generation ≡ y.generation + 1)
+      → IfPlace section.home MayBear → after.object ≡ section.object → after.slot ≡ section.slot → IsPlace after.home
+      → root.place ≡ p → IfPlace section.home (λ y. root.generation ≡ y.generation + 1)
       → root.capacity ≤ region.id.place.len →
       IfSome (view_of old).setting (λ t. IsInPlace t.grounds region.id.place region.piece)
       → region.id.owner < l.shape.lanes → region.id.class < class_count (geometry_of l.shape)
       → HasClassLength region.id → handle.place ≡ p → handle.lane ≡ p / l.shape.handles →
       IfPlace after.home (λ t. t ≡ with_born (born_root root region handle watch))
       → IsNext l (RootOf p) old new section got setting known after (birth root region.id watch)
-  born_next after root region handle watch hand waits same_object same_slot place root_place next fits in_place owner
-      class len handle_place handle_lane made =
+  born_next after root region handle watch may same_object same_slot place root_place next fits in_place owner class
+      len handle_place handle_lane made =
       let m : Noted = noted_by (view_of old).own.number (birth root region.id watch) in
       let stands = home_born l.shape setting p got.history m section.home after.home root region handle watch
-      stands_here place_here place (bears_here hand waits) root_place next fits
+      stands_here place_here place may root_place next fits
       (subst (λ (y : Option Setting). IfSome y (λ t. IsInPlace t.grounds region.id.place region.piece)) known
       in_place) owner class len handle_place handle_lane refl refl made in
       record {
@@ -93,14 +110,14 @@ module _ {G : Ghosts Home Noted} (l : Layout) (p : ℕ) (old new : PoolSeat Home
 pub born_noted : {G : Ghosts Home Noted} (pool : SharedPool) (old last new : PoolSeat Home G) (p number : ℕ)
     (root result : RootId) (region : RegionId) (watch : Option Watch)
     → IsNoted pool old last (RootOf p) number (birth root region watch) → root.place ≡ p → result ≡ root →
-    HasView new (with_ref (view_of last) result Born ((view_of last).moves - 1))
-    → IsNotedWith pool old new result number (birth result region watch) Born ((view_of old).moves - 1)
+    HasView new (with_ref (view_of last) result Born (view_of last).moves)
+    → IsNotedWith pool old new result number (birth result region watch) Born (view_of old).moves
 born_noted pool old last new p number root result region watch m place same has =
     let v = view_of old in let n : Noted = noted_by v.own.number (birth root region watch) in
-    let here : HasView new (with_ref (with_entry v (At (RootOf p) number n) (v.turns - 1)) root Born (v.moves - 1)) =
-    subst (λ (x : RootId × SeatView). HasView new (with_ref x.1 x.0 Born (x.1.moves - 1)))
-    (λ i. (same i, (m.seat i).0)) has in
-    subst (λ (q : RootId). IsNotedWith pool old new q number (birth q region watch) Born (v.moves - 1)) (sym same)
+    let here : HasView new (with_ref (with_entry v (At (RootOf p) number n) (v.turns - 1)) root Born v.moves) =
+    subst (λ (x : RootId × SeatView). HasView new (with_ref x.1 x.0 Born x.1.moves)) (λ i. (same i, (m.seat i).0))
+    has in
+    subst (λ (q : RootId). IsNotedWith pool old new q number (birth q region watch) Born v.moves) (sym same)
     (record {
       history = m.history;
       number_is = m.number_is;
@@ -109,5 +126,5 @@ born_noted pool old last new p number root result region watch m place same has 
       above = subst (λ (x : ℕ). IsAbove (RootOf x) number v.own.notes) (sym place) m.above;
       seat =
           subst (λ (x : ℕ). HasView new (with_ref (with_entry v (At (RootOf x) number n) (v.turns - 1)) root Born
-          (v.moves - 1))) (sym place) here;
+          v.moves)) (sym place) here;
     })

@@ -15,6 +15,7 @@ use Rattle.pool_table.specs.declared.views.Entry.TheVariants.{At, Ref, Busy}
 use Rattle.pool_table.specs.declared.views.Part.{Part}
 use Rattle.pool_table.specs.declared.views.SeatView.{SeatView}
 use Rattle.pool_table.specs.Hands.{InHand}
+use Rattle.run_order.specs.Order.{InOneOrder}
 use Rattle.shared_pool.specs.Looks.{LooksRight}
 
 -- an entry of a part as a note of a log, and as an entry that knows its root and region
@@ -71,3 +72,5 @@ pub record AreWhole (shape : Shape) (parts : List Part) : Type 0 where
   pub busy : (lane : ℕ) →
       BusyHolds lane (λ object. history_of object (logs_in parts)) (of_lane (logs_in parts) lane)
   pub order : IsOrdered (logs_in parts)
+  -- all steps of all lanes stand in one order, in which each fits those before it
+  pub one_order : InOneOrder (logs_in parts)

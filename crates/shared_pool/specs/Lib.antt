@@ -10,6 +10,7 @@ pub mod Answers
 pub mod Notes
 pub mod CacheAnswers
 pub mod MailAnswers
+pub mod Wearing
 pub mod Holding
 pub mod RootNotes
 pub mod Looks

@@ -11,7 +11,7 @@ use Rattle.pool_law.specs.Roots.{place_step}
 use Rattle.leak_records.specs.Records.{new_tracker, with_access}
 use Rattle.handle_bin.specs.Bins.{HandleValue}
 use Rattle.handle_bin.specs.Lending.{with_tracker}
-use Rattle.shared_pool.specs.RootPlaces.{RootState, PlaceState, law_place}
+use Rattle.shared_pool.specs.RootPlaces.{RootState, PlaceState, last_generation, law_place}
 
 -- the region with one use more
 abbrev pub used : RegionId → RegionId
@@ -25,10 +25,10 @@ pub record MayAccess (offset len : ℕ) (s : PlaceState) : Type 0 where
   pub fits : root.root.capacity ≤ length root.piece.bytes
   pub few : root.handle.tracker.dropped < 2 ^ 63
 
--- no root is present, and few were
+-- no root is present, and the place has a name left for one
 pub record MayBear (s : PlaceState) : Type 0 where
   pub vacant : s.present ≡ None
-  pub few : s.generation < 2 ^ 32 - 1
+  pub few : s.generation < last_generation
 
 -- a root is present, which has its region's memory
 pub record MayEnd (s : PlaceState) : Type 0 where

@@ -67,7 +67,7 @@ module _ {G : Ghosts Home Noted} where
   -- what a release made, by its answer
   abbrev pub IsReleasedAs : Release → RootId → PoolSeat Home G → PoolSeat Home G → Type 0
   IsReleasedAs Kept root old new =
-      HasView new (with_ref (view_of old) root RefDid.Kept (view_of old).moves)
+      HasView new (with_ref (view_of old) root RefDid.Kept ((view_of old).moves + 1))
   IsReleasedAs (Ended token) root old new =
       (token.root ≡ root) × HoldsToken new token
       × HasView new (with_ref (view_of old) root RefDid.Ended (view_of old).moves)

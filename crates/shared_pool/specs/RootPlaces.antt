@@ -1,5 +1,5 @@
 -- What a contract sees of a root place, and when it stands for a history.
-use Rattle.std.specs.Prelude.{◌≡◌, ℕ, ◌/◌, ◌≤◌, false, List, [], ◌∷◌, map, take, Option, Some, None, option_map, unwrap_or, IfSome}
+use Rattle.std.specs.Prelude.{◌≡◌, ℕ, ◌-◌, ◌/◌, ◌^◌, ◌≤◌, false, List, [], ◌∷◌, map, take, Option, Some, None, option_map, unwrap_or, IfSome}
 use Rattle.ground.specs.Ground.{Segment}
 use Rattle.ground.specs.Grounds.{Grounds}
 use Rattle.pool_law.specs.declared.id.RootId.{RootId}
@@ -28,6 +28,10 @@ pub record RootState : Type 0 where
 pub record PlaceState : Type 0 where
   pub generation : ℕ
   pub present : Option RootState
+
+-- the generation of the last root that a place has a name for
+abbrev pub last_generation : ℕ
+last_generation = 2 ^ 32 - 1
 
 abbrev pub new_place_state : PlaceState
 new_place_state = record { generation = 0; present = None }

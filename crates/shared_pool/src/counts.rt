@@ -13,7 +13,7 @@ use pool_law::RootId;
 use pool_table::Dropped;
 
 impl SharedPool {
-    /// One count more of a root that the seat counts.
+    /// One count more of a root that the seat counts. It takes one of the seat's moves.
     pub fn retain(&self, seat: &mut PoolSeat, root: RootId)
         requires seat { IsPoolSeat self.now seat.old }
         requires counts { HasCount root (view_of seat.old) }
@@ -27,7 +27,8 @@ impl SharedPool {
     }
 
     /// One count less of a root that the seat counts. Ended comes exactly where it was the last
-    /// one: the seat then has the right to retire the root.
+    /// one: the seat then has the right to retire the root. Else the seat gets one move more, so
+    /// that who gives back as many counts as he takes never runs out.
     pub fn release(&self, seat: &mut PoolSeat, root: RootId) -> Release
         requires seat { IsPoolSeat self.now seat.old }
         requires counts { HasCount root (view_of seat.old) }

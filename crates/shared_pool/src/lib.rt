@@ -31,4 +31,4 @@ pub use laws::parts_are_whole_logs;
 pub use mail::Mail;
 pub use pool::{PoolSeat, SharedPool};
 pub use root_place::RootPlace;
-pub use went::{Fetched, PoolEnd, Put, Release, Retired, Went};
+pub use went::{Fetched, PoolEnd, Put, Release, Retired, Went, Worn};

@@ -1,10 +1,11 @@
 //! What the calls do to the root place of a section.
 
-ghost use Rattle.std.specs.Prelude.{◌≡◌, ◌+◌, ◌-◌, ◌<◌, ◌≤◌, ◌^◌, length, IfSome};
+ghost use Rattle.std.specs.Prelude.{◌≡◌, ◌+◌, ◌-◌, ◌<◌, ◌≤◌, ◌^◌, length, IfSome, true, false};
 ghost use Rattle.std.specs.Fn.{FnOnceReturnsAt};
 ghost use Rattle.pool_law.specs.Roots.{bytes_at};
 ghost use Rattle.pool_law.specs.declared.note.Did.{Did};
 ghost use Rattle.pool_law.specs.declared.report.Access.{Access};
+ghost use Rattle.shared_pool.specs.RootPlaces.{last_generation};
 ghost use Rattle.shared_pool.specs.PlaceSteps.{MayAccess, MayBear, MayEnd, born_root, with_born, vacated};
 ghost use Rattle.shared_pool.specs.PlaceStanding.{IsAccessed, IfPlaces, home_bytes};
 ghost use Rattle.shared_pool.specs.Standing.{IsPlace, IfPlace};
@@ -94,6 +95,22 @@ pub(crate) fn show<R, F: FnOnce(&[u8]) -> R>(
     place.with_bytes(lane, offset, len, f)
 }
 
+// Whether the place of a section has no name left for another root.
+#[inline(always)]
+pub(crate) fn is_worn(section: &mut Section<Home>) -> bool
+    requires place { IsPlace section.old.home }
+    ensures same { section.new ≡ section.old }
+    ensures worn { result ≡ true →
+        IfPlace section.old.home (λ s. s.generation ≡ last_generation) }
+    ensures young { result ≡ false →
+        IfPlace section.old.home (λ s. s.generation < last_generation) }
+{
+    let Home::Root(place) = Section::home(section) else {
+        unreachable!()
+    };
+    place.is_worn()
+}
+
 // A root is born at the place of a section.
 #[inline(always)]
 pub(crate) fn bear(
@@ -112,6 +129,7 @@ pub(crate) fn bear(
     ensures place { IsPlace section.new.home }
     ensures root { (result.place ≡ handle.place) × (result.capacity ≡ capacity) }
     ensures next { IfPlace section.old.home (λ s. result.generation ≡ s.generation + 1) }
+    ensures fits { result.generation < 2 ^ 32 }
     ensures born { IfPlace section.new.home (λ t.
         t ≡ with_born (born_root result region handle watch)) }
 {

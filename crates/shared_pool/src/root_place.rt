@@ -1,6 +1,6 @@
 //! The place of one root after another: the root that is there, its memory, and the place's handle.
 
-ghost use Rattle.std.specs.Prelude.{◌≡◌, ℕ, ◌+◌, ◌-◌, ◌^◌, ◌<◌, ◌≤◌, List, length, Some, None, IsSome};
+ghost use Rattle.std.specs.Prelude.{◌≡◌, ℕ, ◌+◌, ◌-◌, ◌^◌, ◌<◌, ◌≤◌, List, length, Some, None, IsSome, true, false};
 ghost use Rattle.std.specs.Fn.{FnOnceReturnsAt};
 ghost use Rattle.ground.specs.Ground.{with_bytes};
 ghost use Rattle.handle_bin.specs.Lending.{with_tracker};
@@ -8,6 +8,7 @@ ghost use Rattle.leak_records.specs.Records.{with_access};
 ghost use Rattle.pool_law.specs.Roots.{laid_over, bytes_at};
 ghost use Rattle.pool_law.specs.declared.note.Did.{Did};
 ghost use Rattle.pool_law.specs.declared.report.Access.{Access};
+ghost use Rattle.shared_pool.specs.RootPlaces.{last_generation};
 ghost use Rattle.shared_pool.specs.PlaceViews.{root_seen};
 ghost use Rattle.shared_pool.specs.PlaceSteps.{MayAccess, Accesses, shown, cleared, born_root, with_born, vacated};
 
@@ -16,6 +17,9 @@ use handle_bin::Handle;
 use pool_law::{Access, Region, RegionId, RootId, Watch};
 use std::marker::Model;
 use std::mem::replace;
+
+// The generation of the last root that a place has a name for.
+const LAST_GENERATION: u32 = u32::MAX;
 
 // A root that is present. Its bytes are the first of the region's, as many as its capacity.
 pub(crate) struct Root {
@@ -163,6 +167,15 @@ impl RootPlace {
         root.show(offset, len, f)
     }
 
+    /// Whether no name is left for another root.
+    #[inline]
+    pub(crate) fn is_worn(&self) -> bool
+        ensures worn { result ≡ true → self.now.generation ≡ last_generation }
+        ensures young { result ≡ false → self.now.generation < last_generation }
+    {
+        self.generation == LAST_GENERATION
+    }
+
     /// A root is born at this place, with the handle of the place and a region whose first bytes
     /// are cleared. It has the next generation.
     #[inline]
@@ -174,7 +187,7 @@ impl RootPlace {
         watch: Option<Watch>,
     ) -> RootId
         requires vacant { self.old.present ≡ None }
-        requires few { self.old.generation < 2 ^ 32 - 1 }
+        requires few { self.old.generation < last_generation }
         requires uses { region.id.uses < 2 ^ 64 - 1 }
         requires capacity { capacity ≤ region.id.place.len }
         ensures root { result ≡ record {

@@ -6,6 +6,7 @@ ghost use Rattle.shared_pool.specs.Live.{AreLiveRoots};
 ghost use Rattle.shared_pool.specs.Seated.{AreDone, parts_in};
 
 mod meeting;
+mod moves;
 mod rounds;
 
 use crate::{PoolEnd, PoolSeat, SharedPool, Went};

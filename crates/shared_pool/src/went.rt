@@ -38,6 +38,13 @@ pub struct Retired {
     pub handle: Handle,
 }
 
+/// What comes back where a place is worn out, as it was given: the place's handle, which may be kept
+/// aside, and the region.
+pub struct Worn {
+    pub handle: Handle,
+    pub region: Region,
+}
+
 /// What stands at the close of a pool: the chunks that are in a list, by arena and chunk, and the
 /// sampled roots that are live, by root place.
 #[derive(Drop)]

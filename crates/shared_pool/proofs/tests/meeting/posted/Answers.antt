@@ -15,6 +15,6 @@ post-requires-clause-room g c =
     opened_room p a e LAYOUT refl c.requires.layout c.requires.seat
     (nothing_both a d e
     (nothing_both a b d c.stock-handle.ensures.posts
-    (with_nothing p b d root c.birth.result.0 (birth root c.stock-handle.result.1.id None) Born ((view_of b).moves - 1)
+    (with_nothing p b d root c.birth.result.0 (birth root c.stock-handle.result.1.id None) Born (view_of b).moves
     c.birth.ensures.did refl))
     (ref_nothing d e root Retain ((view_of d).moves - 1) c.retain.ensures.did))

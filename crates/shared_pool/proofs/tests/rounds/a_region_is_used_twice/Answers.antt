@@ -20,8 +20,8 @@ given_back-requires-clause-quota g c =
     c.retire-number.ensures.did refl (omega arith)).no_quota
     (c.ended-token.ensures.spends.no_quota
     (c.touched.ensures.spends.no_quota
-    ((with_costs p a b root c.birth-number.result.0 (birth root c.stock-handle.result.1.id None) Born
-    ((view_of a).moves - 1) 1 c.birth-number.ensures.did refl (omega arith)).no_quota
+    ((with_costs p a b root c.birth-number.result.0 (birth root c.stock-handle.result.1.id None) Born (view_of a).moves
+    1 c.birth-number.ensures.did refl (omega arith)).no_quota
     (c.stock-handle.ensures.spends.no_quota
     (λ class. subst (λ (es : List Entry). quota_left (lane_of s) class es ≡ 0) (sym c.in_ok-pool.ensures.seat.notes)
     refl))))))

@@ -1,4 +1,4 @@
-use Rattle.std.proofs.Common.{◌-◌, arith}
+use Rattle.std.proofs.Common.{◌+◌, ◌-◌, arith}
 use Rattle.pool_law.specs.declared.note.RefDid.{RefDid}
 use Rattle.pool_table.specs.Seats.{view_of}
 use Rattle.shared_pool.proofs.Keeps.{ref_costs, spends_both}
@@ -13,5 +13,5 @@ returns-clause-spends g c =
     (spends_both 0 1 0 0 a b d
     (ref_costs a b root RefDid.Retain ((view_of a).moves - 1) 1 c.retain.ensures.did (omega arith))
     (ref_costs b d root (RefDid.Look c.look.result) (view_of b).moves 0 c.look.ensures.did (omega arith)))
-    (ref_costs d e root RefDid.Kept (view_of d).moves 0 c.in-Kept.ensures.did (omega arith)))
+    (ref_costs d e root RefDid.Kept ((view_of d).moves + 1) 0 c.in-Kept.ensures.did (omega arith)))
     (ref_costs e f root RefDid.Ended (view_of e).moves 0 c.in-Ended-release.ensures.did.2 (omega arith))

@@ -1,4 +1,4 @@
-use Rattle.shared_pool.proofs.pool.SharedPool.birth.Given as goal
+use Rattle.shared_pool.proofs.pool.SharedPool.try_birth.Given as goal
 
 abbrev pub ghosts-note : goal.ghosts-note
 ghosts-note a = record { note = a.noted.now }
