@@ -1,5 +1,5 @@
 -- The steps of an allocation, by what the pool answered.
-use Rattle.std.proofs.Common.{◌≡◌, ℕ, ◌+◌, ◌-◌, ◌*◌, ◌%◌, ◌<◌, ◌≤◌, List, [], ◌∷◌, true, false, refl, sym, ap, ◌∙◌, subst, arith}
+use Rattle.std.proofs.Common.{◌≡◌, ℕ, ◌+◌, ◌*◌, ◌%◌, ◌<◌, ◌≤◌, List, [], ◌∷◌, true, false, refl, sym, ap, ◌∙◌, subst, arith}
 use Rattle.std.specs.Prelude.{⊤, Option, Some, unwrap_or}
 use Rattle.size_classes.specs.Sizes.{class_of}
 use Rattle.std.specs.Global.{Vec}
@@ -353,19 +353,19 @@ module _ {G : Ghosts HomeValue Noted} (pool : SharedPool) (old new : PoolSeat Ho
   -- a root is born
   pub root_born : (h : HandleValue) (r : Region) (root : RootId) (number size : ℕ) (first last : Sampling)
       (born step : Note) (log later : Vec Note) → HasWritten log later (born ∷ step ∷ [])
-      → MayAllot pool old class (Birth h r) → 0 < v.moves →
-      IsNotedWith pool old new root number (birth root r.id (watch_of last)) Born (v.moves - 1) → root.place ≡ h.place
+      → MayAllot pool old class (Birth h r) →
+      IsNotedWith pool old new root number (birth root r.id (watch_of last)) Born v.moves → root.place ≡ h.place
       → root.capacity ≡ size → last ≡ with_birth first →
       born ≡ Note.At (Root root.place) number (Did.Birth root (record r.id { uses = r.id.uses + 1 }))
       → step ≡ Note.Ref root Born →
       HasAllotted pool old new first last log later size class (Birth h r)
       (NewRoot root (record r.id { uses = r.id.uses + 1 }))
-  root_born h r root number size first last born step log later adds may moves noted at long sampled it next_it =
+  root_born h r root number size first last born step log later adds may noted at long sampled it next_it =
       let n : Noted = birth root r.id (watch_of last) in let e : Entry =
       note_at pool old new may.seat_is is (Root root.place) number n in let es : List Entry =
       e ∷ Ref root Born ∷ [] in
-      let grows : Grows v w es 1 = grows_with pool old new may.seat_is is root number n Born (v.moves - 1) 1 noted
-      (omega (arith, moves)) in
+      let grows : Grows v w es 1 = grows_with pool old new may.seat_is is root number n Born v.moves 1 noted
+      (omega arith) in
       record {
         written = born ∷ step ∷ [];
         log = adds;

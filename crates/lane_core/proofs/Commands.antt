@@ -162,13 +162,13 @@ pub kept_turn : (pool : SharedPool) (name : ℕ) (old start mid new : Desk)
     → start ≡ record old { seat = start.seat; counts = start.counts } →
     SameSeat old.seat start.seat → IsPoolSeat pool start.seat → (v : ViewData) → bound_at old.names name ≡ Some v
     → 0 < counted old.counts v.root → HasView start.seat
-    (with_ref (view_of old.seat) v.root Kept (view_of old.seat).moves)
+    (with_ref (view_of old.seat) v.root Kept ((view_of old.seat).moves + 1))
     → CountsLess old.counts start.counts v.root →
     HasNoted start mid (Note.Ref v.root Kept ∷ []) → HasReplied mid new Reply.Kept → (s : LaneState)
     → IsState s old.names old.counts → HasTurned pool old new s (Command.Release name) Ready (Went Ready)
 kept_turn pool name old start mid new may start_is same seat v bound lt has less noted replied s state =
-    let adv = ref_advances pool old start may.desk v.root Kept (view_of old.seat).moves 0 same seat has (omega arith)
-    refl refl refl in
+    let adv = ref_advances pool old start may.desk v.root Kept ((view_of old.seat).moves + 1) 0 same seat has
+    (omega arith) refl refl refl in
     let sampler_is : start.sampler ≡ old.sampler = ap (λ (x : Desk). x.sampler) start_is in
     let asked_is : start.asked ≡ old.asked = ap (λ (x : Desk). x.asked) start_is in
     one_turn_same pool old start mid new may.desk may.asked

@@ -45,7 +45,7 @@ use Rattle.lane_core.specs.Sampled.{AreSampled, sampler_after}
 use Rattle.lane_core.specs.Desks.{IsDesk, notes_of, entries_of, log_of, reads_from, left_for, left_now, DeskGrew, GoesOn, Waits, SpendsAt, HasRoomFor, ReceivesFrom, HasTurned}
 use Rattle.lane_core.specs.Readings.{before_left, behind, ReadsOn, none_asked, swept}
 use Rattle.lane_core.specs.DeskSteps.{HasNoted, HasReplied, CanAnswer, MayTurn}
-use Rattle.lane_core.proofs.Grown.{Grows, spends}
+use Rattle.lane_core.proofs.Grown.{Grows, one_none, one_entry, spends}
 use Rattle.lane_core.proofs.EntryCounts.{Recounts, recounted, none_recounted}
 use Rattle.lane_core.proofs.ReadLaws.{given_on, unswept}
 
@@ -77,6 +77,7 @@ module _ {G : Ghosts Home Noted} where
           number = ap (λ (x : SeatView). x.own.number) view;
           setting = ap (λ (x : SeatView). x.setting) view;
           turns = (let a = ap (λ (x : SeatView). x.turns) view in omega (arith, a));
+          one = one_none;
         };
         was_alone = was.alone;
         alone = ap (λ (x : SeatView). x.others) view ∙ was.alone;
@@ -94,6 +95,7 @@ module _ {G : Ghosts Home Noted} where
           number = ap (λ (x : SeatView). x.own.number) view;
           setting = ap (λ (x : SeatView). x.setting) view;
           turns = (let a = ap (λ (x : SeatView). x.turns) view in omega (arith, a));
+          one = one_entry (Ref r d);
         };
         was_alone = was.alone;
         alone = is.alone;
@@ -255,6 +257,7 @@ module _ (pool : SharedPool) (hand after : Hand) (old start mid : Desk) (d : IsD
     made_desk = record {
       shape = d.shape;
       classes = d.classes;
+      short = d.short;
       seat = adv.seat;
       held = adv.held;
       log = log_is;
@@ -452,7 +455,7 @@ module _ (pool : SharedPool) (old start : Desk) (d : IsDesk pool empty_hand old)
     still_noted : HasNoted start start []
     still_noted = record { log = sym (append-nil start.notes.items); room = omega arith; rest = refl }
 
-    unmoved : DeskGrew pool empty_hand old start []
+    pub unmoved : DeskGrew pool empty_hand old start []
     unmoved =
         grew pool empty_hand empty_hand old start start d same_start [] 0 adv still_noted start
         (start_is ∙ (λ i. record old {
@@ -475,7 +478,7 @@ module _ (pool : SharedPool) (old start : Desk) (d : IsDesk pool empty_hand old)
         (let a = ap (λ (x : Desk). vec_capacity x.replies) start_is in omega (arith, a))
         (ap (λ (x : Desk). length x.names) start_is)
 
-    still_waits : Waits old start []
+    pub still_waits : Waits old start []
     still_waits = record {
       none = refl;
       replies = ap (λ (x : Desk). x.replies.items) start_is;
@@ -484,7 +487,7 @@ module _ (pool : SharedPool) (old start : Desk) (d : IsDesk pool empty_hand old)
       asked = same_asked;
     }
 
-    still_spent : (command : Command) → SpendsAt old start (left_now command Ready (view_of old.seat))
+    pub still_spent : (command : Command) → SpendsAt old start (left_now command Ready (view_of old.seat))
         (left_now command Ready (view_of start.seat))
     still_spent command =
         spends_at old start (left_for command) (left_for command) (unspent (left_for command))

@@ -21,12 +21,23 @@ use Rattle.pool_table.specs.Seats.{view_of}
 use Rattle.pool_table.specs.Views.{with_entry}
 use Rattle.shared_pool.specs.declared.home.Home.{Home}
 use Rattle.shared_pool.specs.declared.pool.SharedPool.{SharedPool}
+use Rattle.shared_pool.specs.Closing.{note_of}
 use Rattle.shared_pool.specs.Quotas.{posts}
 use Rattle.shared_pool.specs.RootNotes.{IsNotedWith}
 use Rattle.shared_pool.specs.Seats.{IsPoolSeat, IsNoted, FoundBusy}
 use Rattle.lane_core.specs.Budgets.{Left, Spends, takes, lane_in}
+use Rattle.lane_core.specs.Logs.{IsOneStep}
 use Rattle.lane_core.specs.Wrote.{HasMore}
 use Rattle.lane_core.proofs.Outs.{all_out_now}
+
+-- no entry, and one, are what one step adds
+pub one_none : IsOneStep []
+one_none = record { sections = omega arith; counts = omega arith }
+
+pub one_entry : (e : Entry) → IsOneStep (note_of e ∷ [])
+one_entry (At o k n) = record { sections = omega arith; counts = omega arith }
+one_entry (Ref r d) = record { sections = omega arith; counts = omega arith }
+one_entry (Busy b) = record { sections = omega arith; counts = omega arith }
 
 -- the view has these entries more, no part but its own, and spent at most so many moves
 pub record Grows (v w : SeatView) (added : List Entry) (spent : ℕ) : Type 0 where
@@ -96,6 +107,7 @@ module _ {G : Ghosts Home Noted} (pool : SharedPool) (old new : PoolSeat Home G)
       number = ap (λ (x : SeatView). x.own.number) view;
       setting = ap (λ (x : SeatView). x.setting) view;
       turns = (let a = ap (λ (x : SeatView). x.turns) view in omega (arith, a, le));
+      one = one_entry e;
     };
     was_alone = was.alone;
     alone = is.alone;
@@ -119,6 +131,7 @@ module _ {G : Ghosts Home Noted} (pool : SharedPool) (old new : PoolSeat Home G)
           number = ap (λ (x : SeatView). x.own.number) view;
           setting = ap (λ (x : SeatView). x.setting) view;
           turns = (let a = ap (λ (x : SeatView). x.turns) view in omega (arith, a));
+          one = one_none;
         };
         was_alone = was.alone;
         alone = is.alone;
@@ -137,6 +150,7 @@ module _ {G : Ghosts Home Noted} (pool : SharedPool) (old new : PoolSeat Home G)
           number = ap (λ (x : SeatView). x.own.number) view;
           setting = ap (λ (x : SeatView). x.setting) view;
           turns = (let a = ap (λ (x : SeatView). x.turns) view in omega (arith, a));
+          one = record { sections = omega arith; counts = omega arith };
         };
         was_alone = was.alone;
         alone = is.alone;

@@ -42,6 +42,11 @@ drop_whole zero (x ∷ xs) le = absurd (omega (arith, le))
 drop_whole (suc n) [] le = refl
 drop_whole (suc n) (x ∷ xs) le = drop_whole n xs (omega (arith, le))
 
+-- as many pieces are cut as there are numbers
+pub pieces-length : {X : Type 0} (ns : List ℕ) (xs : List X) → length (pieces ns xs) ≡ length ns
+pieces-length [] xs = refl
+pieces-length (n ∷ ns) xs = let a = pieces-length ns (drop n xs) in omega (arith, a)
+
 -- one piece more
 pub pieces_more : {X : Type 0} (ns : List ℕ) (n : ℕ) (xs ys : List X) → sum ns ≡ length xs → n ≡ length ys
     → pieces (ns ++ n ∷ []) (xs ++ ys) ≡ pieces ns xs ++ ys ∷ []

@@ -1,5 +1,5 @@
 -- A lane behind a turn of its desk: it is a lane again, and what the step says is so.
-use Rattle.std.proofs.Common.{◌≡◌, ℕ, suc, ◌+◌, ◌*◌, ◌/◌, ◌<◌, ◌≤◌, List, [], ◌∷◌, ◌++◌, length, map, take, drop, get_or, refl, sym, ap, ◌∙◌, subst, arith, Some, append_assoc, append-nil, length-append}
+use Rattle.std.proofs.Common.{◌≡◌, ℕ, suc, ◌+◌, ◌*◌, ◌/◌, ◌<◌, ◌≤◌, List, [], ◌∷◌, ◌++◌, Bool, length, map, take, drop, get_or, refl, sym, ap, ◌∙◌, subst, arith, Some, append_assoc, append-nil, length-append}
 use Rattle.std.specs.Prelude.{sum, vec_capacity}
 use Rattle.std.proofs.lemmas.List.{map-append, length-map, take-append-le, drop-append-le, take-append-drop, length-take-le, drop_more}
 use Rattle.std.proofs.lemmas.List.Elements.{All-weaker}
@@ -41,37 +41,16 @@ use Rattle.lane_core.specs.Named.{NamesAre}
 use Rattle.lane_core.specs.Readings.{ReadsOn, none_asked, before_left, behind, renamed}
 use Rattle.lane_core.specs.Desks.{IsDesk, notes_of, entries_of, log_of, hand_of, Fits, FitsDesk, IsUnderway, HasRoomFor, left_for, left_at, left_now, left_after, SpendsAt, reads_from, next_of, DeskGrew, IsAnswered, Waits, NameFits, HasTurned, HasTurnedClosing}
 use Rattle.lane_core.proofs.ReadLaws.{still_on, on_append}
-use Rattle.lane_core.specs.Lanes.{IsLane, reads_closing, IsClosing, IsAtRest, IsResting, HasAnswered, IsBegun, SameLane, SameLog, LogGrew, commands_left, answered_entries, entries_since, number_of, both, left_for_all, with_takes, left_for_rest, left_to_ask, left_of}
+use Rattle.lane_core.specs.Lanes.{Heeds, IsRunningLane, reads_closing, IsClosing, IsAtRest, IsResting, HasAnswered, IsBegun, SameLane, SameLog, LogGrew, commands_left, answered_entries, entries_since, number_of, both, left_for_all, with_takes, left_for_rest, left_to_ask, left_of}
 use Rattle.lane_core.specs.Steps.{HasStepped, ReceivesNext, stepped_of}
 use Rattle.lane_core.proofs.LaneLogs.{cut_at, cut_more, take_whole, drop_whole, pieces_more, counts_more, step_is, unstopped_more}
+use Rattle.lane_core.proofs.LaneGrown.{lane_at, fits_still, entries_grew, begun_within, number_same, same_lane, same_log, noted_more, replied_more, still_entries, still_since, still_left, still_room, answered_room, closed_room, room_to_close, room_to_begin, front_room}
+use Rattle.lane_core.proofs.Heeding.{heeds_still, turned_heeds}
+use Rattle.lane_core.proofs.CloseTurns.{closing_same, closing_so, closing_next}
 use Rattle.lane_core.proofs.LaneRooms.{room_most, room_front, to_ask_open, rest_ready, lane_same, notes_grew, has_room, room_behind}
 
--- what a command asks of a desk it asks of one with as many names, of the same shape
-fits_still : (old new : Desk) → length new.names ≡ length old.names → new.shape ≡ old.shape → (c : Command)
-    → FitsDesk old c → FitsDesk new c
-fits_still old new names shape (Command.Alloc name size) fits = omega (arith, names, fits)
-fits_still old new names shape (Command.Set name at bytes tries) fits = omega (arith, names, fits)
-fits_still old new names shape (Command.Get name at len tries) fits = omega (arith, names, fits)
-fits_still old new names shape (Command.Write name bytes) fits = omega (arith, names, fits)
-fits_still old new names shape (Command.Read name len) fits = omega (arith, names, fits)
-fits_still old new names shape (Command.Slice fresh name at len retained) fits = omega (arith, names, fits)
-fits_still old new names shape (Command.Dup fresh name) fits = omega (arith, names, fits)
-fits_still old new names shape (Command.Retain name) fits = tt
-fits_still old new names shape (Command.Release name) fits = tt
-fits_still old new names shape (Command.Refcnt name) fits = tt
-fits_still old new names shape (Command.Touch name) fits = tt
-fits_still old new names shape (Command.Forget name) fits = omega (arith, names, fits)
-fits_still old new names shape (Command.Send name lane) fits = subst (λ (s : Shape). lane < s.lanes) (sym shape) fits
-fits_still old new names shape (Command.Recv fresh lane) fits =
-    (let a = fits.0 in omega (arith, names, a), subst (λ (s : Shape). lane < s.lanes) (sym shape) fits.1)
-fits_still old new names shape (Command.Compose fresh more) fits = absurd fits
-fits_still old new names shape (Command.Add whole name) fits = absurd fits
-
--- a lane with another desk, at another stage
-abbrev pub lane_at : Lane → Desk → Stage → ℕ → Lane
-lane_at l d stage n = record l { desk = d; stage = stage; asked = n }
-
-module _ (pool : SharedPool) (l : Lane) (lane : IsLane pool l) (d : Desk) (n : ℕ) (few_asked : n ≤ length l.commands)
+module _ (pool : SharedPool) (l : Lane) (lane : IsRunningLane pool l) (d : Desk) (n : ℕ)
+    (few_asked : n ≤ length l.commands)
     (hand : Hand) (added : List Entry) (grew : DeskGrew pool hand l.desk d added) where
   abbrev shape : Shape
   shape = l.desk.shape
@@ -79,64 +58,18 @@ module _ (pool : SharedPool) (l : Lane) (lane : IsLane pool l) (d : Desk) (n : �
   abbrev number : ℕ
   number = number_of l
 
-  log_length : length l.desk.notes.items ≡ length (notes_of l.desk)
-  log_length = ap (λ (ns : List Note). length ns) lane.desk.log ∙ length-map (notes_of l.desk) note_of
-
-  new_length : length d.notes.items ≡ length (notes_of l.desk) + length added
-  new_length =
-      ap (λ (ns : List Note). length ns) grew.desk.log ∙ length-map (notes_of d) note_of
-      ∙ notes_grew pool hand l.desk d added grew
-
-  entries_grew : entries_of d ≡ entries_of l.desk ++ map entry_of added
-  entries_grew = ap (map entry_of) grew.more.notes ∙ map-append entry_of (notes_of l.desk) added
-
-  begun_within : l.desk.begun ≤ length (entries_of l.desk)
-  begun_within = let a = lane.desk.begun in let b = length-map (notes_of l.desk) entry_of in omega (arith, a, b)
-
-  number_same : lane_of d.seat ≡ number
-  number_same = lane_same pool hand l.desk d added grew
-
-  pub same_lane : (stage : Stage) → SameLane l (lane_at l d stage n)
-  same_lane stage = record { number = number_same; shape = grew.shape; commands = refl }
-
-  -- nothing was added to the log
-  pub same_log : added ≡ [] → d.replies.items ≡ l.desk.replies.items → (stage : Stage) → SameLog l (lane_at l d stage n)
-  same_log none replies stage = record {
-    replies = replies;
-    notes =
-        grew.desk.log ∙ ap (map note_of)
-        (grew.more.notes ∙ ap (λ (es : List Entry). notes_of l.desk ++ es) none ∙ append-nil (notes_of l.desk))
-        ∙ sym lane.desk.log;
-  }
-
-  -- a note or a reply was added
-  pub noted_more : 0 < length added → d.replies.items ≡ l.desk.replies.items → (stage : Stage)
-      → LogGrew l (lane_at l d stage n)
-  noted_more some replies stage = record {
-    more =
-        (let a = log_length in let b = new_length in let c = ap (λ (rs : List Answered). length rs) replies in
-        omega (arith, a, b, c, some));
-  }
-
-  pub replied_more : (a : Answered) → d.replies.items ≡ l.desk.replies.items ++ a ∷ [] → (stage : Stage)
-      → LogGrew l (lane_at l d stage n)
-  replied_more answered replies stage = record {
-    more =
-        (let a = log_length in let b = new_length in let c = ap (λ (rs : List Answered). length rs) replies in
-        let e = length-append l.desk.replies.items (answered ∷ []) in omega (arith, a, b, c, e));
-  }
-
   -- what a lane keeps at every turn
   pub lane_with : (stage : Stage) → IsDesk pool (hand_of stage) d → Fits pool d stage → NameFits d stage
       → length d.replies.items ≤ length l.commands → (s : LaneState) → HasAnswered shape number (lane_at l d stage n) s
       → (names : Names) → NamesAre names d.names →
       IsBegun (lane_at l d stage n) s names (commands_left (lane_at l d stage n)) (entries_since (lane_at l d stage n))
       → (IsClosing stage → commands_left (lane_at l d stage n) ≡ []) → (IsAtRest stage → IsResting d s names)
-      → (IsUnderway stage → length d.replies.items < length l.commands)
-      → HasRoomFor d (left_of (lane_at l d stage n)) → IsLane pool (lane_at l d stage n)
+      → (IsUnderway stage → length d.replies.items < n)
+      → HasRoomFor d (left_of (lane_at l d stage n)) → IsRunningLane pool (lane_at l d stage n)
   lane_with stage desk fits name few s answered names are begun all_answered rest underway room =
       let new : Lane = lane_at l d stage n in
       record {
+        going = lane.going;
         desk = desk;
         fits = fits;
         shape = subst IsShape (sym grew.shape) lane.shape;
@@ -147,7 +80,8 @@ module _ (pool : SharedPool) (l : Lane) (lane : IsLane pool l) (d : Desk) (n : �
         few = few;
         state = s;
         answered =
-            subst (λ (x : Shape × ℕ). HasAnswered x.0 x.1 new s) (λ i. (sym grew.shape i, sym number_same i)) answered;
+            subst (λ (x : Shape × ℕ). HasAnswered x.0 x.1 new s)
+            (λ i. (sym grew.shape i, sym (number_same pool l lane.desk d n hand added grew) i)) answered;
         bound = names;
         bound_are = are;
         begun = begun;
@@ -167,28 +101,17 @@ module _ (pool : SharedPool) (l : Lane) (lane : IsLane pool l) (d : Desk) (n : �
 
   reads_same : (s : LaneState) (command : Command) (stage : Stage) (log : Log)
       → reads_now l.desk s command stage log ≡ reads_now d s command stage log
-  reads_same s command stage log = λ i. reads_from (sym grew.shape i) (sym number_same i) s command stage log
+  reads_same s command stage log =
+      λ i. reads_from (sym grew.shape i) (sym (number_same pool l lane.desk d n hand added grew) i) s command stage log
 
   turn_same : (s : LaneState) (command : Command) (log : Log)
       → turn sweep_period l.desk.shape number s command log ≡ turn sweep_period d.shape (lane_of d.seat) s command log
-  turn_same s command log = λ i. turn sweep_period (sym grew.shape i) (sym number_same i) s command log
+  turn_same s command log =
+      λ i. turn sweep_period (sym grew.shape i) (sym (number_same pool l lane.desk d n hand added grew) i) s command log
 
   -- ---- Where no command was answered.
 
   module _ (replies : d.replies.items ≡ l.desk.replies.items) (begun : d.begun ≡ l.desk.begun) (stage : Stage) where
-    still_entries : answered_entries (lane_at l d stage n) ≡ answered_entries l
-    still_entries =
-        (λ i. take (begun i) (entries_grew i)) ∙ take-append-le l.desk.begun (entries_of l.desk) (map entry_of added)
-        begun_within
-
-    still_since : entries_since (lane_at l d stage n) ≡ entries_since l ++ map entry_of added
-    still_since =
-        (λ i. drop (begun i) (entries_grew i)) ∙ drop-append-le l.desk.begun (entries_of l.desk) (map entry_of added)
-        begun_within
-
-    still_left : commands_left (lane_at l d stage n) ≡ commands_left l
-    still_left = ap (λ (rs : List Answered). drop (length rs) l.commands) replies
-
     still_few : length d.replies.items ≤ length l.commands
     still_few = let a = lane.few in let b = ap (λ (rs : List Answered). length rs) replies in omega (arith, a, b)
 
@@ -200,14 +123,16 @@ module _ (pool : SharedPool) (l : Lane) (lane : IsLane pool l) (d : Desk) (n : �
           run =
               subst (λ (x : List Answered × Entries). lane_run sweep_period shape number new_lane
               (take (length x.0) l.commands) (pieces (note_counts x.0) x.1) ≡ Some (replies_in x.0, lane.state))
-              (λ i. (sym replies i, sym still_entries i)) was.run;
+              (λ i. (sym replies i, sym (still_entries pool l lane.desk d n hand added grew replies begun stage) i))
+              was.run;
           unstopped =
               subst (λ (rs : List Answered). before_stop (replies_in rs) ≡ length rs) (sym replies) was.unstopped;
-          seen = was.seen ∙ sym still_entries;
+          seen = was.seen ∙ sym (still_entries pool l lane.desk d n hand added grew replies begun stage);
         }
 
     -- the command that is under way goes on at this stage
-    pub still_lane : (command : Command) (later : List Command) → commands_left l ≡ command ∷ later
+    pub still_lane : length l.desk.replies.items < n → (command : Command) (later : List Command)
+        → commands_left l ≡ command ∷ later
         → (IsClosing l.stage → ⊥) → (IsClosing stage → ⊥) → (names : Names) → NamesAre names d.names
         → (IsAtRest stage → IsResting d lane.state names) → IsDesk pool (hand_of stage) d → Fits pool d stage
         → NameFits d stage →
@@ -215,10 +140,11 @@ module _ (pool : SharedPool) (l : Lane) (lane : IsLane pool l) (d : Desk) (n : �
         ((rest : Entries) → reads_now l.desk (renamed lane.state lane.bound) command l.stage
         (log_of l.desk (map entry_of added ++ rest))
         ≡ reads_now l.desk (renamed lane.state names) command stage (log_of d rest))
-        → IsLane pool (lane_at l d stage n)
-    still_lane command later left was_open is_open names are fresh desk fits name spends reads =
+        → IsRunningLane pool (lane_at l d stage n)
+    still_lane line command later left was_open is_open names are fresh desk fits name spends reads =
         let new : Lane = lane_at l d stage n in let s = lane.state in
-        let left_now_is : commands_left new ≡ command ∷ later = still_left ∙ left in
+        let left_now_is : commands_left new ≡ command ∷ later =
+        (still_left pool l lane.desk d n hand added grew replies begun stage) ∙ left in
         let had : IsBegun l s lane.bound (command ∷ later) (entries_since l) =
         subst (λ (cs : List Command). IsBegun l s lane.bound cs (entries_since l)) left lane.begun in
         let has : IsBegun new s names (command ∷ later) (entries_since l ++ map entry_of added) =
@@ -227,40 +153,27 @@ module _ (pool : SharedPool) (l : Lane) (lane : IsLane pool l) (d : Desk) (n : �
         ∙ ap (λ (es : Entries). turn sweep_period l.desk.shape number s command (log_at s es))
         (append_assoc (entries_since l) (map entry_of added) rest)
         ∙ had (map entry_of added ++ rest) ∙ reads rest ∙ reads_same (renamed s names) command stage (log_of d rest)) in
-        let more : Left = with_takes (left_for_all later) in
-        let before : Left = left_now command l.stage (view_of l.desk.seat) in let after : Left =
-        left_now command stage (view_of d.seat) in
-        let old_room : HasRoomFor l.desk
-        (both (both before more) (notes_alone
-        (cached_classes * (1 + (l.desk.asked + (before.asks + more.asks)) / sweep_period)))) =
-        subst (λ (x : Left). HasRoomFor l.desk (both (both before more) x))
-        (to_ask_open l.stage (l.desk.asked + (before.asks + more.asks)) was_open)
-        (subst (λ (x : List Command). let r = left_for_rest x l.stage (view_of l.desk.seat) in
-        HasRoomFor l.desk (both r (left_to_ask l.stage (l.desk.asked + r.asks)))) left lane.room) in
-        let new_room = room_behind pool hand l.desk d added grew before after more spends old_room in
         lane_with stage desk fits name still_few s still_answered names are
         (subst (λ (x : List Command × Entries). IsBegun new s names x.0 x.1)
-        (λ i. (sym left_now_is i, sym still_since i)) has)
+        (λ i. (sym left_now_is i, sym (still_since pool l lane.desk d n hand added grew replies begun stage) i)) has)
         (λ closes. absurd (is_open closes)) fresh
-        (λ u. let e = (cut_more (length l.desk.replies.items) l.commands command later left).2 in let f =
-        ap (λ (rs : List Answered). length rs) replies in omega (arith, e, f))
-        (subst (λ (x : List Command). let r = left_for_rest x stage (view_of d.seat) in
-        HasRoomFor d (both r (left_to_ask stage (d.asked + r.asks)))) (sym left_now_is)
-        (subst (λ (x : Left). HasRoomFor d (both (both after more) x))
-        (sym (to_ask_open stage (d.asked + (after.asks + more.asks)) is_open)) new_room))
+        (λ u. let f = ap (λ (rs : List Answered). length rs) replies in omega (arith, line, f))
+        (still_room pool l lane.desk d n hand added grew command later left lane.room was_open stage is_open left_now_is
+        spends)
 
     -- where it waits it is as it was
-    pub waiting_lane : (command : Command) (later : List Command) → commands_left l ≡ command ∷ later
+    pub waiting_lane : length l.desk.replies.items < n → (command : Command) (later : List Command)
+        → commands_left l ≡ command ∷ later
         → (IsClosing l.stage → ⊥) → (IsClosing stage → ⊥) → Waits l.desk d added → (IsAtRest stage → l.stage ≡ Ready)
         → IsDesk pool (hand_of stage) d → Fits pool d stage → NameFits d stage →
         SpendsAt l.desk d (left_now command l.stage (view_of l.desk.seat)) (left_now command stage (view_of d.seat)) →
         ((log : Log) → reads_now l.desk (renamed lane.state lane.bound) command l.stage log
-        ≡ reads_now l.desk (renamed lane.state lane.bound) command stage log) → IsLane pool (lane_at l d stage n)
-    waiting_lane command later left was_open is_open waits at_rest desk fits name spends reads =
-        let same : entries_of d ≡ entries_of l.desk = entries_grew
+        ≡ reads_now l.desk (renamed lane.state lane.bound) command stage log) → IsRunningLane pool (lane_at l d stage n)
+    waiting_lane line command later left was_open is_open waits at_rest desk fits name spends reads =
+        let same : entries_of d ≡ entries_of l.desk = (entries_grew pool l lane.desk d n hand added grew)
         ∙ ap (λ (es : List Entry). entries_of l.desk ++ map entry_of es) waits.none
         ∙ append-nil (entries_of l.desk) in
-        still_lane command later left was_open is_open lane.bound
+        still_lane line command later left was_open is_open lane.bound
         (subst (NamesAre lane.bound) (sym waits.names) lane.bound_are)
         (λ rest.
         let was = lane.rest (subst IsAtRest (sym (at_rest rest)) tt) in
@@ -318,10 +231,11 @@ module _ (pool : SharedPool) (l : Lane) (lane : IsLane pool l) (d : Desk) (n : �
       whole =
           sym (append_assoc (answered_entries l) (entries_since l) (map entry_of added))
           ∙ ap (λ (es : Entries). es ++ map entry_of added) (take-append-drop l.desk.begun (entries_of l.desk))
-          ∙ sym entries_grew
+          ∙ sym (entries_grew pool l lane.desk d n hand added grew)
 
       before_length : length (answered_entries l) ≡ l.desk.begun
-      before_length = length-take-le l.desk.begun (entries_of l.desk) begun_within
+      before_length =
+          length-take-le l.desk.begun (entries_of l.desk) (begun_within pool l lane.desk d n hand added grew)
 
       group_length : answered.answered.notes ≡ length group
       group_length =
@@ -391,31 +305,8 @@ module _ (pool : SharedPool) (l : Lane) (lane : IsLane pool l) (d : Desk) (n : �
       -- the next command is to be begun
       pub answered_lane : (IsClosing l.stage → ⊥) → IsDesk pool (hand_of Ready) d → Fits pool d Ready
           → SpendsAt l.desk d (left_now command l.stage (view_of l.desk.seat))
-          (with_sheds (view_of d.seat) (notes_alone 0)) → IsLane pool done
+          (with_sheds (view_of d.seat) (notes_alone 0)) → IsRunningLane pool done
       answered_lane was_open desk fits spends =
-          let more : Left = with_takes (left_for_all later) in
-          let before : Left = left_now command l.stage (view_of l.desk.seat) in let after : Left =
-          with_sheds (view_of d.seat) (notes_alone 0) in
-          let old_room : HasRoomFor l.desk
-          (both (both before more) (notes_alone
-          (cached_classes * (1 + (l.desk.asked + (before.asks + more.asks)) / sweep_period)))) =
-          subst (λ (x : Left). HasRoomFor l.desk (both (both before more) x))
-          (to_ask_open l.stage (l.desk.asked + (before.asks + more.asks)) was_open)
-          (subst (λ (x : List Command). let r = left_for_rest x l.stage (view_of l.desk.seat) in
-          HasRoomFor l.desk (both r (left_to_ask l.stage (l.desk.asked + r.asks)))) left lane.room) in
-          let new_room = room_behind pool hand l.desk d added grew before after more spends old_room in
-          let rest : Left = left_for_rest later Ready (view_of d.seat) in let ready =
-          rest_ready later (view_of d.seat) in
-          let a = ready.0 in let b = ready.1 in let c = ready.2 in
-          let asks : cached_classes * (1 + (d.asked + (after.asks + more.asks)) / sweep_period)
-          ≡ cached_classes * (1 + (d.asked + rest.asks) / sweep_period) =
-          ap (λ (k : ℕ). cached_classes * (1 + (d.asked + k) / sweep_period)) b in
-          let room : HasRoomFor d (both rest
-          (notes_alone (cached_classes * (1 + (d.asked + rest.asks) / sweep_period)))) =
-          room_most d (both (both after more)
-          (notes_alone (cached_classes * (1 + (d.asked + (after.asks + more.asks)) / sweep_period))))
-          (both rest (notes_alone (cached_classes * (1 + (d.asked + rest.asks) / sweep_period))))
-          (omega (arith, a, asks)) (omega (arith, c)) (λ to. let e = ready.3 to in omega (arith, e)) new_room in
           lane_with Ready desk fits tt (let e = one_more in let f = cut.2 in omega (arith, e, f)) state_now
           done_answered
           answered.bound answered.names
@@ -423,8 +314,7 @@ module _ (pool : SharedPool) (l : Lane) (lane : IsLane pool l) (d : Desk) (n : �
           (begun_ready (commands_left done)))
           (λ closes. absurd closes) (λ ready. record { begun = answered.begun; names_are = refl; asked = refl })
           (λ u. absurd u)
-          (subst (λ (cs : List Command). let r = left_for_rest cs Ready (view_of d.seat) in
-          HasRoomFor d (both r (left_to_ask Ready (d.asked + r.asks)))) (sym done_left) room)
+          (answered_room pool l lane.desk d n hand added grew command later left lane.room was_open done_left spends)
 
   -- ---- The closing.
 
@@ -437,36 +327,32 @@ module _ (pool : SharedPool) (l : Lane) (lane : IsLane pool l) (d : Desk) (n : �
         Spends (view_of l.desk.seat) (view_of d.seat) (draining.left_of stage (view_of l.desk.seat))
         (draining.left_of after (view_of d.seat)) →
         ReadsOn (draining.rest_of Close number stage) (map entry_of added) none_asked
-        (draining.rest_of Close number after) → IsLane pool (lane_at l d (Closing after) n)
+        (draining.rest_of Close number after) → IsRunningLane pool (lane_at l d (Closing after) n)
     closed_lane had room desk fits spends reads =
         let new : Lane = lane_at l d (Closing after) n in
-        let none_now : commands_left new ≡ [] = still_left replies begun (Closing after) ∙ none in
+        let none_now : commands_left new ≡ [] = still_left pool l lane.desk d n hand added grew replies begun
+        (Closing after) ∙ none in
         let has : ReadsOn (closing number) (entries_since l ++ map entry_of added) none_asked
         (draining.rest_of Close number after) =
         on_append (closing number) (draining.rest_of Close number stage) (draining.rest_of Close number after)
         (entries_since l) (map entry_of added) had reads in
         let has_now : IsBegun new lane.state lane.bound [] (entries_since l ++ map entry_of added) =
         subst (λ (k : ℕ). ReadsOn (closing k) (entries_since l ++ map entry_of added) none_asked
-        (draining.rest_of Close k after)) (sym number_same) has in
-        let a = spends.notes in let b = spends.moves in
-        let left : Left = draining.left_of after (view_of d.seat) in
-        let left_room : HasRoomFor d left = has_room pool hand l.desk d added grew
-        (draining.left_of stage (view_of l.desk.seat)) left room (omega (arith, a)) (omega (arith, b))
-        (λ to. (let e = spends.sends to in omega (arith, e))) in
+        (draining.rest_of Close k after)) (sym (number_same pool l lane.desk d n hand added grew)) has in
         lane_with (Closing after) desk fits tt (still_few replies begun (Closing after)) lane.state
         (still_answered replies begun (Closing after)) lane.bound
         (subst (NamesAre lane.bound) (sym names) lane.bound_are)
         (subst (λ (x : List Command × Entries). IsBegun new lane.state lane.bound x.0 x.1)
-        (λ i. (sym none_now i, sym (still_since replies begun (Closing after)) i)) has_now)
+        (λ i. (sym none_now i, sym (still_since pool l lane.desk d n hand added grew replies begun (Closing after)) i))
+        has_now)
         (λ closes. none_now) (λ ready. absurd ready)
         (λ u. absurd u)
-        (subst (λ (cs : List Command). let r = left_for_rest cs (Closing after) (view_of d.seat) in
-        HasRoomFor d (both r (left_to_ask (Closing after) (d.asked + r.asks)))) (sym none_now)
-        (room_most d left (both left (notes_alone 0)) (omega arith) (omega arith) (λ to. omega arith) left_room))
+        (closed_room pool l lane.desk d n hand added grew stage after none_now room spends)
 
 -- ---- A turn of the command that is under way.
 
-module _ (pool : SharedPool) (l : Lane) (lane : IsLane pool l) (d : Desk) (n : ℕ) (few_asked : n ≤ length l.commands)
+module _ (pool : SharedPool) (l : Lane) (lane : IsRunningLane pool l) (d : Desk) (n : ℕ)
+    (few_asked : n ≤ length l.commands) (line : length l.desk.replies.items < n)
     (command : Command) (later : List Command) (left : commands_left l ≡ command ∷ later)
     (open_yet : IsClosing l.stage → ⊥) where
   -- the law's state, with the names that are bound now
@@ -476,91 +362,99 @@ module _ (pool : SharedPool) (l : Lane) (lane : IsLane pool l) (d : Desk) (n : �
   abbrev Turned : Turn → Type 0
   Turned t = HasTurned pool l.desk d state_of command l.stage t
 
-  pub turned_lane : (turn : Turn) → Turned turn → IsLane pool (lane_at l d (next_of l.stage turn) n)
+  pub turned_lane : (turn : Turn) → Turned turn → IsRunningLane pool (lane_at l d (next_of l.stage turn) n)
   turned_lane (Went Ready) t =
       answered_lane pool l lane d n few_asked (hand_of Ready) t.added t.grew command later left t.comes open_yet
       t.grew.desk t.fits t.spends
   turned_lane (Went (Allotting name size class next)) t =
       let x : Stage = Allotting name size class next in
-      still_lane pool l lane d n few_asked (hand_of x) t.added t.grew t.comes.replies t.comes.begun x command later left
+      still_lane pool l lane d n few_asked (hand_of x) t.added t.grew t.comes.replies t.comes.begun x line command later
+      left
       open_yet (λ c. c) t.comes.bound t.comes.names (λ ready. absurd ready) t.grew.desk t.fits t.name t.spends
       t.comes.reads
   turned_lane (Went (Ending next)) t =
       let x : Stage = Ending next in
-      still_lane pool l lane d n few_asked (hand_of x) t.added t.grew t.comes.replies t.comes.begun x command later left
+      still_lane pool l lane d n few_asked (hand_of x) t.added t.grew t.comes.replies t.comes.begun x line command later
+      left
       open_yet (λ c. c) t.comes.bound t.comes.names (λ ready. absurd ready) t.grew.desk t.fits t.name t.spends
       t.comes.reads
   turned_lane (Went (Sweeping reply next)) t =
       let x : Stage = Sweeping reply next in
-      still_lane pool l lane d n few_asked (hand_of x) t.added t.grew t.comes.replies t.comes.begun x command later left
+      still_lane pool l lane d n few_asked (hand_of x) t.added t.grew t.comes.replies t.comes.begun x line command later
+      left
       open_yet (λ c. c) t.comes.bound t.comes.names (λ ready. absurd ready) t.grew.desk t.fits t.name t.spends
       t.comes.reads
   turned_lane (Went (Closing next)) t = absurd t.comes
   turned_lane (Pending held Ready) t =
       let w = t.comes.1 in
-      waiting_lane pool l lane d n few_asked (hand_of Ready) t.added t.grew w.replies w.begun Ready command later left
+      waiting_lane pool l lane d n few_asked (hand_of Ready) t.added t.grew w.replies w.begun Ready line command later
+      left
       open_yet (λ c. c) w (λ ready. t.comes.0) t.grew.desk t.fits t.name t.spends
       (λ log. ap (λ (x : Stage). reads_from l.desk.shape (number_of l) state_of command x log) t.comes.0)
   turned_lane (Pending held (Allotting name size class next)) t =
       let w = t.comes.1 in let x : Stage = Allotting name size class next in
-      waiting_lane pool l lane d n few_asked (hand_of x) t.added t.grew w.replies w.begun x command later left open_yet
+      waiting_lane pool l lane d n few_asked (hand_of x) t.added t.grew w.replies w.begun x line command later left
+      open_yet
       (λ c. c) w (λ ready. absurd ready) t.grew.desk t.fits t.name t.spends t.comes.0
   turned_lane (Pending held (Ending next)) t =
       let w = t.comes.1 in let x : Stage = Ending next in
-      waiting_lane pool l lane d n few_asked (hand_of x) t.added t.grew w.replies w.begun x command later left open_yet
+      waiting_lane pool l lane d n few_asked (hand_of x) t.added t.grew w.replies w.begun x line command later left
+      open_yet
       (λ c. c) w (λ ready. absurd ready) t.grew.desk t.fits t.name t.spends t.comes.0
   turned_lane (Pending held (Sweeping reply next)) t =
       let w = t.comes.1 in let x : Stage = Sweeping reply next in
-      waiting_lane pool l lane d n few_asked (hand_of x) t.added t.grew w.replies w.begun x command later left open_yet
+      waiting_lane pool l lane d n few_asked (hand_of x) t.added t.grew w.replies w.begun x line command later left
+      open_yet
       (λ c. c) w (λ ready. absurd ready) t.grew.desk t.fits t.name t.spends t.comes.0
   turned_lane (Pending held (Closing next)) t = absurd t.comes
   turned_lane (Waiting sender) t =
       let w = t.comes.1 in
-      waiting_lane pool l lane d n few_asked (hand_of l.stage) t.added t.grew w.replies w.begun l.stage command later
+      waiting_lane pool l lane d n few_asked (hand_of l.stage) t.added t.grew w.replies w.begun l.stage line command
+      later
       left open_yet open_yet w (λ ready. t.comes.0) t.grew.desk t.fits t.name t.spends (λ log. refl)
 
   -- what the step says
   pub turned_so : (turn : Turn) → Turned turn → HasStepped pool l (lane_at l d (next_of l.stage turn) n)
       (stepped_of turn)
   turned_so (Went Ready) t =
-      replied_more pool l lane d n few_asked (hand_of Ready) t.added t.grew t.comes.answered t.comes.replies Ready
+      replied_more pool l lane.desk d n (hand_of Ready) t.added t.grew t.comes.answered t.comes.replies Ready
   turned_so (Went (Allotting name size class next)) t =
-      noted_more pool l lane d n few_asked (hand_of (Allotting name size class next)) t.added t.grew t.comes.some
+      noted_more pool l lane.desk d n (hand_of (Allotting name size class next)) t.added t.grew t.comes.some
       t.comes.replies (Allotting name size class next)
   turned_so (Went (Ending next)) t =
-      noted_more pool l lane d n few_asked (hand_of (Ending next)) t.added t.grew t.comes.some t.comes.replies
+      noted_more pool l lane.desk d n (hand_of (Ending next)) t.added t.grew t.comes.some t.comes.replies
       (Ending next)
   turned_so (Went (Sweeping reply next)) t =
-      noted_more pool l lane d n few_asked (hand_of (Sweeping reply next)) t.added t.grew t.comes.some t.comes.replies
+      noted_more pool l lane.desk d n (hand_of (Sweeping reply next)) t.added t.grew t.comes.some t.comes.replies
       (Sweeping reply next)
   turned_so (Went (Closing next)) t = absurd t.comes
   turned_so (Pending held Ready) t =
-      (same_log pool l lane d n few_asked (hand_of Ready) t.added t.grew t.comes.1.none t.comes.1.replies Ready, t.held)
+      (same_log pool l lane.desk d n (hand_of Ready) t.added t.grew t.comes.1.none t.comes.1.replies Ready, t.held)
   turned_so (Pending held (Allotting name size class next)) t = (
-    same_log pool l lane d n few_asked (hand_of (Allotting name size class next)) t.added t.grew t.comes.1.none
+    same_log pool l lane.desk d n (hand_of (Allotting name size class next)) t.added t.grew t.comes.1.none
         t.comes.1.replies (Allotting name size class next),
     t.held,
   )
   turned_so (Pending held (Ending next)) t = (
-    same_log pool l lane d n few_asked (hand_of (Ending next)) t.added t.grew t.comes.1.none t.comes.1.replies
+    same_log pool l lane.desk d n (hand_of (Ending next)) t.added t.grew t.comes.1.none t.comes.1.replies
         (Ending next),
     t.held,
   )
   turned_so (Pending held (Sweeping reply next)) t = (
-    same_log pool l lane d n few_asked (hand_of (Sweeping reply next)) t.added t.grew t.comes.1.none
+    same_log pool l lane.desk d n (hand_of (Sweeping reply next)) t.added t.grew t.comes.1.none
         t.comes.1.replies (Sweeping reply next),
     t.held,
   )
   turned_so (Pending held (Closing next)) t = absurd t.comes
   turned_so (Waiting sender) t = (
-    same_log pool l lane d n few_asked (hand_of l.stage) t.added t.grew t.comes.1.none t.comes.1.replies l.stage,
+    same_log pool l lane.desk d n (hand_of l.stage) t.added t.grew t.comes.1.none t.comes.1.replies l.stage,
     subst (λ (cs : List Command). ReceivesNext sender cs) (sym left) t.waits.0,
     t.waits.1,
   )
 
   pub turned_same : (turn : Turn) → Turned turn → SameLane l (lane_at l d (next_of l.stage turn) n)
   turned_same turn t =
-      same_lane pool l lane d n few_asked (hand_of (next_of l.stage turn)) t.added t.grew (next_of l.stage turn)
+      same_lane pool l lane.desk d n (hand_of (next_of l.stage turn)) t.added t.grew (next_of l.stage turn)
 
   -- what is to be done next, where nothing was kept
   pub turned_next : (turn : Turn) → Turned turn → next_of Ready turn ≡ next_of l.stage turn
@@ -582,7 +476,7 @@ begun_first : (l : Lane) (s : LaneState) (names : Names) (es : Entries) → l.st
 begun_first l s names es is begun log =
     begun log ∙ ap (λ (x : Stage). reads_closing (number_of l) x (behind log es none_asked)) is
 
-module _ (pool : SharedPool) (l : Lane) (lane : IsLane pool l) where
+module _ (pool : SharedPool) (l : Lane) (lane : IsRunningLane pool l) where
   -- a lane at a stage of the closing
   module _ (stage : Draining) (is : l.stage ≡ Closing stage) where
     pub close_none : commands_left l ≡ []
@@ -601,11 +495,7 @@ module _ (pool : SharedPool) (l : Lane) (lane : IsLane pool l) where
         (subst (λ (cs : List Command). IsBegun l lane.state lane.bound cs (entries_since l)) close_none lane.begun)
 
     pub close_room : HasRoomFor l.desk (draining.left_of stage (view_of l.desk.seat))
-    close_room =
-        let left : Left = draining.left_of stage (view_of l.desk.seat) in
-        room_most l.desk (both left (notes_alone 0)) left (omega arith) (omega arith) (λ to. omega arith)
-        (subst (λ (x : List Command × Stage). let r = left_for_rest x.0 x.1 (view_of l.desk.seat) in
-        HasRoomFor l.desk (both r (left_to_ask x.1 (l.desk.asked + r.asks)))) (λ i. (close_none i, is i)) lane.room)
+    close_room = room_to_close l lane.room close_none stage is
 
   -- a lane whose commands are all answered
   module _ (is : l.stage ≡ Ready) (none : commands_left l ≡ []) where
@@ -619,68 +509,16 @@ module _ (pool : SharedPool) (l : Lane) (lane : IsLane pool l) where
         (subst (λ (cs : List Command). IsBegun l lane.state lane.bound cs (entries_since l)) none lane.begun)
 
     pub first_room : HasRoomFor l.desk (draining.left_of (Ask 0) (view_of l.desk.seat))
-    first_room =
-        let r : Left = with_sheds (view_of l.desk.seat) (notes_alone 0) in
-        room_most l.desk (both r (notes_alone (cached_classes * (1 + (l.desk.asked + r.asks) / sweep_period))))
-        (draining.left_of (Ask 0) (view_of l.desk.seat)) (omega arith) (omega arith) (λ to. omega arith)
-        (subst (λ (x : List Command × Stage). let r = left_for_rest x.0 x.1 (view_of l.desk.seat) in
-        HasRoomFor l.desk (both r (left_to_ask x.1 (l.desk.asked + r.asks)))) (λ i. (none i, is i)) lane.room)
+    first_room = room_to_begin l lane.room none is
 
   module _ (d : Desk) (n : ℕ) (few_asked : n ≤ length l.commands) (stage : Draining) (turn : Turn)
       (t : HasTurnedClosing pool l.desk d stage turn) where
     pub closing_lane : commands_left l ≡ [] → ReadsOn (closing (number_of l)) (entries_since l) none_asked
         (draining.rest_of Close (number_of l) stage) → HasRoomFor l.desk (draining.left_of stage (view_of l.desk.seat))
-        → IsLane pool (lane_at l d (Closing t.after) n)
+        → IsRunningLane pool (lane_at l d (Closing t.after) n)
     closing_lane none had room =
         closed_lane pool l lane d n few_asked (draining.hand_of Close t.after) t.added t.grew t.replies t.names t.begun
         stage t.after none had room t.grew.desk t.fits t.spends t.reads
-
-    pub closing_same : SameLane l (lane_at l d (Closing t.after) n)
-    closing_same = same_lane pool l lane d n few_asked (draining.hand_of Close t.after) t.added t.grew (Closing t.after)
-
-  module _ (d : Desk) (n : ℕ) (few_asked : n ≤ length l.commands) (stage : Draining) where
-    pub closing_so : (turn : Turn) (t : HasTurnedClosing pool l.desk d stage turn)
-        → HasStepped pool l (lane_at l d (Closing t.after) n) (stepped_of turn)
-    closing_so (Went (Closing next)) t =
-        noted_more pool l lane d n few_asked (draining.hand_of Close t.after) t.added t.grew t.comes.1 t.replies
-        (Closing t.after)
-    closing_so (Went Ready) t = absurd t.comes
-    closing_so (Went (Allotting name size class next)) t = absurd t.comes
-    closing_so (Went (Ending next)) t = absurd t.comes
-    closing_so (Went (Sweeping reply next)) t = absurd t.comes
-    closing_so (Pending held (Closing next)) t = (
-      same_log pool l lane d n few_asked (draining.hand_of Close t.after) t.added t.grew t.comes.2 t.replies
-          (Closing t.after),
-      t.held,
-    )
-    closing_so (Pending held Ready) t = absurd t.comes
-    closing_so (Pending held (Allotting name size class next)) t = absurd t.comes
-    closing_so (Pending held (Ending next)) t = absurd t.comes
-    closing_so (Pending held (Sweeping reply next)) t = absurd t.comes
-    closing_so (Waiting sender) t = absurd t.comes
-
-    pub closing_next : (turn : Turn) (t : HasTurnedClosing pool l.desk d stage turn)
-        → next_of Ready turn ≡ Closing t.after
-    closing_next (Went (Closing next)) t = ap (λ (x : Draining). Closing x) (sym t.comes.0)
-    closing_next (Went Ready) t = absurd t.comes
-    closing_next (Went (Allotting name size class next)) t = absurd t.comes
-    closing_next (Went (Ending next)) t = absurd t.comes
-    closing_next (Went (Sweeping reply next)) t = absurd t.comes
-    closing_next (Pending held (Closing next)) t = ap (λ (x : Draining). Closing x) (t.comes.0 ∙ sym t.comes.1)
-    closing_next (Pending held Ready) t = absurd t.comes
-    closing_next (Pending held (Allotting name size class next)) t = absurd t.comes
-    closing_next (Pending held (Ending next)) t = absurd t.comes
-    closing_next (Pending held (Sweeping reply next)) t = absurd t.comes
-    closing_next (Waiting sender) t = absurd t.comes
-
--- the first command that is left has room
-pub front_room : (pool : SharedPool) (l : Lane) → IsLane pool l → (command : Command) (later : List Command)
-    → commands_left l ≡ command ∷ later → HasRoomFor l.desk (left_at command l.stage (view_of l.desk.seat))
-front_room pool l lane command later left =
-    let v = view_of l.desk.seat in let r = left_for_rest (command ∷ later) l.stage v in
-    room_front l.desk command l.stage v (with_takes (left_for_all later)) (left_to_ask l.stage (l.desk.asked + r.asks))
-    (subst (λ (x : List Command). let r = left_for_rest x l.stage v in
-    HasRoomFor l.desk (both r (left_to_ask l.stage (l.desk.asked + r.asks)))) left lane.room)
 
 -- ---- A stage at which a command is under way.
 
@@ -706,18 +544,20 @@ same_left (Sweeping reply stage) v u a b = refl
 same_left Ready v u a b = absurd u
 same_left (Closing stage) v u a b = absurd u
 
-module _ (pool : SharedPool) (l : Lane) (lane : IsLane pool l) (u : IsUnderway l.stage) where
+module _ (pool : SharedPool) (l : Lane) (lane : IsRunningLane pool l) (u : IsUnderway l.stage) where
   pub underway_left : (command : Command) × (later : List Command) × (commands_left l ≡ command ∷ later)
-  underway_left = cut_at (length l.desk.replies.items) l.commands (lane.underway u)
+  underway_left = cut_at (length l.desk.replies.items) l.commands
+      (let a = lane.underway u in let b = lane.asked in omega (arith, a, b))
 
   pub underway_replies : length l.desk.replies.items < vec_capacity l.desk.replies
-  underway_replies = let a = lane.underway u in let b = lane.replies in omega (arith, a, b)
+  underway_replies =
+      let a = lane.underway u in let b = lane.replies in let c = lane.asked in omega (arith, a, b, c)
 
   pub underway_room : (command : Command) → HasRoomFor l.desk (left_at command l.stage (view_of l.desk.seat))
   underway_room command =
       let cut = underway_left in
       subst (λ (x : Left). HasRoomFor l.desk x) (same_left l.stage (view_of l.desk.seat) u cut.0 command)
-      (front_room pool l lane cut.0 cut.1 cut.2)
+      (front_room l lane.room cut.0 cut.1 cut.2)
 
   module _ (d : Desk) (turn : Turn)
       (t : (s : LaneState) (command : Command) → NamesAre s.names l.desk.names
@@ -726,29 +566,39 @@ module _ (pool : SharedPool) (l : Lane) (lane : IsLane pool l) (u : IsUnderway l
     turned : HasTurned pool l.desk d (renamed lane.state lane.bound) (underway_left).0 l.stage turn
     turned = t (renamed lane.state lane.bound) (underway_left).0 lane.bound_are
 
-    new_is : new ≡ lane_at l d (next_of l.stage turn) l.asked
-    new_is =
+    underway_is : new ≡ lane_at l d (next_of l.stage turn) l.asked
+    underway_is =
         is ∙ ap (λ (x : Stage). lane_at l d x l.asked)
-        (turned_next pool l lane d l.asked lane.asked (underway_left).0 (underway_left).1 (underway_left).2
+        (turned_next pool l lane d l.asked lane.asked (lane.underway u) (underway_left).0 (underway_left).1
+        (underway_left).2
         (not_closing l.stage u) turn turned)
 
-    pub underway_lane : IsLane pool new
+    pub underway_lane : IsRunningLane pool new
     underway_lane =
-        subst (λ (x : Lane). IsLane pool x) (sym new_is)
-        (turned_lane pool l lane d l.asked lane.asked (underway_left).0 (underway_left).1 (underway_left).2
+        subst (λ (x : Lane). IsRunningLane pool x) (sym underway_is)
+        (turned_lane pool l lane d l.asked lane.asked (lane.underway u) (underway_left).0 (underway_left).1
+        (underway_left).2
         (not_closing l.stage u) turn turned)
 
     pub underway_same : SameLane l new
     underway_same =
-        subst (λ (x : Lane). SameLane l x) (sym new_is)
-        (turned_same pool l lane d l.asked lane.asked (underway_left).0 (underway_left).1 (underway_left).2
+        subst (λ (x : Lane). SameLane l x) (sym underway_is)
+        (turned_same pool l lane d l.asked lane.asked (lane.underway u) (underway_left).0 (underway_left).1
+        (underway_left).2
         (not_closing l.stage u) turn turned)
 
     pub underway_so : (result : Stepped) → result ≡ stepped_of turn → HasStepped pool l new result
     underway_so result so =
-        subst (λ (x : Lane × Stepped). HasStepped pool l x.0 x.1) (λ i. (sym new_is i, sym so i))
-        (turned_so pool l lane d l.asked lane.asked (underway_left).0 (underway_left).1 (underway_left).2
+        subst (λ (x : Lane × Stepped). HasStepped pool l x.0 x.1) (λ i. (sym underway_is i, sym so i))
+        (turned_so pool l lane d l.asked lane.asked (lane.underway u) (underway_left).0 (underway_left).1
+        (underway_left).2
         (not_closing l.stage u) turn turned)
+
+    pub underway_heeds : (stops : ℕ → Bool) → Heeds stops l → Heeds stops new
+    underway_heeds stops h =
+        subst (λ (x : Lane). Heeds stops x) (sym underway_is)
+        (turned_heeds stops l h lane.going lane.answered.unstopped (lane.underway u) pool d
+        (renamed lane.state lane.bound) (underway_left).0 l.stage turn turned)
 
 -- the command at the line of the next reply, and none where there is no such line
 pub front_is : (l : Lane) (line : ℕ) (xs : List Command) (command : Command) → line ≡ length l.desk.replies.items
@@ -765,7 +615,7 @@ none_left l line xs e f le =
     drop_whole (length l.desk.replies.items) l.commands (omega (arith, a, e, le))
 
 -- a lane whose next command is to be begun
-module _ (pool : SharedPool) (l : Lane) (lane : IsLane pool l) (is : l.stage ≡ Ready) (command : Command)
+module _ (pool : SharedPool) (l : Lane) (lane : IsRunningLane pool l) (is : l.stage ≡ Ready) (command : Command)
     (later : List Command) (left : commands_left l ≡ command ∷ later) where
   open_still : IsClosing l.stage → ⊥
   open_still closes = absurd (subst IsClosing is closes)
@@ -787,13 +637,13 @@ module _ (pool : SharedPool) (l : Lane) (lane : IsLane pool l) (is : l.stage ≡
   pub begin_room : HasRoomFor l.desk (left_for command)
   begin_room =
       subst (λ (x : Stage). HasRoomFor l.desk (left_at command x (view_of l.desk.seat))) is
-      (front_room pool l lane command later left)
+      (front_room l lane.room command later left)
 
   -- no sweep is due
   pub begin_asked : l.desk.asked < sweep_period
   begin_asked = subst (λ (x : Stage). Fits pool l.desk x) is lane.fits
 
-  module _ (d : Desk) (n : ℕ) (few : n ≤ length l.commands) (turn : Turn)
+  module _ (d : Desk) (n : ℕ) (few : n ≤ length l.commands) (line : length l.desk.replies.items < n) (turn : Turn)
       (t : HasTurned pool l.desk d lane.state command Ready turn) (new : Lane)
       (new_is : new ≡ lane_at l d (next_of Ready turn) n) where
     begun : HasTurned pool l.desk d (renamed lane.state lane.bound) command l.stage turn
@@ -804,40 +654,51 @@ module _ (pool : SharedPool) (l : Lane) (lane : IsLane pool l) (is : l.stage ≡
     at_next : new ≡ lane_at l d (next_of l.stage turn) n
     at_next = new_is ∙ ap (λ (x : Stage). lane_at l d (next_of x turn) n) (sym is)
 
-    pub begun_lane : IsLane pool new
+    pub begun_lane : IsRunningLane pool new
     begun_lane =
-        subst (λ (x : Lane). IsLane pool x) (sym at_next)
-        (turned_lane pool l lane d n few command later left open_still turn begun)
+        subst (λ (x : Lane). IsRunningLane pool x) (sym at_next)
+        (turned_lane pool l lane d n few line command later left open_still turn begun)
 
     pub begun_same : SameLane l new
     begun_same =
         subst (λ (x : Lane). SameLane l x) (sym at_next)
-        (turned_same pool l lane d n few command later left open_still turn begun)
+        (turned_same pool l lane d n few line command later left open_still turn begun)
 
     pub begun_so : (result : Stepped) → result ≡ stepped_of turn → HasStepped pool l new result
     begun_so result so =
         subst (λ (x : Lane × Stepped). HasStepped pool l x.0 x.1) (λ i. (sym at_next i, sym so i))
-        (turned_so pool l lane d n few command later left open_still turn begun)
+        (turned_so pool l lane d n few line command later left open_still turn begun)
+
+    pub begun_heeds : (stops : ℕ → Bool) → Heeds stops (record l { asked = n }) → Heeds stops new
+    begun_heeds stops h =
+        subst (λ (x : Lane). Heeds stops x) (sym new_is)
+        (turned_heeds stops (record l { asked = n }) h lane.going lane.answered.unstopped line pool d lane.state command
+        Ready turn t)
 
 -- a lane whose commands are all answered begins its closing
-module _ (pool : SharedPool) (l : Lane) (lane : IsLane pool l) (is : l.stage ≡ Ready) (none : commands_left l ≡ [])
+module _ (pool : SharedPool) (l : Lane) (lane : IsRunningLane pool l) (is : l.stage ≡ Ready)
+    (none : commands_left l ≡ [])
     (d : Desk) (turn : Turn) (t : HasTurnedClosing pool l.desk d (Ask 0) turn) (new : Lane)
     (new_is : new ≡ lane_at l d (next_of Ready turn) l.asked) where
   at_closing : new ≡ lane_at l d (Closing t.after) l.asked
   at_closing =
-      new_is ∙ ap (λ (x : Stage). lane_at l d x l.asked) (closing_next pool l lane d l.asked lane.asked (Ask 0) turn t)
+      new_is ∙ ap (λ (x : Stage). lane_at l d x l.asked) (closing_next pool l lane.desk d l.asked (Ask 0) turn t)
 
-  pub closes_lane : IsLane pool new
+  pub closes_lane : IsRunningLane pool new
   closes_lane =
-      subst (λ (x : Lane). IsLane pool x) (sym at_closing)
+      subst (λ (x : Lane). IsRunningLane pool x) (sym at_closing)
       (closing_lane pool l lane d l.asked lane.asked (Ask 0) turn t none (first_had pool l lane is none)
       (first_room pool l lane is none))
 
   pub closes_same : SameLane l new
   closes_same =
-      subst (λ (x : Lane). SameLane l x) (sym at_closing) (closing_same pool l lane d l.asked lane.asked (Ask 0) turn t)
+      subst (λ (x : Lane). SameLane l x) (sym at_closing) (closing_same pool l lane.desk d l.asked (Ask 0) turn t)
 
   pub closes_so : (result : Stepped) → result ≡ stepped_of turn → HasStepped pool l new result
   closes_so result so =
       subst (λ (x : Lane × Stepped). HasStepped pool l x.0 x.1) (λ i. (sym at_closing i, sym so i))
-      (closing_so pool l lane d l.asked lane.asked (Ask 0) turn t)
+      (closing_so pool l lane.desk d l.asked (Ask 0) turn t)
+
+  pub closes_heeds : (stops : ℕ → Bool) → Heeds stops l → Heeds stops new
+  closes_heeds stops h =
+      subst (λ (x : Lane). Heeds stops x) (sym at_closing) (heeds_still stops l h d (Closing t.after) t.replies)

@@ -23,16 +23,24 @@ pub mod Commands
 pub mod AccessTurns
 pub mod ByteTurns
 pub mod PostTurns
+pub mod PassTurns
 pub mod StageTurns
 pub mod AllocTurns
 pub mod LaneLogs
 pub mod LaneRooms
+pub mod LaneGrown
+pub mod CloseTurns
+pub mod EitherLane
+pub mod StoppedLogs
+pub mod Heeding
+pub mod StoppedTurns
 pub mod LaneTurns
 mod PlayedLists
 mod PlayedRoom
 mod PlayedSeats
 mod PlayedLogs
 mod PlayedAnswers
+mod PlayedStops
 mod PlayedOrder
 mod PlayedReport
 mod PlayedBirths

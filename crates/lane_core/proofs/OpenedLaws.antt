@@ -37,7 +37,7 @@ use Rattle.lane_core.specs.Sampled.{AreSampled}
 use Rattle.lane_core.specs.Named.{bound_at, NamesAre, ChangesBelow}
 use Rattle.lane_core.specs.Counting.{counted, CountsAre}
 use Rattle.lane_core.specs.Desks.{IsDesk, entries_of, FitsDesk, HasRoomFor}
-use Rattle.lane_core.specs.Lanes.{IsLane, HasAnswered, IsBegun, left_for_all, left_for_rest, left_to_ask, commands_left, answered_entries, entries_since, both}
+use Rattle.lane_core.specs.Lanes.{IsRunningLane, HasAnswered, IsBegun, left_for_all, left_for_rest, left_to_ask, commands_left, answered_entries, entries_since, both}
 use Rattle.lane_core.specs.Readings.{ReadsOn, none_asked}
 use Rattle.lane_core.specs.Opened.{IsPlain, AreFirst, IsFirstSeat, AreParts}
 use Rattle.lane_core.proofs.LaneRooms.{rest_ready}
@@ -137,6 +137,7 @@ made shape l p =
           };
       stage = Ready;
       asked = 0;
+      stopped = false;
       spare = p.spare;
     }
 
@@ -152,6 +153,7 @@ module _ (pool : SharedPool) (shape : Shape) (l : Lane) (p : Parts)
     is_desk = record {
       shape = first.shape_is;
       classes = parts.classes;
+      short = first.short;
       seat = first.seat_is;
       held = IsHeld-empty (view_of l.desk.seat) first.notes first.seat_is.alone;
       log = parts.notes.0 ∙ sym (ap (map note_of) first.notes);
@@ -242,8 +244,9 @@ module _ (pool : SharedPool) (shape : Shape) (l : Lane) (p : Parts)
               ));
         })
 
-    pub IsLane-first : IsLane pool new
+    pub IsLane-first : IsRunningLane pool new
     IsLane-first = record {
+      going = refl;
       desk = is_desk;
       fits = omega arith;
       shape = first.limits;

@@ -3,7 +3,7 @@ use Rattle.std.proofs.Common.{◌≡◌, ℕ, List, length, sym, ap, subst, arit
 use Rattle.std.specs.Prelude.{map, slice_get}
 use Rattle.pool_law.specs.declared.run.Run.{Run}
 use Rattle.pool_law.specs.declared.run.Shape.{Shape}
-use Rattle.pool_law.specs.Legal.{logs_of}
+use Rattle.pool_law.specs.Legal.{logs_of, replies_of}
 use Rattle.pool_law.specs.Logs.{of_lane}
 use Rattle.pool_table.specs.declared.views.Part.{Part}
 use Rattle.pool_table.specs.Seats.{view_of}
@@ -13,6 +13,7 @@ use Rattle.shared_pool.specs.Seated.{parts_in}
 use Rattle.lane_core.specs.declared.lane.Lane.{Lane}
 use Rattle.lane_core.specs.Desks.{entries_of}
 use Rattle.lane_core.specs.Played.{IsFinishedLane, AreFinished, IsRunOf, log_written}
+use Rattle.lane_core.proofs.EitherLane.{lane_desk}
 use Rattle.lane_core.proofs.PlayedLists.{length-map, map-map, map-same, get-below, log-at}
 use Rattle.lane_core.proofs.PlayedSeats.{lane-at}
 
@@ -38,7 +39,7 @@ module _ (pool : SharedPool) (lanes : List Lane) (fin : AreFinished pool lanes) 
   notes-are =
       ap logs_in (parts-are lanes) ∙ map-map (λ (p : Part). map note_of p.notes) own_part lanes
       ∙ map-same (λ (l : Lane). map note_of (own_part l).notes) (λ l. l.desk.notes.items) lanes
-      (λ k l e. sym (finished-at k l e).lane.desk.log)
+      (λ k l e. sym (lane_desk pool l (finished-at k l e).lane).log)
 
   pub logs-are : (shape : Shape) (run : Run) → IsRunOf shape lanes run → logs_in (parts_of_lanes lanes) ≡ logs_of run
   logs-are shape run of =
@@ -54,3 +55,11 @@ entries-at lanes k l e =
     ap (λ ps. of_lane (entries_in ps) k) (parts-are lanes)
     ∙ ap (λ es. of_lane es k) (map-map (λ (p : Part). map entry_of p.notes) own_part lanes)
     ∙ log-at (λ (l : Lane). map entry_of (own_part l).notes) lanes k l e
+
+-- the replies of a lane
+pub replies-at : (shape : Shape) (lanes : List Lane) (run : Run) → IsRunOf shape lanes run → (k : ℕ) (l : Lane)
+    → slice_get lanes k ≡ Some l → replies_of run k ≡ l.desk.replies.items
+replies-at shape lanes run of k l e =
+    ap (λ ls. of_lane (map (λ l. l.replies) ls) k) of.logs
+    ∙ ap (λ rs. of_lane rs k) (map-map (λ l. l.replies) log_written lanes)
+    ∙ log-at (λ (l : Lane). l.desk.replies.items) lanes k l e

@@ -14,6 +14,7 @@ use Rattle.pool_law.specs.Leaks.{leaks_of}
 use Rattle.pool_law.specs.Legal.{AreCommands, CountsAgree, HistoriesHold, ends_from, logs_of, others_retains, replies_of}
 use Rattle.pool_law.specs.Limits.{IsShape}
 use Rattle.pool_law.specs.Logs.{Entry, of_lane, entries_of, history_of}
+use Rattle.run_order.specs.Order.{InOneOrder}
 use Rattle.leak_records.specs.declared.live.LiveRoot.{LiveRoot}
 use Rattle.leak_records.specs.Records.{Sampling, new_sampler}
 use Rattle.leak_records.specs.Reports.{IsReport}
@@ -27,9 +28,10 @@ use Rattle.lane_core.specs.Sampled.{AreSampled}
 use Rattle.lane_core.specs.Desks as desks
 use Rattle.lane_core.specs.Lanes.{number_of}
 use Rattle.lane_core.specs.Played.{AreFinished, IsFinishedLane, IsPlayed, IsRunOf, log_written}
-use Rattle.lane_core.proofs.PlayedLists.{length-map, map-map, map-get, log-at, log-past}
+use Rattle.lane_core.proofs.EitherLane.{lane_desk, lane_commands}
+use Rattle.lane_core.proofs.PlayedLists.{length-map, map-get, log-at, log-past}
 use Rattle.lane_core.proofs.PlayedSeats.{lane-at}
-use Rattle.lane_core.proofs.PlayedLogs.{own_part, parts_of_lanes, parts-are, parts-length, finished-at, logs-are, entries-at}
+use Rattle.lane_core.proofs.PlayedLogs.{own_part, parts_of_lanes, parts-are, parts-length, finished-at, logs-are, entries-at, replies-at}
 use Rattle.lane_core.proofs.PlayedAnswers.{lane-log}
 use Rattle.lane_core.proofs.PlayedOrder.{handed-over}
 use Rattle.lane_core.proofs.PlayedReport.{below-or}
@@ -70,7 +72,8 @@ module _ (pool : SharedPool) (lanes : List Lane) (run : Run) (fin : AreFinished 
         (⊎_elim
         (λ (a : (l : Lane) × (slice_get lanes k ≡ Some l) × IsFinishedLane pool k l).
         subst (AreCommands shape) (sym (log-at (λ (l : Lane). l.commands) lanes k a.0 a.1))
-        (subst (λ s. AreCommands s a.0.commands) a.2.lane.desk.shape a.2.lane.commands))
+        (subst (λ s. AreCommands s a.0.commands) (lane_desk pool a.0 a.2.lane).shape
+        (lane_commands pool a.0 a.2.lane)))
         (λ (past : length lanes ≤ k).
         subst (AreCommands shape) (sym
         (log-past (map (λ (l : Lane). l.commands) lanes) k
@@ -82,7 +85,7 @@ module _ (pool : SharedPool) (lanes : List Lane) (run : Run) (fin : AreFinished 
     own-counts root k =
         ⊎_elim
         (λ (a : (l : Lane) × (slice_get lanes k ≡ Some l) × IsFinishedLane pool k l).
-        subst (CountsHold root 0) (sym (entries-at lanes k a.0 a.1)) (a.2.lane.desk.counts.holds root))
+        subst (CountsHold root 0) (sym (entries-at lanes k a.0 a.1)) ((lane_desk pool a.0 a.2.lane).counts.holds root))
         (λ (past : length lanes ≤ k).
         subst (CountsHold root 0) (sym
         (log-past (entries_in parts) k
@@ -108,11 +111,10 @@ module _ (pool : SharedPool) (lanes : List Lane) (run : Run) (fin : AreFinished 
         log-as shape k a.0.commands (of_lane run.trace.lanes k) a.0.desk.replies.items (replies_of run k)
         (desks.entries_of a.0.desk) (of_lane (entries_of (logs_of run)) k)
         (sym (ap (λ t. of_lane t k) of.trace ∙ log-at (λ (l : Lane). l.commands) lanes k a.0 a.1))
-        (sym (ap (λ ls. of_lane (map (λ l. l.replies) ls) k) of.logs
-        ∙ ap (λ rs. of_lane rs k) (map-map (λ l. l.replies) log_written lanes)
-        ∙ log-at (λ (l : Lane). l.desk.replies.items) lanes k a.0 a.1))
+        (sym (replies-at shape lanes run of k a.0 a.1))
         (sym (entries-at lanes k a.0 a.1) ∙ ap (λ es. of_lane es k) entries-same)
-        (subst (λ s. IsLaneLog s k a.0.commands a.0.desk.replies.items (desks.entries_of a.0.desk)) a.2.lane.desk.shape
+        (subst (λ s. IsLaneLog s k a.0.commands a.0.desk.replies.items (desks.entries_of a.0.desk))
+        (lane_desk pool a.0 a.2.lane).shape
         (lane-log pool k a.0 a.2))
 
     sampled : (k : ℕ) (p : Part) → slice_get parts k ≡ Some p
@@ -125,14 +127,14 @@ module _ (pool : SharedPool) (lanes : List Lane) (run : Run) (fin : AreFinished 
               (subst (λ n. AreSampled (new_sampler n shape.level shape.interval) (own_part m.0).notes m.0.desk.sampler)
               f.number_is
               (subst (λ s. AreSampled (new_sampler (number_of m.0) s.level s.interval) (own_part m.0).notes
-              m.0.desk.sampler) f.lane.desk.shape f.lane.desk.sampled)),
+              m.0.desk.sampler) (lane_desk pool m.0 f.lane).shape (lane_desk pool m.0 f.lane).sampled)),
         )
 
     module _ (live : List LiveRoot) (told : AreLiveRoots (parts_of_lanes lanes) live)
         (chunks : run.chunks ≡ ends_from pool.table.layout.shape (logs_in (parts_of_lanes lanes))
         (below pool.table.layout.shape.arenas))
         (report : IsReport live run.leaks) where
-      -- a legal run, in which what was sent is seen in order
+      -- a legal run, in which what was sent is seen in order, and all steps stand in one order
       pub is-played : IsPlayed run
       is-played = record {
         legal = record {
@@ -161,4 +163,5 @@ module _ (pool : SharedPool) (lanes : List Lane) (run : Run) (fin : AreFinished 
         handed_over =
             handed-over shape (logs_of run) (subst (HistoriesHold shape) logs-same whole.histories)
             (subst IsOrdered logs-same whole.order);
+        one_order = subst InOneOrder logs-same whole.one_order;
       }

@@ -11,6 +11,7 @@ use Rattle.lane_core.specs.declared.lane.Lane.{Lane}
 use Rattle.lane_core.specs.Hands.{IsHeld}
 use Rattle.lane_core.specs.Desks.{hand_of}
 use Rattle.lane_core.specs.Played.{IsFinishedLane, AreFinished}
+use Rattle.lane_core.proofs.EitherLane.{lane_desk}
 use Rattle.lane_core.proofs.PlayedLists.{stands-at, HoldsAt-from, length-map, get-map}
 
 nothing-held : (v : SeatView) → IsHeld (hand_of (Closing Done)) v → HasNothing v
@@ -24,16 +25,16 @@ nothing-held v held = record {
 pub part-number : (pool : SharedPool) (k : ℕ) (l : Lane) → IsFinishedLane pool k l
     → (view_of l.desk.seat).own.number ≡ Some k
 part-number pool k l f =
-    let seat = f.lane.desk.seat in
+    let seat = (lane_desk pool l f.lane).seat in
     seat.number ∙ ap Some (sym (ap (λ o. unwrap_or o 0) seat.number) ∙ f.number_is)
 
 pub lane-done : (pool : SharedPool) (k : ℕ) (l : Lane) → IsFinishedLane pool k l → IsDone pool k l.desk.seat
 lane-done pool k l f = record {
-  seat = f.lane.desk.seat;
+  seat = (lane_desk pool l f.lane).seat;
   number = part-number pool k l f;
   nothing =
       nothing-held (view_of l.desk.seat)
-      (subst (λ s. IsHeld (hand_of s) (view_of l.desk.seat)) f.finished f.lane.desk.held);
+      (subst (λ s. IsHeld (hand_of s) (view_of l.desk.seat)) f.finished (lane_desk pool l f.lane).held);
 }
 
 -- the lane with a number

@@ -90,7 +90,7 @@ module _ (from to number : ℕ) (lane : Option ℕ) where
   }
 
 -- a parcel is one post to its lane, and none to another
-one_post : (x y : Bool) → (if (x && y) && true then 1 else 0) + 0 ≤ (if y then 1 else 0)
+pub one_post : (x y : Bool) → (if (x && y) && true then 1 else 0) + 0 ≤ (if y then 1 else 0)
 one_post true true = omega arith
 one_post true false = omega arith
 one_post false true = omega arith
@@ -159,26 +159,32 @@ can_answer_posted pool name receiver old mid may parcel did =
 
 -- ---- A parcel that is sent.
 
-module _ (pool : SharedPool) (name receiver : ℕ) (old mid new : Desk)
-    (may : MayTurn pool (left_for (Command.Send name receiver)) old) (parcel : Parcel)
+-- what the seat noted
+module _ (pool : SharedPool) (receiver : ℕ) (old mid : Desk) (d : IsDesk pool empty_hand old) (parcel : Parcel)
     (did : HasPosted pool old mid receiver parcel) where
-  abbrev e : Entry
-  e = post_entry (lane_of old.seat) receiver did.number (view_of old.seat).own.number parcel
+  abbrev pub posted_entry : Entry
+  posted_entry = post_entry (lane_of old.seat) receiver did.number (view_of old.seat).own.number parcel
 
-  post_advances : Advances pool old.seat mid.seat empty_hand (e ∷ []) 0
+  pub post_advances : Advances pool old.seat mid.seat empty_hand (posted_entry ∷ []) 0
   post_advances =
-      let grows : Grows (view_of old.seat) (view_of mid.seat) (e ∷ []) 0 =
-      grows_noted pool old.seat mid.seat may.desk.seat did.seat (Mail (lane_of old.seat) receiver) did.number
+      let grows : Grows (view_of old.seat) (view_of mid.seat) (posted_entry ∷ []) 0 =
+      grows_noted pool old.seat mid.seat d.seat did.seat (Mail (lane_of old.seat) receiver) did.number
       (plain (Did.Post parcel)) did.did in
       record {
         same = did.same;
         seat = did.seat;
         grows = grows;
         held =
-            held_on (view_of old.seat) (view_of mid.seat) (e ∷ []) 0 empty_hand empty_hand grows
+            held_on (view_of old.seat) (view_of mid.seat) (posted_entry ∷ []) 0 empty_hand empty_hand grows
             (post_carries (lane_of old.seat) receiver did.number (view_of old.seat).own.number parcel
-            (lane_in (view_of old.seat))) may.desk.held;
+            (lane_in (view_of old.seat))) d.held;
       }
+
+module _ (pool : SharedPool) (name receiver : ℕ) (old mid new : Desk)
+    (may : MayTurn pool (left_for (Command.Send name receiver)) old) (parcel : Parcel)
+    (did : HasPosted pool old mid receiver parcel) where
+  abbrev e : Entry
+  e = posted_entry pool receiver old mid may.desk parcel did
 
   -- with these counts it is answered
   posted_turn : (cs : List Counted) (reply : Reply) → before_stop (reply ∷ []) ≡ 1
@@ -195,7 +201,8 @@ module _ (pool : SharedPool) (name receiver : ℕ) (old mid new : Desk)
         rest =
             ap (λ (x : Desk). record x { counts = cs }) did.noted.rest;
       } in
-      one_turn_same pool old start (record mid { counts = cs }) new may.desk may.asked refl refl e 0 post_advances noted
+      one_turn_same pool old start (record mid { counts = cs }) new may.desk may.asked refl refl e 0
+      (post_advances pool receiver old mid may.desk parcel did) noted
       reply unstopped replied recounts places (tt, refl) s (Command.Send name receiver) are
       (omega arith) (omega arith) (omega arith)
       (λ to. one_post (lane_of old.seat == lane_in (view_of old.seat)) (receiver == to)) reads

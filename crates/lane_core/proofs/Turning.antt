@@ -42,16 +42,24 @@ use Rattle.lane_core.specs.Sampled.{AreSampled}
 use Rattle.lane_core.specs.Desks.{IsDesk, left_for, HasTurned}
 use Rattle.lane_core.specs.Readings.{before_left, ReadsOn, none_asked}
 use Rattle.lane_core.specs.DeskSteps.{HasNoted, HasReplied, HasRetained, MayTurn}
-use Rattle.lane_core.proofs.Grown.{Grows, spends}
+use Rattle.lane_core.proofs.Grown.{Grows, one_none, spends}
 use Rattle.lane_core.proofs.HandLaws.{Carries, held_on}
 use Rattle.lane_core.proofs.EntryCounts.{Recounts, none_recounted, looked, retained}
 use Rattle.lane_core.proofs.StateReads.{goes_uncounted, named_so}
 use Rattle.lane_core.proofs.ReadLaws.{given_on, still_on, step_on}
 use Rattle.lane_core.proofs.DeskLaws.{Advances, grows_ref, mid_is, answered, swept_reads, spends_at}
 
-grows_same : (v : SeatView) → v.others ≡ [] → Grows v v [] 0
+pub grows_same : (v : SeatView) → v.others ≡ [] → Grows v v [] 0
 grows_same v alone = record {
-  more = record { notes = sym (append-nil v.own.notes); number = refl; setting = refl; turns = omega arith };
+  more =
+      record {
+        notes = sym (append-nil v.own.notes);
+        number = refl;
+        setting = refl;
+        turns = omega arith;
+        one =
+            one_none;
+      };
   was_alone = alone;
   alone = alone;
   moves = omega arith;

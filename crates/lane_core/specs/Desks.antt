@@ -1,5 +1,5 @@
 -- What a lane works with, and what a turn of it does.
-use Rattle.std.specs.Prelude.{◌≡◌, ◌≢◌, ℕ, ◌+◌, ◌*◌, ◌<◌, ◌≤◌, ◌==◌, if◌then◌else◌, true, false, ⊤, List, [], ◌∷◌, ◌++◌, length, map, Some, None, IfSome, slice_get, vec_capacity}
+use Rattle.std.specs.Prelude.{◌≡◌, ◌≢◌, ℕ, ◌+◌, ◌*◌, ◌<◌, ◌≤◌, ◌==◌, if◌then◌else◌, true, false, ⊤, List, [], ◌∷◌, ◌++◌, length, map, Some, None, IfSome, IsSome, slice_get, vec_capacity}
 use Rattle.size_classes.specs.Sizes.{class_of}
 use Rattle.pool_law.specs.declared.command.Command.{Command}
 use Rattle.pool_law.specs.declared.note.Held.{Held}
@@ -9,10 +9,10 @@ use Rattle.pool_law.specs.declared.run.Shape.{Shape}
 use Rattle.pool_law.specs.Bounds.{most_notes, may_ask}
 use Rattle.pool_law.specs.Limits.{cached_classes, geometry_of}
 use Rattle.pool_law.specs.LaneLaw.{sweep_period, before_stop}
-use Rattle.pool_law.specs.LaneStates.{LaneState}
-use Rattle.pool_law.specs.Lanes.{Answer, answer, allotted, turn}
+use Rattle.pool_law.specs.LaneStates.{LaneState, new_lane, log_at}
+use Rattle.pool_law.specs.Lanes.{Answer, answer, allotted, not_carried_out, turn}
 use Rattle.pool_law.specs.Names.{Names}
-use Rattle.pool_law.specs.Readers.{Entries, Log, Reader, ◌>>=◌, ◌>>◌, give}
+use Rattle.pool_law.specs.Readers.{Entries, Log, Reader, ◌>>=◌, ◌>>◌, give, read_all}
 use Rattle.leak_records.specs.Records.{new_sampler}
 use Rattle.pool_table.specs.declared.views.Entry.{Entry}
 use Rattle.pool_table.specs.declared.views.SeatView.{SeatView}
@@ -23,6 +23,7 @@ use Rattle.shared_pool.specs.MailAnswers.{IsDrained}
 use Rattle.shared_pool.specs.Quotas.{posts}
 use Rattle.shared_pool.specs.SeatLanes.{lane_of}
 use Rattle.shared_pool.specs.Seats.{IsPoolSeat, FoundBusy}
+use Rattle.shared_pool.specs.Wearing.{IsShort}
 use Rattle.lane_core.specs.declared.access.Access.{Access}
 use Rattle.lane_core.specs.declared.access.Access.TheVariants.{Refused, Set, Get}
 use Rattle.lane_core.specs.declared.desk.Desk.{Desk}
@@ -56,6 +57,8 @@ entries_of d = map entry_of (notes_of d)
 pub record IsDesk (pool : SharedPool) (hand : Hand) (d : Desk) : Type 0 where
   pub shape : d.shape ≡ pool.table.layout.shape
   pub classes : d.classes ≡ geometry_of d.shape
+  -- the pool's places can't wear out
+  pub short : IsShort pool.table.layout
   pub seat : IsPoolSeat pool d.seat
   pub held : IsHeld hand (view_of d.seat)
   pub log : d.notes.items ≡ map note_of (notes_of d)
@@ -86,7 +89,8 @@ Fits pool d (Sweeping reply stage) =
     × (before_stop (reply ∷ []) ≡ 1) × (stage ≢ AllDrained)
 Fits pool d (Closing stage) = draining.Fits pool d.seat stage
 
--- how many births and retains a command makes
+-- how many births and retains a command makes: no fewer than the moves that it takes, since a birth
+-- takes none
 abbrev pub moves_of : Command → ℕ
 moves_of (Command.Alloc name size) = 1
 moves_of (Command.Slice fresh name at len retained) = if retained then 1 else 0
@@ -264,6 +268,41 @@ pub record HasTurned (pool : SharedPool) (old new : Desk) (s : LaneState) (comma
   pub waits : IfWaiting turn (λ sender.
       ReceivesFrom command sender × IsDrained pool sender old.seat)
   pub held : IfPending turn (λ held. FoundBusy pool held.object false old.seat new.seat held)
+
+-- the command of a stopped lane is answered so, and its notes are those of a command that isn't
+-- carried out
+pub record IsPassedOver (old new : Desk) (added : List Entry) (command : Command) : Type 0 where
+  pub notes : ℕ
+  pub replies :
+      new.replies.items
+      ≡ old.replies.items ++ record { reply = Reply.Stopped; notes = notes } ∷ []
+  pub counted : old.begun + notes ≡ length (notes_of new)
+  pub begun : new.begun ≡ length (notes_of new)
+  pub reads :
+      IsSome (read_all (not_carried_out (lane_of old.seat) command)
+      (log_at new_lane (map entry_of added)))
+
+-- how a command of a stopped lane ends: it is answered, or it waits for the mail
+abbrev pub PassesTo : Desk → Desk → List Entry → Command → Turn → Type 0
+PassesTo old new added command (Went Ready) = IsPassedOver old new added command
+PassesTo old new added command (Went next) = ⊥
+PassesTo old new added command (Pending held Ready) = Waits old new added
+PassesTo old new added command (Pending held next) = ⊥
+PassesTo old new added command (Waiting sender) = ⊥
+
+-- a turn passes a command of a stopped lane over
+pub record PassesOver (pool : SharedPool) (old new : Desk) (command : Command) (turn : Turn) :
+    Type 0
+  where
+    pub added : List Entry
+    pub grew : DeskGrew pool empty_hand old new added
+    pub names : new.names ≡ old.names
+    pub asked : new.asked ≡ old.asked
+    pub spends :
+        SpendsAt old new
+        (left_now command Ready (view_of old.seat)) (left_after command Ready turn (view_of new.seat))
+    pub comes : PassesTo old new added command turn
+    pub held : IfPending turn (λ held. FoundBusy pool held.object false old.seat new.seat held)
 
 -- the desk's log, its seat and its mails have room for what is left
 pub record HasRoomFor (d : Desk) (left : Left) : Type 0 where

@@ -1,17 +1,22 @@
 -- A lane of a pool: its log so far is the law's for its commands so far.
-use Rattle.std.specs.Prelude.{◌≡◌, ℕ, ◌+◌, ◌*◌, ◌/◌, ◌<◌, ◌≤◌, ⊤, List, [], ◌∷◌, ◌++◌, length, take, drop, sum, All, Some, None, vec_capacity}
+use Rattle.std.specs.Prelude.{◌≡◌, ℕ, ◌+◌, ◌*◌, ◌/◌, ◌<◌, ◌≤◌, ⊤, Bool, true, false, MatchBool, List, [], ◌∷◌, ◌++◌, length, take, drop, sum, All, Some, None, vec_capacity}
 use Rattle.pool_law.specs.declared.command.Command.{Command}
+use Rattle.pool_law.specs.declared.note.Note.{Note}
+use Rattle.pool_law.specs.declared.run.Answered.{Answered}
 use Rattle.pool_law.specs.declared.run.Shape.{Shape}
 use Rattle.pool_law.specs.Limits.{cached_classes, IsShape}
 use Rattle.pool_law.specs.Legal.{AreCommands}
-use Rattle.pool_law.specs.LaneLaw.{sweep_period, lane_run, before_stop, pieces, note_counts, replies_in}
+use Rattle.pool_law.specs.LaneLaw.{sweep_period, lane_run, stopped_run, before_stop, pieces, note_counts, replies_in}
 use Rattle.pool_law.specs.LaneStates.{LaneState, new_lane, log_at}
 use Rattle.pool_law.specs.Lanes.{turn}
 use Rattle.pool_law.specs.Names.{Names}
 use Rattle.pool_law.specs.Patterns.{closing}
 use Rattle.pool_law.specs.Readers.{Entries, Reader}
+use Rattle.pool_table.specs.declared.table.PoolSeat.{PoolSeat}
 use Rattle.pool_table.specs.declared.views.SeatView.{SeatView}
 use Rattle.pool_table.specs.Seats.{view_of}
+use Rattle.shared_pool.specs.contracts.told.HomeTold.TheImpl.{ghosts}
+use Rattle.shared_pool.specs.declared.home.Home.{Home}
 use Rattle.shared_pool.specs.declared.pool.SharedPool.{SharedPool}
 use Rattle.shared_pool.specs.SeatLanes.{lane_of}
 use Rattle.lane_core.specs.declared.desk.Desk.{Desk}
@@ -21,6 +26,7 @@ use Rattle.lane_core.specs.declared.draining.DrainKind.TheVariants.{Close}
 use Rattle.lane_core.specs.declared.draining.Draining.TheVariants.{Done as AllClosed}
 use Rattle.lane_core.specs.declared.lane.Lane.{Lane}
 use Rattle.lane_core.specs.Budgets.{Left, notes_alone, with_sheds}
+use Rattle.lane_core.specs.Logs.{IsOneStep}
 use Rattle.lane_core.specs.Named.{NamesAre}
 use Rattle.lane_core.specs.Readings.{ReadsOn, none_asked, renamed}
 use Rattle.lane_core.specs.Drainings as draining
@@ -129,8 +135,25 @@ pub record IsResting (d : Desk) (s : LaneState) (names : Names) : Type 0 where
 abbrev pub number_of : Lane → ℕ
 number_of l = lane_of l.desk.seat
 
--- a lane of the pool
-pub record IsLane (pool : SharedPool) (l : Lane) : Type 0 where
+-- the seat with which it works
+abbrev pub seat_of : Lane → PoolSeat Home ghosts
+seat_of l = l.desk.seat
+
+-- its commands, in the order in which they are carried out
+abbrev pub commands_of : Lane → List Command
+commands_of l = l.commands
+
+-- its replies so far
+abbrev pub replies_of : Lane → List Answered
+replies_of l = l.desk.replies.items
+
+-- what it noted so far
+abbrev pub noted_by : Lane → List Note
+noted_by l = l.desk.notes.items
+
+-- a lane of the pool that no gate stopped
+pub record IsRunningLane (pool : SharedPool) (l : Lane) : Type 0 where
+  pub going : l.stopped ≡ false
   pub desk : IsDesk pool (hand_of l.stage) l.desk
   pub fits : Fits pool l.desk l.stage
   pub shape : IsShape l.desk.shape
@@ -144,12 +167,65 @@ pub record IsLane (pool : SharedPool) (l : Lane) : Type 0 where
   pub begun : IsBegun l state bound (commands_left l) (entries_since l)
   pub all_answered : IsClosing l.stage → commands_left l ≡ []
   pub rest : IsAtRest l.stage → IsResting l.desk state bound
-  pub underway : IsUnderway l.stage → length l.desk.replies.items < length l.commands
+  pub underway : IsUnderway l.stage → length l.desk.replies.items < l.asked
   pub names : NameFits l.desk l.stage
   pub room : HasRoomFor l.desk (left_of l)
   pub replies : length l.commands ≤ vec_capacity l.desk.replies
   pub asked : l.asked ≤ length l.commands
   pub spare : l.desk.shape.lanes ≤ vec_capacity l.spare.seats
+
+-- the replies so far are the law's, up to the stop for the commands up to there and behind it for
+-- those of a stopped lane
+pub record HasPassedOver (shape : Shape) (lane : ℕ) (l : Lane) : Type 0 where
+  pub counted : sum (note_counts l.desk.replies.items) ≡ l.desk.begun
+  pub state : LaneState
+  pub run :
+      let n = before_stop (replies_in l.desk.replies.items) in
+      lane_run sweep_period shape lane new_lane
+      (take n l.commands)
+      (take n (pieces (note_counts l.desk.replies.items) (answered_entries l)))
+      ≡ Some (take n (replies_in l.desk.replies.items), state)
+  pub stopped :
+      let n = before_stop (replies_in l.desk.replies.items) in
+      stopped_run lane
+      (drop n (take (length l.desk.replies.items) l.commands))
+      (drop n (pieces (note_counts l.desk.replies.items) (answered_entries l)))
+      ≡ Some (drop n (replies_in l.desk.replies.items))
+
+-- a lane of the pool that its gate stopped: no command is under way, and its closing is the law's
+pub record IsStoppedLane (pool : SharedPool) (l : Lane) : Type 0 where
+  pub over : l.stopped ≡ true
+  pub desk : IsDesk pool (hand_of l.stage) l.desk
+  pub fits : Fits pool l.desk l.stage
+  pub shape : IsShape l.desk.shape
+  pub commands : AreCommands l.desk.shape l.commands
+  pub plain : All (FitsDesk l.desk) l.commands
+  pub few : length l.desk.replies.items ≤ length l.commands
+  pub answered : HasPassedOver l.desk.shape (number_of l) l
+  pub underway : IsUnderway l.stage → ⊥
+  pub all_answered : IsClosing l.stage → commands_left l ≡ []
+  pub rest : IsAtRest l.stage → l.desk.begun ≡ length (notes_of l.desk)
+  pub since :
+      ReadsOn (closing (number_of l)) (entries_since l) none_asked
+      (reads_closing (number_of l) l.stage)
+  pub room : HasRoomFor l.desk (left_of l)
+  pub replies : length l.commands ≤ vec_capacity l.desk.replies
+  pub asked : l.asked ≤ length l.commands
+  pub spare : l.desk.shape.lanes ≤ vec_capacity l.spare.seats
+
+-- a lane of the pool
+abbrev pub IsLane : SharedPool → Lane → Type 0
+IsLane pool l = MatchBool l.stopped (IsStoppedLane pool l) (IsRunningLane pool l)
+
+-- its gate, which stops it at these lines, was asked and heeded
+pub record Heeds (stops : ℕ → Bool) (l : Lane) : Type 0 where
+  pub passed : (line : ℕ) → line < before_stop (replies_in l.desk.replies.items) →
+      stops line ≡ false
+  pub stopped : l.stopped ≡ true → stops (before_stop (replies_in l.desk.replies.items)) ≡ true
+  pub cause :
+      before_stop (replies_in l.desk.replies.items) < length l.desk.replies.items
+      → stops (before_stop (replies_in l.desk.replies.items)) ≡ true
+  pub asked : l.stopped ≡ false → (line : ℕ) → line < l.asked → stops line ≡ false
 
 -- all commands are answered, and all caches are closed and shed
 abbrev pub IsFinished : Lane → Type 0
@@ -160,11 +236,16 @@ pub record SameLog (old new : Lane) : Type 0 where
   pub replies : new.desk.replies.items ≡ old.desk.replies.items
   pub notes : new.desk.notes.items ≡ old.desk.notes.items
 
--- a note or a reply was added
+-- the log grew by what one step may do: a reply or notes, at most one reply, and the notes of one
+-- step
 pub record LogGrew (old new : Lane) : Type 0 where
-  pub more :
-      length old.desk.replies.items + length old.desk.notes.items
-      < length new.desk.replies.items + length new.desk.notes.items
+  pub replies : List Answered
+  pub notes : List Note
+  pub replies_are : replies_of new ≡ replies_of old ++ replies
+  pub notes_are : noted_by new ≡ noted_by old ++ notes
+  pub some : 0 < length replies + length notes
+  pub one_reply : length replies ≤ 1
+  pub one_step : IsOneStep notes
 
 -- it is the same lane, with the same commands
 pub record SameLane (old new : Lane) : Type 0 where

@@ -15,6 +15,7 @@ use Rattle.shared_pool.specs.declared.home.Home.{Home}
 use Rattle.shared_pool.specs.declared.pool.SharedPool.{SharedPool}
 use Rattle.shared_pool.specs.SeatLanes.{lane_of}
 use Rattle.shared_pool.specs.Seats.{IsPoolSeat}
+use Rattle.shared_pool.specs.Wearing.{IsShort}
 use Rattle.lane_core.specs.declared.lane.Parts.{Parts}
 use Rattle.lane_core.specs.Named.{ChangesBelow}
 use Rattle.lane_core.specs.Counting.{counted}
@@ -33,6 +34,8 @@ module _ {G : Ghosts Home Noted} where
       (seat : PoolSeat Home G) : Type 0 where
     pub shape_is : shape ≡ pool.table.layout.shape
     pub limits : IsShape shape
+    -- the pool's places can't wear out
+    pub short : IsShort pool.table.layout
     pub seat_is : IsPoolSeat pool seat
     pub notes : (view_of seat).own.notes ≡ []
     pub turns : note_bound commands ≤ (view_of seat).turns

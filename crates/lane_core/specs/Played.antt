@@ -1,5 +1,5 @@
 -- A run that was played: it is legal, and what was sent is seen in order.
-use Rattle.std.specs.Prelude.{◌≡◌, ℕ, ◌+◌, ◌<◌, ◌≤◌, if◌then◌else◌, Bool, false, List, [], ◌∷◌, ◌++◌, length, map, HoldsAt, Some, slice_get, vec_capacity}
+use Rattle.std.specs.Prelude.{◌≡◌, ◌↔◌, ℕ, ◌+◌, ◌<◌, ◌≤◌, Bool, true, false, List, [], ◌∷◌, ◌++◌, length, map, HoldsAt, Some, slice_get, vec_capacity}
 use Rattle.pool_law.specs.declared.command.Command.{Command}
 use Rattle.pool_law.specs.declared.id.Parcel.{Parcel}
 use Rattle.pool_law.specs.declared.note.Did.{Did}
@@ -9,15 +9,20 @@ use Rattle.pool_law.specs.declared.note.Note.TheVariants.{At}
 use Rattle.pool_law.specs.declared.note.Object.{Object}
 use Rattle.pool_law.specs.declared.note.Object.TheVariants.{Mail}
 use Rattle.pool_law.specs.declared.run.LaneLog.{LaneLog}
+use Rattle.pool_law.specs.declared.run.Reply.{Reply}
+use Rattle.pool_law.specs.declared.run.Reply.TheVariants.{Stopped}
 use Rattle.pool_law.specs.declared.run.Run.{Run}
 use Rattle.pool_law.specs.declared.run.Shape.{Shape}
-use Rattle.pool_law.specs.Legal.{IsLegal, logs_of}
+use Rattle.pool_law.specs.LaneLaw.{replies_in}
+use Rattle.pool_law.specs.Legal.{IsLegal, logs_of, replies_of}
 use Rattle.pool_law.specs.Logs.{Logs, of_lane}
 use Rattle.pool_law.specs.Same.{same_object}
+use Rattle.run_order.specs.Order.{InOneOrder}
 use Rattle.shared_pool.specs.declared.pool.SharedPool.{SharedPool}
 use Rattle.lane_core.specs.declared.lane.Lane.{Lane}
 use Rattle.lane_core.specs.declared.played.Parted.{Parted}
 use Rattle.lane_core.specs.Lanes.{IsLane, IsFinished, number_of}
+use Rattle.lane_core.specs.Logs.{how_many}
 
 -- a note posts to a mail, and fetches from it
 abbrev pub is_post : Object → Note → Bool
@@ -27,11 +32,6 @@ is_post mail _ = false
 abbrev pub is_fetch : Object → Note → Bool
 is_fetch mail (At object number (Fetch parcel)) = same_object object mail
 is_fetch mail _ = false
-
--- how many notes pass a test
-abbrev pub how_many : (Note → Bool) → List Note → ℕ
-how_many test [] = 0
-how_many test (n ∷ ns) = (if test n then 1 else 0) + how_many test ns
 
 -- what a lane did before its k-th post to another has, at each object, a lower number than what
 -- that lane did there after its k-th fetch from it
@@ -48,10 +48,12 @@ IsHandedOver logs =
     slice_get after j ≡ Some (At object n e) →
     m < n
 
--- a legal run, in which what was sent is seen in order
+-- a legal run, in which what was sent is seen in order, and all steps of all lanes stand in one
+-- order, in which each fits those before it
 pub record IsPlayed (run : Run) : Type 0 where
   pub legal : IsLegal run
   pub handed_over : IsHandedOver (logs_of run)
+  pub one_order : InOneOrder (logs_of run)
 
 -- a lane of the pool that has finished, with this number
 pub record IsFinishedLane (pool : SharedPool) (number : ℕ) (l : Lane) : Type 0 where
@@ -74,6 +76,18 @@ pub record IsRunOf (shape : Shape) (lanes : List Lane) (run : Run) : Type 0 wher
   pub shape_is : run.shape ≡ shape
   pub trace : run.trace.lanes ≡ map (λ l. l.commands) lanes
   pub logs : run.logs ≡ map log_written lanes
+
+-- a reply is `stopped` exactly where this gate stops the lane at its line or at an earlier one
+abbrev pub StopsAsAsked : (ℕ → Bool) → List Reply → Type 0
+StopsAsAsked stops replies =
+    (line : ℕ) (reply : Reply) → slice_get replies line ≡ Some reply →
+    (reply ≡ Stopped) ↔ ((earlier : ℕ) × (earlier ≤ line) × (stops earlier ≡ true))
+
+-- in a run, of each lane
+abbrev pub IsHeeded : (ℕ → ℕ → Bool) → Run → Type 0
+IsHeeded stops run =
+    (lane : ℕ) → lane < run.shape.lanes →
+    StopsAsAsked (stops lane) (replies_in (replies_of run lane))
 
 -- just these commands and logs
 pub record ArePartedAs (commands : List (List Command)) (logs : List LaneLog) (p : Parted) : Type 0

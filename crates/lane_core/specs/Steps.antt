@@ -18,10 +18,10 @@ abbrev pub ReceivesNext : ℕ → List Command → Type 0
 ReceivesNext sender [] = ⊥
 ReceivesNext sender (command ∷ later) = ReceivesFrom command sender
 
--- what a step did, by its answer: a note or a reply was added where it went, and else nothing;
--- where it is pending its claim found another seat; where it waits its command receives from that
--- lane, and nothing that was posted from there was unfetched; it is finished where all was done
--- before
+-- what a step did, by its answer: where it went a reply was added, or what one section and one step
+-- on a count note, or both, and else nothing; where it is pending its claim found another seat; where
+-- it waits its command receives from that lane, and nothing that was posted from there was unfetched;
+-- it is finished where all was done before
 abbrev pub HasStepped : SharedPool → Lane → Lane → Stepped → Type 0
 HasStepped pool old new Went = LogGrew old new
 HasStepped pool old new (Pending held) =

@@ -13,15 +13,17 @@ use Rattle.shared_pool.specs.declared.home.Home.{Home}
 use Rattle.shared_pool.specs.declared.pool.SharedPool.{SharedPool}
 use Rattle.shared_pool.specs.Closing.{note_of, entry_of}
 use Rattle.shared_pool.specs.Seats.{IsPoolSeat}
+use Rattle.lane_core.specs.Logs.{IsOneStep}
 use Rattle.lane_core.specs.Readings.{ReadsOn}
 use Rattle.lane_core.specs.Sampled.{AreSampled}
 
--- the view has these entries more in its own part; each costs at most one turn
+-- the view has these entries more in its own part, those of one step; each costs at most one turn
 pub record HasMore (old new : SeatView) (added : List Entry) : Type 0 where
   pub notes : new.own.notes ≡ old.own.notes ++ added
   pub number : new.own.number ≡ old.own.number
   pub setting : new.setting ≡ old.setting
   pub turns : old.turns ≤ new.turns + length added
+  pub one : IsOneStep (map note_of added)
 
 module _ {G : Ghosts Home Noted} where
   -- the seat wrote these notes: births with the watches of a sampler, which then is the last, and

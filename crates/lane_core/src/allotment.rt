@@ -5,7 +5,7 @@ ghost use Rattle.std.specs.Prelude.{◌≡◌, ◌+◌, ◌-◌, ◌<◌, ◌≤
 ghost use Rattle.size_classes.specs.Sizes.{class_count, class_of, size_at};
 ghost use Rattle.pool_law.specs.Limits.{geometry_of};
 ghost use Rattle.leak_records.specs.Records.{Sampling};
-ghost use Rattle.pool_table.specs.Seats.{view_of};
+ghost use Rattle.shared_pool.specs.Wearing.{IsShort};
 ghost use Rattle.lane_core.specs.declared.allotment.Allotting.{Allotting};
 ghost use Rattle.lane_core.specs.Allotments.{MayAllot, HasAllotted, left_of};
 
@@ -56,7 +56,7 @@ pub fn allot(
     stage: Allotting,
 ) -> Allots
     requires may { MayAllot pool.now seat.old class stage }
-    requires moves { (left_of stage).moves ≤ (view_of seat.old).moves }
+    requires short { IsShort pool.now.table.layout }
     requires shape { shape.now ≡ pool.now.table.layout.shape }
     requires class { class_of (geometry_of shape.now) size ≡ Some class }
     requires births { sampler.old.births < 2 ^ 32 - 1 }
@@ -176,7 +176,7 @@ fn bear(
     region: Region,
 ) -> Allots
     requires may { MayAllot pool.now seat.old region.id.class (Allotting.Birth handle region) }
-    requires moves { 0 < (view_of seat.old).moves }
+    requires short { IsShort pool.now.table.layout }
     requires size { size ≤ size_at region.id.class }
     requires births { sampler.old.births < 2 ^ 32 - 1 }
     requires room { length log.old.items + 2 ≤ vec_capacity log.old }

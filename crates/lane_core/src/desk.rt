@@ -17,7 +17,7 @@ ghost use Rattle.lane_core.specs.Named.{NamesAre};
 ghost use Rattle.lane_core.specs.Drainings as draining;
 ghost use Rattle.lane_core.specs.Allotments as allotment;
 ghost use Rattle.lane_core.specs.Endings as ending;
-ghost use Rattle.lane_core.specs.Desks.{IsDesk, hand_of, Fits, FitsDesk, HasRoomFor, left_for, left_at, IsUnderway, NameFits, AccessFits, HasTurned, HasTurnedClosing};
+ghost use Rattle.lane_core.specs.Desks.{IsDesk, hand_of, Fits, FitsDesk, HasRoomFor, left_for, left_at, IsUnderway, NameFits, AccessFits, HasTurned, HasTurnedClosing, PassesOver};
 ghost use Rattle.lane_core.specs.declared.desk.Stage.{Stage};
 ghost use Rattle.lane_core.specs.declared.draining.DrainKind.TheVariants.{Close};
 ghost use Rattle.lane_core.specs.declared.draining.Draining.{Draining};
@@ -557,6 +557,24 @@ impl Desk {
                 Some(held) => waits(held),
                 None => self.refuse(refusal),
             },
+        }
+    }
+
+    /// Answers a command of a lane that was stopped. A send posts an empty parcel, and nothing else
+    /// is done.
+    pub(crate) fn pass_over(&mut self, pool: &SharedPool, command: &Command) -> Turn
+        requires desk { IsDesk pool.now empty_hand self.old }
+        requires room { HasRoomFor self.old (left_for command.now) }
+        requires replies { length self.old.replies.items < vec_capacity self.old.replies }
+        requires fits { FitsDesk self.old command.now }
+        ensures { PassesOver pool.now self.old self.new command.now result }
+    {
+        let Command::Send { name: _, lane } = command else {
+            return self.answer(Reply::Stopped);
+        };
+        match self.post(pool, *lane, Parcel { view: None }) {
+            Some(held) => waits(held),
+            None => self.answer(Reply::Stopped),
         }
     }
 

@@ -1,13 +1,13 @@
 //! A lane, which is stepped over its pool.
 
-ghost use Rattle.std.specs.Prelude.{◌≡◌, ◌≢◌, ℕ, ◌<◌, ◌≤◌, [], false, length, IsSome, IfOk, IfErr, OnErr, Ok, All, vec_capacity};
+ghost use Rattle.std.specs.Prelude.{◌≡◌, ◌≢◌, ℕ, ◌+◌, ◌<◌, ◌≤◌, ◌&&◌, max, nat_le, Bool, [], length, IsSome, IfOk, IfErr, OnErr, Ok, All, vec_capacity};
 ghost use Rattle.pool_law.specs.declared.run.LaneLog.{LaneLog};
 ghost use Rattle.pool_law.specs.Limits.{IsShape};
 ghost use Rattle.pool_table.specs.Seats.{view_of};
 ghost use Rattle.shared_pool.specs.declared.pool.SharedPool.{SharedPool};
 ghost use Rattle.shared_pool.specs.SeatLanes.{lane_of};
 ghost use Rattle.lane_core.specs.declared.lane.Stepped.TheVariants.{Went, Finished};
-ghost use Rattle.lane_core.specs.Lanes.{IsLane, IsFinished, SameLane, number_of};
+ghost use Rattle.lane_core.specs.Lanes.{Heeds, IsLane, IsRunningLane, IsStoppedLane, IsFinished, SameLane, commands_of, noted_by, number_of, replies_of, seat_of};
 ghost use Rattle.lane_core.specs.Opened.{IsFirstSeat, AreFirst, AreParts, IsPlain};
 ghost use Rattle.lane_core.specs.Steps.{HasStepped, at_stage, stepped_of};
 ghost use Rattle.lane_core.specs.Desks.{next_of};
@@ -34,7 +34,7 @@ use std::mem::replace;
 
 /// What a step did.
 pub enum Stepped {
-    /// A note or a reply was added to the log.
+    /// A reply was added, or what one section and one step on a count note, or both.
     Went,
     /// Another seat was at what the lane needs next; it waits.
     Pending(Held),
@@ -51,6 +51,8 @@ pub struct Lane {
     stage: Stage,
     /// For how many lines the gate was asked.
     asked: usize,
+    /// The gate stopped it: no further command is carried out.
+    stopped: bool,
     /// Room for the seats with which the pool is closed.
     spare: Spare,
 }
@@ -67,8 +69,11 @@ impl Lane {
         requires seat { (pool : SharedPool) × IsFirstSeat pool shape.now commands seat }
         ensures lane { IfOk result (λ lane. (pool : SharedPool) →
             IsFirstSeat pool shape.now commands seat → IsLane pool lane) }
-        ensures commands { IfOk result (λ lane. lane.commands ≡ commands) }
-        ensures seat { IfOk result (λ lane. lane.desk.seat ≡ seat) }
+        ensures commands { IfOk result (λ lane. commands_of lane ≡ commands) }
+        ensures seat { IfOk result (λ lane. seat_of lane ≡ seat) }
+        // Nothing was answered or noted, and no gate was asked.
+        ensures blank { IfOk result (λ lane. (replies_of lane ≡ []) × (noted_by lane ≡ [])) }
+        ensures fresh { IfOk result (λ lane. (stops : ℕ → Bool) → Heeds stops lane) }
         ensures err { IfErr result (λ back. back ≡ (commands, seat)) }
     {
         let Ok(parts) = equipped(alloc, &commands, shape, &seat) else {
@@ -99,12 +104,15 @@ impl Lane {
             desk,
             stage: Stage::Ready,
             asked: 0,
+            stopped: false,
             spare,
         })
     }
 
     /// Does the next thing that the lane has to do: at most one section, and at most one step on a
-    /// reference word.
+    /// reference word. The gate is asked once before each command, until it stops the lane. From
+    /// then on each command is answered `Stopped`, and a `send` still posts one empty parcel, so that
+    /// no lane waits for ever; nothing is fetched, and what the lane has bound and counts stays.
     pub fn step<G: Gate>(
         &mut self,
         alloc: Global,
@@ -112,12 +120,14 @@ impl Lane {
         gate: &G,
     ) -> Result<Stepped, AllocError>
         requires lane { IsLane pool.now self.old }
-        requires open { (line : ℕ) → G.stops gate.now (number_of self.old) line ≡ false }
         ensures lane { IsLane pool.now self.new }
         ensures same { SameLane self.old self.new }
         ensures stepped { IfOk result (HasStepped pool.now self.old self.new) }
         ensures finished { IsFinished self.old → result ≡ Ok Finished }
         ensures err { OnErr result (self.new ≡ self.old) }
+        // A reply is `Stopped` exactly where the gate stops the lane at its line or an earlier one.
+        ensures heeds { let stops = G.stops gate.now (number_of self.old) in
+            Heeds stops self.old → Heeds stops self.new }
     {
         match replace(&mut self.stage, Stage::Ready) {
             Stage::Ready => self.begin(alloc, pool, gate),
@@ -138,11 +148,35 @@ impl Lane {
     ) -> Result<Stepped, AllocError>
         requires lane { IsLane pool.now self.old }
         requires ready { self.old.stage ≡ Stage.Ready }
-        requires open { (line : ℕ) → G.stops gate.now (number_of self.old) line ≡ false }
         ensures lane { IsLane pool.now self.new }
         ensures same { SameLane self.old self.new }
         ensures stepped { IfOk result (HasStepped pool.now self.old self.new) }
         ensures err { OnErr result (self.new ≡ self.old) }
+        ensures heeds { let stops = G.stops gate.now (number_of self.old) in
+            Heeds stops self.old → Heeds stops self.new }
+    {
+        let stopped = self.stopped;
+        if stopped {
+            return Ok(self.pass_over(pool));
+        }
+        self.carry_out(alloc, pool, gate)
+    }
+
+    // Begins the next command, unless the gate stops the lane there, or the closing.
+    fn carry_out<G: Gate>(
+        &mut self,
+        alloc: Global,
+        pool: &SharedPool,
+        gate: &G,
+    ) -> Result<Stepped, AllocError>
+        requires lane { IsRunningLane pool.now self.old }
+        requires ready { self.old.stage ≡ Stage.Ready }
+        ensures lane { IsLane pool.now self.new }
+        ensures same { SameLane self.old self.new }
+        ensures stepped { IfOk result (HasStepped pool.now self.old self.new) }
+        ensures err { OnErr result (self.new ≡ self.old) }
+        ensures heeds { let stops = G.stops gate.now (number_of self.old) in
+            Heeds stops self.old → Heeds stops self.new }
     {
         let line = self.desk.replies.len();
         let Some(command) = self.commands.items().get(line) else {
@@ -150,7 +184,12 @@ impl Lane {
             return Ok(self.after(turn));
         };
         let access = prepare(alloc, &self.desk.names, &self.desk.counts, command)?;
-        self.asked = ask_once(gate, lane_of(&self.desk.seat), line, self.asked);
+        let number = lane_of(&self.desk.seat);
+        let stops = stops_at(gate, number, line, &mut self.asked);
+        if stops {
+            self.stopped = true;
+            return Ok(self.pass_over(pool));
+        }
         match access {
             Some(access) => {
                 let turn = self.desk.access(pool, access);
@@ -163,6 +202,24 @@ impl Lane {
         }
     }
 
+    // Passes the next command over, or begins the closing.
+    fn pass_over(&mut self, pool: &SharedPool) -> Stepped
+        requires lane { IsStoppedLane pool.now self.old }
+        requires ready { self.old.stage ≡ Stage.Ready }
+        ensures lane { IsStoppedLane pool.now self.new }
+        ensures same { SameLane self.old self.new }
+        ensures stepped { HasStepped pool.now self.old self.new result }
+        ensures heeds { (stops : ℕ → Bool) → Heeds stops self.old → Heeds stops self.new }
+    {
+        let line = self.desk.replies.len();
+        let Some(command) = self.commands.items().get(line) else {
+            let turn = self.desk.close(pool, Draining::Ask { class: 0 });
+            return self.after(turn);
+        };
+        let turn = self.desk.pass_over(pool, command);
+        self.after(turn)
+    }
+
     // Goes on with the closing, unless it is done.
     fn close(&mut self, pool: &SharedPool, stage: Draining) -> Stepped
         requires lane { IsLane pool.now (at_stage self.old (Stage.Closing stage)) }
@@ -172,6 +229,8 @@ impl Lane {
         ensures stepped { HasStepped pool.now (at_stage self.old (Stage.Closing stage))
             self.new result }
         ensures finished { stage ≡ Draining.Done → result ≡ Finished }
+        ensures heeds { (stops : ℕ → Bool) → Heeds stops (at_stage self.old (Stage.Closing stage)) →
+            Heeds stops self.new }
     {
         match stage {
             Draining::Done => {
@@ -217,7 +276,7 @@ impl Lane {
 
     /// The seat of a lane in any state, with its log lost. What the lane had in hand is spent.
     pub fn abandon(self) -> PoolSeat
-        ensures { result ≡ self.desk.seat }
+        ensures { result ≡ seat_of self }
     {
         let (seat, spare) = self.into_seat();
         spare.end();
@@ -233,6 +292,7 @@ impl Lane {
             desk,
             stage,
             asked: _,
+            stopped: _,
             spare,
         } = self;
         spend(stage);
@@ -242,10 +302,10 @@ impl Lane {
     /// The commands and the log of a lane that has finished, and its seat.
     pub fn into_log(self) -> (CommandList, LaneLog, PoolSeat)
         requires { IsFinished self }
-        ensures commands { result.0 ≡ self.commands }
-        ensures replies { result.1.replies ≡ self.desk.replies.items }
-        ensures notes { result.1.notes ≡ self.desk.notes.items }
-        ensures seat { result.2 ≡ self.desk.seat }
+        ensures commands { result.0 ≡ commands_of self }
+        ensures replies { result.1.replies ≡ replies_of self }
+        ensures notes { result.1.notes ≡ noted_by self }
+        ensures seat { result.2 ≡ seat_of self }
     {
         let (commands, log, seat, spare) = self.into_parts();
         spare.end();
@@ -266,6 +326,7 @@ impl Lane {
             desk,
             stage,
             asked: _,
+            stopped: _,
             spare,
         } = self;
         let Stage::Closing(Draining::Done) = stage else {
@@ -280,26 +341,17 @@ impl Lane {
     }
 }
 
-// Asks the gate for a line, unless it was asked; answers for how many lines it was asked then.
-fn ask_once<G: Gate>(gate: &G, lane: u32, line: usize, asked: usize) -> usize
-    requires open { G.stops gate.now lane line ≡ false }
+// Asks the gate for a line, unless it was asked and let it pass; answers whether it stops the lane.
+fn stops_at<G: Gate>(gate: &G, lane: u32, line: usize, asked: &mut usize) -> bool
     requires few { line < 65536 }
-    ensures { (count : ℕ) → asked ≤ count → line < count → result ≤ count }
+    ensures asked { asked.new ≡ max asked.old (line + 1) }
+    ensures stops { result ≡ nat_le asked.old line && G.stops gate.now lane line }
 {
-    if asked != line {
-        return asked;
+    if *asked > line {
+        return false;
     }
-    ask(gate, lane, line as u32);
-    line + 1
-}
-
-// Asks the gate for a line. Until lanes can be stopped, a gate stops nowhere.
-fn ask<G: Gate>(gate: &G, lane: u32, line: u32)
-    requires { G.stops gate.now lane line ≡ false }
-{
-    let Pass::Go = gate.pass(lane, line) else {
-        unreachable!()
-    };
+    *asked = line + 1;
+    gate.pass(lane, line as u32) == Pass::Stop
 }
 
 // What a lane is made of beside its commands and its seat.

@@ -1,9 +1,9 @@
 //! A run that was played: lanes that have finished, and the pool that they ran over, closed.
 
-ghost use Rattle.std.specs.Prelude.{◌≡◌, ℕ, ◌+◌, ◌<◌, ◌≤◌, [], ◌∷◌, ◌++◌, length, map, All, IfOk, vec_capacity};
+ghost use Rattle.std.specs.Prelude.{◌≡◌, ℕ, Bool, ◌+◌, ◌<◌, ◌≤◌, [], ◌∷◌, ◌++◌, length, map, All, IfOk, vec_capacity};
 ghost use Rattle.shared_pool.specs.Seats.{IsPoolSeat};
-ghost use Rattle.lane_core.specs.Lanes.{IsFinished};
-ghost use Rattle.lane_core.specs.Played.{AreFinished, IsRunOf, ArePartedAs, HasRoom, HasSpare, log_written};
+ghost use Rattle.lane_core.specs.Lanes.{Heeds, IsFinished, number_of};
+ghost use Rattle.lane_core.specs.Played.{AreFinished, IsHeeded, IsRunOf, ArePartedAs, HasRoom, HasSpare, log_written};
 
 use crate::lane::Lane;
 use leak_records::report;
@@ -12,8 +12,9 @@ use shared_pool::{PoolSeat, SharedPool};
 use std::alloc::{AllocError, Global};
 use std::marker::Model;
 
-/// A run that lanes played over a pool. It is legal, and what a lane did before it sent a parcel
-/// stands, at each object, before what the receiver did there after it fetched it.
+/// A run that lanes played over a pool. It is legal, what a lane did before it sent a parcel
+/// stands, at each object, before what the receiver did there after it fetched it, and all steps of
+/// all lanes stand in one order, in which each fits those before it.
 #[derive(Drop)]
 pub struct Played {
     run: Run,
@@ -63,7 +64,10 @@ pub fn finish(
 ) -> Result<Played, AllocError>
     requires shape { shape.now ≡ pool.table.layout.shape }
     requires lanes { AreFinished pool lanes.items }
-    ensures { IfOk result (IsRunOf shape.now lanes.items) }
+    ensures run { IfOk result (IsRunOf shape.now lanes.items) }
+    // A reply is `Stopped` exactly where its lane's gate stops it at its line or at an earlier one.
+    ensures heeds { IfOk result (λ run. (stops : ℕ → ℕ → Bool) →
+        All (λ l. Heeds (stops (number_of l)) l) lanes.items → IsHeeded stops run) }
 {
     let Ok(parted) = room_for(alloc, lanes.len()) else {
         abandon_all(pool, lanes);

@@ -18,6 +18,8 @@ use std::mem::ManuallyDrop;
 use std::process::Abort;
 use std::test::Fail;
 
+mod stops;
+
 struct OpenGate;
 
 impl Gate for OpenGate {
@@ -28,7 +30,7 @@ impl Gate for OpenGate {
     }
 }
 
-// One lane with four handles, over one chunk of 4,194,304 bytes.
+// One lane with four handles, which may send itself one parcel, over one chunk of 4,194,304 bytes.
 const LAYOUT: Layout = Layout {
     shape: Shape {
         page: DEFAULT_PAGE,
@@ -53,9 +55,9 @@ struct Opened {
 fn open(alloc: Global) -> Result<Opened, AllocError>
     ensures layout { IfOk result (λ o. o.pool.layout ≡ LAYOUT) }
     ensures limits { IfOk result (λ o. IsShape LAYOUT.shape) }
-    ensures seat { IfOk result (λ o. IsOpened LAYOUT (0 ∷ []) o.pool 0 o.seat) }
+    ensures seat { IfOk result (λ o. IsOpened LAYOUT (1 ∷ []) o.pool 0 o.seat) }
 {
-    let (pool, mut seats) = SharedPool::new(alloc, LAYOUT, &[0])?;
+    let (pool, mut seats) = SharedPool::new(alloc, LAYOUT, &[1])?;
     let Some(seat) = seats.pop() else {
         unreachable!()
     };
@@ -79,7 +81,7 @@ fn begin(alloc: Global, commands: CommandList) -> Result<Begun, AllocError>
     requires commands { AreFirst LAYOUT.shape commands }
     requires turns { note_bound commands ≤ 100 }
     requires moves { (left_for_all commands).moves ≤ 1 }
-    requires mails { (left_for_all commands).sends 0 ≡ 0 }
+    requires mails { (left_for_all commands).sends 0 ≤ 1 }
     ensures shape { IfOk result (λ b. LAYOUT.shape ≡ b.pool.table.layout.shape) }
     ensures lane { IfOk result (λ b. IsLane b.pool b.lane) }
     ensures number { IfOk result (λ b. number_of b.lane ≡ 0) }
@@ -100,6 +102,7 @@ fn stepped_out(
     alloc: Global,
     pool: &SharedPool,
     lane: &mut Lane,
+    gate: &impl Gate,
 ) -> Result<usize, AllocError>
     requires lane { IsLane pool.now lane.old }
     ensures lane { IsLane pool.now lane.new }
@@ -107,7 +110,7 @@ fn stepped_out(
     ensures finished { OnOk result (IsFinished lane.new) }
 {
     for steps in 0..1000 {
-        match lane.step(alloc, pool, &OpenGate)? {
+        match lane.step(alloc, pool, gate)? {
             Stepped::Went => (),
             Stepped::Finished => return Ok(steps),
             Stepped::Pending(_) | Stepped::Waiting { from: _ } => panic!(rt; "it waits"),
@@ -131,19 +134,20 @@ fn end(alloc: Global, pool: SharedPool, lane: Lane) -> Result<Played, AllocError
     finish(alloc, pool, &LAYOUT.shape, lanes)
 }
 
-// The run of a new lane with these commands, and how many steps went.
+// The run of a new lane with these commands under a gate, and how many steps went.
 fn play(
     rt: &impl Abort,
     alloc: Global,
     commands: CommandList,
+    gate: &impl Gate,
 ) -> Result<(usize, Played), AllocError>
     requires commands { AreFirst LAYOUT.shape commands }
     requires turns { note_bound commands ≤ 100 }
     requires moves { (left_for_all commands).moves ≤ 1 }
-    requires mails { (left_for_all commands).sends 0 ≡ 0 }
+    requires mails { (left_for_all commands).sends 0 ≤ 1 }
 {
     let Begun { pool, mut lane } = begin(alloc, commands)?;
-    match stepped_out(rt, alloc, &pool, &mut lane) {
+    match stepped_out(rt, alloc, &pool, &mut lane, gate) {
         Ok(steps) => Ok((steps, end(alloc, pool, lane)?)),
         Err(AllocError) => {
             leave(pool, lane.abandon());
@@ -152,15 +156,15 @@ fn play(
     }
 }
 
-// Whether lane 0 closed its cache of this class, for which it had taken no region from the arena.
-fn closes(note: &Note, class: usize) -> bool {
+// Whether lane 0 closed its cache of this class, with no region in it, by its note of this number.
+fn closes(note: &Note, class: usize, number: u64) -> bool {
     match note {
         Note::At {
             object,
-            number: 1,
+            number: at,
             did: Did::Close(0),
         } => match object {
-            Object::Cache { lane: 0, class: of } => *of as usize == class,
+            Object::Cache { lane: 0, class: of } => *of as usize == class && *at == number,
             _ => false,
         },
         _ => false,
@@ -177,7 +181,7 @@ fn nothing(alloc: Global) -> CommandList
 fn a_lane_without_commands_closes_its_caches(rt: HostRuntime) -> Result<(), Fail> {
     let alloc = rt.alloc();
     let commands = nothing(alloc);
-    let (steps, played) = play(&rt, alloc, commands)?;
+    let (steps, played) = play(&rt, alloc, commands, &OpenGate)?;
     assert_eq!(rt; steps, 40);
     let run = played.into_run();
     assert_eq!(rt; run.logs.items().len(), 1);
@@ -185,7 +189,7 @@ fn a_lane_without_commands_closes_its_caches(rt: HostRuntime) -> Result<(), Fail
     assert_eq!(rt; log.replies.items().len(), 0);
     assert_eq!(rt; log.notes.items().len(), 40);
     for (class, note) in log.notes.items().iter().enumerate() {
-        assert!(rt; closes(note, class));
+        assert!(rt; closes(note, class, 1));
     }
     assert_eq!(rt; run.chunks.items().len(), 0);
     assert_eq!(rt; run.leaks.items().len(), 0);
@@ -225,7 +229,7 @@ fn smallest(alloc: Global) -> Result<CommandList, AllocError>
 fn a_root_lives_and_ends(rt: HostRuntime) -> Result<(), Fail> {
     let alloc = rt.alloc();
     let commands = smallest(alloc)?;
-    let (steps, played) = play(&rt, alloc, commands)?;
+    let (steps, played) = play(&rt, alloc, commands, &OpenGate)?;
     assert_eq!(rt; steps, 4 + 1 + 1 + 4 + 40 + 2);
     let run = played.into_run();
     assert_eq!(rt; run.logs.items().len(), 1);

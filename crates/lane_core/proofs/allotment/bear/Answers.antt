@@ -1,4 +1,4 @@
-use Rattle.std.proofs.Common.{◌-◌, subst, arith}
+use Rattle.std.proofs.Common.{subst, arith}
 use Rattle.std.specs.Prelude.{Option}
 use Rattle.pool_law.specs.declared.note.RefDid.TheVariants.{Born}
 use Rattle.pool_law.specs.declared.report.Watch.{Watch}
@@ -34,9 +34,9 @@ returns c =
     let pool = c.args.pool.now in let old = c.args.seat.now in let new = c.birth-number.new.seat in let call =
     c.birth-number in let root = call.result.1 in let last = c.next-watch.new.self in
     let noted = subst (λ (x : Option Watch). IsNotedWith pool old new root call.result.0 (birth root c.args.region.id x)
-    Born ((view_of old).moves - 1)) c.next-watch.ensures.watch call.ensures.did in
+    Born (view_of old).moves) c.next-watch.ensures.watch call.ensures.did in
     root_born pool old new c.args.region.id.class call.ensures.seat call.ensures.same c.args.handle c.args.region root
     call.result.0 c.args.size c.args.sampler.now last c.at.result c.to.result c.args.log.now c.write-2.new.log
     (wrote_two c.args.log.now c.write.new.log c.write-2.new.log c.at.result c.to.result c.write.ensures
-    c.write-2.ensures) c.requires.may c.requires.moves
+    c.write-2.ensures) c.requires.may
     noted call.ensures.root.0 call.ensures.root.1 c.next-watch.ensures.births c.at.ensures c.to.ensures

@@ -13,9 +13,11 @@ use Rattle.shared_pool.specs.Seated.{AreDone, parts_in}
 use Rattle.shared_pool.specs.Seats.{IsPoolSeat}
 use Rattle.lane_core.specs.declared.lane.Lane.{Lane}
 use Rattle.lane_core.specs.Played.{IsRunOf}
+use Rattle.lane_core.proofs.EitherLane.{lane_desk}
 use Rattle.lane_core.proofs.PlayedRoom.{All-moved}
 use Rattle.lane_core.proofs.PlayedSeats.{seats-done}
 use Rattle.lane_core.proofs.PlayedRun.{is-played}
+use Rattle.lane_core.proofs.PlayedStops.{are-heeded}
 use Rattle.lane_core.proofs.played.finish.Goals as goal
 
 pub close-requires : goal.close-requires
@@ -34,7 +36,8 @@ abandon-requires c =
           (All-moved (λ s. IsPoolSeat c.args.pool s) (λ (l : Lane). l.desk.seat) c.args.lanes.items []
           c.in-Err.seats.items refl
           (append-nil c.in-Err.seats.items ∙ back.1 ∙ c.part-commands.ensures.seats)
-          (λ k d lt. (c.requires.lanes.each k (omega (arith, lt, c.requires.lanes.many)) d).lane.desk.seat));
+          (λ k d lt.
+          (lane_desk c.args.pool _ (c.requires.lanes.each k (omega (arith, lt, c.requires.lanes.many)) d).lane).seat));
     }
 
 pub invariant_of-result : goal.invariant_of-result
@@ -58,3 +61,11 @@ invariant_of-result c =
     (subst (λ ss. end.chunks ≡ ends_from shape (logs_in (parts_in ss)) (below shape.arenas)) seats
     c.in-Ok-close.ensures.chunks)
     c.in_ok-leaks.ensures
+
+pub returns-clause-run : goal.returns-clause-run
+returns-clause-run c = first_of (search rules, grind (arith, common_steps))
+
+pub returns-clause-heeds : goal.returns-clause-heeds
+returns-clause-heeds c =
+    are-heeded c.args.pool c.args.lanes.items c.args.shape.now _ c.requires.shape c.requires.lanes
+    (returns-clause-run c)

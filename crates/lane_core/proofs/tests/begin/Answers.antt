@@ -12,6 +12,7 @@ use Rattle.shared_pool.specs.declared.home.Home.{Home}
 use Rattle.shared_pool.specs.declared.pool.SharedPool.{SharedPool}
 use Rattle.shared_pool.specs.Opening.{IsOpened}
 use Rattle.shared_pool.specs.SeatLanes.{lane_of}
+use Rattle.shared_pool.specs.Wearing.{IsShort}
 use Rattle.lane_core.specs.declared.tests.TheConstants.{LAYOUT}
 use Rattle.pool_law.specs.Bounds.{note_bound}
 use Rattle.lane_core.specs.Lanes.{left_for_all}
@@ -24,10 +25,11 @@ same_shape pool is = sym (ap (λ (l : Layout). l.shape) (pool.same_layout ∙ is
 -- the seat with which the lane begins
 first_seat : {G : Ghosts Home Noted} (pool : SharedPool) (cs : List Command) (s : PoolSeat Home G)
     → pool.layout ≡ LAYOUT → IsShape LAYOUT.shape → note_bound cs ≤ 100 → (left_for_all cs).moves ≤ 1
-    → (left_for_all cs).sends 0 ≡ 0 → IsOpened LAYOUT (0 ∷ []) pool 0 s → IsFirstSeat pool LAYOUT.shape cs s
-first_seat pool cs s is limits turns moves none o = record {
+    → (left_for_all cs).sends 0 ≤ 1 → IsOpened LAYOUT (1 ∷ []) pool 0 s → IsFirstSeat pool LAYOUT.shape cs s
+first_seat pool cs s is limits turns moves sends o = record {
   shape_is = same_shape pool is;
   limits = limits;
+  short = subst IsShort (sym (pool.same_layout ∙ is)) (omega arith);
   seat_is = o.seat;
   notes = o.notes;
   turns = subst (λ (n : ℕ). note_bound cs ≤ n) (sym o.turns) turns;
@@ -35,9 +37,9 @@ first_seat pool cs s is limits turns moves none o = record {
   mails = λ to below. IfSome_then (view_of s).setting o.mail_is (λ x mail.
       let number : lane_of s ≡ 0 = ap (λ n. unwrap_or n 0) o.number in
       let first : to ≡ 0 = omega (arith, below) in (
-        0,
+        1,
         (λ j. slice_get (mail j) (number j * 1 + first j)),
-        subst (λ (t : ℕ). (left_for_all cs).sends t ≤ 0) (sym first) (omega (arith, none)),
+        subst (λ (t : ℕ). (left_for_all cs).sends t ≤ 1) (sym first) sends,
       ));
 }
 

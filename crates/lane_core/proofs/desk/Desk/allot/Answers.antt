@@ -27,8 +27,8 @@ allot-allots-requires-clause-may c =
     may_allot c.args.pool.now c.args.self.now c.args.class c.args.stage c.requires.desk c.requires.room
     c.requires.fits.1
 
-pub allot-allots-requires-clause-moves : goal.allot-allots-requires-clause-moves
-allot-allots-requires-clause-moves c = c.requires.room.moves
+pub allot-allots-requires-clause-short : goal.allot-allots-requires-clause-short
+allot-allots-requires-clause-short c = c.requires.desk.short
 
 pub allot-allots-requires-clause-shape : goal.allot-allots-requires-clause-shape
 allot-allots-requires-clause-shape c = c.requires.desk.shape
