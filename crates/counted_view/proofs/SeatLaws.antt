@@ -87,8 +87,8 @@ module _ {G : Ghosts Home Noted} (root : RootId) (old new : PoolSeat Home G) whe
   lost_by : (token : Option EndToken) (times : ℕ) → IsReleasedAs (release_of token) root old new
       → Counts root (times + 1) (view_of old) → Counts root times (view_of new)
   lost_by None times did counts =
-      counts_ref (view_of old) (view_of new) root steps.Kept (view_of old).moves (times + 1) times (ap (λ m. m.0) did)
-      (omega arith) counts
+      counts_ref (view_of old) (view_of new) root steps.Kept ((view_of old).moves + 1) (times + 1) times
+      (ap (λ m. m.0) did) (omega arith) counts
   lost_by (Some token) times did counts =
       counts_ref (view_of old) (view_of new) root steps.Ended (view_of old).moves (times + 1) times
       (ap (λ m. m.0) did.2) (omega arith) counts

@@ -2,6 +2,7 @@
 use Rattle.std.proofs.Common.{◌≡◌, ℕ, ◌+◌, ◌*◌, ◌<◌, List, [], ◌∷◌, Option, Some, None, length, map, get_or, sym, ap, ◌∙◌, subst, arith}
 use Rattle.std.specs.Prelude.{All, IfSome, slice_get, unwrap_or}
 use Rattle.std.proofs.lemmas.List.{get_or-map, length-map}
+use Rattle.std.proofs.lemmas.Nat.{mul-le}
 use Rattle.step_law.specs.Settings.{Setting}
 use Rattle.step_law.specs.declared.Told.{Ghosts}
 use Rattle.pool_law.specs.declared.note.Noted.{Noted}
@@ -16,11 +17,13 @@ use Rattle.shared_pool.specs.Opening.{IsOpened, AreOpened}
 use Rattle.shared_pool.specs.Quotas.{posts}
 use Rattle.shared_pool.specs.SeatLanes.{lane_of}
 use Rattle.shared_pool.specs.Seated.{HasNothing, IsDone, AreDone}
+use Rattle.shared_pool.specs.Wearing.{IsShort}
 use Rattle.lane_core.specs.Hands.{empty_hand, IsHeld}
 use Rattle.lane_core.proofs.OpenedLaws.{IsHeld-empty}
 use Rattle.pool_bench.specs.declared.runner.Runner.{Runner}
 use Rattle.pool_bench.specs.declared.words.Plan.{Plan}
 use Rattle.pool_bench.specs.Mails.{HasMail, IsMailFor, next_lane}
+use Rattle.pool_bench.specs.Plans.{IsPlan, IsLayoutOf}
 use Rattle.pool_bench.specs.Works.{IsPaid, MayRun, HaveRun, block_turns, block_moves}
 
 nothing_held : (v : SeatView) → IsHeld empty_hand v → HasNothing v
@@ -44,14 +47,23 @@ module _ (v : SeatView) (own : v.own.notes ≡ []) (alone : v.others ≡ []) whe
   new_paid : IsPaid v
   new_paid = subst IsPaid bare_is bare_paid
 
+-- the pool of a plan has too few turns for a place to wear out
+pub short_plan : (p : Plan) (l : Layout) → IsPlan p → IsLayoutOf p l → IsShort l
+short_plan p l plan of =
+    let threads = plan.threads in let blocks = plan.blocks in let lanes = of.lanes in let turns = of.turns in
+    let most = mul-le l.shape.lanes l.turns 16 (block_turns * 8000000) (omega (arith, threads, lanes))
+    (omega (arith, blocks, turns)) in
+    omega (arith, most)
+
 module _ {G : Ghosts Home Noted} (pool : SharedPool) (l : Layout) (mail : List ℕ) where
   -- a seat that was opened may work
-  pub may_run : (blocks lane : ℕ) (s : PoolSeat Home G) → l.moves ≡ block_moves * blocks
+  pub may_run : (blocks lane : ℕ) (s : PoolSeat Home G) → IsShort pool.table.layout → l.moves ≡ block_moves * blocks
       → l.turns ≡ block_turns * blocks → IsOpened l mail pool lane s → MayRun pool blocks s
-  may_run blocks lane s moves turns opened = record {
+  may_run blocks lane s short moves turns opened = record {
     seat = opened.seat;
     held = IsHeld-empty (view_of s) opened.notes opened.seat.alone;
     paid = new_paid (view_of s) opened.notes opened.seat.alone;
+    short = short;
     turns_left = (let a = opened.turns in omega (arith, a, turns));
     moves_left = (let a = opened.moves in omega (arith, a, moves));
   }
@@ -122,10 +134,10 @@ module _ (pool : SharedPool) (l : Layout) (mail : List ℕ) (runners : List Runn
         subst (λ s. IsOpened l mail pool k s) (sym (seat_at k d lt))
         (opened.each k (subst (λ (n : ℕ). k < n) many lt) d.seat)
 
-    pub all_may_run : (blocks : ℕ) → l.moves ≡ block_moves * blocks → l.turns ≡ block_turns * blocks
-        → All (λ (q : Runner). MayRun pool blocks q.seat) runners
-    all_may_run blocks moves turns =
-        λ k d lt. may_run pool l mail blocks k (get_or runners k d).seat moves turns (opened_at k d lt)
+    pub all_may_run : (blocks : ℕ) → IsShort pool.table.layout → l.moves ≡ block_moves * blocks
+        → l.turns ≡ block_turns * blocks → All (λ (q : Runner). MayRun pool blocks q.seat) runners
+    all_may_run blocks short moves turns =
+        λ k d lt. may_run pool l mail blocks k (get_or runners k d).seat short moves turns (opened_at k d lt)
 
     pub all_have_mail : (p : Plan) → IsMailFor p mail → l.shape.lanes ≡ p.threads
         → pool.table.layout.shape.lanes ≡ p.threads → All (λ (q : Runner). HasMail pool p.mail q.seat) runners

@@ -48,6 +48,7 @@ module _ {G : Ghosts Home Noted} (pool : SharedPool) where
     seat = goes.seat;
     held = goes.held;
     paid = goes.paid;
+    short = works.short;
     turns_left = (let x = works.turns_left in let y = goes.turns_left in omega (arith, x, y, le));
     moves_left = (let x = works.moves_left in let y = goes.moves_left in omega (arith, x, y, lf));
   }
@@ -237,12 +238,12 @@ loss_paid v w r did gain loss grows has paid root = let a = go (same_root r root
 pub goes_release : {G : Ghosts Home Noted} (pool : SharedPool) (old new : PoolSeat Home G) → IsPoolSeat pool new
     → (t m : ℕ) → Works pool empty_hand t m old → (r : RootId) (did : RefDid) (after : Hand) → ref_gain did ≡ 0
     → ref_loss did ≡ 1 → Carries (lane_in (view_of old)) empty_hand after (Ref r did ∷ []) →
-    HasCount r (view_of old) → HasView new (with_ref (view_of old) r did (view_of old).moves)
-    → Goes pool after 1 0 old new
-goes_release pool old new is t m works r did after gain loss carries has made =
+    HasCount r (view_of old) → (moves : ℕ) → HasView new (with_ref (view_of old) r did moves)
+    → (view_of old).moves ≤ moves → Goes pool after 1 0 old new
+goes_release pool old new is t m works r did after gain loss carries has moves made most =
     let v = view_of old in let w = view_of new in
-    let grows : Grows v w (Ref r did ∷ []) 0 = grows_ref pool old new works.seat is r did v.moves 0 made
-    (omega arith) in
+    let grows : Grows v w (Ref r did ∷ []) 0 = grows_ref pool old new works.seat is r did moves 0 made
+    (omega (arith, most)) in
     record {
       seat = is;
       held = held_on v w (Ref r did ∷ []) 0 empty_hand after grows carries works.held;
@@ -254,9 +255,9 @@ goes_release pool old new is t m works r did after gain loss carries has made =
 
 -- a step on a count sends nothing
 pub ref_sends : {G : Ghosts Home Noted} (pool : SharedPool) (old new : PoolSeat Home G) → IsPoolSeat pool old
-    → IsPoolSeat pool new → (r : RootId) (did : RefDid) → HasView new (with_ref (view_of old) r did (view_of old).moves)
-    → Sends 0 (view_of old) (view_of new)
-ref_sends pool old new was is r did made =
+    → IsPoolSeat pool new → (r : RootId) (did : RefDid) (moves : ℕ) → HasView new (with_ref (view_of old) r did moves)
+    → (view_of old).moves ≤ moves → Sends 0 (view_of old) (view_of new)
+ref_sends pool old new was is r did moves made most =
     let v = view_of old in
-    sends_grown v (view_of new) (Ref r did ∷ []) 0 (grows_ref pool old new was is r did v.moves 0 made (omega arith)) 0
-    (λ to. omega arith)
+    sends_grown v (view_of new) (Ref r did ∷ []) 0
+    (grows_ref pool old new was is r did moves 0 made (omega (arith, most))) 0 (λ to. omega arith)

@@ -10,6 +10,7 @@ use Rattle.pool_table.specs.Seats.{view_of}
 use Rattle.shared_pool.specs.declared.home.Home.{Home}
 use Rattle.shared_pool.specs.declared.pool.SharedPool.{SharedPool}
 use Rattle.shared_pool.specs.Seats.{IsPoolSeat}
+use Rattle.shared_pool.specs.Wearing.{IsShort}
 use Rattle.lane_core.specs.Counting.{one_for}
 use Rattle.lane_core.specs.Hands.{Hand, empty_hand, IsHeld}
 use Rattle.pool_bench.specs.declared.runner.Runner.{Runner}
@@ -51,6 +52,8 @@ module _ {G : Ghosts Home Noted} where
     pub seat : IsPoolSeat pool s
     pub held : IsHeld hand (view_of s)
     pub paid : IsPaid (view_of s)
+    -- the pool's places can't wear out
+    pub short : IsShort pool.table.layout
     pub turns_left : turns ≤ (view_of s).turns
     pub moves_left : moves ≤ (view_of s).moves
 

@@ -20,6 +20,9 @@ loop-init g c = (
   ),
 )
 
+pub allot-allots-requires-clause-short : goal.allot-allots-requires-clause-short
+allot-allots-requires-clause-short g c = c.requires.works.short
+
 pub loop-preserved-in-More : goal.loop-preserved-in-More
 loop-preserved-in-More g c =
     let pool = c.args.pool.now in let call = c.allot-allots in let first = c.new-sampler.result in let mid =

@@ -1,4 +1,4 @@
-use Rattle.std.proofs.Common.{[], ◌∷◌, sym, subst, refl, arith}
+use Rattle.std.proofs.Common.{◌+◌, [], ◌∷◌, sym, subst, refl, arith}
 use Rattle.pool_law.specs.declared.id.RootId.{RootId}
 use Rattle.pool_law.specs.declared.note.RefDid.TheVariants.{Kept, Ended}
 use Rattle.pool_table.specs.Seats.{view_of}
@@ -19,7 +19,8 @@ end_root-requires-clause-works g c =
     subst (λ (r : RootId). Works pool (with_token r) 5 0 new) (sym did.0)
     (works_after pool empty_hand (with_token root) 6 0 1 0 5 0 old new c.requires.works
     (goes_release pool old new c.release.ensures.seat 6 0 c.requires.works root Ended (with_token root) refl refl
-    (ended_carries (lane_in (view_of old)) root) c.requires.counts did.2)
+    (ended_carries (lane_in (view_of old)) root) c.requires.counts
+    (view_of old).moves did.2 (omega arith))
     (omega arith) (omega arith))
 
 pub returns-in-Kept-clause-goes : goal.returns-in-Kept-clause-goes
@@ -29,14 +30,14 @@ returns-in-Kept-clause-goes g c =
     goes_more pool empty_hand 1 0 6 0 old new
     (goes_release pool old new c.release.ensures.seat 6 0 c.requires.works root Kept empty_hand refl refl
     (ref_carries (lane_in (view_of old)) empty_hand root Kept refl refl refl) c.requires.counts
-    c.in-Kept.ensures.did)
+    ((view_of old).moves + 1) c.in-Kept.ensures.did (omega arith))
     (omega arith) (omega arith)
 
 pub returns-in-Kept-clause-recounted : goal.returns-in-Kept-clause-recounted
 returns-in-Kept-clause-recounted g c =
     let old = c.args.runner.now.seat in
     ref_recounted c.args.pool.now old c.release.new.seat c.requires.works.seat c.release.ensures.seat c.args.root Kept
-    (view_of old).moves 0 c.in-Kept.ensures.did (omega arith) [] (c.args.root ∷ []) (λ root. omega arith)
+    ((view_of old).moves + 1) 0 c.in-Kept.ensures.did (omega arith) [] (c.args.root ∷ []) (λ root. omega arith)
 
 pub returns-in-Ended-clause-recounted : goal.returns-in-Ended-clause-recounted
 returns-in-Ended-clause-recounted g c =
@@ -48,13 +49,14 @@ returns-in-Ended-clause-recounted g c =
 
 pub returns-in-Kept-clause-sends : goal.returns-in-Kept-clause-sends
 returns-in-Kept-clause-sends g c =
-    ref_sends c.args.pool.now c.args.runner.now.seat c.release.new.seat c.requires.works.seat c.release.ensures.seat
-    c.args.root Kept c.in-Kept.ensures.did
+    let old = c.args.runner.now.seat in
+    ref_sends c.args.pool.now old c.release.new.seat c.requires.works.seat c.release.ensures.seat c.args.root Kept
+    ((view_of old).moves + 1) c.in-Kept.ensures.did (omega arith)
 
 pub returns-in-Ended-clause-sends : goal.returns-in-Ended-clause-sends
 returns-in-Ended-clause-sends g c =
     let old = c.args.runner.now.seat in let mid = c.release.new.seat in
     sends_on 0 0 (view_of old) (view_of mid) (view_of c.end_root.new.runner.seat)
     (ref_sends c.args.pool.now old mid c.requires.works.seat c.release.ensures.seat c.args.root Ended
-    c.in-Ended.ensures.did.2)
+    (view_of old).moves c.in-Ended.ensures.did.2 (omega arith))
     c.end_root.ensures.sends

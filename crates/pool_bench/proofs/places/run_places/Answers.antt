@@ -8,7 +8,14 @@ pub loop-done-init : goal.loop-done-init
 loop-done-init g c =
     let seat = c.args.runner.now.seat in let may = c.requires.may in (
       omega arith,
-      record { seat = may.seat; held = may.held; paid = may.paid; turns_left = omega arith; moves_left = omega arith },
+      record {
+        seat = may.seat;
+        held = may.held;
+        paid = may.paid;
+        short = may.short;
+        turns_left = omega arith;
+        moves_left = omega arith;
+      },
       refl,
       subst (λ (xs : List RootId). Holds xs (view_of seat)) (sym c.clear.ensures.items) may.paid,
       omega arith,
