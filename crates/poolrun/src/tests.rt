@@ -1,4 +1,4 @@
-//! Runs in memory: what they write, and what they answer where words, a text or an end fails.
+//! Runs in memory: what they write, and what they answer where words or a text fails.
 use run_check::check_run;
 use std::io::{self, ErrorKind, Read, Write};
 use std::process::Abort;
@@ -189,12 +189,6 @@ fn reads_the_words_at_each_bound(rt: HostRuntime) -> Result<(), Fail> {
 fn names_each_refusal(rt: HostRuntime) -> Result<(), Fail> {
     let rows = [
         ("--order 12", SMALLEST, Status::Words, "refused words\n"),
-        (
-            "",
-            r#"[[["alloc","a",24],["se"#,
-            Status::Trace,
-            "refused syntax\n",
-        ),
         ("", "[]", Status::Trace, "refused shape 0.0\n"),
     ];
     for (words, text, status, want) in rows {
@@ -205,37 +199,6 @@ fn names_each_refusal(rt: HostRuntime) -> Result<(), Fail> {
         let line = line_of(rt.alloc(), &outcome)?;
         assert_eq!(rt; line.items(), want.as_bytes());
         assert!(rt; sink.got().is_empty());
-    }
-    Ok(())
-}
-
-#[test]
-fn tells_a_read_that_failed(rt: HostRuntime) -> Result<(), Fail> {
-    let mut source = ListSource::new(rt.alloc(), SMALLEST.as_bytes(), 1000, &[2])?;
-    let mut sink = ListSink::new(rt.alloc(), 1000, 1000, &[])?;
-    let outcome = play(&rt, "", &mut source, &mut sink)?;
-    assert_eq!(rt; outcome.status, Status::ReadFault);
-    assert_eq!(rt;
-        line_of(rt.alloc(), &outcome)?.items(),
-        "read fault\n".as_bytes()
-    );
-    assert!(rt; sink.got().is_empty());
-    Ok(())
-}
-
-#[test]
-fn tells_a_write_that_failed(rt: HostRuntime) -> Result<(), Fail> {
-    let rows = [(1000, 10, 2, "0.0 alloc "), (12, 1000, 9, "0.0 alloc ok")];
-    for (room, most, fails, want) in rows {
-        let mut source = ListSource::new(rt.alloc(), SMALLEST.as_bytes(), 5, &[])?;
-        let mut sink = ListSink::new(rt.alloc(), room, most, &[fails])?;
-        let outcome = play(&rt, "", &mut source, &mut sink)?;
-        assert_eq!(rt; outcome.status, Status::WriteFault);
-        assert_eq!(rt;
-            line_of(rt.alloc(), &outcome)?.items(),
-            "write fault\n".as_bytes()
-        );
-        assert_eq!(rt; sink.got(), want.as_bytes());
     }
     Ok(())
 }

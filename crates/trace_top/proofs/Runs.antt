@@ -1,6 +1,7 @@
 -- Lanes that are stepped, and lanes that are made.
-use Rattle.std.proofs.Common.{◌≡◌, ◌<◌, ◌≤◌, ⊎_elim, ℕ, zero, suc, ◌+◌, ◌*◌, List, [], ◌∷◌, get_or, set, length, map, Some, refl, sym, ap, ◌∙◌, subst, arith}
+use Rattle.std.proofs.Common.{◌≡◌, ◌<◌, ◌≤◌, ⊎_elim, ℕ, Bool, zero, suc, ◌+◌, ◌*◌, ◌^◌, List, [], ◌∷◌, get_or, set, length, map, Some, refl, sym, ap, ◌∙◌, subst, arith}
 use Rattle.std.specs.Prelude.{All, slice_get, unwrap_or}
+use Rattle.std.proofs.lemmas.Nat.{row_fits}
 use Rattle.std.proofs.lemmas.Option.{IfSome_then, get_or_from_slice_get, slice_get-get_or, slice_get_within}
 use Rattle.step_law.specs.declared.Told.{Ghosts}
 use Rattle.pool_law.specs.declared.command.Command.{Command}
@@ -17,13 +18,14 @@ use Rattle.shared_pool.specs.declared.home.Home.{Home}
 use Rattle.shared_pool.specs.declared.pool.SharedPool.{SharedPool}
 use Rattle.shared_pool.specs.Opening.{AreOpened, IsOpened}
 use Rattle.shared_pool.specs.SeatLanes.{lane_of}
+use Rattle.shared_pool.specs.Wearing.{IsShort}
 use Rattle.lane_core.specs.declared.lane.Lane.{Lane}
-use Rattle.lane_core.specs.Lanes.{IsLane, SameLane, left_for_all}
+use Rattle.lane_core.specs.Lanes.{Heeds, IsLane, SameLane, left_for_all, number_of}
 use Rattle.lane_core.specs.Opened.{IsFirstSeat, IsPlain}
 use Rattle.lane_core.specs.Played.{AreFinished}
 use Rattle.trace_top.specs.Needs.{AreSent, HasRoomFor}
 use Rattle.trace_top.specs.Standing.{AllFinished, AllOf, AllRun, AreLanes, AreReady, RunsLane}
-use Rattle.trace_top.proofs.Places.{at_all, log_found, same_some, set_cases}
+use Rattle.trace_top.proofs.Places.{all_at, at_all, log_found, same_some, set_cases}
 
 -- one of the lanes is another one of the pool
 pub lanes_set : (pool : SharedPool) (lanes : List Lane) (i : ℕ) (l : Lane) → AreLanes pool lanes → IsLane pool l
@@ -34,30 +36,45 @@ lanes_set pool lanes i l all is j x e =
     (λ before. all j x before)
     (set_cases lanes i l j x e)
 
-pub runs_later : (trace : List (List Command)) (pool : SharedPool) (i : ℕ) (old new : Lane) → RunsLane trace pool i old
-    → IsLane pool new → SameLane old new → RunsLane trace pool i new
-runs_later trace pool i old new runs is same = record {
+-- a lane that was stepped runs what it ran
+pub runs_later : (trace : List (List Command)) (stops : ℕ → ℕ → Bool) (pool : SharedPool) (i : ℕ) (old new : Lane)
+    → RunsLane trace stops pool i old → IsLane pool new → SameLane old new
+    → (Heeds (stops (number_of old)) old → Heeds (stops (number_of old)) new)
+    → RunsLane trace stops pool i new
+runs_later trace stops pool i old new runs is same heeds = record {
   number = same.number ∙ runs.number;
   lane = is;
   commands = runs.commands ∙ ap Some (sym same.commands);
+  heeds =
+      subst (λ (n : ℕ). Heeds (stops n) new) runs.number
+      (heeds (subst (λ (n : ℕ). Heeds (stops n) old) (sym runs.number) runs.heeds));
 }
 
 -- one of the lanes was stepped
-pub runs_set : (trace : List (List Command)) (pool : SharedPool) (lanes : List Lane) (i : ℕ) (old new : Lane)
-    → slice_get lanes i ≡ Some old → IsLane pool new → SameLane old new → AllRun trace pool lanes
-    → AllRun trace pool (set lanes i new)
-runs_set trace pool lanes i old new stood is same all j x e =
+pub runs_set : (trace : List (List Command)) (stops : ℕ → ℕ → Bool) (pool : SharedPool) (lanes : List Lane) (i : ℕ)
+    (old new : Lane)
+    → slice_get lanes i ≡ Some old → IsLane pool new → SameLane old new
+    → (Heeds (stops (number_of old)) old → Heeds (stops (number_of old)) new)
+    → AllRun trace stops pool lanes → AllRun trace stops pool (set lanes i new)
+runs_set trace stops pool lanes i old new stood is same heeds all j x e =
     ⊎_elim
     (λ (h : (j ≡ i) × (new ≡ x)).
-    subst (λ (p : ℕ × Lane). RunsLane trace pool p.0 p.1) (λ k. (sym h.0 k, h.1 k))
-    (runs_later trace pool i old new (all i old stood) is same))
+    subst (λ (p : ℕ × Lane). RunsLane trace stops pool p.0 p.1) (λ k. (sym h.0 k, h.1 k))
+    (runs_later trace stops pool i old new (all i old stood) is same heeds))
     (λ before. all j x before)
     (set_cases lanes i new j x e)
 
 -- lanes that run a trace are lanes of the pool
-pub are_lanes : (trace : List (List Command)) (pool : SharedPool) (lanes : List Lane) → AllRun trace pool lanes
-    → AreLanes pool lanes
-are_lanes trace pool lanes all i l e = (all i l e).lane
+pub are_lanes : (trace : List (List Command)) (stops : ℕ → ℕ → Bool) (pool : SharedPool) (lanes : List Lane)
+    → AllRun trace stops pool lanes → AreLanes pool lanes
+are_lanes trace stops pool lanes all i l e = (all i l e).lane
+
+-- and each heeded the gate, by its number
+pub all_heed : (trace : List (List Command)) (stops : ℕ → ℕ → Bool) (pool : SharedPool) (lanes : List Lane)
+    → AllRun trace stops pool lanes → All (λ (l : Lane). Heeds (stops (number_of l)) l) lanes
+all_heed trace stops pool lanes all =
+    all_at (λ (l : Lane). Heeds (stops (number_of l)) l) lanes
+    (λ i l e. let r = all i l e in subst (λ (n : ℕ). Heeds (stops n) l) (sym r.number) r.heeds)
 
 -- as many lanes as the trace has, each with the commands of its place, have the commands of the trace
 pub same_commands : (trace : List (List Command)) (lanes : List Lane) → length lanes ≡ length trace
@@ -71,10 +88,10 @@ same_commands (cs ∷ trace) (l ∷ ls) len at =
     ∷ same_commands trace ls (omega (arith, len)) (λ i x e. at (suc i) x e) k
 
 -- lanes that have finished may be closed with their pool
-pub are_finished : (trace : List (List Command)) (pool : SharedPool) (lanes : List Lane)
-    → length lanes ≡ pool.table.layout.shape.lanes → AllRun trace pool lanes → AllFinished lanes
+pub are_finished : (trace : List (List Command)) (stops : ℕ → ℕ → Bool) (pool : SharedPool) (lanes : List Lane)
+    → length lanes ≡ pool.table.layout.shape.lanes → AllRun trace stops pool lanes → AllFinished lanes
     → AreFinished pool lanes
-are_finished trace pool lanes many runs done = record {
+are_finished trace stops pool lanes many runs done = record {
   many = many;
   each = λ k below d.
       let stands = slice_get-get_or lanes k d (omega (arith, below, many)) in
@@ -82,16 +99,24 @@ are_finished trace pool lanes many runs done = record {
       record { lane = runs_k.lane; number_is = runs_k.number; finished = done k (get_or lanes k d) stands };
 }
 
+-- the turns of so few lanes are fewer than the names of a root place
+pub short_for : (layout : Layout) → IsShape layout.shape → layout.turns ≤ 2 ^ 24 → IsShort layout
+short_for layout limits few =
+    let most = limits.lanes_most in
+    let all = row_fits layout.shape.lanes layout.turns 17 (2 ^ 24) (omega (arith, most)) few in
+    omega (arith, all)
+
 module _ {G : Ghosts Home Noted} where
   -- the seat of a lane of the trace, before the lane is made
   first_seat : (trace : List (List Command)) (shape : Shape) (layout : Layout) (mail : List ℕ) (pool : SharedPool)
       (i : ℕ) (cs : List Command) (s : PoolSeat Home G)
-      → IsShape shape → shape ≡ pool.table.layout.shape → shape.lanes ≡ length trace
+      → IsShape shape → shape ≡ pool.table.layout.shape → IsShort pool.table.layout → shape.lanes ≡ length trace
       → HasRoomFor layout cs → AreSent trace mail → slice_get trace i ≡ Some cs
       → IsOpened layout mail pool i s → IsFirstSeat pool shape cs s
-  first_seat trace shape layout mail pool i cs s limits same lanes room sent found o = record {
+  first_seat trace shape layout mail pool i cs s limits same short lanes room sent found o = record {
     shape_is = same;
     limits = limits;
+    short = short;
     seat_is = o.seat;
     notes = o.notes;
     turns = subst (λ (n : ℕ). note_bound cs ≤ n) (sym o.turns) room.turns;
@@ -110,12 +135,13 @@ module _ {G : Ghosts Home Noted} where
   -- all commands with their seats
   pub ready : (trace : List (List Command)) (shape : Shape) (layout : Layout) (mail : List ℕ) (pool : SharedPool)
       (seats : List (PoolSeat Home G))
-      → IsShape shape → shape ≡ pool.table.layout.shape → shape.lanes ≡ length trace → layout.shape ≡ shape
+      → IsShape shape → shape ≡ pool.table.layout.shape → IsShort pool.table.layout → shape.lanes ≡ length trace
+      → layout.shape ≡ shape
       → ((lane : ℕ) → AreCommands shape (of_lane trace lane)) → All (All IsPlain) trace
       → ((lane : ℕ) → lane < length trace → HasRoomFor layout (of_lane trace lane)) → AreSent trace mail
       → AreOpened layout mail pool seats → AreReady pool shape trace seats
-  ready trace shape layout mail pool seats limits same lanes layout_is commands plain room sent opened i cs s found
-      stands =
+  ready trace shape layout mail pool seats limits same short lanes layout_is commands plain room sent opened i cs s
+      found stands =
       let here = slice_get_within trace i cs found in
       let are = log_found trace i cs found in
       let below : i < layout.shape.lanes =
@@ -126,7 +152,7 @@ module _ {G : Ghosts Home Noted} where
           commands_are = subst (AreCommands shape) are (commands i);
           plain = at_all (All IsPlain) trace plain i cs found;
         };
-        seat_is = first_seat trace shape layout mail pool i cs s limits same lanes
+        seat_is = first_seat trace shape layout mail pool i cs s limits same short lanes
             (subst (HasRoomFor layout) are (room i here)) sent found o;
         number = ap (λ n. unwrap_or n 0) o.number;
       }

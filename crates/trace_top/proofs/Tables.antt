@@ -1,14 +1,12 @@
 -- A table of lanes of which one place changes.
-use Rattle.std.proofs.Common.{◌≡◌, ⊎_elim, ℕ, zero, suc, ◌+◌, List, [], ◌∷◌, ◌++◌, drop, set, take, map, Option, Some, None, refl, sym, ap, ◌∙◌, subst, arith}
+use Rattle.std.proofs.Common.{◌≡◌, ⊎_elim, ℕ, Bool, zero, suc, ◌+◌, List, [], ◌∷◌, ◌++◌, drop, set, take, map, Option, Some, None, refl, sym, ap, ◌∙◌, subst, arith}
 use Rattle.std.specs.Prelude.{IfSome, slice_get}
 use Rattle.pool_law.specs.declared.command.Command.{Command}
 use Rattle.shared_pool.specs.declared.pool.SharedPool.{SharedPool}
 use Rattle.lane_core.specs.declared.lane.Lane.{Lane}
-use Rattle.lane_core.specs.Lanes.{IsLane, SameLane}
 use Rattle.trace_top.specs.Places.{AllBelong, AllStand, BelongsAt, empties}
 use Rattle.trace_top.specs.Standing.{AllRun, AreNumbered, RunsLane}
 use Rattle.trace_top.proofs.Places.{same_some, set_cases}
-use Rattle.trace_top.proofs.Runs.{runs_later}
 
 -- a lane goes out
 pub empties_out : (places : List (Option Lane)) (i : ℕ) (l : Lane) → slice_get places i ≡ Some (Some l)
@@ -28,25 +26,27 @@ empties_in (None ∷ ps) zero l e = omega arith
 empties_in (Some x ∷ ps) (suc i) l e = empties_in ps i l e
 empties_in (None ∷ ps) (suc i) l e = omega (arith, empties_in ps i l e)
 
-pub stand_out : (trace : List (List Command)) (pool : Option SharedPool) (places : List (Option Lane)) (i : ℕ)
-    → AllStand trace pool places → AllStand trace pool (set places i None)
-stand_out trace pool places i all j l e =
+pub stand_out : (trace : List (List Command)) (stops : ℕ → ℕ → Bool) (pool : Option SharedPool)
+    (places : List (Option Lane)) (i : ℕ)
+    → AllStand trace stops pool places → AllStand trace stops pool (set places i None)
+stand_out trace stops pool places i all j l e =
     ⊎_elim (λ h. absurd (cc)) (λ before. all j l before) (set_cases places i None j (Some l) e)
 
-pub stand_in : (trace : List (List Command)) (pool : Option SharedPool) (places : List (Option Lane)) (i : ℕ) (l : Lane)
-    → AllStand trace pool places → BelongsAt trace pool i l → AllStand trace pool (set places i (Some l))
-stand_in trace pool places i l all belongs j x e =
+pub stand_in : (trace : List (List Command)) (stops : ℕ → ℕ → Bool) (pool : Option SharedPool)
+    (places : List (Option Lane)) (i : ℕ) (l : Lane)
+    → AllStand trace stops pool places → BelongsAt trace stops pool i l
+    → AllStand trace stops pool (set places i (Some l))
+stand_in trace stops pool places i l all belongs j x e =
     ⊎_elim
     (λ (h : (j ≡ i) × (Some l ≡ Some x)).
-    subst (λ (p : ℕ × Lane). BelongsAt trace pool p.0 p.1) (λ k. (sym h.0 k, same_some l x h.1 k)) belongs)
+    subst (λ (p : ℕ × Lane). BelongsAt trace stops pool p.0 p.1) (λ k. (sym h.0 k, same_some l x h.1 k)) belongs)
     (λ before. all j x before)
     (set_cases places i (Some l) j (Some x) e)
 
 -- all lanes stand at their places
-pub all_stand : (trace : List (List Command)) (pool : Option SharedPool) (lanes : List Lane)
-    → AllBelong trace pool lanes
-    → AllStand trace pool (map Some lanes)
-all_stand trace pool lanes all i l e = all i l (taken lanes i l e)
+pub all_stand : (trace : List (List Command)) (stops : ℕ → ℕ → Bool) (pool : Option SharedPool) (lanes : List Lane)
+    → AllBelong trace stops pool lanes → AllStand trace stops pool (map Some lanes)
+all_stand trace stops pool lanes all i l e = all i l (taken lanes i l e)
   where
     taken : (lanes : List Lane) (i : ℕ) (l : Lane) → slice_get (map Some lanes) i ≡ Some (Some l)
         → slice_get lanes i ≡ Some l
@@ -59,10 +59,10 @@ empties_full [] = refl
 empties_full (x ∷ xs) = empties_full xs
 
 -- and come out of them
-pub all_belong : (trace : List (List Command)) (pool : Option SharedPool) (lanes : List Lane)
+pub all_belong : (trace : List (List Command)) (stops : ℕ → ℕ → Bool) (pool : Option SharedPool) (lanes : List Lane)
     (places : List (Option Lane))
-    → map Some lanes ≡ places → AllStand trace pool places → AllBelong trace pool lanes
-all_belong trace pool lanes places is all i l e = all i l (sym (ap (λ ps. slice_get ps i) is) ∙ put lanes i l e)
+    → map Some lanes ≡ places → AllStand trace stops pool places → AllBelong trace stops pool lanes
+all_belong trace stops pool lanes places is all i l e = all i l (sym (ap (λ ps. slice_get ps i) is) ∙ put lanes i l e)
   where
     put : (lanes : List Lane) (i : ℕ) (l : Lane) → slice_get lanes i ≡ Some l
         → slice_get (map Some lanes) i ≡ Some (Some l)
@@ -107,29 +107,21 @@ empties_rest (None ∷ ps) e = absurd (omega (arith, e))
 -- ---- Lanes of a pool, and lanes that belong to a table.
 
 -- with the pool that is named
-pub belongs : (trace : List (List Command)) (named : Option SharedPool) (pool : SharedPool) (i : ℕ) (l : Lane)
-    → named ≡ Some pool → RunsLane trace pool i l → BelongsAt trace named i l
-belongs trace named pool i l is runs =
-    subst (λ (o : Option SharedPool). IfSome o (λ p. RunsLane trace p i l)) (sym is) runs
+pub runs : (trace : List (List Command)) (stops : ℕ → ℕ → Bool) (named : Option SharedPool) (pool : SharedPool)
+    (i : ℕ) (l : Lane)
+    → named ≡ Some pool → BelongsAt trace stops named i l → RunsLane trace stops pool i l
+runs trace stops named pool i l is at =
+    subst (λ (o : Option SharedPool). IfSome o (λ p. RunsLane trace stops p i l)) is at
 
-pub runs : (trace : List (List Command)) (named : Option SharedPool) (pool : SharedPool) (i : ℕ) (l : Lane)
-    → named ≡ Some pool → BelongsAt trace named i l → RunsLane trace pool i l
-runs trace named pool i l is at = subst (λ (o : Option SharedPool). IfSome o (λ p. RunsLane trace p i l)) is at
+pub all_runs : (trace : List (List Command)) (stops : ℕ → ℕ → Bool) (named : Option SharedPool) (pool : SharedPool)
+    (lanes : List Lane)
+    → named ≡ Some pool → AllBelong trace stops named lanes → AllRun trace stops pool lanes
+all_runs trace stops named pool lanes is all i l e = runs trace stops named pool i l is (all i l e)
 
-pub all_belongs : (trace : List (List Command)) (named : Option SharedPool) (pool : SharedPool) (lanes : List Lane)
-    → named ≡ Some pool → AllRun trace pool lanes → AllBelong trace named lanes
-all_belongs trace named pool lanes is all i l e = belongs trace named pool i l is (all i l e)
-
-pub all_runs : (trace : List (List Command)) (named : Option SharedPool) (pool : SharedPool) (lanes : List Lane)
-    → named ≡ Some pool → AllBelong trace named lanes → AllRun trace pool lanes
-all_runs trace named pool lanes is all i l e = runs trace named pool i l is (all i l e)
-
--- a lane that was stepped belongs where it belonged
-pub belongs_later : (trace : List (List Command)) (named : Option SharedPool) (pool : SharedPool) (i : ℕ)
-    (old new : Lane)
-    → named ≡ Some pool → BelongsAt trace named i old → IsLane pool new → SameLane old new → BelongsAt trace named i new
-belongs_later trace named pool i old new is at lane same =
-    belongs trace named pool i new is (runs_later trace pool i old new (runs trace named pool i old is at) lane same)
+-- and by the gate that is named
+pub run_by : (trace : List (List Command)) (named stops : ℕ → ℕ → Bool) (pool : SharedPool) (lanes : List Lane)
+    → named ≡ stops → AllRun trace named pool lanes → AllRun trace stops pool lanes
+run_by trace named stops pool lanes is all = subst (λ (by : ℕ → ℕ → Bool). AllRun trace by pool lanes) is all
 
 -- ---- Lanes and the list of their commands.
 
@@ -147,20 +139,21 @@ get_mapped (x ∷ xs) zero cs e = (x, refl, same_some _ _ e)
 get_mapped (x ∷ xs) (suc i) cs e = get_mapped xs i cs e
 
 -- lanes run their own commands
-pub run_their_own : (pool : SharedPool) (lanes : List Lane) → AreNumbered pool lanes
-    → AllRun (map (λ (l : Lane). l.commands) lanes) pool lanes
-run_their_own pool lanes are i l e =
+pub run_their_own : (stops : ℕ → ℕ → Bool) (pool : SharedPool) (lanes : List Lane) → AreNumbered stops pool lanes
+    → AllRun (map (λ (l : Lane). l.commands) lanes) stops pool lanes
+run_their_own stops pool lanes are i l e =
     let a = are i l e in
-    record { number = a.0; lane = a.1; commands = get_map lanes i l e }
+    record { number = a.0; lane = a.1; commands = get_map lanes i l e; heeds = a.2 }
 
 -- lanes that run the commands of others run the trace that those run
-pub run_the_same : (trace : List (List Command)) (pool : SharedPool) (old new : List Lane)
-    → AllRun (map (λ (l : Lane). l.commands) old) pool new → AllRun trace pool old → AllRun trace pool new
-run_the_same trace pool old new now before i l e =
+pub run_the_same : (trace : List (List Command)) (stops : ℕ → ℕ → Bool) (pool : SharedPool) (old new : List Lane)
+    → AllRun (map (λ (l : Lane). l.commands) old) stops pool new → AllRun trace stops pool old
+    → AllRun trace stops pool new
+run_the_same trace stops pool old new now before i l e =
     let r = now i l e in
     let m = get_mapped old i l.commands r.commands in
-    record { number = r.number; lane = r.lane; commands = (before i m.0 m.1).commands ∙ ap Some m.2 }
+    record { number = r.number; lane = r.lane; commands = (before i m.0 m.1).commands ∙ ap Some m.2; heeds = r.heeds }
 
-pub numbered : (trace : List (List Command)) (pool : SharedPool) (lanes : List Lane) → AllRun trace pool lanes
-    → AreNumbered pool lanes
-numbered trace pool lanes all i l e = let r = all i l e in (r.number, r.lane)
+pub numbered : (trace : List (List Command)) (stops : ℕ → ℕ → Bool) (pool : SharedPool) (lanes : List Lane)
+    → AllRun trace stops pool lanes → AreNumbered stops pool lanes
+numbered trace stops pool lanes all i l e = let r = all i l e in (r.number, r.lane, r.heeds)

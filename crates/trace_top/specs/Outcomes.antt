@@ -69,10 +69,11 @@ pub record IsBare (o : Outcome) : Type 0 where
   pub run : o.run ≡ None
   pub refusal : o.refusal ≡ None
 
--- the outcome has this refusal
+-- the outcome has this refusal, which is never want of memory
 pub record IsRefused (o : Outcome) (why : TraceNo) : Type 0 where
   pub run : o.run ≡ None
   pub refusal : o.refusal ≡ Some why
+  pub named : why ≢ TraceNo.Memory
 
 -- the outcome has this run, which was played, of these lanes, with the pool that was asked for
 pub record HasRun (o : Outcome) (accepted : Accepted) (played : Run) : Type 0 where

@@ -1,5 +1,5 @@
 -- The lanes of a trace over a pool: before they are made, and as they stand at their places.
-use Rattle.std.specs.Prelude.{◌≡◌, ℕ, List, Some, slice_get}
+use Rattle.std.specs.Prelude.{◌≡◌, ℕ, Bool, List, Some, slice_get}
 use Rattle.step_law.specs.declared.Told.{Ghosts}
 use Rattle.pool_law.specs.declared.command.Command.{Command}
 use Rattle.pool_law.specs.declared.note.Noted.{Noted}
@@ -10,29 +10,32 @@ use Rattle.shared_pool.specs.declared.pool.SharedPool.{SharedPool}
 use Rattle.shared_pool.specs.SeatLanes.{lane_of}
 use Rattle.shared_pool.specs.Seats.{IsPoolSeat}
 use Rattle.lane_core.specs.declared.lane.Lane.{Lane}
-use Rattle.lane_core.specs.Lanes.{IsLane, IsFinished, number_of}
+use Rattle.lane_core.specs.Lanes.{Heeds, IsLane, IsFinished, number_of}
 use Rattle.lane_core.specs.Opened.{AreFirst, IsFirstSeat}
 
--- the lane has number i, is one of the pool, and has the commands that the trace has for lane i
-pub record RunsLane (trace : List (List Command)) (pool : SharedPool) (i : ℕ) (l : Lane) : Type 0
-  where
-    pub number : number_of l ≡ i
-    pub lane : IsLane pool l
-    pub commands : slice_get trace i ≡ Some l.commands
+-- the lane has number i, is one of the pool, has the commands that the trace has for lane i, and
+-- heeded the gate that stops each lane at these lines
+pub record RunsLane (trace : List (List Command)) (stops : ℕ → ℕ → Bool) (pool : SharedPool)
+    (i : ℕ) (l : Lane) : Type 0 where
+  pub number : number_of l ≡ i
+  pub lane : IsLane pool l
+  pub commands : slice_get trace i ≡ Some l.commands
+  pub heeds : Heeds (stops i) l
 
 -- lane i stands at place i
-abbrev pub AllRun : List (List Command) → SharedPool → List Lane → Type 0
-AllRun trace pool lanes =
-    (i : ℕ) (l : Lane) → slice_get lanes i ≡ Some l → RunsLane trace pool i l
+abbrev pub AllRun : List (List Command) → (ℕ → ℕ → Bool) → SharedPool → List Lane → Type 0
+AllRun trace stops pool lanes =
+    (i : ℕ) (l : Lane) → slice_get lanes i ≡ Some l → RunsLane trace stops pool i l
 
 -- lanes of the pool
 abbrev pub AreLanes : SharedPool → List Lane → Type 0
 AreLanes pool lanes = (i : ℕ) (l : Lane) → slice_get lanes i ≡ Some l → IsLane pool l
 
--- lanes of the pool, each with its place as its number
-abbrev pub AreNumbered : SharedPool → List Lane → Type 0
-AreNumbered pool lanes =
-    (i : ℕ) (l : Lane) → slice_get lanes i ≡ Some l → (number_of l ≡ i) × IsLane pool l
+-- lanes of the pool, each with its place as its number, that heeded the gate
+abbrev pub AreNumbered : (ℕ → ℕ → Bool) → SharedPool → List Lane → Type 0
+AreNumbered stops pool lanes =
+    (i : ℕ) (l : Lane) → slice_get lanes i ≡ Some l →
+    (number_of l ≡ i) × IsLane pool l × Heeds (stops i) l
 
 -- all have finished
 abbrev pub AllFinished : List Lane → Type 0

@@ -1,5 +1,5 @@
 //! How workers step the lanes of a pool together.
-ghost use Rattle.std.specs.Prelude.{◌≡◌, ℕ, ◌<◌, ◌≤◌, [], List, Option, Some, length, map, vec_len, vec_capacity, OnOk, false};
+ghost use Rattle.std.specs.Prelude.{◌≡◌, ◌<◌, ◌≤◌, [], List, Option, Some, length, map, vec_len, vec_capacity, OnOk};
 ghost use Rattle.pool_law.specs.declared.command.Command.{Command};
 ghost use Rattle.trace_top.specs.Places.{AllBelong};
 ghost use Rattle.trace_top.specs.Standing.{AllFinished, AllRun, AreLanes, AreNumbered};
@@ -28,11 +28,10 @@ pub fn step_together<R: Threads + Wait + Sync, G: Gate>(
     lanes: Vec<Lane>,
     workers: u32,
 ) -> (Vec<Lane>, Result<(), AllocError>)
-    requires open { (lane line : ℕ) → G.stops gate.now lane line ≡ false }
-    requires lanes { AreNumbered pool.now lanes.items }
+    requires lanes { AreNumbered (G.stops gate.now) pool.now lanes.items }
     ensures lanes { AreLanes pool.now result.0.items }
-    ensures runs { (trace : List (List Command)) →
-        AllRun trace pool.now lanes.items → AllRun trace pool.now result.0.items }
+    ensures runs { let stops = G.stops gate.now in (trace : List (List Command)) →
+        AllRun trace stops pool.now lanes.items → AllRun trace stops pool.now result.0.items }
     ensures count { vec_len result.0 ≡ vec_len lanes }
     ensures finished { OnOk result.1 (AllFinished result.0.items) }
 {
@@ -54,10 +53,10 @@ fn step_as<T: Play + Send + Sync, R: Threads + Wait + Sync, G: Gate>(
     requires parts { (blank.parts ≡ T.parts) × (T.parts ≡ workers) }
     requires workers { 0 < workers }
     requires pool { T.pool ≡ Some pool.now }
-    requires open { (lane line : ℕ) → G.stops gate.now lane line ≡ false }
-    requires lanes { AllRun T.trace pool.now lanes.items }
+    requires stops { T.stops ≡ G.stops gate.now }
+    requires lanes { AllRun T.trace T.stops pool.now lanes.items }
     requires count { vec_len lanes ≡ length T.trace }
-    ensures lanes { AllRun T.trace pool.now result.0.items }
+    ensures lanes { AllRun T.trace T.stops pool.now result.0.items }
     ensures count { vec_len result.0 ≡ length T.trace }
     ensures finished { OnOk result.1 (AllFinished result.0.items) }
 {
@@ -113,7 +112,7 @@ fn at_work<T: Play + Send + Sync, R: Threads + Wait + Sync, G: Gate>(
     all: Share<T>,
 ) -> (Table<T>, Share<T>)
     requires pool { T.pool ≡ Some pool.now }
-    requires open { (lane line : ℕ) → G.stops gate.now lane line ≡ false }
+    requires stops { T.stops ≡ G.stops gate.now }
     requires crew { 0 < vec_len crew }
     requires all { (all.parts ≡ 0) × (all.amount ≡ 0) }
     ensures { (result.1.parts ≡ vec_len crew) × (result.1.amount ≡ 0) }
@@ -126,8 +125,7 @@ fn at_work<T: Play + Send + Sync, R: Threads + Wait + Sync, G: Gate>(
         crew.as_mut_slice(),
         threads,
         &|_i, worker: &mut Worker<T>|
-            requires { (T.pool ≡ Some pool.now)
-                × ((lane line : ℕ) → G.stops gate.now lane line ≡ false) }
+            requires { (T.pool ≡ Some pool.now) × (T.stops ≡ G.stops gate.now) }
         { work(rt, alloc, pool, gate, &lock, &bell, worker) },
     );
     let all = gathered(crew, all);

@@ -1,5 +1,5 @@
 //! How the lanes of a trace are made, and how their seats are given back.
-ghost use Rattle.std.specs.Prelude.{◌≡◌, ◌+◌, ◌≤◌, [], vec_len, vec_capacity, IfOk, IfErr};
+ghost use Rattle.std.specs.Prelude.{◌≡◌, ℕ, ◌+◌, ◌≤◌, Bool, [], vec_len, vec_capacity, IfOk, IfErr};
 ghost use Rattle.trace_top.specs.Standing.{AllOf, AllRun, AreLanes, AreReady};
 
 use lane_core::Lane;
@@ -19,7 +19,9 @@ pub fn all_lanes(
     requires count { vec_len seats ≡ vec_len trace }
     requires ready { AreReady pool.now shape.now trace.items seats.items }
     ensures count { IfOk result (λ r. vec_len r.0 ≡ vec_len trace) }
-    ensures lanes { IfOk result (λ r. AllRun trace.items pool.now r.0.items) }
+    // No gate was asked, and so any was heeded.
+    ensures lanes { IfOk result (λ r. (stops : ℕ → ℕ → Bool) →
+        AllRun trace.items stops pool.now r.0.items) }
     ensures room { IfOk result
         (λ r. (r.1.items ≡ []) × (vec_len trace ≤ vec_capacity r.1)) }
     ensures err { IfErr result (λ back. AllOf pool.now back.items) }

@@ -1,10 +1,11 @@
 //! The run of a trace: a pool is made, workers step its lanes until all have finished, and it is
 //! closed.
-ghost use Rattle.std.specs.Prelude.{◌≡◌, ℕ, All, IfOk, length, false};
+ghost use Rattle.std.specs.Prelude.{◌≡◌, ℕ, All, IfOk, length};
 ghost use Rattle.pool_law.specs.Legal.{AreCommands};
 ghost use Rattle.pool_law.specs.Limits.{IsShape};
 ghost use Rattle.pool_law.specs.Logs.{of_lane};
 ghost use Rattle.lane_core.specs.Opened.{IsPlain};
+ghost use Rattle.lane_core.specs.Played.{IsHeeded};
 
 use crate::crew::step_together;
 use crate::lanes::{all_lanes, given_back};
@@ -25,13 +26,13 @@ pub fn play<R: Threads + Wait + Sync, G: Gate>(
     workers: u32,
     gate: &G,
 ) -> Result<Played, AllocError>
-    requires open { (lane line : ℕ) → G.stops gate.now lane line ≡ false }
     requires shape { IsShape shape.now }
     requires lanes { shape.now.lanes ≡ length trace.lanes }
     requires commands { (lane : ℕ) → AreCommands shape.now (of_lane trace.lanes lane) }
     requires plain { All (All IsPlain) trace.lanes }
     ensures trace { IfOk result (λ run. run.trace.lanes ≡ trace.lanes) }
     ensures shape { IfOk result (λ run. run.shape ≡ shape.now) }
+    ensures stopped { IfOk result (IsHeeded (G.stops gate.now)) }
 {
     let Trace { lanes: commands } = trace;
     let layout = layout_for(commands.items(), shape);

@@ -1,5 +1,5 @@
 //! How lanes are stepped one after another.
-ghost use Rattle.std.specs.Prelude.{◌≡◌, ℕ, ◌<◌, List, Some, slice_get, vec_len, IfOk, OnOk, false};
+ghost use Rattle.std.specs.Prelude.{◌≡◌, ◌<◌, List, Some, slice_get, vec_len, IfOk, OnOk};
 ghost use Rattle.std.specs.Bool.{OnTrue};
 ghost use Rattle.pool_law.specs.declared.command.Command.{Command};
 ghost use Rattle.lane_core.specs.declared.lane.Lane.{Lane};
@@ -19,11 +19,10 @@ pub fn step_alone<R: Wait, G: Gate>(
     gate: &G,
     lanes: &mut Vec<Lane>,
 ) -> Result<(), AllocError>
-    requires open { (lane line : ℕ) → G.stops gate.now lane line ≡ false }
     requires lanes { AreLanes pool.now lanes.old.items }
     ensures lanes { AreLanes pool.now lanes.new.items }
-    ensures runs { (trace : List (List Command)) →
-        AllRun trace pool.now lanes.old.items → AllRun trace pool.now lanes.new.items }
+    ensures runs { let stops = G.stops gate.now in (trace : List (List Command)) →
+        AllRun trace stops pool.now lanes.old.items → AllRun trace stops pool.now lanes.new.items }
     ensures count { vec_len lanes.new ≡ vec_len lanes.old }
     ensures finished { OnOk result (AllFinished lanes.new.items) }
 {
@@ -42,11 +41,10 @@ fn step_each<G: Gate>(
     gate: &G,
     lanes: &mut Vec<Lane>,
 ) -> Result<bool, AllocError>
-    requires open { (lane line : ℕ) → G.stops gate.now lane line ≡ false }
     requires lanes { AreLanes pool.now lanes.old.items }
     ensures lanes { AreLanes pool.now lanes.new.items }
-    ensures runs { (trace : List (List Command)) →
-        AllRun trace pool.now lanes.old.items → AllRun trace pool.now lanes.new.items }
+    ensures runs { let stops = G.stops gate.now in (trace : List (List Command)) →
+        AllRun trace stops pool.now lanes.old.items → AllRun trace stops pool.now lanes.new.items }
     ensures count { vec_len lanes.new ≡ vec_len lanes.old }
     ensures finished { IfOk result (λ over. OnTrue over (AllFinished lanes.new.items)) }
 {
@@ -65,12 +63,11 @@ fn step_at<G: Gate>(
     lanes: &mut Vec<Lane>,
     i: usize,
 ) -> Result<bool, AllocError>
-    requires open { (lane line : ℕ) → G.stops gate.now lane line ≡ false }
     requires lanes { AreLanes pool.now lanes.old.items }
     requires place { i < vec_len lanes.old }
     ensures lanes { AreLanes pool.now lanes.new.items }
-    ensures runs { (trace : List (List Command)) →
-        AllRun trace pool.now lanes.old.items → AllRun trace pool.now lanes.new.items }
+    ensures runs { let stops = G.stops gate.now in (trace : List (List Command)) →
+        AllRun trace stops pool.now lanes.old.items → AllRun trace stops pool.now lanes.new.items }
     ensures count { vec_len lanes.new ≡ vec_len lanes.old }
     ensures same { IfOk result (λ over. OnTrue over (lanes.new.items ≡ lanes.old.items)) }
     ensures finished { IfOk result (λ over. OnTrue over

@@ -10,21 +10,26 @@ use std::marker::{Brand, Model};
 use std::mem;
 use std::sync::ledger::{Book, Ledger, Share};
 
-/// Names what is played: the trace and the pool. Its ledger counts the lanes that workers hold.
+/// Names what is played: the trace, where the gate stops its lanes, and the pool. Its ledger counts
+/// the lanes that workers hold.
 pub trait Play: Ledger {
-    ghost use Rattle.std.specs.Prelude.{List, Option};
+    ghost use Rattle.std.specs.Prelude.{ℕ, Bool, List, Option};
     ghost use Rattle.pool_law.specs.declared.command.Command.{Command};
     ghost use Rattle.shared_pool.specs.declared.pool.SharedPool.{SharedPool};
 
     ghost trace: { List (List Command) };
 
+    ghost stops: { ℕ → ℕ → Bool };
+
     ghost pool: { Option SharedPool };
 }
 
 impl Play for Brand {
-    ghost use Rattle.std.specs.Prelude.{[], None};
+    ghost use Rattle.std.specs.Prelude.{[], None, false};
 
     ghost trace = { [] };
+
+    ghost stops = { λ lane line. false };
 
     ghost pool = { None };
 }
@@ -57,7 +62,7 @@ impl<T: Play> Model for Table<T> {
     ghost view = { λ t. t.out.total };
 
     ghost invariant = { λ t.
-        AllStand T.trace T.pool t.places.items
+        AllStand T.trace T.stops T.pool t.places.items
         × (t.out.total ≡ empties t.places.items)
         × (vec_len t.places ≡ length T.trace)
         × (vec_len t.rests ≡ length T.trace) };
@@ -68,7 +73,7 @@ impl<T: Play> Table<T> {
     /// `from` on.
     pub fn take(&mut self, from: usize, rings: u64, mine: &mut Share<T>) -> Option<(usize, Lane)>
         requires { 0 < mine.old.parts }
-        ensures lane { IfSome result (λ r. BelongsAt T.trace T.pool r.0 r.1) }
+        ensures lane { IfSome result (λ r. BelongsAt T.trace T.stops T.pool r.0 r.1) }
         ensures some { OnSome result (mine.new.amount ≡ mine.old.amount + 1) }
         ensures none { IfNone result (mine.new.amount ≡ mine.old.amount) }
         ensures parts { mine.new.parts ≡ mine.old.parts }
@@ -86,7 +91,7 @@ impl<T: Play> Table<T> {
 
     /// Brings a lane back to its place. Where the place is not empty the lane is handed back.
     pub fn put(&mut self, at: usize, lane: Lane, rest: Rest, mine: &mut Share<T>) -> Option<Lane>
-        requires lane { BelongsAt T.trace T.pool at lane }
+        requires lane { BelongsAt T.trace T.stops T.pool at lane }
         requires amount { 0 < mine.old.amount }
         ensures put { IfNone result (mine.new.amount + 1 ≡ mine.old.amount) }
         ensures kept { IfSome result (λ l. (l ≡ lane) × (mine.new.amount ≡ mine.old.amount)) }
@@ -131,7 +136,7 @@ impl<T: Play> Table<T> {
         rests: Vec<Rest>,
         out: Book<T>,
     ) -> (Table<T>, Vec<Lane>)
-        requires lanes { AllBelong T.trace T.pool lanes.items }
+        requires lanes { AllBelong T.trace T.stops T.pool lanes.items }
         requires count { vec_len lanes ≡ length T.trace }
         requires places { (places.items ≡ []) × (vec_len lanes ≤ vec_capacity places) }
         requires rests { vec_len rests ≡ length T.trace }
@@ -148,7 +153,7 @@ impl<T: Play> Table<T> {
     pub fn into_lanes(self, lanes: Vec<Lane>, mut all: Share<T>) -> Vec<Lane>
         requires all { (all.parts ≡ T.parts) × (all.amount ≡ 0) }
         requires room { (lanes.items ≡ []) × (length T.trace ≤ vec_capacity lanes) }
-        ensures lanes { AllBelong T.trace T.pool result.items }
+        ensures lanes { AllBelong T.trace T.stops T.pool result.items }
         ensures count { vec_len result ≡ length T.trace }
     {
         let Table {

@@ -1,8 +1,8 @@
 //! The top call, part by part: words, source or generated trace, run, sink.
-ghost use Rattle.std.specs.Prelude.{◌≡◌, ◌≤◌, ℕ, All, None, Some, false, map, string_bytes, length, IfOk, IfSome};
+ghost use Rattle.std.specs.Prelude.{◌≡◌, ◌≤◌, All, None, Some, map, string_bytes, length, IfOk, IfSome};
 ghost use Rattle.lane_core.specs.Opened.{IsPlain};
-ghost use Rattle.lane_core.specs.Played.{IsPlayed};
-ghost use Rattle.run_laws.specs.Headline.{Headline};
+ghost use Rattle.lane_core.specs.Played.{IsHeeded, IsPlayed};
+ghost use Rattle.order_laws.specs.HeadlineInOrder.{HeadlineInOrder};
 ghost use Rattle.trace_make.specs.Generated.{generated};
 ghost use Rattle.pool_law.specs.Traces.{AreLanes};
 ghost use Rattle.trace_top.specs.Outcomes.{Completes, Explains, ExplainsOptions, ExplainsRun, ExplainsSource, ExplainsText, Refuses, sink_span, source_span, text_for};
@@ -34,7 +34,8 @@ use trace_text::{Read, TraceNo};
 /// The source is read to its end, or to one byte past the longest text and then no further.
 /// The whole text is made before the first write. `Memory` may come in place of any other status
 /// but `Words`; every other status has the cause that its name says. A command that is refused
-/// in the run is a reply in the text, and no status.
+/// in the run is a reply in the text, and no status. So is a command of a lane from where the gate
+/// stops it: it is answered `stopped`.
 pub fn run<R: Threads + Wait + Sync, S: Source, K: Sink, G: Gate>(
     rt: &R,
     alloc: Global,
@@ -43,18 +44,20 @@ pub fn run<R: Threads + Wait + Sync, S: Source, K: Sink, G: Gate>(
     out: &mut K,
     gate: &G,
 ) -> Outcome
-    // No gate stops a lane yet.
-    requires open { (lane line : ℕ) → G.stops gate.now lane line ≡ false }
-
     // What each status says of the outcome, of what was read and of what was written.
     ensures outcome { Explains result.status result (map string_bytes words.now)
         (source_span S.left S.faults src.old src.new)
         (sink_span K.got K.faults K.empty_takes out.old out.new) }
 
-    // What a run gives, for whatever trace, workers and interleaving: regions of live roots never
-    // overlap; each read gives the bytes last written; a region returns once, by the release that
-    // ends its root's count; the report lists exactly the sampled roots never freed.
-    ensures headline { IfSome result.run Headline }
+    // What a run gives, at its end and at each moment of the one order in which its steps were
+    // made, for whatever trace, workers and interleaving: all steps stand in one order, in which
+    // each fits what was done before it; regions of live roots never overlap; each read gives the
+    // bytes last written; a region returns once, by the release that ends its root's count; the
+    // report lists exactly the sampled roots never freed.
+    ensures headline { IfSome result.run HeadlineInOrder }
+
+    // A reply is `stopped` exactly where the gate stops its lane at its line or an earlier one.
+    ensures stopped { IfSome result.run (IsHeeded (G.stops gate.now)) }
 
     // Words without a form are refused, and nothing is read.
     ensures words { options_of (map string_bytes words.now) ≡ None → result.status ≡ Status.Words }
@@ -80,11 +83,11 @@ fn answer<R: Threads + Wait + Sync, S: Source, K: Sink, G: Gate>(
     out: &mut K,
     gate: &G,
 ) -> Outcome
-    requires open { (lane line : ℕ) → G.stops gate.now lane line ≡ false }
     ensures outcome { Explains result.status result (map string_bytes words.now)
         (source_span S.left S.faults src.old src.new)
         (sink_span K.got K.faults K.empty_takes out.old out.new) }
     ensures words { options_of (map string_bytes words.now) ≡ None → result.status ≡ Status.Words }
+    ensures stopped { IfSome result.run (IsHeeded (G.stops gate.now)) }
 {
     match read_words(words) {
         None => bare(Status::Words),
@@ -103,10 +106,10 @@ fn with_options<R: Threads + Wait + Sync, S: Source, K: Sink, G: Gate>(
     requires sound { AreSound options.now.pool }
     requires within { AreOptions options.now.pool }
     requires origin { IsOrigin options.now.origin }
-    requires open { (lane line : ℕ) → G.stops gate.now lane line ≡ false }
-    ensures { ExplainsOptions result.status result options.now
+    ensures outcome { ExplainsOptions result.status result options.now
         (source_span S.left S.faults src.old src.new)
         (sink_span K.got K.faults K.empty_takes out.old out.new) }
+    ensures stopped { IfSome result.run (IsHeeded (G.stops gate.now)) }
 {
     match options.origin {
         Origin::Source => with_source(rt, alloc, options, src, out, gate),
@@ -131,10 +134,10 @@ fn with_source<R: Threads + Wait + Sync, S: Source, K: Sink, G: Gate>(
     gate: &G,
 ) -> Outcome
     requires within { AreOptions options.now.pool }
-    requires open { (lane line : ℕ) → G.stops gate.now lane line ≡ false }
-    ensures { ExplainsSource result.status result options.now
+    ensures outcome { ExplainsSource result.status result options.now
         (source_span S.left S.faults src.old src.new)
         (sink_span K.got K.faults K.empty_takes out.old out.new) }
+    ensures stopped { IfSome result.run (IsHeeded (G.stops gate.now)) }
 {
     match read_all(alloc, src) {
         Input::Fault => bare(Status::ReadFault),
@@ -153,9 +156,9 @@ fn with_text<R: Threads + Wait + Sync, K: Sink, G: Gate>(
     gate: &G,
 ) -> Outcome
     requires within { AreOptions options.now.pool }
-    requires open { (lane line : ℕ) → G.stops gate.now lane line ≡ false }
-    ensures { ExplainsText result.status result options.now text.now
+    ensures outcome { ExplainsText result.status result options.now text.now
         (sink_span K.got K.faults K.empty_takes out.old out.new) }
+    ensures stopped { IfSome result.run (IsHeeded (G.stops gate.now)) }
 {
     match read_for(alloc, &options.pool, text) {
         Ok(read) => with_trace(rt, alloc, options, read, out, gate),
@@ -179,12 +182,12 @@ fn with_generation<R: Threads + Wait + Sync, K: Sink, G: Gate>(
 ) -> Outcome
     requires sound { AreSound options.now.pool }
     requires generation { IsGeneration generation.now }
-    requires open { (lane line : ℕ) → G.stops gate.now lane line ≡ false }
-    ensures { ExplainsRun result.status result options.now (
+    ensures outcome { ExplainsRun result.status result options.now (
       generated generation.now.start generation.now.lanes generation.now.commands,
       options.now.pool,
     )
         (sink_span K.got K.faults K.empty_takes out.old out.new) }
+    ensures stopped { IfSome result.run (IsHeeded (G.stops gate.now)) }
 {
     let Generation {
         start,
@@ -213,13 +216,13 @@ fn with_trace<R: Threads + Wait + Sync, K: Sink, G: Gate>(
     gate: &G,
 ) -> Outcome
     requires sound { AreSound read.options }
-    requires open { (lane line : ℕ) → G.stops gate.now lane line ≡ false }
     requires lanes { AreLanes read.trace.lanes }
     requires plain { All (All IsPlain) read.trace.lanes }
     requires some_lane { 1 ≤ length read.trace.lanes }
     requires few_lanes { length read.trace.lanes ≤ 16 }
-    ensures { ExplainsRun result.status result options.now (read.trace.lanes, read.options)
+    ensures outcome { ExplainsRun result.status result options.now (read.trace.lanes, read.options)
         (sink_span K.got K.faults K.empty_takes out.old out.new) }
+    ensures stopped { IfSome result.run (IsHeeded (G.stops gate.now)) }
 {
     let Read {
         trace,
@@ -241,8 +244,9 @@ fn with_run<K: Sink>(
     out: &mut K,
 ) -> Outcome
     requires shape { played.shape ≡ shape_of pool.now (length played.trace.lanes) }
-    ensures { ExplainsRun result.status result options.now (played.trace.lanes, pool.now)
+    ensures outcome { ExplainsRun result.status result options.now (played.trace.lanes, pool.now)
         (sink_span K.got K.faults K.empty_takes out.old out.new) }
+    ensures same { IfSome result.run (λ run. run ≡ played) }
 {
     let Ok(text) = text_for(alloc, options, &played) else {
         return bare(Status::Memory);

@@ -1,6 +1,6 @@
 //! The workers, each of which takes lanes out of the table, steps them and brings them back.
-ghost use Rattle.std.specs.Prelude.{◌≡◌, ℕ, ◌<◌, Some, Option, false};
-ghost use Rattle.lane_core.specs.Lanes.{IsLane, SameLane};
+ghost use Rattle.std.specs.Prelude.{◌≡◌, ◌<◌, Some, Option};
+ghost use Rattle.lane_core.specs.Lanes.{Heeds, IsLane, SameLane, number_of};
 ghost use Rattle.trace_top.specs.Places.{BelongsAt};
 
 use crate::bell::Bell;
@@ -49,7 +49,7 @@ pub fn work<T: Play, R: Wait, G: Gate>(
     worker: &mut Worker<T>,
 )
     requires pool { T.pool ≡ Some pool.now }
-    requires open { (lane line : ℕ) → G.stops gate.now lane line ≡ false }
+    requires stops { T.stops ≡ G.stops gate.now }
 {
     let mut from = 0;
     let mut idle = 0u32;
@@ -84,7 +84,7 @@ fn take_turn<T: Play, R: Wait, G: Gate>(
     share: &mut Share<T>,
 ) -> Turn
     requires pool { T.pool ≡ Some pool.now }
-    requires open { (lane line : ℕ) → G.stops gate.now lane line ≡ false }
+    requires stops { T.stops ≡ G.stops gate.now }
     requires share { (share.old.parts ≡ 1) × (share.old.amount ≡ 0) }
     ensures { (share.new.parts ≡ 1) × (share.new.amount ≡ 0) }
 {
@@ -121,10 +121,11 @@ fn go_on<R: Wait, G: Gate>(
     bell: &Bell,
     lane: &mut Lane,
 ) -> Rest
-    requires open { (number line : ℕ) → G.stops gate.now number line ≡ false }
     requires lane { IsLane pool.now lane.old }
     ensures lane { IsLane pool.now lane.new }
     ensures same { SameLane lane.old lane.new }
+    ensures heeds { let stops = G.stops gate.now (number_of lane.old) in
+        Heeds stops lane.old → Heeds stops lane.new }
 {
     let mut moves = 0;
     for _ in rt.forever() {
@@ -170,7 +171,7 @@ fn bring_back<T: Play, R: Wait>(
     rest: Rest,
     share: &mut Share<T>,
 )
-    requires lane { BelongsAt T.trace T.pool at lane }
+    requires lane { BelongsAt T.trace T.stops T.pool at lane }
     requires share { (share.old.parts ≡ 1) × (share.old.amount ≡ 1) }
     ensures { (share.new.parts ≡ 1) × (share.new.amount ≡ 0) }
 {

@@ -2,9 +2,13 @@ use Rattle.std.proofs.Common.{map, Some}
 use Rattle.lane_core.specs.declared.lane.Lane.{Lane}
 use Rattle.trace_top.proofs.crew.step_together.Given as goal
 
--- the play is named by its lanes' commands and its pool
+-- the play is named by its lanes' commands, its gate and its pool
 abbrev pub ghosts-step_as-T-Play : goal.ghosts-step_as-T-Play
-ghosts-step_as-T-Play g a = record { trace = map (λ (l : Lane). l.commands) a.lanes.items; pool = Some a.pool.now }
+ghosts-step_as-T-Play g a = record {
+  trace = map (λ (l : Lane). l.commands) a.lanes.items;
+  stops = g.G.Gate.stops a.gate.now;
+  pool = Some a.pool.now;
+}
 
 abbrev pub ghosts-step_as-T-Ledger : goal.ghosts-step_as-T-Ledger
 ghosts-step_as-T-Ledger g a = record { name = a.blank.name; parts = a.blank.parts }

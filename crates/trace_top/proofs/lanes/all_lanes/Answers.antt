@@ -1,4 +1,4 @@
-use Rattle.std.proofs.Common.{◌≡◌, ◌<◌, ℕ, ◌+◌, ⊎_elim, length, Some, arith, sym, ap, ◌∙◌, subst}
+use Rattle.std.proofs.Common.{◌≡◌, ◌<◌, ℕ, ◌+◌, Bool, false, ⊎_elim, length, Some, arith, sym, ap, ◌∙◌, subst}
 use Rattle.std.specs.Prelude.{slice_get}
 use Rattle.std.proofs.lemmas.Grind.{common_steps}
 use Rattle.shared_pool.specs.Seats.{IsPoolSeat}
@@ -95,7 +95,8 @@ given_back-requires-clause-seats c i s e =
 
 pub given_back-requires-clause-lanes : goal.given_back-requires-clause-lanes
 given_back-requires-clause-lanes c =
-    are_lanes c.args.trace.items c.args.pool.now c.loop-i.lanes.items c.loop-i.invariant.made
+    are_lanes c.args.trace.items (λ lane line. false) c.args.pool.now c.loop-i.lanes.items
+    (c.loop-i.invariant.made (λ lane line. false))
 
 pub loop-i-preserved : goal.loop-i-preserved
 loop-i-preserved c =
@@ -122,10 +123,11 @@ loop-i-preserved c =
     let mine =
     removed seats n c.loop-i.seats.items c.remove-seat.result inv.seats in_seats c.remove-seat.ensures.value in
     let ready = c.requires.ready n c.remove-commands.result c.remove-seat.result its mine in
-    let runs : RunsLane trace pool n lane = record {
+    let runs : (stops : ℕ → ℕ → Bool) → RunsLane trace stops pool n lane = λ stops. record {
       number = ap lane_of c.in-Ok-new.ensures.seat ∙ ready.number;
       lane = c.in-Ok-new.ensures.lane pool ready.seat_is;
       commands = its ∙ ap Some (sym c.in-Ok-new.ensures.commands);
+      heeds = c.in-Ok-new.ensures.fresh (stops n);
     } in
     record {
       trace = c.remove-commands.ensures.by_index.2 ∙ left_next trace n c.loop-i.trace.items inv.trace;
@@ -135,10 +137,10 @@ loop-i-preserved c =
       seats_room = c.remove-seat.ensures.capacity ∙ inv.seats_room;
       lanes_len = grind (arith, common_steps, c.push_reserved.ensures.len, inv.lanes_len);
       lanes_room = grind (arith, common_steps, c.push_reserved.ensures.capacity, inv.lanes_room);
-      made = λ i l e. ⊎_elim
-          (λ (before : slice_get c.loop-i.lanes.items i ≡ Some l). inv.made i l before)
+      made = λ stops i l e. ⊎_elim
+          (λ (before : slice_get c.loop-i.lanes.items i ≡ Some l). inv.made stops i l before)
           (λ (h : (i ≡ length c.loop-i.lanes.items) × (lane ≡ l)).
           let place : n ≡ i = sym (h.0 ∙ sym c.loop-i.lanes.ok.0 ∙ inv.lanes_len) in
-          subst (λ (p : ℕ × Lane). RunsLane trace pool p.0 p.1) (λ k. (place k, h.1 k)) runs)
+          subst (λ (p : ℕ × Lane). RunsLane trace stops pool p.0 p.1) (λ k. (place k, h.1 k)) (runs stops))
           (pushed c.loop-i.lanes.items lane i l (ap (λ ls. slice_get ls i) (sym c.push_reserved.ensures.items) ∙ e));
     }

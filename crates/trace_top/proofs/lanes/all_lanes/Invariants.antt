@@ -1,4 +1,4 @@
-use Rattle.std.proofs.Common.{◌≡◌, ◌≤◌, ◌+◌, drop, vec_len, vec_capacity}
+use Rattle.std.proofs.Common.{◌≡◌, ℕ, ◌≤◌, ◌+◌, Bool, drop, vec_len, vec_capacity}
 use Rattle.trace_top.specs.Standing.{AllRun}
 use Rattle.trace_top.proofs.lanes.all_lanes.Given as goal
 
@@ -11,5 +11,5 @@ invariant-loop-i l = record {
   seats_room : vec_capacity l.seats ≡ vec_capacity l.fn.seats;
   lanes_len : vec_len l.lanes ≡ l._i;
   lanes_room : vec_len l.fn.trace ≤ vec_capacity l.lanes;
-  made : AllRun l.fn.trace.items l.pool l.lanes.items;
+  made : (stops : ℕ → ℕ → Bool) → AllRun l.fn.trace.items stops l.pool l.lanes.items;
 }

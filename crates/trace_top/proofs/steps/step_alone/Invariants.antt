@@ -7,5 +7,7 @@ abbrev pub invariant-loop : goal.invariant-loop
 invariant-loop g l =
     (goal.iterator-loop g).can_next l.iterator' × (goal.iterator-loop g).is_finite l.iterator'
     × AreLanes l.pool l.lanes.items
-    × ((trace : List (List Command)) → AllRun trace l.pool l.initial.lanes.items → AllRun trace l.pool l.lanes.items)
+    × (let stops = g.G.Gate.stops l.gate in
+    (trace : List (List Command)) → AllRun trace stops l.pool l.initial.lanes.items
+    → AllRun trace stops l.pool l.lanes.items)
     × (vec_len l.lanes ≡ vec_len l.initial.lanes)

@@ -21,8 +21,8 @@ returns-in_err-step-clause-runs g c trace all =
     let stood =
     slice_get_read lanes.items (vec_len lanes) c.args.i c.index_mut-lane.result.now lanes.ok.0 c.requires.place
     c.index_mut-lane.ensures.value in
-    runs_set trace c.args.pool.now lanes.items c.args.i c.index_mut-lane.result.now c.step.new.self stood
-    c.step.ensures.lane c.step.ensures.same all
+    runs_set trace (g.G.Gate.stops c.args.gate.now) c.args.pool.now lanes.items c.args.i c.index_mut-lane.result.now
+    c.step.new.self stood c.step.ensures.lane c.step.ensures.same c.step.ensures.heeds all
 
 pub returns-in-Finished-clause-runs : goal.returns-in-Finished-clause-runs
 returns-in-Finished-clause-runs g c trace all =
@@ -30,8 +30,8 @@ returns-in-Finished-clause-runs g c trace all =
     let stood =
     slice_get_read lanes.items (vec_len lanes) c.args.i c.index_mut-lane.result.now lanes.ok.0 c.requires.place
     c.index_mut-lane.ensures.value in
-    runs_set trace c.args.pool.now lanes.items c.args.i c.index_mut-lane.result.now c.step.new.self stood
-    c.step.ensures.lane c.step.ensures.same all
+    runs_set trace (g.G.Gate.stops c.args.gate.now) c.args.pool.now lanes.items c.args.i c.index_mut-lane.result.now
+    c.step.new.self stood c.step.ensures.lane c.step.ensures.same c.step.ensures.heeds all
 
 -- the lane that was stepped had finished, and is as it was
 pub returns-in-Finished-clause-finished : goal.returns-in-Finished-clause-finished
@@ -59,8 +59,8 @@ returns-in-Went g c =
     c.index_mut-lane.ensures.value in
     record {
       lanes = lanes_set c.args.pool.now lanes.items c.args.i c.step.new.self c.requires.lanes c.step.ensures.lane;
-      runs = λ trace all. runs_set trace c.args.pool.now lanes.items c.args.i old c.step.new.self stood
-          c.step.ensures.lane c.step.ensures.same all;
+      runs = λ trace all. runs_set trace (g.G.Gate.stops c.args.gate.now) c.args.pool.now lanes.items c.args.i old
+          c.step.new.self stood c.step.ensures.lane c.step.ensures.same c.step.ensures.heeds all;
       count = refl;
       same = tt;
       finished = tt;

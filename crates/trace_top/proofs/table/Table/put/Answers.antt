@@ -17,7 +17,7 @@ invariant_of-self g c =
     let was : slice_get places at ≡ Some None =
     slice_get_read places (length places) at c.index.result.now refl in_range c.index.ensures ∙ ap Some none in
     rw c.fill.ensures (
-      stand_in _ _ places at c.args.lane inv.0 c.requires.lane,
+      stand_in _ _ _ places at c.args.lane inv.0 c.requires.lane,
       omega (arith, c.sub.ensures.total, inv.1, empties_in places at c.args.lane was),
       inv.2,
       inv.3,

@@ -23,7 +23,7 @@ invariant_of-self g c =
     let inv = c.self.invariant in
     let at = c.in_ok-at.at in
     rw c.take.ensures.after (
-      stand_out _ _ places at inv.0,
+      stand_out _ _ _ places at inv.0,
       omega (arith, c.add.ensures.total, inv.1, empties_out places at c.in-Some.lane (stood g c)),
       inv.2,
       inv.3,
