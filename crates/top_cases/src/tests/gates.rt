@@ -1,0 +1,81 @@
+//! A gate that stops a lane, and looks in which order it is asked.
+
+ghost use Rattle.std.specs.Prelude.{◌==◌, ◌&&◌};
+
+use std::alloc::{AllocError, Global};
+use std::sync::atomic::{AtomicU64, Ordering};
+use trace_top::{Gate, Pass};
+
+/// A lane and a line.
+pub type Spot = (u32, u32);
+
+/// A spot that no trace has.
+pub const NOWHERE: Spot = (99, 0);
+
+/// The most lanes of a trace.
+const LANES_MOST: u32 = 16;
+
+/// A gate that stops one lane at one line.
+#[derive(Drop)]
+pub struct Barrier {
+    lane: u32,
+    line: u32,
+    /// How often it was asked for each lane.
+    asked: Vec<AtomicU64>,
+    /// How often it was asked for another line than the next of a lane.
+    strayed: AtomicU64,
+}
+
+impl Barrier {
+    /// A gate that stops at this spot.
+    pub fn new(alloc: Global, stop: Spot) -> Result<Barrier, AllocError> {
+        let (lane, line) = stop;
+        let mut asked = Vec::new(alloc);
+        for _ in 0..LANES_MOST {
+            asked.push(AtomicU64::new(0))?;
+        }
+        Ok(Barrier {
+            lane,
+            line,
+            asked,
+            strayed: AtomicU64::new(0),
+        })
+    }
+
+    /// Whether it was asked for the lines of each lane in order, each once.
+    pub fn was_asked_in_order(&self) -> bool {
+        self.strayed.load(Ordering::SeqCst) == 0
+    }
+
+    /// For how many lines of a lane it was asked.
+    pub fn asked(&self, lane: u32) -> u64 {
+        match self.asked.get(lane as usize) {
+            Some(asked) => asked.load(Ordering::SeqCst),
+            None => 0,
+        }
+    }
+
+    // Counts a question, and sees that it is for the next line of the lane.
+    fn count(&self, lane: u32, line: u32) {
+        let is_next = match self.asked.get(lane as usize) {
+            Some(asked) => asked.fetch_add(1, Ordering::SeqCst) == line as u64,
+            None => false,
+        };
+        if !is_next {
+            self.strayed.fetch_add(1, Ordering::SeqCst);
+        }
+    }
+}
+
+impl Gate for Barrier {
+    ghost stops = { λ g lane line. (lane == g.lane) && (line == g.line) };
+
+    fn pass(&self, lane: u32, line: u32) -> Pass {
+        self.count(lane, line);
+        if lane == self.lane && line == self.line {
+            Pass::Stop
+        } else {
+            Pass::Go
+        }
+    }
+}
