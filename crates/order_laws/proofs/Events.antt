@@ -18,7 +18,7 @@ use Rattle.pool_law.proofs.SameLemmas.{same_root-is}
 use Rattle.pool_law.proofs.PatternLemmas.{same_root-refl}
 use Rattle.run_laws.specs.OneLog.{HasEnded, StandInOneLog}
 use Rattle.run_laws.proofs.PagedHistories.{paged}
-use Rattle.run_laws.proofs.Totals.{note-placed}
+use Rattle.run_laws.proofs.HandTotals.{note-placed}
 use Rattle.run_laws.proofs.OverlapLaw.{Reaches}
 use Rattle.run_laws.proofs.RunLaws.{acts-of, roots-in_one_log}
 use Rattle.run_order.specs.Order.{made, InOneOrder}

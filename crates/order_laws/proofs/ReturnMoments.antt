@@ -18,7 +18,7 @@ use Rattle.pool_law.specs.Lives.{IsUse, with_uses, Event, Stands, Got, Moves, Is
 use Rattle.pool_law.specs.Apart.{Before}
 use Rattle.pool_law.proofs.SameLemmas.{same_region-is}
 use Rattle.pool_law.proofs.PatternLemmas.{same_region-refl, same_taking-refl}
-use Rattle.run_laws.proofs.LifeEvents.{the, the_birth}
+use Rattle.run_laws.proofs.EventKinds.{the, the_birth}
 use Rattle.run_laws.proofs.OverlapLaw.{Reaches, among-after, no-take}
 use Rattle.run_laws.proofs.RunLaws.{regions-live, regions-apart}
 use Rattle.run_order.specs.Order.{Step, made, InOneOrder}

@@ -24,7 +24,8 @@ use Rattle.run_laws.proofs.LogEntries.{LanesAct}
 use Rattle.run_laws.proofs.Numbered.{in-log}
 use Rattle.arena_law.proofs.ReturnLaw.{comes-back, after-append}
 use Rattle.run_laws.proofs.Placed.{placed, is-some, total-found, one-of-true}
-use Rattle.run_laws.proofs.Totals.{dids-there, takes, takes_in, hits_in, births_in, births-next, takes-unused}
+use Rattle.run_laws.proofs.Totals.{dids-there, takes, takes_in, hits_in, births_in}
+use Rattle.run_laws.proofs.HandTotals.{births-next, takes-unused}
 use Rattle.run_laws.proofs.LifeLaw.{use-counts, hits-less, unused-none}
 use Rattle.run_laws.proofs.LifeOrder.{compare-uses}
 

@@ -30,9 +30,12 @@ use Rattle.pool_law.proofs.SameLemmas.{same_root-is}
 use Rattle.pool_law.proofs.PatternLemmas.{same_root-refl, same_region-refl}
 use Rattle.run_laws.proofs.Sums.{below-or, over-none, sum_by, sum_over, over-at, over-one, over-found}
 use Rattle.run_laws.proofs.Numbered.{plain, total-plain, at_object, regroup}
-use Rattle.run_laws.proofs.Totals.{note_tally, ends_in, note-placed}
+use Rattle.run_laws.proofs.Totals.{note_tally, ends_in}
+use Rattle.run_laws.proofs.HandTotals.{note-placed}
 use Rattle.run_laws.proofs.LifeLaw.{end-use}
-use Rattle.run_laws.proofs.CloseLaw.{Parts, grant, shed_one, close_one, log-even, log-closes, ends-empty}
+use Rattle.run_laws.proofs.Draining.{grant, shed_one, close_one}
+use Rattle.run_laws.proofs.LogParts.{Parts, log-even, log-closes}
+use Rattle.run_laws.proofs.CloseLaw.{ends-empty}
 
 abbrev pub one : Bool → ℕ
 one b = if b then 1 else 0

@@ -11,7 +11,7 @@ use Rattle.pool_law.specs.Patterns.{one_more}
 use Rattle.run_laws.specs.Hands.{did_of, Source, Got, Ended, Dropped, Hand, hand_if, hand_step, hand_after}
 use Rattle.pool_law.proofs.SameLemmas.{same_region-is}
 use Rattle.run_laws.proofs.Together.{Fills}
-use Rattle.run_laws.proofs.LaneActs.{bind-some}
+use Rattle.run_laws.proofs.Readings.{bind-some}
 
 -- what was done puts the region down, by where it came from
 abbrev pub Empties : Source → RegionId → Did → Type 0

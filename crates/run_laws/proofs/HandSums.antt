@@ -10,7 +10,7 @@ use Rattle.pool_law.specs.Readers.{Entries}
 use Rattle.pool_law.specs.Patterns.{one_more}
 use Rattle.run_laws.specs.Hands.{did_of, Got, Ended, Dropped, Hand, hand_by, hand_if, hand_step, hand_after}
 use Rattle.run_laws.specs.HandCounts.{tally_if, tally, got_by, used_by, ended_by, shed_by, kept_by, given_by, HandsBalance}
-use Rattle.run_laws.proofs.LaneActs.{bind-some}
+use Rattle.run_laws.proofs.Readings.{bind-some}
 use Rattle.pool_law.proofs.SameLemmas.{same_region-is}
 use Rattle.std.proofs.lemmas.Bool.{cond_both}
 

@@ -21,8 +21,8 @@ use Rattle.run_laws.specs.OneLog.{Counted, StandInOneLog}
 use Rattle.run_laws.specs.Reported.{NeverFreed, IsLeak, ListsLeaks}
 use Rattle.run_laws.specs.Headline.{LiveLieApart, LiveIsNeverFreed, Headline}
 use Rattle.run_laws.proofs.LogEntries.{LanesAct}
-use Rattle.run_laws.proofs.CloseLaw.{Parts}
-use Rattle.run_laws.proofs.Totals.{note-placed}
+use Rattle.run_laws.proofs.LogParts.{Parts}
+use Rattle.run_laws.proofs.HandTotals.{note-placed}
 use Rattle.run_laws.proofs.LifeLaw.{birth-use}
 use Rattle.run_laws.proofs.EndLaw.{dead-ended, ended-dead}
 use Rattle.run_laws.proofs.OneLogLaw.{stand-in_one_log}

@@ -22,7 +22,8 @@ use Rattle.pool_law.proofs.PatternLemmas.{same_region-refl, both_true}
 use Rattle.run_laws.proofs.Sums.{over-at, over-one, over-found}
 use Rattle.run_laws.proofs.Numbered.{in-history, in-log}
 use Rattle.run_laws.proofs.Placed.{is-some, end-born, one-of-true}
-use Rattle.run_laws.proofs.Totals.{dids-at, dids-there, note_tally, born_by, takes_in, hits_in, keeps_in, gives_in, births_in, ends_in, note-placed, births-next, put-down, drops, removes-less, takes-most, takes-unused, ends-born}
+use Rattle.run_laws.proofs.Totals.{dids-at, dids-there, note_tally, born_by, takes_in, hits_in, keeps_in, gives_in, births_in, ends_in}
+use Rattle.run_laws.proofs.HandTotals.{note-placed, births-next, put-down, drops, removes-less, takes-most, takes-unused, ends-born}
 use Rattle.run_laws.proofs.LogEntries.{LanesAct}
 use Rattle.run_laws.proofs.Together.{FilledAt, note-together}
 

@@ -16,7 +16,8 @@ use Rattle.run_laws.specs.CacheCounts.{removes}
 use Rattle.pool_law.specs.Patterns.{one_more}
 use Rattle.run_laws.proofs.Numbered.{in-history, in-log}
 use Rattle.run_laws.proofs.Placed.{is-some, kept-before}
-use Rattle.run_laws.proofs.Totals.{dids-at, dids-there, takes_in, hits_in, gives_in, births_in, births-next, takes-unused}
+use Rattle.run_laws.proofs.Totals.{dids-at, dids-there, takes_in, hits_in, gives_in, births_in}
+use Rattle.run_laws.proofs.HandTotals.{births-next, takes-unused}
 use Rattle.run_laws.proofs.LogEntries.{LanesAct}
 use Rattle.run_laws.proofs.LifeLaw.{use-found, use-used, hits-less, born-most}
 

@@ -17,9 +17,9 @@ use Rattle.pool_law.specs.Same.{same_root}
 use Rattle.pool_law.proofs.PatternLemmas.{same_root-refl}
 use Rattle.run_laws.proofs.LogEntries.{LanesAct}
 use Rattle.run_laws.proofs.Sums.{sum_over, over-place}
-use Rattle.run_laws.proofs.CloseLaw.{Parts}
+use Rattle.run_laws.proofs.LogParts.{Parts}
 use Rattle.run_laws.proofs.Together.{BirthHere, EndHere, Together, note-together}
-use Rattle.run_laws.proofs.Totals.{note-placed}
+use Rattle.run_laws.proofs.HandTotals.{note-placed}
 use Rattle.run_laws.proofs.LifeLaw.{end-use}
 use Rattle.run_laws.proofs.EndLaw.{one, birth_weight, born_weight, ended_weight, end_weight, vacated_weight, birth-alike, ended-alike, vacated-alike, sums-alike, ends-most, births-most}
 

@@ -12,7 +12,7 @@ use Rattle.pool_law.specs.Logs.{Logs}
 use Rattle.pool_law.specs.Lives.{IsUse, arena_of, with_uses, Event, Stands, InOneLog, AtOneObject, Where, Got, Used, Freed, Cached, Dropped, LivesOn, Follows, InOrder, Moves, IsAmong, dids_of, Life, RegionsLive}
 use Rattle.pool_law.specs.Apart.{Leads, EndsBefore, NeverOverlap, Before, LieApart}
 use Rattle.pool_law.proofs.PatternLemmas.{same_taking-refl}
-use Rattle.run_laws.proofs.LifeEvents.{the, the_birth}
+use Rattle.run_laws.proofs.EventKinds.{the, the_birth}
 
 -- from one event to a later one
 abbrev pub Reaches : Logs → Event → Event → Type 0

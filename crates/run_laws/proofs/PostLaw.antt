@@ -19,7 +19,8 @@ use Rattle.pool_law.specs.LaneLaw.{IsLaneLog}
 use Rattle.pool_law.proofs.SameLemmas.{and-first, and-second}
 use Rattle.run_laws.proofs.Sums.{sum_by, sum-at, sum-none}
 use Rattle.run_laws.proofs.Acts.{sum_notes, IsOther, Less, less-acts}
-use Rattle.run_laws.proofs.LaneActs.{Sends, MayDrain, log-acts}
+use Rattle.run_laws.proofs.CommandActs.{Sends}
+use Rattle.run_laws.proofs.LaneActs.{MayDrain, log-acts}
 use Rattle.run_laws.proofs.LogEntries.{lane-there, sum-entries}
 
 -- a post is to one of so many lanes

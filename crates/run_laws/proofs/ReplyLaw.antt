@@ -20,7 +20,7 @@ use Rattle.pool_law.specs.Refusals.{Refusal, first_refusal, unbound, taken, comp
 use Rattle.pool_law.specs.Patterns.{New, obtain, one_more, bear, with_handle, allot, end_of, release}
 use Rattle.pool_law.specs.Lanes.{Answer, answer, parcel_of, set_parts, copy_parts, release_parts, copied_to, consolidate, composed, allotted, received, set_at, retain_of, release_of, count_in, carried_out}
 use Rattle.arena_law.specs.Slots.{EachOf}
-use Rattle.run_laws.proofs.LaneActs.{bind-some, or-some}
+use Rattle.run_laws.proofs.Readings.{bind-some, or-some}
 
 -- a reply without bytes
 abbrev pub NoBytes : Reply → Type 0

@@ -21,14 +21,15 @@ use Rattle.run_laws.specs.CacheCounts.{one_of, puts}
 use Rattle.run_laws.specs.HandCounts.{shed_by}
 use Rattle.pool_law.proofs.PatternLemmas.{same_region-refl}
 use Rattle.run_laws.proofs.LogEntries.{LanesAct, entry-note, get-map}
-use Rattle.run_laws.proofs.CloseLaw.{Parts}
+use Rattle.run_laws.proofs.LogParts.{Parts}
 use Rattle.run_laws.proofs.Acts.{PutsAway}
 use Rattle.run_laws.proofs.Sums.{below-or, over-at}
 use Rattle.run_laws.proofs.Placed.{total-found, puts-kept}
 use Rattle.run_laws.proofs.Together.{Fills, EndHere, note-together}
 use Rattle.run_laws.proofs.HandPairs.{Empties, moving, no-both, same-some}
 use Rattle.run_laws.proofs.HandNotes.{Held, held-from, held-to, held-once}
-use Rattle.run_laws.proofs.Totals.{note_tally, note-placed, keeps_in, shed-total, removes-less}
+use Rattle.run_laws.proofs.Totals.{note_tally, keeps_in}
+use Rattle.run_laws.proofs.HandTotals.{note-placed, shed-total, removes-less}
 use Rattle.run_laws.proofs.LifeLaw.{end-use, one-use}
 use Rattle.run_laws.proofs.ApartLaw.{done-at}
 use Rattle.run_laws.proofs.EndLaw.{EndOut, end-out, ended-dead, dead-ended}

@@ -14,7 +14,7 @@ use Rattle.run_laws.proofs.PagedHistories.{paged}
 use Rattle.run_laws.proofs.Placed.{is-some}
 use Rattle.run_laws.proofs.Acts.{sum_notes, Acts, no-acts}
 use Rattle.run_laws.proofs.LaneActs.{AnyNote, any-acts}
-use Rattle.run_laws.proofs.CloseLaw.{Parts, log-parts}
+use Rattle.run_laws.proofs.LogParts.{Parts, log-parts}
 use Rattle.run_laws.proofs.LogEntries.{LanesAct, entries-at, log-past}
 use Rattle.run_laws.proofs.LifeChain as chain
 use Rattle.run_laws.proofs.OverlapLaw.{never-overlap}

@@ -22,7 +22,10 @@ use Rattle.table_law.specs.NoteCounts.{place_lane, did_handle, did_home, parcel_
 use Rattle.table_law.specs.Histories.{IsHistory, IsBinAfter}
 use Rattle.table_law.specs.Standing.{IsPlaced, IsMailed}
 use Rattle.table_law.proofs.Runs.{balance, keeps}
-use Rattle.table_law.proofs.Steps.{IsBinStep, bin_of, mapped-push, IsMailStep, IsArenaStep, IsCacheStep, IsPlaceStep}
+use Rattle.table_law.proofs.BinSteps.{IsBinStep, bin_of, mapped-push, IsMailStep}
+use Rattle.table_law.proofs.ArenaSteps.{IsArenaStep}
+use Rattle.table_law.proofs.CacheSteps.{IsCacheStep}
+use Rattle.table_law.proofs.PlaceSteps.{IsPlaceStep}
 use Rattle.table_law.proofs.Told.{bin_there, bin_note, bin_runs, last_bin, mail_there, mail_note, mail_runs, last_mail, next_mail, last_arena, last_cache, last_place}
 
 -- the empty history is accepted

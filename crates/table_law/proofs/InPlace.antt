@@ -9,7 +9,7 @@ use Rattle.table_law.specs.Standing.{IsInPlace}
 use Rattle.table_law.proofs.Runs.{right_push}
 use Rattle.table_law.proofs.Bins.{placed, mailed}
 use Rattle.table_law.proofs.Roots.{rooted}
-use Rattle.table_law.proofs.Regions.{regioned, of_class}
+use Rattle.table_law.proofs.TakingMoves.{regioned, of_class}
 
 pub in_place : (s : Shape) (o : Object) (h : List Noted) (n : Noted) → IsHistory s o (h ++ n ∷ []) → IsInPlace s o n
 in_place s o h n t =

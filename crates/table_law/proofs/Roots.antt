@@ -20,7 +20,10 @@ use Rattle.table_law.specs.NoteCounts.{did_birth, did_birth_of, did_birth_as, di
 use Rattle.table_law.specs.Histories.{IsHistory, IsPlaceAfter}
 use Rattle.table_law.specs.Standing.{IsRooted}
 use Rattle.table_law.proofs.Runs.{Runs, balance}
-use Rattle.table_law.proofs.Steps.{IsBinStep, IsMailStep, IsArenaStep, IsCacheStep, IsPlaceStep, FitsPlace, root_in}
+use Rattle.table_law.proofs.BinSteps.{IsBinStep, IsMailStep}
+use Rattle.table_law.proofs.ArenaSteps.{IsArenaStep}
+use Rattle.table_law.proofs.CacheSteps.{IsCacheStep}
+use Rattle.table_law.proofs.PlaceSteps.{IsPlaceStep, FitsPlace, root_in}
 use Rattle.table_law.proofs.Told.{place_note, place_runs, place_fits, last_place, last_bin, last_mail, last_arena, last_cache}
 
 same_one : (a b : RootId) → Some a ≡ Some b → a ≡ b

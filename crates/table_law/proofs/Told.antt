@@ -15,7 +15,10 @@ use Rattle.pool_law.specs.NotedHistories.{noted_dids, IsRightAt}
 use Rattle.pool_law.specs.Logs.{present_in, region_for}
 use Rattle.table_law.specs.Histories.{IsHistory, IsArenaAfter, IsCacheAfter, IsBinAfter, IsPlaceAfter, root_after}
 use Rattle.table_law.proofs.Runs.{Runs, there, told, last_note, next_note, kept, right_last}
-use Rattle.table_law.proofs.Steps.{IsBinStep, OfLane, bin_told, of_new, IsMailStep, mail_told, IsArenaStep, OfArena, arena_told, IsCacheStep, cache_told, IsPlaceStep, FitsPlace, place_told, root_in}
+use Rattle.table_law.proofs.BinSteps.{IsBinStep, OfLane, bin_told, of_new, IsMailStep, mail_told}
+use Rattle.table_law.proofs.ArenaSteps.{IsArenaStep, OfArena, arena_told}
+use Rattle.table_law.proofs.CacheSteps.{IsCacheStep, cache_told}
+use Rattle.table_law.proofs.PlaceSteps.{IsPlaceStep, FitsPlace, place_told, root_in}
 
 -- ---- What an object is after its history.
 
