@@ -26,4 +26,6 @@ pub mod CompositePlays
 pub mod SweepPlays
 pub mod StopRuns
 pub mod OddRuns
+pub mod DisorderedRuns
 pub mod LifeRows
+pub mod OrderedRuns

@@ -1,21 +1,15 @@
-//! Worked runs of two lanes whose steps stand in one order.
+//! The worked runs that stand in one order, each in that of its turns.
 
-ghost use Rattle.pool_law.specs.Legal.{logs_of};
-ghost use Rattle.law_rows.specs.LaneRuns.{hand_over, sent_after_release};
-ghost use Rattle.law_rows.specs.BusyRuns.{tried};
-ghost use Rattle.run_order.specs.Order.{InOneOrder};
+ghost use Rattle.std.specs.Prelude.{All};
+ghost use Rattle.law_rows.specs.OrderedRuns.{IsOrdered, one_lane, two_lanes};
 
-/// One lane sends a root, and the other reads and releases it.
-pub fn hand_over_in_order()
-    ensures stands { InOneOrder (logs_of hand_over) }
+/// Each worked run of one lane stands in the order of its log.
+pub fn one_lane_in_order()
+    ensures stand { All IsOrdered one_lane }
 {}
 
-/// A lane sends a root after its end: the other gets an empty parcel.
-pub fn sent_after_release_in_order()
-    ensures stands { InOneOrder (logs_of sent_after_release) }
-{}
-
-/// A lane that tries finds the root held after one note, and then finds it free.
-pub fn tried_in_order()
-    ensures stands { InOneOrder (logs_of tried) }
+/// Each worked run of two lanes stands in one order: a hand-over, a parcel sent after a release and one
+/// that nobody fetches, a lane that finds another at a root and at a cache, and lanes that are stopped.
+pub fn two_lanes_in_order()
+    ensures stand { All IsOrdered two_lanes }
 {}

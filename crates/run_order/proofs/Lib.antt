@@ -1,5 +1,5 @@
 pub mod Fronts
 pub mod Positions
 pub mod Tests
+pub mod Turns
 pub mod Stuck
-pub mod InOrder

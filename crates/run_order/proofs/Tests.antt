@@ -1,5 +1,5 @@
--- Whether a note fits what was done before it, as a test that computes.
-use Rattle.std.proofs.Common.{◌≡◌, ℕ, ◌+◌, Bool, true, List, arith, eqb-true, eq-eqb, ltb-true, lt-ltb}
+-- Whether a note fits what was done before it, and each of a list of steps does, as tests that compute.
+use Rattle.std.proofs.Common.{◌≡◌, ℕ, ◌+◌, Bool, true, List, [], ◌∷◌, ◌++◌, sym, subst, arith, eqb-true, eq-eqb, ltb-true, lt-ltb}
 use Rattle.std.specs.Prelude.{◌<◌, ◌-◌, ◌==◌, ◌&&◌, nat_lt}
 use Rattle.pool_law.specs.declared.id.RootId.{RootId}
 use Rattle.pool_law.specs.declared.note.RefDid.{RefDid}
@@ -9,6 +9,7 @@ use Rattle.pool_law.specs.declared.note.Note.TheVariants.{At, Ref, Busy}
 use Rattle.pool_law.specs.Counts.{is_born, is_retain, is_release, ends_root}
 use Rattle.pool_law.proofs.SameLemmas.{and-first, and-second}
 use Rattle.pool_law.proofs.PatternLemmas.{both_true}
+use Rattle.pool_law.proofs.HistoryLemmas.{append-assoc, append-nil}
 use Rattle.run_order.specs.Order.{Step, made, is_at, is_born_at, is_vacated_at, is_vacated, FitsCount, Fits}
 
 -- the counts of a root that these steps gain, and those that they lose
@@ -70,3 +71,23 @@ pub Fits-tests : (before : List Step) (n : Note) → Fits before n → note_fits
 Fits-tests before (At object number did) h = eq-eqb _ _ h
 Fits-tests before (Ref root did) h = FitsCount-tests before root did h
 Fits-tests before (Busy held) h = eq-eqb _ _ h
+
+-- each of these steps fits those before it
+abbrev pub all_fit : List Step → List Step → Bool
+all_fit before [] = true
+all_fit before (x ∷ rest) = note_fits before x.note && all_fit (before ++ x ∷ []) rest
+
+pub all_fit-is : (before rest : List Step) → all_fit before rest ≡ true → (front back : List Step) (x : Step)
+    → rest ≡ front ++ x ∷ back → Fits (before ++ front) x.note
+all_fit-is before [] e [] back x is = absurd (cc is)
+all_fit-is before [] e (z ∷ front) back x is = absurd (cc is)
+all_fit-is before (y ∷ rest) e [] back x is =
+    let same : y ≡ x = cc is in
+    subst (λ xs. Fits xs x.note) (sym (append-nil before))
+    (subst (λ z. Fits before z.note) same (note_fits-is before y.note (and-first _ _ e)))
+all_fit-is before (y ∷ rest) e (z ∷ front) back x is =
+    let same : y ≡ z = cc is in
+    let tail : rest ≡ front ++ x ∷ back = cc is in
+    subst (λ s. Fits (before ++ s ∷ front) x.note) same
+    (subst (λ xs. Fits xs x.note) (append-assoc before (y ∷ []) front)
+    (all_fit-is (before ++ y ∷ []) rest (and-second _ _ e) front back x tail))

@@ -1,2 +1,4 @@
 pub mod Order
+pub mod Turns
 pub mod Forged
+pub mod ForgedSteps

@@ -1,8 +1,14 @@
--- The run is computed.
+-- The run is computed, and that no order fits it.
 use Rattle.std.proofs.Common.{refl}
+use Rattle.pool_law.specs.Legal.{logs_of}
+use Rattle.run_order.proofs.Stuck.{in-no_order}
 use Rattle.law_rows.specs.OddRuns.{read_before_set}
 use Rattle.law_rows.proofs.LegalComputed.{legal}
 use Rattle.law_rows.proofs.odd_runs.read_before_set_run.Goals as goal
 
 pub returns : goal.returns
-returns c = record { legal = legal read_before_set refl }
+returns c =
+    record {
+      legal = legal read_before_set refl;
+      no_order = in-no_order 24 (logs_of read_before_set) refl;
+    }

@@ -5,6 +5,7 @@ use Rattle.pool_law.specs.Counts.{names_root, is_birth, count_over}
 use Rattle.pool_law.specs.Legal.{logs_of}
 use Rattle.law_rows.specs.LaneRuns.{four}
 use Rattle.law_rows.specs.OddRuns.{circling}
+use Rattle.run_order.proofs.Stuck.{in-no_order}
 use Rattle.law_rows.proofs.RootTests.{CountsHold-passes}
 use Rattle.law_rows.proofs.odd_runs.root_that_nobody_bore.Goals as goal
 
@@ -19,3 +20,6 @@ returns-clause-refused c legal =
     let named : count_over (names_root four) (entries_of (logs_of circling)) ≡ 7 = refl in
     let births : count_over (is_birth four) (entries_of (logs_of circling)) ≡ 0 = refl in
     absurd (omega (arith, births, legal.counts.born four (omega (arith, named))))
+
+pub returns-clause-no_order : goal.returns-clause-no_order
+returns-clause-no_order c = in-no_order 24 (logs_of circling) refl
