@@ -30,16 +30,20 @@ use Rattle.pool_table.specs.Steps.{IsFree}
 use Rattle.std.specs.Prelude.{Bool, true, false, MatchBool}
 use Rattle.atomic_table.specs.Table.{Step, rest}
 use Rattle.pool_table.specs.Views.{blank, joined}
-use Rattle.pool_table.specs.Steps.{claims, marks_claims, GotIn, counts_one, dones, idles, blank_beside, share_left, share_of, retains, looks, releases, vacates, births}
-use Rattle.pool_table.proofs.Seatings.{splits_allowed, shares_allowed, joins_allowed}
+use Rattle.pool_table.specs.Steps.{claims, marks_claims, GotIn, counts_one, dones, idles, blank_beside, share_left, share_of, share_added, IsShare, retains, looks, releases, vacates, births}
+use Rattle.pool_table.proofs.Seatings.{splits_allowed, shares_allowed}
+use Rattle.pool_table.proofs.Joinings.{joins_allowed, accepts_allowed}
 use Rattle.pool_table.proofs.Hands.{births_allowed, hand_place}
 use Rattle.pool_table.proofs.Exact.{born_place, count_born, token_born}
 use Rattle.pool_table.proofs.OneRoot.{one_allowed}
 use mathlib.Core.Option.{some}
 use lib.ListN.{get_elem?}
 use Rattle.atomic_table.specs.Table.{State}
-use Rattle.pool_table.proofs.References.{retains_allowed, looks_allowed, releases_allowed, vacates_allowed}
-use Rattle.pool_table.proofs.Moves.{claims_allowed, marks_allowed, dones_allowed, idles_allowed}
+use Rattle.pool_table.proofs.CountSteps.{retains_allowed, looks_allowed, releases_allowed, vacates_allowed}
+use Rattle.pool_table.proofs.Claimed.{claims_allowed}
+use Rattle.pool_table.proofs.Marks.{marks_allowed}
+use Rattle.pool_table.proofs.Noting.{dones_allowed}
+use Rattle.pool_table.proofs.Leaving.{idles_allowed}
 
 -- the word of an object is one of the table's
 pub word_within : (s : Shape) (o : Object) (word words : ℕ) → IsObjectOf s o → word ≡ word_of s o → words ≡ words_of s
@@ -128,6 +132,12 @@ module _ {H : Type 0} (stands : List ℕ → Setting → List Noted → H → Ty
   shares_as l key n n' id v ke ne out le =
       subst (λ (y : Layout × ℕ). Splits (IsSound stands y.0) id v (share_left y.1 v) (share_of y.1 v))
       (λ i. (sym ke i, sym ne i)) (shares_allowed stands l n id v out le)
+
+  pub accepts_as : (l key : Layout) (id other : ℕ) (v w : SeatView) → key ≡ l → v.inside ≡ None → IsShare w
+      → Joins (IsSound stands key) id v other w (share_added w.moves v) (blank None)
+  accepts_as l key id other v w ke vo is =
+      subst (λ (k : Layout). Joins (IsSound stands k) id v other w (share_added w.moves v) (blank None)) (sym ke)
+      (accepts_allowed stands l id other v w vo is)
 
   pub joins_as : (l key : Layout) (id other : ℕ) (v w : SeatView) → key ≡ l → v.inside ≡ None → w.inside ≡ None
       → Joins (IsSound stands key) id v other w (joined v w) (blank None)

@@ -37,14 +37,14 @@ use Rattle.pool_law.specs.declared.id.RegionId.{RegionId}
 use Rattle.pool_table.proofs.Ledgers.{sum_add}
 use Rattle.pool_table.proofs.Regions.{in_one_hold}
 use Rattle.pool_law.specs.declared.id.RootId.{RootId}
-use Rattle.pool_table.proofs.References.{small_count}
+use Rattle.pool_table.proofs.WordChanges.{small_count}
 use Rattle.pool_table.proofs.Counts.{other_kept}
 use Rattle.pool_table.proofs.Weights.{weigh_none}
 use Rattle.pool_table.specs.Sound.{IsSound, IsView, IsTold, IsIdle}
 use Rattle.pool_table.specs.Closed.{HasAllLanes, IsClosed}
 use Rattle.pool_table.proofs.Tables.{none_counted}
 use Rattle.pool_table.proofs.Openings.{empty_strands, counts_none}
-use Rattle.pool_table.proofs.Moves.{under}
+use Rattle.pool_table.proofs.Entries.{under}
 
 module _ {H : Type 0} (stands : List ℕ → Setting → List Noted → H → Type 0) (l : Layout) where
   abbrev St : Type 0

@@ -37,7 +37,9 @@ use Rattle.pool_table.proofs.Weights.{weigh_none, strict_sum}
 use Rattle.pool_table.specs.Births.{IsBorn}
 use Rattle.pool_table.proofs.Exact.{counted_of}
 use Rattle.pool_table.proofs.Fitting.{born_fits}
-use Rattle.pool_table.proofs.References.{own_step, ref_changes, counted_more, settled_more, handy_less, orderly_born, exact_le}
+use Rattle.pool_table.proofs.CountSteps.{own_step}
+use Rattle.pool_table.proofs.WordChanges.{ref_changes}
+use Rattle.pool_table.proofs.CountedViews.{counted_more, settled_more, handy_less, orderly_born, exact_le}
 
 -- what a filter leaves out weighs nothing
 filter_all : (f : Entry → ℕ) (t : Entry → Bool) (es : List Entry) → All (λ (e : Entry). t e ≡ false → f e ≡ 0) es

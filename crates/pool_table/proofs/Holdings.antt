@@ -10,7 +10,7 @@ use Rattle.pool_law.specs.declared.note.Object.{Object}
 use Rattle.pool_law.specs.Same.{same_taking}
 use Rattle.table_law.specs.NoteCounts.{is_taking, uses_in}
 use Rattle.table_law.proofs.Names.{same_taking-key}
-use Rattle.table_law.proofs.Regions.{of_taking, uses_light}
+use Rattle.table_law.proofs.ArenaTakings.{of_taking, uses_light}
 use Rattle.pool_table.specs.declared.views.Entry.{Entry}
 use Rattle.pool_table.specs.declared.views.Entry.TheVariants.{At}
 use Rattle.pool_table.specs.declared.views.SeatView.{SeatView}

@@ -21,7 +21,8 @@ use Rattle.pool_table.specs.Sound.{IsSound}
 use Rattle.pool_table.specs.Steps.{Told, counts_one}
 use Rattle.pool_table.proofs.AtPlace.{CountsAt}
 use Rattle.pool_table.proofs.Exact.{born_place, count_born, count_at, token_at, one_born}
-use Rattle.pool_table.proofs.References.{live_word, token_word}
+use Rattle.pool_table.proofs.WordChanges.{live_word}
+use Rattle.pool_table.proofs.CountSteps.{token_word}
 use Rattle.pool_table.proofs.Weights.{weigh_entry, weigh_none}
 
 -- a view without notes counts none

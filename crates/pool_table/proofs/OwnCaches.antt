@@ -25,7 +25,8 @@ use Rattle.table_law.specs.Histories.{IsCacheAfter}
 use Rattle.table_law.specs.Standing.{IsOfClass}
 use Rattle.table_law.specs.NoteCounts.{is_taking, uses_in, has_number, arena_out, arena_in}
 use Rattle.table_law.proofs.Names.{and-first, and-second, same_taking-is, same_taking-both, same_taking-refl}
-use Rattle.table_law.proofs.Regions.{of_taking, OfCache, cache_own}
+use Rattle.table_law.proofs.ArenaTakings.{of_taking}
+use Rattle.table_law.proofs.Regions.{OfCache, cache_own}
 use Rattle.pool_table.specs.declared.views.Entry.{Entry}
 use Rattle.pool_table.specs.declared.views.Entry.TheVariants.{At, Ref, Busy}
 use Rattle.pool_table.specs.declared.views.Layout.{Layout}
@@ -39,7 +40,9 @@ use Rattle.pool_table.specs.Sound.{IsSound, IsView, Stands, OnceBelow}
 use Rattle.pool_table.proofs.Partition.{sum_to_at}
 use Rattle.pool_table.proofs.Ledgers.{all_pay, only_here}
 use Rattle.pool_table.proofs.Tables.{none_counted}
-use Rattle.pool_table.proofs.Regions.{some_side, some_spread, sums, all_held, cache_has, number_once}
+use Rattle.pool_table.proofs.Regions.{some_side, some_spread, sums, all_held}
+use Rattle.pool_table.proofs.RegionNotes.{cache_has}
+use Rattle.pool_table.proofs.RegionNumbers.{number_once}
 
 true_of : (b : Bool) → IsTrue b → b ≡ true
 true_of true t = refl

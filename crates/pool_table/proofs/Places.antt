@@ -30,7 +30,8 @@ use Rattle.pool_table.proofs.AtPlace.{CountsAt, TokenAt}
 use Rattle.pool_table.proofs.Exact.{count_at, token_at}
 use Rattle.pool_table.proofs.Ledgers.{sum_add}
 use Rattle.pool_table.proofs.Weights.{strict_sum}
-use Rattle.pool_table.proofs.References.{live_word, token_word}
+use Rattle.pool_table.proofs.WordChanges.{live_word}
+use Rattle.pool_table.proofs.CountSteps.{token_word}
 use Rattle.pool_table.proofs.Hands.{in_faces, hand_word, taken_once}
 
 -- where two elements lose less than they gain

@@ -1,7 +1,7 @@
--- What the history of a root place tells a view, from the steps on its word.
+-- Which root is at a place, by who claims it.
 use Rattle.step_law.specs.Settings.{Setting}
 use Rattle.std.proofs.Common.{◌≡◌, ◌≢◌, ℕ, ◌+◌, ◌*◌, ◌<◌, ◌≤◌, List, [], ◌∷◌, ◌++◌, Bool, true, false, cond, eqb, sym, refl, ap, ◌∙◌, subst, inl, inr, arith, lt_of_not-le}
-use Rattle.std.specs.Prelude.{Option, Some, None, All, sum_by, count_by}
+use Rattle.std.specs.Prelude.{Option, Some, None, sum_by, count_by}
 use Rattle.std.proofs.lemmas.List.Sums.{sum_by-le-sum_by}
 use Rattle.std.proofs.lemmas.List.Elements.{All-weaker}
 use mathlib.Core.Logic.{dite}
@@ -21,7 +21,7 @@ use Rattle.pool_law.specs.Homes.{IsObjectOf}
 use Rattle.table_law.specs.Histories.{IsHistory, IsPlaceAfter, root_after}
 use Rattle.table_law.specs.NoteCounts.{did_birth, did_birth_of, did_end}
 use Rattle.pool_law.specs.Roots.{RootPlace}
-use Rattle.table_law.proofs.Steps.{root_in}
+use Rattle.table_law.proofs.PlaceSteps.{root_in}
 use Rattle.table_law.proofs.Told.{place_there, last_place, root_is}
 use Rattle.table_law.proofs.Roots.{place_born, of_birth, place_births, place_ends, birth_step, end_step}
 use Rattle.pool_table.specs.declared.views.Entry.{Entry}
@@ -31,123 +31,21 @@ use Rattle.pool_table.specs.Views.{parts_of, is_at, spent}
 use Rattle.pool_table.specs.declared.views.Layout.{Layout}
 use Rattle.pool_table.specs.declared.views.SeatView.{SeatView}
 use Rattle.pool_table.specs.Counts.{ref_born, ref_ended, ref_vacated, on_place, on_root, place_tally, tally, weigh}
-use Rattle.pool_table.specs.Hands.{at_in, at_out, at_birth, at_birth_of, at_end, InHand, NoneWaits, ends}
+use Rattle.pool_table.specs.Hands.{at_birth, at_birth_of, at_end, InHand, NoneWaits, ends}
 use Rattle.pool_table.specs.Births.{IsBorn}
 use Rattle.pool_table.specs.Sound.{IsSound, IsView}
 use Rattle.pool_table.specs.Learned.{TellsRoot}
 use Rattle.pool_table.proofs.AtPlace.{CountsAt, IsPresentIn, TokenAt}
 use Rattle.pool_table.proofs.Exact.{root_notes, one_born, present_born, count_at, count_born, token_at, token_born, ends_at}
-use Rattle.pool_table.proofs.Weights.{weak_sum, strict_sum, weak_six, strict_six}
-use Rattle.pool_table.proofs.References.{live_word, token_word}
-use Rattle.pool_table.proofs.Hands.{taken_once, hand_word}
+use Rattle.pool_table.proofs.Weights.{strict_sum}
+use Rattle.pool_table.proofs.WordChanges.{live_word}
+use Rattle.pool_table.proofs.CountSteps.{token_word}
+use Rattle.pool_table.proofs.Hands.{hand_word}
+use Rattle.pool_table.proofs.PlaceSums.{births_in, ends_in, no_fewer, no_more, ends_le, ends_lt, no_other, vacated_le}
 
 module _ {H : Type 0} (stands : List ℕ → Setting → List Noted → H → Type 0) (l : Layout) where
   abbrev St : Type 0
   St = State (Option H) SeatView
-
-  births_in : (s : St) (r : IsSound stands l s) (p : ℕ) (lt : p < l.shape.lanes * l.shape.handles)
-      → sum_by (weigh (at_birth p)) s.views ≡ sum_by (λ (n : Noted). did_birth p n.did) (r.objects (Root p) lt).history
-  births_in s r p lt = root_notes stands l s r p lt (did_birth p) (λ d z y. z)
-
-  ends_in : (s : St) (r : IsSound stands l s) (p g : ℕ) (lt : p < l.shape.lanes * l.shape.handles)
-      → sum_by (weigh (at_end p g)) s.views ≡ sum_by (λ (n : Noted). did_end p g n.did) (r.objects (Root p) lt).history
-  ends_in s r p g lt = root_notes stands l s r p lt (did_end p g) (λ d z y. y g)
-
-  -- births noted are those made, and at most one more, at a vacant place
-  no_fewer : (s : St) (r : IsSound stands l s) (p : ℕ) (lt : p < l.shape.lanes * l.shape.handles)
-      → (r.counts p lt).generation ≤ sum_by (weigh (at_birth p)) s.views
-  no_fewer s r p lt =
-      let all = All-weaker (IsView l.shape r.setting)
-      (λ (v : SeatView). weigh (on_place ref_born p) v + weigh (on_place ref_born p) v ≤ weigh (at_birth p) v
-      + weigh (at_birth p) v) (λ v fine. let q = fine.roots.borne p in omega (arith, q)) s.views r.views in
-      let a = weak_sum (weigh (on_place ref_born p)) (weigh (on_place ref_born p)) (weigh (at_birth p))
-      (weigh (at_birth p)) s.views all in let b = (r.counts p lt).all_born in
-      let x : ℕ = place_tally ref_born p s.views in let y : ℕ = sum_by (weigh (at_birth p)) s.views in
-      let a' : x + x ≤ y + y = a in let b' : x ≡ (r.counts p lt).generation = b in
-      omega (arith, a', b')
-
-  all_bear : (s : St) (r : IsSound stands l s) (p : ℕ)
-      → All (λ (v : SeatView). weigh (at_birth p) v + (weigh (at_out p) v + weigh (on_place ref_born p) v) ≤ weigh
-      (on_place ref_born p) v + (weigh (at_in p) v + weigh (on_place ref_vacated p) v)) s.views
-  all_bear s r p =
-      All-weaker (IsView l.shape r.setting)
-      (λ (v : SeatView). weigh (at_birth p) v + (weigh (at_out p) v + weigh (on_place ref_born p) v) ≤ weigh
-      (on_place ref_born p) v + (weigh (at_in p) v + weigh (on_place ref_vacated p) v))
-      (λ v fine. let q = fine.roots.bears p in omega (arith, q)) s.views r.views
-
-  no_more : (s : St) (r : IsSound stands l s) (p : ℕ) (lt : p < l.shape.lanes * l.shape.handles)
-      → sum_by (weigh (at_birth p)) s.views ≤ (r.counts p lt).generation + (r.counts p lt).vacant
-  no_more s r p lt =
-      let k = r.counts p lt in
-      let a = weak_six (weigh (at_birth p)) (weigh (at_out p)) (weigh (on_place ref_born p))
-      (weigh (on_place ref_born p)) (weigh (at_in p)) (weigh (on_place ref_vacated p)) s.views (all_bear s r p) in
-      let b = k.all_born in let c = k.all_vacated in let d = taken_once stands l s r p lt in
-      let bi : ℕ = sum_by (weigh (at_birth p)) s.views in let ou : ℕ = sum_by (weigh (at_out p)) s.views in let bo : ℕ =
-      place_tally ref_born p s.views in let hi : ℕ = sum_by (weigh (at_in p)) s.views in let va : ℕ =
-      place_tally ref_vacated p s.views in
-      let a' : bi + (ou + bo) ≤ bo + (hi + va) = a in let b' : bo ≡ k.generation = b in let c' : va + 1
-      ≡ k.generation + k.vacant = c in let d' : hi ≤ 1 + ou = d in
-      omega (arith, a', b', c', d')
-
-  -- no birth waits where a view has the place in hand and none of its own waits
-  no_other : (s : St) (r : IsSound stands l s) (id p : ℕ) (v : SeatView) (lt : p < l.shape.lanes * l.shape.handles)
-      → get_elem? s.views id ≡ some v → InHand p v → NoneWaits p v
-      → sum_by (weigh (at_birth p)) s.views ≤ (r.counts p lt).generation
-  no_other s r id p v lt at has none_waits =
-      let k = r.counts p lt in
-      let here : weigh (at_birth p) v + (weigh (at_out p) v + weigh (on_place ref_born p) v) < weigh
-      (on_place ref_born p) v + (weigh (at_in p) v + weigh (on_place ref_vacated p) v) =
-      omega (arith, has, none_waits) in
-      let a = strict_six (weigh (at_birth p)) (weigh (at_out p)) (weigh (on_place ref_born p))
-      (weigh (on_place ref_born p)) (weigh (at_in p)) (weigh (on_place ref_vacated p)) s.views id v (all_bear s r p)
-      at here in
-      let b = k.all_born in let c = k.all_vacated in let d = taken_once stands l s r p lt in let f = k.free in
-      let bi : ℕ = sum_by (weigh (at_birth p)) s.views in let ou : ℕ = sum_by (weigh (at_out p)) s.views in let bo : ℕ =
-      place_tally ref_born p s.views in let hi : ℕ = sum_by (weigh (at_in p)) s.views in let va : ℕ =
-      place_tally ref_vacated p s.views in
-      let a' : bi + (ou + bo) < bo + (hi + va) = a in let b' : bo ≡ k.generation = b in let c' : va + 1
-      ≡ k.generation + k.vacant = c in let d' : hi ≤ 1 + ou = d in
-      omega (arith, a', b', c', d', f)
-
-  -- a root's end is noted at most as often as its step, and vacated at most as often as its end is noted
-  ends_le : (s : St) (r : IsSound stands l s) (p g : ℕ)
-      → sum_by (weigh (at_end p g)) s.views ≤ tally ref_ended p g s.views
-  ends_le s r p g =
-      let all = All-weaker (IsView l.shape r.setting)
-      (λ (v : SeatView). weigh (at_end p g) v + weigh (at_end p g) v ≤ weigh (on_root ref_ended p g) v + weigh
-      (on_root ref_ended p g) v) (λ v fine. let q = fine.roots.ending p g in omega (arith, q)) s.views
-      r.views in
-      let a = weak_sum (weigh (at_end p g)) (weigh (at_end p g)) (weigh (on_root ref_ended p g))
-      (weigh (on_root ref_ended p g)) s.views all in
-      let x : ℕ = sum_by (weigh (at_end p g)) s.views in let y : ℕ = tally ref_ended p g s.views in
-      let a' : x + x ≤ y + y = a in
-      omega (arith, a')
-
-  ends_lt : (s : St) (r : IsSound stands l s) (id p g : ℕ) (v : SeatView) → get_elem? s.views id ≡ some v
-      → weigh (at_end p g) v < weigh (on_root ref_ended p g) v
-      → sum_by (weigh (at_end p g)) s.views < tally ref_ended p g s.views
-  ends_lt s r id p g v at less =
-      let all = All-weaker (IsView l.shape r.setting)
-      (λ (v : SeatView). weigh (at_end p g) v + weigh (at_end p g) v ≤ weigh (on_root ref_ended p g) v + weigh
-      (on_root ref_ended p g) v) (λ v fine. let q = fine.roots.ending p g in omega (arith, q)) s.views
-      r.views in
-      let a = strict_sum (weigh (at_end p g)) (weigh (at_end p g)) (weigh (on_root ref_ended p g))
-      (weigh (on_root ref_ended p g)) s.views id v all at (omega (arith, less)) in
-      let x : ℕ = sum_by (weigh (at_end p g)) s.views in let y : ℕ = tally ref_ended p g s.views in
-      let a' : x + x < y + y = a in
-      omega (arith, a')
-
-  vacated_le : (s : St) (r : IsSound stands l s) (p g : ℕ)
-      → tally ref_vacated p g s.views ≤ sum_by (weigh (at_end p g)) s.views
-  vacated_le s r p g =
-      let all = All-weaker (IsView l.shape r.setting)
-      (λ (v : SeatView). weigh (on_root ref_vacated p g) v + weigh (on_root ref_vacated p g) v ≤ weigh (at_end p g)
-      v + weigh (at_end p g) v) (λ v fine. let q = fine.roots.over p g in omega (arith, q)) s.views r.views in
-      let a = weak_sum (weigh (on_root ref_vacated p g)) (weigh (on_root ref_vacated p g)) (weigh (at_end p g))
-      (weigh (at_end p g)) s.views all in
-      let x : ℕ = tally ref_vacated p g s.views in let y : ℕ = sum_by (weigh (at_end p g)) s.views in
-      let a' : x + x ≤ y + y = a in
-      omega (arith, a')
 
   -- where no end of the last root is noted, it is present
   last_present : (s : Shape) (p g : ℕ) (h : List Noted) (x : RootPlace) → IsHistory s (Root p) h → IsPlaceAfter p h x
@@ -166,7 +64,8 @@ module _ {H : Type 0} (stands : List ℕ → Setting → List Noted → H → Ty
   history_births : (s : St) (r : IsSound stands l s) (p : ℕ) (lt : p < l.shape.lanes * l.shape.handles) (x : RootPlace)
       → IsPlaceAfter p (r.objects (Root p) lt).history x → sum_by (weigh (at_birth p)) s.views ≡ x.generation
   history_births s r p lt x after =
-      births_in s r p lt ∙ place_births l.shape p (r.objects (Root p) lt).history x (r.objects (Root p) lt).accepted
+      births_in stands l s r p lt
+      ∙ place_births l.shape p (r.objects (Root p) lt).history x (r.objects (Root p) lt).accepted
       after
 
   counted_root : (s : St) (r : IsSound stands l s) (id p g : ℕ) (v : SeatView)
@@ -176,14 +75,15 @@ module _ {H : Type 0} (stands : List ℕ → Setting → List Noted → H → Ty
       let k = r.counts p lt in let live = live_word stands l s r id p g v lt at has in let h =
       (r.objects (Root p) lt).history in
       let pl = place_there l.shape p h (r.objects (Root p) lt).accepted in let n : ℕ = pl.0.generation in
-      let nb = history_births s r p lt pl.0 pl.1 in let lo = no_fewer s r p lt in let hi = no_more s r p lt in let vz =
+      let nb = history_births s r p lt pl.0 pl.1 in let lo = no_fewer stands l s r p lt in
+      let hi = no_more stands l s r p lt in let vz =
       k.live live.1 in
       let bi : ℕ = sum_by (weigh (at_birth p)) s.views in let nb' : bi ≡ n = nb in let ge : g ≡ k.generation = live.0 in
       let pos : 0 < k.generation = dite (ℕ_discrete k.generation 0)
       (λ z. let a = (k.unborn z).0 in let b = live.1 in absurd (omega (arith, a, b))) (λ ne. omega (arith, ne)) in
       let over : tally ref_ended p g s.views ≡ 0 = ap (λ (y : ℕ). tally ref_ended p y s.views) ge
       ∙ (k.ended pos).1 live.1 in
-      let le = ends_le s r p g in let en = ends_in s r p g lt in
+      let le = ends_le stands l s r p g in let en = ends_in stands l s r p g lt in
       last_present l.shape p g h pl.0 (r.objects (Root p) lt).accepted pl.1 (omega (arith, nb', lo, hi, vz, ge))
       (omega (arith, ge, pos)) (omega (arith, le, en, over))
 
@@ -194,12 +94,14 @@ module _ {H : Type 0} (stands : List ℕ → Setting → List Noted → H → Ty
       let k = r.counts p lt in let tok = token_word stands l s r id p g v lt at has in let h =
       (r.objects (Root p) lt).history in
       let pl = place_there l.shape p h (r.objects (Root p) lt).accepted in let n : ℕ = pl.0.generation in
-      let nb = history_births s r p lt pl.0 pl.1 in let lo = no_fewer s r p lt in let hi = no_more s r p lt in
+      let nb = history_births s r p lt pl.0 pl.1 in let lo = no_fewer stands l s r p lt in
+      let hi = no_more stands l s r p lt in
       let bi : ℕ = sum_by (weigh (at_birth p)) s.views in let nb' : bi ≡ n = nb in let ge : g
       ≡ k.generation = tok.0 in let pos : 0 < k.generation = tok.1 in let vz : k.vacant ≡ 0 = tok.3 in
       let once : tally ref_ended p g s.views ≡ 1 = ap (λ (y : ℕ). tally ref_ended p y s.views) ge
       ∙ (k.ended pos).0 tok.2 in
-      let less = ends_lt s r id p g v at (omega (arith, has, none_noted)) in let en = ends_in s r p g lt in
+      let less = ends_lt stands l s r id p g v at (omega (arith, has, none_noted)) in
+      let en = ends_in stands l s r p g lt in
       last_present l.shape p g h pl.0 (r.objects (Root p) lt).accepted pl.1 (omega (arith, nb', lo, hi, vz, ge))
       (omega (arith, ge, pos)) (omega (arith, less, en, once))
 
@@ -208,8 +110,8 @@ module _ {H : Type 0} (stands : List ℕ → Setting → List Noted → H → Ty
   hand_root s r id p v lt at has none_waits =
       let k = r.counts p lt in let h = (r.objects (Root p) lt).history in let pl =
       place_there l.shape p h (r.objects (Root p) lt).accepted in let n : ℕ = pl.0.generation in
-      let nb = history_births s r p lt pl.0 pl.1 in let lo = no_fewer s r p lt in let hi =
-      no_other s r id p v lt at has none_waits in
+      let nb = history_births s r p lt pl.0 pl.1 in let lo = no_fewer stands l s r p lt in let hi =
+      no_other stands l s r id p v lt at has none_waits in
       let bi : ℕ = sum_by (weigh (at_birth p)) s.views in let nb' : bi ≡ n = nb in let same : n
       ≡ k.generation = omega (arith, nb', lo, hi) in
       root_is p h pl.0 pl.1 ∙ one (root_in pl.0) refl same
@@ -227,7 +129,8 @@ module _ {H : Type 0} (stands : List ℕ → Setting → List Noted → H → Ty
           let vac = hand_word stands l s r id p v lt at has in
           let once : tally ref_vacated p n s.views ≡ k.vacant = ap (λ (y : ℕ). tally ref_vacated p y s.views) same
           ∙ k.vacated (omega (arith, pos, same)) in
-          let le = vacated_le s r p n in let en = ends_in s r p n lt in absurd (omega (arith, once, le, en, z, vac))
+          let le = vacated_le stands l s r p n in
+          let en = ends_in stands l s r p n lt in absurd (omega (arith, once, le, en, z, vac))
 
   -- the root of that generation is this one
   exactly : (s : St) (r : IsSound stands l s) (p : ℕ) (lt : p < l.shape.lanes * l.shape.handles) (q : RootId)
@@ -242,7 +145,8 @@ module _ {H : Type 0} (stands : List ℕ → Setting → List Noted → H → Ty
   token_alone : (s : St) (r : IsSound stands l s) (id p g : ℕ) (v : SeatView) (lt : p < l.shape.lanes * l.shape.handles)
       → get_elem? s.views id ≡ some v → TokenAt p g v → NoneWaits p v
   token_alone s r id p g v lt at has =
-      let k = r.counts p lt in let tok = token_word stands l s r id p g v lt at has in let hi = no_more s r p lt in
+      let k = r.counts p lt in let tok = token_word stands l s r id p g v lt at has in
+      let hi = no_more stands l s r p lt in
       let none : k.vacant ≡ 0 = tok.3 in
       dite (dec_le (weigh (at_birth p) v) (weigh (on_place ref_born p) v))
       (λ le. le)
@@ -294,7 +198,7 @@ module _ {H : Type 0} (stands : List ℕ → Setting → List Noted → H → Ty
       → (x : RootPlace) → IsPlaceAfter p (r.objects (Root p) lt).history x → x.generation < 4294967296
   young_place s r id v p lt at has none_waits x after =
       let k = r.counts p lt in let nb = history_births s r p lt x after in let hi =
-      no_other s r id p v lt at has none_waits in let small = k.young in
+      no_other stands l s r id p v lt at has none_waits in let small = k.young in
       let bi : ℕ = sum_by (weigh (at_birth p)) s.views in let n : ℕ = x.generation in let nb' : bi
       ≡ n = nb in let hi' : bi ≤ k.generation = hi in let small' : k.generation < 4294967296 = small in
       omega (arith, nb', hi', small')
@@ -333,7 +237,7 @@ module _ {H : Type 0} (stands : List ℕ → Setting → List Noted → H → Ty
       last_place l.shape p h e accepted in let x : RootPlace = last.0 in let n : ℕ = x.generation in let t =
       (r.objects (Root p) lt).accepted in
       let free = birth_step p q x e.did e.region last.1 last.3 here in
-      let nb = history_births s r p lt x last.2 in let lo = no_fewer s r p lt in
+      let nb = history_births s r p lt x last.2 in let lo = no_fewer stands l s r p lt in
       dite (dec_le (weigh (at_birth p) v) (weigh (on_place ref_born p) v))
       (λ le. le)
       (λ gt. let more : weigh (on_place ref_born p) v < weigh (at_birth p) v = lt_of_not-le gt in
@@ -346,8 +250,9 @@ module _ {H : Type 0} (stands : List ℕ → Setting → List Noted → H → Ty
       let a' : bo + bo < bi + bi = a in let b' : bo ≡ k.generation = b in let nb' : bi ≡ n = nb in
       let past : k.generation < n = omega (arith, a', b', nb') in
       let gone = (place_ends l.shape p h x t last.2).gone free (omega (arith, past)) in
-      let none_yet : tally ref_ended p n s.views ≡ 0 = k.later ref_ended n (inr past) in let le = ends_le s r p n in
-      let en = ends_in s r p n lt in
+      let none_yet : tally ref_ended p n s.views ≡ 0 = k.later ref_ended n (inr past) in
+      let le = ends_le stands l s r p n in
+      let en = ends_in stands l s r p n lt in
       absurd (omega (arith, gone, none_yet, le, en)))
 
   -- a view that may note an end hasn't noted it
@@ -361,7 +266,7 @@ module _ {H : Type 0} (stands : List ℕ → Setting → List Noted → H → Ty
       let found = end_step p p g x e.did e.region last.1 last.3 here in
       let ends = place_ends l.shape p h x t last.2 in let z = ends.present found.0 found.1 in let f =
       (ends.fits found.0 found.1).1 in let same : n ≡ g = sym f ∙ found.3 in
-      let en = ends_in s r p g lt in let le = sum_at (weigh (at_end p g)) s.views id v at in
+      let en = ends_in stands l s r p g lt in let le = sum_at (weigh (at_end p g)) s.views id v at in
       let sg = ap (λ (k : ℕ). sum_by (λ (e : Noted). did_end p k e.did) h) same in
       let u : ℕ = sum_by (λ (e : Noted). did_end p n e.did) h in let w : ℕ =
       sum_by (λ (e : Noted). did_end p g e.did) h in let z' : u ≡ 0 = z in let sg' : u ≡ w = sg in
@@ -398,5 +303,5 @@ module _ {H : Type 0} (stands : List ℕ → Setting → List Noted → H → Ty
       let past : k.generation < g = dite (dec_le g k.generation)
       (λ le. let e : bo ≡ 1 = k.born g (omega (arith, pos)) le in absurd (omega (arith, e, unborn)))
       (λ gt. lt_of_not-le gt) in
-      let nb = history_births s r p lt pl.0 pl.1 in let hi = no_more s r p lt in let f = k.free in
+      let nb = history_births s r p lt pl.0 pl.1 in let hi = no_more stands l s r p lt in let f = k.free in
       let x : ℕ = sum_by (weigh (at_birth p)) s.views in let nb' : x ≡ n = nb in omega (arith, low, past, nb', hi, f)

@@ -36,7 +36,8 @@ use Rattle.pool_table.specs.Hands.{InHand, NoneWaits, PutsDown}
 use Rattle.pool_table.specs.Births.{carried, IsBorn, NamesBorn}
 use Rattle.pool_table.specs.Sound.{IsSound}
 use Rattle.pool_table.proofs.AtPlace.{CountsAt, TokenAt, PutsAt}
-use Rattle.pool_table.proofs.Exact.{born_place, count_at, count_born, token_at, token_born, some_named, post_names}
+use Rattle.pool_table.proofs.Exact.{born_place, count_at, count_born, token_at, token_born, some_named}
+use Rattle.pool_table.proofs.RootEntries.{post_names}
 
 yes : (b : Bool) → 0 < cond {A = ℕ} b 1 0 → b ≡ true
 yes true lt = refl

@@ -22,7 +22,8 @@ use Rattle.pool_table.specs.Sound.{IsSound, IsView, WasHeld}
 use Rattle.pool_table.specs.Steps.{IsFree, claims, marks_claims}
 use Rattle.pool_table.proofs.Exact.{born_place, count_born, token_born}
 use Rattle.pool_table.proofs.Hands.{hand_place}
-use Rattle.pool_table.proofs.Moves.{claims_allowed, marks_allowed}
+use Rattle.pool_table.proofs.Claimed.{claims_allowed}
+use Rattle.pool_table.proofs.Marks.{marks_allowed}
 
 one_place : (p q : ℕ) → Root p ≡ Root q → p ≡ q
 one_place p q e = cc e

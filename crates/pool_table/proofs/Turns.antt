@@ -16,7 +16,7 @@ use Rattle.pool_table.specs.Sound.{IsSound, IsView}
 use Rattle.pool_table.specs.Turns.{counted_in, unfetched_in, births_at, WordTells, InTurn}
 use Rattle.pool_table.proofs.Ledgers.{sum_add}
 use Rattle.pool_table.proofs.Transit.{transit}
-use Rattle.pool_table.proofs.References.{small_count}
+use Rattle.pool_table.proofs.WordChanges.{small_count}
 
 -- what is left of each, where none loses more than it gains
 left_over : {A : Type 0} (f g : A → ℕ) (xs : List A) → All (λ (x : A). g x ≤ f x) xs

@@ -1,5 +1,6 @@
 pub mod Words
 pub mod Slots
+pub mod Firsts
 pub mod Views
 pub mod Counts
 pub mod Looks

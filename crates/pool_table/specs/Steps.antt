@@ -133,6 +133,14 @@ share_left n v = record v { moves = v.moves - n }
 abbrev pub share_of : ℕ → SeatView → SeatView
 share_of n v = record (blank v.setting) { moves = n }
 
+-- the view of such a seat: moves, and nothing else
+abbrev pub IsShare : SeatView → Type 0
+IsShare v = v ≡ share_of v.moves v
+
+-- so many moves come to a view
+abbrev pub share_added : ℕ → SeatView → SeatView
+share_added n v = record v { moves = v.moves + n }
+
 -- a seat in no section, which holds no home value
 abbrev pub IsFree : {H : Type 0} → Me (Option H) SeatView → Type 0
 IsFree me = (me.0.inside ≡ None) × (me.1 ≡ [])

@@ -31,6 +31,7 @@ impl<H: Told<Note = Noted>> PoolTable<H> {
         let PoolTable {
             table,
             layout,
+            firsts: _,
             spare_homes,
             spare_words,
         } = self;

@@ -2,10 +2,12 @@
 ghost use Rattle.std.specs.Prelude.{◌≡◌, ◌≤◌, ◌<◌, ◌*◌};
 ghost use Rattle.pool_law.specs.Homes.{home_of, objects_of, IsObjectOf};
 ghost use Rattle.pool_law.specs.declared.note.Object.TheVariants.{Root};
+ghost use Rattle.pool_table.specs.Firsts.{AreFirsts};
 ghost use Rattle.pool_table.specs.Sound.{IsShape};
 ghost use Rattle.pool_table.specs.Words.{listed_of, single_of, word_at, word_of, words_of, count_word_of};
 ghost use Rattle.pool_table.specs.Slots.{gap_of, slot_at, slot_of, slots_of};
 
+use crate::firsts::Firsts;
 use crate::table::Slot;
 use pool_law::{Object, Shape};
 use size_classes::CACHED_CLASSES;
@@ -85,7 +87,22 @@ pub(crate) fn word_index(shape: &Shape, listed: usize) -> usize
 /// Where the word of a root's count lies. No root is at a place that the shape doesn't have, and no
 /// step is made there; for such a place the answer is the first word.
 #[inline(always)]
-pub(crate) fn root_index(shape: &Shape, place: u32) -> usize
+pub(crate) fn root_index(shape: &Shape, firsts: &Firsts, place: u32) -> usize
+    requires shape { IsShape shape.now }
+    requires firsts { AreFirsts shape.now firsts.now }
+    ensures within { result < words_of shape.now }
+    ensures there { place < shape.now.lanes * shape.now.handles →
+        result ≡ count_word_of shape.now place }
+{
+    if place < firsts.packed {
+        firsts.count + place as usize
+    } else {
+        padded_root_index(shape, place)
+    }
+}
+
+// The same, of a place that isn't packed.
+fn padded_root_index(shape: &Shape, place: u32) -> usize
     requires shape { IsShape shape.now }
     ensures within { result < words_of shape.now }
     ensures there { place < shape.now.lanes * shape.now.handles →
@@ -99,7 +116,7 @@ pub(crate) fn root_index(shape: &Shape, place: u32) -> usize
 }
 
 #[inline(always)]
-fn single_count(shape: &Shape) -> usize
+pub(crate) fn single_count(shape: &Shape) -> usize
     requires { IsShape shape.now }
     ensures { result ≡ single_of shape.now }
 {
@@ -162,7 +179,27 @@ pub(crate) fn object_slot(shape: &Shape, object: Object) -> Slot
 /// Where the home value of a root place and its word lie. No place is claimed that the shape
 /// doesn't have; for such a place the answer is the first slot and the first word.
 #[inline(always)]
-pub(crate) fn place_slot(shape: &Shape, place: u32) -> Slot
+pub(crate) fn place_slot(shape: &Shape, firsts: &Firsts, place: u32) -> Slot
+    requires shape { IsShape shape.now }
+    requires firsts { AreFirsts shape.now firsts.now }
+    ensures within { result.word < words_of shape.now }
+    ensures home { place < shape.now.lanes * shape.now.handles →
+        result.home ≡ slot_of shape.now (Root place) }
+    ensures word { place < shape.now.lanes * shape.now.handles →
+        result.word ≡ word_of shape.now (Root place) }
+{
+    if place < firsts.packed {
+        Slot {
+            home: firsts.slot + place as usize,
+            word: firsts.word + place as usize,
+        }
+    } else {
+        padded_place_slot(shape, place)
+    }
+}
+
+// The same, of a place that isn't packed.
+fn padded_place_slot(shape: &Shape, place: u32) -> Slot
     requires shape { IsShape shape.now }
     ensures within { result.word < words_of shape.now }
     ensures home { place < shape.now.lanes * shape.now.handles →

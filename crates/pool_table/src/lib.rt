@@ -6,6 +6,7 @@
 //! (`specs/Sound.antt`).
 
 mod closing;
+mod firsts;
 mod index;
 pub mod laws;
 mod making;

@@ -8,6 +8,7 @@ ghost use Rattle.pool_table.specs.Sound.{IsShape};
 ghost use Rattle.pool_table.specs.Steps.{first_view};
 ghost use Rattle.pool_table.specs.Opened.{AreFirstSeats, StandAtFirst};
 
+use crate::firsts::Firsts;
 use crate::index::{listed_count, object_count, slot_count};
 use crate::making::{opening_words, unwrapped, wrapped};
 use crate::rule::{Cuts, Opening};
@@ -119,6 +120,7 @@ impl<H: Told<Note = Noted>> PoolTable<H> {
             layout,
             homes: Snapshot::of(&homes),
         };
+        let firsts = Firsts::of(&layout.shape);
         let slots = wrapped(&layout.shape, &mut homes, slots);
         match Table::new(alloc, words.as_slice(), slots, &opening) {
             Ok((table, rest)) => {
@@ -126,6 +128,7 @@ impl<H: Told<Note = Noted>> PoolTable<H> {
                 let table = PoolTable {
                     table,
                     layout,
+                    firsts,
                     spare_homes,
                     spare_words,
                 };

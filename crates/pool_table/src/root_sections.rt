@@ -79,7 +79,7 @@ impl<H: Told<Note = Noted>> PoolTable<H> {
         ensures free { IfErr result (λ _. HoldsPlace place (view_of seat.old) → ⊥) }
     {
         let object = Object::Root(place);
-        let slot = place_slot(&self.layout.shape, place);
+        let slot = place_slot(&self.layout.shape, &self.firsts, place);
         let found = self.claim_place_word::<Brand>(&mut seat.seat, place, slot, mark);
         if found % 2 == 1 {
             return Err(Held {

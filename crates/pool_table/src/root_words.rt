@@ -37,7 +37,7 @@ impl<H: Told<Note = Noted>> PoolTable<H> {
             let s = step (slots_of shape) (count_word_of shape root.place) 4294967297 0 none in
             births root s seat.old.me result seat.new.me }
     {
-        let word = root_index(&self.layout.shape, root.place);
+        let word = root_index(&self.layout.shape, &self.firsts, root.place);
         self.table
             .shared
             .fetch_add::<Births<R>>(seat, word, (1 << 32) + 1)
@@ -59,7 +59,7 @@ impl<H: Told<Note = Noted>> PoolTable<H> {
         ensures noted { let v = seat.old.me.0 in
             seat.new.me ≡ (with_ref v root Retain (v.moves - 1), seat.old.me.1) }
     {
-        let word = root_index(&self.layout.shape, root.place);
+        let word = root_index(&self.layout.shape, &self.firsts, root.place);
         self.table.shared.fetch_add::<Retains<R>>(seat, word, 2)
     }
 
@@ -80,7 +80,7 @@ impl<H: Told<Note = Noted>> PoolTable<H> {
             let s = step (slots_of shape) (count_word_of shape root.place) 2 0 none in
             releases root s seat.old.me result seat.new.me }
     {
-        let word = root_index(&self.layout.shape, root.place);
+        let word = root_index(&self.layout.shape, &self.firsts, root.place);
         self.table.shared.fetch_sub::<Releases<R>>(seat, word, 2)
     }
 
@@ -101,7 +101,7 @@ impl<H: Told<Note = Noted>> PoolTable<H> {
         ensures noted { let v = seat.old.me.0 in
             seat.new.me ≡ (with_ref v root Vacated v.moves, seat.old.me.1) }
     {
-        let word = root_index(&self.layout.shape, root.place);
+        let word = root_index(&self.layout.shape, &self.firsts, root.place);
         self.table.shared.fetch_add::<Vacates<R>>(seat, word, 1)
     }
 
@@ -120,7 +120,7 @@ impl<H: Told<Note = Noted>> PoolTable<H> {
         ensures noted { let look = Look (result % 4294967296 / 2) in
             seat.new.me ≡ (with_ref seat.old.me.0 root look seat.old.me.0.moves, seat.old.me.1) }
     {
-        let word = root_index(&self.layout.shape, root.place);
+        let word = root_index(&self.layout.shape, &self.firsts, root.place);
         self.table.shared.load::<Looks<R>>(seat, word)
     }
 }

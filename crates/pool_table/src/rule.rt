@@ -135,6 +135,19 @@ impl Join<SeatView> for Joins {
     ghost spent = { blank None };
 }
 
+/// Adds the moves of a share, which has nothing else, so that no part of it stays.
+pub struct Accepts;
+
+impl Join<SeatView> for Accepts {
+    ghost use Rattle.std.specs.Prelude.{None};
+    ghost use Rattle.pool_table.specs.Steps.{share_added};
+    ghost use Rattle.pool_table.specs.Views.{blank};
+
+    ghost both = { λ v w. share_added w.moves v };
+
+    ghost spent = { blank None };
+}
+
 /// Which root a step is on.
 pub trait Rooted {
     ghost use Rattle.pool_law.specs.declared.id.RootId.{RootId};

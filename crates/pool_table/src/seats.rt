@@ -2,10 +2,10 @@
 
 ghost use Rattle.std.specs.Prelude.{◌≡◌, ◌≤◌, None, []};
 ghost use Rattle.pool_table.specs.Views.{blank, joined};
-ghost use Rattle.pool_table.specs.Steps.{share_left, share_of};
+ghost use Rattle.pool_table.specs.Steps.{share_left, share_of, share_added, IsShare};
 ghost use Rattle.pool_table.specs.Seats.{view_of, IsSeatOf, IsOutside, HasView, SameSeat};
 
-use crate::rule::{Blanks, Joins, Shares, Sharing};
+use crate::rule::{Accepts, Blanks, Joins, Shares, Sharing};
 use crate::table::{PoolSeat, PoolTable};
 use crate::views::SeatView;
 use atomic_table::Seat;
@@ -58,9 +58,9 @@ impl<H: Told<Note = Noted>> PoolTable<H> {
         self.table.shared.split_seat::<Shares<M>>(seat)
     }
 
-    /// A new seat with so many of the seat's moves, and without notes and turns. Joined into a
-    /// seat of another lane it hands the moves on: where retained roots go one way only, the moves
-    /// go with them, and this sends them back.
+    /// A new seat with so many of the seat's moves, and without notes and turns. A seat of another
+    /// lane takes it in by `accept`: where retained roots go one way only, the moves go with them,
+    /// and this sends them back.
     pub fn share(&self, seat: &mut PoolSeat<H>, moves: u32) -> PoolSeat<H>
         requires own { IsSeatOf self.now seat.old }
         requires outside { IsOutside seat.old }
@@ -75,6 +75,25 @@ impl<H: Told<Note = Noted>> PoolTable<H> {
             seat: other,
             number: None,
         }
+    }
+
+    /// The seat gets the moves of a share, and nothing of it stays. The share is spent.
+    pub fn accept(&self, seat: &mut PoolSeat<H>, share: PoolSeat<H>)
+        requires own { IsSeatOf self.now seat.old }
+        requires share_own { IsSeatOf self.now share }
+        requires outside { IsOutside seat.old }
+        requires share_outside { IsOutside share }
+        requires share { IsShare (view_of share) }
+        ensures same { SameSeat seat.old seat.new }
+        ensures added { HasView seat.new (share_added (view_of share).moves (view_of seat.old)) }
+    {
+        let PoolSeat {
+            seat: share,
+            number: _,
+        } = share;
+        self.table
+            .shared
+            .join_seat::<Accepts>(&mut seat.seat, share);
     }
 
     /// The seat gets what the other one has. The other one is spent.

@@ -4,8 +4,10 @@ ghost use Rattle.std.specs.Prelude.{◌≡◌, ◌≤◌, [], vec_capacity};
 ghost use Rattle.pool_law.specs.Homes.{objects_of};
 ghost use Rattle.pool_table.specs.Words.{listed_of, words_of};
 ghost use Rattle.pool_table.specs.Slots.{slots_of};
+ghost use Rattle.pool_table.specs.Firsts.{AreFirsts};
 ghost use Rattle.pool_table.specs.Sound.{IsShape};
 
+use crate::firsts::Firsts;
 use crate::rule::{Opening, Rule};
 use crate::views::{Layout, SeatView};
 use atomic_table::{Seat, Table};
@@ -17,6 +19,7 @@ use step_law::Told;
 pub struct PoolTable<H: Told<Note = Noted>> {
     pub(crate) table: Table<Option<H>, SeatView, Opening<H>, Rule, Global>,
     pub(crate) layout: Layout,
+    pub(crate) firsts: Firsts,
     pub(crate) spare_homes: Vec<Option<H>>,
     pub(crate) spare_words: Vec<u64>,
     ghost room_for_homes: { (spare_homes.items ≡ [])
@@ -27,6 +30,7 @@ pub struct PoolTable<H: Told<Note = Noted>> {
     ghost words: { table.shared.table_id.words ≡ words_of layout.shape },
     ghost slots: { table.shared.table_id.slots ≡ slots_of layout.shape },
     ghost shape: { IsShape layout.shape },
+    ghost places: { AreFirsts layout.shape firsts },
 }
 
 /// The pass with which one thread makes steps. It has no bytes but its number.

@@ -10,8 +10,8 @@ ghost use Rattle.table_law.specs.Histories.{IsHistory};
 ghost use Rattle.pool_table.specs.declared.views.Entry.TheVariants.{At};
 ghost use Rattle.pool_table.specs.Counts.{HasCount};
 ghost use Rattle.pool_table.specs.Hands.{MayEnter, PutsDown};
-ghost use Rattle.pool_table.specs.Views.{entered, joined, with_entry};
-ghost use Rattle.pool_table.specs.Steps.{lane_view, share_left, share_of};
+ghost use Rattle.pool_table.specs.Views.{entered, with_entry};
+ghost use Rattle.pool_table.specs.Steps.{lane_view, share_left, share_added};
 ghost use Rattle.pool_table.specs.Opened.{IsFirstSeat};
 ghost use Rattle.pool_table.specs.Seats.{view_of, IsSeatOf, IsOutside, HasView, SameSeat};
 
@@ -170,13 +170,12 @@ fn hand_on(table: &PoolTable<Diary>, from: &mut PoolSeat<Diary>, to: &mut PoolSe
     requires to { (g : Setting) × IsFirstSeat LAYOUT g 1 table.now to.old }
     ensures same { SameSeat from.old from.new × SameSeat to.old to.new }
     ensures left { (g : Setting) × HasView from.new (share_left 3 (lane_view LAYOUT 0 g)) }
-    ensures came { (g : Setting) × (k : Setting) ×
-        HasView to.new (joined (lane_view LAYOUT 1 g) (share_of 3 (lane_view LAYOUT 0 k))) }
+    ensures came { (g : Setting) × HasView to.new (share_added 3 (lane_view LAYOUT 1 g)) }
     ensures has_less { (view_of from.new).moves ≡ 1 }
     ensures has_more { (view_of to.new).moves ≡ 7 }
 {
     let moves = table.share(from, 3);
-    table.join(to, moves);
+    table.accept(to, moves);
 }
 
 #[test]

@@ -1,17 +1,11 @@
-use Rattle.std.proofs.Common.{◌<◌, ℕ, sym, subst, arith}
-use Rattle.pool_law.specs.declared.note.Object.TheVariants.{Bin}
-use Rattle.pool_table.specs.Words.{words_of, word_of}
-use Rattle.pool_table.proofs.Words.{count_word, object_word}
+use Rattle.std.proofs.Common.{◌<◌, ℕ, subst}
+use Rattle.pool_table.specs.Words.{words_of}
+use Rattle.pool_table.proofs.Words.{count_word}
+use Rattle.pool_table.proofs.PackedPlaces.{packed_within}
 use Rattle.pool_table.proofs.index.root_index.Goals as goal
 
-pub returns-then-place-shape-clause-within : goal.returns-then-place-shape-clause-within
-returns-then-place-shape-clause-within c =
-    subst (λ (w : ℕ). w < words_of c.args.shape.now) (sym c.count_index.ensures)
-    (count_word c.args.shape.now c.args.place c.if-place-shape.true)
-
-pub returns-else-place-shape-clause-within : goal.returns-else-place-shape-clause-within
-returns-else-place-shape-clause-within c =
-    let n : ℕ = words_of c.args.shape.now in let w : ℕ = word_of c.args.shape.now (Bin 0) in
-    let lt : w < n = object_word c.args.shape.now (Bin 0) c.requires.shape.some_lane in let g : 0 < n =
-    omega (arith, lt) in
-    g
+pub returns-then-place-firsts-clause-within : goal.returns-then-place-firsts-clause-within
+returns-then-place-firsts-clause-within c =
+    let s = c.args.shape.now in let p = c.args.place in let firsts = c.requires.firsts in
+    let lt = c.if-place-firsts.true in
+    subst (λ (w : ℕ). w < words_of s) (firsts.counts p lt) (count_word s p (packed_within s _ firsts p lt))

@@ -30,6 +30,7 @@ invariant_of-table g c =
           c.in-Ok-new.ensures.ok.1 ∙ (ap length c.wrapped-slots.ensures.slots
           ∙ laid_many s c.args.homes.items c.requires.homes);
       shape = c.requires.shape;
+      places = c.of-firsts.ensures;
     }
 
 pub unwrapped-requires-clause-room : goal.unwrapped-requires-clause-room
