@@ -18,7 +18,7 @@ use Rattle.pool_law.specs.Same.{same_object, same_region}
 use Rattle.pool_law.proofs.SameLemmas.{same_object-is}
 use Rattle.table_law.specs.Histories.{IsCacheAfter}
 use Rattle.table_law.proofs.Apart.{one_home}
-use Rattle.table_law.proofs.Steps.{so}
+use Rattle.table_law.proofs.BinSteps.{so}
 use Rattle.pool_table.specs.declared.views.Entry.{Entry}
 use Rattle.pool_table.specs.declared.views.Entry.TheVariants.{At, Ref, Busy}
 use Rattle.pool_table.specs.declared.views.Layout.{Layout}

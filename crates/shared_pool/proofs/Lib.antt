@@ -35,6 +35,7 @@ pub mod PlaceCalls
 pub mod BirthCalls
 pub mod PlaceEnds
 pub mod Keeps
+pub mod SeatShares
 pub mod JoinedParts
 pub mod LastChunks
 pub mod PlaceLives

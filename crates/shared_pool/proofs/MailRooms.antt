@@ -21,7 +21,7 @@ use Rattle.table_law.specs.Histories.{IsHistory}
 use Rattle.table_law.specs.NoteCounts.{one_if_so}
 use Rattle.table_law.proofs.Apart.{one_home}
 use Rattle.table_law.proofs.Runs.{balance}
-use Rattle.table_law.proofs.Steps.{IsMailStep}
+use Rattle.table_law.proofs.BinSteps.{IsMailStep}
 use Rattle.table_law.proofs.Told.{mail_note, mail_runs}
 use Rattle.pool_table.specs.declared.views.Entry.{Entry}
 use Rattle.pool_table.specs.declared.views.Entry.TheVariants.{At, Ref, Busy}

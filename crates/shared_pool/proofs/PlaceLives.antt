@@ -13,7 +13,7 @@ use Rattle.pool_law.specs.Histories.{after}
 use Rattle.pool_law.specs.NotedHistories.{noted_dids}
 use Rattle.pool_law.proofs.SameLemmas.{and-first, and-second}
 use Rattle.table_law.proofs.Names.{same_root-is}
-use Rattle.table_law.proofs.Steps.{so}
+use Rattle.table_law.proofs.BinSteps.{so}
 use Rattle.shared_pool.specs.RootPlaces.{watch_after}
 
 -- what was done leaves the watch

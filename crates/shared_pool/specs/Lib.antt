@@ -4,6 +4,8 @@ pub mod PlaceViews
 pub mod PlaceSteps
 pub mod Standing
 pub mod SeatLanes
+pub mod Handing
+pub mod Shares
 pub mod Seats
 pub mod Spending
 pub mod Answers

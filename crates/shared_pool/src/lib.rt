@@ -21,6 +21,8 @@ mod room;
 mod root_notes;
 mod root_place;
 mod roots;
+mod share;
+mod shares;
 #[cfg(test)]
 mod tests;
 mod told;
@@ -31,4 +33,5 @@ pub use laws::parts_are_whole_logs;
 pub use mail::Mail;
 pub use pool::{PoolSeat, SharedPool};
 pub use root_place::RootPlace;
+pub use share::Share;
 pub use went::{Fetched, PoolEnd, Put, Release, Retired, Went, Worn};

@@ -65,6 +65,7 @@ impl SharedPool {
     /// aside: the places of a lane wear out at about the same time, since a bin gives out the
     /// handle that has waited longest. So it looks at the generations that it is answered, and
     /// opens its next pool long before.
+    #[inline(always)]
     pub fn try_birth(
         &self,
         seat: &mut PoolSeat,

@@ -8,6 +8,7 @@ ghost use Rattle.shared_pool.specs.Seated.{AreDone, parts_in};
 mod meeting;
 mod moves;
 mod rounds;
+mod shares;
 
 use crate::{PoolEnd, PoolSeat, SharedPool, Went};
 use pool_law::{Level, Shape};

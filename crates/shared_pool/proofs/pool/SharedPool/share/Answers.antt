@@ -1,0 +1,7 @@
+use Rattle.shared_pool.proofs.SeatShares.{still_seat}
+use Rattle.shared_pool.proofs.pool.SharedPool.share.Goals as goal
+
+pub returns-clause-seat : goal.returns-clause-seat
+returns-clause-seat c =
+    still_seat c.args.self.now c.args.seat.now c.share-taken.new.seat _ c.requires.seat c.share-taken.ensures.same
+    c.share-taken.ensures.left
