@@ -357,12 +357,25 @@ fn second_replies(
     replies.push(answered(Reply::Handles))?;
     commands.push(Command::Alloc { name, size: 1 })?;
     replies.push(answered(Reply::Full))?;
-    commands.push(Command::Compose {
-        fresh,
-        names: NameList::of(Vec::new(alloc)),
-    })?;
+    composite_replies(alloc, commands, replies)
+}
+
+// Those to commands on composites.
+fn composite_replies(
+    alloc: Global,
+    commands: &mut Vec<Command>,
+    replies: &mut Vec<Answered>,
+) -> Result<(), AllocError> {
+    let (fresh, whole, name) = (1, 1, 0);
+    let names = NameList::of(vec![in alloc; 0u32; 24]?);
+    commands.push(Command::Compose { fresh, names })?;
+    replies.push(answered(Reply::OkNumber(65536)))?;
+    let names = NameList::of(vec![in alloc; 0u32; 1]?);
+    commands.push(Command::Compose { fresh, names })?;
     replies.push(answered(Reply::Stopped))?;
-    commands.push(Command::Add { whole: fresh, name })?;
+    commands.push(Command::Add { whole, name })?;
+    replies.push(answered(Reply::OkNumber(0)))?;
+    commands.push(Command::Add { whole, name })?;
     replies.push(answered(Reply::Plain))?;
     Ok(())
 }
@@ -388,8 +401,10 @@ const REPLIES: &str = "0.0 alloc ok 32 1.2+8192\n\
     1.8 alloc toolarge\n\
     1.9 alloc handles\n\
     1.10 alloc full\n\
-    1.11 compose stopped\n\
-    1.12 add plain\n\
+    1.11 compose ok 65536\n\
+    1.12 compose stopped\n\
+    1.13 add ok 0\n\
+    1.14 add plain\n\
     end roots 0 live 0 leaks 0\n";
 
 fn replied(alloc: Global, replies: Vec<Answered>) -> LaneLog {

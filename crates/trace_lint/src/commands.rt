@@ -1,6 +1,6 @@
 //! What is wrong with a command.
 
-use crate::forms::{Item, items_behind};
+use crate::forms::{Item, items_behind, more_views};
 use crate::items::item_fault;
 use crate::lanes::{items_of, word_text};
 use crate::place::shown;
@@ -67,13 +67,19 @@ fn form_fault(
     items: &[Value],
 ) -> Result<RowFault, AllocError> {
     let form = items_behind(word);
-    if items.len() != form.len().saturating_add(1) {
+    let least = form.len().saturating_add(1);
+    if items.len() < least || items.len() > least.saturating_add(more_views(word)) {
         return wrong_count(alloc, word, items.len());
     }
-    for (number, (item, value)) in form.iter().zip(items.iter().skip(1)).enumerate() {
-        if let Some(reason) = item_fault(alloc, lanes, *item, value)? {
+    for (number, value) in items.iter().enumerate().skip(1) {
+        // What stands behind the items of a form is one more view.
+        let item = form
+            .get(number.saturating_sub(1))
+            .copied()
+            .unwrap_or(Item::View);
+        if let Some(reason) = item_fault(alloc, lanes, item, value)? {
             return Ok(RowFault {
-                item: Some(number.saturating_add(1)),
+                item: Some(number),
                 reason,
             });
         }
@@ -83,20 +89,30 @@ fn form_fault(
 
 /// Of how many items the command is, and how many its form has.
 fn wrong_count(alloc: Global, word: Word, count: usize) -> Result<RowFault, AllocError> {
-    let form = items_behind(word);
     let name = word.text();
-    let wanted = form.len().saturating_add(1);
     let plural = if count == 1 { "" } else { "s" };
-    let mut reason = format!(in alloc; "this has {count} item{plural}, and {name} has {wanted}: ")?;
-    reason.push_str("[\"")?;
-    reason.push_str(name)?;
-    reason.push_str("\"")?;
-    for item in form {
-        reason.push_str(",")?;
-        reason.push_str(item.name())?;
-    }
-    reason.push_str("]")?;
+    let mut reason = format!(in alloc; "this has {count} item{plural}, and {name} has ")?;
+    push_form(&mut reason, word)?;
     Ok(RowFault { item: None, reason })
+}
+
+/// How many items a command of this word has, and which.
+fn push_form(text: &mut String, word: Word) -> Result<(), AllocError> {
+    let form = items_behind(word);
+    let least = form.len().saturating_add(1);
+    let more = more_views(word);
+    write!(text, "{least}")?;
+    if more > 0 {
+        let most = least.saturating_add(more);
+        write!(text, " to {most}")?;
+    }
+    let name = word.text();
+    write!(text, ": [\"{name}\"")?;
+    for item in form {
+        text.push_str(",")?;
+        text.push_str(item.name())?;
+    }
+    text.push_str(if more > 0 { ",..]" } else { "]" })
 }
 
 /// A `recv` of a name that an earlier row makes.

@@ -1,12 +1,13 @@
 //! The form of each command: what its items are, behind its word.
 
-use trace_text::Word;
+use trace_text::{VIEW_LIMIT, Word};
 
 /// What an item of a command stands for.
 #[derive(Clone, Copy, PartialEq, Eq)]
 pub enum Item {
     New,
     View,
+    Whole,
     At,
     Bytes,
     Count,
@@ -28,13 +29,15 @@ static NEW_VIEW_AT_COUNT: [Item; 4] = [Item::New, Item::View, Item::At, Item::Co
 
 static NEW_VIEW: [Item; 2] = [Item::New, Item::View];
 
+static WHOLE_VIEW: [Item; 2] = [Item::Whole, Item::View];
+
 static VIEW: [Item; 1] = [Item::View];
 
 static VIEW_LANE: [Item; 2] = [Item::View, Item::Lane];
 
 static NEW_LANE: [Item; 2] = [Item::New, Item::Lane];
 
-/// The items behind a word.
+/// The items behind a word; of a `compose`, those of one with a single view.
 pub fn items_behind(word: Word) -> &'static [Item] {
     match word {
         Word::Alloc => &NEW_SIZE,
@@ -43,10 +46,19 @@ pub fn items_behind(word: Word) -> &'static [Item] {
         Word::Write => &VIEW_BYTES,
         Word::Read => &VIEW_COUNT,
         Word::Slice | Word::RetainedSlice => &NEW_VIEW_AT_COUNT,
-        Word::Dup => &NEW_VIEW,
+        Word::Dup | Word::Compose => &NEW_VIEW,
         Word::Retain | Word::Release | Word::Refcnt | Word::Touch | Word::Forget => &VIEW,
         Word::Send => &VIEW_LANE,
         Word::Recv => &NEW_LANE,
+        Word::Add => &WHOLE_VIEW,
+    }
+}
+
+/// How many more views may stand behind these items.
+pub fn more_views(word: Word) -> usize {
+    match word {
+        Word::Compose => VIEW_LIMIT.saturating_sub(1),
+        _ => 0,
     }
 }
 
@@ -56,6 +68,7 @@ impl Item {
         match self {
             Item::New => "new",
             Item::View => "view",
+            Item::Whole => "composite",
             Item::At => "at",
             Item::Bytes => "bytes",
             Item::Count => "count",
@@ -69,6 +82,7 @@ impl Item {
         match self {
             Item::New => "new name",
             Item::View => "name of the view",
+            Item::Whole => "name of the composite",
             Item::At => "offset",
             Item::Bytes => "bytes",
             Item::Count => "count",

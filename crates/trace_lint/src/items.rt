@@ -13,7 +13,7 @@ pub fn item_fault(
     value: &Value,
 ) -> Result<Option<String>, AllocError> {
     match item {
-        Item::New | Item::View => name_fault(alloc, item, value),
+        Item::New | Item::View | Item::Whole => name_fault(alloc, item, value),
         Item::At | Item::Count | Item::Size => number_fault(alloc, item, value),
         Item::Lane => lane_fault(alloc, lanes, value),
         Item::Bytes => bytes_fault(alloc, value),

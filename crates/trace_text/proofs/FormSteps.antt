@@ -1,21 +1,22 @@
--- What the form of a command gives: the lanes that it names are there.
-use Rattle.std.proofs.Common.{◌≡◌, ℕ, List, refl, true, false, Bool}
-use Rattle.std.specs.Prelude.{Option, Some, None, IfSome, nat_lt, if◌then◌else◌}
+-- What the form of a command gives: the lanes that it names are there, and a composite has 1 to 24 views.
+use Rattle.std.proofs.Common.{◌≡◌, ℕ, suc, List, [], ◌∷◌, length, drop, refl, ap, true, false, Bool, arith, length-drop}
+use Rattle.std.specs.Prelude.{Option, Some, None, IfSome, nat_le, nat_lt, ◌&&◌, if◌then◌else◌}
+use Rattle.std.proofs.lemmas.Bool.Decides.{nat_tests}
 use Rattle.serde_json.specs.Data.{Data}
 use Rattle.pool_law.specs.declared.command.Command.{Command}
 use Rattle.pool_law.specs.declared.command.Command.TheVariants as commands
 use Rattle.trace_text.specs.declared.words.Word.{Word}
 use Rattle.trace_text.specs.declared.words.Word.TheVariants as words
-use Rattle.trace_text.specs.Items.{◌>>=◌, only_if, lane_number_in}
-use Rattle.trace_text.specs.Names.{Mentions}
-use Rattle.trace_text.specs.Forms.{Read, mentioned, alloc_of, set_of, get_of, write_of, read_of, slice_of, one_name_in, two_names_in, name_and_lane_in}
+use Rattle.trace_text.specs.Items.{◌>>=◌, only_if, item_at, lane_number_in, name_in}
+use Rattle.trace_text.specs.Names.{Mentions, with_name}
+use Rattle.trace_text.specs.Forms.{Read, mentioned, numbers_in, row_between, alloc_of, set_of, get_of, write_of, read_of, slice_of, compose_of, one_name_in, two_names_in, name_and_lane_in}
 use Rattle.trace_text.specs.Words.{form_of, command_in, read_as}
 
--- a lane that the command names is one of so many; it is no composite
+-- a lane that the command names is one of so many, and the views that it composes are 1 to 24
 abbrev pub names_lanes : ℕ → Command → Bool
 names_lanes lanes (commands.Send name lane) = nat_lt lane lanes
 names_lanes lanes (commands.Recv fresh lane) = nat_lt lane lanes
-names_lanes lanes (commands.Compose fresh names) = false
+names_lanes lanes (commands.Compose fresh names) = nat_le 1 (length names) && nat_le (length names) 24
 names_lanes lanes _ = true
 
 abbrev Named : ℕ → Read Command → Type 0
@@ -73,6 +74,32 @@ slice_named : (lanes : ℕ) (retained : Bool) (names : Mentions) (ds : List Data
 unfolding slice_of
 slice_named lanes retained names ds = search (through) depth 9
 
+-- as many numbers as items
+numbers_long : (names : Mentions) (ds : List Data) → IfSome (numbers_in names ds) (λ p. length p.0 ≡ length ds)
+numbers_long names [] = refl
+numbers_long names (d ∷ ds) =
+    through (λ (p : List ℕ × Mentions). length p.0 ≡ length (d ∷ ds)) (name_in d) _
+    (λ name. through_if (λ (p : List ℕ × Mentions). length p.0 ≡ length ds)
+    (λ (p : List ℕ × Mentions). length p.0 ≡ length (d ∷ ds)) (numbers_in (with_name names name) ds) _
+    (numbers_long (with_name names name) ds) (λ rest long. ap suc long))
+
+-- a row of so many items has so many views
+views_counted : (row : List Data) (numbers : List ℕ) → (nat_le 3 (length row) && nat_le (length row) 26) ≡ true
+    → length numbers ≡ length (drop 2 row) → (nat_le 1 (length numbers) && nat_le (length numbers) 24) ≡ true
+views_counted row numbers sized long =
+    let left = length-drop 2 row in grind (arith, nat_tests, sized, long, left)
+
+compose_named : (lanes : ℕ) (names : Mentions) (ds : List Data) → Named lanes (compose_of names ds)
+unfolding compose_of
+compose_named lanes names ds =
+    let named : Command × Mentions → Type 0 = λ p. names_lanes lanes p.0 ≡ true in
+    through_if (λ (row : List Data). (nat_le 3 (length row) && nat_le (length row) 26) ≡ true) named
+    (row_between 3 26 ds) _ (passed (λ (row : List Data). nat_le 3 (length row) && nat_le (length row) 26) ds)
+    (λ row sized. through named (name_in (item_at row 1)) _
+    (λ new. through_if (λ (p : List ℕ × Mentions). length p.0 ≡ length (drop 2 row)) named
+    (numbers_in (with_name names new) (drop 2 row)) _ (numbers_long (with_name names new) (drop 2 row))
+    (λ b long. views_counted row b.0 sized long)))
+
 lane_number_named : (lanes : ℕ) (d : Data) → IfSome (lane_number_in lanes d) (λ lane. nat_lt lane lanes ≡ true)
 unfolding lane_number_in
 lane_number_named lanes d = search (through, passed) depth 9
@@ -122,6 +149,9 @@ form_named words.Send lanes names ds =
 form_named words.Recv lanes names ds =
     as_read (λ p. nat_lt p.1 lanes ≡ true) lanes (λ p. commands.Recv p.0 p.1) _ (lane_named lanes names ds)
     (λ p below. below)
+form_named words.Compose lanes names ds = compose_named lanes names ds
+form_named words.Add lanes names ds =
+    as_read (λ p. Unit {0}) lanes (λ p. commands.Add p.0 p.1) _ (any_read (two_names_in names ds)) (λ p any. refl)
 
 pub command_named : (lanes : ℕ) (names : Mentions) (d : Data)
     → IfSome (command_in lanes names d) (λ p. names_lanes lanes p.0 ≡ true)

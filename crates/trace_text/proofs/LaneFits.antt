@@ -21,7 +21,7 @@ fits : (shape : Shape) (earlier : List Command) (c : Command) → names_lanes sh
     → may_follow earlier c ≡ true → fits_after shape earlier c ≡ true
 fits shape earlier (commands.Send name lane) named follows = named
 fits shape earlier (commands.Recv fresh lane) named follows = rw (named, follows) refl
-fits shape earlier (commands.Compose fresh names) named follows = cc
+fits shape earlier (commands.Compose fresh names) named follows = named
 fits shape earlier _ named follows = refl
 
 split_true : (a b : Bool) → (a && b) ≡ true → (a ≡ true) × (b ≡ true)

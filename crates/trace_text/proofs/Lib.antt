@@ -1,6 +1,7 @@
 pub mod Values
 pub mod NameSteps
 pub mod LaneSteps
+pub mod NumberSteps
 pub mod CountSteps
 pub mod Texts
 pub mod StuckSteps

@@ -1,5 +1,5 @@
 -- The form of each command: the items of its row, and what they are.
-use Rattle.std.specs.Prelude.{ℕ, ◌==◌, Bool, List, length, Option, Some}
+use Rattle.std.specs.Prelude.{ℕ, ◌==◌, ◌&&◌, nat_le, Bool, List, [], ◌∷◌, length, drop, Option, Some}
 use Rattle.serde_json.specs.Data.{Data}
 use Rattle.pool_law.specs.declared.command.Command.{Command}
 use Rattle.pool_law.specs.declared.command.Command.TheVariants as commands
@@ -14,9 +14,23 @@ Read A = Option (A × Mentions)
 abbrev pub row_of : ℕ → List Data → Option (List Data)
 row_of count = only_if (λ (ds : List Data). length ds == count)
 
+-- a row of at least so many items, and at most so many
+abbrev pub row_between : ℕ → ℕ → List Data → Option (List Data)
+row_between least most =
+    only_if (λ (ds : List Data). nat_le least (length ds) && nat_le (length ds) most)
+
 -- the number of the name that is mentioned next
 abbrev pub mentioned : Mentions → List ℕ → Read ℕ
 mentioned names name = Some (number_of names name, with_name names name)
+
+-- the numbers of the names that are mentioned next, one after the other
+abbrev pub numbers_in : Mentions → List Data → Read (List ℕ)
+numbers_in names [] = Some ([], names)
+numbers_in names (d ∷ ds) = do
+  name ← name_in d
+  a ← mentioned names name
+  rest ← numbers_in a.1 ds
+  Some (a.0 ∷ rest.0, rest.1)
 
 -- ---- Items that several commands have: a name; two names; a name and a lane.
 
@@ -103,3 +117,12 @@ slice_of retained names ds = do
   a ← mentioned names new
   b ← mentioned a.1 name
   Some (commands.Slice a.0 b.0 at len retained, b.1)
+
+-- `["compose", new, v, ..]` with 1 to 24 names `v`
+unfoldable pub compose_of : Mentions → List Data → Read Command
+compose_of names ds = do
+  row ← row_between 3 26 ds
+  new ← name_in (item_at row 1)
+  a ← mentioned names new
+  b ← numbers_in a.1 (drop 2 row)
+  Some (commands.Compose a.0 b.0, b.1)

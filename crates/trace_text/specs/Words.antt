@@ -9,7 +9,7 @@ use Rattle.trace_text.specs.declared.words.Word.{Word}
 use Rattle.trace_text.specs.declared.words.Word.TheVariants as words
 use Rattle.trace_text.specs.Items.{◌>>=◌, array_in, item_at}
 use Rattle.trace_text.specs.Names.{Mentions}
-use Rattle.trace_text.specs.Forms.{Read, alloc_of, set_of, get_of, write_of, read_of, slice_of, one_name_in, two_names_in, name_and_lane_in}
+use Rattle.trace_text.specs.Forms.{Read, alloc_of, set_of, get_of, write_of, read_of, slice_of, compose_of, one_name_in, two_names_in, name_and_lane_in}
 
 abbrev pub text_of : Word → List ℕ
 text_of words.Alloc = codes "alloc"
@@ -29,12 +29,14 @@ text_of words.Touch = codes "touch"
 text_of words.Forget = codes "forget"
 text_of words.Send = codes "send"
 text_of words.Recv = codes "recv"
+text_of words.Compose = codes "compose"
+text_of words.Add = codes "add"
 
 abbrev pub all_words : List Word
 all_words =
     words.Alloc ∷ words.Set ∷ words.TrySet ∷ words.Get ∷ words.TryGet ∷ words.Write ∷ words.Read
     ∷ words.Slice ∷ words.RetainedSlice ∷ words.Dup ∷ words.Retain ∷ words.Release ∷ words.Refcnt
-    ∷ words.Touch ∷ words.Forget ∷ words.Send ∷ words.Recv ∷ []
+    ∷ words.Touch ∷ words.Forget ∷ words.Send ∷ words.Recv ∷ words.Compose ∷ words.Add ∷ []
 
 -- the word of this text
 unfoldable pub word_of : List ℕ → Option Word
@@ -65,6 +67,8 @@ form_of words.Send lanes names ds =
     read_as (λ p. commands.Send p.0 p.1) (name_and_lane_in lanes names ds)
 form_of words.Recv lanes names ds =
     read_as (λ p. commands.Recv p.0 p.1) (name_and_lane_in lanes names ds)
+form_of words.Compose lanes names ds = compose_of names ds
+form_of words.Add lanes names ds = read_as (λ p. commands.Add p.0 p.1) (two_names_in names ds)
 
 -- the command of a row
 unfoldable pub command_in : ℕ → Mentions → Data → Read Command

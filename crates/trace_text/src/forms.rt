@@ -1,14 +1,17 @@
 //! The forms of commands, each from the items of its row.
 ghost use Rattle.std.specs.Prelude.{◌≡◌, map};
 ghost use Rattle.serde_json.specs.View.{view};
-ghost use Rattle.trace_text.specs.Forms.{alloc_of, get_of, name_and_lane_in, one_name_in, read_of, set_of, slice_of, two_names_in, write_of};
+ghost use Rattle.trace_text.specs.Forms.{alloc_of, compose_of, get_of, name_and_lane_in, numbers_in, one_name_in, read_of, set_of, slice_of, two_names_in, write_of};
 ghost use Rattle.trace_text.specs.Steps.{IsRead};
 
 use crate::items::{RowNo, bytes_of, lane_number_of, name_of, number_of};
 use crate::names::Names;
-use pool_law::Command;
+use pool_law::{Command, NameList};
 use serde_json::Value;
-use std::alloc::Global;
+use std::alloc::{AllocError, Global};
+
+/// The most views of a `compose`.
+pub const VIEW_LIMIT: usize = 24;
 
 #[tactic(auto, using(crate::proofs::Values::item_view), unfolding(crate::specs::Forms::alloc_of))]
 pub fn alloc(alloc: Global, names: &mut Names, items: &[Value]) -> Result<Command, RowNo>
@@ -112,6 +115,35 @@ pub fn slice(
         len,
         retained,
     })
+}
+
+#[tactic(auto, using(crate::proofs::Values::item_view), unfolding(crate::specs::Forms::compose_of))]
+pub fn compose(alloc: Global, names: &mut Names, items: &[Value]) -> Result<Command, RowNo>
+    ensures { IsRead result names.new (compose_of names.old (map view items.now)) }
+{
+    let [_, fresh, views @ ..] = items else {
+        return Err(RowNo::Form);
+    };
+    if views.is_empty() || views.len() > VIEW_LIMIT {
+        return Err(RowNo::Form);
+    }
+    let fresh = name_of(fresh).ok_or(RowNo::Form)?;
+    let fresh = names.number(alloc, fresh)?;
+    let names = numbers(alloc, names, views)?;
+    Ok(Command::Compose { fresh, names })
+}
+
+/// Names, one after the other.
+fn numbers(alloc: Global, names: &mut Names, items: &[Value]) -> Result<NameList, RowNo>
+    ensures { IsRead result names.new (numbers_in names.old (map view items.now)) }
+{
+    let mut numbers = Vec::new(alloc);
+    for item in items {
+        let name = name_of(item).ok_or(RowNo::Form)?;
+        let number = names.number(alloc, name)?;
+        numbers.push(number).map_err(AllocError::from)?;
+    }
+    Ok(NameList::of(numbers))
 }
 
 /// A name.

@@ -11,11 +11,14 @@ mod limits;
 mod names;
 mod options;
 mod reading;
+#[cfg(test)]
+mod rows;
 mod stuck;
 #[cfg(test)]
 mod tests;
 mod words;
 
+pub use forms::VIEW_LIMIT;
 pub use items::{RowNo, array_of, bytes_of, lane_number_of, name_of, number_of};
 pub use limits::{BYTE_LIMIT, COMMAND_LIMIT, LANE_LIMIT};
 pub use options::{OPTION_KEYS, VERSION_KEYS, level_from, level_named, number_from, page_from};

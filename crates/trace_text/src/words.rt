@@ -5,7 +5,9 @@ ghost use Rattle.serde_json.specs.View.{view};
 ghost use Rattle.trace_text.specs.Words.{command_in, form_of, text_of, word_of};
 ghost use Rattle.trace_text.specs.Steps.{IsRead};
 
-use crate::forms::{alloc, get, name_and_lane, one_name, read, set, slice, two_names, write};
+use crate::forms::{
+    alloc, compose, get, name_and_lane, one_name, read, set, slice, two_names, write,
+};
 use crate::items::{RowNo, array_of};
 use crate::names::Names;
 use pool_law::Command;
@@ -32,9 +34,11 @@ pub enum Word {
     Forget,
     Send,
     Recv,
+    Compose,
+    Add,
 }
 
-const WORDS: [Word; 17] = [
+const WORDS: [Word; 19] = [
     Word::Alloc,
     Word::Set,
     Word::TrySet,
@@ -52,6 +56,8 @@ const WORDS: [Word; 17] = [
     Word::Forget,
     Word::Send,
     Word::Recv,
+    Word::Compose,
+    Word::Add,
 ];
 
 impl Word {
@@ -77,6 +83,8 @@ impl Word {
             Word::Forget => "forget",
             Word::Send => "send",
             Word::Recv => "recv",
+            Word::Compose => "compose",
+            Word::Add => "add",
         }
     }
 }
@@ -147,6 +155,11 @@ fn form(
         Word::Recv => {
             let (fresh, lane) = name_and_lane(alloc, lanes, names, items)?;
             Ok(Command::Recv { fresh, lane })
+        }
+        Word::Compose => compose(alloc, names, items),
+        Word::Add => {
+            let (whole, name) = two_names(alloc, names, items)?;
+            Ok(Command::Add { whole, name })
         }
     }
 }
