@@ -32,6 +32,7 @@ use Rattle.shared_pool.specs.Quotas.{posts}
 use Rattle.shared_pool.specs.RootNotes.{access}
 use Rattle.shared_pool.specs.SeatLanes.{lane_of}
 use Rattle.shared_pool.specs.Seats.{IsPoolSeat, IsNoted, FoundBusy}
+use Rattle.seat_work.proofs.Accesses.{set_quiet, get_quiet, touch_quiet}
 use Rattle.lane_core.specs.declared.access.Reach.{Reach}
 use Rattle.lane_core.specs.declared.counts.Counted.{Counted}
 use Rattle.lane_core.specs.declared.desk.Desk.{Desk}
@@ -39,15 +40,16 @@ use Rattle.lane_core.specs.declared.desk.Stage.TheVariants.{Ready}
 use Rattle.lane_core.specs.declared.desk.Turn.TheVariants.{Went}
 use Rattle.lane_core.specs.Accesses.{IsState, reads_set, reads_get, tries_or}
 use Rattle.lane_core.specs.Readings.{before_left, ReadsOn, none_asked}
-use Rattle.lane_core.specs.Budgets.{takes, lane_in}
+use Rattle.seat_work.specs.Hands.{lane_in, empty_hand}
+use Rattle.lane_core.specs.Budgets.{takes}
 use Rattle.lane_core.specs.Counting.{counted}
-use Rattle.lane_core.specs.Hands.{empty_hand}
 use Rattle.lane_core.specs.Named.{bound_at, NamesAre}
 use Rattle.lane_core.specs.Sampled.{AreSampled}
 use Rattle.lane_core.specs.Desks.{IsDesk, left_for, HasTurned}
 use Rattle.lane_core.specs.DeskSteps.{HasNoted, HasReplied, MayTurn}
-use Rattle.lane_core.proofs.Grown.{Grows, grows_noted, grows_busy}
-use Rattle.lane_core.proofs.HandLaws.{Carries, held_on, marked_busy}
+use Rattle.seat_work.proofs.Grown.{Grows, grows_noted, grows_busy}
+use Rattle.seat_work.proofs.HandLaws.{Carries, held_on}
+use Rattle.seat_work.proofs.HandNotes.{marked_busy}
 use Rattle.lane_core.proofs.EntryCounts.{Recounts, IsStill, still}
 use Rattle.lane_core.proofs.ReadLaws.{given_on, first_on, second_on, none_then, access_on, mark_on, note_unmarked}
 use Rattle.lane_core.proofs.StateReads.{used_view, viewed, goes}
@@ -70,55 +72,28 @@ module _ (r : RootId) (number : ℕ) (lane : Option ℕ) where
   pub set_is : (offset : ℕ) (bytes : List ℕ) → IsAccessDid (Did.Set offset bytes)
   set_is offset bytes = record {
     is_still = record { gains = λ root. refl; loses = λ root. refl; needs = λ root. refl; ends = λ root. refl };
-    carries = λ m. record {
-      places = λ q. omega arith;
-      births = λ q. refl;
-      regions = λ q. omega arith;
-      uses = λ q. omega arith;
-      tokens = λ q. omega arith;
-      ended = λ q. refl;
-      quotas = λ class. refl;
-      closes = λ class. refl;
-    };
+    carries = (set_quiet r number lane offset bytes).carries;
     sampled = λ s. (tt, refl);
     none_taken = refl;
-    none_sent = λ m to. refl;
+    none_sent = (set_quiet r number lane offset bytes).unsent;
   }
 
   pub get_is : (offset : ℕ) (bytes : List ℕ) → IsAccessDid (Did.Get offset bytes)
   get_is offset bytes = record {
     is_still = record { gains = λ root. refl; loses = λ root. refl; needs = λ root. refl; ends = λ root. refl };
-    carries = λ m. record {
-      places = λ q. omega arith;
-      births = λ q. refl;
-      regions = λ q. omega arith;
-      uses = λ q. omega arith;
-      tokens = λ q. omega arith;
-      ended = λ q. refl;
-      quotas = λ class. refl;
-      closes = λ class. refl;
-    };
+    carries = (get_quiet r number lane offset bytes).carries;
     sampled = λ s. (tt, refl);
     none_taken = refl;
-    none_sent = λ m to. refl;
+    none_sent = (get_quiet r number lane offset bytes).unsent;
   }
 
   pub touch_is : IsAccessDid Did.Touch
   touch_is = record {
     is_still = record { gains = λ root. refl; loses = λ root. refl; needs = λ root. refl; ends = λ root. refl };
-    carries = λ m. record {
-      places = λ q. omega arith;
-      births = λ q. refl;
-      regions = λ q. omega arith;
-      uses = λ q. omega arith;
-      tokens = λ q. omega arith;
-      ended = λ q. refl;
-      quotas = λ class. refl;
-      closes = λ class. refl;
-    };
+    carries = (touch_quiet r number lane).carries;
     sampled = λ s. (tt, refl);
     none_taken = refl;
-    none_sent = λ m to. refl;
+    none_sent = (touch_quiet r number lane).unsent;
   }
 
 module _ (pool : SharedPool) (old start mid new : Desk) (d : IsDesk pool empty_hand old)

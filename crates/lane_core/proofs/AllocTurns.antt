@@ -32,8 +32,9 @@ use Rattle.lane_core.specs.declared.allotment.Allots.{Allots}
 use Rattle.lane_core.specs.declared.allotment.Allots.TheVariants.{New}
 use Rattle.lane_core.specs.Allotments as allotment
 use Rattle.lane_core.specs.Accesses.{IsState}
-use Rattle.lane_core.specs.Counting.{counted, one_for}
-use Rattle.lane_core.specs.Hands.{empty_hand}
+use Rattle.seat_work.specs.Changes.{one_for}
+use Rattle.lane_core.specs.Counting.{counted}
+use Rattle.seat_work.specs.Hands.{empty_hand}
 use Rattle.lane_core.specs.Named.{bound_at}
 use Rattle.lane_core.specs.Readings.{swept, renamed}
 use Rattle.lane_core.specs.Desks.{IsDesk, notes_of, entries_of, log_of, reads_from, left_for, HasRoomFor, GoesOn, HasTurned}

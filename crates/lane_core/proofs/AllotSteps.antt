@@ -34,12 +34,14 @@ use Rattle.lane_core.specs.Logs.{HasWritten}
 use Rattle.lane_core.specs.declared.allotment.Allotting.{Allotting}
 use Rattle.lane_core.specs.declared.allotment.Allotting.TheVariants.{Handle, Cache as AskCache, Arena as AskArena, Birth, Home}
 use Rattle.lane_core.specs.declared.allotment.Allots.TheVariants.{More, Held as HeldBack, New as NewRoot, NoHandle, Full}
-use Rattle.lane_core.specs.Hands.{empty_hand, IsHeld}
+use Rattle.seat_work.specs.Hands.{empty_hand, IsHeld}
 use Rattle.lane_core.specs.Allotments.{MayAllot, HasAllotted, Fits, IsOwnHandle, hand_of, left_of, left_after, rest_of, rest_after, asks_of}
 use Rattle.lane_core.proofs.EntryCounts.{born_added, none_added, still_added}
-use Rattle.lane_core.proofs.Grown.{Grows, note_at, grows_noted, grows_busy, grows_held, grows_with, spends}
-use Rattle.lane_core.proofs.HandLaws.{held_on, handle_comes, handle_goes, no_handle, region_taken, arena_full, region_hit, cache_missed, marked_busy, both_born}
-use Rattle.lane_core.proofs.Holds.{is_handle, is_region}
+use Rattle.seat_work.proofs.Grown.{Grows, note_at, grows_noted, grows_busy, grows_held, grows_with}
+use Rattle.lane_core.proofs.Grown.{spends}
+use Rattle.seat_work.proofs.HandLaws.{held_on}
+use Rattle.seat_work.proofs.HandNotes.{handle_comes, handle_goes, no_handle, region_taken, arena_full, region_hit, cache_missed, marked_busy, both_born}
+use Rattle.seat_work.proofs.Holds.{is_handle, is_region}
 use Rattle.lane_core.proofs.LogLaws.{wrote_none}
 use Rattle.lane_core.proofs.OneNote.{wrote_note, wrote_mark, wrote_nothing, found_there}
 use Rattle.lane_core.specs.Readings.{ReadsOn, none_asked, one_asked}

@@ -31,7 +31,7 @@ use Rattle.lane_core.specs.declared.desk.Turn.TheVariants.{Went}
 use Rattle.lane_core.specs.Accesses.{reads_set, reads_get, tries_or}
 use Rattle.lane_core.specs.Readings.{before_left, ReadsOn, none_asked}
 use Rattle.lane_core.specs.Counting.{counted}
-use Rattle.lane_core.specs.Hands.{empty_hand}
+use Rattle.seat_work.specs.Hands.{empty_hand}
 use Rattle.lane_core.specs.Named.{NamesAre}
 use Rattle.lane_core.specs.Desks.{IsDesk, left_for, HasTurned}
 use Rattle.lane_core.specs.DeskSteps.{HasNoted, HasReplied, FindsBusy, AccessTurns}

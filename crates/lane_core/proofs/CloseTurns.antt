@@ -36,7 +36,7 @@ use Rattle.lane_core.specs.Accesses.{IsState}
 use Rattle.lane_core.specs.Counting.{CountsAre}
 use Rattle.lane_core.specs.Budgets.{Left, Spends, notes_alone, with_sheds}
 use Rattle.lane_core.specs.Drainings as draining
-use Rattle.lane_core.specs.Hands.{Hand}
+use Rattle.seat_work.specs.Hands.{Hand}
 use Rattle.lane_core.specs.Named.{NamesAre}
 use Rattle.lane_core.specs.Readings.{ReadsOn, none_asked, before_left, behind, renamed}
 use Rattle.lane_core.specs.Desks.{IsDesk, notes_of, entries_of, log_of, hand_of, Fits, FitsDesk, IsUnderway, HasRoomFor, left_for, left_at, left_now, left_after, SpendsAt, reads_from, next_of, DeskGrew, IsAnswered, Waits, NameFits, HasTurned, HasTurnedClosing}

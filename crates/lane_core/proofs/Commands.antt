@@ -39,9 +39,10 @@ use Rattle.lane_core.specs.declared.desk.Turn.TheVariants.{Went}
 use Rattle.lane_core.specs.declared.retirement.Ending.TheVariants.{Root as RootEnds}
 use Rattle.lane_core.specs.Accesses.{IsState}
 use Rattle.lane_core.specs.Allotments.{left_with}
-use Rattle.lane_core.specs.Budgets.{Spends, notes_alone, lane_in}
-use Rattle.lane_core.specs.Counting.{counted, one_for}
-use Rattle.lane_core.specs.Hands.{Hand, empty_hand}
+use Rattle.seat_work.specs.Hands.{lane_in, Hand, empty_hand}
+use Rattle.lane_core.specs.Budgets.{Spends, notes_alone}
+use Rattle.seat_work.specs.Changes.{one_for}
+use Rattle.lane_core.specs.Counting.{counted}
 use Rattle.lane_core.specs.Named.{bound_at, NamesAre}
 use Rattle.lane_core.specs.Endings.{retired}
 use Rattle.lane_core.specs.Readings.{before_left, behind, ReadsOn, none_asked, swept, renamed}
@@ -49,13 +50,15 @@ use Rattle.lane_core.specs.Desks.{IsDesk, notes_of, entries_of, HasRoomFor, read
 use Rattle.lane_core.specs.DeskSteps.{HasNoted, HasReplied, HasRetained, CountsMore, CountsLess, MayTurn}
 use Rattle.lane_core.proofs.CountLaws.{counted_within}
 use Rattle.lane_core.proofs.NameLaws.{NamesAre-bind, NamesAre-unbound}
-use Rattle.lane_core.proofs.Grown.{Grows, spends}
-use Rattle.lane_core.proofs.HandLaws.{Carries, held_on}
+use Rattle.seat_work.proofs.Grown.{Grows, grows_ref}
+use Rattle.lane_core.proofs.Grown.{spends}
+use Rattle.seat_work.proofs.HandLaws.{Carries, held_on}
 use Rattle.lane_core.proofs.EntryCounts.{retained, kept, ended, last_count, has_count, few_counted, stays_counted}
 use Rattle.lane_core.proofs.ReadLaws.{then_on, given_on, first_on, second_on, none_then, step_on, step_off}
 use Rattle.lane_core.proofs.StateReads.{named_so, viewed, is_bound, passed, used_fresh, ranged_fresh, unranged_fresh, goes, refuses, goes_uncounted}
-use Rattle.lane_core.proofs.DeskLaws.{Advances, grows_ref, mid_grew, goes_on, spends_at}
-use Rattle.lane_core.proofs.Turning.{noteless, ref_advances, one_turn, one_turn_same, mid_names, weightless}
+use Rattle.lane_core.proofs.DeskLaws.{Advances, mid_grew, goes_on, spends_at}
+use Rattle.seat_work.proofs.HandNotes.{weightless, ended_carries}
+use Rattle.lane_core.proofs.Turning.{noteless, ref_advances, one_turn, one_turn_same, mid_names}
 
 -- ---- Names.
 
@@ -182,19 +185,6 @@ kept_turn pool name old start mid new may start_is same seat v bound lt has less
     (kept old.counts start.counts v.root lt less.counts) less.places (sym sampler_is) s (Command.Release name)
     state.names_are (omega arith) (omega arith) (omega arith) (λ to. omega arith)
     (reads_kept old.shape (lane_of old.seat) s old.names old.counts state name v bound lt)
-
-pub ended_carries : (lane : ℕ) (r : RootId) → Carries lane empty_hand (record empty_hand { token = Some r })
-    (Ref r Ended ∷ [])
-ended_carries lane r = record {
-  places = λ q. (let a = weightless (r.place == q) 0 refl in omega (arith, a));
-  births = λ q. (let a = weightless (r.place == q) 0 refl in omega (arith, a));
-  regions = λ q. omega arith;
-  uses = λ q. omega arith;
-  tokens = λ q. (let a = weightless (same_root r q) 0 refl in omega (arith, a));
-  ended = λ q. (let a = weightless (same_root r q) 0 refl in omega (arith, a));
-  quotas = λ class. refl;
-  closes = λ class. refl;
-}
 
 pub ended_turn : (pool : SharedPool) (name : ℕ) (old start mid : Desk)
     → MayTurn pool (left_for (Command.Release name)) old

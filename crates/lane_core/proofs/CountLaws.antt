@@ -8,7 +8,8 @@ use Rattle.pool_law.proofs.ListLemmas.{slice_get-set_same, slice_get-set_other, 
 use Rattle.pool_law.proofs.SameLemmas.{same_root-is}
 use Rattle.pool_law.proofs.PatternLemmas.{same_root-refl}
 use Rattle.lane_core.specs.declared.counts.Counted.{Counted}
-use Rattle.lane_core.specs.Counting.{if_counted, counted, one_for}
+use Rattle.seat_work.specs.Changes.{one_for}
+use Rattle.lane_core.specs.Counting.{if_counted, counted}
 
 zero_if : (b : Bool) (n : ℕ) → n ≡ 0 → (if b then n else 0) ≡ 0
 zero_if true n e = e

@@ -38,14 +38,15 @@ use Rattle.lane_core.specs.declared.desk.Stage.TheVariants.{Ready}
 use Rattle.lane_core.specs.declared.desk.Turn.TheVariants.{Went, Pending, Waiting}
 use Rattle.lane_core.specs.Budgets.{Left, Spends, notes_alone, with_sheds}
 use Rattle.lane_core.specs.Counting.{CountsAre}
-use Rattle.lane_core.specs.Hands.{Hand, empty_hand, IsHeld}
+use Rattle.seat_work.specs.Hands.{Hand, empty_hand, IsHeld}
 use Rattle.lane_core.specs.Logs.{HasWritten}
 use Rattle.lane_core.specs.Named.{NamesAre}
 use Rattle.lane_core.specs.Sampled.{AreSampled, sampler_after}
 use Rattle.lane_core.specs.Desks.{IsDesk, notes_of, entries_of, log_of, reads_from, left_for, left_now, DeskGrew, GoesOn, Waits, SpendsAt, HasRoomFor, ReceivesFrom, HasTurned}
 use Rattle.lane_core.specs.Readings.{before_left, behind, ReadsOn, none_asked, swept}
 use Rattle.lane_core.specs.DeskSteps.{HasNoted, HasReplied, CanAnswer, MayTurn}
-use Rattle.lane_core.proofs.Grown.{Grows, one_none, one_entry, spends}
+use Rattle.seat_work.proofs.Grown.{Grows, one_none, one_entry, grows_none}
+use Rattle.lane_core.proofs.Grown.{spends}
 use Rattle.lane_core.proofs.EntryCounts.{Recounts, recounted, none_recounted}
 use Rattle.lane_core.proofs.ReadLaws.{given_on, unswept}
 
@@ -65,42 +66,6 @@ module _ {G : Ghosts Home Noted} where
     pub seat : IsPoolSeat pool new
     pub grows : Grows (view_of old) (view_of new) added spent
     pub held : IsHeld after (view_of new)
-
-  -- a view that is as it was, and one with a step on the word of a root more
-  pub grows_none : (pool : SharedPool) (old new : PoolSeat Home G) → IsPoolSeat pool old → HasView new (view_of old)
-      → Grows (view_of old) (view_of new) [] 0
-  grows_none pool old new was has =
-      let view : view_of new ≡ view_of old = ap (λ m. m.0) has in
-      record {
-        more = record {
-          notes = ap (λ (x : SeatView). x.own.notes) view ∙ sym (append-nil (view_of old).own.notes);
-          number = ap (λ (x : SeatView). x.own.number) view;
-          setting = ap (λ (x : SeatView). x.setting) view;
-          turns = (let a = ap (λ (x : SeatView). x.turns) view in omega (arith, a));
-          one = one_none;
-        };
-        was_alone = was.alone;
-        alone = ap (λ (x : SeatView). x.others) view ∙ was.alone;
-        moves = (let a = ap (λ (x : SeatView). x.moves) view in omega (arith, a));
-      }
-
-  pub grows_ref : (pool : SharedPool) (old new : PoolSeat Home G) → IsPoolSeat pool old → IsPoolSeat pool new
-      → (r : RootId) (d : RefDid) (moves spent : ℕ) → HasView new (with_ref (view_of old) r d moves)
-      → (view_of old).moves ≤ moves + spent → Grows (view_of old) (view_of new) (Ref r d ∷ []) spent
-  grows_ref pool old new was is r d moves spent has le =
-      let view : view_of new ≡ with_ref (view_of old) r d moves = ap (λ m. m.0) has in
-      record {
-        more = record {
-          notes = ap (λ (x : SeatView). x.own.notes) view;
-          number = ap (λ (x : SeatView). x.own.number) view;
-          setting = ap (λ (x : SeatView). x.setting) view;
-          turns = (let a = ap (λ (x : SeatView). x.turns) view in omega (arith, a));
-          one = one_entry (Ref r d);
-        };
-        was_alone = was.alone;
-        alone = is.alone;
-        moves = (let a = ap (λ (x : SeatView). x.moves) view in omega (arith, a, le));
-      }
 
   pub advances_none : (pool : SharedPool) (old new : PoolSeat Home G) (hand : Hand) → IsPoolSeat pool old
       → IsHeld hand (view_of old) → SameSeat old new → IsPoolSeat pool new → HasView new (view_of old)

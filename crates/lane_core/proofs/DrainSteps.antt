@@ -34,15 +34,17 @@ use Rattle.lane_core.specs.declared.draining.DrainKind.TheVariants.{Trim, Close}
 use Rattle.lane_core.specs.declared.draining.Draining.{Draining}
 use Rattle.lane_core.specs.declared.draining.Draining.TheVariants.{Ask, Shed, Give, Done}
 use Rattle.lane_core.specs.declared.draining.Drains.TheVariants.{More, Held as HeldBack}
-use Rattle.lane_core.specs.Budgets.{Spends, lane_in, takes, out_of, all_out}
-use Rattle.lane_core.specs.Hands.{Hand, empty_hand, IsHeld}
+use Rattle.seat_work.specs.Hands.{lane_in, Hand, empty_hand, IsHeld}
+use Rattle.lane_core.specs.Budgets.{Spends, takes, out_of, all_out}
 use Rattle.lane_core.specs.Drainings.{MayDrain, HasDrained, IsNext, IsReadNext, IsShed, Fits, quota_note, hand_of, closed_by, left_of, rest_of, classes_from}
 use Rattle.lane_core.specs.Readings.{none_asked, behind as after_log}
 use Rattle.lane_core.specs.Sampled.{AreSampled}
 use Rattle.lane_core.proofs.EntryCounts.{IsStill, none_added, still_added}
-use Rattle.lane_core.proofs.Grown.{Grows, note_at, grows_noted, grows_held, own_more, spends}
-use Rattle.lane_core.proofs.HandLaws.{Carries, held_on, region_given, cache_closed, cache_trimmed, region_shed}
-use Rattle.lane_core.proofs.Holds.{is_region, region_stays}
+use Rattle.seat_work.proofs.Grown.{Grows, note_at, grows_noted, grows_held, own_more}
+use Rattle.lane_core.proofs.Grown.{spends}
+use Rattle.seat_work.proofs.HandLaws.{Carries, held_on}
+use Rattle.seat_work.proofs.HandNotes.{region_given, cache_closed, cache_trimmed, region_shed}
+use Rattle.seat_work.proofs.Holds.{is_region, region_stays}
 use Rattle.lane_core.proofs.LogLaws.{wrote_none}
 use Rattle.lane_core.proofs.OneNote.{wrote_note, wrote_nothing, found_there}
 use Rattle.lane_core.proofs.Outs.{all_out_now, all_out_less, out_within}

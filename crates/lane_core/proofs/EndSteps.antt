@@ -33,12 +33,14 @@ use Rattle.lane_core.specs.Logs.{HasWritten}
 use Rattle.lane_core.specs.declared.retirement.Ending.{Ending}
 use Rattle.lane_core.specs.declared.retirement.Ending.TheVariants.{Root as EndRoot, Cache as AskCache, Arena as AskArena, Home}
 use Rattle.lane_core.specs.declared.retirement.Ends.TheVariants.{More, Held as HeldBack, Done}
-use Rattle.lane_core.specs.Hands.{empty_hand, IsHeld, IsRegion}
+use Rattle.seat_work.specs.Hands.{empty_hand, IsHeld, IsRegion}
 use Rattle.lane_core.specs.Endings.{MayEnd, HasEnded, Fits, hand_of, left_of, left_after, rest_of, rest_after}
 use Rattle.lane_core.proofs.EntryCounts.{none_added, still_added, vacated_added}
-use Rattle.lane_core.proofs.Grown.{Grows, note_at, grows_noted, grows_busy, grows_held, grows_with, spends}
-use Rattle.lane_core.proofs.HandLaws.{held_on, handle_goes, region_given, region_kept, region_back, marked_busy, both_come}
-use Rattle.lane_core.proofs.Holds.{is_handle, is_region, region_stays}
+use Rattle.seat_work.proofs.Grown.{Grows, note_at, grows_noted, grows_busy, grows_held, grows_with}
+use Rattle.lane_core.proofs.Grown.{spends}
+use Rattle.seat_work.proofs.HandLaws.{held_on}
+use Rattle.seat_work.proofs.HandNotes.{handle_goes, region_given, region_kept, region_back, marked_busy, both_come}
+use Rattle.seat_work.proofs.Holds.{is_handle, is_region, region_stays}
 use Rattle.lane_core.proofs.LogLaws.{wrote_none}
 use Rattle.lane_core.proofs.OneNote.{wrote_note, wrote_mark, wrote_nothing, found_there}
 use Rattle.lane_core.specs.Readings.{behind, none_asked}

@@ -26,8 +26,9 @@ use Rattle.pool_table.specs.Counts.{weigh, on_this, ref_gain, ref_loss, fetches,
 use Rattle.pool_table.specs.Learned.{in_own}
 use Rattle.shared_pool.specs.Closing.{entry_of}
 use Rattle.lane_core.specs.declared.counts.Counted.{Counted}
-use Rattle.lane_core.specs.Counting.{counted, one_for, CountsAre, AddCounts}
-use Rattle.lane_core.proofs.Grown.{Grows, weigh_more}
+use Rattle.seat_work.specs.Changes.{one_for}
+use Rattle.lane_core.specs.Counting.{counted, CountsAre, AddCounts}
+use Rattle.seat_work.proofs.Grown.{Grows, weigh_more}
 
 counts_append : (root : RootId) (k : ℕ) (xs ys : Entries)
     → count_from root k (xs ++ ys) ≡ count_from root (count_from root k xs) ys

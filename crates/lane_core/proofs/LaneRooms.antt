@@ -17,7 +17,7 @@ use Rattle.lane_core.specs.declared.desk.Desk.{Desk}
 use Rattle.lane_core.specs.declared.desk.Stage.{Stage}
 use Rattle.lane_core.specs.declared.desk.Stage.TheVariants.{Ready, Allotting, Ending, Sweeping, Closing}
 use Rattle.lane_core.specs.Budgets.{Left, notes_alone, with_sheds}
-use Rattle.lane_core.specs.Hands.{Hand}
+use Rattle.seat_work.specs.Hands.{Hand}
 use Rattle.lane_core.specs.Desks.{DeskGrew, HasRoomFor, SpendsAt, notes_of, left_at, left_now}
 use Rattle.lane_core.specs.Lanes.{IsClosing, both, left_for_all, with_takes, left_for_rest, left_to_ask}
 

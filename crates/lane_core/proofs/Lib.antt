@@ -5,8 +5,6 @@ pub mod RoomLaws
 pub mod OpenedLaws
 pub mod LogLaws
 pub mod Grown
-pub mod HandLaws
-pub mod Holds
 pub mod Readings
 pub mod OneNote
 pub mod AllotSteps
@@ -14,7 +12,6 @@ pub mod EndSteps
 pub mod Outs
 pub mod ReadLaws
 pub mod DrainSteps
-pub mod ClassLaws
 pub mod EntryCounts
 pub mod StateReads
 pub mod DeskLaws

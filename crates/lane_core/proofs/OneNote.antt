@@ -17,7 +17,7 @@ use Rattle.shared_pool.specs.Seats.{IsPoolSeat, IsNoted, FoundBusy}
 use Rattle.lane_core.specs.Readings.{ReadsOn}
 use Rattle.lane_core.specs.Sampled.{AreSampled}
 use Rattle.lane_core.specs.Wrote.{Wrote}
-use Rattle.lane_core.proofs.Grown.{note_at, grows_noted, grows_busy, grows_held}
+use Rattle.seat_work.proofs.Grown.{note_at, grows_noted, grows_busy, grows_held}
 
 module _ {G : Ghosts Home Noted} (pool : SharedPool) (old new : PoolSeat Home G) (was : IsPoolSeat pool old)
     (is : IsPoolSeat pool new) (same : SameSeat old new) where

@@ -26,13 +26,14 @@ use Rattle.shared_pool.specs.declared.pool.SharedPool.{SharedPool}
 use Rattle.shared_pool.specs.Closing.{note_of, entry_of}
 use Rattle.shared_pool.specs.Quotas.{posts}
 use Rattle.shared_pool.specs.SeatLanes.{lane_of}
+use Rattle.seat_work.proofs.FirstSeats.{IsHeld-empty}
 use Rattle.lane_core.specs.declared.counts.Counted.{Counted}
 use Rattle.lane_core.specs.declared.desk.Desk.{Desk}
 use Rattle.lane_core.specs.declared.desk.Stage.TheVariants.{Ready}
 use Rattle.lane_core.specs.declared.lane.Lane.{Lane}
 use Rattle.lane_core.specs.declared.lane.Parts.{Parts}
 use Rattle.lane_core.specs.Budgets.{Left, all_out}
-use Rattle.lane_core.specs.Hands.{empty_hand, IsHeld}
+use Rattle.seat_work.specs.Hands.{empty_hand, IsHeld}
 use Rattle.lane_core.specs.Sampled.{AreSampled}
 use Rattle.lane_core.specs.Named.{bound_at, NamesAre, ChangesBelow}
 use Rattle.lane_core.specs.Counting.{counted, CountsAre}
@@ -44,33 +45,6 @@ use Rattle.lane_core.proofs.LaneRooms.{rest_ready}
 use Rattle.lane_core.proofs.Outs.{none_out}
 use Rattle.lane_core.proofs.ReadLaws.{still_on}
 use Rattle.lane_core.proofs.RoomLaws.{all_few, all_asks_few, all_takes, bound_is}
-
--- ---- A seat that has noted nothing has nothing in hand.
-zero_either : (b : Bool) → ◌≡◌ {A = ℕ} 0 (if b then 0 else 0)
-zero_either true = refl
-zero_either false = refl
-
-module _ (v : SeatView) (own : v.own.notes ≡ []) (alone : v.others ≡ []) where
-  abbrev bare : SeatView
-  bare = record v { own = record { number = v.own.number; notes = [] }; others = [] }
-
-  bare_is : bare ≡ v
-  bare_is = λ i. record v { own = record { number = v.own.number; notes = sym own i }; others = sym alone i }
-
-  nothing_held : IsHeld empty_hand bare
-  nothing_held = record {
-    places = λ p. refl;
-    births = λ p. refl;
-    regions = λ q. refl;
-    uses = λ q. refl;
-    tokens = λ root. refl;
-    ended = λ root. refl;
-    quotas = λ class. zero_either (class + 1 == 0);
-    closes = λ class. sym (le-ltb class 0 (omega arith));
-  }
-
-  pub IsHeld-empty : IsHeld empty_hand v
-  IsHeld-empty = subst (IsHeld empty_hand) bare_is nothing_held
 
 -- ---- The log and the names at first.
 CountsAre-none : (cs : List Counted) → ((root : RootId) → counted cs root ≡ 0) → (es : Entries) → es ≡ []

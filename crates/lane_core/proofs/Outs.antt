@@ -11,8 +11,9 @@ use Rattle.pool_table.specs.declared.views.Entry.{Entry}
 use Rattle.pool_table.specs.declared.views.Entry.TheVariants.{At, Ref, Busy}
 use Rattle.pool_table.specs.declared.views.SeatView.{SeatView}
 use Rattle.pool_table.specs.Learned.{in_own, takes_of, gives_of, did_take}
-use Rattle.lane_core.specs.Budgets.{is_take, takes, lane_in, out_of, out_below, all_out}
-use Rattle.lane_core.specs.Wrote.{HasMore}
+use Rattle.seat_work.specs.Hands.{lane_in}
+use Rattle.lane_core.specs.Budgets.{is_take, takes, out_of, out_below, all_out}
+use Rattle.seat_work.specs.Growth.{HasMore}
 
 -- ---- A note takes a region of one class.
 

@@ -24,12 +24,13 @@ use Rattle.shared_pool.specs.Seats.{FoundBusy}
 use Rattle.lane_core.specs.declared.desk.Desk.{Desk}
 use Rattle.lane_core.specs.declared.desk.Stage.TheVariants.{Ready}
 use Rattle.lane_core.specs.declared.desk.Turn.TheVariants.{Went, Pending}
-use Rattle.lane_core.specs.Budgets.{Left, Spends, notes_alone, takes, lane_in}
-use Rattle.lane_core.specs.Hands.{empty_hand}
+use Rattle.seat_work.specs.Hands.{lane_in, empty_hand}
+use Rattle.lane_core.specs.Budgets.{Left, Spends, notes_alone, takes}
 use Rattle.lane_core.specs.Sampled.{AreSampled}
 use Rattle.lane_core.specs.Desks.{IsDesk, notes_of, HasRoomFor, left_for, PassesOver}
 use Rattle.lane_core.specs.DeskSteps.{CanAnswer, HasNoted, HasReplied, HasPosted, HasNotPosted}
-use Rattle.lane_core.proofs.Grown.{Grows, spends}
+use Rattle.seat_work.proofs.Grown.{Grows}
+use Rattle.lane_core.proofs.Grown.{spends}
 use Rattle.lane_core.proofs.EntryCounts.{Recounts, none_recounted, still}
 use Rattle.lane_core.proofs.ReadLaws.{note_on}
 use Rattle.lane_core.proofs.DeskLaws.{Advances, advances_none, grew, length_is, lengthened, spends_at, still_spent, still_waits, unmoved}

@@ -20,7 +20,7 @@ use Rattle.pool_law.proofs.HistoryLemmas.{append-assoc, own-append}
 use Rattle.pool_law.proofs.PatternLemmas.{same_object-refl}
 use Rattle.pool_law.proofs.SameLemmas.{and-first, and-second, same_object-is}
 use Rattle.shared_pool.specs.Closing.{IsOrdered}
-use Rattle.lane_core.specs.Logs.{how_many}
+use Rattle.seat_work.specs.Growth.{how_many}
 use Rattle.lane_core.specs.Played.{IsHandedOver, is_post, is_fetch}
 
 -- 1 for a post, and for a fetch

@@ -8,7 +8,7 @@ use Rattle.shared_pool.specs.Seated.{HasNothing, IsDone, AreDone}
 use Rattle.lane_core.specs.declared.desk.Stage.TheVariants.{Closing}
 use Rattle.lane_core.specs.declared.draining.Draining.TheVariants.{Done}
 use Rattle.lane_core.specs.declared.lane.Lane.{Lane}
-use Rattle.lane_core.specs.Hands.{IsHeld}
+use Rattle.seat_work.specs.Hands.{IsHeld}
 use Rattle.lane_core.specs.Desks.{hand_of}
 use Rattle.lane_core.specs.Played.{IsFinishedLane, AreFinished}
 use Rattle.lane_core.proofs.EitherLane.{lane_desk}

@@ -36,58 +36,27 @@ use Rattle.shared_pool.specs.Notes.{plain}
 use Rattle.shared_pool.specs.Quotas.{posts}
 use Rattle.shared_pool.specs.SeatLanes.{lane_of}
 use Rattle.shared_pool.specs.Seats.{IsPoolSeat, IsNoted}
+use Rattle.seat_work.proofs.HandNotes.{post_entry, fetch_entry, post_carries, fetch_carries}
 use Rattle.lane_core.specs.declared.access.Refusal.{Refusal}
 use Rattle.lane_core.specs.declared.counts.Counted.{Counted}
 use Rattle.lane_core.specs.declared.desk.Desk.{Desk}
 use Rattle.lane_core.specs.declared.desk.Stage.TheVariants.{Ready}
 use Rattle.lane_core.specs.declared.desk.Turn.TheVariants.{Went}
 use Rattle.lane_core.specs.Accesses.{reply_for, IsState, IsRefused}
-use Rattle.lane_core.specs.Budgets.{lane_in}
+use Rattle.seat_work.specs.Hands.{lane_in, empty_hand}
 use Rattle.lane_core.specs.Counting.{counted}
-use Rattle.lane_core.specs.Hands.{empty_hand}
 use Rattle.lane_core.specs.Named.{bound_at, NamesAre}
 use Rattle.lane_core.specs.Readings.{before_left, behind, ReadsOn, none_asked}
 use Rattle.lane_core.specs.Desks.{IsDesk, notes_of, entries_of, HasRoomFor, left_for, HasTurned}
 use Rattle.lane_core.specs.DeskSteps.{CanAnswer, HasNoted, HasReplied, HasPosted, CountsMore, CountsLess, MayTurn, left_to_post}
 use Rattle.lane_core.proofs.NameLaws.{NamesAre-bind}
-use Rattle.lane_core.proofs.Grown.{Grows, grows_noted, weigh_more}
-use Rattle.lane_core.proofs.HandLaws.{Carries, held_on}
+use Rattle.seat_work.proofs.Grown.{Grows, grows_noted, weigh_more}
+use Rattle.seat_work.proofs.HandLaws.{Carries, held_on}
 use Rattle.lane_core.proofs.EntryCounts.{Recounts, still, posted, fetched, own_count, has_count, few_counted, stays_counted}
 use Rattle.lane_core.proofs.StateReads.{used_view, refused_view, viewed, goes, refuses}
 use Rattle.lane_core.proofs.DeskLaws.{Advances, can_answer_noted}
 use Rattle.lane_core.proofs.ReadLaws.{given_on, note_on}
 use Rattle.lane_core.proofs.Turning.{one_turn, one_turn_same, unstopped_for}
-
-module _ (from to number : ℕ) (lane : Option ℕ) where
-  abbrev pub post_entry : Parcel → Entry
-  post_entry parcel = At (Mail from to) number (noted_by lane (plain (Did.Post parcel)))
-
-  abbrev pub fetch_entry : Parcel → Entry
-  fetch_entry parcel = At (Mail from to) number (noted_by lane (plain (Did.Fetch parcel)))
-
-  pub post_carries : (parcel : Parcel) (m : ℕ) → Carries m empty_hand empty_hand (post_entry parcel ∷ [])
-  post_carries parcel m = record {
-    places = λ q. omega arith;
-    births = λ q. refl;
-    regions = λ q. omega arith;
-    uses = λ q. omega arith;
-    tokens = λ q. omega arith;
-    ended = λ q. refl;
-    quotas = λ class. refl;
-    closes = λ class. refl;
-  }
-
-  pub fetch_carries : (parcel : Parcel) (m : ℕ) → Carries m empty_hand empty_hand (fetch_entry parcel ∷ [])
-  fetch_carries parcel m = record {
-    places = λ q. omega arith;
-    births = λ q. refl;
-    regions = λ q. omega arith;
-    uses = λ q. omega arith;
-    tokens = λ q. omega arith;
-    ended = λ q. refl;
-    quotas = λ class. refl;
-    closes = λ class. refl;
-  }
 
 -- a parcel is one post to its lane, and none to another
 pub one_post : (x y : Bool) → (if (x && y) && true then 1 else 0) + 0 ≤ (if y then 1 else 0)

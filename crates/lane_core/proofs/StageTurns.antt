@@ -55,11 +55,12 @@ use Rattle.lane_core.specs.Drainings as draining
 use Rattle.lane_core.specs.Allotments as allotment
 use Rattle.lane_core.specs.Endings as ending
 use Rattle.lane_core.specs.Budgets.{Left, Spends, notes_alone, with_sheds, all_out}
-use Rattle.lane_core.specs.Counting.{AddCounts, counted, one_for}
-use Rattle.lane_core.specs.Hands.{Hand, empty_hand, IsHeld}
+use Rattle.seat_work.specs.Changes.{one_for}
+use Rattle.lane_core.specs.Counting.{AddCounts, counted}
+use Rattle.seat_work.specs.Hands.{Hand, empty_hand, IsHeld}
 use Rattle.lane_core.specs.Named.{NamesAre}
 use Rattle.lane_core.specs.Sampled.{AreSampled, sampler_after}
-use Rattle.lane_core.specs.Wrote.{HasMore}
+use Rattle.seat_work.specs.Growth.{HasMore}
 use Rattle.lane_core.specs.Readings.{ReadsOn, none_asked, swept, renamed}
 use Rattle.lane_core.specs.Desks.{IsDesk, notes_of, entries_of, log_of, hand_of, reads_from, left_now, DeskGrew, GoesOn, Waits, SpendsAt, HasRoomFor, HasTurned, HasTurnedClosing}
 use Rattle.lane_core.specs.DeskSteps.{HasNoted, HasReplied, Concludes, CanAnswer, CountsMore}
@@ -68,7 +69,7 @@ use Rattle.lane_core.proofs.EntryCounts.{Recounts, adds_recounted, alone_added}
 use Rattle.lane_core.proofs.AllotSteps.{allot_left}
 use Rattle.lane_core.proofs.EndSteps.{end_left}
 use Rattle.lane_core.proofs.DrainSteps.{drain_left}
-use Rattle.lane_core.proofs.HandLaws.{drained_held}
+use Rattle.seat_work.proofs.HandNotes.{drained_held}
 use Rattle.lane_core.proofs.ReadLaws.{then_on, given_on, sweeps_on}
 use Rattle.lane_core.proofs.DeskLaws.{Advances, mid_is, mid_asked, mid_grew, grew, goes_on, answered, answer_reads, swept_reads, entries_more, reads_at, spends_at, length_is, lengthened, noted_so}
 

@@ -30,7 +30,7 @@ use Rattle.lane_core.specs.declared.lane.Stepped.{Stepped}
 use Rattle.lane_core.specs.declared.lane.Stepped.TheVariants.{Went as StepWent, Pending as StepPending, Waiting as StepWaiting, Finished as StepFinished}
 use Rattle.lane_core.specs.Budgets.{notes_alone, with_sheds}
 use Rattle.lane_core.specs.Drainings as draining
-use Rattle.lane_core.specs.Hands.{Hand, empty_hand}
+use Rattle.seat_work.specs.Hands.{Hand, empty_hand}
 use Rattle.lane_core.specs.Readings.{ReadsOn, none_asked}
 use Rattle.lane_core.specs.Desks.{IsDesk, notes_of, entries_of, hand_of, Fits, FitsDesk, IsUnderway, HasRoomFor, left_for, left_at, next_of, DeskGrew, left_now, SpendsAt, Waits, IsPassedOver, PassesOver, HasTurnedClosing}
 use Rattle.lane_core.specs.Lanes.{Heeds, IsRunningLane, IsStoppedLane, HasPassedOver, reads_closing, IsClosing, IsAtRest, SameLane, commands_left, answered_entries, entries_since, number_of, left_of}

@@ -27,6 +27,7 @@ use Rattle.shared_pool.specs.Closing.{note_of, entry_of}
 use Rattle.shared_pool.specs.Quotas.{posts}
 use Rattle.shared_pool.specs.SeatLanes.{lane_of}
 use Rattle.shared_pool.specs.Seats.{IsPoolSeat}
+use Rattle.seat_work.proofs.HandNotes.{ref_carries}
 use Rattle.lane_core.specs.declared.access.Refusal.{Refusal}
 use Rattle.lane_core.specs.declared.access.Refusal.TheVariants.{Unbound, Taken, Illegal, Range}
 use Rattle.lane_core.specs.declared.counts.Counted.{Counted}
@@ -34,20 +35,21 @@ use Rattle.lane_core.specs.declared.desk.Desk.{Desk}
 use Rattle.lane_core.specs.declared.desk.Stage.TheVariants.{Ready}
 use Rattle.lane_core.specs.declared.desk.Turn.TheVariants.{Went}
 use Rattle.lane_core.specs.Accesses.{reply_for, IsState}
-use Rattle.lane_core.specs.Budgets.{Left, notes_alone, takes, lane_in}
+use Rattle.seat_work.specs.Hands.{lane_in, Hand, empty_hand}
+use Rattle.lane_core.specs.Budgets.{Left, notes_alone, takes}
 use Rattle.lane_core.specs.Counting.{counted}
-use Rattle.lane_core.specs.Hands.{Hand, empty_hand}
 use Rattle.lane_core.specs.Named.{bound_at, NamesAre}
 use Rattle.lane_core.specs.Sampled.{AreSampled}
 use Rattle.lane_core.specs.Desks.{IsDesk, left_for, HasTurned}
 use Rattle.lane_core.specs.Readings.{before_left, ReadsOn, none_asked}
 use Rattle.lane_core.specs.DeskSteps.{HasNoted, HasReplied, HasRetained, MayTurn}
-use Rattle.lane_core.proofs.Grown.{Grows, one_none, spends}
-use Rattle.lane_core.proofs.HandLaws.{Carries, held_on}
+use Rattle.seat_work.proofs.Grown.{Grows, one_none, grows_ref}
+use Rattle.lane_core.proofs.Grown.{spends}
+use Rattle.seat_work.proofs.HandLaws.{Carries, held_on}
 use Rattle.lane_core.proofs.EntryCounts.{Recounts, none_recounted, looked, retained}
 use Rattle.lane_core.proofs.StateReads.{goes_uncounted, named_so}
 use Rattle.lane_core.proofs.ReadLaws.{given_on, still_on, step_on}
-use Rattle.lane_core.proofs.DeskLaws.{Advances, grows_ref, mid_is, answered, swept_reads, spends_at}
+use Rattle.lane_core.proofs.DeskLaws.{Advances, mid_is, answered, swept_reads, spends_at}
 
 pub grows_same : (v : SeatView) → v.others ≡ [] → Grows v v [] 0
 grows_same v alone = record {
@@ -120,27 +122,6 @@ as_start old start is =
     })
 
 -- ---- A step on the count of a root.
-
-pub weightless : (b : Bool) (n : ℕ) → n ≡ 0 → cond {A = ℕ} b n 0 ≡ 0
-weightless true n e = e
-weightless false n e = refl
-
-pub ref_carries : (lane : ℕ) (h : Hand) (r : RootId) (did : RefDid) → ref_born did ≡ 0 → ref_ended did ≡ 0
-    → ref_vacated did ≡ 0 → Carries lane h h (Ref r did ∷ [])
-ref_carries lane h r did born ended vacated = record {
-  places =
-      λ q. (let a = weightless (r.place == q) (ref_born did) born in let b =
-      weightless (r.place == q) (ref_vacated did) vacated in omega (arith, a, b));
-  births = λ q. (let a = weightless (r.place == q) (ref_born did) born in omega (arith, a));
-  regions = λ q. omega arith;
-  uses = λ q. omega arith;
-  tokens =
-      λ q. (let a = weightless (same_root r q) (ref_ended did) ended in let b =
-      weightless (same_root r q) (ref_vacated did) vacated in omega (arith, a, b));
-  ended = λ q. (let b = weightless (same_root r q) (ref_vacated did) vacated in omega (arith, b));
-  quotas = λ class. refl;
-  closes = λ class. refl;
-}
 
 -- a seat that made a step on the count of a root, and has nothing more in hand
 pub ref_advances : (pool : SharedPool) (old start : Desk) → IsDesk pool empty_hand old

@@ -23,11 +23,12 @@ use Rattle.lane_core.specs.declared.allotment.Allotting.TheVariants.{Handle, Cac
 use Rattle.lane_core.specs.declared.allotment.Allots.{Allots}
 use Rattle.lane_core.specs.declared.allotment.Allots.TheVariants.{More, Held, New as Born, NoHandle, Full}
 use Rattle.lane_core.specs.Logs.{HasWritten}
-use Rattle.lane_core.specs.Hands.{Hand, empty_hand, IsHeld, IsHandle, IsRegion}
+use Rattle.seat_work.specs.Hands.{Hand, empty_hand, IsHeld, IsHandle, IsRegion}
 use Rattle.lane_core.specs.Budgets.{Left, notes_alone, Spends}
 use Rattle.lane_core.specs.Readings.{none_asked, one_asked}
 use Rattle.lane_core.specs.Wrote.{Wrote}
-use Rattle.lane_core.specs.Counting.{AddCounts, one_for}
+use Rattle.seat_work.specs.Changes.{one_for}
+use Rattle.lane_core.specs.Counting.{AddCounts}
 use Rattle.shared_pool.specs.Closing.{entry_of}
 
 abbrev pub hand_of : Allotting → Hand

@@ -1,6 +1,6 @@
 -- How much of its budgets a lane has still to spend: notes, allocations that ask a cache, regions
 -- taken from its arena, births and retains, and parcels sent to each lane.
-use Rattle.std.specs.Prelude.{ℕ, zero, suc, ◌+◌, ◌-◌, ◌*◌, ◌≤◌, if◌then◌else◌, Bool, true, false, length, unwrap_or}
+use Rattle.std.specs.Prelude.{ℕ, zero, suc, ◌+◌, ◌-◌, ◌*◌, ◌≤◌, if◌then◌else◌, Bool, true, false, length}
 use Rattle.pool_law.specs.declared.note.Did.{Did}
 use Rattle.pool_law.specs.declared.note.Did.TheVariants.{Take}
 use Rattle.pool_law.specs.Limits.{cached_classes}
@@ -9,6 +9,7 @@ use Rattle.pool_table.specs.declared.views.SeatView.{SeatView}
 use Rattle.pool_table.specs.Views.{noted_weight}
 use Rattle.pool_table.specs.Learned.{in_own, takes_of, gives_of}
 use Rattle.shared_pool.specs.Quotas.{posts}
+use Rattle.seat_work.specs.Hands.{lane_in}
 
 pub record Left : Type 0 where
   pub notes : ℕ
@@ -29,10 +30,6 @@ is_take _ = false
 
 abbrev pub takes : Entry → ℕ
 takes e = noted_weight (λ n. if is_take n.did then 1 else 0) e
-
--- the lane of a view that has one
-abbrev pub lane_in : SeatView → ℕ
-lane_in v = unwrap_or v.own.number 0
 
 -- how many regions of the class the view's seat took, and didn't give back: no more can be shed
 abbrev pub out_of : ℕ → SeatView → ℕ

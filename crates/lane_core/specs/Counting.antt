@@ -15,10 +15,6 @@ if_counted (Some c) root = if same_root c.root root then c.count else 0
 abbrev pub counted : List Counted → RootId → ℕ
 counted cs root = if_counted (slice_get cs root.place) root
 
--- 1 for this root, and 0 for another
-abbrev pub one_for : RootId → RootId → ℕ
-one_for root other = if same_root root other then 1 else 0
-
 -- these entries add so many to the count of each root, whatever it was, and use none
 pub record AddCounts (more : RootId → ℕ) (es : Entries) : Type 0 where
   pub adds : (root : RootId) (k : ℕ) → count_from root k es ≡ k + more root

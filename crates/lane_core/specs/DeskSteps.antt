@@ -26,8 +26,9 @@ use Rattle.lane_core.specs.declared.desk.Turn.{Turn}
 use Rattle.lane_core.specs.declared.desk.Turn.TheVariants.{Went, Pending}
 use Rattle.lane_core.specs.Accesses.{IsState, IsPrepared}
 use Rattle.lane_core.specs.Budgets.{Left}
-use Rattle.lane_core.specs.Counting.{counted, one_for}
-use Rattle.lane_core.specs.Hands.{empty_hand}
+use Rattle.seat_work.specs.Changes.{one_for}
+use Rattle.lane_core.specs.Counting.{counted}
+use Rattle.seat_work.specs.Hands.{empty_hand}
 use Rattle.lane_core.specs.Desks.{IsDesk, HasRoomFor, HasTurned}
 
 -- the log has these notes more, and nothing else at the desk is new

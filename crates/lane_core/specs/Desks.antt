@@ -34,10 +34,10 @@ use Rattle.lane_core.specs.declared.desk.Turn.TheVariants.{Went, Pending, Waitin
 use Rattle.lane_core.specs.declared.draining.DrainKind.TheVariants.{Trim, Close}
 use Rattle.lane_core.specs.declared.draining.Draining.{Draining}
 use Rattle.lane_core.specs.declared.draining.Draining.TheVariants.{Done as AllDrained}
-use Rattle.lane_core.specs.Hands.{Hand, empty_hand, IsHeld}
+use Rattle.seat_work.specs.Hands.{Hand, empty_hand, IsHeld}
 use Rattle.lane_core.specs.Sampled.{AreSampled}
 use Rattle.lane_core.specs.Budgets.{Left, notes_alone, with_sheds, all_out, Spends}
-use Rattle.lane_core.specs.Wrote.{HasMore}
+use Rattle.seat_work.specs.Growth.{HasMore}
 use Rattle.lane_core.specs.Counting.{CountsAre}
 use Rattle.lane_core.specs.Named.{NamesAre}
 use Rattle.lane_core.specs.Readings.{ReadsOn, none_asked, swept, renamed}

@@ -26,7 +26,7 @@ use Rattle.lane_core.specs.declared.draining.Draining.TheVariants.{Ask, Shed, Gi
 use Rattle.lane_core.specs.declared.draining.Drains.{Drains}
 use Rattle.lane_core.specs.declared.draining.Drains.TheVariants.{More, Held}
 use Rattle.lane_core.specs.Logs.{HasWritten}
-use Rattle.lane_core.specs.Hands.{Hand, empty_hand, IsHeld, IsRegion}
+use Rattle.seat_work.specs.Hands.{Hand, empty_hand, IsHeld, IsRegion}
 use Rattle.lane_core.specs.Budgets.{Left, notes_alone, Spends, out_of, all_out}
 use Rattle.lane_core.specs.Readings.{none_asked}
 use Rattle.lane_core.specs.Wrote.{Wrote}

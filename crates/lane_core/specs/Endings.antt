@@ -23,7 +23,7 @@ use Rattle.lane_core.specs.declared.retirement.Ending.TheVariants.{Root, Cache, 
 use Rattle.lane_core.specs.declared.retirement.Ends.{Ends}
 use Rattle.lane_core.specs.declared.retirement.Ends.TheVariants.{More, Held, Done}
 use Rattle.lane_core.specs.Logs.{HasWritten}
-use Rattle.lane_core.specs.Hands.{Hand, empty_hand, IsHeld, IsHandle, IsRegion}
+use Rattle.seat_work.specs.Hands.{Hand, empty_hand, IsHeld, IsHandle, IsRegion}
 use Rattle.lane_core.specs.Budgets.{Left, notes_alone, Spends}
 use Rattle.lane_core.specs.Readings.{none_asked}
 use Rattle.lane_core.specs.Wrote.{Wrote}

@@ -26,7 +26,7 @@ use Rattle.lane_core.specs.declared.draining.DrainKind.TheVariants.{Close}
 use Rattle.lane_core.specs.declared.draining.Draining.TheVariants.{Done as AllClosed}
 use Rattle.lane_core.specs.declared.lane.Lane.{Lane}
 use Rattle.lane_core.specs.Budgets.{Left, notes_alone, with_sheds}
-use Rattle.lane_core.specs.Logs.{IsOneStep}
+use Rattle.seat_work.specs.Growth.{IsOneStep}
 use Rattle.lane_core.specs.Named.{NamesAre}
 use Rattle.lane_core.specs.Readings.{ReadsOn, none_asked, renamed}
 use Rattle.lane_core.specs.Drainings as draining

@@ -2,7 +2,6 @@ pub mod Logs
 pub mod Named
 pub mod Counting
 pub mod Budgets
-pub mod Hands
 pub mod Sampled
 pub mod Readings
 pub mod Wrote

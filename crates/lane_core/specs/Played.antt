@@ -22,7 +22,7 @@ use Rattle.shared_pool.specs.declared.pool.SharedPool.{SharedPool}
 use Rattle.lane_core.specs.declared.lane.Lane.{Lane}
 use Rattle.lane_core.specs.declared.played.Parted.{Parted}
 use Rattle.lane_core.specs.Lanes.{IsLane, IsFinished, number_of}
-use Rattle.lane_core.specs.Logs.{how_many}
+use Rattle.seat_work.specs.Growth.{how_many}
 
 -- a note posts to a mail, and fetches from it
 abbrev pub is_post : Object → Note → Bool

@@ -1,29 +1,20 @@
 -- What a step of a lane's seat did: the entries that it added to the seat's part.
-use Rattle.std.specs.Prelude.{◌≡◌, ℕ, ◌+◌, ◌≤◌, List, ◌++◌, length, map}
+use Rattle.std.specs.Prelude.{◌≡◌, ℕ, List, map}
 use Rattle.step_law.specs.declared.Told.{Ghosts}
 use Rattle.pool_law.specs.declared.note.Note.{Note}
 use Rattle.pool_law.specs.declared.note.Noted.{Noted}
 use Rattle.pool_law.specs.Readers.{Reader}
 use Rattle.pool_table.specs.declared.table.PoolSeat.{PoolSeat}
 use Rattle.pool_table.specs.declared.views.Entry.{Entry}
-use Rattle.pool_table.specs.declared.views.SeatView.{SeatView}
 use Rattle.pool_table.specs.Seats.{view_of, SameSeat}
 use Rattle.leak_records.specs.Records.{Sampling}
 use Rattle.shared_pool.specs.declared.home.Home.{Home}
 use Rattle.shared_pool.specs.declared.pool.SharedPool.{SharedPool}
 use Rattle.shared_pool.specs.Closing.{note_of, entry_of}
 use Rattle.shared_pool.specs.Seats.{IsPoolSeat}
-use Rattle.lane_core.specs.Logs.{IsOneStep}
 use Rattle.lane_core.specs.Readings.{ReadsOn}
 use Rattle.lane_core.specs.Sampled.{AreSampled}
-
--- the view has these entries more in its own part, those of one step; each costs at most one turn
-pub record HasMore (old new : SeatView) (added : List Entry) : Type 0 where
-  pub notes : new.own.notes ≡ old.own.notes ++ added
-  pub number : new.own.number ≡ old.own.number
-  pub setting : new.setting ≡ old.setting
-  pub turns : old.turns ≤ new.turns + length added
-  pub one : IsOneStep (map note_of added)
+use Rattle.seat_work.specs.Growth.{HasMore}
 
 module _ {G : Ghosts Home Noted} where
   -- the seat wrote these notes: births with the watches of a sampler, which then is the last, and

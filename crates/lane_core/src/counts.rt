@@ -2,7 +2,8 @@
 
 ghost use Rattle.std.specs.Prelude.{◌≡◌, ◌+◌, ◌-◌, ◌<◌, ◌^◌, length, IfOk};
 ghost use Rattle.pool_law.specs.declared.id.RootId.{RootId};
-ghost use Rattle.lane_core.specs.Counting.{counted, one_for};
+ghost use Rattle.seat_work.specs.Changes.{one_for};
+ghost use Rattle.lane_core.specs.Counting.{counted};
 
 use pool_law::RootId;
 use std::alloc::{AllocError, Global};

@@ -4,7 +4,7 @@ ghost use Rattle.std.specs.Prelude.{◌≡◌, ◌≢◌, ◌+◌, ◌-◌, ◌<
 ghost use Rattle.pool_law.specs.LaneLaw.{sweep_period};
 ghost use Rattle.pool_law.specs.LaneStates.{LaneState};
 ghost use Rattle.pool_law.specs.declared.command.Command.{Command};
-ghost use Rattle.lane_core.specs.Hands.{empty_hand};
+ghost use Rattle.seat_work.specs.Hands.{empty_hand};
 ghost use Rattle.lane_core.specs.Accesses.{IsState, Reaches, IsReady, IsPrepared, IsAccess, reply_for};
 ghost use Rattle.lane_core.specs.declared.access.Access.TheVariants.{Set, Get};
 ghost use Rattle.pool_law.specs.Views.{IsView};

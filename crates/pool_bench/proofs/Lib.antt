@@ -1,6 +1,2 @@
-pub mod Steps
-pub mod Stages
+pub mod HeldRoots
 pub mod Runs
-pub mod Recounts
-pub mod Sent
-pub mod Passes

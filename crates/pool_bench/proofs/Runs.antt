@@ -2,71 +2,32 @@
 use Rattle.std.proofs.Common.{◌≡◌, ℕ, ◌+◌, ◌*◌, ◌<◌, List, [], ◌∷◌, Option, Some, None, length, map, get_or, sym, ap, ◌∙◌, subst, arith}
 use Rattle.std.specs.Prelude.{All, IfSome, slice_get, unwrap_or}
 use Rattle.std.proofs.lemmas.List.{get_or-map, length-map}
-use Rattle.std.proofs.lemmas.Nat.{mul-le}
 use Rattle.step_law.specs.Settings.{Setting}
 use Rattle.step_law.specs.declared.Told.{Ghosts}
 use Rattle.pool_law.specs.declared.note.Noted.{Noted}
 use Rattle.pool_table.specs.declared.table.PoolSeat.{PoolSeat}
 use Rattle.pool_table.specs.declared.views.Entry.{Entry}
 use Rattle.pool_table.specs.declared.views.Layout.{Layout}
-use Rattle.pool_table.specs.declared.views.SeatView.{SeatView}
 use Rattle.pool_table.specs.Seats.{view_of}
 use Rattle.shared_pool.specs.declared.home.Home.{Home}
 use Rattle.shared_pool.specs.declared.pool.SharedPool.{SharedPool}
 use Rattle.shared_pool.specs.Opening.{IsOpened, AreOpened}
 use Rattle.shared_pool.specs.Quotas.{posts}
 use Rattle.shared_pool.specs.SeatLanes.{lane_of}
-use Rattle.shared_pool.specs.Seated.{HasNothing, IsDone, AreDone}
-use Rattle.shared_pool.specs.Wearing.{IsShort}
-use Rattle.lane_core.specs.Hands.{empty_hand, IsHeld}
-use Rattle.lane_core.proofs.OpenedLaws.{IsHeld-empty}
+use Rattle.shared_pool.specs.Seated.{IsDone, AreDone}
+use Rattle.seat_work.proofs.FirstSeats.{IsHeld-empty, has_nothing, opened_works}
 use Rattle.pool_bench.specs.declared.runner.Runner.{Runner}
 use Rattle.pool_bench.specs.declared.words.Plan.{Plan}
 use Rattle.pool_bench.specs.Mails.{HasMail, IsMailFor, next_lane}
-use Rattle.pool_bench.specs.Plans.{IsPlan, IsLayoutOf}
-use Rattle.pool_bench.specs.Works.{IsPaid, MayRun, HaveRun, block_turns, block_moves}
-
-nothing_held : (v : SeatView) → IsHeld empty_hand v → HasNothing v
-nothing_held v held = record {
-  region = λ q has. (let a = held.regions q in omega (arith, a, has));
-  place = λ p has. (let a = held.places p in omega (arith, a, has));
-  token = λ root has. (let a = held.tokens root in omega (arith, a, has));
-}
-
--- a view with no notes lost no counts
-module _ (v : SeatView) (own : v.own.notes ≡ []) (alone : v.others ≡ []) where
-  abbrev bare : SeatView
-  bare = record v { own = record { number = v.own.number; notes = [] }; others = [] }
-
-  bare_is : bare ≡ v
-  bare_is = λ i. record v { own = record { number = v.own.number; notes = sym own i }; others = sym alone i }
-
-  bare_paid : IsPaid bare
-  bare_paid = λ root. omega arith
-
-  new_paid : IsPaid v
-  new_paid = subst IsPaid bare_is bare_paid
-
--- the pool of a plan has too few turns for a place to wear out
-pub short_plan : (p : Plan) (l : Layout) → IsPlan p → IsLayoutOf p l → IsShort l
-short_plan p l plan of =
-    let threads = plan.threads in let blocks = plan.blocks in let lanes = of.lanes in let turns = of.turns in
-    let most = mul-le l.shape.lanes l.turns 16 (block_turns * 8000000) (omega (arith, threads, lanes))
-    (omega (arith, blocks, turns)) in
-    omega (arith, most)
+use Rattle.pool_bench.specs.Runs.{MayRun, HaveRun, block_turns, block_moves}
 
 module _ {G : Ghosts Home Noted} (pool : SharedPool) (l : Layout) (mail : List ℕ) where
   -- a seat that was opened may work
-  pub may_run : (blocks lane : ℕ) (s : PoolSeat Home G) → IsShort pool.table.layout → l.moves ≡ block_moves * blocks
+  pub may_run : (blocks lane : ℕ) (s : PoolSeat Home G) → l.moves ≡ block_moves * blocks
       → l.turns ≡ block_turns * blocks → IsOpened l mail pool lane s → MayRun pool blocks s
-  may_run blocks lane s short moves turns opened = record {
-    seat = opened.seat;
-    held = IsHeld-empty (view_of s) opened.notes opened.seat.alone;
-    paid = new_paid (view_of s) opened.notes opened.seat.alone;
-    short = short;
-    turns_left = (let a = opened.turns in omega (arith, a, turns));
-    moves_left = (let a = opened.moves in omega (arith, a, moves));
-  }
+  may_run blocks lane s moves turns opened =
+      opened_works pool l mail lane (block_turns * blocks) (block_moves * blocks) s opened (omega (arith, turns))
+      (omega (arith, moves))
 
   -- and post what the plan says
   pub has_mail : (p : Plan) (lane : ℕ) (s : PoolSeat Home G) → lane < p.threads → IsMailFor p mail
@@ -109,7 +70,7 @@ module _ {G : Ghosts Home Noted} (pool : SharedPool) (l : Layout) (mail : List �
           seat = one.seat;
           number = one.number;
           nothing =
-              nothing_held (view_of (get_or seats lane d))
+              has_nothing (view_of (get_or seats lane d))
               (IsHeld-empty (view_of (get_or seats lane d)) one.notes one.seat.alone);
         };
   }
@@ -134,10 +95,10 @@ module _ (pool : SharedPool) (l : Layout) (mail : List ℕ) (runners : List Runn
         subst (λ s. IsOpened l mail pool k s) (sym (seat_at k d lt))
         (opened.each k (subst (λ (n : ℕ). k < n) many lt) d.seat)
 
-    pub all_may_run : (blocks : ℕ) → IsShort pool.table.layout → l.moves ≡ block_moves * blocks
+    pub all_may_run : (blocks : ℕ) → l.moves ≡ block_moves * blocks
         → l.turns ≡ block_turns * blocks → All (λ (q : Runner). MayRun pool blocks q.seat) runners
-    all_may_run blocks short moves turns =
-        λ k d lt. may_run pool l mail blocks k (get_or runners k d).seat short moves turns (opened_at k d lt)
+    all_may_run blocks moves turns =
+        λ k d lt. may_run pool l mail blocks k (get_or runners k d).seat moves turns (opened_at k d lt)
 
     pub all_have_mail : (p : Plan) → IsMailFor p mail → l.shape.lanes ≡ p.threads
         → pool.table.layout.shape.lanes ≡ p.threads → All (λ (q : Runner). HasMail pool p.mail q.seat) runners
@@ -165,6 +126,6 @@ module _ (pool : SharedPool) (l : Layout) (mail : List ℕ) (runners : List Runn
             number = run.number
                 ∙ (opened_at lane e below).number;
             nothing =
-                nothing_held (view_of (get_or after lane e).seat) run.held;
+                has_nothing (view_of (get_or after lane e).seat) run.held;
           });
     }

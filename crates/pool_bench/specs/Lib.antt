@@ -1,3 +1,3 @@
-pub mod Works
+pub mod Runs
 pub mod Plans
 pub mod Mails

@@ -1,15 +1,13 @@
--- The mail from each lane to the next: how much room it has, and how much is sent.
+-- The mail from each lane to the next, and how much room it has.
 use Rattle.std.specs.Prelude.{◌≡◌, ℕ, ◌+◌, ◌*◌, ◌<◌, ◌≤◌, List, length, Some, IfSome, slice_get, nat_lt, if◌then◌else◌}
 use Rattle.step_law.specs.declared.Told.{Ghosts}
 use Rattle.pool_law.specs.declared.note.Noted.{Noted}
 use Rattle.pool_table.specs.declared.table.PoolSeat.{PoolSeat}
-use Rattle.pool_table.specs.declared.views.SeatView.{SeatView}
 use Rattle.pool_table.specs.Seats.{view_of}
 use Rattle.shared_pool.specs.declared.home.Home.{Home}
 use Rattle.shared_pool.specs.declared.pool.SharedPool.{SharedPool}
 use Rattle.shared_pool.specs.Quotas.{posts}
 use Rattle.shared_pool.specs.SeatLanes.{lane_of}
-use Rattle.lane_core.specs.Budgets.{lane_in}
 use Rattle.pool_bench.specs.declared.words.Plan.{Plan}
 
 -- the lane behind the last is the first
@@ -21,13 +19,6 @@ pub record IsMailFor (p : Plan) (mail : List ℕ) : Type 0 where
   pub many : length mail ≡ p.threads * p.threads
   pub each : (lane : ℕ) → lane < p.threads →
       slice_get mail (lane * p.threads + next_lane p.threads lane) ≡ Some p.mail
-
--- the view sent at most so many parcels more to any lane
-pub record Sends (count : ℕ) (old new : SeatView) : Type 0 where
-  pub number : new.own.number ≡ old.own.number
-  pub setting : new.setting ≡ old.setting
-  pub sent : (to : ℕ) →
-      posts (lane_in new) to new.own.notes ≤ count + posts (lane_in old) to old.own.notes
 
 -- the seat's lane may post so many parcels more to the next
 pub record HasMail {G : Ghosts Home Noted}

@@ -3,7 +3,7 @@ use Rattle.std.specs.Prelude.{◌≡◌, ◌*◌, ◌<◌, ◌≤◌}
 use Rattle.size_classes.specs.declared.TheConstants.{DEFAULT_PAGE}
 use Rattle.pool_table.specs.declared.views.Layout.{Layout}
 use Rattle.pool_bench.specs.declared.words.Plan.{Plan}
-use Rattle.pool_bench.specs.Works.{block_turns, block_moves}
+use Rattle.pool_bench.specs.Runs.{block_turns, block_moves}
 
 -- one to sixteen threads and one to eight arenas of one to eight chunks, with some handles, and
 -- with so few blocks that the moves suffice

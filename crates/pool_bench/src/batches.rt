@@ -4,13 +4,14 @@ ghost use Rattle.std.specs.Prelude.{◌≡◌, ◌*◌, ◌≤◌, Some, vec_len
 ghost use Rattle.size_classes.specs.Sizes.{class_of};
 ghost use Rattle.pool_law.specs.Limits.{geometry_of};
 ghost use Rattle.pool_table.specs.Seats.{view_of};
-ghost use Rattle.lane_core.specs.Hands.{empty_hand};
-ghost use Rattle.pool_bench.specs.Works.{Works, Goes, MayRun, HasRun, Holds};
+ghost use Rattle.seat_work.specs.Hands.{empty_hand};
+ghost use Rattle.seat_work.specs.Changes.{Holds};
+ghost use Rattle.seat_work.specs.Works.{Works, Goes};
+ghost use Rattle.pool_bench.specs.Runs.{MayRun, HasRun};
 
-use crate::block::{allocate, release};
 use crate::runner::Runner;
 use crate::work::{Tally, class_size};
-use pool_law::Shape;
+use seat_work::{allocate, release};
 use shared_pool::SharedPool;
 use size_classes::SizeClasses;
 use std::sync::Wait;
@@ -19,21 +20,19 @@ use std::sync::Wait;
 pub fn run_batches<W: Wait>(
     rt: &W,
     pool: &SharedPool,
-    shape: &Shape,
     sizes: &SizeClasses,
     size: Option<u32>,
     blocks: u32,
     runner: &mut Runner,
 ) -> Tally
-    requires shape { shape.now ≡ pool.now.table.layout.shape }
-    requires sizes { sizes.now ≡ geometry_of shape.now }
+    requires sizes { sizes.now ≡ geometry_of pool.now.table.layout.shape }
     requires may { MayRun pool.now blocks runner.old.seat }
     ensures { HasRun pool.now runner.old.seat runner.new.seat }
 {
     let mut tally = Tally::none_of(0);
     for done in 0..blocks / 512 {
         let bytes = size.unwrap_or(class_size(sizes, done % 24));
-        let refused = one_batch(rt, pool, shape, sizes, bytes, runner);
+        let refused = one_batch(rt, pool, sizes, bytes, runner);
         tally.refused = tally.refused.wrapping_add(refused);
     }
     tally
@@ -43,20 +42,18 @@ pub fn run_batches<W: Wait>(
 fn one_batch<W: Wait>(
     rt: &W,
     pool: &SharedPool,
-    shape: &Shape,
     sizes: &SizeClasses,
     size: u32,
     runner: &mut Runner,
 ) -> u64
-    requires shape { shape.now ≡ pool.now.table.layout.shape }
-    requires sizes { sizes.now ≡ geometry_of shape.now }
-    requires works { Works pool.now empty_hand 5632 512 runner.old.seat }
-    ensures goes { Goes pool.now empty_hand 5632 512 runner.old.seat runner.new.seat }
+    requires sizes { sizes.now ≡ geometry_of pool.now.table.layout.shape }
+    requires works { Works pool.now empty_hand 5120 512 runner.old.seat }
+    ensures goes { Goes pool.now empty_hand 5120 512 runner.old.seat runner.new.seat }
 {
     let Some(class) = sizes.class_of(size) else {
         return 512;
     };
-    let refused = fill(rt, pool, shape, size, class, 512, runner);
+    let refused = fill(rt, pool, size, class, 512, runner);
     release_all(rt, pool, runner);
     refused
 }
@@ -65,26 +62,24 @@ fn one_batch<W: Wait>(
 fn fill<W: Wait>(
     rt: &W,
     pool: &SharedPool,
-    shape: &Shape,
     size: u32,
     class: u32,
     count: u32,
     runner: &mut Runner,
 ) -> u64
-    requires works { Works pool.now empty_hand (5 * count) count runner.old.seat }
-    requires shape { shape.now ≡ pool.now.table.layout.shape }
-    requires class { class_of (geometry_of shape.now) size ≡ Some class }
+    requires works { Works pool.now empty_hand (6 * count) 0 runner.old.seat }
+    requires class { class_of (geometry_of pool.now.table.layout.shape) size ≡ Some class }
     requires few { count ≤ 512 }
-    ensures goes { Goes pool.now empty_hand (5 * count) count runner.old.seat runner.new.seat }
+    ensures goes { Goes pool.now empty_hand (6 * count) 0 runner.old.seat runner.new.seat }
     ensures holds { Holds runner.new.roots.items (view_of runner.new.seat) }
     ensures few { vec_len runner.new.roots ≤ count }
 {
     runner.roots.clear();
     let mut refused = 0u64;
     for done in 0..count {
-        match allocate(rt, pool, shape, runner, size, class) {
-            Some(root) => runner.roots.push_reserved(root),
-            None => refused = refused.wrapping_add(1),
+        match allocate(rt, pool, &mut runner.seat, size, class, None) {
+            Ok(root) => runner.roots.push_reserved(root),
+            Err(_no) => refused = refused.wrapping_add(1),
         }
     }
     refused
@@ -92,12 +87,12 @@ fn fill<W: Wait>(
 
 /// All these buffers are released.
 pub fn release_all<W: Wait>(rt: &W, pool: &SharedPool, runner: &mut Runner)
-    requires works { Works pool.now empty_hand (6 * vec_len runner.old.roots) 0 runner.old.seat }
+    requires works { Works pool.now empty_hand (4 * vec_len runner.old.roots) 0 runner.old.seat }
     requires holds { Holds runner.old.roots.items (view_of runner.old.seat) }
-    ensures goes { Goes pool.now empty_hand (6 * vec_len runner.old.roots) 0
+    ensures goes { Goes pool.now empty_hand (4 * vec_len runner.old.roots) 0
         runner.old.seat runner.new.seat }
 {
     while let Some(root) = runner.roots.pop() {
-        release(rt, pool, runner, root);
+        release(rt, pool, &mut runner.seat, root);
     }
 }

@@ -8,7 +8,7 @@
 
 ghost use Rattle.std.specs.Prelude.{◌≡◌, ◌<◌, All};
 ghost use Rattle.pool_law.specs.Limits.{geometry_of};
-ghost use Rattle.pool_bench.specs.Works.{MayRun, HasRun, HaveRun};
+ghost use Rattle.pool_bench.specs.Runs.{MayRun, HasRun, HaveRun};
 ghost use Rattle.pool_bench.specs.Mails.{HasMail};
 ghost use Rattle.pool_bench.specs.Plans.{IsPlan};
 ghost use Rattle.shared_pool.specs.Seated.{AreDone};
@@ -28,7 +28,6 @@ use std::time::Instant;
 use std::{env, thread};
 
 mod batches;
-mod block;
 mod draws;
 mod passed;
 mod places;

@@ -5,16 +5,18 @@ ghost use Rattle.pool_law.specs.Limits.{geometry_of};
 ghost use Rattle.pool_law.specs.Views as views;
 ghost use Rattle.pool_table.specs.Counts.{HasCount};
 ghost use Rattle.pool_table.specs.Seats.{view_of};
-ghost use Rattle.lane_core.specs.Hands.{empty_hand};
-ghost use Rattle.pool_bench.specs.Works.{Works, Goes, MayRun, HasRun};
-ghost use Rattle.pool_bench.specs.Mails.{Sends, HasMail, next_lane};
+ghost use Rattle.seat_work.specs.Changes.{no_change};
+ghost use Rattle.seat_work.specs.HandOvers.{Sends};
+ghost use Rattle.seat_work.specs.Hands.{empty_hand};
+ghost use Rattle.seat_work.specs.Works.{Works, Goes, Proceeds};
+ghost use Rattle.pool_bench.specs.Runs.{MayRun, HasRun};
+ghost use Rattle.pool_bench.specs.Mails.{HasMail, next_lane};
 
-use crate::block::{allocate, read, release};
 use crate::draws::Draws;
-use crate::runner::Runner;
 use crate::work::{Tally, Workload, asked, count_others, sum_of, write_and_read};
 use pool_law::{Parcel, RootId, Shape, ViewData};
-use shared_pool::{Fetched, SharedPool, Went};
+use seat_work::{allocate, fetch, get, post, release};
+use shared_pool::{PoolSeat, SharedPool};
 use size_classes::SizeClasses;
 use std::sync::Wait;
 use std::thread::yield_now;
@@ -32,21 +34,21 @@ pub fn run_passed<W: Wait>(
     blocks: u32,
     mail: u32,
     draws: &mut Draws,
-    runner: &mut Runner,
+    seat: &mut PoolSeat,
 ) -> Tally
     requires shape { shape.now ≡ pool.now.table.layout.shape }
     requires sizes { sizes.now ≡ geometry_of shape.now }
-    requires may { MayRun pool.now blocks runner.old.seat }
-    requires mail { HasMail pool.now mail runner.old.seat }
-    ensures { HasRun pool.now runner.old.seat runner.new.seat }
+    requires may { MayRun pool.now blocks seat.old }
+    requires mail { HasMail pool.now mail seat.old }
+    ensures { HasRun pool.now seat.old seat.new }
 {
     let passes = blocks.min(mail);
     let mut tally = Tally::none_of(blocks - passes);
     for done in 0..passes {
         let (size, byte) = asked(work, sizes, done, draws);
-        tally.add(send_one(rt, pool, shape, sizes, work, size, byte, runner));
-        let parcel = fetch(rt, pool, shape, runner);
-        let read = take(rt, pool, work, parcel, done, runner);
+        tally.add(send_one(rt, pool, shape, sizes, work, size, byte, seat));
+        let parcel = fetch_next(rt, pool, shape, seat);
+        let read = take(rt, pool, work, parcel, done, seat);
         tally.sum = tally.sum.wrapping_add(read);
     }
     tally
@@ -61,22 +63,22 @@ fn send_one<W: Wait>(
     work: Workload,
     size: u32,
     byte: u8,
-    runner: &mut Runner,
+    seat: &mut PoolSeat,
 ) -> Option<u64>
     requires shape { shape.now ≡ pool.now.table.layout.shape }
     requires sizes { sizes.now ≡ geometry_of shape.now }
-    requires works { Works pool.now empty_hand 8 1 runner.old.seat }
-    requires mail { HasMail pool.now 1 runner.old.seat }
-    ensures goes { Goes pool.now empty_hand 8 1 runner.old.seat runner.new.seat }
-    ensures sends { Sends 1 (view_of runner.old.seat) (view_of runner.new.seat) }
+    requires works { Works pool.now empty_hand 9 0 seat.old }
+    requires mail { HasMail pool.now 1 seat.old }
+    ensures goes { Goes pool.now empty_hand 9 0 seat.old seat.new }
+    ensures sends { Sends 1 (view_of seat.old) (view_of seat.new) }
 {
-    match make_one(rt, pool, shape, sizes, size, byte, runner) {
+    match make_one(rt, pool, sizes, size, byte, seat) {
         Some((root, sum)) => {
-            post(rt, pool, shape, runner, Some(whole_of(root)));
+            post_next(rt, pool, shape, seat, Some(whole_of(root)));
             Some(if work == Workload::Counted { 0 } else { sum })
         }
         None => {
-            post(rt, pool, shape, runner, None);
+            post_next(rt, pool, shape, seat, None);
             None
         }
     }
@@ -86,52 +88,46 @@ fn send_one<W: Wait>(
 fn make_one<W: Wait>(
     rt: &W,
     pool: &SharedPool,
-    shape: &Shape,
     sizes: &SizeClasses,
     size: u32,
     byte: u8,
-    runner: &mut Runner,
+    seat: &mut PoolSeat,
 ) -> Option<(RootId, u64)>
-    requires shape { shape.now ≡ pool.now.table.layout.shape }
-    requires sizes { sizes.now ≡ geometry_of shape.now }
-    requires works { Works pool.now empty_hand 7 1 runner.old.seat }
-    ensures goes { Goes pool.now empty_hand 7 1 runner.old.seat runner.new.seat }
-    ensures sends { Sends 0 (view_of runner.old.seat) (view_of runner.new.seat) }
-    ensures counts { IfSome result (λ r. HasCount r.0 (view_of runner.new.seat)) }
+    requires sizes { sizes.now ≡ geometry_of pool.now.table.layout.shape }
+    requires works { Works pool.now empty_hand 8 0 seat.old }
+    ensures goes { Goes pool.now empty_hand 8 0 seat.old seat.new }
+    ensures sends { Sends 0 (view_of seat.old) (view_of seat.new) }
+    ensures counts { IfSome result (λ r. HasCount r.0 (view_of seat.new)) }
 {
     let class = sizes.class_of(size)?;
-    let root = allocate(rt, pool, shape, runner, size, class)?;
-    let sum = write_and_read(rt, pool, runner, root, byte);
+    let Ok(root) = allocate(rt, pool, seat, size, class, None) else {
+        return None;
+    };
+    let sum = write_and_read(rt, pool, seat, root, byte);
     Some((root, sum))
 }
 
 // A parcel goes to the next lane, with this buffer, which the seat then counts once less, or empty.
-fn post<W: Wait>(
+fn post_next<W: Wait>(
     rt: &W,
     pool: &SharedPool,
     shape: &Shape,
-    runner: &mut Runner,
+    seat: &mut PoolSeat,
     view: Option<ViewData>,
 )
     requires shape { shape.now ≡ pool.now.table.layout.shape }
-    requires works { Works pool.now empty_hand 1 0 runner.old.seat }
+    requires works { Works pool.now empty_hand 1 0 seat.old }
     requires view { IfSome view views.IsView }
-    requires counts { IfSome view (λ v. HasCount v.root (view_of runner.old.seat)) }
-    requires mail { HasMail pool.now 1 runner.old.seat }
-    ensures goes { Goes pool.now empty_hand 1 0 runner.old.seat runner.new.seat }
-    ensures sends { Sends 1 (view_of runner.old.seat) (view_of runner.new.seat) }
+    requires counts { IfSome view (λ v. HasCount v.root (view_of seat.old)) }
+    requires mail { HasMail pool.now 1 seat.old }
+    ensures goes { Goes pool.now empty_hand 1 0 seat.old seat.new }
+    ensures sends { Sends 1 (view_of seat.old) (view_of seat.new) }
 {
-    let Some(lane) = runner.seat.number() else {
+    let Some(lane) = seat.number() else {
         unreachable!()
     };
     let to = next_lane(shape.lanes, lane);
-    for _ in rt.forever() {
-        match pool.post(&mut runner.seat, to, Parcel { view }) {
-            Went::Did(_number, ()) => return,
-            Went::Held(_held, ()) => (),
-        }
-    }
-    unreachable!()
+    post(rt, pool, seat, to, Parcel { view });
 }
 
 /// The lane behind this one, of so many.
@@ -157,22 +153,21 @@ fn whole_of(root: RootId) -> ViewData
 }
 
 // The next parcel from the lane before, when it has come.
-fn fetch<W: Wait>(rt: &W, pool: &SharedPool, shape: &Shape, runner: &mut Runner) -> Parcel
+fn fetch_next<W: Wait>(rt: &W, pool: &SharedPool, shape: &Shape, seat: &mut PoolSeat) -> Parcel
     requires shape { shape.now ≡ pool.now.table.layout.shape }
-    requires works { Works pool.now empty_hand 1 0 runner.old.seat }
-    ensures goes { Goes pool.now empty_hand 1 0 runner.old.seat runner.new.seat }
-    ensures counts { IfSome result.view (λ w. HasCount w.root (view_of runner.new.seat)) }
-    ensures sends { Sends 0 (view_of runner.old.seat) (view_of runner.new.seat) }
+    requires works { Works pool.now empty_hand 1 0 seat.old }
+    ensures goes { Goes pool.now empty_hand 1 0 seat.old seat.new }
+    ensures counts { IfSome result.view (λ w. HasCount w.root (view_of seat.new)) }
+    ensures sends { Sends 0 (view_of seat.old) (view_of seat.new) }
 {
-    let Some(lane) = runner.seat.number() else {
+    let Some(lane) = seat.number() else {
         unreachable!()
     };
     let before = if lane == 0 { shape.lanes - 1 } else { lane - 1 };
     for _ in rt.forever() {
-        match pool.fetch(&mut runner.seat, before) {
-            Fetched::Got(_number, parcel) => return parcel,
-            Fetched::Empty => yield_now(),
-            Fetched::Held(_held) => (),
+        match fetch(rt, pool, seat, before) {
+            Some(parcel) => return parcel,
+            None => yield_now(),
         }
     }
     unreachable!()
@@ -185,16 +180,16 @@ fn take<W: Wait>(
     work: Workload,
     parcel: Parcel,
     count: u32,
-    runner: &mut Runner,
+    seat: &mut PoolSeat,
 ) -> u64
-    requires works { Works pool.now empty_hand 7 0 runner.old.seat }
-    requires counts { IfSome parcel.view (λ w. HasCount w.root (view_of runner.old.seat)) }
-    ensures goes { Goes pool.now empty_hand 7 0 runner.old.seat runner.new.seat }
-    ensures sends { Sends 0 (view_of runner.old.seat) (view_of runner.new.seat) }
+    requires works { Works pool.now empty_hand 5 0 seat.old }
+    requires counts { IfSome parcel.view (λ w. HasCount w.root (view_of seat.old)) }
+    ensures goes { Goes pool.now empty_hand 5 0 seat.old seat.new }
+    ensures sends { Sends 0 (view_of seat.old) (view_of seat.new) }
 {
     let Some(view) = parcel.view else { return 0 };
-    let sum = read_first(rt, pool, work, view.root, count, runner);
-    release(rt, pool, runner, view.root);
+    let sum = read_first(rt, pool, work, view.root, count, seat);
+    release(rt, pool, seat, view.root);
     sum
 }
 
@@ -205,19 +200,19 @@ fn read_first<W: Wait>(
     work: Workload,
     root: RootId,
     count: u32,
-    runner: &mut Runner,
+    seat: &mut PoolSeat,
 ) -> u64
-    requires works { Works pool.now empty_hand 1 0 runner.old.seat }
-    requires counts { HasCount root (view_of runner.old.seat) }
-    ensures goes { Goes pool.now empty_hand 1 0 runner.old.seat runner.new.seat }
-    ensures counts { HasCount root (view_of runner.new.seat) }
-    ensures sends { Sends 0 (view_of runner.old.seat) (view_of runner.new.seat) }
+    requires works { Works pool.now empty_hand 1 0 seat.old }
+    requires counts { HasCount root (view_of seat.old) }
+    ensures goes { Goes pool.now empty_hand 1 0 seat.old seat.new }
+    ensures counts { HasCount root (view_of seat.new) }
+    ensures sends { Sends 0 (view_of seat.old) (view_of seat.new) }
 {
     if root.capacity < 4 {
         return 0;
     }
     let mut out = [0u8; 4];
-    read(rt, pool, runner, root, 0, &mut out);
+    get(rt, pool, seat, root, 0, &mut out);
     match work {
         Workload::Counted => count_others(&out, (count % 256) as u8),
         _ => sum_of(&out),

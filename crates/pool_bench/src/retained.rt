@@ -4,14 +4,14 @@ ghost use Rattle.std.specs.Prelude.{◌≡◌, ◌*◌};
 ghost use Rattle.pool_law.specs.Limits.{geometry_of};
 ghost use Rattle.pool_table.specs.Counts.{HasCount};
 ghost use Rattle.pool_table.specs.Seats.{view_of};
-ghost use Rattle.lane_core.specs.Hands.{empty_hand};
-ghost use Rattle.pool_bench.specs.Works.{Works, Goes, MayRun, HasRun};
+ghost use Rattle.seat_work.specs.Hands.{empty_hand};
+ghost use Rattle.seat_work.specs.Works.{Works, Goes};
+ghost use Rattle.pool_bench.specs.Runs.{MayRun, HasRun};
 
-use crate::block::{allocate, release, retain};
-use crate::runner::Runner;
 use crate::work::Tally;
-use pool_law::{RootId, Shape};
-use shared_pool::SharedPool;
+use pool_law::RootId;
+use seat_work::{allocate, release, retain};
+use shared_pool::{PoolSeat, SharedPool};
 use size_classes::SizeClasses;
 use std::sync::Wait;
 
@@ -20,16 +20,14 @@ use std::sync::Wait;
 pub fn run_retained<W: Wait>(
     rt: &W,
     pool: &SharedPool,
-    shape: &Shape,
     sizes: &SizeClasses,
     size: u32,
     blocks: u32,
-    runner: &mut Runner,
+    seat: &mut PoolSeat,
 ) -> Tally
-    requires shape { shape.now ≡ pool.now.table.layout.shape }
-    requires sizes { sizes.now ≡ geometry_of shape.now }
-    requires may { MayRun pool.now blocks runner.old.seat }
-    ensures { HasRun pool.now runner.old.seat runner.new.seat }
+    requires sizes { sizes.now ≡ geometry_of pool.now.table.layout.shape }
+    requires may { MayRun pool.now blocks seat.old }
+    ensures { HasRun pool.now seat.old seat.new }
 {
     if blocks == 0 {
         return Tally::none_of(0);
@@ -37,33 +35,33 @@ pub fn run_retained<W: Wait>(
     let Some(class) = sizes.class_of(size) else {
         return Tally::none_of(blocks - 1);
     };
-    let Some(root) = allocate(rt, pool, shape, runner, size, class) else {
+    let Ok(root) = allocate(rt, pool, seat, size, class, None) else {
         return Tally::none_of(blocks - 1);
     };
-    retain_often(rt, pool, runner, root, blocks - 1);
-    release(rt, pool, runner, root);
+    retain_often(rt, pool, seat, root, blocks - 1);
+    release(rt, pool, seat, root);
     Tally::none_of(0)
 }
 
 // So many retains of a buffer, each with its release.
-fn retain_often<W: Wait>(rt: &W, pool: &SharedPool, runner: &mut Runner, root: RootId, blocks: u32)
-    requires works { Works pool.now empty_hand (7 * blocks) blocks runner.old.seat }
-    requires counts { HasCount root (view_of runner.old.seat) }
-    ensures goes { Goes pool.now empty_hand (7 * blocks) blocks runner.old.seat runner.new.seat }
-    ensures counts { HasCount root (view_of runner.new.seat) }
+fn retain_often<W: Wait>(rt: &W, pool: &SharedPool, seat: &mut PoolSeat, root: RootId, blocks: u32)
+    requires works { Works pool.now empty_hand (4 * blocks) blocks seat.old }
+    requires counts { HasCount root (view_of seat.old) }
+    ensures goes { Goes pool.now empty_hand (4 * blocks) blocks seat.old seat.new }
+    ensures counts { HasCount root (view_of seat.new) }
 {
     for done in 0..blocks {
-        retain_once(rt, pool, runner, root);
+        retain_once(rt, pool, seat, root);
     }
 }
 
 // One retain of a buffer, and its release.
-fn retain_once<W: Wait>(rt: &W, pool: &SharedPool, runner: &mut Runner, root: RootId)
-    requires works { Works pool.now empty_hand 7 1 runner.old.seat }
-    requires counts { HasCount root (view_of runner.old.seat) }
-    ensures goes { Goes pool.now empty_hand 7 1 runner.old.seat runner.new.seat }
-    ensures counts { HasCount root (view_of runner.new.seat) }
+fn retain_once<W: Wait>(rt: &W, pool: &SharedPool, seat: &mut PoolSeat, root: RootId)
+    requires works { Works pool.now empty_hand 4 1 seat.old }
+    requires counts { HasCount root (view_of seat.old) }
+    ensures goes { Goes pool.now empty_hand 4 1 seat.old seat.new }
+    ensures counts { HasCount root (view_of seat.new) }
 {
-    retain(pool, runner, root);
-    release(rt, pool, runner, root);
+    retain(pool, seat, root);
+    release(rt, pool, seat, root);
 }

@@ -2,7 +2,7 @@
 
 ghost use Rattle.std.specs.Prelude.{◌≤◌, vec_capacity};
 
-use pool_law::{Note, RootId};
+use pool_law::RootId;
 use shared_pool::PoolSeat;
 
 /// How many words keep the runners of two lanes apart, so that no lane writes on a cache line that
@@ -26,8 +26,6 @@ impl Apart {
 pub struct Runner {
     pub seat: PoolSeat,
     pub roots: Vec<RootId>,
-    pub log: Vec<Note>,
     pub apart: Apart,
     ghost root_room: { 512 ≤ vec_capacity roots },
-    ghost log_room: { 16 ≤ vec_capacity log },
 }

@@ -3,7 +3,7 @@
 ghost use Rattle.std.specs.Prelude.{◌≡◌, ◌≤◌, [], map, vec_len, vec_capacity, IfOk, IfErr};
 
 use crate::runner::{Apart, Runner};
-use pool_law::{Note, RootId};
+use pool_law::RootId;
 use shared_pool::PoolSeat;
 use std::alloc::{AllocError, Global};
 
@@ -11,9 +11,7 @@ use std::alloc::{AllocError, Global};
 #[derive(Drop)]
 pub struct Room {
     roots: Vec<RootId>,
-    log: Vec<Note>,
     ghost root_room: { 512 ≤ vec_capacity roots },
-    ghost log_room: { 16 ≤ vec_capacity log },
 }
 
 /// The memory for the work of so many lanes.
@@ -23,8 +21,7 @@ pub fn rooms_for(alloc: Global, lanes: u32) -> Result<Vec<Room>, AllocError>
     let mut rooms = Vec::with_capacity(alloc, lanes as usize)?;
     for _made in 0..lanes {
         let roots = Vec::with_capacity(alloc, 512)?;
-        let log = Vec::with_capacity(alloc, 16)?;
-        rooms.push_reserved(Room { roots, log });
+        rooms.push_reserved(Room { roots });
     }
     Ok(rooms)
 }
@@ -48,11 +45,10 @@ pub fn runners_of(
     };
     for _made in 0..count {
         let seat = seats.remove(0);
-        let Room { roots, log } = rooms.remove(0);
+        let Room { roots } = rooms.remove(0);
         runners.push_reserved(Runner {
             seat,
             roots,
-            log,
             apart: Apart::new(),
         });
     }
@@ -69,7 +65,6 @@ pub fn seats_of(mut runners: Vec<Runner>, mut seats: Vec<PoolSeat>) -> Vec<PoolS
         let Runner {
             seat,
             roots: _,
-            log: _,
             apart: _,
         } = runners.remove(0);
         seats.push_reserved(seat);

@@ -4,19 +4,21 @@ ghost use Rattle.std.specs.Prelude.{◌≡◌, ◌+◌, ◌≤◌};
 ghost use Rattle.pool_law.specs.Limits.{geometry_of};
 ghost use Rattle.pool_table.specs.Counts.{HasCount};
 ghost use Rattle.pool_table.specs.Seats.{view_of};
-ghost use Rattle.lane_core.specs.Hands.{empty_hand};
-ghost use Rattle.pool_bench.specs.Works.{Works, Goes, MayRun, HasRun, block_turns, block_moves};
-ghost use Rattle.pool_bench.specs.Mails.{Sends, HasMail};
+ghost use Rattle.seat_work.specs.Hands.{empty_hand};
+ghost use Rattle.seat_work.specs.Changes.{no_change};
+ghost use Rattle.seat_work.specs.Works.{Works, Goes, Proceeds};
+ghost use Rattle.pool_bench.specs.Runs.{MayRun, HasRun, block_turns, block_moves};
+ghost use Rattle.pool_bench.specs.Mails.{HasMail};
 
 use crate::batches::run_batches;
-use crate::block::{allocate, read, release, write};
 use crate::draws::Draws;
 use crate::passed::run_passed;
 use crate::places::run_places;
 use crate::retained::run_retained;
 use crate::runner::Runner;
 use pool_law::{RootId, Shape};
-use shared_pool::SharedPool;
+use seat_work::{allocate, get, release, set};
+use shared_pool::{PoolSeat, SharedPool};
 use size_classes::SizeClasses;
 use std::sync::Wait;
 
@@ -102,16 +104,17 @@ pub fn run<W: Wait>(
     requires mail { HasMail pool.now mail runner.old.seat }
     ensures { HasRun pool.now runner.old.seat runner.new.seat }
 {
+    let seat = &mut runner.seat;
     match work {
         Workload::Passed(_) | Workload::Counted => {
-            run_passed(rt, pool, shape, sizes, work, blocks, mail, draws, runner)
+            run_passed(rt, pool, shape, sizes, work, blocks, mail, draws, seat)
         }
         Workload::Retained(size) => {
-            run_retained(rt, pool, shape, sizes, size.unwrap_or(256), blocks, runner)
+            run_retained(rt, pool, sizes, size.unwrap_or(256), blocks, seat)
         }
-        Workload::Batches(size) => run_batches(rt, pool, shape, sizes, size, blocks, runner),
-        Workload::Places => run_places(rt, pool, shape, sizes, blocks, draws, runner),
-        _ => run_blocks(rt, pool, shape, sizes, work, blocks, draws, runner),
+        Workload::Batches(size) => run_batches(rt, pool, sizes, size, blocks, runner),
+        Workload::Places => run_places(rt, pool, sizes, blocks, draws, runner),
+        _ => run_blocks(rt, pool, sizes, work, blocks, draws, seat),
     }
 }
 
@@ -119,22 +122,20 @@ pub fn run<W: Wait>(
 fn run_blocks<W: Wait>(
     rt: &W,
     pool: &SharedPool,
-    shape: &Shape,
     sizes: &SizeClasses,
     work: Workload,
     blocks: u32,
     draws: &mut Draws,
-    runner: &mut Runner,
+    seat: &mut PoolSeat,
 ) -> Tally
-    requires shape { shape.now ≡ pool.now.table.layout.shape }
-    requires sizes { sizes.now ≡ geometry_of shape.now }
-    requires may { MayRun pool.now blocks runner.old.seat }
-    ensures { HasRun pool.now runner.old.seat runner.new.seat }
+    requires sizes { sizes.now ≡ geometry_of pool.now.table.layout.shape }
+    requires may { MayRun pool.now blocks seat.old }
+    ensures { HasRun pool.now seat.old seat.new }
 {
     let mut tally = Tally::none_of(0);
     for done in 0..blocks {
         let (size, byte) = asked(work, sizes, done, draws);
-        tally.add(one_block(rt, pool, shape, sizes, work, size, byte, runner));
+        tally.add(one_block(rt, pool, sizes, work, size, byte, seat));
     }
     tally
 }
@@ -172,25 +173,25 @@ pub fn class_size(sizes: &SizeClasses, class: u32) -> u32 {
 fn one_block<W: Wait>(
     rt: &W,
     pool: &SharedPool,
-    shape: &Shape,
     sizes: &SizeClasses,
     work: Workload,
     size: u32,
     byte: u8,
-    runner: &mut Runner,
+    seat: &mut PoolSeat,
 ) -> Option<u64>
-    requires shape { shape.now ≡ pool.now.table.layout.shape }
-    requires sizes { sizes.now ≡ geometry_of shape.now }
-    requires works { Works pool.now empty_hand block_turns block_moves runner.old.seat }
-    ensures { Goes pool.now empty_hand block_turns block_moves runner.old.seat runner.new.seat }
+    requires sizes { sizes.now ≡ geometry_of pool.now.table.layout.shape }
+    requires works { Works pool.now empty_hand block_turns block_moves seat.old }
+    ensures { Goes pool.now empty_hand block_turns block_moves seat.old seat.new }
 {
     let class = sizes.class_of(size)?;
-    let root = allocate(rt, pool, shape, runner, size, class)?;
-    let sum = access(rt, pool, runner, root, work, byte);
+    let Ok(root) = allocate(rt, pool, seat, size, class, None) else {
+        return None;
+    };
+    let sum = access(rt, pool, seat, root, work, byte);
     if work == Workload::Left && byte % 32 == 0 {
         return Some(sum);
     }
-    release(rt, pool, runner, root);
+    release(rt, pool, seat, root);
     Some(sum)
 }
 
@@ -198,20 +199,20 @@ fn one_block<W: Wait>(
 fn access<W: Wait>(
     rt: &W,
     pool: &SharedPool,
-    runner: &mut Runner,
+    seat: &mut PoolSeat,
     root: RootId,
     work: Workload,
     byte: u8,
 ) -> u64
-    requires works { Works pool.now empty_hand 3 0 runner.old.seat }
-    requires counts { HasCount root (view_of runner.old.seat) }
-    ensures goes { Goes pool.now empty_hand 3 0 runner.old.seat runner.new.seat }
-    ensures counts { HasCount root (view_of runner.new.seat) }
+    requires works { Works pool.now empty_hand 3 0 seat.old }
+    requires counts { HasCount root (view_of seat.old) }
+    ensures goes { Goes pool.now empty_hand 3 0 seat.old seat.new }
+    ensures counts { HasCount root (view_of seat.new) }
 {
     match work {
-        Workload::Mixed(_) => write_and_read(rt, pool, runner, root, byte),
-        Workload::Left => write_and_read(rt, pool, runner, root, byte),
-        Workload::Checked => count_wrong(rt, pool, runner, root, byte),
+        Workload::Mixed(_) => write_and_read(rt, pool, seat, root, byte),
+        Workload::Left => write_and_read(rt, pool, seat, root, byte),
+        Workload::Checked => count_wrong(rt, pool, seat, root, byte),
         Workload::Passed(_) | Workload::Counted => 0,
         Workload::Plain(_) | Workload::Retained(_) | Workload::Batches(_) | Workload::Places => 0,
     }
@@ -222,22 +223,21 @@ fn access<W: Wait>(
 pub fn write_and_read<W: Wait>(
     rt: &W,
     pool: &SharedPool,
-    runner: &mut Runner,
+    seat: &mut PoolSeat,
     root: RootId,
     byte: u8,
 ) -> u64
-    requires works { Works pool.now empty_hand 2 0 runner.old.seat }
-    requires counts { HasCount root (view_of runner.old.seat) }
-    ensures goes { Goes pool.now empty_hand 2 0 runner.old.seat runner.new.seat }
-    ensures counts { HasCount root (view_of runner.new.seat) }
-    ensures sends { Sends 0 (view_of runner.old.seat) (view_of runner.new.seat) }
+    requires works { Works pool.now empty_hand 2 0 seat.old }
+    requires counts { HasCount root (view_of seat.old) }
+    ensures proceeds { Proceeds pool.now empty_hand 2 0 no_change seat.old seat.new }
+    ensures counts { HasCount root (view_of seat.new) }
 {
     if root.capacity < 10 {
         return 0;
     }
-    write(rt, pool, runner, root, 0, &[byte, byte, byte, byte]);
+    set(rt, pool, seat, root, 0, &[byte, byte, byte, byte]);
     let mut out = [0u8; 4];
-    read(rt, pool, runner, root, 2, &mut out);
+    get(rt, pool, seat, root, 2, &mut out);
     sum_of(&out)
 }
 
@@ -250,24 +250,24 @@ pub fn sum_of(bytes: &[u8; 4]) -> u64 {
 fn count_wrong<W: Wait>(
     rt: &W,
     pool: &SharedPool,
-    runner: &mut Runner,
+    seat: &mut PoolSeat,
     root: RootId,
     byte: u8,
 ) -> u64
-    requires works { Works pool.now empty_hand 3 0 runner.old.seat }
-    requires counts { HasCount root (view_of runner.old.seat) }
-    ensures goes { Goes pool.now empty_hand 3 0 runner.old.seat runner.new.seat }
-    ensures counts { HasCount root (view_of runner.new.seat) }
+    requires works { Works pool.now empty_hand 3 0 seat.old }
+    requires counts { HasCount root (view_of seat.old) }
+    ensures goes { Goes pool.now empty_hand 3 0 seat.old seat.new }
+    ensures counts { HasCount root (view_of seat.new) }
 {
     if root.capacity < 64 {
         return 0;
     }
     let offset = root.capacity - 64;
     let mut out = [7u8; 64];
-    read(rt, pool, runner, root, offset, &mut out);
+    get(rt, pool, seat, root, offset, &mut out);
     let before = count_others(&out, 0);
-    write(rt, pool, runner, root, offset, &[byte; 64]);
-    read(rt, pool, runner, root, offset, &mut out);
+    set(rt, pool, seat, root, offset, &[byte; 64]);
+    get(rt, pool, seat, root, offset, &mut out);
     before.wrapping_add(count_others(&out, byte))
 }
 

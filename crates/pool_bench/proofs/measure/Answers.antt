@@ -3,12 +3,11 @@ use Rattle.std.proofs.Math.Seq.{take-append_seam}
 use Rattle.pool_table.specs.declared.views.Layout.{Layout}
 use Rattle.shared_pool.specs.Opening.{AreOpened}
 use Rattle.shared_pool.specs.Seated.{AreDone}
-use Rattle.shared_pool.specs.Wearing.{IsShort}
 use Rattle.pool_bench.specs.declared.runner.Runner.{Runner}
 use Rattle.pool_bench.specs.Mails.{HasMail, IsMailFor}
-use Rattle.pool_bench.specs.Works.{MayRun, HaveRun}
+use Rattle.pool_bench.specs.Runs.{MayRun, HaveRun}
 use Rattle.std.specs.Prelude.{All}
-use Rattle.pool_bench.proofs.Runs.{opened_done, short_plan, all_may_run, all_have_mail, done}
+use Rattle.pool_bench.proofs.Runs.{opened_done, all_may_run, all_have_mail, done}
 use Rattle.pool_bench.proofs.measure.Goals as goal
 
 pub close-requires : goal.close-requires
@@ -39,8 +38,6 @@ work_all-sum-requires-clause-may g c =
     λ κs lives. subst (λ (rs : List Runner). All (λ (q : Runner). MayRun pool c.args.plan.now.blocks q.seat) rs)
     (sym c.as_mut_slice.ensures.value)
     (all_may_run pool l mail made.items opened c.args.plan.now.blocks
-    (subst IsShort (sym (pool.same_layout ∙ c.in_ok-pool.ensures.layout))
-    (short_plan c.args.plan.now l c.requires c.layout_of-layout.ensures))
     c.layout_of-layout.ensures.moves c.layout_of-layout.ensures.turns)
 
 pub close-requires-2 : goal.close-requires-2

@@ -6,7 +6,7 @@ use Rattle.pool_law.specs.Limits.{geometry_of}
 use Rattle.lane_core.specs.declared.allotment.Allotting.{Allotting}
 use Rattle.lane_core.specs.Allotments.{HasAllotted, Fits, left_of}
 use Rattle.lane_core.proofs.AllotSteps.{allot_left}
-use Rattle.lane_core.proofs.ClassLaws.{class_inside, class_holds}
+use Rattle.seat_work.proofs.ClassLaws.{class_inside, class_holds}
 use Rattle.lane_core.proofs.allotment.allot.Goals as goal
 
 pub ask_bin-requires-clause-room : goal.ask_bin-requires-clause-room

@@ -12,7 +12,7 @@ use Rattle.shared_pool.specs.SeatLanes.{lane_of}
 use Rattle.shared_pool.specs.Seats.{IsNoted}
 use Rattle.lane_core.specs.declared.allotment.Allotting.TheVariants.{Arena as AskArena}
 use Rattle.lane_core.proofs.AllotSteps.{arena_gave, arena_was_full, found_held, own_still}
-use Rattle.lane_core.proofs.Grown.{grows_held}
+use Rattle.seat_work.proofs.Grown.{grows_held}
 use Rattle.lane_core.proofs.allotment.ask_arena.Goals as goal
 
 pub returns-in-Did-default-Some : goal.returns-in-Did-default-Some

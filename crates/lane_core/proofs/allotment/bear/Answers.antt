@@ -8,7 +8,7 @@ use Rattle.lane_core.specs.declared.allotment.Allotting.TheVariants.{Birth}
 use Rattle.lane_core.specs.Allotments.{hand_of}
 use Rattle.lane_core.proofs.AllotSteps.{root_born}
 use Rattle.lane_core.proofs.LogLaws.{wrote_two, room_behind}
-use Rattle.lane_core.proofs.Holds.{holds_handle, holds_region}
+use Rattle.seat_work.proofs.Holds.{holds_handle, holds_region}
 use Rattle.lane_core.proofs.allotment.bear.Goals as goal
 
 pub birth-number-requires-clause-handle : goal.birth-number-requires-clause-handle

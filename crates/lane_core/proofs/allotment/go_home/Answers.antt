@@ -5,10 +5,10 @@ use Rattle.pool_law.specs.declared.note.Object.{Object}
 use Rattle.pool_law.specs.declared.note.Object.TheVariants.{Bin}
 use Rattle.handle_bin.specs.Bins.{HandleValue}
 use Rattle.lane_core.specs.declared.allotment.Allotting.TheVariants.{Home}
-use Rattle.lane_core.specs.Hands.{empty_hand}
+use Rattle.seat_work.specs.Hands.{empty_hand}
 use Rattle.lane_core.proofs.AllotSteps.{went_home, found_held, own_still}
-use Rattle.lane_core.proofs.Grown.{grows_held}
-use Rattle.lane_core.proofs.Holds.{holds_handle}
+use Rattle.seat_work.proofs.Grown.{grows_held}
+use Rattle.seat_work.proofs.Holds.{holds_handle}
 use Rattle.lane_core.proofs.allotment.go_home.Goals as goal
 
 pub put_handle-requires-clause-seat : goal.put_handle-requires-clause-seat

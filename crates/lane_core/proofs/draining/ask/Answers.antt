@@ -6,10 +6,10 @@ use Rattle.shared_pool.specs.SeatLanes.{lane_of}
 use Rattle.lane_core.specs.declared.draining.Draining.TheVariants.{Ask}
 use Rattle.lane_core.specs.declared.draining.DrainKind.{DrainKind}
 use Rattle.lane_core.specs.declared.draining.DrainKind.TheVariants.{Close}
-use Rattle.lane_core.specs.Hands.{IsHeld}
+use Rattle.seat_work.specs.Hands.{IsHeld}
 use Rattle.lane_core.specs.Drainings.{hand_of, quota_note}
 use Rattle.lane_core.proofs.DrainSteps.{gave_quota, found_held}
-use Rattle.lane_core.proofs.Holds.{none_left, not_closed_yet}
+use Rattle.seat_work.proofs.Holds.{none_left, not_closed_yet}
 use Rattle.lane_core.proofs.draining.ask.Goals as goal
 
 pub quota-requires-clause-no_quota : goal.quota-requires-clause-no_quota

@@ -4,7 +4,7 @@ use Rattle.pool_law.specs.declared.note.Object.TheVariants.{Arena}
 use Rattle.lane_core.specs.declared.draining.Draining.TheVariants.{Shed, Give}
 use Rattle.lane_core.specs.Drainings.{hand_of}
 use Rattle.lane_core.proofs.DrainSteps.{gave_one, found_held}
-use Rattle.lane_core.proofs.Holds.{holds_region}
+use Rattle.seat_work.proofs.Holds.{holds_region}
 use Rattle.lane_core.proofs.draining.give.Goals as goal
 
 pub give-requires-clause-region : goal.give-requires-clause-region

@@ -7,7 +7,7 @@ use Rattle.shared_pool.specs.SeatLanes.{lane_of}
 use Rattle.lane_core.specs.declared.draining.Draining.TheVariants.{Shed}
 use Rattle.lane_core.specs.Drainings.{hand_of}
 use Rattle.lane_core.proofs.DrainSteps.{shed_one, found_held}
-use Rattle.lane_core.proofs.Holds.{some_left}
+use Rattle.seat_work.proofs.Holds.{some_left}
 use Rattle.lane_core.proofs.draining.shed.Goals as goal
 
 pub shed-requires-clause-quota : goal.shed-requires-clause-quota

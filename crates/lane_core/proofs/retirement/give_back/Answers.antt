@@ -3,7 +3,7 @@ use Rattle.lane_core.specs.declared.retirement.Ending.TheVariants.{Arena, Home}
 use Rattle.pool_law.specs.declared.id.Region.{Region}
 use Rattle.lane_core.specs.Endings.{hand_of}
 use Rattle.lane_core.proofs.EndSteps.{given_back, found_held, region_still}
-use Rattle.lane_core.proofs.Holds.{holds_region}
+use Rattle.seat_work.proofs.Holds.{holds_region}
 use Rattle.pool_law.specs.declared.note.Object.TheVariants.{Arena as ArenaObject}
 use Rattle.lane_core.proofs.retirement.give_back.Goals as goal
 

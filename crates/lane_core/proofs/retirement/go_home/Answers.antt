@@ -4,9 +4,9 @@ use Rattle.pool_law.specs.declared.note.Note.{Note}
 use Rattle.pool_law.specs.declared.note.Object.TheVariants.{Bin}
 use Rattle.handle_bin.specs.Bins.{HandleValue}
 use Rattle.lane_core.specs.declared.retirement.Ending.TheVariants.{Home}
-use Rattle.lane_core.specs.Hands.{empty_hand}
+use Rattle.seat_work.specs.Hands.{empty_hand}
 use Rattle.lane_core.proofs.EndSteps.{gone_home, found_held}
-use Rattle.lane_core.proofs.Holds.{holds_handle}
+use Rattle.seat_work.proofs.Holds.{holds_handle}
 use Rattle.lane_core.proofs.retirement.go_home.Goals as goal
 
 pub put_handle-requires-clause-handle : goal.put_handle-requires-clause-handle

@@ -9,7 +9,7 @@ use Rattle.lane_core.specs.declared.retirement.Ending.TheVariants.{Cache as AskC
 use Rattle.lane_core.specs.declared.retirement.Ends.TheVariants.{More}
 use Rattle.lane_core.specs.Endings.{HasEnded, hand_of}
 use Rattle.lane_core.proofs.EndSteps.{kept_there, came_back, away_busy}
-use Rattle.lane_core.proofs.Holds.{holds_region}
+use Rattle.seat_work.proofs.Holds.{holds_region}
 use Rattle.lane_core.proofs.retirement.put_away.Goals as goal
 
 pub put_cached-requires-clause-region : goal.put_cached-requires-clause-region

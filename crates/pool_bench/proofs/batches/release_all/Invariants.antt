@@ -1,7 +1,8 @@
 use Rattle.std.proofs.Common.{◌-◌, ◌*◌, ◌≤◌, vec_len}
 use Rattle.pool_table.specs.Seats.{view_of}
-use Rattle.lane_core.specs.Hands.{empty_hand}
-use Rattle.pool_bench.specs.Works.{Goes, Holds}
+use Rattle.seat_work.specs.Hands.{empty_hand}
+use Rattle.seat_work.specs.Changes.{Holds}
+use Rattle.seat_work.specs.Works.{Goes}
 use Rattle.pool_bench.proofs.batches.release_all.Given as goal
 
 abbrev pub decreases-loop-root : goal.decreases-loop-root
@@ -10,5 +11,5 @@ decreases-loop-root g l = vec_len l.runner.roots
 abbrev pub invariant-loop-root : goal.invariant-loop-root
 invariant-loop-root g l =
     (vec_len l.runner.roots ≤ vec_len l.initial.runner.roots)
-    × Goes l.pool empty_hand (6 * (vec_len l.initial.runner.roots - vec_len l.runner.roots)) 0 l.initial.runner.seat
+    × Goes l.pool empty_hand (4 * (vec_len l.initial.runner.roots - vec_len l.runner.roots)) 0 l.initial.runner.seat
     l.runner.seat × Holds l.runner.roots.items (view_of l.runner.seat)

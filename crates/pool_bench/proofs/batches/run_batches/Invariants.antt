@@ -1,7 +1,7 @@
 use Rattle.std.proofs.Common.{◌≡◌, ◌-◌, ◌*◌, ◌/◌, ◌≤◌}
 use Rattle.pool_table.specs.Seats.{view_of}
-use Rattle.lane_core.specs.Hands.{empty_hand}
-use Rattle.pool_bench.specs.Works.{Works}
+use Rattle.seat_work.specs.Hands.{empty_hand}
+use Rattle.seat_work.specs.Works.{Works}
 use Rattle.pool_bench.proofs.batches.run_batches.Given as goal
 
 abbrev pub invariant-loop-done : goal.invariant-loop-done

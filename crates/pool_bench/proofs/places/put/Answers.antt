@@ -1,24 +1,19 @@
-use Rattle.std.proofs.Common.{◌≡◌, [], ◌∷◌, ◌++◌, ap, arith}
-use Rattle.std.specs.Global.{Vec}
-use Rattle.pool_law.specs.declared.id.RootId.{RootId}
 use Rattle.pool_table.specs.Seats.{view_of}
-use Rattle.pool_bench.specs.Works.{times}
-use Rattle.pool_bench.proofs.Recounts.{holds_push, recounted_before}
+use Rattle.seat_work.specs.Changes.{once_more}
+use Rattle.seat_work.proofs.Proceeding.{changes_then}
+use Rattle.pool_bench.proofs.HeldRoots.{holds_asked, holds_push}
 use Rattle.pool_bench.proofs.places.put.Goals as goal
 
 pub returns-clause-holds : goal.returns-clause-holds
 returns-clause-holds g c =
-    let root = c.in_ok-root.root in let roots = c.args.runner.now.roots.items in let more =
-    c.push_reserved.new.self.items in
-    let old = view_of c.args.runner.now.seat in let mid = view_of c.allocate.new.runner.seat in let new =
-    view_of c.mark_ends-sum.new.runner.seat in
-    let is : more ≡ roots ++ root ∷ [] = cc in
-    holds_push roots more root is old new
-    (recounted_before old mid new (root ∷ []) [] (c.in_ok-root.ensures {u = tt}).recounted
-    c.mark_ends-sum.ensures.recounted) c.requires.holds
+    let root = c.in-Ok.root in let more = c.push_reserved.new.self.items in
+    let old = view_of c.args.runner.now.seat in let mid = view_of c.allocate.new.seat in
+    let new = view_of c.mark_ends-sum.new.seat in
+    holds_push c.args.runner.now.roots.items more root c.push_reserved.ensures.items old new
+    (changes_then (once_more root) old mid new (c.in-Ok.ensures {u = tt}).proceeds.changes
+    c.mark_ends-sum.ensures.changes) c.requires.holds
 
-pub returns-in_err-root-clause-holds : goal.returns-in_err-root-clause-holds
-returns-in_err-root-clause-holds g c root =
-    let same = ap (λ (v : Vec RootId). times root v.items) c.allocate.ensures.roots in let did =
-    (c.in_err-root.ensures {u = tt}).recounted root in
-    omega (arith, same, did, c.requires.holds root)
+pub returns-in_default-clause-holds : goal.returns-in_default-clause-holds
+returns-in_default-clause-holds g c =
+    holds_asked c.allocate.result (view_of c.args.runner.now.seat) (view_of c.allocate.new.seat)
+    c.args.runner.now.roots.items c.allocate.ensures.proceeds.changes c.requires.holds

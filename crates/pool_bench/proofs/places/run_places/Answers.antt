@@ -1,7 +1,7 @@
 use Rattle.std.proofs.Common.{List, refl, sym, subst, arith}
 use Rattle.pool_law.specs.declared.id.RootId.{RootId}
 use Rattle.pool_table.specs.Seats.{view_of}
-use Rattle.pool_bench.specs.Works.{Holds}
+use Rattle.seat_work.specs.Changes.{Holds}
 use Rattle.pool_bench.proofs.places.run_places.Goals as goal
 
 pub loop-done-init : goal.loop-done-init
@@ -12,7 +12,6 @@ loop-done-init g c =
         seat = may.seat;
         held = may.held;
         paid = may.paid;
-        short = may.short;
         turns_left = omega arith;
         moves_left = omega arith;
       },

@@ -1,11 +1,11 @@
 use Rattle.std.proofs.Common.{◌*◌, ◌≤◌}
 use Rattle.pool_table.specs.Counts.{HasCount}
 use Rattle.pool_table.specs.Seats.{view_of}
-use Rattle.lane_core.specs.Hands.{empty_hand}
-use Rattle.pool_bench.specs.Works.{Goes}
+use Rattle.seat_work.specs.Hands.{empty_hand}
+use Rattle.seat_work.specs.Works.{Goes}
 use Rattle.pool_bench.proofs.retained.retain_often.Given as goal
 
 abbrev pub invariant-loop-done : goal.invariant-loop-done
 invariant-loop-done g l =
-    (l.done ≤ l.blocks) × Goes l.pool empty_hand (7 * l.done) l.done l.initial.runner.seat l.runner.seat
-    × HasCount l.root (view_of l.runner.seat)
+    (l.done ≤ l.blocks) × Goes l.pool empty_hand (4 * l.done) l.done l.initial.seat l.seat
+    × HasCount l.root (view_of l.seat)

@@ -1,0 +1,8 @@
+use Rattle.std.proofs.Common.{◌≡◌, length}
+use Rattle.pool_table.specs.Seats.{view_of}
+use Rattle.shared_pool.specs.Seats.{IsPoolSeat}
+use Rattle.seat_work.proofs.access.get.Given as goal
+
+abbrev pub invariant-loop : goal.invariant-loop
+invariant-loop g l =
+    IsPoolSeat l.pool l.seat × (view_of l.seat ≡ view_of l.initial.seat) × (length l.out ≡ length l.initial.out)

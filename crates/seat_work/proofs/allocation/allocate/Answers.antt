@@ -1,0 +1,23 @@
+use Rattle.std.proofs.Common.{arith}
+use Rattle.seat_work.specs.declared.allocation.AllocNo.TheVariants.{NoHandle}
+use Rattle.seat_work.specs.Answers.{with_place, allocated, refused}
+use Rattle.seat_work.specs.Hands.{empty_hand}
+use Rattle.seat_work.proofs.Proceeding.{proceeds_on, proceeds_more}
+use Rattle.seat_work.proofs.Worn.{still_worn}
+use Rattle.seat_work.proofs.allocation.allocate.Goals as goal
+
+pub returns-in-Some-clause-proceeds : goal.returns-in-Some-clause-proceeds
+returns-in-Some-clause-proceeds g c =
+    let next = c.allocate_at in
+    proceeds_on c.args.pool.now (allocated next.result) (with_place c.in-Some.handle.place) empty_hand 1 0 5 0 6 0
+    c.args.seat.now c.pop_handle.new.seat next.new.seat c.in-Some.ensures.proceeds next.ensures.proceeds
+    (omega arith) (omega arith)
+
+pub returns-in-Some-clause-worn : goal.returns-in-Some-clause-worn
+returns-in-Some-clause-worn g c =
+    still_worn c.args.pool.now c.args.seat.now c.pop_handle.new.seat c.allocate_at.result c.allocate_at.ensures.worn
+
+pub returns-in-None-clause-proceeds : goal.returns-in-None-clause-proceeds
+returns-in-None-clause-proceeds g c =
+    proceeds_more c.args.pool.now (refused NoHandle) empty_hand 1 0 6 0 c.args.seat.now c.pop_handle.new.seat
+    c.in-None.ensures.proceeds (omega arith) (omega arith)

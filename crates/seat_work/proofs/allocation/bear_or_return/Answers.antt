@@ -1,0 +1,21 @@
+use Rattle.std.proofs.Common.{arith}
+use Rattle.seat_work.specs.Answers.{with_both}
+use Rattle.seat_work.specs.Changes.{no_change, once_more}
+use Rattle.seat_work.specs.Hands.{empty_hand}
+use Rattle.seat_work.proofs.Proceeding.{proceeds_on, proceeds_more}
+use Rattle.seat_work.proofs.allocation.bear_or_return.Goals as goal
+
+pub returns-in-Ok-clause-proceeds : goal.returns-in-Ok-clause-proceeds
+returns-in-Ok-clause-proceeds g c =
+    proceeds_more c.args.pool.now (once_more c.in-Ok.root) empty_hand 1 0 3 0 c.args.seat.now c.bear.new.seat
+    c.in-Ok.ensures.born (omega arith) (omega arith)
+
+pub returns-in-Err-clause-proceeds : goal.returns-in-Err-clause-proceeds
+returns-in-Err-clause-proceeds g c =
+    let worn = c.in-Err.worn in
+    proceeds_on c.args.pool.now no_change (with_both worn.handle.place worn.region.id) empty_hand 0 0 3 0 3 0
+    c.args.seat.now c.bear.new.seat c.put_away.new.seat c.in-Err.ensures.kept c.put_away.ensures (omega arith)
+    (omega arith)
+
+pub returns-in-Err-clause-worn : goal.returns-in-Err-clause-worn
+returns-in-Err-clause-worn g c = (c.args.handle.place, c.args.seat.now, c.in-Err.ensures.worn)

@@ -1,0 +1,20 @@
+use Rattle.std.proofs.Common.{◌%◌}
+use Rattle.shared_pool.specs.SeatLanes.{lane_of}
+use Rattle.seat_work.specs.Answers.{with_place, hand_with, region_told}
+use Rattle.seat_work.proofs.Calls.{taken_region, took_region}
+use Rattle.seat_work.proofs.Proceeding.{works_same, proceeds_same}
+use Rattle.seat_work.proofs.allocation.take_region.Goals as goal
+
+pub returns-in-Did-clause-proceeds : goal.returns-in-Did-clause-proceeds
+returns-in-Did-clause-proceeds g c =
+    let pool = c.args.pool.now in let old = c.args.seat.now in let mid = c.loop.seat in let did = c.in-Did in
+    let new = c.take.new.seat in let inv = c.loop.invariant in let place = c.args.handle.now.place in
+    proceeds_same pool (region_told did.region) (hand_with place did.region) 1 0 old mid new inv.1
+    (took_region pool mid new did.ensures.seat did._number place (lane_of mid % pool.table.layout.shape.arenas)
+    c.args.class did.region (works_same pool (with_place place) 1 0 old mid inv.0 inv.1 c.requires.works)
+    did.ensures.did)
+
+pub returns-in-Did-clause-region : goal.returns-in-Did-clause-region
+returns-in-Did-clause-region g c =
+    taken_region c.args.pool.now c.take.new.seat c.in-Did.region (lane_of c.loop.seat) c.args.class
+    c.in-Did.ensures.region

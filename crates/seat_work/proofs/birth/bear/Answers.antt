@@ -1,0 +1,35 @@
+use Rattle.std.proofs.Common.{sym, subst}
+use Rattle.handle_bin.specs.Bins.{HandleValue}
+use Rattle.pool_law.specs.declared.id.Region.{Region}
+use Rattle.seat_work.specs.Works.{Works}
+use Rattle.seat_work.specs.Answers.{with_both}
+use Rattle.seat_work.proofs.Calls.{born_root}
+use Rattle.seat_work.proofs.Holds.{holds_handle, holds_region}
+use Rattle.seat_work.proofs.Proceeding.{proceeds_none}
+use Rattle.seat_work.proofs.birth.bear.Goals as goal
+
+pub try_birth-requires-clause-handle : goal.try_birth-requires-clause-handle
+try_birth-requires-clause-handle c =
+    holds_handle c.args.pool.now c.args.seat.now (with_both c.args.handle.place c.args.region.id) c.args.handle
+    c.requires.works.held c.requires.handle
+
+pub try_birth-requires-clause-region : goal.try_birth-requires-clause-region
+try_birth-requires-clause-region c =
+    holds_region c.args.pool.now c.args.seat.now (with_both c.args.handle.place c.args.region.id) c.args.region
+    c.requires.works.held c.requires.region
+
+pub returns-in-Ok-clause-born : goal.returns-in-Ok-clause-born
+returns-in-Ok-clause-born c =
+    let born = c.in-Ok.ensures {u = tt} in
+    born_root c.args.pool.now c.args.seat.now c.try_birth.new.seat born.seat c.in-Ok.root c.args.handle.place
+    c.in-Ok._number c.args.region.id c.args.watch c.requires.works born.did born.root.0
+
+pub returns-in-Err-clause-kept : goal.returns-in-Err-clause-kept
+returns-in-Err-clause-kept c =
+    let pool = c.args.pool.now in let old = c.args.seat.now in let worn = c.in-Err.worn in
+    let kept = c.in-Err.ensures {u = tt} in
+    let works = subst (λ (h : HandleValue). Works pool (with_both h.place worn.region.id) 1 0 old) (sym kept.back.0)
+    (subst (λ (r : Region). Works pool (with_both c.args.handle.place r.id) 1 0 old) (sym kept.back.1)
+    c.requires.works) in
+    proceeds_none pool (with_both worn.handle.place worn.region.id) 1 0 0 0 old c.try_birth.new.seat works kept.seat
+    kept.back.2

@@ -1,0 +1,8 @@
+use Rattle.seat_work.proofs.Calls.{ended_root}
+use Rattle.seat_work.proofs.ending.retire.Goals as goal
+
+pub returns-clause-proceeds : goal.returns-clause-proceeds
+returns-clause-proceeds c =
+    let call = c.retire-region in let out = call.result in
+    ended_root c.args.pool.now c.args.seat.now call.new.seat call.ensures.seat c.args.token.root out.handle.place
+    out.number out.region.id c.requires.works call.ensures.did call.ensures.handle.1

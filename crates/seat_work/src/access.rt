@@ -1,0 +1,105 @@
+//! Accesses to the bytes of a root that the seat counts. Each is one note at the root's place.
+
+ghost use Rattle.std.specs.Prelude.{◌≡◌, ℕ, ◌+◌, ◌≤◌, List, length};
+ghost use Rattle.std.specs.Fn.{FnOnceReturnsAt};
+ghost use Rattle.pool_law.specs.declared.note.Did.{Did};
+ghost use Rattle.pool_law.specs.declared.note.Object.TheVariants.{Root};
+ghost use Rattle.pool_table.specs.Counts.{HasCount};
+ghost use Rattle.pool_table.specs.Seats.{view_of};
+ghost use Rattle.shared_pool.specs.RootNotes.{access};
+ghost use Rattle.shared_pool.specs.Seats.{IsNoted};
+ghost use Rattle.seat_work.specs.Hands.{empty_hand};
+ghost use Rattle.seat_work.specs.Changes.{no_change};
+ghost use Rattle.seat_work.specs.Works.{Works, Proceeds};
+
+use pool_law::RootId;
+use shared_pool::{PoolSeat, SharedPool, Went};
+use std::sync::Wait;
+
+/// Bytes are laid over those of a root, from an offset on.
+#[inline]
+pub fn set<W: Wait>(
+    rt: &W,
+    pool: &SharedPool,
+    seat: &mut PoolSeat,
+    root: RootId,
+    offset: u32,
+    bytes: &[u8],
+)
+    requires works { Works pool.now empty_hand 1 0 seat.old }
+    requires counts { HasCount root (view_of seat.old) }
+    requires range { offset + length bytes.now ≤ root.capacity }
+    ensures proceeds { Proceeds pool.now empty_hand 1 0 no_change seat.old seat.new }
+    ensures counts { HasCount root (view_of seat.new) }
+    ensures noted { (number : ℕ) × IsNoted pool.now seat.old seat.new (Root root.place) number
+        (access root (Did.Set offset bytes.now)) }
+{
+    for _ in rt.forever() {
+        match pool.write(seat, root, offset, bytes, false) {
+            Went::Did(_number, ()) => return,
+            Went::Held(_held, ()) => (),
+        }
+    }
+    unreachable!()
+}
+
+/// Bytes of a root are copied out, from an offset on.
+#[inline]
+pub fn get<W: Wait>(
+    rt: &W,
+    pool: &SharedPool,
+    seat: &mut PoolSeat,
+    root: RootId,
+    offset: u32,
+    out: &mut [u8],
+)
+    requires works { Works pool.now empty_hand 1 0 seat.old }
+    requires counts { HasCount root (view_of seat.old) }
+    requires range { offset + length out.old ≤ root.capacity }
+    ensures proceeds { Proceeds pool.now empty_hand 1 0 no_change seat.old seat.new }
+    ensures counts { HasCount root (view_of seat.new) }
+    ensures len { length out.new ≡ length out.old }
+    ensures noted { (number : ℕ) × IsNoted pool.now seat.old seat.new (Root root.place) number
+        (access root (Did.Get offset out.new)) }
+{
+    for _ in rt.forever() {
+        match pool.read(seat, root, offset, out, false) {
+            Went::Did(_number, ()) => return,
+            Went::Held(_held, ()) => (),
+        }
+    }
+    unreachable!()
+}
+
+/// `f` is called once with bytes of a root, from an offset on, and none are copied. It is noted as
+/// a get of all of them.
+#[inline]
+pub fn with_bytes<W: Wait, R, F: FnOnce(&[u8]) -> R>(
+    rt: &W,
+    pool: &SharedPool,
+    seat: &mut PoolSeat,
+    root: RootId,
+    offset: u32,
+    len: u32,
+    f: F,
+) -> R
+    requires works { Works pool.now empty_hand 1 0 seat.old }
+    requires counts { HasCount root (view_of seat.old) }
+    requires range { offset + len ≤ root.capacity }
+    requires callable { F.IsAlwaysCallable f }
+    ensures proceeds { Proceeds pool.now empty_hand 1 0 no_change seat.old seat.new }
+    ensures counts { HasCount root (view_of seat.new) }
+    ensures shown { (bytes : List ℕ) × (number : ℕ) × (length bytes ≡ len)
+        × FnOnceReturnsAt F.FnOnce f bytes result
+        × IsNoted pool.now seat.old seat.new (Root root.place) number
+        (access root (Did.Get offset bytes)) }
+{
+    let mut f = f;
+    for _ in rt.forever() {
+        match pool.with_bytes(seat, root, offset, len, f) {
+            Went::Did(_number, answer) => return answer,
+            Went::Held(_held, back) => f = back,
+        }
+    }
+    unreachable!()
+}

@@ -1,0 +1,189 @@
+//! How a buffer is allocated: a handle, a region from the lane's cache or from its arena, and the
+//! birth of a root. (Netty: `PooledByteBufAllocator`, `PoolThreadCache`)
+
+ghost use Rattle.std.specs.Prelude.{◌≡◌, ◌<◌, ◌≤◌, Some, IfSome, IfOk, IfErr};
+ghost use Rattle.size_classes.specs.Sizes.{class_count, class_of, size_at};
+ghost use Rattle.pool_law.specs.Limits.{geometry_of, cached_classes};
+ghost use Rattle.pool_table.specs.Counts.{HasCount};
+ghost use Rattle.pool_table.specs.Seats.{view_of};
+ghost use Rattle.seat_work.specs.Hands.{empty_hand, IsHandle, IsRegion};
+ghost use Rattle.seat_work.specs.Changes.{no_change};
+ghost use Rattle.seat_work.specs.Works.{Works, Proceeds};
+ghost use Rattle.seat_work.specs.Answers.{with_place, with_both, hand_got, hand_with, handle_told, region_told, allocated, IsWorn};
+
+use crate::birth::bear;
+use crate::ending::{put_away, put_handle};
+use handle_bin::Handle;
+use pool_law::{Region, RootId, Watch};
+use shared_pool::{PoolSeat, SharedPool, Went, Worn};
+use size_classes::CACHED_CLASSES;
+use std::sync::Wait;
+
+/// Why no buffer was to be had.
+#[derive(Clone, Copy, PartialEq, Eq, Debug, Drop)]
+pub enum AllocNo {
+    /// All handles of the lane are out.
+    NoHandle,
+    /// The lane's arena is full for the class.
+    Full,
+    /// The place of the lane's next handle has had as many roots as it has names for. The handle
+    /// goes to the end of the lane's bin, so that another call gets the next one.
+    Worn,
+}
+
+/// A new root of `size` bytes, all 0, that the seat then counts once. `class` is that of the size. A refusal leaves the seat with nothing in hand, and its counts as they were.
+pub fn allocate<W: Wait>(
+    rt: &W,
+    pool: &SharedPool,
+    seat: &mut PoolSeat,
+    size: u32,
+    class: u32,
+    watch: Option<Watch>,
+) -> Result<RootId, AllocNo>
+    requires works { Works pool.now empty_hand 6 0 seat.old }
+    requires class { class_of (geometry_of pool.now.table.layout.shape) size ≡ Some class }
+    ensures proceeds { Proceeds pool.now empty_hand 6 0 (allocated result) seat.old seat.new }
+    ensures root { IfOk result (λ root. (root.capacity ≡ size) × HasCount root (view_of seat.new)) }
+    ensures worn { IfErr result (IsWorn pool.now seat.old) }
+{
+    match pop_handle(rt, pool, seat) {
+        Some(handle) => allocate_at(rt, pool, seat, handle, size, class, watch),
+        None => Err(AllocNo::NoHandle),
+    }
+}
+
+// A new root at the place of a handle.
+#[inline]
+fn allocate_at<W: Wait>(
+    rt: &W,
+    pool: &SharedPool,
+    seat: &mut PoolSeat,
+    handle: Handle,
+    size: u32,
+    class: u32,
+    watch: Option<Watch>,
+) -> Result<RootId, AllocNo>
+    requires works { Works pool.now (with_place handle.place) 5 0 seat.old }
+    requires handle { IsHandle pool.now handle }
+    requires class { class_of (geometry_of pool.now.table.layout.shape) size ≡ Some class }
+    ensures proceeds { Proceeds pool.now empty_hand 5 0 (allocated result) seat.old seat.new }
+    ensures root { IfOk result (λ root. (root.capacity ≡ size) × HasCount root (view_of seat.new)) }
+    ensures worn { IfErr result (IsWorn pool.now seat.old) }
+{
+    match find_region(rt, pool, seat, &handle, class) {
+        Some(region) => bear_or_return(rt, pool, seat, handle, region, size, watch),
+        None => {
+            put_handle(rt, pool, seat, handle);
+            Err(AllocNo::Full)
+        }
+    }
+}
+
+// A new root of a handle and a region, or both go back.
+#[inline]
+fn bear_or_return<W: Wait>(
+    rt: &W,
+    pool: &SharedPool,
+    seat: &mut PoolSeat,
+    handle: Handle,
+    region: Region,
+    size: u32,
+    watch: Option<Watch>,
+) -> Result<RootId, AllocNo>
+    requires works { Works pool.now (with_both handle.place region.id) 3 0 seat.old }
+    requires handle { IsHandle pool.now handle }
+    requires region { IsRegion pool.now seat.old region }
+    requires size { size ≤ size_at region.id.class }
+    ensures proceeds { Proceeds pool.now empty_hand 3 0 (allocated result) seat.old seat.new }
+    ensures root { IfOk result (λ root. (root.capacity ≡ size) × HasCount root (view_of seat.new)) }
+    ensures worn { IfErr result (IsWorn pool.now seat.old) }
+{
+    match bear(pool, seat, handle, region, size, watch) {
+        Ok(root) => Ok(root),
+        Err(worn) => {
+            let Worn { handle, region } = worn;
+            put_away(rt, pool, seat, handle, region);
+            Err(AllocNo::Worn)
+        }
+    }
+}
+
+// The next handle of the seat's lane.
+#[inline]
+fn pop_handle<W: Wait>(rt: &W, pool: &SharedPool, seat: &mut PoolSeat) -> Option<Handle>
+    requires { Works pool.now empty_hand 1 0 seat.old }
+    ensures proceeds { Proceeds pool.now (hand_got result) 1 0 (handle_told result)
+        seat.old seat.new }
+    ensures handle { IfSome result (IsHandle pool.now) }
+{
+    for _ in rt.forever() {
+        match pool.pop_handle(seat) {
+            Went::Did(_number, handle) => return handle,
+            Went::Held(_held, ()) => (),
+        }
+    }
+    unreachable!()
+}
+
+// A region for the place of a handle, from the lane's cache of the class or from its arena.
+#[inline]
+fn find_region<W: Wait>(
+    rt: &W,
+    pool: &SharedPool,
+    seat: &mut PoolSeat,
+    handle: &Handle,
+    class: u32,
+) -> Option<Region>
+    requires works { Works pool.now (with_place handle.now.place) 2 0 seat.old }
+    requires class { class < class_count (geometry_of pool.now.table.layout.shape) }
+    ensures proceeds { Proceeds pool.now (hand_with handle.now.place result) 2 0
+        (region_told result) seat.old seat.new }
+    ensures region { IfSome result (λ r. IsRegion pool.now seat.new r × (r.id.class ≡ class)) }
+{
+    if class >= CACHED_CLASSES {
+        return take_region(rt, pool, seat, handle, class);
+    }
+    match pop_region(pool, seat, handle, class) {
+        Some(region) => Some(region),
+        None => take_region(rt, pool, seat, handle, class),
+    }
+}
+
+// The front region of the lane's cache. None where there is none, or where another seat is in it.
+#[inline]
+fn pop_region(pool: &SharedPool, seat: &mut PoolSeat, handle: &Handle, class: u32) -> Option<Region>
+    requires works { Works pool.now (with_place handle.now.place) 1 0 seat.old }
+    requires class { class < cached_classes }
+    ensures proceeds { Proceeds pool.now (hand_with handle.now.place result) 1 0 no_change
+        seat.old seat.new }
+    ensures region { IfSome result (λ r. IsRegion pool.now seat.new r × (r.id.class ≡ class)) }
+{
+    match pool.pop_cached(seat, class) {
+        Went::Did(_number, region) => region,
+        Went::Held(_held, ()) => None,
+    }
+}
+
+// A region of the lane's arena.
+#[inline]
+fn take_region<W: Wait>(
+    rt: &W,
+    pool: &SharedPool,
+    seat: &mut PoolSeat,
+    handle: &Handle,
+    class: u32,
+) -> Option<Region>
+    requires works { Works pool.now (with_place handle.now.place) 1 0 seat.old }
+    requires class { class < class_count (geometry_of pool.now.table.layout.shape) }
+    ensures proceeds { Proceeds pool.now (hand_with handle.now.place result) 1 0
+        (region_told result) seat.old seat.new }
+    ensures region { IfSome result (λ r. IsRegion pool.now seat.new r × (r.id.class ≡ class)) }
+{
+    for _ in rt.forever() {
+        match pool.take(seat, class) {
+            Went::Did(_number, region) => return region,
+            Went::Held(_held, ()) => (),
+        }
+    }
+    unreachable!()
+}

@@ -1,0 +1,47 @@
+//! The birth of a root from a handle and a region in hand.
+
+ghost use Rattle.std.specs.Prelude.{◌≡◌, ◌≤◌, IfOk, IfErr};
+ghost use Rattle.size_classes.specs.Sizes.{size_at};
+ghost use Rattle.pool_table.specs.Counts.{HasCount};
+ghost use Rattle.pool_table.specs.Seats.{view_of};
+ghost use Rattle.shared_pool.specs.Wearing.{FoundWorn};
+ghost use Rattle.seat_work.specs.Hands.{empty_hand, IsHandle, IsRegion};
+ghost use Rattle.seat_work.specs.Changes.{no_change, once_more};
+ghost use Rattle.seat_work.specs.Works.{Works, Proceeds};
+ghost use Rattle.seat_work.specs.Answers.{with_both};
+
+use handle_bin::Handle;
+use pool_law::{Region, RootId, Watch};
+use shared_pool::{PoolSeat, SharedPool, Worn};
+
+// A root is born of a handle and a region, if the handle's place isn't worn out. Else both come
+// back.
+#[inline]
+pub(crate) fn bear(
+    pool: &SharedPool,
+    seat: &mut PoolSeat,
+    handle: Handle,
+    region: Region,
+    capacity: u32,
+    watch: Option<Watch>,
+) -> Result<RootId, Worn>
+    requires works { Works pool.now (with_both handle.place region.id) 1 0 seat.old }
+    requires handle { IsHandle pool.now handle }
+    requires region { IsRegion pool.now seat.old region }
+    requires capacity { capacity ≤ size_at region.id.class }
+    ensures born { IfOk result (λ root.
+        Proceeds pool.now empty_hand 1 0 (once_more root) seat.old seat.new) }
+    ensures root { IfOk result (λ root.
+        (root.capacity ≡ capacity) × HasCount root (view_of seat.new)) }
+    ensures kept { IfErr result (λ worn.
+        Proceeds pool.now (with_both worn.handle.place worn.region.id) 0 0 no_change
+        seat.old seat.new) }
+    ensures back { IfErr result (λ worn.
+        IsHandle pool.now worn.handle × IsRegion pool.now seat.new worn.region) }
+    ensures worn { IfErr result (λ worn. FoundWorn pool.now handle.place seat.old) }
+{
+    match pool.try_birth(seat, handle, region, capacity, watch) {
+        Ok((_number, root)) => Ok(root),
+        Err(worn) => Err(worn),
+    }
+}

@@ -1,0 +1,150 @@
+//! What follows the release that ended a root's count: the root ends, its region goes into its
+//! owner's cache or back to its arena, and the handle of its place goes home. (Netty:
+//! `PooledByteBuf.deallocate`)
+
+ghost use Rattle.std.specs.Prelude.{◌<◌, IfSome};
+ghost use Rattle.pool_law.specs.Limits.{cached_classes};
+ghost use Rattle.shared_pool.specs.RootNotes.{HoldsToken};
+ghost use Rattle.seat_work.specs.Hands.{empty_hand, IsHandle, IsRegion};
+ghost use Rattle.seat_work.specs.Changes.{no_change};
+ghost use Rattle.seat_work.specs.Works.{Works, Proceeds};
+ghost use Rattle.seat_work.specs.Answers.{with_token, with_place, with_both, hand_with};
+
+use handle_bin::Handle;
+use pool_law::Region;
+use pool_table::EndToken;
+use shared_pool::{PoolSeat, Put, Retired, SharedPool, Went};
+use size_classes::CACHED_CLASSES;
+use std::sync::Wait;
+
+// A root whose count ended, ends.
+#[inline]
+pub(crate) fn end<W: Wait>(rt: &W, pool: &SharedPool, seat: &mut PoolSeat, token: EndToken)
+    requires works { Works pool.now (with_token token.root) 4 0 seat.old }
+    requires token { HoldsToken seat.old token }
+    ensures { Proceeds pool.now empty_hand 4 0 no_change seat.old seat.new }
+{
+    let (handle, region) = retire(pool, seat, token);
+    put_away(rt, pool, seat, handle, region);
+}
+
+// The root's end is noted, and the handle of its place and its region come.
+#[inline]
+fn retire(pool: &SharedPool, seat: &mut PoolSeat, token: EndToken) -> (Handle, Region)
+    requires works { Works pool.now (with_token token.root) 1 0 seat.old }
+    requires token { HoldsToken seat.old token }
+    ensures proceeds { Proceeds pool.now (with_both result.0.place result.1.id) 1 0 no_change
+        seat.old seat.new }
+    ensures handle { IsHandle pool.now result.0 }
+    ensures region { IsRegion pool.now seat.new result.1 }
+{
+    let Retired {
+        number: _,
+        region,
+        handle,
+    } = pool.retire(seat, token);
+    (handle, region)
+}
+
+// The region goes into its owner's cache or back to its arena, and the handle home.
+#[inline]
+pub(crate) fn put_away<W: Wait>(
+    rt: &W,
+    pool: &SharedPool,
+    seat: &mut PoolSeat,
+    handle: Handle,
+    region: Region,
+)
+    requires works { Works pool.now (with_both handle.place region.id) 3 0 seat.old }
+    requires handle { IsHandle pool.now handle }
+    requires region { IsRegion pool.now seat.old region }
+    ensures { Proceeds pool.now empty_hand 3 0 no_change seat.old seat.new }
+{
+    put_back(rt, pool, seat, &handle, region);
+    put_handle(rt, pool, seat, handle);
+}
+
+// The region goes into its owner's cache or back to its arena.
+#[inline]
+fn put_back<W: Wait>(
+    rt: &W,
+    pool: &SharedPool,
+    seat: &mut PoolSeat,
+    handle: &Handle,
+    region: Region,
+)
+    requires works { Works pool.now (with_both handle.now.place region.id) 2 0 seat.old }
+    requires region { IsRegion pool.now seat.old region }
+    ensures { Proceeds pool.now (with_place handle.now.place) 2 0 no_change seat.old seat.new }
+{
+    if region.id.class >= CACHED_CLASSES {
+        give_region(rt, pool, seat, handle, region);
+        return;
+    }
+    match put_region(pool, seat, handle, region) {
+        Some(region) => give_region(rt, pool, seat, handle, region),
+        None => (),
+    }
+}
+
+// The region goes into its owner's cache, or comes back.
+#[inline]
+fn put_region(
+    pool: &SharedPool,
+    seat: &mut PoolSeat,
+    handle: &Handle,
+    region: Region,
+) -> Option<Region>
+    requires works { Works pool.now (with_both handle.now.place region.id) 1 0 seat.old }
+    requires region { IsRegion pool.now seat.old region }
+    requires class { region.id.class < cached_classes }
+    ensures proceeds { Proceeds pool.now (hand_with handle.now.place result) 1 0 no_change
+        seat.old seat.new }
+    ensures region { IfSome result (IsRegion pool.now seat.new) }
+{
+    match pool.put_cached(seat, region) {
+        Went::Did(_number, Put::Kept) => None,
+        Went::Did(_number, Put::Back(region, _no)) => Some(region),
+        Went::Held(_held, region) => Some(region),
+    }
+}
+
+// The region goes back to its arena.
+#[inline]
+fn give_region<W: Wait>(
+    rt: &W,
+    pool: &SharedPool,
+    seat: &mut PoolSeat,
+    handle: &Handle,
+    own: Region,
+)
+    requires works { Works pool.now (with_both handle.now.place own.id) 1 0 seat.old }
+    requires region { IsRegion pool.now seat.old own }
+    ensures { Proceeds pool.now (with_place handle.now.place) 1 0 no_change seat.old seat.new }
+{
+    let mut region = own;
+    for _ in rt.forever() {
+        match pool.give(seat, region) {
+            Went::Did(_number, ()) => return,
+            Went::Held(_held, back) => region = back,
+        }
+    }
+    unreachable!()
+}
+
+// The handle goes home.
+#[inline]
+pub(crate) fn put_handle<W: Wait>(rt: &W, pool: &SharedPool, seat: &mut PoolSeat, own: Handle)
+    requires works { Works pool.now (with_place own.place) 1 0 seat.old }
+    requires handle { IsHandle pool.now own }
+    ensures { Proceeds pool.now empty_hand 1 0 no_change seat.old seat.new }
+{
+    let mut handle = own;
+    for _ in rt.forever() {
+        match pool.put_handle(seat, handle) {
+            Went::Did(_number, ()) => return,
+            Went::Held(_held, back) => handle = back,
+        }
+    }
+    unreachable!()
+}
