@@ -11,8 +11,6 @@ use std::process::ExitCode;
 use trace_top::{OpenGate, Outcome, Status, StdSink, StdSource, line_of, run};
 
 #[cfg(test)]
-mod crews;
-#[cfg(test)]
 mod generated;
 #[cfg(test)]
 mod rows;
@@ -22,6 +20,8 @@ mod sweeps;
 mod tests;
 #[cfg(test)]
 mod versions;
+#[cfg(test)]
+mod workers;
 
 fn main(rt: HostRuntime) -> ExitCode {
     let outcome = match words(&rt) {

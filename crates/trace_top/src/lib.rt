@@ -3,9 +3,8 @@
 
 mod answer;
 mod asked;
-mod bell;
-mod crew;
 mod ends;
+mod event_count;
 mod gates;
 mod input;
 mod lanes;
@@ -25,6 +24,7 @@ mod steps;
 mod table;
 mod top;
 mod words;
+mod worker;
 mod workers;
 
 pub use answer::{Outcome, Status};

@@ -7,9 +7,9 @@ ghost use Rattle.pool_law.specs.Logs.{of_lane};
 ghost use Rattle.lane_core.specs.Opened.{IsPlain};
 ghost use Rattle.lane_core.specs.Played.{IsHeeded};
 
-use crate::crew::step_together;
 use crate::lanes::{all_lanes, given_back};
 use crate::needs::{layout_for, mail_for};
+use crate::workers::step_together;
 use lane_core::{Gate, Played, finish};
 use pool_law::{Shape, Trace};
 use shared_pool::SharedPool;

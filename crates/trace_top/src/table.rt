@@ -12,7 +12,7 @@ use std::sync::ledger::{Book, Ledger, Share};
 
 /// Names what is played: the trace, where the gate stops its lanes, and the pool. Its ledger counts
 /// the lanes that workers hold.
-pub trait Play: Ledger {
+pub trait Playing: Ledger {
     ghost use Rattle.std.specs.Prelude.{ℕ, Bool, List, Option};
     ghost use Rattle.pool_law.specs.declared.command.Command.{Command};
     ghost use Rattle.shared_pool.specs.declared.pool.SharedPool.{SharedPool};
@@ -24,7 +24,7 @@ pub trait Play: Ledger {
     ghost pool: { Option SharedPool };
 }
 
-impl Play for Brand {
+impl Playing for Brand {
     ghost use Rattle.std.specs.Prelude.{[], None, false};
 
     ghost trace = { [] };
@@ -36,10 +36,10 @@ impl Play for Brand {
 
 /// What is known of a lane that stands at its place.
 #[derive(Clone, Copy, PartialEq, Eq, Debug)]
-pub enum Rest {
+pub enum LaneStatus {
     /// It can go on.
     Ready,
-    /// It could not go on when the bell had been rung so often.
+    /// It could not go on when so many changes had been counted.
     Since(u64),
     Finished,
     /// It found no memory.
@@ -47,13 +47,13 @@ pub enum Rest {
 }
 
 /// The lanes at their places. Contracts see how many places are empty.
-pub struct Table<T: Play> {
+pub struct Table<T: Playing> {
     places: Vec<Option<Lane>>,
-    rests: Vec<Rest>,
+    statuses: Vec<LaneStatus>,
     out: Book<T>,
 }
 
-impl<T: Play> Model for Table<T> {
+impl<T: Playing> Model for Table<T> {
     ghost use Rattle.std.specs.Prelude.{◌≡◌, ℕ, length, vec_len};
     ghost use Rattle.trace_top.specs.Places.{AllStand, empties};
 
@@ -65,20 +65,20 @@ impl<T: Play> Model for Table<T> {
         AllStand T.trace T.stops T.pool t.places.items
         × (t.out.total ≡ empties t.places.items)
         × (vec_len t.places ≡ length T.trace)
-        × (vec_len t.rests ≡ length T.trace) };
+        × (vec_len t.statuses ≡ length T.trace) };
 }
 
-impl<T: Play> Table<T> {
-    /// A lane that can go on, by the count of the bell, with its place. The places are tried from
-    /// `from` on.
-    pub fn take(&mut self, from: usize, rings: u64, mine: &mut Share<T>) -> Option<(usize, Lane)>
+impl<T: Playing> Table<T> {
+    /// A lane that can go on, now that so many changes were counted, with its place. The places are
+    /// tried from `from` on.
+    pub fn take(&mut self, from: usize, changes: u64, mine: &mut Share<T>) -> Option<(usize, Lane)>
         requires { 0 < mine.old.parts }
         ensures lane { IfSome result (λ r. BelongsAt T.trace T.stops T.pool r.0 r.1) }
         ensures some { OnSome result (mine.new.amount ≡ mine.old.amount + 1) }
         ensures none { IfNone result (mine.new.amount ≡ mine.old.amount) }
         ensures parts { mine.new.parts ≡ mine.old.parts }
     {
-        let at = self.next(from, rings)?;
+        let at = self.next(from, changes)?;
         if self.places[at].is_none() {
             return None;
         }
@@ -90,7 +90,13 @@ impl<T: Play> Table<T> {
     }
 
     /// Brings a lane back to its place. Where the place is not empty the lane is handed back.
-    pub fn put(&mut self, at: usize, lane: Lane, rest: Rest, mine: &mut Share<T>) -> Option<Lane>
+    pub fn put(
+        &mut self,
+        at: usize,
+        lane: Lane,
+        status: LaneStatus,
+        mine: &mut Share<T>,
+    ) -> Option<Lane>
         requires lane { BelongsAt T.trace T.stops T.pool at lane }
         requires amount { 0 < mine.old.amount }
         ensures put { IfNone result (mine.new.amount + 1 ≡ mine.old.amount) }
@@ -101,7 +107,7 @@ impl<T: Play> Table<T> {
             return Some(lane);
         }
         fill(&mut self.places[at], lane);
-        self.rests[at] = rest;
+        self.statuses[at] = status;
         self.out.sub(mine, 1);
         None
     }
@@ -109,11 +115,11 @@ impl<T: Play> Table<T> {
     /// Whether all lanes stand there finished, or one found no memory.
     pub fn is_over(&self) -> bool {
         let mut over = true;
-        for rest in &self.rests {
-            match rest {
-                Rest::Failed => return true,
-                Rest::Finished => {}
-                Rest::Ready | Rest::Since(_) => over = false,
+        for status in &self.statuses {
+            match status {
+                LaneStatus::Failed => return true,
+                LaneStatus::Finished => {}
+                LaneStatus::Ready | LaneStatus::Since(_) => over = false,
             }
         }
         over
@@ -121,8 +127,8 @@ impl<T: Play> Table<T> {
 
     /// Whether a lane found no memory.
     pub fn has_failed(&self) -> bool {
-        for rest in &self.rests {
-            if *rest == Rest::Failed {
+        for status in &self.statuses {
+            if *status == LaneStatus::Failed {
                 return true;
             }
         }
@@ -133,18 +139,22 @@ impl<T: Play> Table<T> {
     pub fn of(
         lanes: Vec<Lane>,
         places: Vec<Option<Lane>>,
-        rests: Vec<Rest>,
+        statuses: Vec<LaneStatus>,
         out: Book<T>,
     ) -> (Table<T>, Vec<Lane>)
         requires lanes { AllBelong T.trace T.stops T.pool lanes.items }
         requires count { vec_len lanes ≡ length T.trace }
         requires places { (places.items ≡ []) × (vec_len lanes ≤ vec_capacity places) }
-        requires rests { vec_len rests ≡ length T.trace }
+        requires statuses { vec_len statuses ≡ length T.trace }
         requires out { out.total ≡ 0 }
         ensures { (result.1.items ≡ []) × (length T.trace ≤ vec_capacity result.1) }
     {
-        let (places, lanes) = seated(lanes, places);
-        let table = Table { places, rests, out };
+        let (places, lanes) = into_places(lanes, places);
+        let table = Table {
+            places,
+            statuses,
+            out,
+        };
         (table, lanes)
     }
 
@@ -158,21 +168,21 @@ impl<T: Play> Table<T> {
     {
         let Table {
             places,
-            rests: _,
+            statuses: _,
             mut out,
         } = self;
         out.audit(&mut all);
-        unseated(places, lanes)
+        out_of_places(places, lanes)
     }
 
     // The place of a lane that can go on.
-    fn next(&self, from: usize, rings: u64) -> Option<usize>
+    fn next(&self, from: usize, changes: u64) -> Option<usize>
         ensures { IfSome result (λ i. i < length T.trace) }
     {
         let count = self.places.len();
         let mut found = None;
         for i in 0..count {
-            if self.places[i].is_some() && can_go(self.rests[i], rings) {
+            if self.places[i].is_some() && can_go(self.statuses[i], changes) {
                 if i >= from {
                     return Some(i);
                 }
@@ -185,11 +195,11 @@ impl<T: Play> Table<T> {
     }
 }
 
-fn can_go(rest: Rest, rings: u64) -> bool {
-    match rest {
-        Rest::Ready => true,
-        Rest::Since(seen) => seen != rings,
-        Rest::Finished | Rest::Failed => false,
+fn can_go(status: LaneStatus, changes: u64) -> bool {
+    match status {
+        LaneStatus::Ready => true,
+        LaneStatus::Since(seen) => seen != changes,
+        LaneStatus::Finished | LaneStatus::Failed => false,
     }
 }
 
@@ -205,7 +215,10 @@ fn fill(place: &mut Option<Lane>, lane: Lane)
 }
 
 // Moves the lanes to places.
-fn seated(mut lanes: Vec<Lane>, mut places: Vec<Option<Lane>>) -> (Vec<Option<Lane>>, Vec<Lane>)
+fn into_places(
+    mut lanes: Vec<Lane>,
+    mut places: Vec<Option<Lane>>,
+) -> (Vec<Option<Lane>>, Vec<Lane>)
     requires { (places.items ≡ []) × (vec_len lanes ≤ vec_capacity places) }
     ensures places { result.0.items ≡ map Some lanes.items }
     ensures count { vec_len result.0 ≡ vec_len lanes }
@@ -220,7 +233,7 @@ fn seated(mut lanes: Vec<Lane>, mut places: Vec<Option<Lane>>) -> (Vec<Option<La
 }
 
 // Moves the lanes from their places, of which none is empty.
-fn unseated(mut places: Vec<Option<Lane>>, mut lanes: Vec<Lane>) -> Vec<Lane>
+fn out_of_places(mut places: Vec<Option<Lane>>, mut lanes: Vec<Lane>) -> Vec<Lane>
     requires whole { empties places.items ≡ 0 }
     requires room { (lanes.items ≡ []) × (vec_len places ≤ vec_capacity lanes) }
     ensures { map Some result.items ≡ places.items }

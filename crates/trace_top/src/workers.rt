@@ -1,186 +1,158 @@
-//! The workers, each of which takes lanes out of the table, steps them and brings them back.
-ghost use Rattle.std.specs.Prelude.{◌≡◌, ◌<◌, Some, Option};
-ghost use Rattle.lane_core.specs.Lanes.{Heeds, IsLane, SameLane, number_of};
-ghost use Rattle.trace_top.specs.Places.{BelongsAt};
+//! How workers step the lanes of a pool together.
+ghost use Rattle.std.specs.Prelude.{◌≡◌, ◌<◌, ◌≤◌, [], List, Option, Some, length, map, vec_len, vec_capacity, OnOk};
+ghost use Rattle.pool_law.specs.declared.command.Command.{Command};
+ghost use Rattle.trace_top.specs.Places.{AllBelong};
+ghost use Rattle.trace_top.specs.Standing.{AllFinished, AllRun, AreLanes, AreNumbered};
 
-use crate::bell::Bell;
-use crate::table::{Play, Rest, Table};
-use lane_core::{Gate, Lane, Stepped};
+use crate::event_count::EventCount;
+use crate::steps::step_alone;
+use crate::table::{LaneStatus, Playing, Table};
+use crate::worker::{Worker, work};
+use lane_core::{Gate, Lane};
 use shared_pool::SharedPool;
 use std::alloc::{AllocError, Global};
+use std::marker::Brand;
 use std::mem::ManuallyDrop;
-use std::sync::ledger::Share;
+use std::sync::ledger::{Blank, Share};
 use std::sync::{Mutex, Wait};
 use std::thread;
+use std::thread::Threads;
 
-/// A lane that goes on for long rings after so many steps, for the lanes that wait for it.
-const MOVES: u32 = 64;
-
-/// A worker that finds no lane looks again so often before it sleeps.
-const LOOKS: u32 = 16;
-
-/// A worker, whose share stands for the lane that it holds. Between its turns it holds none.
-#[derive(Drop)]
-pub struct Worker<T: Play> {
-    pub share: Share<T>,
-    ghost one_part: { share.parts ≡ 1 },
-    ghost none_out: { share.amount ≡ 0 },
-}
-
-/// What a turn of a worker did.
-#[derive(Clone, Copy, PartialEq, Eq, Debug)]
-enum Turn {
-    /// It stepped the lane at the place before this one.
-    Stepped(usize),
-    /// No lane could go on, when the bell had been rung so often.
-    Idle(u64),
-    /// All lanes have finished, or one found no memory.
-    Over,
-}
-
-/// Steps the lanes until all have finished or one finds no memory.
-pub fn work<T: Play, R: Wait, G: Gate>(
+/// Steps the lanes on so many workers, or as many as there are lanes, until all have finished or
+/// one finds no memory. All lanes come back, each at its place.
+pub fn step_together<R: Threads + Wait + Sync, G: Gate>(
     rt: &R,
     alloc: Global,
     pool: &SharedPool,
     gate: &G,
-    table: &Mutex<ManuallyDrop<Table<T>>>,
-    bell: &Bell,
-    worker: &mut Worker<T>,
-)
-    requires pool { T.pool ≡ Some pool.now }
-    requires stops { T.stops ≡ G.stops gate.now }
+    lanes: Vec<Lane>,
+    workers: u32,
+) -> (Vec<Lane>, Result<(), AllocError>)
+    requires lanes { AreNumbered (G.stops gate.now) pool.now lanes.items }
+    ensures lanes { AreLanes pool.now result.0.items }
+    ensures runs { let stops = G.stops gate.now in (trace : List (List Command)) →
+        AllRun trace stops pool.now lanes.items → AllRun trace stops pool.now result.0.items }
+    ensures count { vec_len result.0 ≡ vec_len lanes }
+    ensures finished { OnOk result.1 (AllFinished result.0.items) }
 {
-    let mut from = 0;
-    let mut idle = 0u32;
-    for _ in rt.forever() {
-        match take_turn(rt, alloc, pool, gate, table, bell, from, &mut worker.share) {
-            Turn::Stepped(next) => {
-                from = next;
-                idle = 0;
-            }
-            Turn::Idle(rings) => {
-                if idle < LOOKS {
-                    idle += 1;
-                    thread::yield_now();
-                } else {
-                    bell.wait(rt, rings);
-                }
-            }
-            Turn::Over => return,
-        }
-    }
+    let count = lanes.len().min(workers as usize).max(1);
+    step_as::<Brand, R, G>(
+        rt,
+        alloc,
+        pool,
+        gate,
+        lanes,
+        Blank::new(count as u64),
+        count,
+    )
 }
 
-// Takes a lane out, steps it and brings it back.
-fn take_turn<T: Play, R: Wait, G: Gate>(
+// Steps the lanes of this play on workers, and then by itself each that has not finished.
+fn step_as<T: Playing + Send + Sync, R: Threads + Wait + Sync, G: Gate>(
     rt: &R,
     alloc: Global,
     pool: &SharedPool,
     gate: &G,
-    table: &Mutex<ManuallyDrop<Table<T>>>,
-    bell: &Bell,
-    from: usize,
-    share: &mut Share<T>,
-) -> Turn
+    lanes: Vec<Lane>,
+    blank: Blank,
+    worker_count: usize,
+) -> (Vec<Lane>, Result<(), AllocError>)
+    requires name { blank.name ≡ T.name }
+    requires parts { (blank.parts ≡ T.parts) × (T.parts ≡ worker_count) }
+    requires worker_count { 0 < worker_count }
     requires pool { T.pool ≡ Some pool.now }
     requires stops { T.stops ≡ G.stops gate.now }
-    requires share { (share.old.parts ≡ 1) × (share.old.amount ≡ 0) }
-    ensures { (share.new.parts ≡ 1) × (share.new.amount ≡ 0) }
+    requires lanes { AllRun T.trace T.stops pool.now lanes.items }
+    requires count { vec_len lanes ≡ length T.trace }
+    ensures lanes { AllRun T.trace T.stops pool.now result.0.items }
+    ensures count { vec_len result.0 ≡ length T.trace }
+    ensures finished { OnOk result.1 (AllFinished result.0.items) }
 {
-    let rings = bell.rings();
-    let mut guard = table.lock(rt);
-    let open = &mut **guard;
-    if open.is_over() {
-        return Turn::Over;
-    }
-    let Some((at, mut lane)) = open.take(from, rings, share) else {
-        return Turn::Idle(rings);
+    let count = lanes.len();
+    let (Ok(statuses), Ok(workers)) = (
+        vec![in alloc; LaneStatus::Ready; count],
+        Vec::with_capacity(alloc, worker_count),
+    ) else {
+        return (lanes, Err(AllocError));
     };
-    drop(guard);
-    let rest = go_on(rt, alloc, pool, gate, bell, &mut lane);
-    bring_back(rt, table, at, lane, rest, share);
-    match rest {
-        Rest::Finished | Rest::Failed => {
-            bell.ring();
-        }
-        // Another lane is in the section, and soon out of it. That need not move a lane, so it is
-        // tried again without a ring.
-        Rest::Ready => thread::yield_now(),
-        Rest::Since(_) => {}
+    let Ok(places) = Vec::with_capacity(alloc, count) else {
+        return (lanes, Err(AllocError));
+    };
+    let (book, all) = blank.open::<T>();
+    let (workers, all) = hired(workers, all, worker_count);
+    let (table, lanes) = Table::<T>::of(lanes, places, statuses, book);
+    let (table, all) = at_work(rt, alloc, pool, gate, table, workers, all);
+    let failed = table.has_failed();
+    let mut lanes = table.into_lanes(lanes, all);
+    if failed {
+        return (lanes, Err(AllocError));
     }
-    Turn::Stepped(at + 1)
+    let ended = step_alone(rt, alloc, pool, gate, &mut lanes);
+    (lanes, ended)
 }
 
-// Steps a lane until it cannot go on.
-fn go_on<R: Wait, G: Gate>(
+// Workers, each with one part of the ledger.
+fn hired<T: Playing>(
+    mut workers: Vec<Worker<T>>,
+    mut all: Share<T>,
+    worker_count: usize,
+) -> (Vec<Worker<T>>, Share<T>)
+    requires workers { (workers.items ≡ []) × (worker_count ≤ vec_capacity workers) }
+    requires all { (all.parts ≡ worker_count) × (all.amount ≡ 0) }
+    ensures count { vec_len result.0 ≡ worker_count }
+    ensures left { (result.1.parts ≡ 0) × (result.1.amount ≡ 0) }
+{
+    for _i in 0..worker_count {
+        let share = all.split_off(1, 0);
+        workers.push_reserved(Worker { share });
+    }
+    (workers, all)
+}
+
+// All workers at work, until each has ended. Their shares come back.
+fn at_work<T: Playing + Send + Sync, R: Threads + Wait + Sync, G: Gate>(
     rt: &R,
     alloc: Global,
     pool: &SharedPool,
     gate: &G,
-    bell: &Bell,
-    lane: &mut Lane,
-) -> Rest
-    requires lane { IsLane pool.now lane.old }
-    ensures lane { IsLane pool.now lane.new }
-    ensures same { SameLane lane.old lane.new }
-    ensures heeds { let stops = G.stops gate.now (number_of lane.old) in
-        Heeds stops lane.old → Heeds stops lane.new }
+    table: Table<T>,
+    mut workers: Vec<Worker<T>>,
+    all: Share<T>,
+) -> (Table<T>, Share<T>)
+    requires pool { T.pool ≡ Some pool.now }
+    requires stops { T.stops ≡ G.stops gate.now }
+    requires workers { 0 < vec_len workers }
+    requires all { (all.parts ≡ 0) × (all.amount ≡ 0) }
+    ensures { (result.1.parts ≡ vec_len workers) × (result.1.amount ≡ 0) }
 {
-    let mut moves = 0;
-    for _ in rt.forever() {
-        let rings = bell.rings();
-        match lane.step(alloc, pool, gate) {
-            Ok(Stepped::Went) => {
-                moves += 1;
-                if moves == MOVES {
-                    bell.ring();
-                    moves = 0;
-                }
-            }
-            Ok(Stepped::Pending(_)) => {
-                told(bell, rings, moves > 0);
-                return Rest::Ready;
-            }
-            Ok(Stepped::Waiting { from: _ }) => {
-                return Rest::Since(told(bell, rings, moves > 0));
-            }
-            Ok(Stepped::Finished) => return Rest::Finished,
-            Err(AllocError) => return Rest::Failed,
-        }
-    }
-    unreachable!()
+    let lock = lock_of(table);
+    let changes = EventCount::new();
+    let threads = workers.len();
+    thread::for_each_mut(
+        rt,
+        workers.as_mut_slice(),
+        threads,
+        &|_i, worker: &mut Worker<T>|
+            requires { (T.pool ≡ Some pool.now) × (T.stops ≡ G.stops gate.now) }
+        { work(rt, alloc, pool, gate, &lock, &changes, worker) },
+    );
+    let all = gathered(workers, all);
+    (ManuallyDrop::into_inner(lock.into_inner()), all)
 }
 
-// Rings for the moves of a lane. Answers the count up to which it knows of no move of another.
-fn told(bell: &Bell, rings: u64, moved: bool) -> u64 {
-    if moved && bell.ring() == rings {
-        rings.wrapping_add(1)
-    } else {
-        rings
-    }
+// A lock round a table, which comes out of it again.
+fn lock_of<T: Playing>(table: Table<T>) -> Mutex<ManuallyDrop<Table<T>>> {
+    Mutex::new(unsafe { ManuallyDrop::new_unchecked(table) })
 }
 
-// Brings a lane back to its place. No other lane stands there, so this tries once; the table does
-// not know that, so it tries until the place is empty.
-fn bring_back<T: Play, R: Wait>(
-    rt: &R,
-    table: &Mutex<ManuallyDrop<Table<T>>>,
-    at: usize,
-    lane: Lane,
-    rest: Rest,
-    share: &mut Share<T>,
-)
-    requires lane { BelongsAt T.trace T.stops T.pool at lane }
-    requires share { (share.old.parts ≡ 1) × (share.old.amount ≡ 1) }
-    ensures { (share.new.parts ≡ 1) × (share.new.amount ≡ 0) }
+// The shares of all workers together.
+fn gathered<T: Playing>(mut workers: Vec<Worker<T>>, mut all: Share<T>) -> Share<T>
+    requires { (all.parts ≡ 0) × (all.amount ≡ 0) }
+    ensures { (result.parts ≡ vec_len workers) × (result.amount ≡ 0) }
 {
-    let mut lane = lane;
-    for _ in rt.forever() {
-        match table.lock(rt).put(at, lane, rest, share) {
-            None => return,
-            Some(back) => lane = back,
-        }
+    while let Some(worker) = workers.pop() {
+        let Worker { share } = worker;
+        all.merge(share);
     }
-    unreachable!()
+    all
 }

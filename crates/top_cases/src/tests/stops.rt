@@ -13,7 +13,7 @@ use std::thread::Threads;
 use trace_top::{SafeSink, SafeSource, Status, run};
 
 /// The words for each number of workers.
-const CREWS: [&str; 4] = ["--workers 1", "--workers 2", "--workers 4", "--workers 16"];
+const WORKERS: [&str; 4] = ["--workers 1", "--workers 2", "--workers 4", "--workers 16"];
 
 /// The lane that receives is stopped at once, so nobody fetches the parcel.
 const RECEIVER_STOPPED: &str = "\
@@ -45,15 +45,15 @@ end roots 1 live 1 leaks 1
 fn writes_the_text_of_stopped_lanes(rt: HostRuntime) -> Result<(), Fail> {
     let rows = [((1, 0), RECEIVER_STOPPED), ((0, 2), SENDER_STOPPED)];
     for (stop, want) in rows {
-        for crew in CREWS {
-            let words = words_of(rt.alloc(), crew)?;
+        for asked in WORKERS {
+            let words = words_of(rt.alloc(), asked)?;
             let gate = Barrier::new(rt.alloc(), stop)?;
             let mut source = SafeSource::new(rt.alloc(), HAND_OVER.as_bytes())?;
             let mut sink = SafeSink::new(rt.alloc(), 1000, 1000)?;
             let outcome = run(&rt, rt.alloc(), &words, &mut source, &mut sink, &gate);
             judge(&rt, &outcome)?;
-            assert_eq!(rt; outcome.status, Status::Leaks, "{crew}");
-            assert_eq!(rt; str::from_utf8(sink.got())?, want, "{crew}");
+            assert_eq!(rt; outcome.status, Status::Leaks, "{asked}");
+            assert_eq!(rt; str::from_utf8(sink.got())?, want, "{asked}");
         }
     }
     Ok(())

@@ -5,9 +5,9 @@ use Rattle.trace_top.proofs.table.Table.of.Goals as goal
 
 pub invariant_of-table : goal.invariant_of-table
 invariant_of-table g c =
-    let places = c.seated-places.ensures.places in (
+    let places = c.into_places-places.ensures.places in (
       rw places (all_stand _ _ _ _ c.requires.lanes),
       c.requires.out ∙ sym (ap empties places ∙ empties_full c.args.lanes.items),
-      c.seated-places.ensures.count ∙ c.requires.count,
-      c.requires.rests,
+      c.into_places-places.ensures.count ∙ c.requires.count,
+      c.requires.statuses,
     )

@@ -1,10 +1,10 @@
 use Rattle.std.proofs.Common.{◌≡◌, ◌≤◌, ◌+◌, vec_len, vec_capacity}
-use Rattle.trace_top.proofs.crew.hired.Given as goal
+use Rattle.trace_top.proofs.workers.hired.Given as goal
 
 abbrev pub invariant-loop-i : goal.invariant-loop-i
 invariant-loop-i g l = record {
-  parts : l.all.parts + l._i ≡ l.workers;
+  parts : l.all.parts + l._i ≡ l.worker_count;
   amount : l.all.amount ≡ 0;
-  count : vec_len l.crew ≡ l._i;
-  room : l.workers ≤ vec_capacity l.crew;
+  count : vec_len l.workers ≡ l._i;
+  room : l.worker_count ≤ vec_capacity l.workers;
 }

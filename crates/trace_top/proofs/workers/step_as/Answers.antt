@@ -1,7 +1,7 @@
 use Rattle.std.proofs.Common.{sym}
 use Rattle.trace_top.proofs.Runs.{are_lanes}
 use Rattle.trace_top.proofs.Tables.{all_runs, run_by}
-use Rattle.trace_top.proofs.crew.step_as.Goals as goal
+use Rattle.trace_top.proofs.workers.step_as.Goals as goal
 
 pub returns-then-failed-clause-lanes : goal.returns-then-failed-clause-lanes
 returns-then-failed-clause-lanes g c = all_runs _ _ _ _ _ c.requires.pool c.into_lanes-lanes.ensures.lanes

@@ -11,7 +11,7 @@ use std::thread::Threads;
 use trace_top::{Gate, Pass, SafeSink, SafeSource, Status, line_of, run};
 
 /// The words for each number of workers.
-const CREWS: [&str; 4] = ["--workers 1", "--workers 2", "--workers 4", "--workers 16"];
+const WORKERS: [&str; 4] = ["--workers 1", "--workers 2", "--workers 4", "--workers 16"];
 
 const HAND_OVER: &str = concat!(
     r#"[[["alloc","a",4],["set","a",0,"0a0b"],["send","a",1]],"#,
@@ -55,8 +55,8 @@ const DETERMINED: [(&str, &str); 4] = [
 #[test]
 fn writes_the_same_text_on_any_number_of_workers(rt: HostRuntime) -> Result<(), Fail> {
     for (trace, text) in DETERMINED {
-        for crew in CREWS {
-            expect_text(&rt, crew, trace, Status::Whole, text)?;
+        for words in WORKERS {
+            expect_text(&rt, words, trace, Status::Whole, text)?;
         }
     }
     Ok(())
@@ -65,14 +65,14 @@ fn writes_the_same_text_on_any_number_of_workers(rt: HostRuntime) -> Result<(), 
 #[test]
 fn refuses_a_stuck_trace_on_any_number_of_workers(rt: HostRuntime) -> Result<(), Fail> {
     let stuck = r#"[[["recv","x",1]],[["recv","y",0]]]"#;
-    for crew in CREWS {
+    for words in WORKERS {
         let mut source = SafeSource::new(rt.alloc(), stuck.as_bytes())?;
         let mut sink = SafeSink::new(rt.alloc(), 100, 100)?;
-        let outcome = play(&rt, crew, &mut source, &mut sink)?;
-        assert_eq!(rt; outcome.status, Status::Trace, "{crew}");
+        let outcome = play(&rt, words, &mut source, &mut sink)?;
+        assert_eq!(rt; outcome.status, Status::Trace, "{words}");
         let line = line_of(rt.alloc(), &outcome)?;
-        assert_eq!(rt; line.items(), "refused stuck 0.0\n".as_bytes(), "{crew}");
-        assert!(rt; sink.got().is_empty(), "{crew}");
+        assert_eq!(rt; line.items(), "refused stuck 0.0\n".as_bytes(), "{words}");
+        assert!(rt; sink.got().is_empty(), "{words}");
     }
     Ok(())
 }
@@ -279,14 +279,14 @@ fn expect<R: Threads + Wait + Sync + AllocGlobal + Abort>(
     script: &Script,
     end: &str,
 ) -> Result<(), Fail> {
-    for crew in CREWS {
+    for words in WORKERS {
         let mut source = SafeSource::new(rt.alloc(), script.trace.as_bytes())?;
         let mut sink = SafeSink::new(rt.alloc(), 2_000_000, 2_000_000)?;
-        let outcome = play(rt, crew, &mut source, &mut sink)?;
-        assert_eq!(rt; outcome.status, Status::Whole, "{crew}");
+        let outcome = play(rt, words, &mut source, &mut sink)?;
+        assert_eq!(rt; outcome.status, Status::Whole, "{words}");
         let text = str::from_utf8(sink.got())?;
-        assert!(rt; has_lines(text, script.lines.as_str()), "{crew}");
-        assert!(rt; text.ends_with(end), "{crew}");
+        assert!(rt; has_lines(text, script.lines.as_str()), "{words}");
+        assert!(rt; text.ends_with(end), "{words}");
     }
     Ok(())
 }

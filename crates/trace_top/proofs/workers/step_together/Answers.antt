@@ -1,6 +1,6 @@
 use Rattle.trace_top.proofs.Runs.{are_lanes}
 use Rattle.trace_top.proofs.Tables.{run_their_own, run_the_same}
-use Rattle.trace_top.proofs.crew.step_together.Goals as goal
+use Rattle.trace_top.proofs.workers.step_together.Goals as goal
 
 pub step_as-requires-clause-lanes : goal.step_as-requires-clause-lanes
 step_as-requires-clause-lanes g c κs within = run_their_own _ _ _ c.requires.lanes

@@ -3,7 +3,7 @@ use Rattle.std.proofs.lemmas.Grind.{common_steps}
 use Rattle.trace_top.specs.Places.{empties}
 use Rattle.trace_top.proofs.Places.{left_next, removed}
 use Rattle.trace_top.proofs.Tables.{empties_rest, unseat_more}
-use Rattle.trace_top.proofs.table.unseated.Goals as goal
+use Rattle.trace_top.proofs.table.out_of_places.Goals as goal
 
 pub loop-i-preserved : goal.loop-i-preserved
 loop-i-preserved c =

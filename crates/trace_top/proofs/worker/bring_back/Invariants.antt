@@ -1,5 +1,5 @@
 use Rattle.std.proofs.Common.{◌≡◌}
-use Rattle.trace_top.proofs.workers.bring_back.Given as goal
+use Rattle.trace_top.proofs.worker.bring_back.Given as goal
 
 abbrev pub invariant-loop : goal.invariant-loop
 invariant-loop g l =

@@ -2,7 +2,7 @@ use Rattle.std.proofs.Common.{◌<◌, ◌++◌, ◌∷◌, [], length, Some, ap
 use Rattle.std.proofs.lemmas.Grind.{common_steps}
 use Rattle.trace_top.proofs.Places.{left_next, removed}
 use Rattle.trace_top.proofs.Tables.{seat_more}
-use Rattle.trace_top.proofs.table.seated.Goals as goal
+use Rattle.trace_top.proofs.table.into_places.Goals as goal
 
 pub loop-i-preserved : goal.loop-i-preserved
 loop-i-preserved c =

@@ -1,6 +1,6 @@
 use Rattle.std.proofs.Common.{◌<◌}
 use Rattle.lane_core.specs.Lanes.{Heeds, IsLane, SameLane, number_of}
-use Rattle.trace_top.proofs.workers.go_on.Given as goal
+use Rattle.trace_top.proofs.worker.go_on.Given as goal
 
 abbrev pub invariant-loop : goal.invariant-loop
 invariant-loop g l =
