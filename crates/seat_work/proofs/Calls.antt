@@ -1,6 +1,6 @@
 -- What each call of the pool leaves to a seat that works.
-use Rattle.std.proofs.Common.{◌≡◌, ℕ, ◌+◌, ◌-◌, ◌<◌, ◌≤◌, List, [], ◌∷◌, Bool, true, false, cond, Option, Some, None, refl, ap, subst, arith}
-use Rattle.std.specs.Prelude.{IfSome, if◌then◌else◌}
+use Rattle.std.proofs.Common.{◌≡◌, ℕ, ◌+◌, ◌-◌, ◌<◌, ◌≤◌, List, [], ◌∷◌, Bool, true, false, Option, Some, None, refl, ap, arith}
+use Rattle.std.specs.Prelude.{IfSome}
 use Rattle.step_law.specs.declared.Told.{Ghosts}
 use Rattle.handle_bin.specs.Bins.{HandleValue}
 use Rattle.pool_arena.specs.Standing.{taken_or_full}
@@ -29,14 +29,14 @@ use Rattle.shared_pool.specs.declared.pool.SharedPool.{SharedPool}
 use Rattle.shared_pool.specs.Holding.{HoldsRegion, HoldsHandle}
 use Rattle.shared_pool.specs.Notes.{plain, popped, hit}
 use Rattle.shared_pool.specs.Quotas.{posts}
-use Rattle.shared_pool.specs.RootNotes.{access, birth, end_of, IsNotedWith}
+use Rattle.shared_pool.specs.RootNotes.{birth, end_of, IsNotedWith}
 use Rattle.shared_pool.specs.SeatLanes.{lane_of}
 use Rattle.shared_pool.specs.Seats.{IsPoolSeat, IsNoted, FoundBusy}
 use Rattle.seat_work.specs.Hands.{Hand, empty_hand, IsHandle, IsRegion, lane_in}
-use Rattle.seat_work.specs.Changes.{Holds, Change, no_change, once_more, once_less, times}
+use Rattle.seat_work.specs.Changes.{Holds, Change, no_change, once_more, once_less}
 use Rattle.seat_work.specs.Works.{Works, Proceeds}
 use Rattle.seat_work.specs.Answers.{with_place, with_both, with_token, hand_got, hand_with, handle_told, region_told}
-use Rattle.seat_work.proofs.Counting.{Tells, gain_in, loss_in, holds_one, one_as}
+use Rattle.seat_work.proofs.Counting.{Tells, holds_one, one_as}
 use Rattle.seat_work.proofs.Grown.{grows_noted, grows_busy, grows_with, grows_ref}
 use Rattle.seat_work.proofs.HandLaws.{Carries}
 use Rattle.seat_work.proofs.HandNotes.{handle_comes, handle_goes, no_handle, region_taken, arena_full, region_given, region_hit, cache_missed, region_kept, region_back, marked_busy, both_born, both_come, ref_carries, ended_carries, weightless}

@@ -1,28 +1,17 @@
 -- What a seat has in hand behind its next entries.
-use Rattle.std.proofs.Common.{◌≡◌, ℕ, ◌+◌, ◌-◌, List, [], ◌∷◌, ◌++◌, Bool, true, false, cond, refl, sym, ap, ◌∙◌, arith}
-use Rattle.std.specs.Prelude.{sum_by, unwrap_or, Option, Some, None, ◌==◌, ◌&&◌, if◌then◌else◌, nat_lt}
-use Rattle.std.proofs.lemmas.Bool.Decides.{nat_tests}
+use Rattle.std.proofs.Common.{◌≡◌, ℕ, ◌+◌, List, [], ◌∷◌, ◌++◌, Bool, true, false, refl, ap, ◌∙◌, arith}
+use Rattle.std.specs.Prelude.{sum_by, unwrap_or, ◌==◌, ◌&&◌, if◌then◌else◌, nat_lt}
 use Rattle.pool_law.specs.declared.id.RootId.{RootId}
 use Rattle.pool_law.specs.declared.id.RegionId.{RegionId}
-use Rattle.pool_law.specs.declared.note.CacheNo.{CacheNo}
-use Rattle.pool_law.specs.declared.note.Did.{Did}
-use Rattle.pool_law.specs.declared.note.Held.{Held}
-use Rattle.pool_law.specs.declared.note.Object.{Object}
-use Rattle.pool_law.specs.declared.note.Object.TheVariants.{Arena, Cache, Bin, Root}
-use Rattle.pool_law.specs.declared.note.RefDid.TheVariants.{Born, Vacated}
-use Rattle.pool_law.specs.declared.report.Watch.{Watch}
-use Rattle.pool_law.specs.Naming.{noted_by}
-use Rattle.pool_law.specs.Same.{same_object, same_root, same_taking}
-use Rattle.pool_law.proofs.PatternLemmas.{same_number}
+use Rattle.pool_law.specs.declared.note.Object.TheVariants.{Cache}
+use Rattle.pool_law.specs.Same.{same_object}
 use Rattle.table_law.specs.NoteCounts.{is_taking, uses_in}
 use Rattle.pool_table.specs.declared.views.Entry.{Entry}
 use Rattle.pool_table.specs.declared.views.Entry.TheVariants.{At, Ref, Busy}
 use Rattle.pool_table.specs.declared.views.SeatView.{SeatView}
 use Rattle.pool_table.specs.Counts.{weigh, on_this, on_place, ref_born, ref_ended, ref_vacated}
 use Rattle.pool_table.specs.Hands.{at_in, at_out, at_birth, ends, from_arena, to_arena, from_cache, to_cache, from_place, to_place}
-use Rattle.shared_pool.specs.Notes.{plain}
 use Rattle.shared_pool.specs.Quotas.{quota_after, quota_from, quota_left, has_closed, is_close}
-use Rattle.shared_pool.specs.RootNotes.{birth, end_of}
 use Rattle.seat_work.specs.Hands.{lane_in, Hand, IsHeld, is_place, is_token, held_weight}
 use Rattle.seat_work.proofs.Grown.{Grows, weigh_more}
 

@@ -1,6 +1,6 @@
 -- What each kind of entry does to what a seat has in hand.
-use Rattle.std.proofs.Common.{◌≡◌, ℕ, ◌+◌, ◌-◌, List, [], ◌∷◌, ◌++◌, Bool, true, false, cond, refl, sym, ap, ◌∙◌, arith}
-use Rattle.std.specs.Prelude.{sum_by, unwrap_or, Option, Some, None, ◌==◌, ◌&&◌, if◌then◌else◌, nat_lt}
+use Rattle.std.proofs.Common.{◌≡◌, ℕ, ◌+◌, ◌-◌, List, [], ◌∷◌, Bool, true, false, cond, refl, sym, ap, ◌∙◌, arith}
+use Rattle.std.specs.Prelude.{Option, Some, None, ◌==◌, ◌&&◌, if◌then◌else◌, nat_lt}
 use Rattle.std.proofs.lemmas.Bool.Decides.{nat_tests}
 use Rattle.pool_law.specs.declared.id.RootId.{RootId}
 use Rattle.pool_law.specs.declared.id.RegionId.{RegionId}
@@ -16,17 +16,13 @@ use Rattle.pool_law.specs.declared.report.Watch.{Watch}
 use Rattle.pool_law.specs.Naming.{noted_by}
 use Rattle.pool_law.specs.Same.{same_object, same_root, same_taking}
 use Rattle.pool_law.proofs.PatternLemmas.{same_number}
-use Rattle.table_law.specs.NoteCounts.{is_taking, uses_in}
 use Rattle.pool_table.specs.declared.views.Entry.{Entry}
 use Rattle.pool_table.specs.declared.views.Entry.TheVariants.{At, Ref, Busy}
 use Rattle.pool_table.specs.declared.views.SeatView.{SeatView}
-use Rattle.pool_table.specs.Counts.{weigh, on_this, on_place, ref_born, ref_ended, ref_vacated}
-use Rattle.pool_table.specs.Hands.{at_in, at_out, at_birth, ends, from_arena, to_arena, from_cache, to_cache, from_place, to_place}
+use Rattle.pool_table.specs.Counts.{ref_born, ref_ended, ref_vacated}
 use Rattle.shared_pool.specs.Notes.{plain}
-use Rattle.shared_pool.specs.Quotas.{quota_after, quota_from, quota_left, has_closed, is_close}
 use Rattle.shared_pool.specs.RootNotes.{birth, end_of}
-use Rattle.seat_work.specs.Hands.{lane_in, Hand, IsHeld, is_place, is_token, held_weight, empty_hand}
-use Rattle.seat_work.proofs.Grown.{Grows, weigh_more}
+use Rattle.seat_work.specs.Hands.{Hand, IsHeld, empty_hand}
 use Rattle.seat_work.proofs.HandLaws.{Carries, quota_of}
 
 pub same_quota : (b : Bool) (n : ℕ) → (if b then n else n) ≡ n

@@ -1,5 +1,5 @@
 -- A parcel that goes, and one that comes.
-use Rattle.std.proofs.Common.{◌≡◌, ℕ, ◌+◌, ◌≤◌, List, [], ◌∷◌, Bool, true, false, Option, Some, None, refl, ap, ◌∙◌, subst, arith}
+use Rattle.std.proofs.Common.{◌≡◌, ℕ, ◌+◌, ◌≤◌, List, [], ◌∷◌, Bool, true, false, Option, Some, None, refl, ap, arith}
 use Rattle.std.specs.Prelude.{◌&&◌, ◌==◌, if◌then◌else◌, IfSome}
 use Rattle.step_law.specs.declared.Told.{Ghosts}
 use Rattle.pool_law.specs.declared.id.Parcel.{Parcel}
@@ -27,7 +27,7 @@ use Rattle.seat_work.specs.Works.{Works, Goes, Proceeds}
 use Rattle.seat_work.proofs.Calls.{proceeds_noted}
 use Rattle.seat_work.proofs.Counting.{Tells, changes_by, holds_after, holds_one, counts_one}
 use Rattle.seat_work.proofs.Grown.{Grows, grows_noted}
-use Rattle.seat_work.proofs.HandNotes.{post_entry, fetch_entry, post_carries, fetch_carries}
+use Rattle.seat_work.proofs.HandNotes.{post_entry, post_carries, fetch_carries}
 use Rattle.seat_work.proofs.Proceeding.{goes_by, sends_by}
 
 -- a parcel's root is in its list once, and no other is

@@ -8,5 +8,7 @@ pub mod Proceeding
 pub mod Calls
 pub mod Accesses
 pub mod HandedOver
+pub mod Later
 pub mod Worn
 pub mod FirstSeats
+mod Trials

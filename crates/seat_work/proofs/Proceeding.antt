@@ -1,8 +1,7 @@
 -- A seat that goes on from step to step.
-use Rattle.std.proofs.Common.{◌≡◌, ℕ, ◌+◌, ◌≤◌, List, [], sym, ap, ◌∙◌, subst, arith, refl}
+use Rattle.std.proofs.Common.{◌≡◌, ℕ, ◌+◌, ◌≤◌, List, sym, ap, ◌∙◌, subst, arith, refl}
 use Rattle.std.specs.Prelude.{unwrap_or}
 use Rattle.step_law.specs.declared.Told.{Ghosts}
-use Rattle.pool_law.specs.declared.id.RootId.{RootId}
 use Rattle.pool_law.specs.declared.note.Noted.{Noted}
 use Rattle.pool_table.specs.declared.table.PoolSeat.{PoolSeat}
 use Rattle.pool_table.specs.declared.views.Entry.{Entry}
@@ -17,7 +16,7 @@ use Rattle.seat_work.specs.Changes.{Holds, IsPaid, Change, Changes, no_change}
 use Rattle.seat_work.specs.HandOvers.{Sends}
 use Rattle.seat_work.specs.Works.{Works, Goes, Proceeds}
 use Rattle.seat_work.proofs.Counting.{Tells, changes_by, paid_after}
-use Rattle.seat_work.proofs.Grown.{Grows, own_more, posts_append}
+use Rattle.seat_work.proofs.Grown.{Grows, posts_append}
 use Rattle.seat_work.proofs.HandLaws.{Carries, held_on}
 
 -- ---- What is sent.

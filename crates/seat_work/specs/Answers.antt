@@ -1,19 +1,26 @@
 -- What an allocation answered, and what is in hand on the way.
-use Rattle.std.specs.Prelude.{◌≡◌, ℕ, Option, Some, None, Result, Ok, Err}
+use Rattle.std.specs.Prelude.{ℕ, Option, Some, None, Result, Ok, Err}
 use Rattle.step_law.specs.declared.Told.{Ghosts}
 use Rattle.handle_bin.specs.Bins.{HandleValue}
 use Rattle.pool_law.specs.declared.id.Region.{Region}
 use Rattle.pool_law.specs.declared.id.RegionId.{RegionId}
 use Rattle.pool_law.specs.declared.id.RootId.{RootId}
+use Rattle.pool_law.specs.declared.note.Did.{Did}
 use Rattle.pool_law.specs.declared.note.Noted.{Noted}
+use Rattle.pool_law.specs.declared.note.Object.TheVariants.{Bin}
 use Rattle.pool_table.specs.declared.table.PoolSeat.{PoolSeat}
+use Rattle.pool_table.specs.Seats.{view_of, SameSeat}
 use Rattle.shared_pool.specs.declared.home.Home.{Home}
 use Rattle.shared_pool.specs.declared.pool.SharedPool.{SharedPool}
+use Rattle.shared_pool.specs.Notes.{plain}
+use Rattle.shared_pool.specs.SeatLanes.{lane_of}
+use Rattle.shared_pool.specs.Seats.{IsNoted}
 use Rattle.shared_pool.specs.Wearing.{FoundWorn}
 use Rattle.seat_work.specs.declared.allocation.AllocNo.{AllocNo}
 use Rattle.seat_work.specs.declared.allocation.AllocNo.TheVariants.{NoHandle, Full, Worn}
 use Rattle.seat_work.specs.Changes.{Change, no_change, once_more}
-use Rattle.seat_work.specs.Hands.{Hand, empty_hand}
+use Rattle.seat_work.specs.Hands.{Hand, empty_hand, IsHeld}
+use Rattle.seat_work.specs.Works.{IsLater}
 
 -- a hand with a handle, with a region beside it, and with the token of a root
 abbrev pub with_place : ℕ → Hand
@@ -60,7 +67,36 @@ abbrev pub allocated : Result RootId AllocNo → Change
 allocated (Ok root) = once_more root
 allocated (Err why) = refused why
 
--- a place was worn out, as a seat found that was on the way
-abbrev pub IsWorn : {G : Ghosts Home Noted} → SharedPool → PoolSeat Home G → AllocNo → Type 0
-IsWorn {G} pool s Worn = (place : ℕ) × (mid : PoolSeat Home G) × FoundWorn pool place mid
-IsWorn pool s _ = Unit {0}
+module _ {G : Ghosts Home Noted} where
+  -- the same seat took the handle of this place, the next of its lane
+  pub record TookHandle (pool : SharedPool) (place : ℕ) (old new : PoolSeat Home G) : Type 0 where
+    pub same : SameSeat old new
+    pub number : ℕ
+    pub noted : IsNoted pool old new (Bin (lane_of old)) number (plain (Did.Handle place))
+
+  -- the seat got so far that it had the handle of this place and a region in hand, and found the
+  -- place worn out; then it went on
+  pub record FindsWorn (pool : SharedPool) (place : ℕ) (old new : PoolSeat Home G) : Type 0 where
+    pub mid : PoolSeat Home G
+    pub before : IsLater pool old mid
+    pub region : RegionId
+    pub held : IsHeld (with_both place region) (view_of mid)
+    pub found : FoundWorn pool place mid
+    pub after : IsLater pool mid new
+
+  -- so it went with the handle that it took first
+  pub record MeetsWorn (pool : SharedPool) (old new : PoolSeat Home G) : Type 0 where
+    pub place : ℕ
+    pub start : PoolSeat Home G
+    pub took : TookHandle pool place old start
+    pub finds : FindsWorn pool place start new
+
+  -- the cause of a refusal as worn out, from before a handle was taken; and with the handle of a
+  -- place in hand
+  abbrev pub IsWorn : SharedPool → PoolSeat Home G → PoolSeat Home G → AllocNo → Type 0
+  IsWorn pool old new Worn = MeetsWorn pool old new
+  IsWorn pool old new _ = Unit {0}
+
+  abbrev pub IsWornAt : SharedPool → ℕ → PoolSeat Home G → PoolSeat Home G → AllocNo → Type 0
+  IsWornAt pool place old new Worn = FindsWorn pool place old new
+  IsWornAt pool place old new _ = Unit {0}

@@ -1,4 +1,4 @@
--- What a step adds to a seat's own part, and how much one step may.
+-- What steps add to a seat's own part, and how much one step may.
 use Rattle.std.specs.Prelude.{◌≡◌, ℕ, ◌+◌, ◌≤◌, if◌then◌else◌, Bool, true, false, List, [], ◌∷◌, ◌++◌, length, map}
 use Rattle.pool_law.specs.declared.note.Note.{Note}
 use Rattle.pool_law.specs.declared.note.Note.TheVariants.{At, Ref, Busy}
@@ -35,3 +35,11 @@ pub record HasMore (old new : SeatView) (added : List Entry) : Type 0 where
   pub setting : new.setting ≡ old.setting
   pub turns : old.turns ≤ new.turns + length added
   pub one : IsOneStep (map note_of added)
+
+-- the view has these entries more in its own part, those of steps one after another, each of which
+-- cost at most one turn
+pub record HasGrown (old new : SeatView) (added : List Entry) : Type 0 where
+  pub notes : new.own.notes ≡ old.own.notes ++ added
+  pub number : new.own.number ≡ old.own.number
+  pub setting : new.setting ≡ old.setting
+  pub turns : old.turns ≤ new.turns + length added

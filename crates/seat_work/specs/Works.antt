@@ -1,13 +1,15 @@
 -- What a seat has in hand and left, and how it goes on from there.
-use Rattle.std.specs.Prelude.{◌≡◌, ℕ, ◌+◌, ◌≤◌}
+use Rattle.std.specs.Prelude.{◌≡◌, ℕ, ◌+◌, ◌≤◌, List}
 use Rattle.step_law.specs.declared.Told.{Ghosts}
 use Rattle.pool_law.specs.declared.note.Noted.{Noted}
 use Rattle.pool_table.specs.declared.table.PoolSeat.{PoolSeat}
-use Rattle.pool_table.specs.Seats.{view_of}
+use Rattle.pool_table.specs.declared.views.Entry.{Entry}
+use Rattle.pool_table.specs.Seats.{view_of, SameSeat}
 use Rattle.shared_pool.specs.declared.home.Home.{Home}
 use Rattle.shared_pool.specs.declared.pool.SharedPool.{SharedPool}
 use Rattle.shared_pool.specs.Seats.{IsPoolSeat}
 use Rattle.seat_work.specs.Hands.{Hand, IsHeld}
+use Rattle.seat_work.specs.Growth.{HasGrown}
 use Rattle.seat_work.specs.Changes.{IsPaid, Change, Changes}
 use Rattle.seat_work.specs.HandOvers.{Sends}
 
@@ -38,3 +40,10 @@ module _ {G : Ghosts Home Noted} where
     pub goes : Goes pool hand turns moves old new
     pub changes : Changes c (view_of old) (view_of new)
     pub sends : Sends 0 (view_of old) (view_of new)
+
+  -- the same seat of the pool further on, behind some steps of its own
+  pub record IsLater (pool : SharedPool) (old new : PoolSeat Home G) : Type 0 where
+    pub same : SameSeat old new
+    pub seat : IsPoolSeat pool new
+    pub added : List Entry
+    pub grown : HasGrown (view_of old) (view_of new) added

@@ -8,8 +8,8 @@ ghost use Rattle.pool_table.specs.Counts.{HasCount};
 ghost use Rattle.pool_table.specs.Seats.{view_of};
 ghost use Rattle.seat_work.specs.Hands.{empty_hand, IsHandle, IsRegion};
 ghost use Rattle.seat_work.specs.Changes.{no_change};
-ghost use Rattle.seat_work.specs.Works.{Works, Proceeds};
-ghost use Rattle.seat_work.specs.Answers.{with_place, with_both, hand_got, hand_with, handle_told, region_told, allocated, IsWorn};
+ghost use Rattle.seat_work.specs.Works.{Works, Proceeds, IsLater};
+ghost use Rattle.seat_work.specs.Answers.{with_place, with_both, hand_got, hand_with, handle_told, region_told, allocated, TookHandle, IsWorn, IsWornAt};
 
 use crate::birth::bear;
 use crate::ending::{put_away, put_handle};
@@ -31,7 +31,8 @@ pub enum AllocNo {
     Worn,
 }
 
-/// A new root of `size` bytes, all 0, that the seat then counts once. `class` is that of the size. A refusal leaves the seat with nothing in hand, and its counts as they were.
+/// A new root of `size` bytes, all 0, that the seat then counts once. `class` is that of the size.
+/// A refusal leaves the seat with nothing in hand, and its counts as they were.
 pub fn allocate<W: Wait>(
     rt: &W,
     pool: &SharedPool,
@@ -44,7 +45,7 @@ pub fn allocate<W: Wait>(
     requires class { class_of (geometry_of pool.now.table.layout.shape) size ≡ Some class }
     ensures proceeds { Proceeds pool.now empty_hand 6 0 (allocated result) seat.old seat.new }
     ensures root { IfOk result (λ root. (root.capacity ≡ size) × HasCount root (view_of seat.new)) }
-    ensures worn { IfErr result (IsWorn pool.now seat.old) }
+    ensures worn { IfErr result (IsWorn pool.now seat.old seat.new) }
 {
     match pop_handle(rt, pool, seat) {
         Some(handle) => allocate_at(rt, pool, seat, handle, size, class, watch),
@@ -68,7 +69,7 @@ fn allocate_at<W: Wait>(
     requires class { class_of (geometry_of pool.now.table.layout.shape) size ≡ Some class }
     ensures proceeds { Proceeds pool.now empty_hand 5 0 (allocated result) seat.old seat.new }
     ensures root { IfOk result (λ root. (root.capacity ≡ size) × HasCount root (view_of seat.new)) }
-    ensures worn { IfErr result (IsWorn pool.now seat.old) }
+    ensures worn { IfErr result (IsWornAt pool.now handle.place seat.old seat.new) }
 {
     match find_region(rt, pool, seat, &handle, class) {
         Some(region) => bear_or_return(rt, pool, seat, handle, region, size, watch),
@@ -96,7 +97,7 @@ fn bear_or_return<W: Wait>(
     requires size { size ≤ size_at region.id.class }
     ensures proceeds { Proceeds pool.now empty_hand 3 0 (allocated result) seat.old seat.new }
     ensures root { IfOk result (λ root. (root.capacity ≡ size) × HasCount root (view_of seat.new)) }
-    ensures worn { IfErr result (IsWorn pool.now seat.old) }
+    ensures worn { IfErr result (IsWornAt pool.now handle.place seat.old seat.new) }
 {
     match bear(pool, seat, handle, region, size, watch) {
         Ok(root) => Ok(root),
@@ -115,6 +116,7 @@ fn pop_handle<W: Wait>(rt: &W, pool: &SharedPool, seat: &mut PoolSeat) -> Option
     ensures proceeds { Proceeds pool.now (hand_got result) 1 0 (handle_told result)
         seat.old seat.new }
     ensures handle { IfSome result (IsHandle pool.now) }
+    ensures took { IfSome result (λ h. TookHandle pool.now h.place seat.old seat.new) }
 {
     for _ in rt.forever() {
         match pool.pop_handle(seat) {
@@ -139,6 +141,7 @@ fn find_region<W: Wait>(
     ensures proceeds { Proceeds pool.now (hand_with handle.now.place result) 2 0
         (region_told result) seat.old seat.new }
     ensures region { IfSome result (λ r. IsRegion pool.now seat.new r × (r.id.class ≡ class)) }
+    ensures later { IsLater pool.now seat.old seat.new }
 {
     if class >= CACHED_CLASSES {
         return take_region(rt, pool, seat, handle, class);
@@ -157,6 +160,7 @@ fn pop_region(pool: &SharedPool, seat: &mut PoolSeat, handle: &Handle, class: u3
     ensures proceeds { Proceeds pool.now (hand_with handle.now.place result) 1 0 no_change
         seat.old seat.new }
     ensures region { IfSome result (λ r. IsRegion pool.now seat.new r × (r.id.class ≡ class)) }
+    ensures later { IsLater pool.now seat.old seat.new }
 {
     match pool.pop_cached(seat, class) {
         Went::Did(_number, region) => region,
@@ -178,6 +182,7 @@ fn take_region<W: Wait>(
     ensures proceeds { Proceeds pool.now (hand_with handle.now.place result) 1 0
         (region_told result) seat.old seat.new }
     ensures region { IfSome result (λ r. IsRegion pool.now seat.new r × (r.id.class ≡ class)) }
+    ensures later { IsLater pool.now seat.old seat.new }
 {
     for _ in rt.forever() {
         match pool.take(seat, class) {

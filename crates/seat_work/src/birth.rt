@@ -7,7 +7,7 @@ ghost use Rattle.pool_table.specs.Seats.{view_of};
 ghost use Rattle.shared_pool.specs.Wearing.{FoundWorn};
 ghost use Rattle.seat_work.specs.Hands.{empty_hand, IsHandle, IsRegion};
 ghost use Rattle.seat_work.specs.Changes.{no_change, once_more};
-ghost use Rattle.seat_work.specs.Works.{Works, Proceeds};
+ghost use Rattle.seat_work.specs.Works.{Works, Proceeds, IsLater};
 ghost use Rattle.seat_work.specs.Answers.{with_both};
 
 use handle_bin::Handle;
@@ -39,6 +39,7 @@ pub(crate) fn bear(
     ensures back { IfErr result (λ worn.
         IsHandle pool.now worn.handle × IsRegion pool.now seat.new worn.region) }
     ensures worn { IfErr result (λ worn. FoundWorn pool.now handle.place seat.old) }
+    ensures later { IfErr result (λ worn. IsLater pool.now seat.old seat.new) }
 {
     match pool.try_birth(seat, handle, region, capacity, watch) {
         Ok((_number, root)) => Ok(root),

@@ -7,7 +7,7 @@ ghost use Rattle.pool_law.specs.Limits.{cached_classes};
 ghost use Rattle.shared_pool.specs.RootNotes.{HoldsToken};
 ghost use Rattle.seat_work.specs.Hands.{empty_hand, IsHandle, IsRegion};
 ghost use Rattle.seat_work.specs.Changes.{no_change};
-ghost use Rattle.seat_work.specs.Works.{Works, Proceeds};
+ghost use Rattle.seat_work.specs.Works.{Works, Proceeds, IsLater};
 ghost use Rattle.seat_work.specs.Answers.{with_token, with_place, with_both, hand_with};
 
 use handle_bin::Handle;
@@ -58,7 +58,8 @@ pub(crate) fn put_away<W: Wait>(
     requires works { Works pool.now (with_both handle.place region.id) 3 0 seat.old }
     requires handle { IsHandle pool.now handle }
     requires region { IsRegion pool.now seat.old region }
-    ensures { Proceeds pool.now empty_hand 3 0 no_change seat.old seat.new }
+    ensures proceeds { Proceeds pool.now empty_hand 3 0 no_change seat.old seat.new }
+    ensures later { IsLater pool.now seat.old seat.new }
 {
     put_back(rt, pool, seat, &handle, region);
     put_handle(rt, pool, seat, handle);
@@ -75,7 +76,9 @@ fn put_back<W: Wait>(
 )
     requires works { Works pool.now (with_both handle.now.place region.id) 2 0 seat.old }
     requires region { IsRegion pool.now seat.old region }
-    ensures { Proceeds pool.now (with_place handle.now.place) 2 0 no_change seat.old seat.new }
+    ensures proceeds { Proceeds pool.now (with_place handle.now.place) 2 0 no_change
+        seat.old seat.new }
+    ensures later { IsLater pool.now seat.old seat.new }
 {
     if region.id.class >= CACHED_CLASSES {
         give_region(rt, pool, seat, handle, region);
@@ -101,6 +104,7 @@ fn put_region(
     ensures proceeds { Proceeds pool.now (hand_with handle.now.place result) 1 0 no_change
         seat.old seat.new }
     ensures region { IfSome result (IsRegion pool.now seat.new) }
+    ensures later { IsLater pool.now seat.old seat.new }
 {
     match pool.put_cached(seat, region) {
         Went::Did(_number, Put::Kept) => None,
@@ -120,7 +124,9 @@ fn give_region<W: Wait>(
 )
     requires works { Works pool.now (with_both handle.now.place own.id) 1 0 seat.old }
     requires region { IsRegion pool.now seat.old own }
-    ensures { Proceeds pool.now (with_place handle.now.place) 1 0 no_change seat.old seat.new }
+    ensures proceeds { Proceeds pool.now (with_place handle.now.place) 1 0 no_change
+        seat.old seat.new }
+    ensures later { IsLater pool.now seat.old seat.new }
 {
     let mut region = own;
     for _ in rt.forever() {
@@ -137,7 +143,8 @@ fn give_region<W: Wait>(
 pub(crate) fn put_handle<W: Wait>(rt: &W, pool: &SharedPool, seat: &mut PoolSeat, own: Handle)
     requires works { Works pool.now (with_place own.place) 1 0 seat.old }
     requires handle { IsHandle pool.now own }
-    ensures { Proceeds pool.now empty_hand 1 0 no_change seat.old seat.new }
+    ensures proceeds { Proceeds pool.now empty_hand 1 0 no_change seat.old seat.new }
+    ensures later { IsLater pool.now seat.old seat.new }
 {
     let mut handle = own;
     for _ in rt.forever() {

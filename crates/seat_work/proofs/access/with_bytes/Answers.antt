@@ -1,4 +1,4 @@
-use Rattle.std.proofs.Common.{◌≡◌, ℕ, List, length, sym, subst}
+use Rattle.std.proofs.Common.{sym, subst}
 use Rattle.std.specs.Fn.{FnOnceReturnsAt}
 use Rattle.pool_law.specs.declared.note.Did.{Did}
 use Rattle.pool_table.specs.declared.views.SeatView.{SeatView}

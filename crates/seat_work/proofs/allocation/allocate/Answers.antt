@@ -3,7 +3,7 @@ use Rattle.seat_work.specs.declared.allocation.AllocNo.TheVariants.{NoHandle}
 use Rattle.seat_work.specs.Answers.{with_place, allocated, refused}
 use Rattle.seat_work.specs.Hands.{empty_hand}
 use Rattle.seat_work.proofs.Proceeding.{proceeds_on, proceeds_more}
-use Rattle.seat_work.proofs.Worn.{still_worn}
+use Rattle.seat_work.proofs.Worn.{first_worn}
 use Rattle.seat_work.proofs.allocation.allocate.Goals as goal
 
 pub returns-in-Some-clause-proceeds : goal.returns-in-Some-clause-proceeds
@@ -15,7 +15,8 @@ returns-in-Some-clause-proceeds g c =
 
 pub returns-in-Some-clause-worn : goal.returns-in-Some-clause-worn
 returns-in-Some-clause-worn g c =
-    still_worn c.args.pool.now c.args.seat.now c.pop_handle.new.seat c.allocate_at.result c.allocate_at.ensures.worn
+    first_worn c.args.pool.now c.args.seat.now c.pop_handle.new.seat c.allocate_at.new.seat c.in-Some.handle.place
+    c.allocate_at.result c.in-Some.ensures.took c.allocate_at.ensures.worn
 
 pub returns-in-None-clause-proceeds : goal.returns-in-None-clause-proceeds
 returns-in-None-clause-proceeds g c =

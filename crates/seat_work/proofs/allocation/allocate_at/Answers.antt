@@ -27,11 +27,12 @@ returns-in-Some-clause-proceeds g c =
 
 pub returns-in-Some-clause-worn : goal.returns-in-Some-clause-worn
 returns-in-Some-clause-worn g c =
-    still_worn c.args.pool.now c.args.seat.now c.find_region.new.seat c.bear_or_return.result
-    c.bear_or_return.ensures.worn
+    still_worn c.args.pool.now c.args.seat.now c.find_region.new.seat c.bear_or_return.new.seat c.args.handle.place
+    c.bear_or_return.result c.in-Some.ensures.later c.bear_or_return.ensures.worn
 
 pub returns-in-None-clause-proceeds : goal.returns-in-None-clause-proceeds
 returns-in-None-clause-proceeds g c =
     proceeds_then c.args.pool.now (refused Full) (with_place c.args.handle.place) empty_hand 2 0 1 0 5 0
-    c.args.seat.now c.find_region.new.seat c.put_handle.new.seat c.in-None.ensures.proceeds c.put_handle.ensures
+    c.args.seat.now c.find_region.new.seat c.put_handle.new.seat c.in-None.ensures.proceeds
+    c.put_handle.ensures.proceeds
     (omega arith) (omega arith)

@@ -2,6 +2,7 @@ use Rattle.std.proofs.Common.{arith}
 use Rattle.seat_work.specs.Answers.{with_both}
 use Rattle.seat_work.specs.Changes.{no_change, once_more}
 use Rattle.seat_work.specs.Hands.{empty_hand}
+use Rattle.seat_work.proofs.Later.{later_none, later_on}
 use Rattle.seat_work.proofs.Proceeding.{proceeds_on, proceeds_more}
 use Rattle.seat_work.proofs.allocation.bear_or_return.Goals as goal
 
@@ -14,8 +15,17 @@ pub returns-in-Err-clause-proceeds : goal.returns-in-Err-clause-proceeds
 returns-in-Err-clause-proceeds g c =
     let worn = c.in-Err.worn in
     proceeds_on c.args.pool.now no_change (with_both worn.handle.place worn.region.id) empty_hand 0 0 3 0 3 0
-    c.args.seat.now c.bear.new.seat c.put_away.new.seat c.in-Err.ensures.kept c.put_away.ensures (omega arith)
-    (omega arith)
+    c.args.seat.now c.bear.new.seat c.put_away.new.seat c.in-Err.ensures.kept c.put_away.ensures.proceeds
+    (omega arith) (omega arith)
 
 pub returns-in-Err-clause-worn : goal.returns-in-Err-clause-worn
-returns-in-Err-clause-worn g c = (c.args.handle.place, c.args.seat.now, c.in-Err.ensures.worn)
+returns-in-Err-clause-worn g c =
+    let pool = c.args.pool.now in let mid = c.args.seat.now in let next = c.put_away in
+    record {
+      mid = mid;
+      before = later_none pool mid c.requires.works.seat;
+      region = c.args.region.id;
+      held = c.requires.works.held;
+      found = c.in-Err.ensures.worn;
+      after = later_on pool mid c.bear.new.seat next.new.seat c.in-Err.ensures.later next.ensures.later;
+    }

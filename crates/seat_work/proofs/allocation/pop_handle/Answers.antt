@@ -3,6 +3,7 @@ use Rattle.seat_work.specs.Hands.{empty_hand}
 use Rattle.shared_pool.specs.SeatLanes.{lane_of}
 use Rattle.seat_work.proofs.Calls.{some_handle, popped_handle}
 use Rattle.seat_work.proofs.Proceeding.{works_same, proceeds_same}
+use Rattle.seat_work.proofs.Worn.{took_handle}
 use Rattle.seat_work.proofs.allocation.pop_handle.Goals as goal
 
 pub returns-in-Did-clause-proceeds : goal.returns-in-Did-clause-proceeds
@@ -16,3 +17,9 @@ returns-in-Did-clause-proceeds g c =
 pub returns-in-Did-clause-handle : goal.returns-in-Did-clause-handle
 returns-in-Did-clause-handle g c =
     some_handle c.args.pool.now c.pop_handle.new.seat c.in-Did.handle (lane_of c.loop.seat) c.in-Did.ensures.handle
+
+pub returns-in-Did-clause-took : goal.returns-in-Did-clause-took
+returns-in-Did-clause-took g c =
+    let did = c.in-Did in let inv = c.loop.invariant in
+    took_handle c.args.pool.now c.args.seat.now c.loop.seat c.pop_handle.new.seat did.handle did._number inv.2
+    did.ensures.same inv.1 did.ensures.did

@@ -2,6 +2,7 @@ use Rattle.pool_law.specs.declared.note.Object.TheVariants.{Cache}
 use Rattle.shared_pool.specs.SeatLanes.{lane_of}
 use Rattle.seat_work.specs.Answers.{with_place}
 use Rattle.seat_work.proofs.Calls.{popped_region, marked}
+use Rattle.seat_work.proofs.Later.{later_noted, later_busy}
 use Rattle.seat_work.proofs.allocation.pop_region.Goals as goal
 
 pub returns-in-Did-clause-proceeds : goal.returns-in-Did-clause-proceeds
@@ -15,3 +16,15 @@ returns-in-Held-clause-proceeds c =
     let held = c.in-Held in let old = c.args.seat.now in
     marked c.args.pool.now old c.pop_cached.new.seat held.ensures.seat (with_place c.args.handle.now.place)
     (Cache (lane_of old) c.args.class) held._held c.requires.works held.ensures.held
+
+pub returns-in-Did-clause-later : goal.returns-in-Did-clause-later
+returns-in-Did-clause-later c =
+    let did = c.in-Did in
+    later_noted c.args.pool.now c.args.seat.now c.pop_cached.new.seat did.ensures.same c.requires.works.seat
+    did.ensures.seat did.ensures.did
+
+pub returns-in-Held-clause-later : goal.returns-in-Held-clause-later
+returns-in-Held-clause-later c =
+    let held = c.in-Held in let old = c.args.seat.now in
+    later_busy c.args.pool.now old c.pop_cached.new.seat held.ensures.same c.requires.works.seat held.ensures.seat
+    (Cache (lane_of old) c.args.class) held._held held.ensures.held

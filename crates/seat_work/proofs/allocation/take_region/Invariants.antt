@@ -1,7 +1,8 @@
 use Rattle.std.proofs.Common.{◌≡◌}
-use Rattle.pool_table.specs.Seats.{view_of}
+use Rattle.pool_table.specs.Seats.{view_of, SameSeat}
 use Rattle.shared_pool.specs.Seats.{IsPoolSeat}
 use Rattle.seat_work.proofs.allocation.take_region.Given as goal
 
 abbrev pub invariant-loop : goal.invariant-loop
-invariant-loop g l = IsPoolSeat l.pool l.seat × (view_of l.seat ≡ view_of l.initial.seat)
+invariant-loop g l =
+    IsPoolSeat l.pool l.seat × (view_of l.seat ≡ view_of l.initial.seat) × SameSeat l.initial.seat l.seat

@@ -5,6 +5,7 @@ use Rattle.seat_work.specs.Works.{Works}
 use Rattle.seat_work.specs.Answers.{with_both}
 use Rattle.seat_work.proofs.Calls.{born_root}
 use Rattle.seat_work.proofs.Holds.{holds_handle, holds_region}
+use Rattle.seat_work.proofs.Later.{later_has}
 use Rattle.seat_work.proofs.Proceeding.{proceeds_none}
 use Rattle.seat_work.proofs.birth.bear.Goals as goal
 
@@ -33,3 +34,8 @@ returns-in-Err-clause-kept c =
     c.requires.works) in
     proceeds_none pool (with_both worn.handle.place worn.region.id) 1 0 0 0 old c.try_birth.new.seat works kept.seat
     kept.back.2
+
+pub returns-in-Err-clause-later : goal.returns-in-Err-clause-later
+returns-in-Err-clause-later c =
+    let kept = c.in-Err.ensures {u = tt} in
+    later_has c.args.pool.now c.args.seat.now c.try_birth.new.seat kept.same c.requires.works.seat kept.seat kept.back.2

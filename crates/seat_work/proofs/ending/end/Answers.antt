@@ -9,5 +9,5 @@ pub returns : goal.returns
 returns g c =
     let out = c.retire-handle.result in
     proceeds_on c.args.pool.now no_change (with_both out.0.place out.1.id) empty_hand 1 0 3 0 4 0 c.args.seat.now
-    c.retire-handle.new.seat c.put_away.new.seat c.retire-handle.ensures.proceeds c.put_away.ensures (omega arith)
-    (omega arith)
+    c.retire-handle.new.seat c.put_away.new.seat c.retire-handle.ensures.proceeds c.put_away.ensures.proceeds
+    (omega arith) (omega arith)

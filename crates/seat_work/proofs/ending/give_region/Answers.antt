@@ -6,6 +6,7 @@ use Rattle.seat_work.specs.Changes.{no_change}
 use Rattle.seat_work.specs.Works.{Works}
 use Rattle.seat_work.proofs.Calls.{gave_region}
 use Rattle.seat_work.proofs.Holds.{holds_region, region_stays}
+use Rattle.seat_work.proofs.Later.{later_same, later_noted}
 use Rattle.seat_work.proofs.Proceeding.{works_same, proceeds_same}
 use Rattle.seat_work.proofs.ending.give_region.Goals as goal
 
@@ -18,8 +19,8 @@ give-requires-clause-region g c =
     (holds_region pool mid hand own works.held
     (region_stays pool old mid own (λ i. (inv.1 i).setting) c.requires.region))
 
-pub returns-in-Did : goal.returns-in-Did
-returns-in-Did g c =
+pub returns-in-Did-clause-proceeds : goal.returns-in-Did-clause-proceeds
+returns-in-Did-clause-proceeds g c =
     let pool = c.args.pool.now in let old = c.args.seat.now in let mid = c.loop.seat in let did = c.in-Did in
     let new = c.give.new.seat in let inv = c.loop.invariant in let own = c.args.own in
     let place = c.args.handle.now.place in
@@ -27,3 +28,10 @@ returns-in-Did g c =
     proceeds_same pool no_change (with_place place) 1 0 old mid new inv.1
     (gave_region pool mid new did.ensures.seat did._number place c.loop.region
     (subst (λ (r : Region). Works pool (with_both place r.id) 1 0 mid) (sym inv.2) works) did.ensures.did)
+
+pub returns-in-Did-clause-later : goal.returns-in-Did-clause-later
+returns-in-Did-clause-later g c =
+    let pool = c.args.pool.now in let mid = c.loop.seat in let new = c.give.new.seat in let did = c.in-Did in
+    let inv = c.loop.invariant in
+    later_same pool c.args.seat.now mid new inv.3 inv.1
+    (later_noted pool mid new did.ensures.same inv.0 did.ensures.seat did.ensures.did)

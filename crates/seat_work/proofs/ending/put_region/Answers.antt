@@ -10,6 +10,7 @@ use Rattle.seat_work.specs.Changes.{no_change}
 use Rattle.seat_work.specs.Works.{Proceeds}
 use Rattle.seat_work.proofs.Calls.{kept_region, back_region, marked}
 use Rattle.seat_work.proofs.Holds.{holds_region}
+use Rattle.seat_work.proofs.Later.{later_noted, later_busy}
 use Rattle.seat_work.proofs.ending.put_region.Goals as goal
 
 pub put_cached-requires-clause-region : goal.put_cached-requires-clause-region
@@ -46,3 +47,21 @@ returns-in-Held-clause-proceeds c =
     subst (λ (r : Region). Proceeds pool (with_both place r.id) 1 0 no_change old new) (sym held.ensures.held.0)
     (marked pool old new held.ensures.seat (with_both place region.id) (Cache region.id.owner region.id.class)
     held._held c.requires.works held.ensures.held.1)
+
+pub returns-in-Did-default-Kept-clause-later : goal.returns-in-Did-default-Kept-clause-later
+returns-in-Did-default-Kept-clause-later c =
+    let did = c.in-Did-default-Kept in
+    later_noted c.args.pool.now c.args.seat.now c.put_cached.new.seat did.ensures.same c.requires.works.seat
+    did.ensures.seat did.ensures.did
+
+pub returns-in-Did-default-Back-clause-later : goal.returns-in-Did-default-Back-clause-later
+returns-in-Did-default-Back-clause-later c =
+    let did = c.in-Did-default-Back in
+    later_noted c.args.pool.now c.args.seat.now c.put_cached.new.seat did.ensures.same c.requires.works.seat
+    did.ensures.seat did.ensures.did
+
+pub returns-in-Held-clause-later : goal.returns-in-Held-clause-later
+returns-in-Held-clause-later c =
+    let held = c.in-Held in let id = c.args.region.id in
+    later_busy c.args.pool.now c.args.seat.now c.put_cached.new.seat held.ensures.same c.requires.works.seat
+    held.ensures.seat (Cache id.owner id.class) held._held held.ensures.held.1
