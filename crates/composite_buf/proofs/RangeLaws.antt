@@ -35,7 +35,7 @@ byte_at-filled (p ∷ ps) i = go (p.len == 0) refl (byte_at-filled ps i) (byte_a
         ap (λ (qs : List Part). byte_at qs i) (filled-other p ps is)
         ∙ ap (λ (o : Option (RootId × ℕ)). if nat_lt i p.len then byte_of p i else o) later
 
-size_of-filled : (ps : List Part) → size_of (filled ps) ≡ size_of ps
+pub size_of-filled : (ps : List Part) → size_of (filled ps) ≡ size_of ps
 size_of-filled [] = refl
 size_of-filled (p ∷ ps) = go (p.len == 0) refl (size_of-filled ps)
   where

@@ -13,13 +13,12 @@ use Rattle.pool_law.specs.declared.run.Shape.{Shape}
 use Rattle.pool_law.specs.Naming.{noted_by}
 use Rattle.pool_law.specs.Logs.{Entry as LawEntry}
 use Rattle.pool_law.proofs.CompositeLemmas.{same_bytes-refl}
-use Rattle.pool_law.specs.Arenas.{or_else}
 use Rattle.pool_law.specs.Dids as says
 use Rattle.pool_law.specs.LaneLaw.{sweep_period, before_stop}
 use Rattle.pool_law.specs.LaneStates.{LaneState}
 use Rattle.pool_law.specs.Lanes.{Answer, answer, answer_of}
-use Rattle.pool_law.specs.Names.{Names}
-use Rattle.pool_law.specs.Readers.{Log, Reader, ◌>>=◌, ◌>>◌, give, given, busy, access as accesses}
+use Rattle.pool_law.specs.Names.{Names, Bound, Plain}
+use Rattle.pool_law.specs.Readers.{Reader, ◌>>=◌, ◌>>◌, give, given, busy, access as accesses}
 use Rattle.pool_law.proofs.SameLemmas.{same_root-is}
 use Rattle.pool_law.proofs.PatternLemmas.{same_number, same_root-refl}
 use Rattle.leak_records.specs.Records.{Sampling}
@@ -51,6 +50,7 @@ use Rattle.seat_work.proofs.Grown.{Grows, grows_noted, grows_busy}
 use Rattle.seat_work.proofs.HandLaws.{Carries, held_on}
 use Rattle.seat_work.proofs.HandNotes.{marked_busy}
 use Rattle.lane_core.proofs.EntryCounts.{Recounts, IsStill, still}
+use Rattle.lane_core.proofs.NameLaws.{RebindsAt, rebound_same}
 use Rattle.lane_core.proofs.ReadLaws.{given_on, first_on, second_on, none_then, access_on, mark_on, note_unmarked}
 use Rattle.lane_core.proofs.StateReads.{used_view, viewed, goes}
 use Rattle.lane_core.proofs.DeskLaws.{Advances}
@@ -135,15 +135,16 @@ module _ (pool : SharedPool) (old start mid new : Desk) (d : IsDesk pool empty_h
         (still old.counts (entry_of e) is.is_still
         (λ root uses. subst (λ (q : RootId). 0 < counted old.counts q) (same_root-is r root uses) lt))
 
-    pub access_turn : (names : List (Option ViewData)) (reply : Reply) → before_stop (reply ∷ []) ≡ 1
-        → HasReplied (record mid { names = names }) new reply → length names ≡ length old.names →
-        (s : LaneState) (command : Command) (bound : Names) → NamesAre bound names → 1 ≤ (left_for command).notes →
+    pub access_turn : (names : List (Option Bound)) (reply : Reply) → before_stop (reply ∷ []) ≡ 1
+        → HasReplied (record mid { names = names }) new reply → RebindsAt 1 old names →
+        (s : LaneState) (command : Command) (bound : Names) → NamesAre bound names → 1 ≤
+        (left_for old.composes command).notes →
         ReadsOn (answer_of old.shape (lane_of old.seat) s command) (entry_of e ∷ []) none_asked
         (give (answer reply bound)) → HasTurned pool old new s command Ready (Went Ready)
-    access_turn names reply unstopped replied name_count s command bound are notes reads =
+    access_turn names reply unstopped replied rebound s command bound are notes reads =
         one_turn pool old start mid new d low (as_start old start start_is) asked_are e 0 access_advances noted names
         reply unstopped replied access_counts (ap (λ (cs : List Counted). length cs) counts_are)
-        (subst (AreSampled old.sampler (e ∷ [])) (sym samplers_are) (is.sampled old.sampler)) name_count s command bound
+        (subst (AreSampled old.sampler (e ∷ [])) (sym samplers_are) (is.sampled old.sampler)) rebound s command bound
         are notes
         (let a = is.none_taken in omega (arith, a)) (omega arith)
         (λ to. (let a = is.none_sent (lane_in (view_of old.seat)) to in omega (arith, a))) reads
@@ -176,7 +177,7 @@ module _ (pool : SharedPool) (old start mid new : Desk) (d : IsDesk pool empty_h
         (λ root uses. absurd (cc uses)))
 
     pub busy_turn : HasReplied mid new (Reply.Busy held.number) → (s : LaneState) (command : Command)
-        → NamesAre s.names old.names → 1 ≤ (left_for command).notes →
+        → NamesAre s.names old.names → 1 ≤ (left_for old.composes command).notes →
         ReadsOn (answer_of old.shape (lane_of old.seat) s command) (entry_of (Busy held) ∷ []) none_asked
         (give (answer (Reply.Busy held.number) s.names)) → HasTurned pool old new s command Ready (Went Ready)
     busy_turn replied s command are notes reads =
@@ -194,9 +195,9 @@ on_access r says_so number lane did a so =
     access_on (entry_of (access_entry r number lane did)) r says_so number did refl (same_root-refl r) a so
 
 pub touch_turn : (pool : SharedPool) (name : ℕ) (old start mid new : Desk)
-    → MayTurn pool (left_for (Command.Touch name)) old → start ≡ record old { seat = start.seat }
+    → MayTurn pool (left_for old.composes (Command.Touch name)) old → start ≡ record old { seat = start.seat }
     → SameSeat old.seat start.seat → IsPoolSeat pool start.seat →
-    (v : ViewData) → bound_at old.names name ≡ Some v → 0 < counted old.counts v.root → (number : ℕ)
+    (v : ViewData) → bound_at old.names name ≡ Some (Plain v) → 0 < counted old.counts v.root → (number : ℕ)
     → IsNoted pool old.seat start.seat (Root v.root.place) number (access v.root Did.Touch) →
     HasNoted start mid (Note.At (Root v.root.place) number Did.Touch ∷ []) → HasReplied mid new Reply.Ok
     → (s : LaneState) → IsState s old.names old.counts
@@ -209,7 +210,7 @@ touch_turn pool name old start mid new may start_is same seat v bound lt number 
     let names_are : mid.names ≡ old.names = access_names pool old start mid new may.desk may.asked start_is same seat
     v.root lt number Did.Touch is made noted in
     access_turn pool old start mid new may.desk may.asked start_is same seat v.root lt number Did.Touch is made noted
-    mid.names Reply.Ok refl replied (ap (λ (names : List (Option ViewData)). length names) names_are) s
+    mid.names Reply.Ok refl replied (rebound_same 1 old.names mid.names names_are) s
     (Command.Touch name) s.names
     (subst (NamesAre s.names) (sym names_are) state.names_are) (omega arith)
     (λ log.

@@ -1,30 +1,28 @@
 -- The turns of a command that begins an allocation, and what an allocation asks of the desk's counts.
-use Rattle.std.proofs.Common.{◌≡◌, ℕ, ◌*◌, ◌<◌, List, [], ◌∷◌, ◌++◌, Bool, length, map, refl, sym, ap, ◌∙◌, subst, arith, Option, Some, None}
+use Rattle.std.proofs.Common.{◌≡◌, ℕ, ◌*◌, ◌<◌, List, [], ◌∷◌, Bool, length, refl, sym, ap, ◌∙◌, subst, arith, Option, Some, None}
 use Rattle.std.specs.Prelude.{if◌then◌else◌, is_none, option_and_then, vec_capacity}
 use Rattle.std.proofs.lemmas.List.{length-map}
 use Rattle.size_classes.specs.Sizes.{class_of}
 use Rattle.pool_law.specs.declared.command.Command.{Command}
 use Rattle.pool_law.specs.declared.id.RegionId.{RegionId}
 use Rattle.pool_law.specs.declared.id.RootId.{RootId}
-use Rattle.pool_law.specs.declared.id.ViewData.{ViewData}
 use Rattle.pool_law.specs.declared.run.Reply.{Reply}
 use Rattle.pool_law.specs.Limits.{geometry_of}
 use Rattle.pool_law.specs.LaneStates.{LaneState}
-use Rattle.pool_law.specs.Lanes.{Answer}
-use Rattle.pool_law.specs.Names.{Names}
-use Rattle.pool_law.specs.Readers.{Entries, Log, Reader}
+use Rattle.pool_law.specs.Names.{Bound}
+use Rattle.pool_law.specs.Readers.{Log}
 use Rattle.pool_law.specs.Refusals.{first_refusal, refusals, taken, too_large as too_large_for}
 use Rattle.pool_law.proofs.PatternLemmas.{same_root-refl}
-use Rattle.pool_table.specs.declared.views.Entry.{Entry}
+use Rattle.lane_core.proofs.NameLaws.{rebound_same}
 use Rattle.pool_table.specs.Seats.{view_of}
 use Rattle.shared_pool.specs.declared.pool.SharedPool.{SharedPool}
 use Rattle.shared_pool.specs.Closing.{entry_of}
 use Rattle.shared_pool.specs.SeatLanes.{lane_of}
 use Rattle.lane_core.specs.declared.counts.Counted.{Counted}
 use Rattle.lane_core.specs.declared.desk.Desk.{Desk}
-use Rattle.lane_core.specs.declared.desk.Stage.TheVariants.{Ready, Allotting, Ending, Sweeping, Closing}
+use Rattle.lane_core.specs.declared.desk.Stage.TheVariants.{Ready, Allotting}
 use Rattle.lane_core.specs.declared.desk.Turn.{Turn}
-use Rattle.lane_core.specs.declared.desk.Turn.TheVariants.{Went, Pending, Waiting}
+use Rattle.lane_core.specs.declared.desk.Turn.TheVariants.{Went}
 use Rattle.lane_core.specs.declared.access.Refusal.TheVariants.{Taken}
 use Rattle.lane_core.specs.declared.allotment.Allotting.{Allotting as AllotStage}
 use Rattle.lane_core.specs.declared.allotment.Allotting.TheVariants.{Handle as AskHandle}
@@ -36,14 +34,18 @@ use Rattle.seat_work.specs.Changes.{one_for}
 use Rattle.lane_core.specs.Counting.{counted}
 use Rattle.seat_work.specs.Hands.{empty_hand}
 use Rattle.lane_core.specs.Named.{bound_at}
-use Rattle.lane_core.specs.Readings.{swept, renamed}
-use Rattle.lane_core.specs.Desks.{IsDesk, notes_of, entries_of, log_of, reads_from, left_for, HasRoomFor, GoesOn, HasTurned}
+use Rattle.lane_core.specs.Readings.{swept}
+use Rattle.lane_core.specs.Desks.{IsDesk, notes_of, entries_of, reads_from, left_for, HasRoomFor, HasTurned}
 use Rattle.lane_core.specs.DeskSteps.{HasReplied, CanAnswer, MayTurn}
+use Rattle.lane_core.proofs.BeginTurns as begin
+use Rattle.lane_core.proofs.BeginTurns.{within_same, within_sheds}
 use Rattle.lane_core.proofs.EntryCounts.{few_counted, alone_added}
 use Rattle.lane_core.proofs.StateReads.{passed, comes_first, is_free, is_taken, goes, refuses}
 use Rattle.lane_core.proofs.Turning.{noteless, refused_turn}
-use Rattle.lane_core.proofs.DeskLaws.{noted_so}
-use Rattle.lane_core.proofs.StageTurns.{Staged, allotted, answers_behind, staged_counts, staged_names}
+use Rattle.lane_core.proofs.DeskGrown.{noted_so}
+use Rattle.lane_core.proofs.StageTurns.{Staged, staged_counts, staged_names}
+use Rattle.lane_core.proofs.AllotTurns.{allotted}
+use Rattle.lane_core.proofs.StageNeeds.{answers_behind}
 
 -- a step of an allocation, and the desk behind it
 module _ (pool : SharedPool) (old mid : Desk) (name size class : ℕ) (stage : AllotStage)
@@ -91,7 +93,7 @@ module _ (pool : SharedPool) (old mid : Desk) (name size class : ℕ) (stage : A
         let places : length mid.counts ≡ pool.table.layout.shape.lanes * pool.table.layout.shape.handles =
         ap (λ (cs : List Counted). length cs) counts_kept ∙ d.places
         ∙ (λ i. (d.shape i).lanes * (d.shape i).handles) in
-        subst (λ (n : ℕ). root.place < n) (sym places) did.place
+        subst (λ (n : ℕ). root.place < n) (sym places) did.place.0
 
     -- of the place no other root is counted
     pub new_alone : (other : RootId) → other.place ≡ root.place → 0 < counted mid.counts other → other ≡ root
@@ -111,7 +113,7 @@ module _ (pool : SharedPool) (old mid : Desk) (name size class : ℕ) (stage : A
 
     pub new_name : name < length old.names → name < length mid.names
     new_name lt =
-        subst (λ (names : List (Option ViewData)). name < length names)
+        subst (λ (names : List (Option Bound)). name < length names)
         (sym (staged_names pool (allotment.hand_of stage) empty_hand old born_start mid did.wrote.added
         (one_for root) new_staged)) lt
 
@@ -121,13 +123,13 @@ module _ (pool : SharedPool) (old new : Desk) (name size : ℕ) (s : LaneState) 
     command = Command.Alloc name size
 
     -- the name is bound
-    pub taken_turn : MayTurn pool (left_for command) old → (v : ViewData) → bound_at old.names name ≡ Some v
+    pub taken_turn : MayTurn pool (left_for old.composes command) old → (b : Bound) → bound_at old.names name ≡ Some b
         → HasReplied old new Reply.Taken → HasTurned pool old new s command Ready (Went Ready)
-    taken_turn may v bound replied =
-        refused_turn pool (left_for command) old new may Taken replied s command state.names_are
+    taken_turn may b bound replied =
+        refused_turn pool (left_for old.composes command) old new may Taken replied s command state.names_are
         (refuses s old.names old.counts state old.shape (lane_of old.seat) command Reply.Taken
         (comes_first (taken s name) (too_large_for old.shape size ∷ [])
-        (is_taken s old.names old.counts state name v bound)))
+        (is_taken s old.names old.counts state name b bound)))
 
     module _ (none : bound_at old.names name ≡ None) where
       free_first : (class : Option ℕ) → class_of (geometry_of old.shape) size ≡ class
@@ -137,10 +139,11 @@ module _ (pool : SharedPool) (old new : Desk) (name size : ℕ) (s : LaneState) 
           ∙ ap (λ (o : Option ℕ). if is_none o then Some Reply.TooLarge else None) is
 
       -- no class holds the size
-      pub too_large : MayTurn pool (left_for command) old → class_of (geometry_of old.shape) size ≡ None
+      pub too_large : MayTurn pool (left_for old.composes command) old → class_of (geometry_of old.shape) size ≡ None
           → HasReplied old new Reply.TooLarge → HasTurned pool old new s command Ready (Went Ready)
       too_large may is replied =
-          noteless pool old new may.desk may.asked old.names Reply.TooLarge refl replied refl s command s.names
+          noteless pool old new may.desk may.asked old.names Reply.TooLarge refl replied
+          (rebound_same 1 old.names old.names refl) s command s.names
           state.names_are
           (refuses s old.names old.counts state old.shape (lane_of old.seat) command Reply.TooLarge
           (free_first None is))
@@ -153,119 +156,9 @@ module _ (pool : SharedPool) (old new : Desk) (name size : ℕ) (s : LaneState) 
             ap (λ o. option_and_then (λ got. swept (lane_of old.seat) got.0 got.1) o)
             (goes s old.names old.counts state old.shape (lane_of old.seat) command (free_first (Some class) is) log)
 
-        -- it goes on as it is read then
-        begun_on : (added : List Entry) (before : Names → Reader Answer)
-            → GoesOn old new added (reads_from old.shape (lane_of old.seat) s command
-            (Allotting name size class AskHandle)) before
-            → GoesOn old new added (reads_from old.shape (lane_of old.seat) s command Ready) before
-        begun_on added before t =
-            record {
-              some = t.some;
-              replies = t.replies;
-              begun = t.begun;
-              bound = t.bound;
-              names = t.names;
-              reads =
-                  λ rest. begun_reads (log_of old (map entry_of added ++ rest)) ∙ t.reads rest;
-            }
-
         pub begun_turn : (turn : Turn) → HasTurned pool old new s command (Allotting name size class AskHandle) turn
             → HasTurned pool old new s command Ready turn
-        begun_turn (Went Ready) t = record {
-          added = t.added;
-          grew = t.grew;
-          fits = t.fits;
-          name = t.name;
-          spends = t.spends;
-          comes = record {
-            answered = t.comes.answered;
-            replies = t.comes.replies;
-            unstopped = t.comes.unstopped;
-            notes = t.comes.notes;
-            begun = t.comes.begun;
-            bound = t.comes.bound;
-            names = t.comes.names;
-            reads = λ rest. begun_reads (log_of old (map entry_of t.added ++ rest)) ∙ t.comes.reads rest;
-          };
-          waits = tt;
-          held = tt;
-        }
-        begun_turn (Went (Allotting other more at next)) t =
-            record {
-              added = t.added;
-              grew = t.grew;
-              fits = t.fits;
-              name = t.name;
-              spends = t.spends;
-              comes =
-                  begun_on t.added (λ names. reads_from old.shape (lane_of old.seat) (renamed s names) command
-                  (Allotting other more at next)) t.comes;
-              waits = tt;
-              held = tt;
-            }
-        begun_turn (Went (Ending next)) t =
-            record {
-              added = t.added;
-              grew = t.grew;
-              fits = t.fits;
-              name = t.name;
-              spends = t.spends;
-              comes =
-                  begun_on t.added (λ names. reads_from old.shape (lane_of old.seat) (renamed s names) command
-                  (Ending next)) t.comes;
-              waits = tt;
-              held = tt;
-            }
-        begun_turn (Went (Sweeping reply next)) t =
-            record {
-              added = t.added;
-              grew = t.grew;
-              fits = t.fits;
-              name = t.name;
-              spends = t.spends;
-              comes =
-                  begun_on t.added (λ names. reads_from old.shape (lane_of old.seat) (renamed s names) command
-                  (Sweeping reply next)) t.comes;
-              waits = tt;
-              held = tt;
-            }
-        begun_turn (Went (Closing next)) t = absurd t.comes
-        begun_turn (Pending held Ready) t = absurd (cc t.comes.0)
-        begun_turn (Pending held (Allotting other more at next)) t =
-            record {
-              added = t.added;
-              grew = t.grew;
-              fits = t.fits;
-              name = t.name;
-              spends = t.spends;
-              comes =
-                  (λ log. begun_reads log ∙ t.comes.0 log, t.comes.1);
-              waits = tt;
-              held = t.held;
-            }
-        begun_turn (Pending held (Ending next)) t =
-            record {
-              added = t.added;
-              grew = t.grew;
-              fits = t.fits;
-              name = t.name;
-              spends = t.spends;
-              comes =
-                  (λ log. begun_reads log ∙ t.comes.0 log, t.comes.1);
-              waits = tt;
-              held = t.held;
-            }
-        begun_turn (Pending held (Sweeping reply next)) t =
-            record {
-              added = t.added;
-              grew = t.grew;
-              fits = t.fits;
-              name = t.name;
-              spends = t.spends;
-              comes =
-                  (λ log. begun_reads log ∙ t.comes.0 log, t.comes.1);
-              waits = tt;
-              held = t.held;
-            }
-        begun_turn (Pending held (Closing next)) t = absurd t.comes
-        begun_turn (Waiting sender) t = absurd (cc t.comes.0)
+        begun_turn =
+            begin.begun_turn pool old new s command (Allotting name size class AskHandle) tt begun_reads
+            (within_sheds (view_of old.seat) (allotment.left_of AskHandle) (left_for old.composes command)
+            (within_same (left_for old.composes command)))

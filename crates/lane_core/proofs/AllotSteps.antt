@@ -390,7 +390,7 @@ module _ {G : Ghosts HomeValue Noted} (pool : SharedPool) (old new : PoolSeat Ho
         counts =
             born_added (entry_of e) root (record
             { gains = λ q. refl; loses = λ q. refl; needs = λ q. refl; ends = λ q. refl }) refl;
-        place = subst (λ (p : ℕ). p < shape.lanes * shape.handles) (sym at) may.fits.0.place;
+        place = (subst (λ (p : ℕ). p < shape.lanes * shape.handles) (sym at) may.fits.0.place, long);
         spends =
             spends v w es 1 grows (left_of (Birth h r))
             (left_after (NewRoot root (record r.id { uses = r.id.uses + 1 }))) (omega arith) (omega arith)

@@ -3,7 +3,6 @@ use Rattle.std.proofs.Common.{◌≡◌, ℕ, ◌<◌, ◌≤◌, List, [], ◌�
 use Rattle.std.specs.Prelude.{slice_set}
 use Rattle.pool_law.specs.declared.command.Command.{Command}
 use Rattle.pool_law.specs.declared.id.RootId.{RootId}
-use Rattle.pool_law.specs.declared.id.ViewData.{ViewData}
 use Rattle.pool_law.specs.declared.note.Did.{Did}
 use Rattle.pool_law.specs.declared.note.Held.{Held}
 use Rattle.pool_law.specs.declared.note.Note.{Note}
@@ -12,9 +11,9 @@ use Rattle.pool_law.specs.declared.run.Reply.{Reply}
 use Rattle.pool_law.specs.LaneLaw.{sweep_period, before_stop}
 use Rattle.pool_law.specs.LaneStates.{LaneState}
 use Rattle.pool_law.specs.Lanes.{Answer, answer, answer_of}
-use Rattle.pool_law.specs.Names.{Names}
+use Rattle.pool_law.specs.Names.{Names, Bound, Plain}
 use Rattle.pool_law.specs.Readers.{Log, Reader, give}
-use Rattle.pool_law.proofs.ListLemmas.{slice_set-length}
+use Rattle.lane_core.proofs.NameLaws.{rebound_view}
 use Rattle.pool_table.specs.declared.views.Entry.TheVariants.{Busy}
 use Rattle.pool_table.specs.Seats.{view_of, SameSeat}
 use Rattle.shared_pool.specs.declared.pool.SharedPool.{SharedPool}
@@ -35,21 +34,22 @@ use Rattle.seat_work.specs.Hands.{empty_hand}
 use Rattle.lane_core.specs.Named.{NamesAre}
 use Rattle.lane_core.specs.Desks.{IsDesk, left_for, HasTurned}
 use Rattle.lane_core.specs.DeskSteps.{HasNoted, HasReplied, FindsBusy, AccessTurns}
-use Rattle.lane_core.proofs.DeskLaws.{waits_turn}
+use Rattle.lane_core.proofs.DeskWaits.{waits_turn}
 use Rattle.lane_core.proofs.AccessTurns.{IsAccessDid, set_is, get_is, access_entry, access_turn, access_names, busy_turn, read_set, read_get, read_busy}
 
 -- the access of a reach to its root is noted, and its name is bound to what is behind it
 module _ (pool : SharedPool) (old start mid new : Desk) (d : IsDesk pool empty_hand old)
     (low : old.asked < sweep_period) (start_is : start ≡ record old { seat = start.seat })
     (same : SameSeat old.seat start.seat) (seat : IsPoolSeat pool start.seat) (reach : Reach)
-    (lt : 0 < counted old.counts reach.root)
+    (lt : 0 < counted old.counts reach.root) (in_names : reach.name < length old.names)
     (number : ℕ) (did : Did) (is : IsAccessDid reach.root number (view_of old.seat).own.number did)
     (made : IsNoted pool old.seat start.seat (Root reach.root.place) number (access reach.root did))
     (noted : HasNoted start mid (Note.At (Root reach.root.place) number did ∷ [])) where
   reached_turn : (reply : Reply) → before_stop (reply ∷ []) ≡ 1
-      → HasReplied (record mid { names = slice_set mid.names reach.name (Some reach.after.at) }) new reply →
+      → HasReplied (record mid { names = slice_set mid.names reach.name (Some (Plain reach.after.at)) }) new reply →
       (s : LaneState) (command : Command) (bound : Names)
-      → NamesAre bound (slice_set old.names reach.name (Some reach.after.at)) → 1 ≤ (left_for command).notes →
+      → NamesAre bound (slice_set old.names reach.name (Some (Plain reach.after.at))) → 1 ≤
+      (left_for old.composes command).notes →
       ReadsOn (answer_of old.shape (lane_of old.seat) s command)
       (entry_of (access_entry reach.root number (view_of old.seat).own.number did) ∷ []) none_asked
       (give (answer reply bound)) → HasTurned pool old new s command Ready (Went Ready)
@@ -57,28 +57,29 @@ module _ (pool : SharedPool) (old start mid new : Desk) (d : IsDesk pool empty_h
       let names_are : mid.names ≡ old.names = access_names pool old start mid new d low start_is same seat reach.root lt
       number did is made noted in
       access_turn pool old start mid new d low start_is same seat reach.root lt number did is made noted
-      (slice_set mid.names reach.name (Some reach.after.at)) reply unstopped replied
-      (slice_set-length mid.names reach.name (Some reach.after.at)
-      ∙ ap (λ (names : List (Option ViewData)). length names) names_are) s command bound
-      (subst (λ (names : List (Option ViewData)). NamesAre bound (slice_set names reach.name (Some reach.after.at)))
+      (slice_set mid.names reach.name (Some (Plain reach.after.at))) reply unstopped replied
+      (rebound_view 1 old.names mid.names names_are reach.name in_names reach.after.at) s command bound
+      (subst (λ (names : List (Option Bound)). NamesAre bound (slice_set names reach.name (Some
+      (Plain reach.after.at))))
       (sym names_are) are) notes reads
 
 module _ (pool : SharedPool) (old start mid new : Desk) (d : IsDesk pool empty_hand old)
     (low : old.asked < sweep_period) (start_is : start ≡ record old { seat = start.seat })
     (same : SameSeat old.seat start.seat) (seat : IsPoolSeat pool start.seat) (reach : Reach)
-    (lt : 0 < counted old.counts reach.root) (number : ℕ) where
+    (lt : 0 < counted old.counts reach.root) (in_names : reach.name < length old.names) (number : ℕ) where
   -- bytes were set
   pub set_turn : (bytes : Vec ℕ Global) → IsNoted pool old.seat start.seat (Root reach.root.place) number
       (access reach.root (Did.Set reach.offset bytes.items))
       → HasNoted start mid (Note.At (Root reach.root.place) number (Did.Set reach.offset bytes.items) ∷ []) →
-      HasReplied (record mid { names = slice_set mid.names reach.name (Some reach.after.at) }) new Reply.Ok
+      HasReplied (record mid { names = slice_set mid.names reach.name (Some (Plain reach.after.at)) }) new Reply.Ok
       → AccessTurns pool old new (Set reach bytes) (Went Ready)
   set_turn bytes made noted replied = λ s command state prepared.
       let lane : Option ℕ = (view_of old.seat).own.number in let bound = prepared.bound in
       let e = entry_of (access_entry reach.root number lane (Did.Set reach.offset bytes.items)) in
-      reached_turn pool old start mid new d low start_is same seat reach lt number (Did.Set reach.offset bytes.items)
+      reached_turn pool old start mid new d low start_is same seat reach lt in_names number
+      (Did.Set reach.offset bytes.items)
       (set_is reach.root number lane reach.offset bytes.items) made noted Reply.Ok refl replied s command bound
-      prepared.names_are prepared.noted
+      prepared.names_are (prepared.noted old.composes)
       (λ log. prepared.read old.shape (lane_of old.seat) (before_left log (e ∷ []))
       ∙ read_set s bound reach number lane bytes.items log)
 
@@ -86,14 +87,15 @@ module _ (pool : SharedPool) (old start mid new : Desk) (d : IsDesk pool empty_h
   pub get_turn : (note reply : Vec ℕ Global) (bytes : List ℕ) → length bytes ≡ length note.items
       → IsNoted pool old.seat start.seat (Root reach.root.place) number (access reach.root (Did.Get reach.offset bytes))
       → HasNoted start mid (Note.At (Root reach.root.place) number (Did.Get reach.offset bytes) ∷ []) →
-      HasReplied (record mid { names = slice_set mid.names reach.name (Some reach.after.at) }) new (Reply.OkBytes bytes)
+      HasReplied (record mid { names = slice_set mid.names reach.name (Some (Plain reach.after.at)) }) new
+      (Reply.OkBytes bytes)
       → AccessTurns pool old new (Get reach note reply) (Went Ready)
   get_turn note reply bytes len made noted replied = λ s command state prepared.
       let lane : Option ℕ = (view_of old.seat).own.number in let bound = prepared.bound in
       let e = entry_of (access_entry reach.root number lane (Did.Get reach.offset bytes)) in
-      reached_turn pool old start mid new d low start_is same seat reach lt number (Did.Get reach.offset bytes)
+      reached_turn pool old start mid new d low start_is same seat reach lt in_names number (Did.Get reach.offset bytes)
       (get_is reach.root number lane reach.offset bytes) made noted (Reply.OkBytes bytes) refl replied s command
-      bound prepared.names_are prepared.noted
+      bound prepared.names_are (prepared.noted old.composes)
       (λ log. prepared.read old.shape (lane_of old.seat) (before_left log (e ∷ []))
       ∙ read_get s bound reach number lane bytes (length note.items) len log)
 
@@ -103,7 +105,7 @@ module _ (pool : SharedPool) (old start new : Desk) (d : IsDesk pool empty_hand 
     (seat : IsPoolSeat pool start.seat) (reach : Reach) (view : reach.after.at.root ≡ reach.root) (held : Held)
     (turn : Turn)
     (s : LaneState) (command : Command) (going : Reader Answer) (are : NamesAre s.names old.names)
-    (notes : 1 ≤ (left_for command).notes) where
+    (notes : 1 ≤ (left_for old.composes command).notes) where
   found_turn : (tries : Bool) → FoundBusy pool (Root reach.root.place) tries old.seat start.seat held
       → FindsBusy tries start new held turn →
       ((log : Log) → answer_of old.shape (lane_of old.seat) s command log ≡ tries_or tries s reach.after.at going log)
@@ -127,11 +129,11 @@ module _ (pool : SharedPool) (old start new : Desk) (d : IsDesk pool empty_hand 
   pub set_found : (bytes : Vec ℕ Global) → AccessTurns pool old new (Set reach bytes) turn
   set_found bytes = λ s command state prepared.
       found_turn pool old start new d low start_is same seat reach view held turn s command
-      (reads_set prepared.bound reach bytes.items) state.names_are prepared.noted
-      reach.tries found did (prepared.read old.shape (lane_of old.seat))
+      (reads_set prepared.bound reach bytes.items) state.names_are
+      (prepared.noted old.composes) reach.tries found did (prepared.read old.shape (lane_of old.seat))
 
   pub get_found : (note reply : Vec ℕ Global) → AccessTurns pool old new (Get reach note reply) turn
   get_found note reply = λ s command state prepared.
       found_turn pool old start new d low start_is same seat reach view held turn s command
-      (reads_get prepared.bound reach (length note.items)) state.names_are prepared.noted
-      reach.tries found did (prepared.read old.shape (lane_of old.seat))
+      (reads_get prepared.bound reach (length note.items)) state.names_are
+      (prepared.noted old.composes) reach.tries found did (prepared.read old.shape (lane_of old.seat))

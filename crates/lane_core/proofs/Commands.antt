@@ -1,6 +1,6 @@
 -- The turns of the commands that bind a name, release a root, or claim a root's place.
 use Rattle.std.proofs.Common.{◌≡◌, ℕ, ◌+◌, ◌-◌, ◌<◌, ◌≤◌, List, [], ◌∷◌, ◌++◌, Bool, true, false, length, refl, sym, ap, ◌∙◌, subst, arith, Option, Some, None}
-use Rattle.std.specs.Prelude.{◌==◌, vec_capacity, slice_set, option_and_then, if◌then◌else◌}
+use Rattle.std.specs.Prelude.{vec_capacity, slice_set, option_and_then, if◌then◌else◌}
 use Rattle.std.proofs.lemmas.List.{length-map}
 use Rattle.std.proofs.lemmas.List.Sums.{sum_by-cons}
 use Rattle.pool_law.specs.declared.command.Command.{Command}
@@ -14,13 +14,12 @@ use Rattle.pool_law.specs.Views.{in_range, slice_of}
 use Rattle.pool_law.specs.Dids as says
 use Rattle.pool_law.specs.LaneLaw.{sweep_period}
 use Rattle.pool_law.specs.LaneStates.{LaneState}
-use Rattle.pool_law.specs.Lanes.{Answer, answer, answer_of, carried_out, release_of}
+use Rattle.pool_law.specs.Lanes.{Answer, answer, answer_of, release_of}
 use Rattle.pool_law.specs.Names.{Bound, Plain, Names, bind, without, has_range}
 use Rattle.pool_law.specs.Patterns.{release, end_of}
-use Rattle.pool_law.specs.Readers.{Log, Reader, ◌>>=◌, ◌>>◌, ◌or◌, give, given, nothing, step}
-use Rattle.pool_law.specs.Refusals.{first_refusal, refusals, unbound}
+use Rattle.pool_law.specs.Readers.{Log, Reader, ◌>>=◌, ◌>>◌, give, given, nothing, step}
+use Rattle.pool_law.specs.Refusals.{unbound}
 use Rattle.pool_law.specs.Same.{same_root}
-use Rattle.pool_law.proofs.ListLemmas.{slice_set-length}
 use Rattle.pool_law.proofs.PatternLemmas.{same_root-refl}
 use Rattle.pool_table.specs.declared.roots.EndToken.{EndToken}
 use Rattle.pool_table.specs.declared.views.Entry.TheVariants.{Ref}
@@ -49,44 +48,47 @@ use Rattle.lane_core.specs.Readings.{before_left, behind, ReadsOn, none_asked, s
 use Rattle.lane_core.specs.Desks.{IsDesk, notes_of, entries_of, HasRoomFor, reads_from, left_for, HasTurned}
 use Rattle.lane_core.specs.DeskSteps.{HasNoted, HasReplied, HasRetained, CountsMore, CountsLess, MayTurn}
 use Rattle.lane_core.proofs.CountLaws.{counted_within}
-use Rattle.lane_core.proofs.NameLaws.{NamesAre-bind, NamesAre-unbound}
+use Rattle.lane_core.proofs.NameLaws.{NamesAre-bind, NamesAre-unbound, rebound_view, rebound_none}
 use Rattle.seat_work.proofs.Grown.{Grows, grows_ref}
 use Rattle.lane_core.proofs.Grown.{spends}
 use Rattle.seat_work.proofs.HandLaws.{Carries, held_on}
 use Rattle.lane_core.proofs.EntryCounts.{retained, kept, ended, last_count, has_count, few_counted, stays_counted}
 use Rattle.lane_core.proofs.ReadLaws.{then_on, given_on, first_on, second_on, none_then, step_on, step_off}
 use Rattle.lane_core.proofs.StateReads.{named_so, viewed, is_bound, passed, used_fresh, ranged_fresh, unranged_fresh, goes, refuses, goes_uncounted}
-use Rattle.lane_core.proofs.DeskLaws.{Advances, mid_grew, goes_on, spends_at}
+use Rattle.lane_core.proofs.DeskLaws.{Advances, spends_at}
+use Rattle.lane_core.proofs.DeskGrown.{mid_grew, goes_on}
 use Rattle.seat_work.proofs.HandNotes.{weightless, ended_carries}
 use Rattle.lane_core.proofs.Turning.{noteless, ref_advances, one_turn, one_turn_same, mid_names}
 
 -- ---- Names.
 
 -- a name is unbound
-pub forget_turn : (pool : SharedPool) (name : ℕ) (old new : Desk) → MayTurn pool (left_for (Command.Forget name)) old
-    → name < length old.names → (v : ViewData) → bound_at old.names name ≡ Some v →
+pub forget_turn : (pool : SharedPool) (name : ℕ) (old new : Desk) → MayTurn pool (left_for old.composes
+    (Command.Forget name)) old
+    → name < length old.names → (b : Bound) → bound_at old.names name ≡ Some b →
     HasReplied (record old { names = slice_set old.names name None }) new Reply.Ok → (s : LaneState)
     → IsState s old.names old.counts → HasTurned pool old new s (Command.Forget name) Ready (Went Ready)
-forget_turn pool name old new may lt v is replied s state =
+forget_turn pool name old new may lt b is replied s state =
     noteless pool old new may.desk may.asked (slice_set old.names name None) Reply.Ok refl replied
-    (slice_set-length old.names name None) s (Command.Forget name) (without name s.names)
+    (rebound_none 1 old.names old.names refl name lt) s (Command.Forget name) (without name s.names)
     (NamesAre-unbound s.names old.names state.names_are name lt)
     (goes s old.names old.counts state old.shape (lane_of old.seat) (Command.Forget name)
-    (passed (unbound s name) [] (is_bound s old.names old.counts state name v is)))
+    (passed (unbound s name) [] (is_bound s old.names old.counts state name b is)))
 
 -- a new name is bound to a view
 module _ (pool : SharedPool) (fresh : ℕ) (old new : Desk) (d : IsDesk pool empty_hand old)
     (low : old.asked < sweep_period) (lt : fresh < length old.names) (v : ViewData)
-    (replied : HasReplied (record old { names = slice_set old.names fresh (Some v) }) new Reply.Ok) (s : LaneState)
+    (replied : HasReplied (record old { names = slice_set old.names fresh (Some (Plain v)) }) new Reply.Ok)
+    (s : LaneState)
     (are : NamesAre s.names old.names) where
   pub bound_turn : (command : Command)
       → ((log : Log) → answer_of old.shape (lane_of old.seat) s command log
       ≡ Some (answer Reply.Ok (bind fresh (Plain v) s.names), log))
       → HasTurned pool old new s command Ready (Went Ready)
   bound_turn command reads =
-      noteless pool old new d low (slice_set old.names fresh (Some v)) Reply.Ok refl replied
-      (slice_set-length old.names fresh (Some v)) s command (bind fresh (Plain v) s.names)
-      (NamesAre-bind s.names old.names are fresh v lt) reads
+      noteless pool old new d low (slice_set old.names fresh (Some (Plain v))) Reply.Ok refl replied
+      (rebound_view 1 old.names old.names refl fresh lt v) s command (bind fresh (Plain v) s.names)
+      (NamesAre-bind s.names old.names are fresh (Plain v) lt) reads
 
 -- ---- A release.
 
@@ -134,15 +136,15 @@ freed names r log = last (r log)
     last (Some got) = refl
 
 -- the release of a view that the lane counts
-module _ (shape : Shape) (lane : ℕ) (s : LaneState) (names : List (Option ViewData)) (cs : List Counted)
-    (state : IsState s names cs) (name : ℕ) (v : ViewData) (bound : bound_at names name ≡ Some v)
+module _ (shape : Shape) (lane : ℕ) (s : LaneState) (names : List (Option Bound)) (cs : List Counted)
+    (state : IsState s names cs) (name : ℕ) (v : ViewData) (bound : bound_at names name ≡ Some (Plain v))
     (lt : 0 < counted cs v.root) where
   released : (log : Log) → answer_of shape lane s (Command.Release name) log
       ≡ (release shape v.root >>= (λ reply. give (answer reply s.names))) log
   released log =
       goes_uncounted s names cs state shape lane (Command.Release name) name v bound lt refl log
       ∙ ap (λ (o : Option Bound). (given o >>= release_of shape s name) log)
-      (named_so s names cs state name (Some v) bound)
+      (named_so s names cs state name (Some (Plain v)) bound)
 
   reads_kept : ReadsOn (answer_of shape lane s (Command.Release name)) (entry_of (Ref v.root Kept) ∷ []) none_asked
       (give (answer Reply.Kept s.names))
@@ -160,10 +162,16 @@ module _ (shape : Shape) (lane : ℕ) (s : LaneState) (names : List (Option View
       (retired shape v.root >> give Reply.Freed) (read_ended shape v.root) log
       ∙ freed s.names (retired shape v.root) (behind log (e ∷ []) none_asked)
 
+-- a release may make the notes of the end of a root
+pub release_notes : (composes : Bool) (name : ℕ) → 6 ≤ (left_for composes (Command.Release name)).notes
+release_notes true name = omega arith
+release_notes false name = omega arith
+
 pub kept_turn : (pool : SharedPool) (name : ℕ) (old start mid new : Desk)
-    → MayTurn pool (left_for (Command.Release name)) old
+    → MayTurn pool (left_for old.composes (Command.Release name)) old
     → start ≡ record old { seat = start.seat; counts = start.counts } →
-    SameSeat old.seat start.seat → IsPoolSeat pool start.seat → (v : ViewData) → bound_at old.names name ≡ Some v
+    SameSeat old.seat start.seat → IsPoolSeat pool start.seat → (v : ViewData) → bound_at old.names name ≡ Some
+    (Plain v)
     → 0 < counted old.counts v.root → HasView start.seat
     (with_ref (view_of old.seat) v.root Kept ((view_of old.seat).moves + 1))
     → CountsLess old.counts start.counts v.root →
@@ -183,13 +191,15 @@ kept_turn pool name old start mid new may start_is same seat v bound lt has less
           sym asked_is i;
     })) asked_is (Ref v.root Kept) 0 adv noted Reply.Kept refl replied
     (kept old.counts start.counts v.root lt less.counts) less.places (sym sampler_is) s (Command.Release name)
-    state.names_are (omega arith) (omega arith) (omega arith) (λ to. omega arith)
+    state.names_are (let n = release_notes old.composes name in omega (arith, n)) (omega arith) (omega arith)
+    (λ to. omega arith)
     (reads_kept old.shape (lane_of old.seat) s old.names old.counts state name v bound lt)
 
 pub ended_turn : (pool : SharedPool) (name : ℕ) (old start mid : Desk)
-    → MayTurn pool (left_for (Command.Release name)) old
+    → MayTurn pool (left_for old.composes (Command.Release name)) old
     → start ≡ record old { seat = start.seat; counts = start.counts } →
-    SameSeat old.seat start.seat → IsPoolSeat pool start.seat → (v : ViewData) → bound_at old.names name ≡ Some v
+    SameSeat old.seat start.seat → IsPoolSeat pool start.seat → (v : ViewData) → bound_at old.names name ≡ Some
+    (Plain v)
     → 0 < counted old.counts v.root → (token : EndToken) → token.root ≡ v.root → HoldsToken start.seat token
     → HasView start.seat (with_ref (view_of old.seat) v.root Ended (view_of old.seat).moves)
     → CountsLess old.counts start.counts v.root →
@@ -233,11 +243,14 @@ ended_turn pool name old start mid may start_is same seat v bound lt token is ho
         (let a = mid_asked in let b = may.asked in omega (arith, a, b)),
       );
       name = tt;
-      spends = spends_at old mid (left_for (Command.Release name)) (notes_alone 5)
-          (subst (λ x. Spends (view_of old.seat) (view_of x) (left_for (Command.Release name)) (notes_alone 5))
+      spends = spends_at old mid (left_for old.composes (Command.Release name)) (notes_alone 5)
+          (subst (λ x. Spends (view_of old.seat) (view_of x) (left_for old.composes (Command.Release name))
+          (notes_alone 5))
           (sym seat_is)
-          (spends (view_of old.seat) (view_of start.seat) (Ref r Ended ∷ []) 0 grows (left_for (Command.Release name))
-          (notes_alone 5) (omega arith) (omega arith) (omega arith) (λ to. omega arith)))
+          (spends (view_of old.seat) (view_of start.seat) (Ref r Ended ∷ []) 0 grows (left_for old.composes
+          (Command.Release name))
+          (notes_alone 5) (let n = release_notes old.composes name in omega (arith, n)) (omega arith) (omega arith)
+          (λ to. omega arith)))
           (let a = mid_asked in omega (arith, a));
       comes =
           goes_on pool empty_hand after old start mid may.desk from_old (Ref r Ended ∷ []) 0 adv noted (omega arith)
@@ -315,11 +328,12 @@ has_retained pool old start mid r ds start_is same seat did noted more =
 
 -- a slice that is retained
 pub slice_turn : (pool : SharedPool) (fresh name at len : ℕ) (old mid new : Desk)
-    → MayTurn pool (left_for (Command.Slice fresh name at len true)) old → fresh < length old.names → (v : ViewData)
-    → bound_at old.names name ≡ Some v → bound_at old.names fresh ≡ None → 0 < counted old.counts v.root
+    → MayTurn pool (left_for old.composes (Command.Slice fresh name at len true)) old → fresh < length old.names →
+    (v : ViewData)
+    → bound_at old.names name ≡ Some (Plain v) → bound_at old.names fresh ≡ None → 0 < counted old.counts v.root
     → in_range v at len ≡ true →
     HasRetained pool old mid v.root → HasReplied
-    (record mid { names = slice_set mid.names fresh (Some (slice_of v at len)) }) new Reply.Ok → (s : LaneState)
+    (record mid { names = slice_set mid.names fresh (Some (Plain (slice_of v at len))) }) new Reply.Ok → (s : LaneState)
     → IsState s old.names old.counts → HasTurned pool old new s (Command.Slice fresh name at len true) Ready
     (Went Ready)
 slice_turn pool fresh name at len old mid new may in_names v bound none lt inside did replied s state =
@@ -331,13 +345,13 @@ slice_turn pool fresh name at len old mid new may in_names v bound none lt insid
     let w : ViewData = slice_of v at len in
     let lane = lane_of old.seat in let e = entry_of (Ref v.root Retain) in
     one_turn pool old start mid new may.desk may.asked refl refl (Ref v.root Retain) 1 adv did.noted
-    (slice_set mid.names fresh (Some w)) Reply.Ok refl replied
+    (slice_set mid.names fresh (Some (Plain w))) Reply.Ok refl replied
     (retained old.counts mid.counts v.root lt did.counts.counts) did.counts.places refl
-    (slice_set-length mid.names fresh (Some w) ∙ ap (λ (names : List (Option ViewData)). length names) names_are) s
+    (rebound_view 1 old.names mid.names names_are fresh in_names w) s
     (Command.Slice fresh name at len true) (bind fresh (Plain w) s.names)
-    (subst (λ (names : List (Option ViewData)). NamesAre (bind fresh (Plain w) s.names)
-    (slice_set names fresh (Some w))) (sym names_are)
-    (NamesAre-bind s.names old.names state.names_are fresh w in_names))
+    (subst (λ (names : List (Option Bound)). NamesAre (bind fresh (Plain w) s.names)
+    (slice_set names fresh (Some (Plain w)))) (sym names_are)
+    (NamesAre-bind s.names old.names state.names_are fresh (Plain w) in_names))
     (omega arith) (omega arith) (omega arith) (λ to. omega arith)
     (λ log.
     goes s old.names old.counts state old.shape lane (Command.Slice fresh name at len true)
@@ -354,8 +368,8 @@ slice_turn pool fresh name at len old mid new may in_names v bound none lt insid
         step view.root says.retain >> give (answer Reply.Ok (bind fresh (Plain (slice_of view at len)) s.names))
 
 -- how the law reads a slice that isn't, one that leaves the view, and a duplicate
-module _ (shape : Shape) (lane : ℕ) (s : LaneState) (names : List (Option ViewData)) (cs : List Counted)
-    (state : IsState s names cs) (fresh name : ℕ) (v : ViewData) (bound : bound_at names name ≡ Some v)
+module _ (shape : Shape) (lane : ℕ) (s : LaneState) (names : List (Option Bound)) (cs : List Counted)
+    (state : IsState s names cs) (fresh name : ℕ) (v : ViewData) (bound : bound_at names name ≡ Some (Plain v))
     (none : bound_at names fresh ≡ None) (lt : 0 < counted cs v.root) where
   pub reads_slice : (at len : ℕ) → in_range v at len ≡ true → (log : Log)
       → answer_of shape lane s (Command.Slice fresh name at len false) log

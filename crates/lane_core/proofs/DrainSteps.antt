@@ -36,7 +36,7 @@ use Rattle.lane_core.specs.declared.draining.Draining.TheVariants.{Ask, Shed, Gi
 use Rattle.lane_core.specs.declared.draining.Drains.TheVariants.{More, Held as HeldBack}
 use Rattle.seat_work.specs.Hands.{lane_in, Hand, empty_hand, IsHeld}
 use Rattle.lane_core.specs.Budgets.{Spends, takes, out_of, all_out}
-use Rattle.lane_core.specs.Drainings.{MayDrain, HasDrained, IsNext, IsReadNext, IsShed, Fits, quota_note, hand_of, closed_by, left_of, rest_of, classes_from}
+use Rattle.lane_core.specs.Drainings.{MayDrain, HasDrained, IsNext, IsReadNext, Fits, quota_note, hand_of, closed_by, left_of, rest_of}
 use Rattle.lane_core.specs.Readings.{none_asked, behind as after_log}
 use Rattle.lane_core.specs.Sampled.{AreSampled}
 use Rattle.lane_core.proofs.EntryCounts.{IsStill, none_added, still_added}

@@ -1,5 +1,5 @@
 -- A lane is one that its gate stopped, or a running one.
-use Rattle.std.proofs.Common.{◌≡◌, Bool, true, false, sym, subst}
+use Rattle.std.proofs.Common.{Bool, true, false, sym, subst}
 use Rattle.std.specs.Prelude.{MatchBool}
 use Rattle.pool_law.specs.Legal.{AreCommands}
 use Rattle.shared_pool.specs.declared.pool.SharedPool.{SharedPool}

@@ -30,7 +30,7 @@ use Rattle.seat_work.specs.Changes.{one_for}
 use Rattle.lane_core.specs.Counting.{counted, CountsAre, AddCounts}
 use Rattle.seat_work.proofs.Grown.{Grows, weigh_more}
 
-counts_append : (root : RootId) (k : ℕ) (xs ys : Entries)
+pub counts_append : (root : RootId) (k : ℕ) (xs ys : Entries)
     → count_from root k (xs ++ ys) ≡ count_from root (count_from root k xs) ys
 counts_append root k [] ys = refl
 counts_append root k (x ∷ xs) ys = counts_append root (count_step root k x) xs ys

@@ -1,5 +1,5 @@
 -- A lane heeds its gate at every turn.
-use Rattle.std.proofs.Common.{◌≡◌, ℕ, suc, ◌+◌, ◌<◌, ◌≤◌, List, [], ◌∷◌, ◌++◌, Bool, true, false, length, refl, sym, ap, ◌∙◌, subst, arith, length-append, leb, le-leb}
+use Rattle.std.proofs.Common.{◌≡◌, ℕ, ◌+◌, ◌<◌, ◌≤◌, List, [], ◌∷◌, ◌++◌, Bool, true, false, length, refl, sym, ap, ◌∙◌, subst, arith, length-append, leb, le-leb}
 use Rattle.std.specs.Prelude.{◌&&◌, max, nat_le}
 use Rattle.std.proofs.lemmas.Bool.{leb-true, leb-false}
 use Rattle.std.proofs.lemmas.List.{map-append, length-map}
@@ -9,16 +9,18 @@ use Rattle.pool_law.specs.declared.run.Reply.{Reply}
 use Rattle.pool_law.specs.LaneLaw.{before_stop, replies_in}
 use Rattle.pool_law.specs.LaneStates.{LaneState}
 use Rattle.shared_pool.specs.declared.pool.SharedPool.{SharedPool}
+use Rattle.shared_pool.specs.SeatLanes.{lane_of}
 use Rattle.lane_core.specs.declared.desk.Desk.{Desk}
 use Rattle.lane_core.specs.declared.desk.Stage.{Stage}
-use Rattle.lane_core.specs.declared.desk.Stage.TheVariants.{Ready, Allotting, Ending, Sweeping, Closing}
+use Rattle.lane_core.specs.declared.desk.Stage.TheVariants.{Ready}
 use Rattle.lane_core.specs.declared.desk.Turn.{Turn}
 use Rattle.lane_core.specs.declared.desk.Turn.TheVariants.{Went, Pending, Waiting}
 use Rattle.lane_core.specs.declared.lane.Lane.{Lane}
-use Rattle.lane_core.specs.Desks.{next_of, HasTurned, PassesOver}
+use Rattle.lane_core.specs.Desks.{next_of, HasTurned, PassesOver, reads_from}
 use Rattle.lane_core.specs.Lanes.{Heeds}
 use Rattle.lane_core.proofs.LaneGrown.{lane_at}
 use Rattle.lane_core.proofs.LaneLogs.{unstopped_more}
+use Rattle.lane_core.proofs.StageCases.{by_kind, passes_held, passes_none, waits_on, went_on}
 use Rattle.lane_core.proofs.StoppedLogs.{stop_more}
 
 -- both tests hold, or one doesn't
@@ -120,38 +122,35 @@ module _ (stops : ℕ → Bool) (l : Lane) (h : Heeds stops l) where
     pub turned_heeds : length rs < l.asked → (pool : SharedPool) (d : Desk) (s : LaneState) (command : Command)
         (stage : Stage) (turn : Turn) → HasTurned pool l.desk d s command stage turn
         → Heeds stops (lane_at l d (next_of stage turn) l.asked)
-    turned_heeds line pool d s command stage (Went Ready) t =
-        heeds_answer line d Ready t.comes.answered t.comes.replies t.comes.unstopped
-    turned_heeds line pool d s command stage (Went (Allotting name size class next)) t =
-        heeds_still d (Allotting name size class next) t.comes.replies
-    turned_heeds line pool d s command stage (Went (Ending next)) t = heeds_still d (Ending next) t.comes.replies
-    turned_heeds line pool d s command stage (Went (Sweeping reply next)) t =
-        heeds_still d (Sweeping reply next) t.comes.replies
-    turned_heeds line pool d s command stage (Went (Closing next)) t = absurd t.comes
-    turned_heeds line pool d s command stage (Pending held Ready) t = heeds_still d Ready t.comes.1.replies
-    turned_heeds line pool d s command stage (Pending held (Allotting name size class next)) t =
-        heeds_still d (Allotting name size class next) t.comes.1.replies
-    turned_heeds line pool d s command stage (Pending held (Ending next)) t =
-        heeds_still d (Ending next) t.comes.1.replies
-    turned_heeds line pool d s command stage (Pending held (Sweeping reply next)) t =
-        heeds_still d (Sweeping reply next) t.comes.1.replies
-    turned_heeds line pool d s command stage (Pending held (Closing next)) t = absurd t.comes
-    turned_heeds line pool d s command stage (Waiting sender) t = heeds_still d stage t.comes.1.replies
+    turned_heeds line pool d s command stage (Went next) =
+        by_kind (λ x. HasTurned pool l.desk d s command stage (Went x) → Heeds stops (lane_at l d x l.asked))
+        (λ t. heeds_answer line d Ready t.comes.answered t.comes.replies t.comes.unstopped) (λ x t. absurd t.comes)
+        (λ x u t.
+        let on = went_on (λ (state : LaneState). reads_from l.desk.shape (lane_of l.desk.seat) state command) s l.desk d
+        t.added stage x u t.comes in
+        heeds_still d x on.replies) next
+    turned_heeds line pool d s command stage (Pending held next) =
+        by_kind (λ x. HasTurned pool l.desk d s command stage (Pending held x) → Heeds stops (lane_at l d x l.asked))
+        (λ t. heeds_still d Ready t.comes.1.replies) (λ x t. absurd t.comes)
+        (λ x u t.
+        let on = waits_on (λ (state : LaneState). reads_from l.desk.shape (lane_of l.desk.seat) state command) s l.desk
+        d
+        t.added stage held x u t.comes in
+        heeds_still d x on.1.replies) next
+    turned_heeds line pool d s command stage (Waiting sender) = λ t. heeds_still d stage t.comes.1.replies
 
   -- a turn that passes a command over
   pub passed_heeds : l.stopped ≡ true → (pool : SharedPool) (d : Desk) (command : Command) (turn : Turn)
       → PassesOver pool l.desk d command turn → Heeds stops (lane_at l d (next_of Ready turn) l.asked)
-  passed_heeds over pool d command (Went Ready) t = heeds_stop over d Ready t.comes.notes t.comes.replies
-  passed_heeds over pool d command (Went (Allotting name size class next)) t = absurd t.comes
-  passed_heeds over pool d command (Went (Ending next)) t = absurd t.comes
-  passed_heeds over pool d command (Went (Sweeping reply next)) t = absurd t.comes
-  passed_heeds over pool d command (Went (Closing next)) t = absurd t.comes
-  passed_heeds over pool d command (Pending held Ready) t = heeds_still d Ready t.comes.replies
-  passed_heeds over pool d command (Pending held (Allotting name size class next)) t = absurd t.comes
-  passed_heeds over pool d command (Pending held (Ending next)) t = absurd t.comes
-  passed_heeds over pool d command (Pending held (Sweeping reply next)) t = absurd t.comes
-  passed_heeds over pool d command (Pending held (Closing next)) t = absurd t.comes
-  passed_heeds over pool d command (Waiting sender) t = absurd t.comes
+  passed_heeds over pool d command (Went next) =
+      by_kind (λ x. PassesOver pool l.desk d command (Went x) → Heeds stops (lane_at l d x l.asked))
+      (λ t. heeds_stop over d Ready t.comes.notes t.comes.replies) (λ x t. absurd t.comes)
+      (λ x u t. absurd (passes_none l.desk d t.added command x u t.comes)) next
+  passed_heeds over pool d command (Pending held next) =
+      by_kind (λ x. PassesOver pool l.desk d command (Pending held x) → Heeds stops (lane_at l d x l.asked))
+      (λ t. heeds_still d Ready t.comes.replies) (λ x t. absurd t.comes)
+      (λ x u t. absurd (passes_held l.desk d t.added command held x u t.comes)) next
+  passed_heeds over pool d command (Waiting sender) = λ t. absurd t.comes
 
 -- a new lane was asked for nothing
 pub heeds_first : (stops : ℕ → Bool) (l : Lane) → l.desk.replies.items ≡ [] → l.stopped ≡ false → l.asked ≡ 0

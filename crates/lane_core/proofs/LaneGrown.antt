@@ -1,71 +1,53 @@
 -- A lane whose desk grew: what it keeps, whether its gate stopped it or not.
-use Rattle.std.proofs.Common.{◌≡◌, ℕ, suc, ◌+◌, ◌*◌, ◌/◌, ◌<◌, ◌≤◌, List, [], ◌∷◌, ◌++◌, length, map, take, drop, get_or, refl, sym, ap, ◌∙◌, subst, arith, Some, append_assoc, append-nil, length-append}
-use Rattle.std.specs.Prelude.{sum, vec_capacity}
-use Rattle.std.proofs.lemmas.List.{map-append, length-map, take-append-le, drop-append-le, take-append-drop, length-take-le, drop_more}
-use Rattle.std.proofs.lemmas.List.Elements.{All-weaker}
+use Rattle.std.proofs.Common.{◌≡◌, ℕ, ◌+◌, ◌*◌, ◌/◌, ◌<◌, ◌≤◌, Bool, List, [], ◌∷◌, ◌++◌, length, map, take, drop, refl, sym, ap, ◌∙◌, subst, arith, append-nil}
+use Rattle.std.proofs.lemmas.List.{map-append, length-map, take-append-le, drop-append-le}
 use Rattle.pool_law.specs.declared.command.Command.{Command}
 use Rattle.pool_law.specs.declared.note.Note.{Note}
 use Rattle.pool_law.specs.declared.run.Answered.{Answered}
 use Rattle.pool_law.specs.declared.run.Shape.{Shape}
-use Rattle.pool_law.specs.Legal.{AreCommands}
-use Rattle.pool_law.specs.Limits.{cached_classes, IsShape}
-use Rattle.pool_law.specs.LaneLaw.{sweep_period, lane_run, before_stop, pieces, note_counts, replies_in}
-use Rattle.pool_law.specs.LaneStates.{LaneState, new_lane, log_at}
-use Rattle.pool_law.specs.Lanes.{Answer, turn}
-use Rattle.pool_law.specs.Names.{Names}
-use Rattle.pool_law.specs.Patterns.{closing}
-use Rattle.pool_law.specs.Readers.{Entries, Log, Reader}
-use Rattle.pool_law.proofs.PatternLemmas.{lane_run-push}
+use Rattle.pool_law.specs.Limits.{cached_classes}
+use Rattle.pool_law.specs.LaneLaw.{sweep_period}
 use Rattle.pool_table.specs.declared.views.Entry.{Entry}
-use Rattle.pool_table.specs.declared.views.SeatView.{SeatView}
 use Rattle.pool_table.specs.Seats.{view_of}
 use Rattle.shared_pool.specs.declared.pool.SharedPool.{SharedPool}
 use Rattle.shared_pool.specs.Closing.{note_of, entry_of}
 use Rattle.shared_pool.specs.SeatLanes.{lane_of}
 use Rattle.lane_core.specs.declared.desk.Desk.{Desk}
 use Rattle.lane_core.specs.declared.desk.Stage.{Stage}
-use Rattle.lane_core.specs.declared.desk.Stage.TheVariants.{Ready, Allotting, Ending, Sweeping, Closing}
-use Rattle.lane_core.specs.declared.desk.Turn.{Turn}
-use Rattle.lane_core.specs.declared.desk.Turn.TheVariants.{Went, Pending, Waiting}
-use Rattle.lane_core.specs.declared.draining.DrainKind.TheVariants.{Close}
+use Rattle.lane_core.specs.declared.desk.Stage.TheVariants.{Ready, Closing}
 use Rattle.lane_core.specs.declared.draining.Draining.{Draining}
 use Rattle.lane_core.specs.declared.draining.Draining.TheVariants.{Ask}
 use Rattle.lane_core.specs.declared.lane.Lane.{Lane}
-use Rattle.lane_core.specs.declared.lane.Stepped.{Stepped}
-use Rattle.lane_core.specs.Accesses.{IsState}
-use Rattle.lane_core.specs.Counting.{CountsAre}
 use Rattle.lane_core.specs.Budgets.{Left, Spends, notes_alone, with_sheds}
 use Rattle.lane_core.specs.Drainings as draining
 use Rattle.seat_work.specs.Hands.{Hand}
-use Rattle.lane_core.specs.Named.{NamesAre}
-use Rattle.lane_core.specs.Readings.{ReadsOn, none_asked, before_left, behind, renamed}
-use Rattle.lane_core.specs.Desks.{IsDesk, notes_of, entries_of, log_of, hand_of, Fits, FitsDesk, IsUnderway, HasRoomFor, left_for, left_at, left_now, left_after, SpendsAt, reads_from, next_of, DeskGrew, IsAnswered, Waits, NameFits, HasTurned, HasTurnedClosing}
-use Rattle.lane_core.proofs.ReadLaws.{still_on, on_append}
-use Rattle.lane_core.specs.Lanes.{reads_closing, IsClosing, IsAtRest, IsResting, HasAnswered, IsBegun, SameLane, SameLog, LogGrew, commands_left, answered_entries, entries_since, number_of, both, left_for_all, with_takes, left_for_rest, left_to_ask, left_of}
-use Rattle.lane_core.specs.Steps.{HasStepped, ReceivesNext, stepped_of}
-use Rattle.lane_core.proofs.LaneLogs.{cut_at, cut_more, take_whole, drop_whole, pieces_more, counts_more, step_is, unstopped_more}
-use Rattle.lane_core.proofs.LaneRooms.{room_most, room_front, to_ask_open, rest_ready, lane_same, notes_grew, has_room, room_behind}
+use Rattle.lane_core.specs.Desks.{IsDesk, notes_of, entries_of, hand_of, FitsDesk, HasRoomFor, left_at, left_now, SpendsAt, DeskGrew}
+use Rattle.lane_core.specs.Lanes.{IsClosing, SameLane, SameLog, LogGrew, commands_left, answered_entries, entries_since, number_of, both, left_for_each, with_takes, left_for_rest, left_to_ask, left_of}
+use Rattle.lane_core.proofs.LaneRooms.{room_most, room_front, to_ask_open, rest_ready, lane_same, has_room, room_behind}
 
 -- what a command asks of a desk it asks of one with as many names, of the same shape
-pub fits_still : (old new : Desk) → length new.names ≡ length old.names → new.shape ≡ old.shape → (c : Command)
+pub fits_still : (old new : Desk) → length new.names ≡ length old.names → new.shape ≡ old.shape
+    → new.composes ≡ old.composes → (c : Command)
     → FitsDesk old c → FitsDesk new c
-fits_still old new names shape (Command.Alloc name size) fits = omega (arith, names, fits)
-fits_still old new names shape (Command.Set name at bytes tries) fits = omega (arith, names, fits)
-fits_still old new names shape (Command.Get name at len tries) fits = omega (arith, names, fits)
-fits_still old new names shape (Command.Write name bytes) fits = omega (arith, names, fits)
-fits_still old new names shape (Command.Read name len) fits = omega (arith, names, fits)
-fits_still old new names shape (Command.Slice fresh name at len retained) fits = omega (arith, names, fits)
-fits_still old new names shape (Command.Dup fresh name) fits = omega (arith, names, fits)
-fits_still old new names shape (Command.Retain name) fits = tt
-fits_still old new names shape (Command.Release name) fits = tt
-fits_still old new names shape (Command.Refcnt name) fits = tt
-fits_still old new names shape (Command.Touch name) fits = tt
-fits_still old new names shape (Command.Forget name) fits = omega (arith, names, fits)
-fits_still old new names shape (Command.Send name lane) fits = subst (λ (s : Shape). lane < s.lanes) (sym shape) fits
-fits_still old new names shape (Command.Recv fresh lane) fits =
+fits_still old new names shape composes (Command.Alloc name size) fits = omega (arith, names, fits)
+fits_still old new names shape composes (Command.Set name at bytes tries) fits = omega (arith, names, fits)
+fits_still old new names shape composes (Command.Get name at len tries) fits = omega (arith, names, fits)
+fits_still old new names shape composes (Command.Write name bytes) fits = omega (arith, names, fits)
+fits_still old new names shape composes (Command.Read name len) fits = omega (arith, names, fits)
+fits_still old new names shape composes (Command.Slice fresh name at len retained) fits = omega (arith, names, fits)
+fits_still old new names shape composes (Command.Dup fresh name) fits = omega (arith, names, fits)
+fits_still old new names shape composes (Command.Retain name) fits = tt
+fits_still old new names shape composes (Command.Release name) fits = tt
+fits_still old new names shape composes (Command.Refcnt name) fits = tt
+fits_still old new names shape composes (Command.Touch name) fits = tt
+fits_still old new names shape composes (Command.Forget name) fits = omega (arith, names, fits)
+fits_still old new names shape composes (Command.Send name lane) fits =
+    subst (λ (s : Shape). lane < s.lanes) (sym shape) fits
+fits_still old new names shape composes (Command.Recv fresh lane) fits =
     (let a = fits.0 in omega (arith, names, a), subst (λ (s : Shape). lane < s.lanes) (sym shape) fits.1)
-fits_still old new names shape (Command.Compose fresh more) fits = absurd fits
-fits_still old new names shape (Command.Add whole name) fits = absurd fits
+fits_still old new names shape composes (Command.Compose fresh more) fits =
+    (let a = fits.0 in omega (arith, names, a), composes ∙ fits.1, fits.2, fits.3)
+fits_still old new names shape composes (Command.Add whole name) fits = tt
 
 -- a lane with another desk, at another stage
 abbrev pub lane_at : Lane → Desk → Stage → ℕ → Lane
@@ -147,27 +129,28 @@ module _ (pool : SharedPool) (l : Lane) (was : IsDesk pool (hand_of l.stage) l.d
   module _ (command : Command) (later : List Command) (left : commands_left l ≡ command ∷ later)
       (room : HasRoomFor l.desk (left_of l)) (was_open : IsClosing l.stage → ⊥) where
     abbrev more : Left
-    more = with_takes (left_for_all later)
+    more = with_takes (left_for_each l.desk.composes later)
 
     abbrev before : Left
-    before = left_now command l.stage (view_of l.desk.seat)
+    before = left_now l.desk.composes command l.stage (view_of l.desk.seat)
 
     room_before : HasRoomFor l.desk (both (both before more) (notes_alone
         (cached_classes * (1 + (l.desk.asked + (before.asks + more.asks)) / sweep_period))))
     room_before =
         subst (λ (x : Left). HasRoomFor l.desk (both (both before more) x))
         (to_ask_open l.stage (l.desk.asked + (before.asks + more.asks)) was_open)
-        (subst (λ (x : List Command). let r = left_for_rest x l.stage (view_of l.desk.seat) in
+        (subst (λ (x : List Command). let r = left_for_rest l.desk.composes x l.stage (view_of l.desk.seat) in
         HasRoomFor l.desk (both r (left_to_ask l.stage (l.desk.asked + r.asks)))) left room)
 
     pub still_room : (stage : Stage) → (IsClosing stage → ⊥) → commands_left (lane_at l d stage n) ≡ command ∷ later
-        → SpendsAt l.desk d before (left_now command stage (view_of d.seat))
+        → SpendsAt l.desk d before (left_now l.desk.composes command stage (view_of d.seat))
         → HasRoomFor d (left_of (lane_at l d stage n))
     still_room stage is_open left_now_is spends =
-        let after : Left = left_now command stage (view_of d.seat) in
+        let after : Left = left_now l.desk.composes command stage (view_of d.seat) in
         let new_room = room_behind pool hand l.desk d added grew before after more spends room_before in
-        subst (λ (x : List Command). let r = left_for_rest x stage (view_of d.seat) in
-        HasRoomFor d (both r (left_to_ask stage (d.asked + r.asks)))) (sym left_now_is)
+        subst (λ (x : Bool × List Command). let r = left_for_rest x.0 x.1 stage (view_of d.seat) in
+        HasRoomFor d (both r (left_to_ask stage (d.asked + r.asks))))
+        (λ i. (sym grew.composes i, sym left_now_is i))
         (subst (λ (x : Left). HasRoomFor d (both (both after more) x))
         (sym (to_ask_open stage (d.asked + (after.asks + more.asks)) is_open)) new_room)
 
@@ -177,8 +160,8 @@ module _ (pool : SharedPool) (l : Lane) (was : IsDesk pool (hand_of l.stage) l.d
     answered_room done_left spends =
         let after : Left = with_sheds (view_of d.seat) (notes_alone 0) in
         let new_room = room_behind pool hand l.desk d added grew before after more spends room_before in
-        let rest : Left = left_for_rest later Ready (view_of d.seat) in let ready =
-        rest_ready later (view_of d.seat) in
+        let rest : Left = left_for_rest l.desk.composes later Ready (view_of d.seat) in let ready =
+        rest_ready l.desk.composes later (view_of d.seat) in
         let a = ready.0 in let b = ready.1 in let c = ready.2 in
         let asks : cached_classes * (1 + (d.asked + (after.asks + more.asks)) / sweep_period)
         ≡ cached_classes * (1 + (d.asked + rest.asks) / sweep_period) =
@@ -189,8 +172,8 @@ module _ (pool : SharedPool) (l : Lane) (was : IsDesk pool (hand_of l.stage) l.d
         (notes_alone (cached_classes * (1 + (d.asked + (after.asks + more.asks)) / sweep_period))))
         (both rest (notes_alone (cached_classes * (1 + (d.asked + rest.asks) / sweep_period))))
         (omega (arith, a, asks)) (omega (arith, c)) (λ to. let e = ready.3 to in omega (arith, e)) new_room in
-        subst (λ (cs : List Command). let r = left_for_rest cs Ready (view_of d.seat) in
-        HasRoomFor d (both r (left_to_ask Ready (d.asked + r.asks)))) (sym done_left) room
+        subst (λ (x : Bool × List Command). let r = left_for_rest x.0 x.1 Ready (view_of d.seat) in
+        HasRoomFor d (both r (left_to_ask Ready (d.asked + r.asks)))) (λ i. (sym grew.composes i, sym done_left i)) room
 
   -- behind a turn of the closing
   pub closed_room : (stage after : Draining) → commands_left (lane_at l d (Closing after) n) ≡ []
@@ -203,17 +186,19 @@ module _ (pool : SharedPool) (l : Lane) (was : IsDesk pool (hand_of l.stage) l.d
       let left_room : HasRoomFor d left = has_room pool hand l.desk d added grew
       (draining.left_of stage (view_of l.desk.seat)) left room (omega (arith, a)) (omega (arith, b))
       (λ to. (let e = spends.sends to in omega (arith, e))) in
-      subst (λ (cs : List Command). let r = left_for_rest cs (Closing after) (view_of d.seat) in
+      subst (λ (cs : List Command). let r = left_for_rest d.composes cs (Closing after) (view_of d.seat) in
       HasRoomFor d (both r (left_to_ask (Closing after) (d.asked + r.asks)))) (sym none_now)
       (room_most d left (both left (notes_alone 0)) (omega arith) (omega arith) (λ to. omega arith) left_room)
 
 -- the first command that is left has room
 pub front_room : (l : Lane) → HasRoomFor l.desk (left_of l) → (command : Command) (later : List Command)
-    → commands_left l ≡ command ∷ later → HasRoomFor l.desk (left_at command l.stage (view_of l.desk.seat))
+    → commands_left l ≡ command ∷ later → HasRoomFor l.desk (left_at l.desk.composes command l.stage
+    (view_of l.desk.seat))
 front_room l room command later left =
-    let v = view_of l.desk.seat in let r = left_for_rest (command ∷ later) l.stage v in
-    room_front l.desk command l.stage v (with_takes (left_for_all later)) (left_to_ask l.stage (l.desk.asked + r.asks))
-    (subst (λ (x : List Command). let r = left_for_rest x l.stage v in
+    let v = view_of l.desk.seat in let r = left_for_rest l.desk.composes (command ∷ later) l.stage v in
+    room_front l.desk l.desk.composes command l.stage v (with_takes (left_for_each l.desk.composes later))
+    (left_to_ask l.stage (l.desk.asked + r.asks))
+    (subst (λ (x : List Command). let r = left_for_rest l.desk.composes x l.stage v in
     HasRoomFor l.desk (both r (left_to_ask l.stage (l.desk.asked + r.asks)))) left room)
 
 -- and so has the closing
@@ -222,7 +207,7 @@ pub room_to_close : (l : Lane) → HasRoomFor l.desk (left_of l) → commands_le
 room_to_close l room none stage is =
     let left : Left = draining.left_of stage (view_of l.desk.seat) in
     room_most l.desk (both left (notes_alone 0)) left (omega arith) (omega arith) (λ to. omega arith)
-    (subst (λ (x : List Command × Stage). let r = left_for_rest x.0 x.1 (view_of l.desk.seat) in
+    (subst (λ (x : List Command × Stage). let r = left_for_rest l.desk.composes x.0 x.1 (view_of l.desk.seat) in
     HasRoomFor l.desk (both r (left_to_ask x.1 (l.desk.asked + r.asks)))) (λ i. (none i, is i)) room)
 
 pub room_to_begin : (l : Lane) → HasRoomFor l.desk (left_of l) → commands_left l ≡ [] → l.stage ≡ Ready
@@ -231,5 +216,5 @@ room_to_begin l room none is =
     let r : Left = with_sheds (view_of l.desk.seat) (notes_alone 0) in
     room_most l.desk (both r (notes_alone (cached_classes * (1 + (l.desk.asked + r.asks) / sweep_period))))
     (draining.left_of (Ask 0) (view_of l.desk.seat)) (omega arith) (omega arith) (λ to. omega arith)
-    (subst (λ (x : List Command × Stage). let r = left_for_rest x.0 x.1 (view_of l.desk.seat) in
+    (subst (λ (x : List Command × Stage). let r = left_for_rest l.desk.composes x.0 x.1 (view_of l.desk.seat) in
     HasRoomFor l.desk (both r (left_to_ask x.1 (l.desk.asked + r.asks)))) (λ i. (none i, is i)) room)

@@ -1,5 +1,5 @@
 -- What a lane has still to spend behind a turn.
-use Rattle.std.proofs.Common.{◌≡◌, ℕ, ◌+◌, ◌*◌, ◌/◌, ◌<◌, ◌≤◌, List, [], ◌∷◌, length, refl, sym, ap, ◌∙◌, subst, arith, Option, Some, length-append}
+use Rattle.std.proofs.Common.{◌≡◌, ℕ, ◌+◌, ◌*◌, ◌/◌, ◌<◌, ◌≤◌, Bool, List, [], ◌∷◌, length, refl, sym, ap, ◌∙◌, subst, arith, Option, Some, length-append}
 use Rattle.std.specs.Prelude.{IfSome, slice_get, unwrap_or}
 use Rattle.std.proofs.lemmas.Option.{IfSome_then}
 use Rattle.step_law.specs.Settings.{Setting}
@@ -15,11 +15,11 @@ use Rattle.shared_pool.specs.Quotas.{posts}
 use Rattle.shared_pool.specs.SeatLanes.{lane_of}
 use Rattle.lane_core.specs.declared.desk.Desk.{Desk}
 use Rattle.lane_core.specs.declared.desk.Stage.{Stage}
-use Rattle.lane_core.specs.declared.desk.Stage.TheVariants.{Ready, Allotting, Ending, Sweeping, Closing}
+use Rattle.lane_core.specs.declared.desk.Stage.TheVariants.{Ready, Allotting, Ending, Sweeping, Closing, Crossing, Parting, Consolidating, Copying, Replacing}
 use Rattle.lane_core.specs.Budgets.{Left, notes_alone, with_sheds}
 use Rattle.seat_work.specs.Hands.{Hand}
 use Rattle.lane_core.specs.Desks.{DeskGrew, HasRoomFor, SpendsAt, notes_of, left_at, left_now}
-use Rattle.lane_core.specs.Lanes.{IsClosing, both, left_for_all, with_takes, left_for_rest, left_to_ask}
+use Rattle.lane_core.specs.Lanes.{IsClosing, both, left_for_each, with_takes, left_for_rest, left_to_ask}
 
 -- ---- Room for less.
 
@@ -36,21 +36,28 @@ room_most d more less notes moves sends room = record {
 }
 
 -- what is left now is more than what the command may spend
-now_more : (command : Command) (stage : Stage) (v : SeatView)
-    → ((left_at command stage v).notes ≤ (left_now command stage v).notes)
-    × ((left_at command stage v).moves ≡ (left_now command stage v).moves)
-    × ((to : ℕ) → (left_at command stage v).sends to ≡ (left_now command stage v).sends to)
-now_more command Ready v = (omega arith, refl, λ to. refl)
-now_more command (Allotting name size class stage) v = (omega arith, refl, λ to. refl)
-now_more command (Ending stage) v = (omega arith, refl, λ to. refl)
-now_more command (Sweeping reply stage) v = (omega arith, refl, λ to. refl)
-now_more command (Closing stage) v = (omega arith, refl, λ to. refl)
+now_more : (composes : Bool) (command : Command) (stage : Stage) (v : SeatView)
+    → ((left_at composes command stage v).notes ≤ (left_now composes command stage v).notes)
+    × ((left_at composes command stage v).moves ≡ (left_now composes command stage v).moves)
+    × ((to : ℕ) → (left_at composes command stage v).sends to ≡ (left_now composes command stage v).sends to)
+now_more composes command Ready v = (omega arith, refl, λ to. refl)
+now_more composes command (Allotting name size class stage) v = (omega arith, refl, λ to. refl)
+now_more composes command (Ending stage) v = (omega arith, refl, λ to. refl)
+now_more composes command (Sweeping reply stage) v = (omega arith, refl, λ to. refl)
+now_more composes command (Closing stage) v = (omega arith, refl, λ to. refl)
+now_more composes command (Crossing name marks stage) v = (omega arith, refl, λ to. refl)
+now_more composes command (Parting name stage) v = (omega arith, refl, λ to. refl)
+now_more composes command (Consolidating p stage) v = (omega arith, refl, λ to. refl)
+now_more composes command (Copying name whole parts stage) v = (omega arith, refl, λ to. refl)
+now_more composes command (Replacing name whole stage) v = (omega arith, refl, λ to. refl)
 
-pub room_front : (d : Desk) (command : Command) (stage : Stage) (v : SeatView) (more rest : Left)
-    → HasRoomFor d (both (both (left_now command stage v) more) rest) → HasRoomFor d (left_at command stage v)
-room_front d command stage v more rest room =
-    let now = now_more command stage v in let a = now.0 in let b = now.1 in
-    room_most d (both (both (left_now command stage v) more) rest) (left_at command stage v) (omega (arith, a))
+pub room_front : (d : Desk) (composes : Bool) (command : Command) (stage : Stage) (v : SeatView) (more rest : Left)
+    → HasRoomFor d (both (both (left_now composes command stage v) more) rest) → HasRoomFor d
+    (left_at composes command stage v)
+room_front d composes command stage v more rest room =
+    let now = now_more composes command stage v in let a = now.0 in let b = now.1 in
+    room_most d (both (both (left_now composes command stage v) more) rest) (left_at composes command stage v) (omega
+    (arith, a))
     (omega (arith, b)) (λ to. let e = now.2 to in omega (arith, e)) room
 
 -- ---- The caches that are to be asked.
@@ -62,6 +69,11 @@ to_ask_open Ready asking not = refl
 to_ask_open (Allotting name size class stage) asking not = refl
 to_ask_open (Ending stage) asking not = refl
 to_ask_open (Sweeping reply stage) asking not = refl
+to_ask_open (Crossing name marks stage) asking not = refl
+to_ask_open (Parting name stage) asking not = refl
+to_ask_open (Consolidating p stage) asking not = refl
+to_ask_open (Copying name whole parts stage) asking not = refl
+to_ask_open (Replacing name whole stage) asking not = refl
 to_ask_open (Closing stage) asking not = absurd (not tt)
 
 -- so many sweeps less
@@ -70,13 +82,13 @@ pub sweeps_less : (sweeps less more : ℕ) → less + sweep_period * sweeps ≤ 
 sweeps_less sweeps less more le = omega (arith, le)
 
 -- a command that was answered left the rest to those behind it
-pub rest_ready : (later : List Command) (v : SeatView)
-    → let left = both (with_sheds v (notes_alone 0)) (with_takes (left_for_all later)) in let rest =
-    left_for_rest later Ready v in
+pub rest_ready : (composes : Bool) (later : List Command) (v : SeatView)
+    → let left = both (with_sheds v (notes_alone 0)) (with_takes (left_for_each composes later)) in let rest =
+    left_for_rest composes later Ready v in
     (left.notes ≡ rest.notes) × (left.asks ≡ rest.asks) × (left.moves ≡ rest.moves)
     × ((to : ℕ) → left.sends to ≡ rest.sends to)
-rest_ready [] v = (omega arith, omega arith, omega arith, λ to. omega arith)
-rest_ready (c ∷ later) v = (omega arith, omega arith, omega arith, λ to. omega arith)
+rest_ready composes [] v = (omega arith, omega arith, omega arith, λ to. omega arith)
+rest_ready composes (c ∷ later) v = (omega arith, omega arith, omega arith, λ to. omega arith)
 
 -- ---- Room behind a turn.
 

@@ -14,14 +14,28 @@ pub mod ReadLaws
 pub mod DrainSteps
 pub mod EntryCounts
 pub mod StateReads
+pub mod RefusalLists
+pub mod CompositionTests
+pub mod CompositionLaws
+pub mod CompositionReads
+pub mod Makeable
 pub mod DeskLaws
+pub mod DeskGrown
+pub mod DeskWaits
 pub mod Turning
+pub mod CompositeTurns
 pub mod Commands
 pub mod AccessTurns
 pub mod ByteTurns
 pub mod PostTurns
 pub mod PassTurns
 pub mod StageTurns
+pub mod StageCases
+pub mod BeginTurns
+pub mod AllotTurns
+pub mod EndTurns
+pub mod DrainTurns
+pub mod StageNeeds
 pub mod AllocTurns
 pub mod LaneLogs
 pub mod LaneRooms
@@ -31,7 +45,27 @@ pub mod EitherLane
 pub mod StoppedLogs
 pub mod Heeding
 pub mod StoppedTurns
+pub mod LaneKept
 pub mod LaneTurns
+pub mod Carrying
+pub mod LaneCloses
+pub mod VecLaws
+pub mod PartReads
+pub mod PartSteps
+pub mod CrossSteps
+pub mod CopySteps
+pub mod Skipping
+pub mod ReleaseSteps
+pub mod PartTurns
+pub mod ReleaseTurns
+pub mod CopyTurns
+pub mod ConsolidateLaws
+pub mod ConsolidateTurns
+pub mod WorkTurns
+pub mod PlanReads
+pub mod CrossTurns
+pub mod PlanParts
+pub mod PlanCommands
 mod PlayedLists
 mod PlayedRoom
 mod PlayedSeats

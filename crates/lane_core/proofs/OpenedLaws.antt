@@ -1,21 +1,21 @@
 -- A lane that has done nothing is a lane of its pool.
-use Rattle.std.proofs.Common.{◌≡◌, ℕ, zero, suc, ◌+◌, ◌*◌, ◌/◌, ◌≤◌, Bool, true, false, List, [], ◌∷◌, ◌++◌, length, map, take, drop, replicate, refl, sym, ap, ◌∙◌, subst, arith, Option, Some, None, ltb-true, le-ltb}
-use Rattle.std.specs.Prelude.{◌==◌, nat_lt, if◌then◌else◌, All, option_map, sum}
-use Rattle.std.proofs.lemmas.Bool.{and_parts}
+use Rattle.std.proofs.Common.{◌≡◌, ℕ, zero, suc, ◌+◌, ◌*◌, ◌/◌, ◌≤◌, Bool, true, false, List, [], ◌∷◌, ◌++◌, length, map, take, drop, replicate, refl, sym, ap, ◌∙◌, subst, arith, Option, Some, None, ltb-true}
+use Rattle.std.specs.Prelude.{◌||◌, nat_le, nat_lt, All, sum}
+use Rattle.std.specs.List.{list_any}
+use Rattle.std.proofs.lemmas.Bool.{and_parts, leb-true}
 use Rattle.std.proofs.lemmas.List.Elements.{All-cons, All-head, All-tail}
 use Rattle.std.proofs.lemmas.Option.{IfSome_then}
 use Rattle.pool_law.specs.declared.command.Command.{Command}
 use Rattle.pool_law.specs.declared.id.RootId.{RootId}
-use Rattle.pool_law.specs.declared.id.ViewData.{ViewData}
 use Rattle.pool_law.specs.declared.run.Answered.{Answered}
 use Rattle.pool_law.specs.declared.run.Shape.{Shape}
 use Rattle.pool_law.specs.Legal.{all_fit, fits_after}
 use Rattle.pool_law.specs.Limits.{cached_classes}
-use Rattle.pool_law.specs.Bounds.{note_bound}
+use Rattle.pool_law.specs.Bounds.{composes, note_bound, most_drained}
 use Rattle.pool_law.specs.LaneLaw.{sweep_period, lane_run, before_stop, pieces, note_counts, replies_in}
 use Rattle.pool_law.specs.LaneStates.{new_lane}
 use Rattle.pool_law.specs.Lanes.{turn}
-use Rattle.pool_law.specs.Names.{Plain}
+use Rattle.pool_law.specs.Names.{Bound}
 use Rattle.pool_law.specs.Patterns.{closing}
 use Rattle.pool_law.specs.Readers.{Entries}
 use Rattle.pool_table.specs.declared.views.Entry.{Entry}
@@ -33,18 +33,18 @@ use Rattle.lane_core.specs.declared.desk.Stage.TheVariants.{Ready}
 use Rattle.lane_core.specs.declared.lane.Lane.{Lane}
 use Rattle.lane_core.specs.declared.lane.Parts.{Parts}
 use Rattle.lane_core.specs.Budgets.{Left, all_out}
-use Rattle.seat_work.specs.Hands.{empty_hand, IsHeld}
+use Rattle.seat_work.specs.Hands.{empty_hand}
 use Rattle.lane_core.specs.Sampled.{AreSampled}
-use Rattle.lane_core.specs.Named.{bound_at, NamesAre, ChangesBelow}
+use Rattle.lane_core.specs.Named.{bound_at, NamesAre, AreViews, ChangesBelow}
 use Rattle.lane_core.specs.Counting.{counted, CountsAre}
 use Rattle.lane_core.specs.Desks.{IsDesk, entries_of, FitsDesk, HasRoomFor}
-use Rattle.lane_core.specs.Lanes.{IsRunningLane, HasAnswered, IsBegun, left_for_all, left_for_rest, left_to_ask, commands_left, answered_entries, entries_since, both}
+use Rattle.lane_core.specs.Lanes.{left_for_each, IsRunningLane, HasAnswered, IsBegun, left_for_rest, left_to_ask, commands_left, answered_entries, both}
 use Rattle.lane_core.specs.Readings.{ReadsOn, none_asked}
-use Rattle.lane_core.specs.Opened.{IsPlain, AreFirst, IsFirstSeat, AreParts}
+use Rattle.lane_core.specs.Opened.{AreFirst, IsFirstSeat, AreParts}
 use Rattle.lane_core.proofs.LaneRooms.{rest_ready}
 use Rattle.lane_core.proofs.Outs.{none_out}
 use Rattle.lane_core.proofs.ReadLaws.{still_on}
-use Rattle.lane_core.proofs.RoomLaws.{all_few, all_asks_few, all_takes, bound_is}
+use Rattle.lane_core.proofs.RoomLaws.{all_takes, bound_is, bound_few}
 
 -- ---- The log and the names at first.
 CountsAre-none : (cs : List Counted) → ((root : RootId) → counted cs root ≡ 0) → (es : Entries) → es ≡ []
@@ -57,40 +57,59 @@ unbound_at zero name = refl
 unbound_at (suc n) zero = refl
 unbound_at (suc n) (suc name) = unbound_at n name
 
-NamesAre-none : (names : List (Option ViewData)) → names ≡ replicate (length names) None → NamesAre [] names
-NamesAre-none names e name =
-    sym (ap (λ (xs : List (Option ViewData)). option_map Plain (bound_at xs name)) e
-    ∙ ap (option_map Plain) (unbound_at (length names) name))
+module _ (names : List (Option Bound)) (e : names ≡ replicate (length names) None) where
+  none_at : (name : ℕ) → bound_at names name ≡ None
+  none_at name = ap (λ (xs : List (Option Bound)). bound_at xs name) e ∙ unbound_at (length names) name
+
+  NamesAre-none : NamesAre [] names
+  NamesAre-none name = sym (none_at name)
+
+  AreViews-none : AreViews names
+  AreViews-none name c bound = (let none = none_at name in absurd (cc (none, bound)))
 
 -- ---- The commands.
-fits_desk : (d : Desk) (earlier : List Command) (c : Command) → IsPlain c → ChangesBelow (length d.names) c
-    → fits_after d.shape earlier c ≡ true → FitsDesk d c
-fits_desk d earlier (Command.Alloc name size) plain below fits = below
-fits_desk d earlier (Command.Set name at bytes tries) plain below fits = below
-fits_desk d earlier (Command.Get name at len tries) plain below fits = below
-fits_desk d earlier (Command.Write name bytes) plain below fits = below
-fits_desk d earlier (Command.Read name len) plain below fits = below
-fits_desk d earlier (Command.Slice fresh name at len retained) plain below fits = below
-fits_desk d earlier (Command.Dup fresh name) plain below fits = below
-fits_desk d earlier (Command.Retain name) plain below fits = tt
-fits_desk d earlier (Command.Release name) plain below fits = tt
-fits_desk d earlier (Command.Refcnt name) plain below fits = tt
-fits_desk d earlier (Command.Touch name) plain below fits = tt
-fits_desk d earlier (Command.Forget name) plain below fits = below
-fits_desk d earlier (Command.Send name lane) plain below fits = ltb-true lane d.shape.lanes fits
-fits_desk d earlier (Command.Recv fresh lane) plain below fits =
+fits_desk : (d : Desk) (earlier : List Command) (c : Command) → (composes c ≡ true → d.composes ≡ true)
+    → ChangesBelow (length d.names) c → fits_after d.shape earlier c ≡ true → FitsDesk d c
+fits_desk d earlier (Command.Alloc name size) some below fits = below
+fits_desk d earlier (Command.Set name at bytes tries) some below fits = below
+fits_desk d earlier (Command.Get name at len tries) some below fits = below
+fits_desk d earlier (Command.Write name bytes) some below fits = below
+fits_desk d earlier (Command.Read name len) some below fits = below
+fits_desk d earlier (Command.Slice fresh name at len retained) some below fits = below
+fits_desk d earlier (Command.Dup fresh name) some below fits = below
+fits_desk d earlier (Command.Retain name) some below fits = tt
+fits_desk d earlier (Command.Release name) some below fits = tt
+fits_desk d earlier (Command.Refcnt name) some below fits = tt
+fits_desk d earlier (Command.Touch name) some below fits = tt
+fits_desk d earlier (Command.Forget name) some below fits = below
+fits_desk d earlier (Command.Send name lane) some below fits = ltb-true lane d.shape.lanes fits
+fits_desk d earlier (Command.Recv fresh lane) some below fits =
     (below, ltb-true lane d.shape.lanes (and_parts (nat_lt lane d.shape.lanes) _ fits).0)
-fits_desk d earlier (Command.Compose fresh names) plain below fits = absurd plain
-fits_desk d earlier (Command.Add whole name) plain below fits = absurd plain
+fits_desk d earlier (Command.Compose fresh names) some below fits =
+    let parts = and_parts (nat_le 1 (length names)) (nat_le (length names) 24) fits in
+    (below, some refl, leb-true 1 (length names) parts.0, leb-true (length names) 24 parts.1)
+fits_desk d earlier (Command.Add whole name) some below fits = tt
 
-all_fit_desk : (d : Desk) (earlier cs : List Command) → all_fit d.shape earlier cs ≡ true → All IsPlain cs
-    → All (ChangesBelow (length d.names)) cs → All (FitsDesk d) cs
-all_fit_desk d earlier [] fit plain below = λ k e lt. absurd (omega (arith, lt))
-all_fit_desk d earlier (c ∷ cs) fit plain below =
+-- one of the commands makes a composite
+any_first : (c : Command) (cs : List Command) → composes c ≡ true → list_any composes (c ∷ cs) ≡ true
+any_first c cs is = ap (λ (b : Bool). b || list_any composes cs) is
+
+any_later : (c : Command) (cs : List Command) → list_any composes cs ≡ true → list_any composes (c ∷ cs) ≡ true
+any_later c cs is = ap (λ (b : Bool). composes c || b) is ∙ or_true (composes c)
+  where
+    or_true : (b : Bool) → (b || true) ≡ true
+    or_true true = refl
+    or_true false = refl
+
+all_fit_desk : (d : Desk) (earlier cs : List Command) → all_fit d.shape earlier cs ≡ true
+    → (list_any composes cs ≡ true → d.composes ≡ true) → All (ChangesBelow (length d.names)) cs → All (FitsDesk d) cs
+all_fit_desk d earlier [] fit some below = λ k e lt. absurd (omega (arith, lt))
+all_fit_desk d earlier (c ∷ cs) fit some below =
     let parts = and_parts (fits_after d.shape earlier c) (all_fit d.shape (earlier ++ c ∷ []) cs) fit in
     All-cons (FitsDesk d) c cs
-    (fits_desk d earlier c (All-head IsPlain c cs plain) (All-head (ChangesBelow (length d.names)) c cs below) parts.0)
-    (all_fit_desk d (earlier ++ c ∷ []) cs parts.1 (All-tail IsPlain c cs plain)
+    (fits_desk d earlier c (λ is. some (any_first c cs is)) (All-head (ChangesBelow (length d.names)) c cs below)
+    parts.0)
+    (all_fit_desk d (earlier ++ c ∷ []) cs parts.1 (λ is. some (any_later c cs is))
     (All-tail (ChangesBelow (length d.names)) c cs below))
 
 -- a lane that is made of these parts
@@ -101,6 +120,7 @@ made shape l p =
           record l.desk {
             shape = shape;
             classes = p.classes;
+            composes = p.composes;
             names = p.names;
             counts = p.counts;
             sampler = p.sampler;
@@ -138,6 +158,11 @@ module _ (pool : SharedPool) (shape : Shape) (l : Lane) (p : Parts)
           p.sampler)
           (sym first.notes) (sym parts.sampler);
       begun = omega arith;
+      composites = record {
+        unmixed = λ no. AreViews-none p.names parts.names;
+        few = λ name c bound. absurd (AreViews-none p.names parts.names name c bound);
+        formed = λ name c bound. absurd (AreViews-none p.names parts.names name c bound);
+      };
     }
 
     answered : HasAnswered shape (lane_of l.desk.seat) new new_lane
@@ -168,41 +193,43 @@ module _ (pool : SharedPool) (shape : Shape) (l : Lane) (p : Parts)
 
     -- ---- What is left is what the bound is of.
     abbrev R : Left
-    R = left_for_all l.commands
+    R = left_for_each p.composes l.commands
 
     abbrev v : SeatView
     v = view_of l.desk.seat
 
     abbrev rest_for : List Command → Left
-    rest_for cs = left_for_rest cs Ready v
+    rest_for cs = left_for_rest p.composes cs Ready v
 
     abbrev left_for_these : List Command → Left
     left_for_these cs = both (rest_for cs) (left_to_ask Ready (0 + (rest_for cs).asks))
 
     rest_asks : (rest_for l.commands).asks ≡ R.asks
-    rest_asks = let a = (rest_ready l.commands v).1 in omega (arith, a)
+    rest_asks = let a = (rest_ready p.composes l.commands v).1 in omega (arith, a)
+
+    bound_at_kind : note_bound l.commands ≡ R.notes + most_drained R.asks
+    bound_at_kind =
+        subst (λ (x : Bool). note_bound l.commands ≡ (left_for_each x l.commands).notes
+        + most_drained (left_for_each x l.commands).asks) (sym parts.composes) (bound_is l.commands)
 
     left_is : (left_for_these l.commands).notes ≡ note_bound l.commands
     left_is =
-        let a = (rest_ready l.commands v).0 in let none : all_out v ≡ 0 = none_out v first.notes in
-        let takes = all_takes l.commands in let bound = bound_is l.commands are.plain in
+        let a = (rest_ready p.composes l.commands v).0 in let none : all_out v ≡ 0 = none_out v first.notes in
+        let takes = all_takes p.composes l.commands in let bound = bound_at_kind in
         let asked : 0 + (rest_for l.commands).asks ≡ R.asks = (let b = rest_asks in omega (arith, b)) in
         let asks : cached_classes * (1 + (0 + (rest_for l.commands).asks) / sweep_period)
         ≡ cached_classes * (1 + R.asks / sweep_period) =
         ap (λ (k : ℕ). cached_classes * (1 + k / sweep_period)) asked in
         omega (arith, a, none, takes, bound, asks)
 
-    bound_few : note_bound l.commands ≤ 1048576
-    bound_few =
-        let bound = bound_is l.commands are.plain in let few_notes = all_few l.commands are.plain in
-        let few_asks = all_asks_few l.commands in let few = are.commands_are.few in
-        omega (arith, bound, few_notes, few_asks, few)
-
     room : HasRoomFor new.desk (left_for_these l.commands)
     room =
-        (let no_notes = ap length first.notes in let is = left_is in let few = bound_few in
-        let capacity = parts.notes.1 in let turns = first.turns in let moves = first.moves in
-        let rest_moves = (rest_ready l.commands v).2 in
+        (let no_notes = ap length first.notes in let is = left_is in let few = bound_few l.commands
+        are.commands_are.few in
+        let capacity = parts.notes.1 in let turns = first.turns in
+        let moves : R.moves ≤ v.moves =
+        subst (λ (x : Bool). (left_for_each x l.commands).moves ≤ v.moves) (sym parts.composes) first.moves in
+        let rest_moves = (rest_ready p.composes l.commands v).2 in
         record {
           notes = omega (arith, no_notes, is, capacity);
           few = omega (arith, no_notes, is, few);
@@ -213,8 +240,11 @@ module _ (pool : SharedPool) (shape : Shape) (l : Lane) (p : Parts)
               (λ setting mail. (
                 mail.0,
                 mail.1,
-                (let none = ap (posts (lane_of l.desk.seat) to) first.notes in let enough = mail.2 in let rest_sends =
-                    (rest_ready l.commands v).3 to in omega (arith, none, enough, rest_sends)),
+                (let none = ap (posts (lane_of l.desk.seat) to) first.notes in
+                    let enough : R.sends to ≤ mail.0 =
+                    subst (λ (x : Bool). (left_for_each x l.commands).sends to ≤ mail.0) (sym parts.composes) mail.2 in
+                    let rest_sends =
+                    (rest_ready p.composes l.commands v).3 to in omega (arith, none, enough, rest_sends)),
               ));
         })
 
@@ -225,7 +255,9 @@ module _ (pool : SharedPool) (shape : Shape) (l : Lane) (p : Parts)
       fits = omega arith;
       shape = first.limits;
       commands = are.commands_are;
-      plain = all_fit_desk new.desk [] l.commands are.commands_are.fit are.plain parts.below;
+      composing = parts.composes;
+      plain = all_fit_desk new.desk [] l.commands are.commands_are.fit (λ is. parts.composes ∙ is)
+          parts.below;
       few = (let none = ap length parts.replies.0 in omega (arith, none));
       state = new_lane;
       answered = answered;

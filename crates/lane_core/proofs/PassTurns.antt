@@ -1,5 +1,5 @@
 -- The turns of the commands of a stopped lane, which are passed over.
-use Rattle.std.proofs.Common.{◌≡◌, ℕ, ◌+◌, ◌-◌, ◌<◌, ◌≤◌, List, [], ◌∷◌, ◌++◌, false, length, map, refl, sym, ap, ◌∙◌, subst, arith, Option, length-append, append-nil}
+use Rattle.std.proofs.Common.{◌≡◌, ℕ, ◌-◌, ◌<◌, ◌≤◌, List, [], ◌∷◌, ◌++◌, false, length, map, refl, sym, ap, ◌∙◌, subst, arith, Option, length-append, append-nil}
 use Rattle.std.specs.Prelude.{◌==◌, IsSome, option_and_then, vec_capacity}
 use Rattle.std.proofs.lemmas.List.{length-map}
 use Rattle.std.proofs.lemmas.List.Sums.{sum_by-cons}
@@ -13,7 +13,8 @@ use Rattle.pool_law.specs.declared.run.Reply.{Reply}
 use Rattle.pool_law.specs.Dids as says
 use Rattle.pool_law.specs.LaneStates.{new_lane, log_at}
 use Rattle.pool_law.specs.Lanes.{not_carried_out, no_parcel}
-use Rattle.pool_law.specs.Readers.{Log, ◌>>◌, give, note, at_end, read_all}
+use Rattle.pool_law.specs.Readers.{Log, ◌>>◌, give, at_end, read_all}
+use Rattle.lane_core.proofs.NameLaws.{rebound_same}
 use Rattle.pool_table.specs.declared.views.Entry.{Entry}
 use Rattle.pool_table.specs.Seats.{view_of}
 use Rattle.shared_pool.specs.declared.pool.SharedPool.{SharedPool}
@@ -33,7 +34,9 @@ use Rattle.seat_work.proofs.Grown.{Grows}
 use Rattle.lane_core.proofs.Grown.{spends}
 use Rattle.lane_core.proofs.EntryCounts.{Recounts, none_recounted, still}
 use Rattle.lane_core.proofs.ReadLaws.{note_on}
-use Rattle.lane_core.proofs.DeskLaws.{Advances, advances_none, grew, length_is, lengthened, spends_at, still_spent, still_waits, unmoved}
+use Rattle.lane_core.proofs.DeskLaws.{Advances, advances_none, spends_at}
+use Rattle.lane_core.proofs.DeskGrown.{grew, length_is, lengthened}
+use Rattle.lane_core.proofs.DeskWaits.{still_spent, still_waits, unmoved}
 use Rattle.lane_core.proofs.Turning.{grows_same}
 use Rattle.lane_core.proofs.PostTurns.{one_post, posted_entry, post_advances}
 
@@ -69,7 +72,7 @@ module _ (pool : SharedPool) (command : Command) (old mid new : Desk) (d : IsDes
 
   -- it is answered so behind what it noted
   pub passed : Recounts old.counts old.counts (map entry_of added) → AreSampled old.sampler added old.sampler
-      → Spends (view_of old.seat) (view_of mid.seat) (left_for command) (notes_alone 0)
+      → Spends (view_of old.seat) (view_of mid.seat) (left_for old.composes command) (notes_alone 0)
       → IsSome (read_all (not_carried_out (lane_of old.seat) command) (log_at new_lane (map entry_of added)))
       → PassesOver pool old new command (Went Ready)
   passed recounts sampled spent reads =
@@ -83,10 +86,15 @@ module _ (pool : SharedPool) (command : Command) (old mid new : Desk) (d : IsDes
             grew pool empty_hand empty_hand old start mid d refl added 0 adv noted passed_desk refl recounts refl
             sampled (omega (arith, long))
             (subst (λ n. n ≤ vec_capacity new.replies) (ap (λ (x : Desk). vec_capacity x.replies) noted.rest)
-            replied.room) refl;
+            replied.room) 1 (rebound_same 1 old.names old.names refl)
+            (let a = ap (λ (xs : List Answered). length xs) replied.replies in
+            let b = ap (λ (x : Desk). length x.replies.items) noted.rest in
+            let c = length-append mid.replies.items (record
+            { reply = Reply.Stopped; notes = length mid.notes.items - mid.begun } ∷ []) in
+            omega (arith, a, b, c));
         names = refl;
         asked = refl;
-        spends = spends_at old passed_desk (left_for command) (notes_alone 0) spent (omega arith);
+        spends = spends_at old passed_desk (left_for old.composes command) (notes_alone 0) spent (omega arith);
         comes = record {
           notes = length mid.notes.items - old.begun;
           replies =
@@ -114,7 +122,7 @@ passed_silently pool command old new d other replied =
     (record { same = (refl, refl); seat = d.seat; grows = grows; held = d.held })
     (record { log = sym (append-nil old.notes.items); room = omega arith; rest = refl }) replied
     (none_recounted old.counts) refl
-    (spends v v [] 0 grows (left_for command) (notes_alone 0) (omega arith) (omega arith) (omega arith)
+    (spends v v [] 0 grows (left_for old.composes command) (notes_alone 0) (omega arith) (omega arith) (omega arith)
     (λ to. omega arith))
     (reads_nothing (lane_of old.seat) command other)
 
@@ -134,10 +142,12 @@ module _ (pool : SharedPool) (name receiver : ℕ) (old mid : Desk) (d : IsDesk 
         ends = λ root. refl;
       }) (λ root uses. absurd (cc uses)))
       (tt, refl)
-      (spends (view_of old.seat) (view_of mid.seat) (e ∷ []) 0 adv.grows (left_for (Command.Send name receiver))
+      (spends (view_of old.seat) (view_of mid.seat) (e ∷ []) 0 adv.grows (left_for old.composes
+      (Command.Send name receiver))
       (notes_alone 0) (omega arith) (let t = sum_by-cons takes e [] in omega (arith, t)) (omega arith)
       (λ to.
-      (let a : posts (lane_in (view_of old.seat)) to (e ∷ []) ≤ (left_for (Command.Send name receiver)).sends to =
+      (let a : posts (lane_in (view_of old.seat)) to (e ∷ []) ≤ (left_for old.composes
+      (Command.Send name receiver)).sends to =
       one_post (lane_of old.seat == lane_in (view_of old.seat)) (receiver == to) in omega (arith, a))))
       (subst (λ (o : Option (Unit {0} × Log)). IsSome
       (option_and_then (λ (got : Unit {0} × Log). (at_end >> give got.0) got.1) o))

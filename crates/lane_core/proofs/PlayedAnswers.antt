@@ -1,10 +1,8 @@
 -- The log of a lane that has finished is its commands' and the closing's.
-use Rattle.std.proofs.Common.{◌≡◌, ℕ, ◌-◌, ◌≤◌, List, [], ◌∷◌, ◌++◌, length, map, take, drop, refl, sym, ap, subst, arith, Some, ◌∙◌}
-use Rattle.std.specs.Prelude.{sum, Option, option_map, option_and_then}
-use Rattle.std.proofs.lemmas.List.{length-drop}
+use Rattle.std.proofs.Common.{◌≡◌, ℕ, List, [], length, take, drop, sym, ap, subst, arith, Some, ◌∙◌}
+use Rattle.std.specs.Prelude.{Option, option_map, option_and_then}
 use Rattle.pool_law.specs.declared.command.Command.{Command}
 use Rattle.pool_law.specs.declared.run.Answered.{Answered}
-use Rattle.pool_law.specs.declared.run.Reply.{Reply}
 use Rattle.pool_law.specs.LaneLaw.{IsLaneLog, sweep_period, lane_run, before_stop, stopped_run, note_counts, replies_in, pieces, closes}
 use Rattle.pool_law.specs.LaneStates.{new_lane, log_at}
 use Rattle.pool_law.specs.Patterns.{closing}
@@ -12,7 +10,6 @@ use Rattle.pool_law.specs.Readers.{Entries, Log, ended_with}
 use Rattle.pool_law.proofs.HistoryLemmas.{append-nil}
 use Rattle.shared_pool.specs.declared.pool.SharedPool.{SharedPool}
 use Rattle.shared_pool.specs.Closing.{entry_of}
-use Rattle.lane_core.specs.declared.desk.Stage.TheVariants.{Closing}
 use Rattle.lane_core.specs.declared.draining.DrainKind.TheVariants.{Close}
 use Rattle.lane_core.specs.declared.draining.Draining.TheVariants.{Done}
 use Rattle.lane_core.specs.declared.lane.Lane.{Lane}
@@ -22,7 +19,7 @@ use Rattle.lane_core.specs.Lanes.{HasPassedOver, IsClosing, entries_since, numbe
 use Rattle.lane_core.specs.Played.{IsFinishedLane}
 use Rattle.lane_core.specs.Readings.{ReadsOn, none_asked}
 use Rattle.lane_core.proofs.EitherLane.{lane_or, lane_desk}
-use Rattle.lane_core.proofs.LaneTurns.{close_had}
+use Rattle.lane_core.proofs.LaneCloses.{close_had}
 use Rattle.lane_core.proofs.StoppedLogs.{answered_passed}
 use Rattle.lane_core.proofs.StoppedTurns.{stopped_had}
 use Rattle.lane_core.proofs.PlayedLists.{take-all, pieces-within, behind-is, length-map}

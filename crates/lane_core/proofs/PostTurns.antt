@@ -14,18 +14,15 @@ use Rattle.pool_law.specs.declared.note.Object.TheVariants.{Mail}
 use Rattle.pool_law.specs.declared.run.Reply.{Reply}
 use Rattle.pool_law.specs.declared.run.Shape.{Shape}
 use Rattle.pool_law.specs.Counts.{view_is_of}
-use Rattle.pool_law.specs.Naming.{noted_by}
 use Rattle.pool_law.specs.Dids as says
 use Rattle.pool_law.specs.LaneLaw.{before_stop}
 use Rattle.pool_law.specs.LaneStates.{LaneState}
 use Rattle.pool_law.specs.Lanes.{Answer, answer, answer_of, received, no_parcel, parcel_of}
-use Rattle.pool_law.specs.Names.{Plain, Names, bind}
-use Rattle.pool_law.specs.Readers.{Log, Reader, ◌>>=◌, ◌>>◌, give, given, note}
-use Rattle.pool_law.proofs.ListLemmas.{slice_set-length}
+use Rattle.pool_law.specs.Names.{Plain, Names, bind, Bound}
+use Rattle.pool_law.specs.Readers.{Reader, ◌>>=◌, ◌>>◌, give, given, note}
 use Rattle.pool_law.proofs.PatternLemmas.{same_number, same_root-refl}
 use Rattle.table_law.specs.NoteCounts.{one_if_so, view_of_root}
 use Rattle.pool_table.specs.declared.views.Entry.{Entry}
-use Rattle.pool_table.specs.declared.views.Entry.TheVariants.{At}
 use Rattle.pool_table.specs.declared.views.SeatView.{SeatView}
 use Rattle.pool_table.specs.Counts.{weigh, on_this, ref_gain, ref_loss, fetches, posts as posted_of, HasCount}
 use Rattle.pool_table.specs.Seats.{view_of, SameSeat}
@@ -49,9 +46,9 @@ use Rattle.lane_core.specs.Named.{bound_at, NamesAre}
 use Rattle.lane_core.specs.Readings.{before_left, behind, ReadsOn, none_asked}
 use Rattle.lane_core.specs.Desks.{IsDesk, notes_of, entries_of, HasRoomFor, left_for, HasTurned}
 use Rattle.lane_core.specs.DeskSteps.{CanAnswer, HasNoted, HasReplied, HasPosted, CountsMore, CountsLess, MayTurn, left_to_post}
-use Rattle.lane_core.proofs.NameLaws.{NamesAre-bind}
+use Rattle.lane_core.proofs.NameLaws.{NamesAre-bind, RebindsAt, rebound_same, rebound_view}
 use Rattle.seat_work.proofs.Grown.{Grows, grows_noted, weigh_more}
-use Rattle.seat_work.proofs.HandLaws.{Carries, held_on}
+use Rattle.seat_work.proofs.HandLaws.{held_on}
 use Rattle.lane_core.proofs.EntryCounts.{Recounts, still, posted, fetched, own_count, has_count, few_counted, stays_counted}
 use Rattle.lane_core.proofs.StateReads.{used_view, refused_view, viewed, goes, refuses}
 use Rattle.lane_core.proofs.DeskLaws.{Advances, can_answer_noted}
@@ -120,10 +117,11 @@ has_posted pool old start mid start_is same seat receiver number parcel made not
 
 -- then there is room for the reply
 pub can_answer_posted : (pool : SharedPool) (name receiver : ℕ) (old mid : Desk)
-    → MayTurn pool (left_for (Command.Send name receiver)) old → (parcel : Parcel)
+    → MayTurn pool (left_for old.composes (Command.Send name receiver)) old → (parcel : Parcel)
     → HasPosted pool old mid receiver parcel → CanAnswer mid
 can_answer_posted pool name receiver old mid may parcel did =
-    can_answer_noted pool (left_for (Command.Send name receiver)) old may (omega arith) (record old { seat = mid.seat })
+    can_answer_noted pool (left_for old.composes (Command.Send name receiver)) old may (omega arith)
+    (record old { seat = mid.seat })
     mid (Note.At (Mail (lane_of old.seat) receiver) did.number (Did.Post parcel)) did.noted refl
 
 -- ---- A parcel that is sent.
@@ -150,7 +148,7 @@ module _ (pool : SharedPool) (receiver : ℕ) (old mid : Desk) (d : IsDesk pool 
       }
 
 module _ (pool : SharedPool) (name receiver : ℕ) (old mid new : Desk)
-    (may : MayTurn pool (left_for (Command.Send name receiver)) old) (parcel : Parcel)
+    (may : MayTurn pool (left_for old.composes (Command.Send name receiver)) old) (parcel : Parcel)
     (did : HasPosted pool old mid receiver parcel) where
   abbrev e : Entry
   e = posted_entry pool receiver old mid may.desk parcel did
@@ -177,13 +175,13 @@ module _ (pool : SharedPool) (name receiver : ℕ) (old mid new : Desk)
       (λ to. one_post (lane_of old.seat == lane_in (view_of old.seat)) (receiver == to)) reads
 
 module _ (pool : SharedPool) (name receiver : ℕ) (old mid new : Desk)
-    (may : MayTurn pool (left_for (Command.Send name receiver)) old) (s : LaneState)
+    (may : MayTurn pool (left_for old.composes (Command.Send name receiver)) old) (s : LaneState)
     (state : IsState s old.names old.counts) where
   mid_counts : (parcel : Parcel) → HasPosted pool old mid receiver parcel → mid.counts ≡ old.counts
   mid_counts parcel did = ap (λ (x : Desk). x.counts) did.noted.rest
 
   -- a view is sent
-  pub send_turn : (v : ViewData) → bound_at old.names name ≡ Some v → 0 < counted old.counts v.root
+  pub send_turn : (v : ViewData) → bound_at old.names name ≡ Some (Plain v) → 0 < counted old.counts v.root
       → (did : HasPosted pool old mid receiver (parcel_of v)) (cs : List Counted) → CountsLess mid.counts cs v.root
       → HasReplied (record mid { counts = cs }) new Reply.Ok
       → HasTurned pool old new s (Command.Send name receiver) Ready (Went Ready)
@@ -250,7 +248,8 @@ module _ (pool : SharedPool) (name receiver : ℕ) (old mid new : Desk)
 -- ---- A parcel that comes.
 
 module _ (pool : SharedPool) (fresh from : ℕ) (old start mid new : Desk)
-    (may : MayTurn pool (left_for (Command.Recv fresh from)) old) (start_is : start ≡ record old { seat = start.seat })
+    (may : MayTurn pool (left_for old.composes (Command.Recv fresh from)) old)
+    (start_is : start ≡ record old { seat = start.seat })
     (same : SameSeat old.seat start.seat) (seat : IsPoolSeat pool start.seat) (number : ℕ) (parcel : Parcel)
     (made : IsNoted pool old.seat start.seat (Mail from (lane_of old.seat)) number (plain (Did.Fetch parcel)))
     (noted : HasNoted start mid (Note.At (Mail from (lane_of old.seat)) number (Did.Fetch parcel) ∷ [])) where
@@ -274,13 +273,13 @@ module _ (pool : SharedPool) (fresh from : ℕ) (old start mid new : Desk)
             (lane_in (view_of old.seat))) may.desk.held;
       }
 
-  fetched_turn : (cs : List Counted) (names : List (Option ViewData)) (reply : Reply) → before_stop (reply ∷ []) ≡ 1
+  fetched_turn : (cs : List Counted) (names : List (Option Bound)) (reply : Reply) → before_stop (reply ∷ []) ≡ 1
       → HasReplied (record mid { names = names; counts = cs }) new reply → Recounts old.counts cs (entry_of f ∷ [])
-      → length cs ≡ length old.counts → length names ≡ length old.names → (s : LaneState) (bound : Names)
+      → length cs ≡ length old.counts → RebindsAt 1 old names → (s : LaneState) (bound : Names)
       → NamesAre bound names →
       received s fresh parcel.view ≡ answer reply bound
       → HasTurned pool old new s (Command.Recv fresh from) Ready (Went Ready)
-  fetched_turn cs names reply unstopped replied recounts places name_count s bound are answers =
+  fetched_turn cs names reply unstopped replied recounts places rebound s bound are answers =
       let begin : Desk = record start { counts = cs } in
       let sampler_is : start.sampler ≡ old.sampler = ap (λ (x : Desk). x.sampler) start_is in
       let asked_is : start.asked ≡ old.asked = ap (λ (x : Desk). x.asked) start_is in
@@ -291,7 +290,7 @@ module _ (pool : SharedPool) (fresh from : ℕ) (old start mid new : Desk)
       let mail = Mail from (lane_of old.seat) in
       one_turn pool old begin (record mid { counts = cs }) new may.desk may.asked begin_is asked_is f 0 fetch_advances
       (record { log = noted.log; room = noted.room; rest = ap (λ (x : Desk). record x { counts = cs }) noted.rest })
-      names reply unstopped replied recounts places (tt, sym sampler_is) name_count s (Command.Recv fresh from) bound
+      names reply unstopped replied recounts places (tt, sym sampler_is) rebound s (Command.Recv fresh from) bound
       are (omega arith) (omega arith) (omega arith)
       (λ to. no_post ((from == lane_in (view_of old.seat)) && (lane_of old.seat == to)))
       (λ log.
@@ -320,28 +319,27 @@ module _ (pool : SharedPool) (fresh from : ℕ) (old start mid new : Desk)
         ends = λ root. refl;
       }) (λ root uses. absurd (cc uses))))
       (ap (λ (cs : List Counted). length cs) mid_counts_are)
-      (ap (λ (names : List (Option ViewData)). length names) mid_names_are) s s.names
+      (rebound_same 1 old.names mid.names mid_names_are) s s.names
       (subst (NamesAre s.names) (sym mid_names_are) state.names_are)
       (ap (received s fresh) none)
 
   -- a parcel with a view
   pub receive_turn : (v : ViewData) → parcel.view ≡ Some v → fresh < length old.names → (cs : List Counted)
       → CountsMore mid.counts cs v.root → HasReplied
-      (record mid { counts = cs; names = slice_set mid.names fresh (Some v) }) new Reply.Ok → (s : LaneState)
+      (record mid { counts = cs; names = slice_set mid.names fresh (Some (Plain v)) }) new Reply.Ok → (s : LaneState)
       → IsState s old.names old.counts → HasTurned pool old new s (Command.Recv fresh from) Ready (Went Ready)
   receive_turn v some lt cs more replied s state =
       let before : CountsMore old.counts cs v.root =
       subst (λ (ds : List Counted). CountsMore ds cs v.root) mid_counts_are more in
-      fetched_turn cs (slice_set mid.names fresh (Some v)) Reply.Ok refl replied
+      fetched_turn cs (slice_set mid.names fresh (Some (Plain v))) Reply.Ok refl replied
       (subst (λ (p : Parcel). Recounts old.counts cs
       (entry_of (fetch_entry from (lane_of old.seat) number (view_of old.seat).own.number p) ∷ []))
       (λ i. record { view = sym some i })
       (fetched old.counts cs v (Mail from (lane_of old.seat)) number before.counts))
-      before.places (slice_set-length mid.names fresh (Some v)
-      ∙ ap (λ (names : List (Option ViewData)). length names) mid_names_are) s (bind fresh (Plain v) s.names)
-      (subst (λ (names : List (Option ViewData)). NamesAre (bind fresh (Plain v) s.names)
-      (slice_set names fresh (Some v))) (sym mid_names_are)
-      (NamesAre-bind s.names old.names state.names_are fresh v lt))
+      before.places (rebound_view 1 old.names mid.names mid_names_are fresh lt v) s (bind fresh (Plain v) s.names)
+      (subst (λ (names : List (Option Bound)). NamesAre (bind fresh (Plain v) s.names)
+      (slice_set names fresh (Some (Plain v)))) (sym mid_names_are)
+      (NamesAre-bind s.names old.names state.names_are fresh (Plain v) lt))
       (ap (received s fresh) some)
 
   -- of the root's place no other root is counted
@@ -385,7 +383,7 @@ module _ (pool : SharedPool) (fresh from : ℕ) (old start mid new : Desk)
 
   pub can_answer_fetched : CanAnswer mid
   can_answer_fetched =
-      can_answer_noted pool (left_for (Command.Recv fresh from)) old may (omega arith) start mid
+      can_answer_noted pool (left_for old.composes (Command.Recv fresh from)) old may (omega arith) start mid
       (Note.At (Mail from (lane_of old.seat)) number (Did.Fetch parcel)) noted
       (start_is ∙ (λ i. record old {
         seat = start.seat;

@@ -1,5 +1,5 @@
 -- How readings go on over the next entries.
-use Rattle.std.proofs.Common.{◌≡◌, ℕ, ◌+◌, ◌<◌, List, [], ◌∷◌, ◌++◌, Bool, true, false, refl, sym, ap, ◌∙◌, append_assoc, Option, Some, None}
+use Rattle.std.proofs.Common.{◌≡◌, ℕ, ◌+◌, ◌<◌, [], ◌∷◌, ◌++◌, Bool, true, false, refl, sym, ap, ◌∙◌, append_assoc, Option, Some, None}
 use Rattle.std.specs.Prelude.{if◌then◌else◌, nat_le, option_map, option_and_then}
 use Rattle.std.proofs.lemmas.Bool.{lt-leb}
 use Rattle.pool_law.specs.declared.id.RootId.{RootId}
@@ -13,12 +13,12 @@ use Rattle.pool_law.specs.Counts.{root_is}
 use Rattle.pool_law.specs.LaneLaw.{sweep_period}
 use Rattle.pool_law.specs.Lanes.{Answer}
 use Rattle.pool_law.specs.Logs.{Entry}
-use Rattle.pool_law.specs.Patterns.{sweep, sweep_if_due}
-use Rattle.pool_law.specs.Readers.{Entries, Log, Reader, ◌>>=◌, ◌>>◌, ◌or◌, give, nothing, first_of_left, behind_entry, done_at, done_to, marked, note, step, busy, access, ask, asks_anew}
+use Rattle.pool_law.specs.Patterns.{sweep}
+use Rattle.pool_law.specs.Readers.{Entries, Log, Reader, ◌>>=◌, ◌>>◌, ◌or◌, give, nothing, behind_entry, done_at, marked, note, step, busy, access, ask, asks_anew}
 use Rattle.pool_law.specs.Same.{same_object}
 use Rattle.pool_law.proofs.CompositeLemmas.{access-is}
 use Rattle.pool_law.proofs.PatternLemmas.{same_object-refl, note-is, step-is}
-use Rattle.lane_core.specs.Readings.{before_left, behind, ReadsOn, none_asked, one_asked, swept}
+use Rattle.lane_core.specs.Readings.{before_left, ReadsOn, none_asked, one_asked, swept}
 
 -- ---- One reading after another.
 

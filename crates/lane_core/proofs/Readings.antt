@@ -16,8 +16,8 @@ use Rattle.pool_law.specs.declared.run.Shape.{Shape}
 use Rattle.pool_law.specs.Dids as says
 use Rattle.pool_law.specs.Limits.{cached_classes, geometry_of, has_cache}
 use Rattle.pool_law.specs.Logs.{Entry}
-use Rattle.pool_law.specs.Patterns.{New, allot, with_handle, obtain, ask_cache, ask_arena, bear, one_more, put_away, offer, not_kept, give_back, sheds, drain}
-use Rattle.pool_law.specs.Readers.{Log, Reader, ◌>>=◌, ◌>>◌, ◌or◌, give, nothing, given, unless_there, found, not_found, note, step, busy, ending, ask}
+use Rattle.pool_law.specs.Patterns.{New, allot, obtain, ask_cache, ask_arena, bear, one_more, put_away, offer, not_kept, give_back, sheds, drain}
+use Rattle.pool_law.specs.Readers.{Log, Reader, ◌>>=◌, ◌>>◌, ◌or◌, give, nothing, given, unless_there, found, not_found, note, step, busy, ending}
 use Rattle.pool_law.proofs.PatternLemmas.{same_number, same_root-refl, same_region-refl, allot-handle, allot-no_handle}
 use Rattle.lane_core.specs.declared.draining.DrainKind.{DrainKind}
 use Rattle.lane_core.specs.declared.draining.DrainKind.TheVariants.{Trim, Close}

@@ -1,41 +1,46 @@
 -- What commands may spend in all, one command after another.
 use Rattle.std.proofs.Common.{◌≡◌, ℕ, ◌+◌, ◌*◌, ◌<◌, ◌≤◌, Bool, true, false, List, [], ◌∷◌, ◌++◌, length, map, take, get_or, refl, sym, ap, ◌∙◌, subst, arith}
-use Rattle.std.specs.Prelude.{◌==◌, cond, nat_lt, All, sum, ◌||◌}
+use Rattle.std.specs.Prelude.{◌==◌, cond, nat_lt, All, sum}
 use Rattle.std.specs.List.{list_any}
 use Rattle.std.specs.Ordering.{ord_max, nat_cmp, is_lt}
 use Rattle.std.specs.declared.cmp.Ordering.TheVariants.{Less, Equal, Greater}
 use Rattle.std.proofs.lemmas.Bool.{ltb-true, ltb-false}
 use Rattle.std.proofs.lemmas.List.{take_more}
-use Rattle.std.proofs.lemmas.List.Elements.{All-head, All-tail, All-more, All-weaker}
+use Rattle.std.proofs.lemmas.List.Elements.{All-more, All-weaker}
 use Rattle.std.proofs.lemmas.List.Sums.{sum_by-cons}
 use Rattle.std.proofs.lemmas.Option.{IfSome_then}
 use Rattle.pool_law.specs.declared.command.Command.{Command}
 use Rattle.pool_law.specs.Bounds.{composes, may_ask, most_notes, most_drained, note_bound}
-use Rattle.lane_core.specs.Lanes.{left_for_all}
+use Rattle.lane_core.specs.Budgets.{most_of_lane}
+use Rattle.lane_core.specs.Lanes.{left_for_each, left_for_all}
 use Rattle.lane_core.specs.Named.{changed_name, ChangesBelow}
-use Rattle.lane_core.specs.Opened.{IsPlain}
 
--- a command that makes no composite makes at most six notes, and asks at most one cache
-pub few_notes : (c : Command) → IsPlain c → most_notes false c ≤ 6
-few_notes (Command.Alloc name size) plain = omega arith
-few_notes (Command.Set name at bytes true) plain = omega arith
-few_notes (Command.Set name at bytes false) plain = omega arith
-few_notes (Command.Get name at len true) plain = omega arith
-few_notes (Command.Get name at len false) plain = omega arith
-few_notes (Command.Write name bytes) plain = omega arith
-few_notes (Command.Read name len) plain = omega arith
-few_notes (Command.Slice fresh name at len true) plain = omega arith
-few_notes (Command.Slice fresh name at len false) plain = omega arith
-few_notes (Command.Dup fresh name) plain = omega arith
-few_notes (Command.Retain name) plain = omega arith
-few_notes (Command.Release name) plain = omega arith
-few_notes (Command.Refcnt name) plain = omega arith
-few_notes (Command.Touch name) plain = omega arith
-few_notes (Command.Forget name) plain = omega arith
-few_notes (Command.Send name lane) plain = omega arith
-few_notes (Command.Recv fresh lane) plain = omega arith
-few_notes (Command.Compose fresh names) plain = absurd plain
-few_notes (Command.Add whole name) plain = absurd plain
+-- a command makes at most 197 notes, and asks at most one cache
+pub few_notes : (composes : Bool) (c : Command) → most_notes composes c ≤ 197
+few_notes composes (Command.Alloc name size) = omega arith
+few_notes composes (Command.Set name at bytes true) = omega arith
+few_notes true (Command.Set name at bytes false) = omega arith
+few_notes false (Command.Set name at bytes false) = omega arith
+few_notes composes (Command.Get name at len true) = omega arith
+few_notes true (Command.Get name at len false) = omega arith
+few_notes false (Command.Get name at len false) = omega arith
+few_notes true (Command.Write name bytes) = omega arith
+few_notes false (Command.Write name bytes) = omega arith
+few_notes true (Command.Read name len) = omega arith
+few_notes false (Command.Read name len) = omega arith
+few_notes composes (Command.Slice fresh name at len true) = omega arith
+few_notes composes (Command.Slice fresh name at len false) = omega arith
+few_notes composes (Command.Dup fresh name) = omega arith
+few_notes composes (Command.Retain name) = omega arith
+few_notes true (Command.Release name) = omega arith
+few_notes false (Command.Release name) = omega arith
+few_notes composes (Command.Refcnt name) = omega arith
+few_notes composes (Command.Touch name) = omega arith
+few_notes composes (Command.Forget name) = omega arith
+few_notes composes (Command.Send name lane) = omega arith
+few_notes composes (Command.Recv fresh lane) = omega arith
+few_notes composes (Command.Compose fresh names) = omega arith
+few_notes composes (Command.Add whole name) = omega arith
 
 pub one_ask : (c : Command) → may_ask c ≤ 1
 one_ask (Command.Alloc name size) = omega arith
@@ -55,70 +60,66 @@ one_ask (Command.Recv fresh lane) = omega arith
 one_ask (Command.Compose fresh names) = omega arith
 one_ask (Command.Add whole name) = omega arith
 
-pub all_few : (cs : List Command) → All IsPlain cs → (left_for_all cs).notes ≤ 6 * length cs
-all_few [] plain = omega arith
-all_few (c ∷ cs) plain =
-    let one = few_notes c (All-head IsPlain c cs plain) in let rest = all_few cs (All-tail IsPlain c cs plain) in
-    omega (arith, one, rest)
+module _ (composes : Bool) where
+  pub all_few : (cs : List Command) → (left_for_each composes cs).notes ≤ 197 * length cs
+  all_few [] = omega arith
+  all_few (c ∷ cs) = let one = few_notes composes c in let rest = all_few cs in omega (arith, one, rest)
 
-pub all_asks_few : (cs : List Command) → (left_for_all cs).asks ≤ length cs
-all_asks_few [] = omega arith
-all_asks_few (c ∷ cs) = let one = one_ask c in let rest = all_asks_few cs in omega (arith, one, rest)
+  pub all_asks_few : (cs : List Command) → (left_for_each composes cs).asks ≤ length cs
+  all_asks_few [] = omega arith
+  all_asks_few (c ∷ cs) = let one = one_ask c in let rest = all_asks_few cs in omega (arith, one, rest)
 
--- where a cache is asked, a region may be taken
-pub all_takes : (cs : List Command) → (left_for_all cs).takes ≡ (left_for_all cs).asks
-all_takes [] = refl
-all_takes (c ∷ cs) = let rest = all_takes cs in omega (arith, rest)
+  -- where a cache is asked, a region may be taken
+  pub all_takes : (cs : List Command) → (left_for_each composes cs).takes ≡ (left_for_each composes cs).asks
+  all_takes [] = refl
+  all_takes (c ∷ cs) = let rest = all_takes cs in omega (arith, rest)
 
-notes_push : (cs : List Command) (c : Command) → (left_for_all (cs ++ c ∷ [])).notes
-    ≡ (left_for_all cs).notes + most_notes false c
-notes_push [] c = omega arith
-notes_push (b ∷ bs) c = let rest = notes_push bs c in omega (arith, rest)
+  notes_push : (cs : List Command) (c : Command) → (left_for_each composes (cs ++ c ∷ [])).notes
+      ≡ (left_for_each composes cs).notes + most_notes composes c
+  notes_push [] c = omega arith
+  notes_push (b ∷ bs) c = let rest = notes_push bs c in omega (arith, rest)
 
-asks_push : (cs : List Command) (c : Command) → (left_for_all (cs ++ c ∷ [])).asks ≡ (left_for_all cs).asks + may_ask c
-asks_push [] c = omega arith
-asks_push (b ∷ bs) c = let rest = asks_push bs c in omega (arith, rest)
+  asks_push : (cs : List Command) (c : Command) → (left_for_each composes (cs ++ c ∷ [])).asks
+      ≡ (left_for_each composes cs).asks + may_ask c
+  asks_push [] c = omega arith
+  asks_push (b ∷ bs) c = let rest = asks_push bs c in omega (arith, rest)
 
-module _ (cs : List Command) (i : ℕ) (c : Command) (lt : i < length cs) (is : c ≡ get_or cs i c) where
-  more : take (i + 1) cs ≡ take i cs ++ c ∷ []
-  more = take_more cs i c lt ∙ ap (λ x. take i cs ++ x ∷ []) (sym is)
+  module _ (cs : List Command) (i : ℕ) (c : Command) (lt : i < length cs) (is : c ≡ get_or cs i c) where
+    more : take (i + 1) cs ≡ take i cs ++ c ∷ []
+    more = take_more cs i c lt ∙ ap (λ x. take i cs ++ x ∷ []) (sym is)
 
-  pub notes_more : (left_for_all (take (i + 1) cs)).notes ≡ (left_for_all (take i cs)).notes + most_notes false c
-  notes_more = ap (λ xs. (left_for_all xs).notes) more ∙ notes_push (take i cs) c
+    pub notes_more : (left_for_each composes (take (i + 1) cs)).notes
+        ≡ (left_for_each composes (take i cs)).notes + most_notes composes c
+    notes_more = ap (λ xs. (left_for_each composes xs).notes) more ∙ notes_push (take i cs) c
 
-  pub asks_more : (left_for_all (take (i + 1) cs)).asks ≡ (left_for_all (take i cs)).asks + may_ask c
-  asks_more = ap (λ xs. (left_for_all xs).asks) more ∙ asks_push (take i cs) c
+    pub asks_more : (left_for_each composes (take (i + 1) cs)).asks
+        ≡ (left_for_each composes (take i cs)).asks + may_ask c
+    asks_more = ap (λ xs. (left_for_each composes xs).asks) more ∙ asks_push (take i cs) c
 
--- ---- The law's bound.
+  -- ---- The law's bound.
 
-plain_one : (c : Command) → IsPlain c → composes c ≡ false
-plain_one (Command.Compose fresh names) plain = absurd plain
-plain_one _ plain = refl
+  all_notes : (cs : List Command) → sum (map (most_notes composes) cs) ≡ (left_for_each composes cs).notes
+  all_notes [] = refl
+  all_notes (c ∷ cs) =
+      let cut = sum_by-cons (λ (n : ℕ). n) (most_notes composes c) (map (most_notes composes) cs) in
+      let rest = all_notes cs in omega (arith, cut, rest)
 
-no_composite : (cs : List Command) → All IsPlain cs → list_any composes cs ≡ false
-no_composite [] plain = refl
-no_composite (c ∷ cs) plain =
-    ap (λ (b : Bool). b || list_any composes cs) (plain_one c (All-head IsPlain c cs plain))
-    ∙ no_composite cs (All-tail IsPlain c cs plain)
+  all_asks : (cs : List Command) → sum (map may_ask cs) ≡ (left_for_each composes cs).asks
+  all_asks [] = refl
+  all_asks (c ∷ cs) =
+      let cut = sum_by-cons (λ (n : ℕ). n) (may_ask c) (map may_ask cs) in let rest = all_asks cs in
+      omega (arith, cut, rest)
 
-all_notes : (cs : List Command) → sum (map (most_notes false) cs) ≡ (left_for_all cs).notes
-all_notes [] = refl
-all_notes (c ∷ cs) =
-    let cut = sum_by-cons (λ (n : ℕ). n) (most_notes false c) (map (most_notes false) cs) in let rest = all_notes cs in
-    omega (arith, cut, rest)
+-- it is what they may spend in all
+pub bound_is : (cs : List Command) → note_bound cs ≡ (left_for_all cs).notes + most_drained (left_for_all cs).asks
+bound_is cs =
+    let kind : Bool = list_any composes cs in (λ i. all_notes kind cs i + most_drained (all_asks kind cs i))
 
-all_asks : (cs : List Command) → sum (map may_ask cs) ≡ (left_for_all cs).asks
-all_asks [] = refl
-all_asks (c ∷ cs) =
-    let cut = sum_by-cons (λ (n : ℕ). n) (may_ask c) (map may_ask cs) in let rest = all_asks cs in
-    omega (arith, cut, rest)
-
--- for commands that make no composite it is what they may spend in all
-pub bound_is : (cs : List Command) → All IsPlain cs
-    → note_bound cs ≡ (left_for_all cs).notes + most_drained (left_for_all cs).asks
-bound_is cs plain =
-    ap (λ (b : Bool). sum (map (most_notes b) cs) + most_drained (sum (map may_ask cs))) (no_composite cs plain)
-    ∙ (λ i. all_notes cs i + most_drained (all_asks cs i))
+-- and it is within what a lane may note
+pub bound_few : (cs : List Command) → length cs ≤ 65536 → note_bound cs ≤ most_of_lane
+bound_few cs few =
+    let bound = bound_is cs in let notes = all_few (list_any composes cs) cs in
+    let asks = all_asks_few (list_any composes cs) cs in omega (arith, bound, notes, asks, few)
 
 -- names below less are below more
 below_more : (m n : ℕ) → m ≤ n → (c : Command) → ChangesBelow m c → ChangesBelow n c

@@ -1,5 +1,5 @@
 -- A lane that its gate stopped behind a turn of its desk: it is one again, and what the step says is so.
-use Rattle.std.proofs.Common.{◌≡◌, ℕ, suc, ◌+◌, ◌<◌, ◌≤◌, List, [], ◌∷◌, ◌++◌, Bool, true, length, map, take, drop, refl, sym, ap, ◌∙◌, subst, arith, Some, length-append}
+use Rattle.std.proofs.Common.{◌≡◌, ℕ, suc, ◌<◌, ◌≤◌, List, [], ◌∷◌, ◌++◌, Bool, true, length, map, take, drop, refl, sym, ap, ◌∙◌, subst, arith, Some, length-append}
 use Rattle.std.specs.Prelude.{sum, vec_capacity}
 use Rattle.std.proofs.lemmas.List.{map-append, length-map, take-append-le, drop-append-le, length-take-le}
 use Rattle.std.proofs.lemmas.List.Elements.{All-weaker}
@@ -19,7 +19,7 @@ use Rattle.shared_pool.specs.declared.pool.SharedPool.{SharedPool}
 use Rattle.shared_pool.specs.Closing.{entry_of}
 use Rattle.lane_core.specs.declared.desk.Desk.{Desk}
 use Rattle.lane_core.specs.declared.desk.Stage.{Stage}
-use Rattle.lane_core.specs.declared.desk.Stage.TheVariants.{Ready, Allotting, Ending, Sweeping, Closing}
+use Rattle.lane_core.specs.declared.desk.Stage.TheVariants.{Ready, Closing}
 use Rattle.lane_core.specs.declared.desk.Turn.{Turn}
 use Rattle.lane_core.specs.declared.desk.Turn.TheVariants.{Went, Pending, Waiting}
 use Rattle.lane_core.specs.declared.draining.DrainKind.TheVariants.{Close}
@@ -38,9 +38,10 @@ use Rattle.lane_core.specs.Steps.{HasStepped, stepped_of}
 use Rattle.lane_core.proofs.ReadLaws.{still_on, on_append}
 use Rattle.lane_core.proofs.LaneLogs.{cut_more, take_whole, drop_whole, pieces-length, pieces_more, counts_more}
 use Rattle.lane_core.proofs.LaneRooms.{notes_grew}
-use Rattle.lane_core.proofs.LaneGrown.{lane_at, fits_still, entries_grew, number_same, same_lane, same_log, replied_more, still_entries, still_since, still_left, still_room, answered_room, closed_room, room_to_close, room_to_begin, front_room}
+use Rattle.lane_core.proofs.LaneGrown.{lane_at, fits_still, entries_grew, number_same, same_lane, same_log, replied_more, still_entries, still_since, still_left, still_room, answered_room, closed_room, room_to_begin, front_room}
 use Rattle.lane_core.proofs.CloseTurns.{closing_same, closing_so, closing_next}
 use Rattle.lane_core.proofs.Heeding.{heeds_still}
+use Rattle.lane_core.proofs.StageCases.{by_kind, passes_held, passes_none}
 use Rattle.lane_core.proofs.StoppedLogs.{stop_more, stop_within, stopped_run-push, answered_passed}
 
 -- a lane that its gate stops before the next command
@@ -106,7 +107,8 @@ module _ (pool : SharedPool) (l : Lane) (lane : IsStoppedLane pool l) (d : Desk)
         shape = subst IsShape (sym grew.shape) lane.shape;
         commands = subst (λ (x : Shape). AreCommands x l.commands) (sym grew.shape) lane.commands;
         plain =
-            All-weaker (FitsDesk l.desk) (FitsDesk d) (fits_still l.desk d grew.name_count grew.shape) l.commands
+            All-weaker (FitsDesk l.desk) (FitsDesk d) (fits_still l.desk d grew.name_count grew.shape grew.composes)
+            l.commands
             lane.plain;
         few = few;
         answered =
@@ -167,7 +169,8 @@ module _ (pool : SharedPool) (l : Lane) (lane : IsStoppedLane pool l) (d : Desk)
         (desk : IsDesk pool empty_hand d) (fits : Fits pool d Ready) where
       -- where it waits it is as it was
       pub waits_on : Waits l.desk d added →
-          SpendsAt l.desk d (left_now command Ready (view_of l.desk.seat)) (left_now command Ready (view_of d.seat))
+          SpendsAt l.desk d (left_now l.desk.composes command Ready (view_of l.desk.seat))
+          (left_now l.desk.composes command Ready (view_of d.seat))
           → IsStoppedLane pool (lane_at l d Ready n)
       waits_on w spends =
           let begun : d.begun ≡ length (notes_of d) =
@@ -179,8 +182,8 @@ module _ (pool : SharedPool) (l : Lane) (lane : IsStoppedLane pool l) (d : Desk)
           (λ u. u) (λ closes. absurd closes) (λ ready. begun) (rested begun)
           (still_room pool l lane.desk d n hand added grew command later left lane.room open_still Ready (λ c. c)
           left_now_is
-          (subst (λ (x : Stage). SpendsAt l.desk d (left_now command x (view_of l.desk.seat))
-          (left_now command Ready (view_of d.seat))) (sym is) spends))
+          (subst (λ (x : Stage). SpendsAt l.desk d (left_now l.desk.composes command x (view_of l.desk.seat))
+          (left_now l.desk.composes command Ready (view_of d.seat))) (sym is) spends))
 
       -- and where it is answered the law's log of a stopped lane has it more
       module _ (p : IsPassedOver l.desk d added command) where
@@ -303,7 +306,7 @@ module _ (pool : SharedPool) (l : Lane) (lane : IsStoppedLane pool l) (d : Desk)
               (λ i. (sym stop_now i, sym pieces_now i, sym replies_now i)) passed_on;
         }
 
-        pub passed_on_lane : SpendsAt l.desk d (left_now command Ready (view_of l.desk.seat))
+        pub passed_on_lane : SpendsAt l.desk d (left_now l.desk.composes command Ready (view_of l.desk.seat))
             (with_sheds (view_of d.seat) (notes_alone 0)) → IsStoppedLane pool done
         passed_on_lane spends =
             let done_left : commands_left done ≡ later =
@@ -311,7 +314,7 @@ module _ (pool : SharedPool) (l : Lane) (lane : IsStoppedLane pool l) (d : Desk)
             stopped_with Ready desk fits (let a = one_more in let b = cut.2 in omega (arith, a, b)) done_passed
             (λ u. u) (λ closes. absurd closes) (λ ready. p.begun) (rested p.begun)
             (answered_room pool l lane.desk d n hand added grew command later left lane.room open_still done_left
-            (subst (λ (x : Stage). SpendsAt l.desk d (left_now command x (view_of l.desk.seat))
+            (subst (λ (x : Stage). SpendsAt l.desk d (left_now l.desk.composes command x (view_of l.desk.seat))
             (with_sheds (view_of d.seat) (notes_alone 0))) (sym is) spends))
 
 -- ---- The closing.
@@ -358,9 +361,9 @@ module _ (pool : SharedPool) (l : Lane) (lane : IsStoppedLane pool l) where
 
 module _ (pool : SharedPool) (l : Lane) (lane : IsStoppedLane pool l) (is : l.stage ≡ Ready) (command : Command)
     (later : List Command) (left : commands_left l ≡ command ∷ later) where
-  pub pass_room : HasRoomFor l.desk (left_for command)
+  pub pass_room : HasRoomFor l.desk (left_for l.desk.composes command)
   pass_room =
-      subst (λ (x : Stage). HasRoomFor l.desk (left_at command x (view_of l.desk.seat))) is
+      subst (λ (x : Stage). HasRoomFor l.desk (left_at l.desk.composes command x (view_of l.desk.seat))) is
       (front_room l lane.room command later left)
 
   module _ (d : Desk) (n : ℕ) (few : n ≤ length l.commands) where
@@ -371,38 +374,35 @@ module _ (pool : SharedPool) (l : Lane) (lane : IsStoppedLane pool l) (is : l.st
 
     pub passed_lane : (turn : Turn) → PassesOver pool l.desk d command turn
         → IsStoppedLane pool (lane_at l d (next_of Ready turn) n)
-    passed_lane (Went Ready) t =
-        passed_on_lane pool l lane d n few empty_hand t.added t.grew is command later left t.grew.desk
-        (still_fits t.asked) t.comes t.spends
-    passed_lane (Went (Allotting name size class next)) t = absurd t.comes
-    passed_lane (Went (Ending next)) t = absurd t.comes
-    passed_lane (Went (Sweeping reply next)) t = absurd t.comes
-    passed_lane (Went (Closing next)) t = absurd t.comes
-    passed_lane (Pending held Ready) t =
-        waits_on pool l lane d n few empty_hand t.added t.grew is command later left t.grew.desk (still_fits t.asked)
-        t.comes t.spends
-    passed_lane (Pending held (Allotting name size class next)) t = absurd t.comes
-    passed_lane (Pending held (Ending next)) t = absurd t.comes
-    passed_lane (Pending held (Sweeping reply next)) t = absurd t.comes
-    passed_lane (Pending held (Closing next)) t = absurd t.comes
-    passed_lane (Waiting sender) t = absurd t.comes
+    passed_lane (Went next) =
+        by_kind (λ x. PassesOver pool l.desk d command (Went x) → IsStoppedLane pool (lane_at l d x n))
+        (λ t. passed_on_lane pool l lane d n few empty_hand t.added t.grew is command later left t.grew.desk
+        (still_fits t.asked) t.comes t.spends)
+        (λ x t. absurd t.comes) (λ x u t. absurd (passes_none l.desk d t.added command x u t.comes)) next
+    passed_lane (Pending held next) =
+        by_kind (λ x. PassesOver pool l.desk d command (Pending held x) → IsStoppedLane pool (lane_at l d x n))
+        (λ t. waits_on pool l lane d n few empty_hand t.added t.grew is command later left t.grew.desk
+        (still_fits t.asked) t.comes t.spends)
+        (λ x t. absurd t.comes) (λ x u t. absurd (passes_held l.desk d t.added command held x u t.comes)) next
+    passed_lane (Waiting sender) = λ t. absurd t.comes
 
     pub passed_so : (turn : Turn) → PassesOver pool l.desk d command turn
         → HasStepped pool l (lane_at l d (next_of Ready turn) n) (stepped_of turn)
-    passed_so (Went Ready) t =
-        replied_more pool l lane.desk d n empty_hand t.added t.grew
-        (record { reply = Reply.Stopped; notes = t.comes.notes }) t.comes.replies Ready
-    passed_so (Went (Allotting name size class next)) t = absurd t.comes
-    passed_so (Went (Ending next)) t = absurd t.comes
-    passed_so (Went (Sweeping reply next)) t = absurd t.comes
-    passed_so (Went (Closing next)) t = absurd t.comes
-    passed_so (Pending held Ready) t =
-        (same_log pool l lane.desk d n empty_hand t.added t.grew t.comes.none t.comes.replies Ready, t.held)
-    passed_so (Pending held (Allotting name size class next)) t = absurd t.comes
-    passed_so (Pending held (Ending next)) t = absurd t.comes
-    passed_so (Pending held (Sweeping reply next)) t = absurd t.comes
-    passed_so (Pending held (Closing next)) t = absurd t.comes
-    passed_so (Waiting sender) t = absurd t.comes
+    passed_so (Went next) =
+        by_kind (λ x. PassesOver pool l.desk d command (Went x) → HasStepped pool l (lane_at l d x n) StepWent)
+        (λ t. replied_more pool l lane.desk d n empty_hand t.added t.grew
+        (record { reply = Reply.Stopped; notes = t.comes.notes }) t.comes.replies Ready)
+        (λ x t. absurd t.comes) (λ x u t. absurd (passes_none l.desk d t.added command x u t.comes)) next
+    passed_so (Pending held next) =
+        by_kind
+        (λ x. PassesOver pool l.desk d command (Pending held x)
+        → HasStepped pool l (lane_at l d x n) (StepPending held))
+        (λ t. (
+          same_log pool l lane.desk d n empty_hand t.added t.grew t.comes.none t.comes.replies Ready,
+          t.held,
+        ))
+        (λ x t. absurd t.comes) (λ x u t. absurd (passes_held l.desk d t.added command held x u t.comes)) next
+    passed_so (Waiting sender) = λ t. absurd t.comes
 
     pub passed_same : (turn : Turn) → PassesOver pool l.desk d command turn
         → SameLane l (lane_at l d (next_of Ready turn) n)

@@ -1,6 +1,5 @@
 -- The turns of the commands that make no note, or one.
-use Rattle.std.proofs.Common.{◌≡◌, ℕ, ◌+◌, ◌-◌, ◌<◌, ◌≤◌, List, [], ◌∷◌, Bool, true, false, cond, length, refl, sym, ap, ◌∙◌, subst, arith, Option, Some, append-nil}
-use Rattle.std.specs.Prelude.{◌==◌}
+use Rattle.std.proofs.Common.{◌≡◌, ℕ, ◌+◌, ◌-◌, ◌<◌, ◌≤◌, List, [], ◌∷◌, length, refl, sym, ap, ◌∙◌, subst, arith, Option, Some, append-nil}
 use Rattle.std.proofs.lemmas.List.Sums.{sum_by-cons}
 use Rattle.pool_law.specs.declared.command.Command.{Command}
 use Rattle.pool_law.specs.declared.id.RootId.{RootId}
@@ -14,9 +13,8 @@ use Rattle.pool_law.specs.Dids as says
 use Rattle.pool_law.specs.LaneLaw.{sweep_period, before_stop}
 use Rattle.pool_law.specs.LaneStates.{LaneState}
 use Rattle.pool_law.specs.Lanes.{Answer, answer, answer_of, retain_of, count_in}
-use Rattle.pool_law.specs.Names.{Bound, Names}
-use Rattle.pool_law.specs.Readers.{Log, Reader, ◌>>=◌, ◌>>◌, give, given, step}
-use Rattle.pool_law.specs.Same.{same_root}
+use Rattle.pool_law.specs.Names.{Bound, Names, Plain}
+use Rattle.pool_law.specs.Readers.{Log, Reader, ◌>>=◌, give, given, step}
 use Rattle.pool_table.specs.declared.views.Entry.{Entry}
 use Rattle.pool_table.specs.declared.views.Entry.TheVariants.{Ref}
 use Rattle.pool_table.specs.declared.views.SeatView.{SeatView}
@@ -29,13 +27,13 @@ use Rattle.shared_pool.specs.SeatLanes.{lane_of}
 use Rattle.shared_pool.specs.Seats.{IsPoolSeat}
 use Rattle.seat_work.proofs.HandNotes.{ref_carries}
 use Rattle.lane_core.specs.declared.access.Refusal.{Refusal}
-use Rattle.lane_core.specs.declared.access.Refusal.TheVariants.{Unbound, Taken, Illegal, Range}
+use Rattle.lane_core.specs.declared.access.Refusal.TheVariants.{Unbound, Taken, Composite, Illegal, Range, Plain as NotComposite, TooLarge}
 use Rattle.lane_core.specs.declared.counts.Counted.{Counted}
 use Rattle.lane_core.specs.declared.desk.Desk.{Desk}
 use Rattle.lane_core.specs.declared.desk.Stage.TheVariants.{Ready}
 use Rattle.lane_core.specs.declared.desk.Turn.TheVariants.{Went}
 use Rattle.lane_core.specs.Accesses.{reply_for, IsState}
-use Rattle.seat_work.specs.Hands.{lane_in, Hand, empty_hand}
+use Rattle.seat_work.specs.Hands.{lane_in, empty_hand}
 use Rattle.lane_core.specs.Budgets.{Left, notes_alone, takes}
 use Rattle.lane_core.specs.Counting.{counted}
 use Rattle.lane_core.specs.Named.{bound_at, NamesAre}
@@ -45,11 +43,13 @@ use Rattle.lane_core.specs.Readings.{before_left, ReadsOn, none_asked}
 use Rattle.lane_core.specs.DeskSteps.{HasNoted, HasReplied, HasRetained, MayTurn}
 use Rattle.seat_work.proofs.Grown.{Grows, one_none, grows_ref}
 use Rattle.lane_core.proofs.Grown.{spends}
-use Rattle.seat_work.proofs.HandLaws.{Carries, held_on}
+use Rattle.seat_work.proofs.HandLaws.{held_on}
 use Rattle.lane_core.proofs.EntryCounts.{Recounts, none_recounted, looked, retained}
+use Rattle.lane_core.proofs.NameLaws.{RebindsAt, rebound_same}
 use Rattle.lane_core.proofs.StateReads.{goes_uncounted, named_so}
 use Rattle.lane_core.proofs.ReadLaws.{given_on, still_on, step_on}
-use Rattle.lane_core.proofs.DeskLaws.{Advances, mid_is, answered, swept_reads, spends_at}
+use Rattle.lane_core.proofs.DeskLaws.{Advances, spends_at}
+use Rattle.lane_core.proofs.DeskGrown.{mid_is, answered, swept_reads}
 
 pub grows_same : (v : SeatView) → v.others ≡ [] → Grows v v [] 0
 grows_same v alone = record {
@@ -69,8 +69,8 @@ grows_same v alone = record {
 
 -- a command that makes no note, and is answered
 module _ (pool : SharedPool) (old new : Desk) (d : IsDesk pool empty_hand old) (low : old.asked < sweep_period)
-    (names : List (Option ViewData)) (reply : Reply) (unstopped : before_stop (reply ∷ []) ≡ 1)
-    (replied : HasReplied (record old { names = names }) new reply) (name_count : length names ≡ length old.names)
+    (names : List (Option Bound)) (reply : Reply) (unstopped : before_stop (reply ∷ []) ≡ 1)
+    (replied : HasReplied (record old { names = names }) new reply) (rebound : RebindsAt 1 old names)
   where
     pub noteless : (s : LaneState) (command : Command) (bound : Names) → NamesAre bound names
         → ((log : Log) → answer_of old.shape (lane_of old.seat) s command log ≡ Some (answer reply bound, log))
@@ -86,9 +86,9 @@ module _ (pool : SharedPool) (old new : Desk) (d : IsDesk pool empty_hand old) (
         let on : ReadsOn body [] none_asked (give a) = (λ log. reads log ∙ still_on (give a) log) in
         let final : Desk = record old { names = names; replies = new.replies; begun = length old.notes.items } in
         answered pool empty_hand empty_hand old old old d refl [] 0 adv noted new names old.counts reply replied refl
-        (none_recounted old.counts) refl refl name_count s command Ready bound are unstopped low
-        (spends_at old final (left_for command) (notes_alone 0)
-        (spends v v [] 0 grows (left_for command) (notes_alone 0) (omega arith) (omega arith) (omega arith)
+        (none_recounted old.counts) refl refl rebound s command Ready bound are unstopped low
+        (spends_at old final (left_for old.composes command) (notes_alone 0)
+        (spends v v [] 0 grows (left_for old.composes command) (notes_alone 0) (omega arith) (omega arith) (omega arith)
         (λ to. omega arith)) (omega arith))
         (swept_reads pool empty_hand empty_hand old old old d refl [] 0 adv noted new names old.counts reply replied
         none_asked refl low body bound on)
@@ -97,8 +97,11 @@ module _ (pool : SharedPool) (old new : Desk) (d : IsDesk pool empty_hand old) (
 pub unstopped_for : (r : Refusal) → before_stop (reply_for r ∷ []) ≡ 1
 unstopped_for Unbound = refl
 unstopped_for Taken = refl
+unstopped_for Composite = refl
 unstopped_for Illegal = refl
 unstopped_for Range = refl
+unstopped_for NotComposite = refl
+unstopped_for TooLarge = refl
 
 -- a command that is refused
 pub refused_turn : (pool : SharedPool) (left : Left) (old new : Desk) → MayTurn pool left old → (refusal : Refusal)
@@ -106,8 +109,8 @@ pub refused_turn : (pool : SharedPool) (left : Left) (old new : Desk) → MayTur
     → ((log : Log) → answer_of old.shape (lane_of old.seat) s command log
     ≡ Some (answer (reply_for refusal) s.names, log)) → HasTurned pool old new s command Ready (Went Ready)
 refused_turn pool left old new may refusal replied s command are reads =
-    noteless pool old new may.desk may.asked old.names (reply_for refusal) (unstopped_for refusal) replied refl s
-    command s.names are reads
+    noteless pool old new may.desk may.asked old.names (reply_for refusal) (unstopped_for refusal) replied
+    (rebound_same 1 old.names old.names refl) s command s.names are reads
 
 -- a desk of which only the seat is new
 pub as_start : (old start : Desk) → start ≡ record old { seat = start.seat }
@@ -161,16 +164,17 @@ module _ (pool : SharedPool) (old start mid new : Desk) (d : IsDesk pool empty_h
   mid_desk = mid_is pool empty_hand empty_hand old start mid d start_is (e ∷ []) spent adv noted
 
   -- with these names
-  pub one_turn : (names : List (Option ViewData)) (reply : Reply) → before_stop (reply ∷ []) ≡ 1
+  pub one_turn : (names : List (Option Bound)) (reply : Reply) → before_stop (reply ∷ []) ≡ 1
       → HasReplied (record mid { names = names }) new reply → Recounts old.counts start.counts (entry_of e ∷ [])
       → length start.counts ≡ length old.counts → AreSampled old.sampler (e ∷ []) start.sampler
-      → length names ≡ length old.names →
-      (s : LaneState) (command : Command) (bound : Names) → NamesAre bound names → 1 ≤ (left_for command).notes
-      → takes e ≤ (left_for command).takes → spent ≤ (left_for command).moves
-      → ((to : ℕ) → posts (lane_in (view_of old.seat)) to (e ∷ []) ≤ (left_for command).sends to) →
+      → RebindsAt 1 old names →
+      (s : LaneState) (command : Command) (bound : Names) → NamesAre bound names → 1 ≤
+      (left_for old.composes command).notes
+      → takes e ≤ (left_for old.composes command).takes → spent ≤ (left_for old.composes command).moves
+      → ((to : ℕ) → posts (lane_in (view_of old.seat)) to (e ∷ []) ≤ (left_for old.composes command).sends to) →
       ReadsOn (answer_of old.shape (lane_of old.seat) s command) (entry_of e ∷ []) none_asked
       (give (answer reply bound)) → HasTurned pool old new s command Ready (Went Ready)
-  one_turn names reply unstopped replied recounts places sampled name_count s command bound are notes taken moved sent
+  one_turn names reply unstopped replied recounts places sampled rebound s command bound are notes taken moved sent
       reads =
       let counts_are : mid.counts ≡ start.counts = ap (λ (x : Desk). x.counts) mid_desk in
       let still_low : start.asked < sweep_period = omega (arith, low, asked) in
@@ -189,10 +193,11 @@ module _ (pool : SharedPool) (old start mid new : Desk) (d : IsDesk pool empty_h
       answered pool empty_hand empty_hand old start mid d start_is (e ∷ []) spent adv noted new names mid.counts reply
       replied refl
       (subst (λ (cs : List Counted). Recounts old.counts cs (entry_of e ∷ [])) (sym counts_are) recounts)
-      (ap (λ (cs : List Counted). length cs) counts_are ∙ places) sampled name_count s command Ready bound are unstopped
+      (ap (λ (cs : List Counted). length cs) counts_are ∙ places) sampled rebound s command Ready bound are unstopped
       still_low
-      (spends_at old final (left_for command) (notes_alone 0)
-      (spends (view_of old.seat) (view_of start.seat) (e ∷ []) spent adv.grows (left_for command) (notes_alone 0)
+      (spends_at old final (left_for old.composes command) (notes_alone 0)
+      (spends (view_of old.seat) (view_of start.seat) (e ∷ []) spent adv.grows (left_for old.composes command)
+      (notes_alone 0)
       (omega (arith, notes)) (let t = sum_by-cons takes e [] in omega (arith, t, taken)) (omega (arith, moved))
       (λ to. (let a = sent to in omega (arith, a))))
       (omega (arith, asked)))
@@ -206,21 +211,21 @@ module _ (pool : SharedPool) (old start mid new : Desk) (d : IsDesk pool empty_h
   pub one_turn_same : (reply : Reply) → before_stop (reply ∷ []) ≡ 1 → HasReplied mid new reply
       → Recounts old.counts start.counts (entry_of e ∷ []) → length start.counts ≡ length old.counts
       → AreSampled old.sampler (e ∷ []) start.sampler →
-      (s : LaneState) (command : Command) → NamesAre s.names old.names → 1 ≤ (left_for command).notes
-      → takes e ≤ (left_for command).takes → spent ≤ (left_for command).moves
-      → ((to : ℕ) → posts (lane_in (view_of old.seat)) to (e ∷ []) ≤ (left_for command).sends to) →
+      (s : LaneState) (command : Command) → NamesAre s.names old.names → 1 ≤ (left_for old.composes command).notes
+      → takes e ≤ (left_for old.composes command).takes → spent ≤ (left_for old.composes command).moves
+      → ((to : ℕ) → posts (lane_in (view_of old.seat)) to (e ∷ []) ≤ (left_for old.composes command).sends to) →
       ReadsOn (answer_of old.shape (lane_of old.seat) s command) (entry_of e ∷ []) none_asked
       (give (answer reply s.names)) → HasTurned pool old new s command Ready (Went Ready)
   one_turn_same reply unstopped replied recounts places sampled s command are notes taken moved sent reads =
       one_turn mid.names reply unstopped replied recounts places sampled
-      (ap (λ (names : List (Option ViewData)). length names) mid_names) s command s.names
+      (rebound_same 1 old.names mid.names mid_names) s command s.names
       (subst (NamesAre s.names) (sym mid_names) are) notes taken moved sent reads
 
 -- ---- The commands.
 
 -- how the law reads a look and a retain of a view that the lane counts
-module _ (shape : Shape) (lane : ℕ) (s : LaneState) (names : List (Option ViewData)) (cs : List Counted)
-    (state : IsState s names cs) (name : ℕ) (v : ViewData) (bound : bound_at names name ≡ Some v)
+module _ (shape : Shape) (lane : ℕ) (s : LaneState) (names : List (Option Bound)) (cs : List Counted)
+    (state : IsState s names cs) (name : ℕ) (v : ViewData) (bound : bound_at names name ≡ Some (Plain v))
     (lt : 0 < counted cs v.root) where
   reads_look : (k : ℕ) → ReadsOn (answer_of shape lane s (Command.Refcnt name)) (entry_of (Ref v.root (Look k)) ∷ [])
       none_asked (give (answer (Reply.OkNumber k) s.names))
@@ -228,7 +233,7 @@ module _ (shape : Shape) (lane : ℕ) (s : LaneState) (names : List (Option View
       let e = entry_of (Ref v.root (Look k)) in
       goes_uncounted s names cs state shape lane (Command.Refcnt name) name v bound lt refl (before_left log (e ∷ []))
       ∙ ap (λ (o : Option Bound). (given o >>= count_in s) (before_left log (e ∷ [])))
-      (named_so s names cs state name (Some v) bound)
+      (named_so s names cs state name (Some (Plain v)) bound)
       ∙ given_on (step v.root says.look) (e ∷ []) none_asked (λ (n : ℕ). give (answer (Reply.OkNumber n) s.names)) k
       (step_on e v.root says.look (Look k) refl k refl) log
 
@@ -238,13 +243,14 @@ module _ (shape : Shape) (lane : ℕ) (s : LaneState) (names : List (Option View
       let e = entry_of (Ref v.root Retain) in
       goes_uncounted s names cs state shape lane (Command.Retain name) name v bound lt refl (before_left log (e ∷ []))
       ∙ ap (λ (o : Option Bound). (given o >>= retain_of s name) (before_left log (e ∷ [])))
-      (named_so s names cs state name (Some v) bound)
+      (named_so s names cs state name (Some (Plain v)) bound)
       ∙ given_on (step v.root says.retain) (e ∷ []) none_asked (λ _. give (answer Reply.Ok s.names)) tt
       (step_on e v.root says.retain Retain refl tt refl) log
 
 pub look_turn : (pool : SharedPool) (name : ℕ) (old start mid new : Desk)
-    → MayTurn pool (left_for (Command.Refcnt name)) old → start ≡ record old { seat = start.seat } →
-    SameSeat old.seat start.seat → IsPoolSeat pool start.seat → (v : ViewData) → bound_at old.names name ≡ Some v
+    → MayTurn pool (left_for old.composes (Command.Refcnt name)) old → start ≡ record old { seat = start.seat } →
+    SameSeat old.seat start.seat → IsPoolSeat pool start.seat → (v : ViewData) → bound_at old.names name ≡ Some
+    (Plain v)
     → 0 < counted old.counts v.root → (k : ℕ) → HasView start.seat
     (with_ref (view_of old.seat) v.root (Look k) (view_of old.seat).moves) →
     HasNoted start mid (Note.Ref v.root (Look k) ∷ []) → HasReplied mid new (Reply.OkNumber k) → (s : LaneState)
@@ -262,7 +268,8 @@ look_turn pool name old start mid new may start_is same seat v bound lt k has no
     (reads_look old.shape (lane_of old.seat) s old.names old.counts state name v bound lt k)
 
 pub retain_turn : (pool : SharedPool) (name : ℕ) (old mid new : Desk)
-    → MayTurn pool (left_for (Command.Retain name)) old → (v : ViewData) → bound_at old.names name ≡ Some v
+    → MayTurn pool (left_for old.composes (Command.Retain name)) old → (v : ViewData) → bound_at old.names name ≡ Some
+    (Plain v)
     → 0 < counted old.counts v.root →
     HasRetained pool old mid v.root → HasReplied mid new Reply.Ok → (s : LaneState) → IsState s old.names old.counts
     → HasTurned pool old new s (Command.Retain name) Ready (Went Ready)

@@ -8,11 +8,14 @@ use Rattle.pool_law.specs.Views.{root_index}
 use Rattle.pool_law.specs.Bounds.{most_notes}
 use Rattle.pool_law.specs.Dids as says
 use Rattle.pool_law.specs.Readers.{Log, Reader, ◌>>=◌, ◌>>◌, give, access}
-use Rattle.pool_law.specs.Names.{Names}
+use Rattle.pool_law.specs.Composites.{Composite as LawComposite}
+use Rattle.pool_law.specs.Names.{Bound, Plain, Composed, Names}
 use Rattle.pool_law.specs.LaneStates.{LaneState}
 use Rattle.pool_law.specs.Lanes.{Answer, answer, answer_of, busy_or}
 use Rattle.lane_core.specs.declared.access.Refusal.{Refusal}
-use Rattle.lane_core.specs.declared.access.Refusal.TheVariants.{Unbound, Taken, Illegal, Range}
+use Rattle.lane_core.specs.declared.access.Refusal.TheVariants.{Unbound, Taken, Composite, Illegal, Range, Plain as NotComposite, TooLarge}
+use Rattle.lane_core.specs.declared.access.Owned.{Owned}
+use Rattle.lane_core.specs.declared.access.Owned.TheVariants.{View as OwnView, Composite as OwnComposite}
 use Rattle.lane_core.specs.declared.access.Reach.{Reach}
 use Rattle.lane_core.specs.declared.access.Access.{Access}
 use Rattle.lane_core.specs.declared.access.Access.TheVariants.{Refused, Set, Get}
@@ -23,47 +26,77 @@ use Rattle.lane_core.specs.Counting.{counted, CountsAre}
 abbrev pub reply_for : Refusal → Reply
 reply_for Unbound = Reply.Unbound
 reply_for Taken = Reply.Taken
+reply_for Composite = Reply.Composite
 reply_for Illegal = Reply.Illegal
 reply_for Range = Reply.Range
+reply_for NotComposite = Reply.Plain
+reply_for TooLarge = Reply.TooLarge
 
 -- the lane's names and counts are those of this state of the law
-pub record IsState (s : LaneState) (names : List (Option ViewData)) (cs : List Counted) : Type 0
+pub record IsState (s : LaneState) (names : List (Option Bound)) (cs : List Counted) : Type 0
   where
     pub names_are : NamesAre s.names names
     pub counts_are : CountsAre cs s.seen
 
 -- why a command on the view of a name is refused
-abbrev pub IsRefused : List (Option ViewData) → List Counted → ℕ → Refusal → Type 0
+abbrev pub IsRefused : List (Option Bound) → List Counted → ℕ → Refusal → Type 0
 IsRefused names cs name Unbound = bound_at names name ≡ None
+IsRefused names cs name Composite =
+    (c : LawComposite) × (bound_at names name ≡ Some (Composed c))
 IsRefused names cs name Illegal =
-    (v : ViewData) × (bound_at names name ≡ Some v) × (counted cs v.root ≡ 0)
+    (v : ViewData) × (bound_at names name ≡ Some (Plain v)) × (counted cs v.root ≡ 0)
 IsRefused names cs name _ = ⊥
 
 -- and where it has a new name
-abbrev pub IsRefusedFresh : List (Option ViewData) → List Counted → ℕ → ℕ → Refusal → Type 0
+abbrev pub IsRefusedFresh : List (Option Bound) → List Counted → ℕ → ℕ → Refusal → Type 0
 IsRefusedFresh names cs fresh name Unbound = bound_at names name ≡ None
 IsRefusedFresh names cs fresh name Taken =
-    (v w : ViewData) × (bound_at names name ≡ Some v) × (bound_at names fresh ≡ Some w)
+    (b other : Bound) × (bound_at names name ≡ Some b) × (bound_at names fresh ≡ Some other)
+IsRefusedFresh names cs fresh name Composite =
+    (c : LawComposite) × (bound_at names name ≡ Some (Composed c)) × (bound_at names fresh ≡ None)
 IsRefusedFresh names cs fresh name Illegal =
-    (v : ViewData) × (bound_at names name ≡ Some v) × (bound_at names fresh ≡ None)
+    (v : ViewData) × (bound_at names name ≡ Some (Plain v)) × (bound_at names fresh ≡ None)
     × (counted cs v.root ≡ 0)
 IsRefusedFresh names cs fresh name Range = ⊥
+IsRefusedFresh names cs fresh name NotComposite = ⊥
+IsRefusedFresh names cs fresh name TooLarge = ⊥
 
 -- and where its range has to pass a test
 abbrev pub IsRefusedRange :
-    List (Option ViewData) → List Counted → ℕ → (ViewData → Bool) → Refusal → Type 0
+    List (Option Bound) → List Counted → ℕ → (ViewData → Bool) → Refusal → Type 0
 IsRefusedRange names cs name test Range =
-    (v : ViewData) × (bound_at names name ≡ Some v) × (0 < counted cs v.root) × (test v ≡ false)
+    (v : ViewData) × (bound_at names name ≡ Some (Plain v)) × (0 < counted cs v.root)
+    × (test v ≡ false)
 IsRefusedRange names cs name test refusal = IsRefused names cs name refusal
+
+-- the lane has no count of a view's root, or a composite has ended
+abbrev pub IsUncounted : List Counted → Bound → Type 0
+IsUncounted cs (Plain v) = counted cs v.root ≡ 0
+IsUncounted cs (Composed c) = c.count ≡ 0
+
+-- why a command on the count of a name is refused
+abbrev pub IsRefusedCount : List (Option Bound) → List Counted → ℕ → Refusal → Type 0
+IsRefusedCount names cs name Unbound = bound_at names name ≡ None
+IsRefusedCount names cs name Illegal =
+    (b : Bound) × (bound_at names name ≡ Some b) × IsUncounted cs b
+IsRefusedCount names cs name _ = ⊥
+
+-- what the count of a name is one of: a view whose root the lane counts, or a composite that has
+-- not ended
+abbrev pub IsOwned : List (Option Bound) → List Counted → ℕ → Owned → Type 0
+IsOwned names cs name (OwnView v) =
+    (bound_at names name ≡ Some (Plain v)) × (0 < counted cs v.root)
+IsOwned names cs name (OwnComposite count) =
+    (c : LawComposite) × (bound_at names name ≡ Some (Composed c)) × (c.count ≡ count) × (0 < count)
 
 -- a range of the view of a name that passes the test: where it begins, and what the view is behind
 -- the access
-pub record IsReached (names : List (Option ViewData)) (cs : List Counted) (name : ℕ) (tries : Bool)
+pub record IsReached (names : List (Option Bound)) (cs : List Counted) (name : ℕ) (tries : Bool)
     (test : ViewData → Bool) (index : ViewData → ℕ) (behind : ViewData → ViewData) (r : Reach) :
     Type 0
   where
     pub view : ViewData
-    pub bound : bound_at names name ≡ Some view
+    pub bound : bound_at names name ≡ Some (Plain view)
     pub counts : 0 < counted cs view.root
     pub passes : test view ≡ true
     pub root : r.root ≡ view.root
@@ -80,10 +113,10 @@ pub record Reaches (cs : List Counted) (len : ℕ) (r : Reach) : Type 0 where
   pub view : r.after.at.root ≡ r.root
 
 -- the names once a name is bound to the view behind an access
-abbrev pub names_after : List (Option ViewData) → Access → List (Option ViewData)
+abbrev pub names_after : List (Option Bound) → Access → List (Option Bound)
 names_after names (Refused refusal) = names
-names_after names (Set reach bytes) = slice_set names reach.name (Some reach.after.at)
-names_after names (Get reach note reply) = slice_set names reach.name (Some reach.after.at)
+names_after names (Set reach bytes) = slice_set names reach.name (Some (Plain reach.after.at))
+names_after names (Get reach note reply) = slice_set names reach.name (Some (Plain reach.after.at))
 
 -- how the law reads the note of an access, after which these names are bound
 abbrev pub reads_set : Names → Reach → List ℕ → Reader Answer
@@ -114,10 +147,10 @@ IsReady cs (Get reach note reply) =
     Reaches cs (length note.items) reach × (length reply.items ≡ length note.items)
 
 -- a command is prepared: its access is what the law reads of it
-pub record IsPrepared (names : List (Option ViewData)) (cs : List Counted) (command : Command)
+pub record IsPrepared (names : List (Option Bound)) (cs : List Counted) (command : Command)
     (made : Access) (s : LaneState) : Type 0 where
   pub ready : IsReady cs made
-  pub noted : 1 ≤ most_notes false command
+  pub noted : (composes : Bool) → 1 ≤ most_notes composes command
   pub bound : Names
   pub names_are : NamesAre bound (names_after names made)
   pub read : (shape : Shape) (lane : ℕ) (log : Log) →

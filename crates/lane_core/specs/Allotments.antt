@@ -91,11 +91,12 @@ abbrev pub asks_of : Allotting → ℕ → ℕ
 asks_of (Cache handle) = one_asked
 asks_of _ = none_asked
 
--- a root is born at a place of the shape
-abbrev pub BornWithin : SharedPool → Allots → Type 0
-BornWithin pool (Born root region) =
-    root.place < pool.table.layout.shape.lanes * pool.table.layout.shape.handles
-BornWithin pool _ = ⊤
+-- a root of this size is born at a place of the shape
+abbrev pub BornWithin : SharedPool → ℕ → Allots → Type 0
+BornWithin pool size (Born root region) =
+    (root.place < pool.table.layout.shape.lanes * pool.table.layout.shape.handles)
+    × (root.capacity ≡ size)
+BornWithin pool size _ = ⊤
 
 module _ {G : Ghosts HomeValue Noted} where
   -- where another seat was there the same is to be tried again, and nothing was noted; else
@@ -147,7 +148,7 @@ module _ {G : Ghosts HomeValue Noted} where
           (rest_of shape (lane_of old) size class stage) (asks_of stage)
           (rest_after shape (lane_of old) size class result)
       pub counts : AddCounts (born_in result) (map entry_of wrote.added)
-      pub place : BornWithin pool result
+      pub place : BornWithin pool size result
       pub hand : IsHeld (hand_after result) (view_of new)
       pub fits : FitsAfter pool new class result
       pub again : IsTriedAgain pool old new stage result written

@@ -11,6 +11,10 @@ use Rattle.pool_table.specs.Learned.{in_own, takes_of, gives_of}
 use Rattle.shared_pool.specs.Quotas.{posts}
 use Rattle.seat_work.specs.Hands.{lane_in}
 
+-- no lane notes more
+abbrev pub most_of_lane : ℕ
+most_of_lane = 16777216
+
 pub record Left : Type 0 where
   pub notes : ℕ
   pub asks : ℕ

@@ -1,5 +1,5 @@
 -- What the desk's own functions add to its log and its counts, before a command is answered.
-use Rattle.std.specs.Prelude.{◌≡◌, ℕ, ◌+◌, ◌-◌, ◌<◌, ◌≤◌, ◌==◌, if◌then◌else◌, Bool, true, false, List, [], ◌∷◌, ◌++◌, length, Option, Some, None, vec_capacity}
+use Rattle.std.specs.Prelude.{◌≡◌, ℕ, ◌+◌, ◌-◌, ◌<◌, ◌≤◌, ◌==◌, if◌then◌else◌, Bool, true, false, List, [], ◌∷◌, ◌++◌, length, Option, Some, None, slice_set, vec_capacity}
 use Rattle.pool_law.specs.declared.command.Command.{Command}
 use Rattle.pool_law.specs.declared.id.RootId.{RootId}
 use Rattle.pool_law.specs.declared.id.Parcel.{Parcel}
@@ -9,8 +9,10 @@ use Rattle.pool_law.specs.declared.note.Note.{Note}
 use Rattle.pool_law.specs.declared.note.Object.TheVariants.{Mail}
 use Rattle.pool_law.specs.declared.note.RefDid.TheVariants.{Retain}
 use Rattle.pool_law.specs.declared.run.Reply.{Reply}
+use Rattle.pool_law.specs.Composites.{Composite}
 use Rattle.pool_law.specs.LaneLaw.{sweep_period}
 use Rattle.pool_law.specs.LaneStates.{LaneState}
+use Rattle.pool_law.specs.Names.{Bound, Composed}
 use Rattle.pool_table.specs.Counts.{with_ref}
 use Rattle.pool_table.specs.Seats.{view_of, SameSeat, HasView}
 use Rattle.shared_pool.specs.declared.pool.SharedPool.{SharedPool}
@@ -21,6 +23,8 @@ use Rattle.lane_core.specs.declared.access.Access.{Access}
 use Rattle.lane_core.specs.declared.counts.Counted.{Counted}
 use Rattle.lane_core.specs.declared.draining.Draining.TheVariants.{Ask}
 use Rattle.lane_core.specs.declared.desk.Desk.{Desk}
+use Rattle.lane_core.specs.declared.composed.Marks.{Marks}
+use Rattle.lane_core.specs.declared.desk.Stage.{Stage}
 use Rattle.lane_core.specs.declared.desk.Stage.TheVariants.{Ready, Sweeping}
 use Rattle.lane_core.specs.declared.desk.Turn.{Turn}
 use Rattle.lane_core.specs.declared.desk.Turn.TheVariants.{Went, Pending}
@@ -29,7 +33,9 @@ use Rattle.lane_core.specs.Budgets.{Left}
 use Rattle.seat_work.specs.Changes.{one_for}
 use Rattle.lane_core.specs.Counting.{counted}
 use Rattle.seat_work.specs.Hands.{empty_hand}
-use Rattle.lane_core.specs.Desks.{IsDesk, HasRoomFor, HasTurned}
+use Rattle.lane_core.specs.Composing.{set_marks}
+use Rattle.lane_core.specs.Desks.{IsDesk, Fits, HasRoomFor, HasTurned, NameFits, hand_of, left_at}
+use Rattle.lane_core.specs.Named.{NamesAre, bound_at}
 
 -- the log has these notes more, and nothing else at the desk is new
 pub record HasNoted (old new : Desk) (notes : List Note) : Type 0 where
@@ -50,6 +56,12 @@ pub record HasReplied (old new : Desk) (reply : Reply) : Type 0 where
       new.replies.items ≡ old.replies.items ++ record { reply = reply; notes = notes } ∷ []
   pub room : vec_capacity old.replies ≤ vec_capacity new.replies
   pub rest : new ≡ record old { replies = new.replies; begun = length old.notes.items }
+
+-- the composite that a name is bound to has another count of its own
+abbrev pub recounted : Desk → ℕ → Composite → ℕ → Desk
+recounted d name c count =
+    let more = record c { count = count } in
+    record d { names = slice_set d.names name (Some (Composed more)) }
 
 -- the command has this reply, or where a sweep is due it has it once that is done
 abbrev pub Concludes : Desk → Desk → Reply → Turn → Type 0
@@ -131,6 +143,38 @@ pub record MayTurn (pool : SharedPool) (left : Left) (d : Desk) : Type 0 where
   pub room : HasRoomFor d left
   pub replies : length d.replies.items < vec_capacity d.replies
   pub asked : d.asked < sweep_period
+
+-- the name is bound to this composite
+abbrev pub bound_to : Desk → ℕ → Composite → Desk
+bound_to d name c = record d { names = slice_set d.names name (Some (Composed c)) }
+
+-- the names once the reader and the writer of one have moved, if they do
+abbrev pub MarksMoved :
+    List (Option Bound) → List (Option Bound) → ℕ → Option Marks → Type 0
+MarksMoved old new name None = new ≡ old
+MarksMoved old new name (Some marks) =
+    (c : Composite) → bound_at old name ≡ Some (Composed c) →
+    new ≡ slice_set old name (Some (Composed (set_marks marks c)))
+
+-- and nothing else at the desk is new
+pub record HasMarked (old new : Desk) (name : ℕ) (marks : Option Marks) : Type 0 where
+  pub names : MarksMoved old.names new.names name marks
+  pub rest : new ≡ record old { names = new.names }
+
+-- a desk at a stage of a command, with room for what is left and for a reply
+pub record MayGoOn (pool : SharedPool) (stage : Stage) (d : Desk) : Type 0 where
+  pub desk : IsDesk pool (hand_of stage) d
+  pub fits : Fits pool d stage
+  pub name : NameFits d stage
+  pub room : (command : Command) →
+      HasRoomFor d (left_at d.composes command stage (view_of d.seat))
+  pub replies : length d.replies.items < vec_capacity d.replies
+
+-- a turn from a stage on, whatever the law's bindings and the command are
+abbrev pub StageTurns : SharedPool → Desk → Desk → Stage → Turn → Type 0
+StageTurns pool old new stage turn =
+    (s : LaneState) (command : Command) → NamesAre s.names old.names →
+    HasTurned pool old new s command stage turn
 
 -- a turn of a command from its beginning on, whatever the law's bindings are
 abbrev pub Turns : SharedPool → Desk → Desk → Command → Turn → Type 0

@@ -1,5 +1,5 @@
 -- What a lane works with, and what a turn of it does.
-use Rattle.std.specs.Prelude.{◌≡◌, ◌≢◌, ℕ, ◌+◌, ◌*◌, ◌<◌, ◌≤◌, ◌==◌, if◌then◌else◌, true, false, ⊤, List, [], ◌∷◌, ◌++◌, length, map, Some, None, IfSome, IsSome, slice_get, vec_capacity}
+use Rattle.std.specs.Prelude.{◌≡◌, ◌≢◌, ℕ, ◌+◌, ◌*◌, ◌<◌, ◌≤◌, Bool, ◌==◌, if◌then◌else◌, true, false, ⊤, List, [], ◌∷◌, ◌++◌, length, map, Some, None, IfSome, IsSome, Ok, slice_get, vec_capacity}
 use Rattle.size_classes.specs.Sizes.{class_of}
 use Rattle.pool_law.specs.declared.command.Command.{Command}
 use Rattle.pool_law.specs.declared.note.Held.{Held}
@@ -10,7 +10,7 @@ use Rattle.pool_law.specs.Bounds.{most_notes, may_ask}
 use Rattle.pool_law.specs.Limits.{cached_classes, geometry_of}
 use Rattle.pool_law.specs.LaneLaw.{sweep_period, before_stop}
 use Rattle.pool_law.specs.LaneStates.{LaneState, new_lane, log_at}
-use Rattle.pool_law.specs.Lanes.{Answer, answer, allotted, not_carried_out, turn}
+use Rattle.pool_law.specs.Lanes.{Answer, answer, allotted, composed, copied_to, not_carried_out, release_parts, turn}
 use Rattle.pool_law.specs.Names.{Names}
 use Rattle.pool_law.specs.Readers.{Entries, Log, Reader, ◌>>=◌, ◌>>◌, give, read_all}
 use Rattle.leak_records.specs.Records.{new_sampler}
@@ -28,7 +28,7 @@ use Rattle.lane_core.specs.declared.access.Access.{Access}
 use Rattle.lane_core.specs.declared.access.Access.TheVariants.{Refused, Set, Get}
 use Rattle.lane_core.specs.declared.desk.Desk.{Desk}
 use Rattle.lane_core.specs.declared.desk.Stage.{Stage}
-use Rattle.lane_core.specs.declared.desk.Stage.TheVariants.{Ready, Allotting, Ending, Sweeping, Closing}
+use Rattle.lane_core.specs.declared.desk.Stage.TheVariants.{Ready, Allotting, Ending, Sweeping, Closing, Crossing, Parting, Consolidating, Copying, Replacing}
 use Rattle.lane_core.specs.declared.desk.Turn.{Turn}
 use Rattle.lane_core.specs.declared.desk.Turn.TheVariants.{Went, Pending, Waiting}
 use Rattle.lane_core.specs.declared.draining.DrainKind.TheVariants.{Trim, Close}
@@ -36,14 +36,18 @@ use Rattle.lane_core.specs.declared.draining.Draining.{Draining}
 use Rattle.lane_core.specs.declared.draining.Draining.TheVariants.{Done as AllDrained}
 use Rattle.seat_work.specs.Hands.{Hand, empty_hand, IsHeld}
 use Rattle.lane_core.specs.Sampled.{AreSampled}
-use Rattle.lane_core.specs.Budgets.{Left, notes_alone, with_sheds, all_out, Spends}
+use Rattle.lane_core.specs.Budgets.{Left, most_of_lane, notes_alone, with_sheds, Spends}
 use Rattle.seat_work.specs.Growth.{HasMore}
 use Rattle.lane_core.specs.Counting.{CountsAre}
-use Rattle.lane_core.specs.Named.{NamesAre}
+use Rattle.lane_core.specs.Named.{AreComposites, NamesAre}
 use Rattle.lane_core.specs.Readings.{ReadsOn, none_asked, swept, renamed}
 use Rattle.lane_core.specs.Allotments as allotment
 use Rattle.lane_core.specs.Endings as ending
 use Rattle.lane_core.specs.Drainings as draining
+use Rattle.lane_core.specs.Crossings as crossing
+use Rattle.lane_core.specs.Copyings as copying
+use Rattle.lane_core.specs.Releasings as releasing
+use Rattle.lane_core.specs.Composing.{HasLast, IsBindable, IsCandidate, IsConsolidation, MarksFit, crossed, ended}
 
 -- what the seat noted, and as the law reads it
 abbrev pub notes_of : Desk → List Entry
@@ -68,6 +72,8 @@ pub record IsDesk (pool : SharedPool) (hand : Hand) (d : Desk) : Type 0 where
       AreSampled (new_sampler (lane_of d.seat) d.shape.level d.shape.interval)
       (notes_of d) d.sampler
   pub begun : d.begun ≤ length (notes_of d)
+  -- a command adds at most one to the count of a composite
+  pub composites : AreComposites d.composes (1 + length d.replies.items) d.names
 
 -- what is in hand at a stage
 abbrev pub hand_of : Stage → Hand
@@ -76,6 +82,11 @@ hand_of (Allotting name size class stage) = allotment.hand_of stage
 hand_of (Ending stage) = ending.hand_of stage
 hand_of (Sweeping reply stage) = draining.hand_of Trim stage
 hand_of (Closing stage) = draining.hand_of Close stage
+hand_of (Crossing name marks stage) = empty_hand
+hand_of (Parting name stage) = releasing.hand_of stage
+hand_of (Consolidating p stage) = allotment.hand_of stage
+hand_of (Copying name whole parts stage) = empty_hand
+hand_of (Replacing name whole stage) = releasing.hand_of stage
 
 -- and what is known of it; a sweep is due only behind the command that asked a cache
 abbrev pub Fits : SharedPool → Desk → Stage → Type 0
@@ -88,6 +99,18 @@ Fits pool d (Sweeping reply stage) =
     draining.Fits pool d.seat stage × (d.asked < sweep_period)
     × (before_stop (reply ∷ []) ≡ 1) × (stage ≢ AllDrained)
 Fits pool d (Closing stage) = draining.Fits pool d.seat stage
+Fits pool d (Crossing name marks stage) =
+    crossing.Fits (view_of d.seat) stage × (d.asked < sweep_period)
+Fits pool d (Parting name stage) = releasing.Fits pool d.seat stage × (d.asked < sweep_period)
+Fits pool d (Consolidating p stage) =
+    IsConsolidation d.shape d.counts p × allotment.Fits pool d.seat p.class stage
+    × (d.asked + (allotment.left_of stage).asks ≤ sweep_period)
+Fits pool d (Copying name whole parts stage) =
+    copying.Fits (view_of d.seat) stage × (d.asked ≤ sweep_period)
+    × (releasing.AreUncounted d.counts parts.items → ⊥)
+Fits pool d (Replacing name whole stage) =
+    releasing.Fits pool d.seat stage × (d.asked ≤ sweep_period)
+    × (releasing.IsOver d.counts stage → ⊥)
 
 -- how many births and retains a command makes: no fewer than the moves that it takes, since a birth
 -- takes none
@@ -95,6 +118,8 @@ abbrev pub moves_of : Command → ℕ
 moves_of (Command.Alloc name size) = 1
 moves_of (Command.Slice fresh name at len retained) = if retained then 1 else 0
 moves_of (Command.Retain name) = 1
+moves_of (Command.Compose fresh names) = 1
+moves_of (Command.Add whole name) = 1
 moves_of _ = 0
 
 -- how many parcels it sends to a lane
@@ -102,32 +127,54 @@ abbrev pub sends_of : Command → ℕ → ℕ
 sends_of (Command.Send name lane) to = if lane == to then 1 else 0
 sends_of _ to = 0
 
--- what a command may spend in all, but for a sweep
-abbrev pub left_for : Command → Left
-left_for command =
+-- what a command may spend in all, but for a sweep, in a lane that makes composites or in one that
+-- makes none
+abbrev pub left_for : Bool → Command → Left
+left_for composes command =
     record {
-      notes = most_notes false command;
+      notes = most_notes composes command;
       asks = may_ask command;
       takes = may_ask command;
       moves = moves_of command;
       sends = sends_of command;
     }
 
+-- the same, and two notes for each part that is copied, and six for each that is released
+abbrev pub with_parts : ℕ → ℕ → Left → Left
+with_parts copied parts left =
+    record left { notes = left.notes + 2 * copied + 6 * parts }
+
 -- what it may still spend from this stage on; a sweep, what caches shed in it too
-abbrev pub left_at : Command → Stage → SeatView → Left
-left_at command Ready v = left_for command
-left_at command (Allotting name size class stage) v = allotment.left_of stage
-left_at command (Ending stage) v = ending.left_of stage
-left_at command (Sweeping reply stage) v = draining.left_of stage v
-left_at command (Closing stage) v = notes_alone 0
+abbrev pub left_at : Bool → Command → Stage → SeatView → Left
+left_at composes command Ready v = left_for composes command
+left_at composes command (Allotting name size class stage) v = allotment.left_of stage
+left_at composes command (Ending stage) v = ending.left_of stage
+left_at composes command (Sweeping reply stage) v = draining.left_of stage v
+left_at composes command (Closing stage) v = notes_alone 0
+left_at composes command (Crossing name marks stage) v = crossing.left_of stage
+left_at composes command (Parting name stage) v = releasing.left_of stage
+left_at composes command (Consolidating p stage) v =
+    with_parts (length p.transfers.items) (length p.parts.items) (allotment.left_of stage)
+left_at composes command (Copying name whole parts stage) v =
+    with_parts 0 (length parts.items) (copying.left_of stage)
+left_at composes command (Replacing name whole stage) v = releasing.left_of stage
 
 -- the same, with what caches may shed
-abbrev pub left_now : Command → Stage → SeatView → Left
-left_now command Ready v = with_sheds v (left_for command)
-left_now command (Allotting name size class stage) v = with_sheds v (allotment.left_of stage)
-left_now command (Ending stage) v = with_sheds v (ending.left_of stage)
-left_now command (Sweeping reply stage) v = draining.left_of stage v
-left_now command (Closing stage) v = notes_alone 0
+abbrev pub left_now : Bool → Command → Stage → SeatView → Left
+left_now composes command Ready v = with_sheds v (left_for composes command)
+left_now composes command (Allotting name size class stage) v =
+    with_sheds v (allotment.left_of stage)
+left_now composes command (Ending stage) v = with_sheds v (ending.left_of stage)
+left_now composes command (Sweeping reply stage) v = draining.left_of stage v
+left_now composes command (Closing stage) v = notes_alone 0
+left_now composes command (Crossing name marks stage) v = with_sheds v (crossing.left_of stage)
+left_now composes command (Parting name stage) v = with_sheds v (releasing.left_of stage)
+left_now composes command (Consolidating p stage) v =
+    let left = allotment.left_of stage in
+    with_sheds v (with_parts (length p.transfers.items) (length p.parts.items) left)
+left_now composes command (Copying name whole parts stage) v =
+    with_sheds v (with_parts 0 (length parts.items) (copying.left_of stage))
+left_now composes command (Replacing name whole stage) v = with_sheds v (releasing.left_of stage)
 
 -- how the law reads the notes of a command from this stage on, with the names that are bound now
 abbrev pub reads_from : Shape → ℕ → LaneState → Command → Stage → Reader Answer
@@ -140,6 +187,18 @@ reads_from shape lane s command (Ending stage) =
 reads_from shape lane s command (Sweeping reply stage) =
     draining.rest_of Trim lane stage >> give (answer reply s.names)
 reads_from shape lane s command (Closing stage) = λ log. None
+reads_from shape lane s command (Crossing name marks stage) =
+    crossing.rest_of stage >>= (λ bytes. give (crossed s name marks stage bytes)) >>= swept lane
+reads_from shape lane s command (Parting name stage) =
+    releasing.rest_of shape stage >> give (ended s name) >>= swept lane
+reads_from shape lane s command (Consolidating p stage) =
+    allotment.rest_of shape lane p.size p.class stage >>= copied_to shape p.whole.value
+    >>= (λ made. give (composed s p.name made)) >>= swept lane
+reads_from shape lane s command (Copying name whole parts stage) =
+    copying.rest_of stage >> release_parts shape parts.items
+    >> give (composed s name (Ok whole.value)) >>= swept lane
+reads_from shape lane s command (Replacing name whole stage) =
+    releasing.rest_of shape stage >> give (composed s name (Ok whole.value)) >>= swept lane
 
 -- a turn adds these entries to what the seat noted, and nothing else is new at the desk but its
 -- names and its replies
@@ -150,6 +209,7 @@ pub record DeskGrew (pool : SharedPool) (hand : Hand) (old new : Desk) (added : 
     pub same : SameSeat old.seat new.seat
     pub more : HasMore (view_of old.seat) (view_of new.seat) added
     pub shape : new.shape ≡ old.shape
+    pub composes : new.composes ≡ old.composes
     pub room : vec_capacity old.notes ≤ vec_capacity new.notes
     pub replies_room : vec_capacity old.replies ≤ vec_capacity new.replies
     pub name_count : length new.names ≡ length old.names
@@ -228,11 +288,11 @@ ComesTo reads s old new added stage (Pending held next) =
 ComesTo reads s old new added stage (Waiting sender) = (stage ≡ Ready) × Waits old new added
 
 -- what the lane may spend after a turn, and what caches may shed
-abbrev pub left_after : Command → Stage → Turn → SeatView → Left
-left_after command stage (Went Ready) v = with_sheds v (notes_alone 0)
-left_after command stage (Went next) v = left_now command next v
-left_after command stage (Pending held next) v = left_now command next v
-left_after command stage (Waiting sender) v = left_now command stage v
+abbrev pub left_after : Bool → Command → Stage → Turn → SeatView → Left
+left_after composes command stage (Went Ready) v = with_sheds v (notes_alone 0)
+left_after composes command stage (Went next) v = left_now composes command next v
+left_after composes command stage (Pending held next) v = left_now composes command next v
+left_after composes command stage (Waiting sender) v = left_now composes command stage v
 
 -- a turn spent no more than what is left less, but for the notes of caches that are asked in a sweep
 -- that it began
@@ -247,10 +307,18 @@ pub record SpendsAt (old new : Desk) (before after : Left) : Type 0 where
       after.sends to + posts (lane_of new.seat) to (notes_of new)
       ≤ before.sends to + posts (lane_of old.seat) to (notes_of old)
 
--- the name that an allocation, or an access, will bind is one of the desk's
+-- what is behind the stage may be bound to its name
 abbrev pub NameFits : Desk → Stage → Type 0
+NameFits d Ready = ⊤
 NameFits d (Allotting name size class stage) = name < length d.names
-NameFits d _ = ⊤
+NameFits d (Ending stage) = ⊤
+NameFits d (Sweeping reply stage) = ⊤
+NameFits d (Closing stage) = ⊤
+NameFits d (Crossing name marks stage) = MarksFit d.names name marks
+NameFits d (Parting name stage) = HasLast d.names name
+NameFits d (Consolidating p stage) = IsCandidate d p.name p.whole.value
+NameFits d (Copying name whole parts stage) = IsBindable d name whole.value
+NameFits d (Replacing name whole stage) = IsBindable d name whole.value
 
 -- a turn of the command that is under way, in this state of the law
 pub record HasTurned (pool : SharedPool) (old new : Desk) (s : LaneState) (command : Command)
@@ -261,7 +329,8 @@ pub record HasTurned (pool : SharedPool) (old new : Desk) (s : LaneState) (comma
   pub name : NameFits new (next_of stage turn)
   pub spends :
       SpendsAt old new
-      (left_now command stage (view_of old.seat)) (left_after command stage turn (view_of new.seat))
+      (left_now old.composes command stage (view_of old.seat))
+      (left_after old.composes command stage turn (view_of new.seat))
   pub comes :
       let reads = λ (state : LaneState). reads_from old.shape (lane_of old.seat) state command in
       ComesTo reads s old new added stage turn
@@ -300,14 +369,15 @@ pub record PassesOver (pool : SharedPool) (old new : Desk) (command : Command) (
     pub asked : new.asked ≡ old.asked
     pub spends :
         SpendsAt old new
-        (left_now command Ready (view_of old.seat)) (left_after command Ready turn (view_of new.seat))
+        (left_now old.composes command Ready (view_of old.seat))
+        (left_after old.composes command Ready turn (view_of new.seat))
     pub comes : PassesTo old new added command turn
     pub held : IfPending turn (λ held. FoundBusy pool held.object false old.seat new.seat held)
 
 -- the desk's log, its seat and its mails have room for what is left
 pub record HasRoomFor (d : Desk) (left : Left) : Type 0 where
   pub notes : length (notes_of d) + left.notes ≤ vec_capacity d.notes
-  pub few : length (notes_of d) + left.notes ≤ 1048576
+  pub few : length (notes_of d) + left.notes ≤ most_of_lane
   pub turns : left.notes ≤ (view_of d.seat).turns
   pub moves : left.moves ≤ (view_of d.seat).moves
   pub mails : (to : ℕ) → to < d.shape.lanes →
@@ -316,7 +386,7 @@ pub record HasRoomFor (d : Desk) (left : Left) : Type 0 where
       × (slice_get setting.mail (lane_of d.seat * d.shape.lanes + to) ≡ Some room)
       × (posts (lane_of d.seat) to (notes_of d) + left.sends to ≤ room))
 
--- the command names only what the desk and the shape have, and no composite
+-- the command names only what the desk and the shape have
 abbrev pub FitsDesk : Desk → Command → Type 0
 FitsDesk d (Command.Alloc name size) = name < length d.names
 FitsDesk d (Command.Set name at bytes tries) = name < length d.names
@@ -332,14 +402,21 @@ FitsDesk d (Command.Touch name) = ⊤
 FitsDesk d (Command.Forget name) = name < length d.names
 FitsDesk d (Command.Send name lane) = lane < d.shape.lanes
 FitsDesk d (Command.Recv fresh lane) = (fresh < length d.names) × (lane < d.shape.lanes)
-FitsDesk d (Command.Compose fresh names) = ⊥
-FitsDesk d (Command.Add whole name) = ⊥
+FitsDesk d (Command.Compose fresh names) =
+    (fresh < length d.names) × (d.composes ≡ true)
+    × (1 ≤ length names) × (length names ≤ 24)
+FitsDesk d (Command.Add whole name) = ⊤
 
 -- a command has begun, and is not answered yet
 abbrev pub IsUnderway : Stage → Type 0
 IsUnderway (Allotting name size class stage) = ⊤
 IsUnderway (Ending stage) = ⊤
 IsUnderway (Sweeping reply stage) = ⊤
+IsUnderway (Crossing name marks stage) = ⊤
+IsUnderway (Parting name stage) = ⊤
+IsUnderway (Consolidating p stage) = ⊤
+IsUnderway (Copying name whole parts stage) = ⊤
+IsUnderway (Replacing name whole stage) = ⊤
 IsUnderway _ = ⊥
 
 abbrev pub AccessFits : Desk → Access → Type 0

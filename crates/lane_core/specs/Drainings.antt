@@ -10,7 +10,7 @@ use Rattle.pool_law.specs.declared.note.Noted.{Noted}
 use Rattle.pool_law.specs.Dids as says
 use Rattle.pool_law.specs.Limits.{cached_classes}
 use Rattle.pool_law.specs.Patterns.{give_back, sheds, drain}
-use Rattle.pool_law.specs.Readers.{Reader, ◌>>=◌, ◌>>◌, nothing}
+use Rattle.pool_law.specs.Readers.{Reader, ◌>>◌, nothing}
 use Rattle.leak_records.specs.Records.{Sampling}
 use Rattle.pool_table.specs.declared.table.PoolSeat.{PoolSeat}
 use Rattle.pool_table.specs.declared.views.SeatView.{SeatView}

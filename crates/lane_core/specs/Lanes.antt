@@ -1,9 +1,11 @@
 -- A lane of a pool: its log so far is the law's for its commands so far.
 use Rattle.std.specs.Prelude.{◌≡◌, ℕ, ◌+◌, ◌*◌, ◌/◌, ◌<◌, ◌≤◌, ⊤, Bool, true, false, MatchBool, List, [], ◌∷◌, ◌++◌, length, take, drop, sum, All, Some, None, vec_capacity}
+use Rattle.std.specs.List.{list_any}
 use Rattle.pool_law.specs.declared.command.Command.{Command}
 use Rattle.pool_law.specs.declared.note.Note.{Note}
 use Rattle.pool_law.specs.declared.run.Answered.{Answered}
 use Rattle.pool_law.specs.declared.run.Shape.{Shape}
+use Rattle.pool_law.specs.Bounds.{composes}
 use Rattle.pool_law.specs.Limits.{cached_classes, IsShape}
 use Rattle.pool_law.specs.Legal.{AreCommands}
 use Rattle.pool_law.specs.LaneLaw.{sweep_period, lane_run, stopped_run, before_stop, pieces, note_counts, replies_in}
@@ -86,21 +88,26 @@ both a b =
       sends = λ to. a.sends to + b.sends to;
     }
 
--- on these commands
+-- on each of these commands, in a lane that makes composites or in one that makes none
+abbrev pub left_for_each : Bool → List Command → Left
+left_for_each composes [] = notes_alone 0
+left_for_each composes (command ∷ later) =
+    both (left_for composes command) (left_for_each composes later)
+
+-- on all commands of a lane
 abbrev pub left_for_all : List Command → Left
-left_for_all [] = notes_alone 0
-left_for_all (command ∷ later) = both (left_for command) (left_for_all later)
+left_for_all commands = left_for_each (list_any composes commands) commands
 
 -- and on shedding the regions that they may take
 abbrev pub with_takes : Left → Left
 with_takes left = record left { notes = left.notes + 2 * left.takes }
 
 -- on the commands of which the first is at this stage, or on the closing
-abbrev pub left_for_rest : List Command → Stage → SeatView → Left
-left_for_rest [] (Closing stage) v = draining.left_of stage v
-left_for_rest [] stage v = with_sheds v (notes_alone 0)
-left_for_rest (command ∷ later) stage v =
-    both (left_now command stage v) (with_takes (left_for_all later))
+abbrev pub left_for_rest : Bool → List Command → Stage → SeatView → Left
+left_for_rest composes [] (Closing stage) v = draining.left_of stage v
+left_for_rest composes [] stage v = with_sheds v (notes_alone 0)
+left_for_rest composes (command ∷ later) stage v =
+    both (left_now composes command stage v) (with_takes (left_for_each composes later))
 
 -- on asking the caches, in the sweeps to come and the closing, where so many allocations ask a cache
 abbrev pub left_to_ask : Stage → ℕ → Left
@@ -110,8 +117,9 @@ left_to_ask _ asking = notes_alone (cached_classes * (1 + asking / sweep_period)
 -- on all that the lane has still to do
 abbrev pub left_of : Lane → Left
 left_of l =
-    let rest = left_for_rest (commands_left l) l.stage (view_of l.desk.seat) in
-    both rest (left_to_ask l.stage (l.desk.asked + rest.asks))
+    let d = l.desk in
+    let rest = left_for_rest d.composes (commands_left l) l.stage (view_of d.seat) in
+    both rest (left_to_ask l.stage (d.asked + rest.asks))
 
 -- ---- A lane.
 
@@ -159,6 +167,7 @@ pub record IsRunningLane (pool : SharedPool) (l : Lane) : Type 0 where
   pub shape : IsShape l.desk.shape
   pub commands : AreCommands l.desk.shape l.commands
   pub plain : All (FitsDesk l.desk) l.commands
+  pub composing : l.desk.composes ≡ list_any composes l.commands
   pub few : length l.desk.replies.items ≤ length l.commands
   pub state : LaneState
   pub answered : HasAnswered l.desk.shape (number_of l) l state

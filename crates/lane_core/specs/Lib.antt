@@ -9,8 +9,16 @@ pub mod Allotments
 pub mod Endings
 pub mod Drainings
 pub mod Accesses
+pub mod Crossings
+pub mod Copyings
+pub mod Releasings
+pub mod Composing
 pub mod Desks
 pub mod DeskSteps
+pub mod Works
+pub mod Plans
+pub mod Compositions
+pub mod Prepared
 pub mod Lanes
 pub mod Opened
 pub mod Steps

@@ -1,8 +1,7 @@
 -- What a step wrote into a log, and how much one step may.
-use Rattle.std.specs.Prelude.{◌≡◌, ℕ, ◌+◌, ◌≤◌, if◌then◌else◌, Bool, true, false, List, [], ◌∷◌, ◌++◌, vec_capacity}
+use Rattle.std.specs.Prelude.{◌≡◌, List, ◌++◌, vec_capacity}
 use Rattle.std.specs.Global.{Vec}
 use Rattle.pool_law.specs.declared.note.Note.{Note}
-use Rattle.pool_law.specs.declared.note.Note.TheVariants.{At, Ref, Busy}
 
 -- the log has these notes more, in the room that it had
 pub record HasWritten (old new : Vec Note) (more : List Note) : Type 0 where

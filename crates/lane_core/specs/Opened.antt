@@ -1,11 +1,12 @@
 -- The seat and the commands of a new lane.
-use Rattle.std.specs.Prelude.{◌≡◌, ℕ, ◌+◌, ◌*◌, ◌<◌, ◌≤◌, ⊤, List, [], length, replicate, All, Some, None, IfSome, slice_get, vec_capacity}
+use Rattle.std.specs.Prelude.{◌≡◌, ℕ, ◌+◌, ◌*◌, ◌<◌, ◌≤◌, List, [], length, replicate, All, Some, None, IfSome, slice_get, vec_capacity}
+use Rattle.std.specs.List.{list_any}
 use Rattle.step_law.specs.declared.Told.{Ghosts}
 use Rattle.pool_law.specs.declared.command.Command.{Command}
 use Rattle.pool_law.specs.declared.id.RootId.{RootId}
 use Rattle.pool_law.specs.declared.note.Noted.{Noted}
 use Rattle.pool_law.specs.declared.run.Shape.{Shape}
-use Rattle.pool_law.specs.Bounds.{note_bound}
+use Rattle.pool_law.specs.Bounds.{composes, note_bound}
 use Rattle.pool_law.specs.Legal.{AreCommands}
 use Rattle.pool_law.specs.Limits.{IsShape, geometry_of}
 use Rattle.leak_records.specs.Records.{new_sampler}
@@ -20,12 +21,6 @@ use Rattle.lane_core.specs.declared.lane.Parts.{Parts}
 use Rattle.lane_core.specs.Named.{ChangesBelow}
 use Rattle.lane_core.specs.Counting.{counted}
 use Rattle.lane_core.specs.Lanes.{left_for_all}
-
--- it makes no composite
-abbrev pub IsPlain : Command → Type 0
-IsPlain (Command.Compose fresh names) = ⊥
-IsPlain (Command.Add whole name) = ⊥
-IsPlain _ = ⊤
 
 module _ {G : Ghosts Home Noted} where
   -- the seat of a new lane of the pool, for these commands: it has noted nothing, has turns and
@@ -49,13 +44,13 @@ module _ {G : Ghosts Home Noted} where
 -- the commands of a new lane
 pub record AreFirst (shape : Shape) (commands : List Command) : Type 0 where
   pub commands_are : AreCommands shape commands
-  pub plain : All IsPlain commands
 
 -- what a new lane of this number is made of, beside its commands and its seat: none of its names is
 -- bound, it counts no root, and there is room for its log
 pub record AreParts (shape : Shape) (lane : ℕ) (commands : List Command) (p : Parts) : Type 0 where
   pub classes : p.classes ≡ geometry_of shape
   pub names : p.names ≡ replicate (length p.names) None
+  pub composes : p.composes ≡ list_any composes commands
   pub below : All (ChangesBelow (length p.names)) commands
   pub counts : (root : RootId) → counted p.counts root ≡ 0
   pub places : length p.counts ≡ shape.lanes * shape.handles

@@ -1,6 +1,6 @@
 -- How the law reads a lane's log on, note by note.
-use Rattle.std.specs.Prelude.{◌≡◌, ℕ, ◌+◌, List, ◌++◌}
-use Rattle.pool_law.specs.Readers.{Entries, Log, Reader, ◌>>=◌, ◌>>◌, give}
+use Rattle.std.specs.Prelude.{◌≡◌, ℕ, ◌+◌, ◌++◌}
+use Rattle.pool_law.specs.Readers.{Entries, Log, Reader, ◌>>◌, give}
 use Rattle.pool_law.specs.LaneLaw.{sweep_period}
 use Rattle.pool_law.specs.LaneStates.{LaneState}
 use Rattle.pool_law.specs.Lanes.{Answer}

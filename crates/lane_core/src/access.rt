@@ -4,23 +4,36 @@ ghost use Rattle.std.specs.Prelude.{◌≡◌, ◌<◌, ◌≤◌, length, repli
 ghost use Rattle.pool_law.specs.declared.command.Command.{Command};
 ghost use Rattle.pool_law.specs.LaneStates.{LaneState};
 ghost use Rattle.pool_law.specs.Views.{in_range, can_read, can_write, after_read, after_write};
+ghost use Rattle.pool_law.specs.Names.{Plain};
 ghost use Rattle.lane_core.specs.Named.{bound_at};
+ghost use Rattle.lane_core.specs.Works.{IsUnplanned};
 ghost use Rattle.lane_core.specs.Counting.{counted};
-ghost use Rattle.lane_core.specs.Accesses.{IsState, IsRefused, IsRefusedFresh, IsRefusedRange, IsReached, IsPrepared, IsAccess, BindsBelow, IsMadeSet, IsMadeGet};
+ghost use Rattle.lane_core.specs.Accesses.{IsState, IsRefused, IsRefusedFresh, IsRefusedRange, IsRefusedCount, IsOwned, IsReached, IsPrepared, IsAccess, BindsBelow, IsMadeSet, IsMadeGet};
 
+use crate::bound::Bound;
 use crate::counts::OwnCounts;
 use crate::names::Names;
 use byte_view::View;
-use pool_law::{Command, RootId};
+use pool_law::{Command, RootId, ViewData};
 use std::alloc::{AllocError, Global};
 
-/// Why a command on a view is refused before it makes a note.
+/// Why a command is refused before it makes a note.
 #[derive(Clone, Copy, PartialEq, Eq, Debug, Drop)]
 pub(crate) enum Refusal {
     Unbound,
     Taken,
+    Composite,
     Illegal,
     Range,
+    Plain,
+    TooLarge,
+}
+
+/// What a command on a count works on: the root of a view, or a composite with a count of its own.
+#[derive(Clone, Copy, Drop)]
+pub(crate) enum Owned {
+    View(ViewData),
+    Composite(u32),
 }
 
 /// Where a command reaches bytes of a root, and what its name is bound to afterwards.
@@ -48,12 +61,14 @@ pub(crate) fn counted<'a>(
     counts: &OwnCounts,
     name: u32,
 ) -> Result<&'a View, Refusal>
-    ensures ok { IfOk result (λ view. (bound_at names.now name ≡ Some view.now.at)
+    ensures ok { IfOk result (λ view. (bound_at names.now name ≡ Some (Plain view.now.at))
         × (0 < counted counts.now view.now.at.root)) }
     ensures refused { IfErr result (IsRefused names.now counts.now name) }
 {
-    let Some(view) = names.get(name) else {
-        return Err(Refusal::Unbound);
+    let view = match names.get(name) {
+        Some(Bound::Plain(view)) => view,
+        Some(Bound::Composed(_)) => return Err(Refusal::Composite),
+        None => return Err(Refusal::Unbound),
     };
     if counts.of(view.at.root) == 0 {
         return Err(Refusal::Illegal);
@@ -61,23 +76,49 @@ pub(crate) fn counted<'a>(
     Ok(view)
 }
 
-/// The same, with a new name that may not be bound.
+/// What the name's count is one of, where it isn't 0.
+pub(crate) fn own_count(names: &Names, counts: &OwnCounts, name: u32) -> Result<Owned, Refusal>
+    ensures ok { IfOk result (IsOwned names.now counts.now name) }
+    ensures refused { IfErr result (IsRefusedCount names.now counts.now name) }
+{
+    match names.get(name) {
+        Some(Bound::Plain(view)) => {
+            if counts.of(view.at.root) == 0 {
+                return Err(Refusal::Illegal);
+            }
+            Ok(Owned::View(view.at))
+        }
+        Some(Bound::Composed(composed)) => {
+            let count = composed.count();
+            if count == 0 {
+                return Err(Refusal::Illegal);
+            }
+            Ok(Owned::Composite(count))
+        }
+        None => Err(Refusal::Unbound),
+    }
+}
+
+/// The same as `counted`, with a new name that may not be bound.
 pub(crate) fn derived<'a>(
     names: &'a Names,
     counts: &OwnCounts,
     fresh: u32,
     name: u32,
 ) -> Result<&'a View, Refusal>
-    ensures ok { IfOk result (λ view. (bound_at names.now name ≡ Some view.now.at)
+    ensures ok { IfOk result (λ view. (bound_at names.now name ≡ Some (Plain view.now.at))
         × (bound_at names.now fresh ≡ None) × (0 < counted counts.now view.now.at.root)) }
     ensures refused { IfErr result (IsRefusedFresh names.now counts.now fresh name) }
 {
-    let Some(view) = names.get(name) else {
+    let Some(bound) = names.get(name) else {
         return Err(Refusal::Unbound);
     };
     if let Some(_) = names.get(fresh) {
         return Err(Refusal::Taken);
     }
+    let Bound::Plain(view) = bound else {
+        return Err(Refusal::Composite);
+    };
     if counts.of(view.at.root) == 0 {
         return Err(Refusal::Illegal);
     }
@@ -91,6 +132,7 @@ pub(crate) fn prepare(
     counts: &OwnCounts,
     command: &Command,
 ) -> Result<Option<Access>, AllocError>
+    requires plain { IsUnplanned names.now command.now }
     ensures access { IfOk result (λ made. IfSome made (λ access. (s : LaneState) →
         IsState s names.now counts.now →
         IsPrepared names.now counts.now command.now access s)) }

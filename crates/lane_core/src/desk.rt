@@ -2,7 +2,9 @@
 
 ghost use Rattle.std.specs.Prelude.{◌≡◌, ◌≢◌, ◌+◌, ◌-◌, ◌<◌, ◌≤◌, [], ◌∷◌, ◌++◌, length, Some, None, IfSome, vec_capacity};
 ghost use Rattle.pool_law.specs.LaneLaw.{sweep_period};
+ghost use Rattle.pool_law.specs.Composites.{Composite};
 ghost use Rattle.pool_law.specs.LaneStates.{LaneState};
+ghost use Rattle.pool_law.specs.Names.{Composed as Whole};
 ghost use Rattle.pool_law.specs.declared.command.Command.{Command};
 ghost use Rattle.seat_work.specs.Hands.{empty_hand};
 ghost use Rattle.lane_core.specs.Accesses.{IsState, Reaches, IsReady, IsPrepared, IsAccess, reply_for};
@@ -10,31 +12,39 @@ ghost use Rattle.lane_core.specs.declared.access.Access.TheVariants.{Set, Get};
 ghost use Rattle.pool_law.specs.Views.{IsView};
 ghost use Rattle.lane_core.specs.Allotments.{left_with};
 ghost use Rattle.lane_core.specs.Counting.{counted};
-ghost use Rattle.lane_core.specs.DeskSteps.{CanAnswer, Concludes, HasNoted, HasReplied, HasRetained, FindsBusy, PostsTo, left_to_post, MayTurn, Turns, AccessTurns};
+ghost use Rattle.lane_core.specs.DeskSteps.{CanAnswer, recounted, Concludes, HasNoted, HasReplied, HasRetained, FindsBusy, PostsTo, left_to_post, MayTurn, Turns, AccessTurns};
 ghost use Rattle.lane_core.specs.declared.desk.Turn.{Turn};
 ghost use Rattle.shared_pool.specs.declared.pool.SharedPool.{SharedPool};
-ghost use Rattle.lane_core.specs.Named.{NamesAre};
+ghost use Rattle.lane_core.specs.Named.{bound_at, NamesAre};
 ghost use Rattle.lane_core.specs.Drainings as draining;
 ghost use Rattle.lane_core.specs.Allotments as allotment;
 ghost use Rattle.lane_core.specs.Endings as ending;
 ghost use Rattle.lane_core.specs.Desks.{IsDesk, hand_of, Fits, FitsDesk, HasRoomFor, left_for, left_at, IsUnderway, NameFits, AccessFits, HasTurned, HasTurnedClosing, PassesOver};
+ghost use Rattle.lane_core.specs.Composing.{HasLast};
+ghost use Rattle.lane_core.specs.Works.{IsUnplanned};
 ghost use Rattle.lane_core.specs.declared.desk.Stage.{Stage};
 ghost use Rattle.lane_core.specs.declared.draining.DrainKind.TheVariants.{Close};
 ghost use Rattle.lane_core.specs.declared.draining.Draining.{Draining};
 ghost use Rattle.lane_core.specs.Budgets.{notes_alone};
 ghost use Rattle.pool_table.specs.Seats.{view_of};
 
-use crate::access::{Access, Reach, Refusal, counted, derived};
+use crate::access::{Access, Owned, Reach, Refusal, counted, derived, own_count};
 use crate::allotment::{Allots, Allotting, allot};
+use crate::bound::Bound;
+use crate::composed::{Composed, Marks};
+use crate::copying::Copying;
 use crate::counts::OwnCounts;
+use crate::crossing::Crossing;
 use crate::draining::{DrainKind, Draining, Drains, drain};
 use crate::names::Names;
 use crate::notes::{at, lane_of, to, write};
+use crate::releasing::Releasing;
 use crate::retirement::{Ending, Ends, end};
+use crate::work::Consolidation;
 use byte_view::View;
 use leak_records::Sampler;
 use pool_law::{
-    Answered, Bytes, Command, Did, Held, Note, Object, Parcel, RefDid, Reply, RootId, Shape,
+    Answered, Bytes, Command, Did, Held, Note, Object, Parcel, Part, RefDid, Reply, RootId, Shape,
 };
 use shared_pool::{Fetched, PoolSeat, Release, SharedPool, Went};
 use size_classes::SizeClasses;
@@ -44,6 +54,8 @@ pub(crate) struct Desk {
     pub(crate) shape: Shape,
     pub(crate) classes: SizeClasses,
     pub(crate) seat: PoolSeat,
+    /// The lane's commands make composites.
+    pub(crate) composes: bool,
     pub(crate) names: Names,
     pub(crate) counts: OwnCounts,
     pub(crate) sampler: Sampler,
@@ -76,6 +88,35 @@ pub(crate) enum Stage {
     },
     /// All commands are answered, and the caches are closed.
     Closing(Draining),
+    /// Bytes of a composite are set or got; then it has these marks.
+    Crossing {
+        name: u32,
+        marks: Option<Marks>,
+        stage: Crossing,
+    },
+    /// A composite ends: its parts are released.
+    Parting {
+        name: u32,
+        stage: Releasing,
+    },
+    /// A root is allotted for the bytes of a composite that has too many parts.
+    Consolidating {
+        plan: Consolidation,
+        stage: Allotting,
+    },
+    /// They are copied there. Behind that these parts are released.
+    Copying {
+        name: u32,
+        whole: Box<Composed>,
+        parts: Vec<Part>,
+        stage: Copying,
+    },
+    /// The parts that were copied are released; then the name is bound to the composite.
+    Replacing {
+        name: u32,
+        whole: Box<Composed>,
+        stage: Releasing,
+    },
 }
 
 /// What a turn of a lane came to. The stage is what is to be done next.
@@ -98,13 +139,16 @@ fn reply_of(refusal: Refusal) -> Reply
     match refusal {
         Refusal::Unbound => Reply::Unbound,
         Refusal::Taken => Reply::Taken,
+        Refusal::Composite => Reply::Composite,
         Refusal::Illegal => Reply::Illegal,
         Refusal::Range => Reply::Range,
+        Refusal::Plain => Reply::Plain,
+        Refusal::TooLarge => Reply::TooLarge,
     }
 }
 
 // How many allocations asked a cache, with one that is about to do what its stage says.
-fn asked_with(stage: &Allotting, asked: u32) -> u32
+pub(crate) fn asked_with(stage: &Allotting, asked: u32) -> u32
     requires { asked < 4294967295 }
     ensures { result ≡ allotment.asks_of stage.now asked }
 {
@@ -124,7 +168,7 @@ impl Desk {
     }
 
     // Answers the command that is under way.
-    fn answer(&mut self, reply: Reply) -> Turn
+    pub(crate) fn answer(&mut self, reply: Reply) -> Turn
         requires { CanAnswer self.old }
         ensures replied { HasReplied self.old self.new reply }
         ensures ready { result ≡ Turn.Went Stage.Ready }
@@ -138,7 +182,7 @@ impl Desk {
     }
 
     // Answers the command that is under way, or where a sweep is due begins that.
-    fn conclude(&mut self, reply: Reply) -> Turn
+    pub(crate) fn conclude(&mut self, reply: Reply) -> Turn
         requires { CanAnswer self.old }
         ensures { Concludes self.old self.new reply result }
     {
@@ -150,7 +194,7 @@ impl Desk {
         Turn::Went(Stage::Sweeping { reply, stage })
     }
 
-    fn refuse(&mut self, refusal: Refusal) -> Turn
+    pub(crate) fn refuse(&mut self, refusal: Refusal) -> Turn
         requires { CanAnswer self.old }
         ensures replied { HasReplied self.old self.new (reply_for refusal) }
         ensures ready { result ≡ Turn.Went Stage.Ready }
@@ -161,11 +205,13 @@ impl Desk {
     /// Begins a command that accesses no bytes.
     pub(crate) fn obey(&mut self, pool: &SharedPool, command: &Command) -> Turn
         requires desk { IsDesk pool.now empty_hand self.old }
-        requires room { HasRoomFor self.old (left_for command.now) }
+        requires room { HasRoomFor self.old (left_for self.old.composes command.now) }
         requires replies { length self.old.replies.items < vec_capacity self.old.replies }
         requires fits { FitsDesk self.old command.now }
         requires other { IsAccess command.now → ⊥ }
         requires asked { self.old.asked < sweep_period }
+        requires few { length self.old.replies.items < 65536 }
+        requires plain { IsUnplanned self.old.names command.now }
         ensures { (s : LaneState) → IsState s self.old.names self.old.counts →
             HasTurned pool.now self.old self.new s command.now Stage.Ready result }
     {
@@ -196,7 +242,7 @@ impl Desk {
         requires fits { Fits pool.now self.old stage }
         requires begun { IsUnderway stage }
         requires room { (command : Command) →
-            HasRoomFor self.old (left_at command stage (view_of self.old.seat)) }
+            HasRoomFor self.old (left_at self.old.composes command stage (view_of self.old.seat)) }
         requires replies { length self.old.replies.items < vec_capacity self.old.replies }
         requires name { NameFits self.old stage }
         ensures { (s : LaneState) (command : Command) → NamesAre s.names self.old.names →
@@ -211,12 +257,23 @@ impl Desk {
             } => self.allot(pool, name, size, class, stage),
             Stage::Ending(stage) => self.end(pool, stage),
             Stage::Sweeping { reply, stage } => self.sweep(pool, reply, stage),
+            Stage::Crossing { name, marks, stage } => self.cross(pool, name, marks, stage),
+            Stage::Parting { name, stage } => self.part(pool, name, stage),
+            Stage::Consolidating { plan, stage } => self.consolidate(pool, plan, stage),
+            Stage::Copying {
+                name,
+                whole,
+                parts,
+                stage,
+            } => self.copy(pool, name, whole, parts, stage),
+            Stage::Replacing { name, whole, stage } => self.replace(pool, name, whole, stage),
             _ => unreachable!(),
         }
     }
 
     fn alloc(&mut self, pool: &SharedPool, name: u32, size: u32) -> Turn
-        requires may { MayTurn pool.now (left_for (Command.Alloc name size)) self.old }
+        requires may { MayTurn pool.now (left_for self.old.composes (Command.Alloc name size))
+            self.old }
         requires name { name < length self.old.names }
         ensures { Turns pool.now self.old self.new (Command.Alloc name size) result }
     {
@@ -276,7 +333,7 @@ impl Desk {
             }
             Allots::New(root, region) => {
                 self.counts.add(root);
-                self.names.bind(name, View::of_root(root));
+                self.names.bind(name, Bound::Plain(View::of_root(root)));
                 self.conclude(Reply::OkPlace {
                     size: region.place.len,
                     place: region.place,
@@ -318,7 +375,7 @@ impl Desk {
             Went::Did(number, ()) => {
                 let bytes = Bytes::of(bytes);
                 self.note(at(Object::Root(root.place), number, Did::Set { offset, bytes }));
-                self.names.bind(reach.name, reach.after);
+                self.names.bind(reach.name, Bound::Plain(reach.after));
                 self.answer(Reply::Ok)
             }
             Went::Held(held, ()) => self.find_busy(reach.tries, held),
@@ -345,7 +402,7 @@ impl Desk {
                 reply.copy_from_slice(&note);
                 let bytes = Bytes::of(note);
                 self.note(at(Object::Root(root.place), number, Did::Get { offset, bytes }));
-                self.names.bind(reach.name, reach.after);
+                self.names.bind(reach.name, Bound::Plain(reach.after));
                 self.answer(Reply::OkBytes(Bytes::of(reply)))
             }
             Went::Held(held, ()) => self.find_busy(reach.tries, held),
@@ -375,7 +432,8 @@ impl Desk {
         retained: bool,
     ) -> Turn
         requires may { MayTurn pool.now
-            (left_for (Command.Slice fresh name range.0 range.1 retained)) self.old }
+            (left_for self.old.composes (Command.Slice fresh name range.0 range.1 retained))
+            self.old }
         requires name { fresh < length self.old.names }
         ensures { let command = Command.Slice fresh name range.0 range.1 retained in
             Turns pool.now self.old self.new command result }
@@ -390,21 +448,22 @@ impl Desk {
         if retained {
             self.count_more(pool, slice.at.root);
         }
-        self.names.bind(fresh, slice);
+        self.names.bind(fresh, Bound::Plain(slice));
         self.answer(Reply::Ok)
     }
 
     fn duplicate(&mut self, fresh: u32, name: u32) -> Turn
         requires may { CanAnswer self.old }
         requires name { fresh < length self.old.names }
-        ensures { (pool : SharedPool) → MayTurn pool (left_for (Command.Dup fresh name)) self.old →
+        ensures { (pool : SharedPool) →
+            MayTurn pool (left_for self.old.composes (Command.Dup fresh name)) self.old →
             Turns pool self.old self.new (Command.Dup fresh name) result }
     {
         let view = match derived(&self.names, &self.counts, fresh, name) {
             Ok(view) => view.duplicate(),
             Err(refusal) => return self.refuse(refusal),
         };
-        self.names.bind(fresh, view);
+        self.names.bind(fresh, Bound::Plain(view));
         self.answer(Reply::Ok)
     }
 
@@ -420,12 +479,27 @@ impl Desk {
         self.counts.add(root);
     }
 
+    // Gives the composite of a name another count of its own, and answers that.
+    pub(crate) fn recount(&mut self, name: u32, count: u32, reply: Reply) -> Turn
+        requires may { CanAnswer self.old }
+        requires composed { (c : Composite) × (bound_at self.old.names name ≡ Some (Whole c)) }
+        ensures replied { (c : Composite) → bound_at self.old.names name ≡ Some (Whole c) →
+            HasReplied (recounted self.old name c count) self.new reply }
+        ensures ready { result ≡ Turn.Went Stage.Ready }
+    {
+        self.names.recount(name, count);
+        self.answer(reply)
+    }
+
     fn retain(&mut self, pool: &SharedPool, name: u32) -> Turn
-        requires { MayTurn pool.now (left_for (Command.Retain name)) self.old }
+        requires may { MayTurn pool.now (left_for self.old.composes (Command.Retain name))
+            self.old }
+        requires few { length self.old.replies.items < 65536 }
         ensures { Turns pool.now self.old self.new (Command.Retain name) result }
     {
-        let root = match counted(&self.names, &self.counts, name) {
-            Ok(view) => view.at.root,
+        let root = match own_count(&self.names, &self.counts, name) {
+            Ok(Owned::View(view)) => view.root,
+            Ok(Owned::Composite(count)) => return self.recount(name, count + 1, Reply::Ok),
             Err(refusal) => return self.refuse(refusal),
         };
         self.count_more(pool, root);
@@ -433,11 +507,15 @@ impl Desk {
     }
 
     fn release(&mut self, pool: &SharedPool, name: u32) -> Turn
-        requires { MayTurn pool.now (left_for (Command.Release name)) self.old }
+        requires may { MayTurn pool.now (left_for self.old.composes (Command.Release name))
+            self.old }
+        requires plain { HasLast self.old.names name → ⊥ }
         ensures { Turns pool.now self.old self.new (Command.Release name) result }
     {
-        let root = match counted(&self.names, &self.counts, name) {
-            Ok(view) => view.at.root,
+        let root = match own_count(&self.names, &self.counts, name) {
+            Ok(Owned::View(view)) => view.root,
+            Ok(Owned::Composite(1)) => unreachable!(),
+            Ok(Owned::Composite(count)) => return self.recount(name, count - 1, Reply::Kept),
             Err(refusal) => return self.refuse(refusal),
         };
         let release = pool.release(&mut self.seat, root);
@@ -495,11 +573,12 @@ impl Desk {
     }
 
     fn look(&mut self, pool: &SharedPool, name: u32) -> Turn
-        requires { MayTurn pool.now (left_for (Command.Refcnt name)) self.old }
+        requires { MayTurn pool.now (left_for self.old.composes (Command.Refcnt name)) self.old }
         ensures { Turns pool.now self.old self.new (Command.Refcnt name) result }
     {
-        let root = match counted(&self.names, &self.counts, name) {
-            Ok(view) => view.at.root,
+        let root = match own_count(&self.names, &self.counts, name) {
+            Ok(Owned::View(view)) => view.root,
+            Ok(Owned::Composite(count)) => return self.answer(Reply::OkNumber(count)),
             Err(refusal) => return self.refuse(refusal),
         };
         let count = pool.look(&mut self.seat, root);
@@ -508,7 +587,7 @@ impl Desk {
     }
 
     fn touch(&mut self, pool: &SharedPool, name: u32) -> Turn
-        requires { MayTurn pool.now (left_for (Command.Touch name)) self.old }
+        requires { MayTurn pool.now (left_for self.old.composes (Command.Touch name)) self.old }
         ensures { Turns pool.now self.old self.new (Command.Touch name) result }
     {
         let root = match counted(&self.names, &self.counts, name) {
@@ -527,7 +606,8 @@ impl Desk {
     fn forget(&mut self, name: u32) -> Turn
         requires may { CanAnswer self.old }
         requires name { name < length self.old.names }
-        ensures { (pool : SharedPool) → MayTurn pool (left_for (Command.Forget name)) self.old →
+        ensures { (pool : SharedPool) →
+            MayTurn pool (left_for self.old.composes (Command.Forget name)) self.old →
             Turns pool self.old self.new (Command.Forget name) result }
     {
         let None = self.names.get(name) else {
@@ -538,7 +618,8 @@ impl Desk {
     }
 
     fn send(&mut self, pool: &SharedPool, name: u32, lane: u32) -> Turn
-        requires may { MayTurn pool.now (left_for (Command.Send name lane)) self.old }
+        requires may { MayTurn pool.now (left_for self.old.composes (Command.Send name lane))
+            self.old }
         requires lane { lane < self.old.shape.lanes }
         ensures { Turns pool.now self.old self.new (Command.Send name lane) result }
     {
@@ -564,7 +645,7 @@ impl Desk {
     /// is done.
     pub(crate) fn pass_over(&mut self, pool: &SharedPool, command: &Command) -> Turn
         requires desk { IsDesk pool.now empty_hand self.old }
-        requires room { HasRoomFor self.old (left_for command.now) }
+        requires room { HasRoomFor self.old (left_for self.old.composes command.now) }
         requires replies { length self.old.replies.items < vec_capacity self.old.replies }
         requires fits { FitsDesk self.old command.now }
         ensures { PassesOver pool.now self.old self.new command.now result }
@@ -601,7 +682,8 @@ impl Desk {
     }
 
     fn receive(&mut self, pool: &SharedPool, fresh: u32, lane: u32) -> Turn
-        requires may { MayTurn pool.now (left_for (Command.Recv fresh lane)) self.old }
+        requires may { MayTurn pool.now (left_for self.old.composes (Command.Recv fresh lane))
+            self.old }
         requires name { fresh < length self.old.names }
         requires lane { lane < self.old.shape.lanes }
         ensures { Turns pool.now self.old self.new (Command.Recv fresh lane) result }
@@ -616,7 +698,7 @@ impl Desk {
                 match parcel.view {
                     Some(view) => {
                         self.counts.add(view.root);
-                        self.names.bind(fresh, View { at: view });
+                        self.names.bind(fresh, Bound::Plain(View { at: view }));
                         self.answer(Reply::Ok)
                     }
                     None => self.answer(Reply::Nothing),
@@ -663,6 +745,7 @@ impl Desk {
             shape: _,
             classes: _,
             seat,
+            composes: _,
             names: _,
             counts: _,
             sampler: _,

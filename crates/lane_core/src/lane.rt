@@ -1,20 +1,25 @@
 //! A lane, which is stepped over its pool.
 
-ghost use Rattle.std.specs.Prelude.{◌≡◌, ◌≢◌, ℕ, ◌+◌, ◌<◌, ◌≤◌, ◌&&◌, max, nat_le, Bool, [], length, IsSome, IfOk, IfErr, OnErr, Ok, All, vec_capacity};
+ghost use Rattle.std.specs.Prelude.{◌≡◌, ◌≢◌, ℕ, ◌+◌, ◌<◌, ◌≤◌, ◌&&◌, max, nat_le, Bool, [], length, IsSome, IfOk, IfErr, OnErr, Ok, vec_capacity};
 ghost use Rattle.pool_law.specs.declared.run.LaneLog.{LaneLog};
-ghost use Rattle.pool_law.specs.Limits.{IsShape};
+ghost use Rattle.pool_law.specs.Limits.{IsShape, geometry_of};
 ghost use Rattle.pool_table.specs.Seats.{view_of};
 ghost use Rattle.shared_pool.specs.declared.pool.SharedPool.{SharedPool};
 ghost use Rattle.shared_pool.specs.SeatLanes.{lane_of};
 ghost use Rattle.lane_core.specs.declared.lane.Stepped.TheVariants.{Went, Finished};
 ghost use Rattle.lane_core.specs.Lanes.{Heeds, IsLane, IsRunningLane, IsStoppedLane, IsFinished, SameLane, commands_of, noted_by, number_of, replies_of, seat_of};
-ghost use Rattle.lane_core.specs.Opened.{IsFirstSeat, AreFirst, AreParts, IsPlain};
+ghost use Rattle.lane_core.specs.Opened.{IsFirstSeat, AreFirst, AreParts};
 ghost use Rattle.lane_core.specs.Steps.{HasStepped, at_stage, stepped_of};
-ghost use Rattle.lane_core.specs.Desks.{next_of};
+ghost use Rattle.pool_law.specs.LaneStates.{LaneState};
+ghost use Rattle.lane_core.specs.Accesses.{IsState};
+ghost use Rattle.lane_core.specs.Desks.{FitsDesk, left_for, next_of};
+ghost use Rattle.lane_core.specs.DeskSteps.{MayTurn, Turns};
+ghost use Rattle.lane_core.specs.Named.{AreComposites};
+ghost use Rattle.lane_core.specs.Prepared.{IsPreparedFor};
 ghost use Rattle.lane_core.specs.declared.draining.Draining.{Draining};
 ghost use Rattle.lane_core.specs.declared.desk.Stage.{Stage};
 
-use crate::access::prepare;
+use crate::access::{Access, prepare};
 use crate::allotment::Allotting;
 use crate::counts::OwnCounts;
 use crate::desk::{Desk, Stage, Turn};
@@ -22,11 +27,16 @@ use crate::draining::Draining;
 use crate::gate::{Gate, Pass};
 use crate::names::Names;
 use crate::notes::lane_of;
+use crate::planning::plan;
+use crate::releasing::Releasing;
 use crate::retirement::Ending;
-use crate::room::{name_count, note_bound};
+use crate::room::{makes_composites, name_count, note_bound};
 use crate::spare::Spare;
+use crate::work::Work;
 use leak_records::Sampler;
-use pool_law::{Answered, CommandList, Held, LaneLog, Note, NoteList, Region, ReplyList, Shape};
+use pool_law::{
+    Answered, Command, CommandList, Held, LaneLog, Note, NoteList, Region, ReplyList, Shape,
+};
 use shared_pool::{PoolSeat, SharedPool};
 use size_classes::SizeClasses;
 use std::alloc::{AllocError, Global};
@@ -81,6 +91,7 @@ impl Lane {
         };
         let Parts {
             classes,
+            composes,
             names,
             counts,
             sampler,
@@ -91,6 +102,7 @@ impl Lane {
             shape: *shape,
             classes,
             seat,
+            composes,
             names,
             counts,
             sampler,
@@ -183,23 +195,15 @@ impl Lane {
             let turn = self.desk.close(pool, Draining::Ask { class: 0 });
             return Ok(self.after(turn));
         };
-        let access = prepare(alloc, &self.desk.names, &self.desk.counts, command)?;
+        let prepared = provide(alloc, &self.desk, command)?;
         let number = lane_of(&self.desk.seat);
         let stops = stops_at(gate, number, line, &mut self.asked);
         if stops {
             self.stopped = true;
             return Ok(self.pass_over(pool));
         }
-        match access {
-            Some(access) => {
-                let turn = self.desk.access(pool, access);
-                Ok(self.after(turn))
-            }
-            None => {
-                let turn = self.desk.obey(pool, command);
-                Ok(self.after(turn))
-            }
-        }
+        let turn = begin_with(&mut self.desk, pool, command, prepared);
+        Ok(self.after(turn))
     }
 
     // Passes the next command over, or begins the closing.
@@ -341,6 +345,50 @@ impl Lane {
     }
 }
 
+// What a command needs before its first note.
+#[derive(Drop)]
+enum Prepared {
+    /// It is one on a composite.
+    Work(Work),
+    /// It accesses the bytes of a view.
+    Access(Access),
+    /// Nothing.
+    Alone,
+}
+
+// Takes all memory that the command needs.
+fn provide(alloc: Global, desk: &Desk, command: &Command) -> Result<Prepared, AllocError>
+    requires composites { AreComposites desk.now.composes (1 + length desk.now.replies.items)
+        desk.now.names }
+    requires classes { desk.now.classes ≡ geometry_of desk.now.shape }
+    requires fits { FitsDesk desk.now command.now }
+    ensures { IfOk result (IsPreparedFor desk.now command.now) }
+{
+    if let Some(work) = plan(alloc, desk, command)? {
+        return Ok(Prepared::Work(work));
+    }
+    match prepare(alloc, &desk.names, &desk.counts, command)? {
+        Some(access) => Ok(Prepared::Access(access)),
+        None => Ok(Prepared::Alone),
+    }
+}
+
+// Begins the command with what it needs.
+fn begin_with(desk: &mut Desk, pool: &SharedPool, command: &Command, prepared: Prepared) -> Turn
+    requires may { MayTurn pool.now (left_for desk.old.composes command.now) desk.old }
+    requires few { length desk.old.replies.items < 65536 }
+    requires fits { FitsDesk desk.old command.now }
+    requires prepared { IsPreparedFor desk.old command.now prepared }
+    requires state { (s : LaneState) × IsState s desk.old.names desk.old.counts }
+    ensures { Turns pool.now desk.old desk.new command.now result }
+{
+    match prepared {
+        Prepared::Work(work) => desk.work(pool, work),
+        Prepared::Access(access) => desk.access(pool, access),
+        Prepared::Alone => desk.obey(pool, command),
+    }
+}
+
 // Asks the gate for a line, unless it was asked and let it pass; answers whether it stops the lane.
 fn stops_at<G: Gate>(gate: &G, lane: u32, line: usize, asked: &mut usize) -> bool
     requires few { line < 65536 }
@@ -357,6 +405,7 @@ fn stops_at<G: Gate>(gate: &G, lane: u32, line: usize, asked: &mut usize) -> boo
 // What a lane is made of beside its commands and its seat.
 struct Parts {
     classes: SizeClasses,
+    composes: bool,
     names: Names,
     counts: OwnCounts,
     sampler: Sampler,
@@ -372,18 +421,19 @@ fn equipped(
 ) -> Result<Parts, AllocError>
     requires shape { IsShape shape.now }
     requires few { length commands.now ≤ 65536 }
-    requires plain { All IsPlain commands.now }
     requires lane { IsSome (view_of seat.now).own.number }
     ensures { IfOk result (AreParts shape.now (lane_of seat.now) commands.now) }
 {
     let classes = SizeClasses::new(alloc, shape.order, shape.page)?;
+    let composes = makes_composites(commands.items());
     let names = Names::new(alloc, name_count(commands.items()))?;
     let counts = OwnCounts::new(alloc, shape.lanes * shape.handles)?;
     let replies = Vec::with_capacity(alloc, commands.items().len())?;
-    let notes = Vec::with_capacity(alloc, note_bound(commands.items()))?;
+    let notes = Vec::with_capacity(alloc, note_bound(commands.items(), composes))?;
     let spare = Spare::new(alloc, shape.lanes as usize)?;
     Ok(Parts {
         classes,
+        composes,
         names,
         counts,
         sampler: Sampler::new(lane_of(seat), shape.level, shape.interval),
@@ -405,6 +455,32 @@ fn spend(stage: Stage) {
         Stage::Ending(stage) => spend_ending(stage),
         Stage::Sweeping { reply: _, stage } => spend_draining(stage),
         Stage::Closing(stage) => spend_draining(stage),
+        Stage::Crossing {
+            name: _,
+            marks: _,
+            stage: _,
+        } => {}
+        Stage::Parting { name: _, stage } => spend_releasing(stage),
+        Stage::Consolidating { plan: _, stage } => spend_allotting(stage),
+        Stage::Copying {
+            name: _,
+            whole: _,
+            parts: _,
+            stage: _,
+        } => {}
+        Stage::Replacing {
+            name: _,
+            whole: _,
+            stage,
+        } => spend_releasing(stage),
+    }
+}
+
+fn spend_releasing(stage: Releasing) {
+    let Releasing { ending, left: _ } = stage;
+    match ending {
+        Some(stage) => spend_ending(stage),
+        None => {}
     }
 }
 

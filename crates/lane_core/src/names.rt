@@ -1,25 +1,30 @@
-//! The names of a lane, and the views that they are bound to.
+//! The names of a lane, and what they are bound to.
 
 ghost use Rattle.std.specs.Prelude.{◌≡◌, ◌<◌, ◌≤◌, length, replicate, slice_set, Some, None, IfOk, IfSome, IfNone};
-ghost use Rattle.lane_core.specs.Named.{bound_at};
+ghost use Rattle.pool_law.specs.Composites.{Composite};
+ghost use Rattle.pool_law.specs.Names.{Composed as Whole};
+ghost use Rattle.lane_core.specs.Composing.{set_marks};
+ghost use Rattle.lane_core.specs.Named.{bound_at, bound_of};
 
-use byte_view::View;
+use crate::bound::Bound;
+use crate::composed::{Composed, Marks};
 use std::alloc::{AllocError, Global};
 use std::marker::Model;
 
 /// What each name is bound to. Names are numbers, from 0 on.
 #[derive(Drop)]
 pub(crate) struct Names {
-    bound: Vec<Option<View>>,
+    bound: Vec<Option<Bound>>,
 }
 
 impl Model for Names {
     ghost use Rattle.std.specs.Prelude.{List, Option, map, option_map};
-    ghost use Rattle.pool_law.specs.declared.id.ViewData.{ViewData};
+    ghost use Rattle.pool_law.specs.Names.{Bound};
+    ghost use Rattle.lane_core.specs.Named.{bound_of};
 
-    ghost Value = { List (Option ViewData) };
+    ghost Value = { List (Option Bound) };
 
-    ghost view = { λ names. map (option_map (λ view. view.at)) names.bound.items };
+    ghost view = { λ names. map (option_map bound_of) names.bound.items };
 }
 
 impl Names {
@@ -34,20 +39,20 @@ impl Names {
         Ok(Names { bound })
     }
 
-    /// The view that a name is bound to.
-    pub(crate) fn get(&self, name: u32) -> Option<&View>
-        ensures bound { IfSome result (λ view. bound_at self.now name ≡ Some view.now.at) }
+    /// What a name is bound to.
+    pub(crate) fn get(&self, name: u32) -> Option<&Bound>
+        ensures bound { IfSome result (λ b. bound_at self.now name ≡ Some (bound_of b.now)) }
         ensures unbound { IfNone result (bound_at self.now name ≡ None) }
     {
         self.bound.get(name as usize)?.as_ref()
     }
 
-    /// Binds a name to a view, whatever it was bound to.
-    pub(crate) fn bind(&mut self, name: u32, view: View)
+    /// Binds a name, whatever it was bound to.
+    pub(crate) fn bind(&mut self, name: u32, bound: Bound)
         requires { name < length self.old }
-        ensures { self.new ≡ slice_set self.old name (Some view.at) }
+        ensures { self.new ≡ slice_set self.old name (Some (bound_of bound)) }
     {
-        self.bound[name as usize] = Some(view);
+        self.bound[name as usize] = Some(bound);
     }
 
     /// Unbinds a name.
@@ -56,5 +61,42 @@ impl Names {
         ensures { self.new ≡ slice_set self.old name None }
     {
         self.bound[name as usize] = None;
+    }
+
+    /// The composite of a name, if it is bound to one.
+    pub(crate) fn composite(&self, name: u32) -> Option<&Composed>
+        ensures some { IfSome result (λ c. bound_at self.now name ≡ Some (Whole c.now)) }
+        ensures none { IfNone result ((c : Composite) →
+            bound_at self.now name ≡ Some (Whole c) → ⊥) }
+    {
+        match self.get(name) {
+            Some(Bound::Composed(composed)) => Some(composed),
+            Some(Bound::Plain(_)) => None,
+            None => None,
+        }
+    }
+
+    /// Moves the reader and the writer of the composite of a name.
+    pub(crate) fn mark(&mut self, name: u32, marks: Marks)
+        requires { (c : Composite) × (bound_at self.old name ≡ Some (Whole c)) }
+        ensures { (c : Composite) → bound_at self.old name ≡ Some (Whole c) →
+            self.new ≡ slice_set self.old name (Some (Whole (set_marks marks c))) }
+    {
+        let Some(Bound::Composed(composed)) = &mut self.bound[name as usize] else {
+            unreachable!()
+        };
+        composed.mark(marks);
+    }
+
+    /// Gives the composite of a name another count of its own.
+    pub(crate) fn recount(&mut self, name: u32, count: u32)
+        requires { (c : Composite) × (bound_at self.old name ≡ Some (Whole c)) }
+        ensures { (c : Composite) → bound_at self.old name ≡ Some (Whole c) →
+            self.new ≡ slice_set self.old name (Some (Whole (record c { count = count }))) }
+    {
+        let Some(Bound::Composed(composed)) = &mut self.bound[name as usize] else {
+            unreachable!()
+        };
+        composed.recount(count);
     }
 }

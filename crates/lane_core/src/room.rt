@@ -1,9 +1,10 @@
 //! How much a lane of given commands can need: names, and notes.
 
-ghost use Rattle.std.specs.Prelude.{◌≡◌, ◌≤◌, false, All, length};
-ghost use Rattle.pool_law.specs.Bounds.{may_ask, most_notes, note_bound};
+ghost use Rattle.std.specs.Prelude.{◌≡◌, ◌≤◌, if◌then◌else◌, All, length};
+ghost use Rattle.std.specs.List.{list_any};
+ghost use Rattle.pool_law.specs.Bounds.{composes, may_ask, most_notes, note_bound};
+ghost use Rattle.lane_core.specs.Budgets.{most_of_lane};
 ghost use Rattle.lane_core.specs.Named.{ChangesBelow};
-ghost use Rattle.lane_core.specs.Opened.{IsPlain};
 
 use crate::desk::SWEEP_PERIOD;
 use pool_law::Command;
@@ -50,48 +51,79 @@ fn names_of(command: &Command) -> usize
     name as usize + 1
 }
 
+/// Whether one of the commands makes a composite.
+pub(crate) fn makes_composites(commands: &[Command]) -> bool
+    ensures { result ≡ list_any composes commands.now }
+{
+    commands.iter().any(|command| makes_composite(command))
+}
+
+fn makes_composite(command: &Command) -> bool
+    ensures { result ≡ composes command.now }
+{
+    matches!(command, Command::Compose { .. })
+}
+
 /// The most notes that a lane of these commands makes, its sweeps and its closing among them.
-pub(crate) fn note_bound(commands: &[Command]) -> usize
+pub(crate) fn note_bound(commands: &[Command], composites: bool) -> usize
     requires few { length commands.now ≤ 65536 }
-    requires plain { All IsPlain commands.now }
+    requires kind { composites ≡ list_any composes commands.now }
     ensures bound { result ≡ note_bound commands.now }
-    ensures most { result ≤ 1048576 }
+    ensures most { result ≤ most_of_lane }
 {
     let mut bound = CACHES;
     let mut asks = 0;
     for command in commands {
-        bound += bound_of(command);
+        bound += bound_of(command, composites);
         asks += asks_of(command);
     }
     bound + CACHES * (asks / PERIOD) + 2 * asks
 }
 
-// The most notes of one command.
-fn bound_of(command: &Command) -> usize
-    requires { IsPlain command.now }
-    ensures notes { result ≡ most_notes false command.now }
-    ensures few { result ≤ 6 }
+// The most notes of one command, in a lane that makes composites or in one that makes none.
+fn bound_of(command: &Command, composites: bool) -> usize
+    ensures notes { result ≡ most_notes composites command.now }
+    ensures few { result ≤ 197 }
 {
     match command {
         Command::Alloc { .. } => 5,
-        Command::Release { .. } => 6,
+        Command::Set { tries: false, .. } | Command::Get { tries: false, .. } => {
+            bound_of_access(composites)
+        }
+        Command::Write { .. } | Command::Read { .. } => bound_of_access(composites),
         Command::Slice {
             retained: false,
             ..
         } => 0,
         Command::Dup { .. } | Command::Forget { .. } => 0,
+        Command::Release { .. } => bound_of_release(composites),
+        Command::Compose { .. } => 197,
+        Command::Add { .. } => 141,
         _ => 1,
     }
 }
 
+// The most notes of an access: one for each part of a composite that stays as it is.
+fn bound_of_access(composites: bool) -> usize
+    ensures { result ≡ if composites then 16 else 1 }
+{
+    if composites { 16 } else { 1 }
+}
+
+// The most notes of a release: of each part of a composite one count may be the last.
+fn bound_of_release(composites: bool) -> usize
+    ensures { result ≡ if composites then 96 else 6 }
+{
+    if composites { 96 } else { 6 }
+}
+
 // How many caches one command asks.
 fn asks_of(command: &Command) -> usize
-    requires { IsPlain command.now }
     ensures asks { result ≡ may_ask command.now }
     ensures few { result ≤ 1 }
 {
     match command {
-        Command::Alloc { .. } => 1,
+        Command::Alloc { .. } | Command::Compose { .. } | Command::Add { .. } => 1,
         _ => 0,
     }
 }

@@ -1,14 +1,13 @@
 use Rattle.std.proofs.Common.{◌≡◌, ◌≤◌, List, [], refl, sym, subst, arith}
-use Rattle.std.proofs.lemmas.List.Elements.{All-nil}
 use Rattle.pool_law.specs.declared.command.Command.{Command}
 use Rattle.lane_core.specs.declared.tests.TheConstants.{LAYOUT}
 use Rattle.pool_law.specs.Bounds.{note_bound}
 use Rattle.lane_core.specs.Lanes.{left_for_all}
-use Rattle.lane_core.specs.Opened.{AreFirst, IsPlain}
+use Rattle.lane_core.specs.Opened.{AreFirst}
 use Rattle.lane_core.proofs.tests.a_lane_without_commands_closes_its_caches.Goals as goal
 
 are_first : AreFirst LAYOUT.shape []
-are_first = record { commands_are = record { few = omega arith; fit = refl }; plain = All-nil IsPlain }
+are_first = record { commands_are = record { few = omega arith; fit = refl } }
 
 pub play-requires-clause-commands : goal.play-requires-clause-commands
 play-requires-clause-commands g c x =

@@ -1,10 +1,9 @@
 use Rattle.std.proofs.Common.{◌≡◌, ◌≤◌, List, [], ◌∷◌, false, refl, sym, subst, arith}
-use Rattle.std.proofs.lemmas.List.Elements.{All-cons, All-nil}
 use Rattle.pool_law.specs.declared.command.Command.{Command}
 use Rattle.lane_core.specs.declared.tests.TheConstants.{LAYOUT}
 use Rattle.pool_law.specs.Bounds.{note_bound}
 use Rattle.lane_core.specs.Lanes.{left_for_all}
-use Rattle.lane_core.specs.Opened.{AreFirst, IsPlain}
+use Rattle.lane_core.specs.Opened.{AreFirst}
 use Rattle.lane_core.proofs.tests.a_root_lives_and_ends.Goals as goal
 
 abbrev last : List Command
@@ -20,14 +19,7 @@ abbrev smallest : List Command
 smallest = Command.Alloc 0 24 ∷ set_later
 
 are_first : AreFirst LAYOUT.shape smallest
-are_first = record {
-  commands_are = record { few = omega arith; fit = refl };
-  plain =
-      All-cons IsPlain (Command.Alloc 0 24) set_later tt
-      (All-cons IsPlain (Command.Set 0 0 (104 ∷ 101 ∷ 108 ∷ 108 ∷ 111 ∷ []) false) later tt
-      (All-cons IsPlain (Command.Get 0 0 5 false) last tt
-      (All-cons IsPlain (Command.Release 0) [] tt (All-nil IsPlain))));
-}
+are_first = record { commands_are = record { few = omega arith; fit = refl } }
 
 pub play-requires-clause-commands : goal.play-requires-clause-commands
 play-requires-clause-commands g c x =

@@ -2,6 +2,7 @@ use Rattle.std.proofs.Common.{◌≡◌, sym, ap, ◌∙◌, subst, Some, None}
 use Rattle.size_classes.specs.Sizes.{Geometry, class_of}
 use Rattle.pool_law.specs.declared.command.Command.{Command}
 use Rattle.pool_law.specs.Limits.{geometry_of}
+use Rattle.lane_core.specs.Named.{bound_of}
 use Rattle.lane_core.specs.declared.desk.Stage.TheVariants.{Ready}
 use Rattle.lane_core.specs.declared.desk.Turn.{Turn}
 use Rattle.lane_core.specs.Desks.{left_for, HasTurned}
@@ -11,18 +12,20 @@ use Rattle.lane_core.proofs.desk.Desk.alloc.Goals as goal
 
 pub refuse-requires : goal.refuse-requires
 refuse-requires c =
-    can_answer c.args.pool.now (left_for (Command.Alloc c.args.name c.args.size)) c.args.self.now c.requires.may
+    can_answer c.args.pool.now (left_for c.args.self.now.composes (Command.Alloc c.args.name c.args.size))
+    c.args.self.now c.requires.may
 
 pub answer-requires : goal.answer-requires
 answer-requires c =
-    can_answer c.args.pool.now (left_for (Command.Alloc c.args.name c.args.size)) c.args.self.now c.requires.may
+    can_answer c.args.pool.now (left_for c.args.self.now.composes (Command.Alloc c.args.name c.args.size))
+    c.args.self.now c.requires.may
 
 pub returns-in-Some : goal.returns-in-Some
 returns-in-Some c = λ s state.
     let pool = c.args.pool.now in let old = c.args.self.now in let new = c.refuse.new.self in
     subst (λ (t : Turn). HasTurned pool old new s (Command.Alloc c.args.name c.args.size) Ready t)
     (sym c.refuse.ensures.ready)
-    (taken_turn pool old new c.args.name c.args.size s state c.requires.may c.in-Some.field-0.now.at
+    (taken_turn pool old new c.args.name c.args.size s state c.requires.may (bound_of c.in-Some.field-0.now)
     c.in-Some.ensures.bound c.refuse.ensures.replied)
 
 pub returns-in_default-class_of : goal.returns-in_default-class_of

@@ -3,12 +3,14 @@ use Rattle.std.specs.Prelude.{slice_set}
 use Rattle.pool_law.specs.declared.id.ViewData.{ViewData}
 use Rattle.pool_law.specs.declared.run.Reply.{Reply}
 use Rattle.pool_law.specs.Views.{view_of as root_view}
+use Rattle.pool_law.specs.Names.{Bound, Plain}
 use Rattle.lane_core.specs.declared.desk.Desk.{Desk}
 use Rattle.lane_core.specs.declared.allotment.Allots.{Allots}
 use Rattle.lane_core.specs.declared.allotment.Allots.TheVariants.{NoHandle, Full}
 use Rattle.lane_core.specs.Allotments as allotment
 use Rattle.lane_core.specs.DeskSteps.{Concludes}
-use Rattle.lane_core.proofs.StageTurns.{may_allot, few_births, log_room, allot_goes, allot_waits, allot_new, allot_refused}
+use Rattle.lane_core.proofs.AllotTurns.{allot_goes, allot_waits, allot_new, allot_refused}
+use Rattle.lane_core.proofs.StageNeeds.{may_allot, few_births, log_room}
 use Rattle.lane_core.proofs.AllocTurns.{allot_can, new_place, new_alone, new_few, new_name}
 use Rattle.lane_core.proofs.desk.Desk.allot.Goals as goal
 
@@ -221,12 +223,12 @@ returns-in-New c = λ s command are.
     let did = subst (λ (x : Allots). allotment.HasAllotted pool old.seat mid.seat old.sampler mid.sampler old.notes
     mid.notes size class stage x) c.in-New.is call.ensures in
     let new = c.conclude.new.self in let cs = c.add.new.self in let root = c.in-New.root in
-    let bound : c.bind.new.self ≡ slice_set mid.names c.args.name (Some (root_view root)) = c.bind.ensures
-    ∙ ap (λ (v : ViewData). slice_set mid.names c.args.name (Some v)) c.of_root.ensures in
+    let bound : c.bind.new.self ≡ slice_set mid.names c.args.name (Some (Plain (root_view root))) = c.bind.ensures
+    ∙ ap (λ (v : ViewData). slice_set mid.names c.args.name (Some (Plain v))) c.of_root.ensures in
     allot_new pool old mid c.args.name size class stage c.requires.desk c.requires.fits.0 mid_so s command are
     c.requires.name c.requires.fits.2 new root c.in-New.region did cs
     (record { counts = c.add.ensures.counts; places = c.add.ensures.places }) c.conclude.result
-    (subst (λ (names : List (Option ViewData)). Concludes (record mid { names = names; counts = cs }) new
+    (subst (λ (names : List (Option Bound)). Concludes (record mid { names = names; counts = cs }) new
     (Reply.OkPlace c.in-New.region.place.len c.in-New.region.place) c.conclude.result) bound c.conclude.ensures)
 
 pub returns-in-NoHandle : goal.returns-in-NoHandle

@@ -4,7 +4,8 @@ use Rattle.lane_core.specs.declared.desk.Desk.{Desk}
 use Rattle.lane_core.specs.declared.draining.DrainKind.TheVariants.{Close}
 use Rattle.lane_core.specs.declared.draining.Drains.{Drains}
 use Rattle.lane_core.specs.Drainings as draining
-use Rattle.lane_core.proofs.StageTurns.{may_drain, log_room, close_goes, close_waits}
+use Rattle.lane_core.proofs.DrainTurns.{close_goes, close_waits}
+use Rattle.lane_core.proofs.StageNeeds.{may_drain, log_room}
 use Rattle.lane_core.proofs.desk.Desk.close.Goals as goal
 
 pub drain-requires-clause-may : goal.drain-requires-clause-may

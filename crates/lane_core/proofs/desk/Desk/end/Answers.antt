@@ -5,7 +5,8 @@ use Rattle.lane_core.specs.declared.desk.Turn.{Turn}
 use Rattle.lane_core.specs.declared.retirement.Ends.{Ends}
 use Rattle.lane_core.specs.Endings as ending
 use Rattle.lane_core.specs.Desks.{HasTurned}
-use Rattle.lane_core.proofs.StageTurns.{may_end, log_room, end_can, end_goes, end_waits, end_done}
+use Rattle.lane_core.proofs.EndTurns.{end_goes, end_waits, end_done}
+use Rattle.lane_core.proofs.StageNeeds.{may_end, log_room, end_can}
 use Rattle.lane_core.proofs.desk.Desk.end.Goals as goal
 
 pub end-requires-clause-may : goal.end-requires-clause-may

@@ -1,11 +1,11 @@
 use Rattle.std.proofs.Common.{◌≡◌, ℕ, List, [], ◌∷◌, ◌++◌, length, take, drop, refl, sym, ap, ◌∙◌, subst, arith, Option, Some}
 use Rattle.std.specs.Prelude.{slice_set}
 use Rattle.std.proofs.Math.Seq.{take-append_seam}
-use Rattle.pool_law.specs.declared.id.ViewData.{ViewData}
 use Rattle.pool_law.specs.declared.note.Did.{Did}
 use Rattle.pool_law.specs.declared.note.Note.{Note}
 use Rattle.pool_law.specs.declared.note.Object.TheVariants.{Root}
 use Rattle.pool_law.specs.declared.run.Reply.{Reply}
+use Rattle.pool_law.specs.Names.{Bound, Plain}
 use Rattle.lane_core.specs.declared.access.Access.TheVariants.{Get}
 use Rattle.lane_core.specs.declared.desk.Desk.{Desk}
 use Rattle.lane_core.specs.declared.desk.Turn.{Turn}
@@ -35,13 +35,13 @@ returns-in-Did c =
     (c.of-bytes.ensures ∙ whole)) c.note.ensures in
     let answers : c.of.result ≡ bytes = c.of.ensures ∙ c.copy_from_slice.ensures.items ∙ c.deref.ensures.value
     ∙ whole in
-    let replied : HasReplied (record mid { names = slice_set mid.names reach.name (Some reach.after.at) }) new
+    let replied : HasReplied (record mid { names = slice_set mid.names reach.name (Some (Plain reach.after.at)) }) new
     (Reply.OkBytes bytes) =
-    subst (λ (p : List (Option ViewData) × List ℕ). HasReplied (record mid { names = p.0 }) new (Reply.OkBytes p.1))
+    subst (λ (p : List (Option Bound) × List ℕ). HasReplied (record mid { names = p.0 }) new (Reply.OkBytes p.1))
     (λ i. (c.bind.ensures i, answers i)) c.answer.ensures.replied in
     subst (λ (t : Turn). AccessTurns pool old new (Get reach c.args.note c.args.reply) t) (sym c.answer.ensures.ready)
     (get_turn pool old start mid new c.requires.may.desk c.requires.may.asked refl did.ensures.same did.ensures.seat
-    reach c.requires.reaches.counts did.number note c.args.reply bytes
+    reach c.requires.reaches.counts c.requires.name did.number note c.args.reply bytes
     len did.ensures.did noted replied)
 
 pub returns-in-Held : goal.returns-in-Held

@@ -14,7 +14,8 @@ use Rattle.lane_core.proofs.desk.Desk.pass_over.Goals as goal
 pub answer-requires : goal.answer-requires
 answer-requires c =
     let old = c.args.self.now in let q = c.requires in
-    can_answer_behind c.args.pool.now (left_for c.args.command.now) old old q.desk q.room q.replies [] (omega arith)
+    can_answer_behind c.args.pool.now (left_for c.args.self.now.composes c.args.command.now) old old q.desk q.room
+    q.replies [] (omega arith)
     (record { log = sym (append-nil old.notes.items); room = omega arith; rest = refl })
 
 pub returns-in_default : goal.returns-in_default
@@ -27,14 +28,15 @@ returns-in_default c =
 
 pub post-requires-clause-room : goal.post-requires-clause-room
 post-requires-clause-room c =
-    subst (λ (x : Command). HasRoomFor c.args.self.now (left_for x)) c.in-Send.is c.requires.room
+    subst (λ (x : Command). HasRoomFor c.args.self.now (left_for c.args.self.now.composes x)) c.in-Send.is
+    c.requires.room
 
 pub answer-requires-in-None : goal.answer-requires-in-None
 answer-requires-in-None c =
     let old = c.args.self.now in let mid = c.post.new.self in let q = c.requires in let to = c.in-Send.lane in
     let did : HasPosted c.args.pool.now old mid to no_parcel = c.in-None.ensures in
     can_answer_behind c.args.pool.now (left_to_post to) old mid q.desk
-    (subst (λ (x : Command). HasRoomFor old (left_for x)) c.in-Send.is q.room) q.replies
+    (subst (λ (x : Command). HasRoomFor old (left_for c.args.self.now.composes x)) c.in-Send.is q.room) q.replies
     (Note.At (Mail (lane_of old.seat) to) did.number (Did.Post no_parcel) ∷ []) (omega arith) did.noted
 
 pub returns-in-Some : goal.returns-in-Some

@@ -7,6 +7,7 @@ use Rattle.pool_law.specs.declared.note.Note.{Note}
 use Rattle.pool_law.specs.declared.note.Object.TheVariants.{Mail}
 use Rattle.pool_law.specs.declared.run.Reply.{Reply}
 use Rattle.pool_law.specs.declared.run.Shape.{Shape}
+use Rattle.pool_law.specs.Names.{Bound}
 use Rattle.shared_pool.specs.SeatLanes.{lane_of}
 use Rattle.lane_core.specs.declared.desk.Desk.{Desk}
 use Rattle.lane_core.specs.declared.desk.Stage.TheVariants.{Ready}
@@ -14,7 +15,8 @@ use Rattle.lane_core.specs.declared.desk.Turn.{Turn}
 use Rattle.seat_work.specs.Hands.{empty_hand}
 use Rattle.lane_core.specs.Desks.{left_for, HasTurned}
 use Rattle.lane_core.specs.DeskSteps.{HasNoted, HasReplied}
-use Rattle.lane_core.proofs.DeskLaws.{note_room, turn_left, advances_none, waiting, waits_turn}
+use Rattle.lane_core.proofs.DeskLaws.{note_room, turn_left, advances_none}
+use Rattle.lane_core.proofs.DeskWaits.{waiting, waits_turn}
 use Rattle.lane_core.proofs.PostTurns.{fetched_place, fetched_alone, fetched_few, nothing_turn, receive_turn}
 use Rattle.lane_core.proofs.desk.Desk.receive.Goals as goal
 
@@ -31,7 +33,8 @@ fetch-requires-clause-seat c = c.requires.may.desk.seat
 
 pub fetch-requires-clause-turn : goal.fetch-requires-clause-turn
 fetch-requires-clause-turn c =
-    turn_left c.args.pool.now (left_for (Command.Recv c.args.fresh c.args.lane)) c.args.self.now c.requires.may.desk
+    turn_left c.args.pool.now (left_for c.args.self.now.composes (Command.Recv c.args.fresh c.args.lane))
+    c.args.self.now c.requires.may.desk
     c.requires.may.room (omega arith)
 
 pub fetch-requires-clause-from_is : goal.fetch-requires-clause-from_is
@@ -39,7 +42,8 @@ fetch-requires-clause-from_is c = subst (λ (s : Shape). c.args.lane < s.lanes) 
 
 pub note-requires : goal.note-requires
 note-requires c =
-    note_room c.args.pool.now (left_for (Command.Recv c.args.fresh c.args.lane)) c.args.self.now c.requires.may
+    note_room c.args.pool.now (left_for c.args.self.now.composes (Command.Recv c.args.fresh c.args.lane))
+    c.args.self.now c.requires.may
     (omega arith)
 
 pub add-requires-clause-place : goal.add-requires-clause-place
@@ -71,7 +75,7 @@ add-requires-clause-few c =
 
 pub bind-requires : goal.bind-requires
 bind-requires c =
-    subst (λ (names : List (Option ViewData)). c.args.fresh < length names)
+    subst (λ (names : List (Option Bound)). c.args.fresh < length names)
     (sym (ap (λ (x : Desk). x.names) c.note.ensures.rest)) c.requires.name
 
 pub returns-in-Some : goal.returns-in-Some
@@ -86,7 +90,7 @@ returns-in-Some c = λ s state.
     (receive_turn pool c.args.fresh c.args.lane old start mid new c.requires.may refl got.ensures.same got.ensures.seat
     got.number got.parcel got.ensures.got noted v c.in-Some.is c.requires.name c.add.new.self
     (record { counts = c.add.ensures.counts; places = c.add.ensures.places })
-    (subst (λ (names : List (Option ViewData)). HasReplied (record mid { counts = c.add.new.self; names = names }) new
+    (subst (λ (names : List (Option Bound)). HasReplied (record mid { counts = c.add.new.self; names = names }) new
     Reply.Ok) c.bind.ensures c.answer.ensures.replied) s state)
 
 pub returns-in-None : goal.returns-in-None

@@ -7,7 +7,7 @@ use Rattle.lane_core.specs.declared.desk.Stage.TheVariants.{Ready}
 use Rattle.lane_core.specs.declared.desk.Turn.{Turn}
 use Rattle.lane_core.specs.Desks.{HasTurned}
 use Rattle.lane_core.specs.DeskSteps.{HasNotPosted}
-use Rattle.lane_core.proofs.DeskLaws.{waits_turn}
+use Rattle.lane_core.proofs.DeskWaits.{waits_turn}
 use Rattle.lane_core.proofs.PostTurns.{can_answer_posted, send_turn, unsent_turn}
 use Rattle.lane_core.proofs.desk.Desk.send.Goals as goal
 

@@ -1,9 +1,9 @@
 use Rattle.std.proofs.Common.{ℕ, List, [], ◌∷◌, refl, sym, ap, ◌∙◌, subst, Option}
-use Rattle.pool_law.specs.declared.id.ViewData.{ViewData}
 use Rattle.pool_law.specs.declared.note.Did.{Did}
 use Rattle.pool_law.specs.declared.note.Note.{Note}
 use Rattle.pool_law.specs.declared.note.Object.TheVariants.{Root}
 use Rattle.pool_law.specs.declared.run.Reply.{Reply}
+use Rattle.pool_law.specs.Names.{Bound}
 use Rattle.shared_pool.specs.RootNotes.{access}
 use Rattle.shared_pool.specs.Seats.{IsNoted}
 use Rattle.lane_core.specs.declared.access.Access.TheVariants.{Set}
@@ -28,10 +28,10 @@ returns-in-Did c =
     c.of-bytes.ensures) c.note.ensures in
     subst (λ (t : Turn). AccessTurns pool old new (Set reach c.args.bytes) t) (sym c.answer.ensures.ready)
     (set_turn pool old start mid new c.requires.may.desk c.requires.may.asked refl did.ensures.same did.ensures.seat
-    reach c.requires.reaches.counts did.number c.args.bytes
+    reach c.requires.reaches.counts c.requires.name did.number c.args.bytes
     (subst (λ (bytes : List ℕ). IsNoted pool old.seat start.seat (Root reach.root.place) did.number
     (access reach.root (Did.Set reach.offset bytes))) c.deref.ensures.value did.ensures.did) noted
-    (subst (λ (names : List (Option ViewData)). HasReplied (record mid { names = names }) new Reply.Ok) c.bind.ensures
+    (subst (λ (names : List (Option Bound)). HasReplied (record mid { names = names }) new Reply.Ok) c.bind.ensures
     c.answer.ensures.replied))
 
 pub returns-in-Held : goal.returns-in-Held

@@ -6,6 +6,7 @@ use Rattle.pool_law.specs.declared.id.ViewData.{ViewData}
 use Rattle.pool_law.specs.declared.run.Reply.{Reply}
 use Rattle.pool_law.specs.Views.{in_range, slice_of}
 use Rattle.pool_law.specs.Refusals.{range}
+use Rattle.pool_law.specs.Names.{Bound, Plain}
 use Rattle.lane_core.specs.Accesses.{reply_for}
 use Rattle.shared_pool.specs.SeatLanes.{lane_of}
 use Rattle.lane_core.specs.declared.access.Refusal.TheVariants.{Range}
@@ -32,7 +33,8 @@ returns-in-Err c = λ s state.
     let kept = c.args.retained in
     let command = Command.Slice fresh name at len kept in
     subst (λ (t : Turn). HasTurned pool old new s command Ready t) (sym c.refuse.ensures.ready)
-    (refused_turn pool (left_for command) old new c.requires.may c.in-Err.refusal c.refuse.ensures.replied s command
+    (refused_turn pool (left_for old.composes command) old new c.requires.may c.in-Err.refusal
+    c.refuse.ensures.replied s command
     state.names_are
     (refuses s old.names old.counts state old.shape (lane_of old.seat) command (reply_for c.in-Err.refusal)
     (refused_fresh s old.names old.counts state name fresh c.in-Err.refusal c.in-Err.ensures.refused
@@ -46,7 +48,8 @@ returns-in_default c = λ s state.
     let command = Command.Slice fresh name at len kept in let v : ViewData = c.in-Ok.view.now.at in let ok =
     c.in-Ok.ensures.ok in
     subst (λ (t : Turn). HasTurned pool old new s command Ready t) (sym c.refuse-in_default.ensures.ready)
-    (refused_turn pool (left_for command) old new c.requires.may Range c.refuse-in_default.ensures.replied s command
+    (refused_turn pool (left_for old.composes command) old new c.requires.may Range
+    c.refuse-in_default.ensures.replied s command
     state.names_are
     (reads_range old.shape (lane_of old.seat) s old.names old.counts state fresh name v ok.0 ok.1 ok.2 at len kept
     (no_range (in_range v at len) c.in_default.ensures.succeeds.1)))
@@ -59,17 +62,19 @@ returns c = λ s state.
     let v : ViewData = c.in-Ok.view.now.at in let ok = c.in-Ok.ensures.ok in let w : ViewData = slice_of v at len in
     let made : c.in-Ok-slice.slice.at ≡ w = c.in-Ok-slice.ensures.ok in
     let inside : in_range v at len ≡ true = c.in-Ok-slice.ensures.succeeds.0 refl in
-    let replied : HasReplied (record mid { names = slice_set mid.names fresh (Some w) }) new Reply.Ok =
-    subst (λ (names : List (Option ViewData)). HasReplied (record mid { names = names }) new Reply.Ok)
-    (c.bind.ensures ∙ ap (λ (x : ViewData). slice_set mid.names fresh (Some x)) made) c.answer.ensures.replied in
+    let replied : HasReplied (record mid { names = slice_set mid.names fresh (Some (Plain w)) }) new Reply.Ok =
+    subst (λ (names : List (Option Bound)). HasReplied (record mid { names = names }) new Reply.Ok)
+    (c.bind.ensures ∙ ap (λ (x : ViewData). slice_set mid.names fresh (Some
+    (Plain x))) made) c.answer.ensures.replied in
     let turned : HasTurned pool old new s (Command.Slice fresh name at len c.args.retained) Ready (Went Ready) =
     elim c.if-retained.branch [
       | then-retained b ↦
           let did : HasRetained pool old mid v.root =
           subst (λ (p : Desk × RootId). HasRetained pool old p.0 p.1) (λ i. (sym b.self-is i, (made i).root))
           b.count_more.ensures in
-          let may : MayTurn pool (left_for (Command.Slice fresh name at len true)) old =
-          subst (λ (kept : Bool). MayTurn pool (left_for (Command.Slice fresh name at len kept)) old)
+          let may : MayTurn pool (left_for c.args.self.now.composes (Command.Slice fresh name at len true)) old =
+          subst (λ (kept : Bool). MayTurn pool (left_for c.args.self.now.composes
+          (Command.Slice fresh name at len kept)) old)
           b.if-retained.true c.requires.may in
           subst (λ (kept : Bool). HasTurned pool old new s (Command.Slice fresh name at len kept) Ready (Went Ready))
           (sym b.if-retained.true)
@@ -79,7 +84,7 @@ returns c = λ s state.
           subst (λ (kept : Bool). HasTurned pool old new s (Command.Slice fresh name at len kept) Ready (Went Ready))
           (sym b.if-retained.false)
           (bound_turn pool fresh old new c.requires.may.desk c.requires.may.asked c.requires.name w
-          (subst (λ (x : Desk). HasReplied (record x { names = slice_set x.names fresh (Some w) }) new Reply.Ok)
+          (subst (λ (x : Desk). HasReplied (record x { names = slice_set x.names fresh (Some (Plain w)) }) new Reply.Ok)
           b.self-is replied) s state.names_are (Command.Slice fresh name at len false)
           (reads_slice old.shape (lane_of old.seat) s old.names old.counts state fresh name v ok.0 ok.1 ok.2 at len
           inside))

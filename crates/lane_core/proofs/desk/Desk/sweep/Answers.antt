@@ -9,7 +9,8 @@ use Rattle.lane_core.specs.declared.draining.Drains.{Drains}
 use Rattle.lane_core.specs.declared.draining.Drains.TheVariants.{More as DrainMore}
 use Rattle.lane_core.specs.Desks.{HasTurned}
 use Rattle.lane_core.specs.Drainings as draining
-use Rattle.lane_core.proofs.StageTurns.{may_drain, drain_can, log_room, sweep_goes, sweep_waits, sweep_done}
+use Rattle.lane_core.proofs.DrainTurns.{sweep_goes, sweep_waits, sweep_done}
+use Rattle.lane_core.proofs.StageNeeds.{may_drain, drain_can, log_room}
 use Rattle.lane_core.proofs.desk.Desk.sweep.Goals as goal
 
 pub drain-requires-clause-may : goal.drain-requires-clause-may

@@ -10,21 +10,24 @@ use Rattle.pool_law.specs.declared.note.Object.TheVariants.{Root}
 use Rattle.shared_pool.specs.SeatLanes.{lane_of}
 use Rattle.lane_core.specs.Accesses.{reply_for}
 use Rattle.lane_core.proofs.StateReads.{refused_view, refuses}
-use Rattle.lane_core.proofs.DeskLaws.{can_answer, can_answer_noted, note_room, turn_left, waits_turn}
+use Rattle.lane_core.proofs.DeskLaws.{can_answer, can_answer_noted, note_room, turn_left}
+use Rattle.lane_core.proofs.DeskWaits.{waits_turn}
 use Rattle.lane_core.proofs.Turning.{refused_turn}
 use Rattle.lane_core.proofs.Commands.{counts_root}
 use Rattle.lane_core.proofs.AccessTurns.{touch_turn}
 use Rattle.lane_core.proofs.desk.Desk.touch.Goals as goal
 
 pub refuse-requires : goal.refuse-requires
-refuse-requires c = can_answer c.args.pool.now (left_for (Command.Touch c.args.name)) c.args.self.now c.requires
+refuse-requires c = can_answer c.args.pool.now (left_for c.args.self.now.composes
+    (Command.Touch c.args.name)) c.args.self.now c.requires
 
 pub returns-in-Err : goal.returns-in-Err
 returns-in-Err c = λ s state.
     let pool = c.args.pool.now in let old = c.args.self.now in let new = c.refuse.new.self in let command =
     Command.Touch c.args.name in
     subst (λ (t : Turn). HasTurned pool old new s command Ready t) (sym c.refuse.ensures.ready)
-    (refused_turn pool (left_for command) old new c.requires c.in-Err.refusal c.refuse.ensures.replied s command
+    (refused_turn pool (left_for old.composes command) old new c.requires c.in-Err.refusal c.refuse.ensures.replied s
+    command
     state.names_are
     (refuses s old.names old.counts state old.shape (lane_of old.seat) command (reply_for c.in-Err.refusal)
     (refused_view s old.names old.counts state c.args.name c.in-Err.refusal c.in-Err.ensures.refused [])))
@@ -34,7 +37,8 @@ touch-requires-clause-seat c = c.requires.desk.seat
 
 pub touch-requires-clause-turn : goal.touch-requires-clause-turn
 touch-requires-clause-turn c =
-    turn_left c.args.pool.now (left_for (Command.Touch c.args.name)) c.args.self.now c.requires.desk c.requires.room
+    turn_left c.args.pool.now (left_for c.args.self.now.composes (Command.Touch c.args.name)) c.args.self.now
+    c.requires.desk c.requires.room
     (omega arith)
 
 pub touch-requires-clause-counts : goal.touch-requires-clause-counts
@@ -43,12 +47,14 @@ touch-requires-clause-counts c =
 
 pub note-requires : goal.note-requires
 note-requires c =
-    note_room c.args.pool.now (left_for (Command.Touch c.args.name)) c.args.self.now c.requires (omega arith)
+    note_room c.args.pool.now (left_for c.args.self.now.composes (Command.Touch c.args.name)) c.args.self.now
+    c.requires (omega arith)
 
 pub answer-requires : goal.answer-requires
 answer-requires c =
     let start : Desk = record c.args.self.now { seat = c.touch.new.seat } in
-    can_answer_noted c.args.pool.now (left_for (Command.Touch c.args.name)) c.args.self.now c.requires (omega arith)
+    can_answer_noted c.args.pool.now (left_for c.args.self.now.composes
+    (Command.Touch c.args.name)) c.args.self.now c.requires (omega arith)
     start c.note.new.self c.at.result c.note.ensures refl
 
 pub returns-in-Did : goal.returns-in-Did

@@ -1,42 +1,18 @@
-use Rattle.std.proofs.Common.{◌≡◌, ℕ, ◌+◌, ◌<◌, ◌≤◌, Bool, true, false, List, length, drop, sym, ap, ◌∙◌, subst, arith, Option}
-use Rattle.std.specs.Prelude.{◌&&◌, max, nat_le, IfSome}
+use Rattle.std.proofs.Common.{◌≡◌, ℕ, ◌+◌, ◌<◌, ◌≤◌, Bool, true, false, List, length, drop, sym, ap, ◌∙◌, arith}
+use Rattle.std.specs.Prelude.{◌&&◌, max, nat_le}
 use Rattle.pool_law.specs.declared.command.Command.{Command}
-use Rattle.pool_law.specs.LaneStates.{LaneState}
-use Rattle.lane_core.specs.declared.access.Access.{Access}
-use Rattle.lane_core.specs.declared.desk.Desk.{Desk}
-use Rattle.lane_core.specs.Accesses.{IsAccess, IsState, IsPrepared}
-use Rattle.lane_core.specs.Budgets.{notes_alone}
-use Rattle.lane_core.specs.Desks.{left_for, HasRoomFor}
+use Rattle.lane_core.specs.Desks.{left_for}
 use Rattle.lane_core.specs.Lanes.{Heeds, number_of}
 use Rattle.lane_core.specs.declared.lane.Lane.{Lane}
 use Rattle.pool_law.specs.LaneLaw.{before_stop, replies_in}
-use Rattle.lane_core.proofs.LaneTurns.{first_desk, first_room, front_is, none_left, begin_state, begin_room, begin_asked, begun_lane, begun_same, begun_so, begun_heeds, closes_lane, closes_same, closes_so, closes_heeds}
+use Rattle.lane_core.proofs.LaneTurns.{front_is, none_left, begin_state, begun_lane, begun_same, begun_so, begun_heeds}
+use Rattle.lane_core.proofs.LaneCloses.{first_desk, first_room, closes_lane, closes_same, closes_so, closes_heeds}
+use Rattle.lane_core.proofs.BeginTurns.{within_same}
+use Rattle.lane_core.proofs.Carrying.{begin_may}
 use Rattle.lane_core.proofs.EitherLane.{stopped_is, running_is}
 use Rattle.lane_core.proofs.StoppedTurns.{stops_lane, stepped_anew}
 use Rattle.lane_core.proofs.Heeding.{heeds_asked}
 use Rattle.lane_core.proofs.lane.Lane.carry_out.Goals as goal
-
--- an access makes one note
-access_room : (d : Desk) (command : Command) → IsAccess command → HasRoomFor d (left_for command)
-    → HasRoomFor d (notes_alone 1)
-access_room d (Command.Set name at bytes true) is room = room
-access_room d (Command.Set name at bytes false) is room = room
-access_room d (Command.Get name at len true) is room = room
-access_room d (Command.Get name at len false) is room = room
-access_room d (Command.Write name bytes) is room = room
-access_room d (Command.Read name len) is room = room
-access_room d (Command.Alloc name size) is room = absurd is
-access_room d (Command.Slice fresh name at len retained) is room = absurd is
-access_room d (Command.Dup fresh name) is room = absurd is
-access_room d (Command.Retain name) is room = absurd is
-access_room d (Command.Release name) is room = absurd is
-access_room d (Command.Refcnt name) is room = absurd is
-access_room d (Command.Touch name) is room = absurd is
-access_room d (Command.Forget name) is room = absurd is
-access_room d (Command.Send name lane) is room = absurd is
-access_room d (Command.Recv fresh lane) is room = absurd is
-access_room d (Command.Compose fresh names) is room = absurd is
-access_room d (Command.Add whole name) is room = absurd is
 
 pub close-turn-requires-clause-desk : goal.close-turn-requires-clause-desk
 close-turn-requires-clause-desk g c =
@@ -72,50 +48,30 @@ returns-in_default g c =
           (g.G.Gate.stops c.args.gate.now (number_of l));
     }
 
-pub access-turn-requires-clause-room : goal.access-turn-requires-clause-room
-access-turn-requires-clause-room g c =
+pub begin_with-turn-requires-clause-may : goal.begin_with-turn-requires-clause-may
+begin_with-turn-requires-clause-may g c =
     let l = c.args.self.now in let command = c.in-Some.command.now in
-    access_room l.desk command (subst (λ (o : Option Access). IfSome o (λ a. IsAccess command)) c.in-Some-access.is
-    c.in_ok-access.ensures.none)
-    (begin_room c.args.pool.now l c.requires.lane c.requires.ready command (drop (c.len-line.result + 1) l.commands)
-    (front_is l c.len-line.result c.items.result.now command (omega (arith, c.len-line.ensures, l.desk.replies.ok.0))
-    c.items.ensures c.in-Some.ensures.lookup.3.0 c.in-Some.ensures.lookup.1))
-
-pub access-turn-requires-clause-asked : goal.access-turn-requires-clause-asked
-access-turn-requires-clause-asked g c =
-    let l = c.args.self.now in let command = c.in-Some.command.now in
-    begin_asked c.args.pool.now l c.requires.lane c.requires.ready command (drop (c.len-line.result + 1) l.commands)
+    begin_may c.args.pool.now l c.requires.lane c.requires.ready command (drop (c.len-line.result + 1) l.commands)
     (front_is l c.len-line.result c.items.result.now command (omega (arith, c.len-line.ensures, l.desk.replies.ok.0))
     c.items.ensures c.in-Some.ensures.lookup.3.0 c.in-Some.ensures.lookup.1)
+    (left_for l.desk.composes command) (within_same (left_for l.desk.composes command))
 
-pub access-turn-requires-clause-ready : goal.access-turn-requires-clause-ready
-access-turn-requires-clause-ready g c =
-    let l = c.args.self.now in let command = c.in-Some.command.now in let lane = c.requires.lane in
-    let left = front_is l c.len-line.result c.items.result.now command
-    (omega (arith, c.len-line.ensures, l.desk.replies.ok.0)) c.items.ensures c.in-Some.ensures.lookup.3.0
-    c.in-Some.ensures.lookup.1 in
-    let state = begin_state c.args.pool.now l lane c.requires.ready command (drop (c.len-line.result + 1) l.commands)
-    left in
-    let prepared : (s : LaneState) → IsState s l.desk.names l.desk.counts
-    → IsPrepared l.desk.names l.desk.counts command c.in-Some-access.access s =
-    subst (λ (o : Option Access). IfSome o
-    (λ a. (s : LaneState) → IsState s l.desk.names l.desk.counts
-    → IsPrepared l.desk.names l.desk.counts command a s)) c.in-Some-access.is c.in_ok-access.ensures.access in
-    (prepared lane.state state).ready
+pub begin_with-turn-requires-clause-few : goal.begin_with-turn-requires-clause-few
+begin_with-turn-requires-clause-few g c =
+    let few = c.requires.lane.commands.few in let lt = c.in-Some.ensures.lookup.3.0 in
+    let same = ap (λ (cs : List Command). length cs) c.items.ensures in
+    let line = c.len-line.ensures in let own = c.args.self.now.desk.replies.ok.0 in
+    omega (arith, few, lt, same, line, own)
 
-pub obey-turn-requires-clause-room : goal.obey-turn-requires-clause-room
-obey-turn-requires-clause-room g c =
-    let l = c.args.self.now in let command = c.in-Some.command.now in
-    begin_room c.args.pool.now l c.requires.lane c.requires.ready command (drop (c.len-line.result + 1) l.commands)
-    (front_is l c.len-line.result c.items.result.now command (omega (arith, c.len-line.ensures, l.desk.replies.ok.0))
-    c.items.ensures c.in-Some.ensures.lookup.3.0 c.in-Some.ensures.lookup.1)
-
-pub obey-turn-requires-clause-asked : goal.obey-turn-requires-clause-asked
-obey-turn-requires-clause-asked g c =
-    let l = c.args.self.now in let command = c.in-Some.command.now in
-    begin_asked c.args.pool.now l c.requires.lane c.requires.ready command (drop (c.len-line.result + 1) l.commands)
-    (front_is l c.len-line.result c.items.result.now command (omega (arith, c.len-line.ensures, l.desk.replies.ok.0))
-    c.items.ensures c.in-Some.ensures.lookup.3.0 c.in-Some.ensures.lookup.1)
+pub begin_with-turn-requires-clause-state : goal.begin_with-turn-requires-clause-state
+begin_with-turn-requires-clause-state g c =
+    let l = c.args.self.now in let command = c.in-Some.command.now in let lane = c.requires.lane in (
+      lane.state,
+      begin_state c.args.pool.now l lane c.requires.ready command (drop (c.len-line.result + 1) l.commands)
+          (front_is l c.len-line.result c.items.result.now command
+          (omega (arith, c.len-line.ensures, l.desk.replies.ok.0))
+          c.items.ensures c.in-Some.ensures.lookup.3.0 c.in-Some.ensures.lookup.1),
+    )
 
 pub stops_at-stops-requires : goal.stops_at-stops-requires
 stops_at-stops-requires g c = (
@@ -167,21 +123,16 @@ returns-then-stops g c =
           (sym c.if-stops.true ∙ c.stops_at-stops.ensures.stops) lane.going lane.answered.unstopped h);
     }
 
-pub returns-in-Some-access : goal.returns-in-Some-access
-returns-in-Some-access g c =
+pub returns : goal.returns
+returns g c =
     let pool = c.args.pool.now in let l = c.args.self.now in let lane = c.requires.lane in let is = c.requires.ready in
     let command = c.in-Some.command.now in
     let later : List Command = drop (c.len-line.result + 1) l.commands in let lt = c.in-Some.ensures.lookup.3.0 in
     let left = front_is l c.len-line.result c.items.result.now command
     (omega (arith, c.len-line.ensures, l.desk.replies.ok.0)) c.items.ensures lt c.in-Some.ensures.lookup.1 in
     let state = begin_state pool l lane is command later left in
-    let prepared : (s : LaneState) → IsState s l.desk.names l.desk.counts
-    → IsPrepared l.desk.names l.desk.counts command c.in-Some-access.access s =
-    subst (λ (o : Option Access). IfSome o
-    (λ a. (s : LaneState) → IsState s l.desk.names l.desk.counts
-    → IsPrepared l.desk.names l.desk.counts command a s)) c.in-Some-access.is c.in_ok-access.ensures.access in
-    let d = c.access-turn.new.self in let turn = c.access-turn.result in let n = c.stops_at-stops.new.asked in
-    let t = c.access-turn.ensures lane.state command state (prepared lane.state state) in
+    let d = c.begin_with-turn.new.desk in let turn = c.begin_with-turn.result in let n = c.stops_at-stops.new.asked in
+    let t = c.begin_with-turn.ensures lane.state state in
     let asked = c.stops_at-stops.ensures.asked in
     let few = few_asked l.asked c.len-line.result n (length l.commands) lane.asked
     (let a = ap (λ (cs : List Command). length cs) c.items.ensures in omega (arith, a, lt)) asked in
@@ -189,45 +140,13 @@ returns-in-Some-access g c =
     omega (arith, c.len-line.ensures, l.desk.replies.ok.0) in
     let line : length l.desk.replies.items < n =
     (let a = line_asked l.asked c.len-line.result n asked in omega (arith, a, line_is)) in
-    let new = c.after-in-Some-access.new.self in let new_is = c.after-in-Some-access.ensures.next in
+    let new = c.after-2.new.self in let new_is = c.after-2.ensures.next in
     record {
       lane = running_is pool new (begun_lane pool l lane is command later left d n few line turn t new new_is);
       same = begun_same pool l lane is command later left d n few line turn t new new_is;
       stepped =
-          begun_so pool l lane is command later left d n few line turn t new new_is c.after-in-Some-access.result
-          c.after-in-Some-access.ensures.stepped;
-      err = tt;
-      heeds = λ h. begun_heeds pool l lane is command later left d n few line turn t new new_is
-          (g.G.Gate.stops c.args.gate.now (number_of l))
-          (asked_heeds (g.G.Gate.stops c.args.gate.now) l c.len-line.result c.lane_of-number.result n l.stopped line_is
-          c.lane_of-number.ensures.lane asked
-          (lane.going ∙ sym c.if-stops.false ∙ c.stops_at-stops.ensures.stops) lane.going lane.answered.unstopped h);
-    }
-
-pub returns-in-None : goal.returns-in-None
-returns-in-None g c =
-    let pool = c.args.pool.now in let l = c.args.self.now in let lane = c.requires.lane in let is = c.requires.ready in
-    let command = c.in-Some.command.now in
-    let later : List Command = drop (c.len-line.result + 1) l.commands in let lt = c.in-Some.ensures.lookup.3.0 in
-    let left = front_is l c.len-line.result c.items.result.now command
-    (omega (arith, c.len-line.ensures, l.desk.replies.ok.0)) c.items.ensures lt c.in-Some.ensures.lookup.1 in
-    let state = begin_state pool l lane is command later left in
-    let d = c.obey-turn.new.self in let turn = c.obey-turn.result in let n = c.stops_at-stops.new.asked in
-    let t = c.obey-turn.ensures lane.state state in
-    let asked = c.stops_at-stops.ensures.asked in
-    let few = few_asked l.asked c.len-line.result n (length l.commands) lane.asked
-    (let a = ap (λ (cs : List Command). length cs) c.items.ensures in omega (arith, a, lt)) asked in
-    let line_is : c.len-line.result ≡ length l.desk.replies.items =
-    omega (arith, c.len-line.ensures, l.desk.replies.ok.0) in
-    let line : length l.desk.replies.items < n =
-    (let a = line_asked l.asked c.len-line.result n asked in omega (arith, a, line_is)) in
-    let new = c.after-in-None.new.self in let new_is = c.after-in-None.ensures.next in
-    record {
-      lane = running_is pool new (begun_lane pool l lane is command later left d n few line turn t new new_is);
-      same = begun_same pool l lane is command later left d n few line turn t new new_is;
-      stepped =
-          begun_so pool l lane is command later left d n few line turn t new new_is c.after-in-None.result
-          c.after-in-None.ensures.stepped;
+          begun_so pool l lane is command later left d n few line turn t new new_is c.after-2.result
+          c.after-2.ensures.stepped;
       err = tt;
       heeds = λ h. begun_heeds pool l lane is command later left d n few line turn t new new_is
           (g.G.Gate.stops c.args.gate.now (number_of l))

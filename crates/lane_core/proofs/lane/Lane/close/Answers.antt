@@ -12,7 +12,7 @@ use Rattle.lane_core.proofs.CloseTurns.{closing_same, closing_so, closing_next}
 use Rattle.lane_core.proofs.EitherLane.{stopped_is, running_is, lane_or, lane_desk}
 use Rattle.lane_core.proofs.Heeding.{heeds_still}
 use Rattle.lane_core.proofs.LaneGrown.{lane_at, room_to_close}
-use Rattle.lane_core.proofs.LaneTurns.{close_none, close_had, close_room, closing_lane}
+use Rattle.lane_core.proofs.LaneCloses.{close_none, close_had, close_room, closing_lane}
 use Rattle.lane_core.proofs.StoppedTurns.{stopped_had, stopped_closing}
 use Rattle.lane_core.proofs.lane.Lane.close.Goals as goal
 

@@ -1,5 +1,4 @@
 use Rattle.std.proofs.Common.{◌+◌, List, drop, subst, sym, arith}
-use Rattle.std.specs.Prelude.{All}
 use Rattle.pool_law.specs.declared.command.Command.{Command}
 use Rattle.lane_core.specs.declared.lane.Lane.{Lane}
 use Rattle.lane_core.specs.Lanes.{Heeds}

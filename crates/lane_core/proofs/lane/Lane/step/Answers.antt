@@ -13,7 +13,8 @@ use Rattle.lane_core.specs.declared.lane.Stepped.{Stepped}
 use Rattle.lane_core.specs.Desks.{IsDesk, hand_of, Fits, NameFits, IsUnderway, HasTurned, HasRoomFor, left_at}
 use Rattle.lane_core.specs.Lanes.{Heeds, IsLane, IsRunningLane, SameLane, number_of}
 use Rattle.lane_core.specs.Steps.{HasStepped, at_stage}
-use Rattle.lane_core.proofs.LaneTurns.{underway, underway_room, underway_replies, underway_lane, underway_same, underway_so, underway_heeds}
+use Rattle.lane_core.proofs.StageCases.{underway}
+use Rattle.lane_core.proofs.LaneTurns.{underway_room, underway_replies, underway_lane, underway_same, underway_so, underway_heeds}
 use Rattle.lane_core.proofs.EitherLane.{running_is, lane_or, lane_desk}
 use Rattle.lane_core.proofs.lane.Lane.step.Goals as goal
 
@@ -92,7 +93,7 @@ go_on-turn-requires-clause-name g c =
 pub go_on-turn-requires-clause-room : goal.go_on-turn-requires-clause-room
 go_on-turn-requires-clause-room g c =
     λ command. subst (λ (x : Stage). HasRoomFor c.args.self.now.desk
-    (left_at command x (view_of c.args.self.now.desk.seat))) (sym c.replace.ensures.value)
+    (left_at c.args.self.now.desk.composes command x (view_of c.args.self.now.desk.seat))) (sym c.replace.ensures.value)
     (let u = underway c.args.self.now.stage (λ e. c.in_default.not-Ready (c.replace.ensures.value ∙ e))
     (λ x e. c.in_default.not-Closing x (c.replace.ensures.value ∙ e)) in
     underway_room c.args.pool.now c.args.self.now (running c.args.pool.now c.args.self.now c.requires.lane u) u command)

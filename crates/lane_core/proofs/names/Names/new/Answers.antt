@@ -1,11 +1,11 @@
 use Rattle.std.proofs.Common.{◌≡◌, ap, ◌∙◌, map, replicate, None, arith}
 use Rattle.std.specs.Prelude.{option_map}
-use Rattle.byte_view.specs.declared.view.View.{View}
+use Rattle.lane_core.specs.Named.{bound_of}
 use Rattle.lane_core.proofs.NameLaws.{map-replicate}
 use Rattle.lane_core.proofs.names.Names.new.Goals as goal
 
 pub returns : goal.returns
 returns c =
     let done : c.loop.counter ≡ c.args.count = omega arith in
-    ap (map (option_map (λ (view : View). view.at))) (c.loop.invariant ∙ ap (λ n. replicate n None) done)
-    ∙ map-replicate (option_map (λ (view : View). view.at)) c.args.count None
+    ap (map (option_map bound_of)) (c.loop.invariant ∙ ap (λ n. replicate n None) done)
+    ∙ map-replicate (option_map bound_of) c.args.count None

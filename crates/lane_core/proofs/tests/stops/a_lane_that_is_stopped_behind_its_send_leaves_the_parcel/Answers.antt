@@ -1,10 +1,9 @@
 use Rattle.std.proofs.Common.{◌≡◌, ◌≤◌, List, [], ◌∷◌, false, refl, sym, subst, arith}
-use Rattle.std.proofs.lemmas.List.Elements.{All-cons, All-nil}
 use Rattle.pool_law.specs.declared.command.Command.{Command}
 use Rattle.lane_core.specs.declared.tests.TheConstants.{LAYOUT}
 use Rattle.pool_law.specs.Bounds.{note_bound}
 use Rattle.lane_core.specs.Lanes.{left_for_all}
-use Rattle.lane_core.specs.Opened.{AreFirst, IsPlain}
+use Rattle.lane_core.specs.Opened.{AreFirst}
 use Rattle.lane_core.proofs.tests.stops.a_lane_that_is_stopped_behind_its_send_leaves_the_parcel.Goals as goal
 
 abbrev last : List Command
@@ -17,13 +16,7 @@ abbrev sends_to_itself : List Command
 sends_to_itself = Command.Alloc 0 4 ∷ later
 
 are_first : AreFirst LAYOUT.shape sends_to_itself
-are_first = record {
-  commands_are = record { few = omega arith; fit = refl };
-  plain =
-      All-cons IsPlain (Command.Alloc 0 4) later tt
-      (All-cons IsPlain (Command.Send 0 0) last tt
-      (All-cons IsPlain (Command.Recv 1 0) [] tt (All-nil IsPlain)));
-}
+are_first = record { commands_are = record { few = omega arith; fit = refl } }
 
 pub play-requires-clause-commands : goal.play-requires-clause-commands
 play-requires-clause-commands g c x =

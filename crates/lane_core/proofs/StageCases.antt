@@ -1,0 +1,205 @@
+-- The cases of stages: the beginning, the closing, and as one case those of a command under way.
+use Rattle.std.proofs.Common.{◌≡◌, Bool, List, refl}
+use Rattle.pool_law.specs.declared.command.Command.{Command}
+use Rattle.pool_law.specs.declared.note.Held.{Held}
+use Rattle.pool_law.specs.LaneStates.{LaneState}
+use Rattle.pool_law.specs.Lanes.{Answer}
+use Rattle.pool_law.specs.Readers.{Log, Reader}
+use Rattle.pool_table.specs.declared.views.Entry.{Entry}
+use Rattle.pool_table.specs.declared.views.SeatView.{SeatView}
+use Rattle.lane_core.specs.declared.desk.Desk.{Desk}
+use Rattle.lane_core.specs.declared.desk.Stage.{Stage}
+use Rattle.lane_core.specs.declared.desk.Stage.TheVariants.{Ready, Allotting, Ending, Sweeping, Closing, Crossing, Parting, Consolidating, Copying, Replacing}
+use Rattle.lane_core.specs.declared.desk.Turn.TheVariants.{Went, Pending}
+use Rattle.lane_core.specs.declared.draining.Draining.{Draining}
+use Rattle.lane_core.specs.Desks.{IsUnderway, ComesTo, ClosesTo, GoesOn, PassesTo, Waits, left_after, left_at, left_now}
+use Rattle.lane_core.specs.Lanes.{IsAtRest, IsClosing}
+use Rattle.lane_core.specs.Readings.{renamed}
+
+module _ (P : Stage → Type 0) (ready : P Ready) (closing : (at : Draining) → P (Closing at))
+    (under : (stage : Stage) → IsUnderway stage → P stage) where
+  pub by_kind : (stage : Stage) → P stage
+  by_kind Ready = ready
+  by_kind (Closing at) = closing at
+  by_kind (Allotting name size class at) = under (Allotting name size class at) tt
+  by_kind (Ending at) = under (Ending at) tt
+  by_kind (Sweeping reply at) = under (Sweeping reply at) tt
+  by_kind (Crossing name marks at) = under (Crossing name marks at) tt
+  by_kind (Parting name at) = under (Parting name at) tt
+  by_kind (Consolidating p at) = under (Consolidating p at) tt
+  by_kind (Copying name whole parts at) = under (Copying name whole parts at) tt
+  by_kind (Replacing name whole at) = under (Replacing name whole at) tt
+
+-- where it is neither of the first two, a command is under way
+pub underway : (stage : Stage) → (stage ≡ Ready → ⊥) → ((x : Draining) → stage ≡ Closing x → ⊥) → IsUnderway stage
+underway stage =
+    by_kind (λ x. (x ≡ Ready → ⊥) → ((y : Draining) → x ≡ Closing y → ⊥) → IsUnderway x)
+    (λ a b. absurd (a refl)) (λ at a b. absurd (b at refl)) (λ x u a b. u) stage
+
+-- a command under way is no closing
+pub no_closing : (stage : Stage) → IsUnderway stage → IsClosing stage → ⊥
+no_closing Ready u closes = absurd u
+no_closing (Closing at) u closes = absurd u
+no_closing (Allotting name size class at) u closes = closes
+no_closing (Ending at) u closes = closes
+no_closing (Sweeping reply at) u closes = closes
+no_closing (Crossing name marks at) u closes = closes
+no_closing (Parting name at) u closes = closes
+no_closing (Consolidating p at) u closes = closes
+no_closing (Copying name whole parts at) u closes = closes
+no_closing (Replacing name whole at) u closes = closes
+
+-- nor is the lane at rest then
+pub no_rest : (stage : Stage) → IsUnderway stage → IsAtRest stage → ⊥
+no_rest Ready u rest = absurd u
+no_rest (Closing at) u rest = absurd u
+no_rest (Allotting name size class at) u rest = rest
+no_rest (Ending at) u rest = rest
+no_rest (Sweeping reply at) u rest = rest
+no_rest (Crossing name marks at) u rest = rest
+no_rest (Parting name at) u rest = rest
+no_rest (Consolidating p at) u rest = rest
+no_rest (Copying name whole parts at) u rest = rest
+no_rest (Replacing name whole at) u rest = rest
+
+-- what is left of it is the same for each command
+pub same_left : (composes : Bool) (stage : Stage) (v : SeatView) → IsUnderway stage → (a b : Command)
+    → left_at composes a stage v ≡ left_at composes b stage v
+same_left composes Ready v u a b = absurd u
+same_left composes (Closing at) v u a b = absurd u
+same_left composes (Allotting name size class at) v u a b = refl
+same_left composes (Ending at) v u a b = refl
+same_left composes (Sweeping reply at) v u a b = refl
+same_left composes (Crossing name marks at) v u a b = refl
+same_left composes (Parting name at) v u a b = refl
+same_left composes (Consolidating p at) v u a b = refl
+same_left composes (Copying name whole parts at) v u a b = refl
+same_left composes (Replacing name whole at) v u a b = refl
+
+-- what is left after a turn that comes to it
+pub left_on : (composes : Bool) (command : Command) (stage next : Stage) (v : SeatView) → IsUnderway next
+    → left_after composes command stage (Went next) v ≡ left_now composes command next v
+left_on composes command stage Ready v u = absurd u
+left_on composes command stage (Closing at) v u = refl
+left_on composes command stage (Allotting name size class at) v u = refl
+left_on composes command stage (Ending at) v u = refl
+left_on composes command stage (Sweeping reply at) v u = refl
+left_on composes command stage (Crossing name marks at) v u = refl
+left_on composes command stage (Parting name at) v u = refl
+left_on composes command stage (Consolidating p at) v u = refl
+left_on composes command stage (Copying name whole parts at) v u = refl
+left_on composes command stage (Replacing name whole at) v u = refl
+
+-- ---- A turn that comes to such a stage.
+
+module _ (reads : LaneState → Stage → Reader Answer) (s : LaneState) (old new : Desk) (added : List Entry)
+    (stage : Stage) where
+  -- it goes on there, and so it is what a turn may come to
+  pub went_on : (next : Stage) → IsUnderway next → ComesTo reads s old new added stage (Went next)
+      → GoesOn old new added (reads s stage) (λ names. reads (renamed s names) next)
+  went_on Ready u t = absurd u
+  went_on (Closing at) u t = absurd u
+  went_on (Allotting name size class at) u t = t
+  went_on (Ending at) u t = t
+  went_on (Sweeping reply at) u t = t
+  went_on (Crossing name marks at) u t = t
+  went_on (Parting name at) u t = t
+  went_on (Consolidating p at) u t = t
+  went_on (Copying name whole parts at) u t = t
+  went_on (Replacing name whole at) u t = t
+
+  pub on_went : (next : Stage) → IsUnderway next → GoesOn old new added (reads s stage)
+      (λ names. reads (renamed s names) next)
+      → ComesTo reads s old new added stage (Went next)
+  on_went Ready u t = absurd u
+  on_went (Closing at) u t = absurd u
+  on_went (Allotting name size class at) u t = t
+  on_went (Ending at) u t = t
+  on_went (Sweeping reply at) u t = t
+  on_went (Crossing name marks at) u t = t
+  on_went (Parting name at) u t = t
+  on_went (Consolidating p at) u t = t
+  on_went (Copying name whole parts at) u t = t
+  on_went (Replacing name whole at) u t = t
+
+  -- it waits there
+  pub waits_on : (held : Held) (next : Stage) → IsUnderway next
+      → ComesTo reads s old new added stage (Pending held next)
+      → ((log : Log) → reads s stage log ≡ reads s next log) × Waits old new added
+  waits_on held Ready u t = absurd u
+  waits_on held (Closing at) u t = absurd u
+  waits_on held (Allotting name size class at) u t = t
+  waits_on held (Ending at) u t = t
+  waits_on held (Sweeping reply at) u t = t
+  waits_on held (Crossing name marks at) u t = t
+  waits_on held (Parting name at) u t = t
+  waits_on held (Consolidating p at) u t = t
+  waits_on held (Copying name whole parts at) u t = t
+  waits_on held (Replacing name whole at) u t = t
+
+  pub on_waits : (held : Held) (next : Stage) → IsUnderway next
+      → ((log : Log) → reads s stage log ≡ reads s next log) × Waits old new added
+      → ComesTo reads s old new added stage (Pending held next)
+  on_waits held Ready u t = absurd u
+  on_waits held (Closing at) u t = absurd u
+  on_waits held (Allotting name size class at) u t = t
+  on_waits held (Ending at) u t = t
+  on_waits held (Sweeping reply at) u t = t
+  on_waits held (Crossing name marks at) u t = t
+  on_waits held (Parting name at) u t = t
+  on_waits held (Consolidating p at) u t = t
+  on_waits held (Copying name whole parts at) u t = t
+  on_waits held (Replacing name whole at) u t = t
+
+-- ---- No turn that passes a command over, and none of the closing, comes to one.
+
+module _ (old new : Desk) (added : List Entry) (command : Command) where
+  pub passes_none : (next : Stage) → IsUnderway next → PassesTo old new added command (Went next) → ⊥
+  passes_none Ready u t = u
+  passes_none (Closing at) u t = u
+  passes_none (Allotting name size class at) u t = t
+  passes_none (Ending at) u t = t
+  passes_none (Sweeping reply at) u t = t
+  passes_none (Crossing name marks at) u t = t
+  passes_none (Parting name at) u t = t
+  passes_none (Consolidating p at) u t = t
+  passes_none (Copying name whole parts at) u t = t
+  passes_none (Replacing name whole at) u t = t
+
+  pub passes_held : (held : Held) (next : Stage) → IsUnderway next → PassesTo old new added command (Pending held next)
+      → ⊥
+  passes_held held Ready u t = u
+  passes_held held (Closing at) u t = u
+  passes_held held (Allotting name size class at) u t = t
+  passes_held held (Ending at) u t = t
+  passes_held held (Sweeping reply at) u t = t
+  passes_held held (Crossing name marks at) u t = t
+  passes_held held (Parting name at) u t = t
+  passes_held held (Consolidating p at) u t = t
+  passes_held held (Copying name whole parts at) u t = t
+  passes_held held (Replacing name whole at) u t = t
+
+module _ (stage after : Draining) (added : List Entry) where
+  pub closes_none : (next : Stage) → IsUnderway next → ClosesTo stage (Went next) after added → ⊥
+  closes_none Ready u t = u
+  closes_none (Closing at) u t = u
+  closes_none (Allotting name size class at) u t = t
+  closes_none (Ending at) u t = t
+  closes_none (Sweeping reply at) u t = t
+  closes_none (Crossing name marks at) u t = t
+  closes_none (Parting name at) u t = t
+  closes_none (Consolidating p at) u t = t
+  closes_none (Copying name whole parts at) u t = t
+  closes_none (Replacing name whole at) u t = t
+
+  pub closes_held : (held : Held) (next : Stage) → IsUnderway next → ClosesTo stage (Pending held next) after added → ⊥
+  closes_held held Ready u t = u
+  closes_held held (Closing at) u t = u
+  closes_held held (Allotting name size class at) u t = t
+  closes_held held (Ending at) u t = t
+  closes_held held (Sweeping reply at) u t = t
+  closes_held held (Crossing name marks at) u t = t
+  closes_held held (Parting name at) u t = t
+  closes_held held (Consolidating p at) u t = t
+  closes_held held (Copying name whole parts at) u t = t
+  closes_held held (Replacing name whole at) u t = t

@@ -1,0 +1,48 @@
+//! What a command does that reaches the bytes of a composite, ends one, or makes one.
+
+use crate::access::Refusal;
+use crate::composed::{Composed, Marks};
+use crate::copying::Transfer;
+use crate::crossing::Crossing;
+use pool_law::{Part, Reply};
+
+/// What is to be done, with all memory for it; or why it is refused.
+#[derive(Drop)]
+pub(crate) enum Work {
+    Refused(Refusal),
+    /// No byte is reached.
+    Empty {
+        name: u32,
+        marks: Option<Marks>,
+        reply: Reply,
+    },
+    /// The bytes of a range are set or got; then the composite has these marks.
+    Cross {
+        name: u32,
+        marks: Option<Marks>,
+        stage: Crossing,
+    },
+    /// The composite ends: its parts are released.
+    End {
+        name: u32,
+        parts: Vec<Part>,
+    },
+    /// A name is bound to a composite.
+    Bind {
+        name: u32,
+        whole: Box<Composed>,
+    },
+    /// So it is, once the composite is one part.
+    Consolidate(Consolidation),
+}
+
+/// A composite that has too many parts, what is to be copied of them, and all of them.
+#[derive(Drop)]
+pub struct Consolidation {
+    pub name: u32,
+    pub whole: Box<Composed>,
+    pub size: u32,
+    pub class: u32,
+    pub transfers: Vec<Transfer>,
+    pub parts: Vec<Part>,
+}
