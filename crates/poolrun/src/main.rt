@@ -11,6 +11,10 @@ use std::process::ExitCode;
 use trace_top::{OpenGate, Outcome, Status, StdSink, StdSource, line_of, run};
 
 #[cfg(test)]
+mod composites;
+#[cfg(test)]
+mod consolidations;
+#[cfg(test)]
 mod generated;
 #[cfg(test)]
 mod rows;

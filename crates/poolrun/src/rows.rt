@@ -427,11 +427,11 @@ fn names_where_a_trace_is_refused(rt: HostRuntime) -> Result<(), Fail> {
             "refused shape 0.2\n",
         ),
         (
-            r#"[[["alloc","a",1]],[["touch","a"],["compose","c","a"]]]"#,
+            r#"[[["alloc","a",1]],[["touch","a"],["compose","c"]]]"#,
             "refused shape 1.1\n",
         ),
         (
-            r#"[[["alloc","a",1],["add","a","a"]],[]]"#,
+            r#"[[["alloc","a",1],["add","a"]],[]]"#,
             "refused shape 0.1\n",
         ),
         (long.as_str(), "refused limit commands\n"),

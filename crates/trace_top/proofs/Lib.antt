@@ -3,7 +3,6 @@ pub mod Sums
 pub mod Places
 pub mod Runs
 pub mod Tables
-pub mod Plain
 pub mod Exact
 pub mod Explain
 pub mod Numerals

@@ -9,8 +9,7 @@ use Rattle.pool_law.specs.declared.run.Options.{Options}
 use Rattle.trace_text.specs.declared.TraceNo.{TraceNo}
 use Rattle.trace_text.specs.declared.TraceNo.TheVariants as refusals
 use Rattle.trace_text.specs.Options.{AreOptions, IsBetween}
-use Rattle.trace_text.specs.Reading.{◌>>=◌}
-use Rattle.trace_top.specs.Playable.{reading_of}
+use Rattle.trace_text.specs.Reading.{◌>>=◌, reading_of}
 use Rattle.trace_top.specs.Pools.{Accepted, bytes_of_chunk, is_within_memory, over, reading_for, within_bounds}
 
 -- ---- Bytes.

@@ -21,11 +21,11 @@ use Rattle.shared_pool.specs.SeatLanes.{lane_of}
 use Rattle.shared_pool.specs.Wearing.{IsShort}
 use Rattle.lane_core.specs.declared.lane.Lane.{Lane}
 use Rattle.lane_core.specs.Lanes.{Heeds, IsLane, SameLane, left_for_all, number_of}
-use Rattle.lane_core.specs.Opened.{IsFirstSeat, IsPlain}
+use Rattle.lane_core.specs.Opened.{IsFirstSeat}
 use Rattle.lane_core.specs.Played.{AreFinished}
 use Rattle.trace_top.specs.Needs.{AreSent, HasRoomFor}
 use Rattle.trace_top.specs.Standing.{AllFinished, AllOf, AllRun, AreLanes, AreReady, RunsLane}
-use Rattle.trace_top.proofs.Places.{all_at, at_all, log_found, same_some, set_cases}
+use Rattle.trace_top.proofs.Places.{all_at, log_found, same_some, set_cases}
 
 -- one of the lanes is another one of the pool
 pub lanes_set : (pool : SharedPool) (lanes : List Lane) (i : ℕ) (l : Lane) → AreLanes pool lanes → IsLane pool l
@@ -137,10 +137,10 @@ module _ {G : Ghosts Home Noted} where
       (seats : List (PoolSeat Home G))
       → IsShape shape → shape ≡ pool.table.layout.shape → IsShort pool.table.layout → shape.lanes ≡ length trace
       → layout.shape ≡ shape
-      → ((lane : ℕ) → AreCommands shape (of_lane trace lane)) → All (All IsPlain) trace
+      → ((lane : ℕ) → AreCommands shape (of_lane trace lane))
       → ((lane : ℕ) → lane < length trace → HasRoomFor layout (of_lane trace lane)) → AreSent trace mail
       → AreOpened layout mail pool seats → AreReady pool shape trace seats
-  ready trace shape layout mail pool seats limits same short lanes layout_is commands plain room sent opened i cs s
+  ready trace shape layout mail pool seats limits same short lanes layout_is commands room sent opened i cs s
       found stands =
       let here = slice_get_within trace i cs found in
       let are = log_found trace i cs found in
@@ -148,10 +148,7 @@ module _ {G : Ghosts Home Noted} where
       subst (λ (n : ℕ). i < n) (sym lanes ∙ sym (ap (λ (x : Shape). x.lanes) layout_is)) here in
       let o = subst (IsOpened layout mail pool i) (get_or_from_slice_get seats i s s stands) (opened.each i below s) in
       record {
-        commands_are = record {
-          commands_are = subst (AreCommands shape) are (commands i);
-          plain = at_all (All IsPlain) trace plain i cs found;
-        };
+        commands_are = record { commands_are = subst (AreCommands shape) are (commands i) };
         seat_is = first_seat trace shape layout mail pool i cs s limits same short lanes
             (subst (HasRoomFor layout) are (room i here)) sent found o;
         number = ap (λ n. unwrap_or n 0) o.number;

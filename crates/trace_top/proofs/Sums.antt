@@ -1,14 +1,16 @@
 -- What the commands of a lane add up to.
 use Rattle.std.proofs.Common.{◌≡◌, ℕ, ◌+◌, ◌<◌, ◌≤◌, inl, inr, subst, Bool, true, false, List, [], ◌∷◌, ◌++◌, length, map, take, get_or, cond, refl, sym, ap, ◌∙◌, arith}
+use Rattle.std.specs.List.{list_any}
 use Rattle.std.specs.Prelude.{count_by, sum, if◌then◌else◌}
 use Rattle.std.proofs.lemmas.Bool.{cases_lt}
 use Rattle.std.proofs.lemmas.List.{map_more}
 use Rattle.std.proofs.lemmas.List.Sums.{sum_by_push}
 use Rattle.std.proofs.lemmas.List.Recursion.{is_count_by}
 use Rattle.pool_law.specs.declared.command.Command.{Command}
+use Rattle.pool_law.specs.Bounds.{composes}
 use Rattle.pool_law.specs.Logs.{of_lane}
 use Rattle.lane_core.specs.Desks.{left_for}
-use Rattle.lane_core.specs.Lanes.{left_for_all}
+use Rattle.lane_core.specs.Lanes.{left_for_each, left_for_all}
 use Rattle.trace_top.specs.Needs.{is_move, is_send}
 use Rattle.trace_top.proofs.Places.{log_read}
 
@@ -31,51 +33,59 @@ count_more p x xs =
     by_case true n = refl
     by_case false n = omega arith
 
-moves_of_one : (c : Command) → (left_for c).moves ≡ one (is_move c)
-moves_of_one (Command.Alloc name size) = refl
-moves_of_one (Command.Set name at bytes tries) = refl
-moves_of_one (Command.Get name at len tries) = refl
-moves_of_one (Command.Write name bytes) = refl
-moves_of_one (Command.Read name len) = refl
-moves_of_one (Command.Slice fresh name at len true) = refl
-moves_of_one (Command.Slice fresh name at len false) = refl
-moves_of_one (Command.Dup fresh name) = refl
-moves_of_one (Command.Retain name) = refl
-moves_of_one (Command.Release name) = refl
-moves_of_one (Command.Refcnt name) = refl
-moves_of_one (Command.Touch name) = refl
-moves_of_one (Command.Forget name) = refl
-moves_of_one (Command.Send name lane) = refl
-moves_of_one (Command.Recv fresh lane) = refl
-moves_of_one (Command.Compose fresh names) = refl
-moves_of_one (Command.Add whole name) = refl
+moves_of_one : (composes : Bool) (c : Command) → (left_for composes c).moves ≡ one (is_move c)
+moves_of_one composes (Command.Alloc name size) = refl
+moves_of_one composes (Command.Set name at bytes tries) = refl
+moves_of_one composes (Command.Get name at len tries) = refl
+moves_of_one composes (Command.Write name bytes) = refl
+moves_of_one composes (Command.Read name len) = refl
+moves_of_one composes (Command.Slice fresh name at len true) = refl
+moves_of_one composes (Command.Slice fresh name at len false) = refl
+moves_of_one composes (Command.Dup fresh name) = refl
+moves_of_one composes (Command.Retain name) = refl
+moves_of_one composes (Command.Release name) = refl
+moves_of_one composes (Command.Refcnt name) = refl
+moves_of_one composes (Command.Touch name) = refl
+moves_of_one composes (Command.Forget name) = refl
+moves_of_one composes (Command.Send name lane) = refl
+moves_of_one composes (Command.Recv fresh lane) = refl
+moves_of_one composes (Command.Compose fresh names) = refl
+moves_of_one composes (Command.Add whole name) = refl
 
-sends_of_one : (to : ℕ) (c : Command) → (left_for c).sends to ≡ one (is_send to c)
-sends_of_one to (Command.Alloc name size) = refl
-sends_of_one to (Command.Set name at bytes tries) = refl
-sends_of_one to (Command.Get name at len tries) = refl
-sends_of_one to (Command.Write name bytes) = refl
-sends_of_one to (Command.Read name len) = refl
-sends_of_one to (Command.Slice fresh name at len true) = refl
-sends_of_one to (Command.Slice fresh name at len false) = refl
-sends_of_one to (Command.Dup fresh name) = refl
-sends_of_one to (Command.Retain name) = refl
-sends_of_one to (Command.Release name) = refl
-sends_of_one to (Command.Refcnt name) = refl
-sends_of_one to (Command.Touch name) = refl
-sends_of_one to (Command.Forget name) = refl
-sends_of_one to (Command.Send name lane) = refl
-sends_of_one to (Command.Recv fresh lane) = refl
-sends_of_one to (Command.Compose fresh names) = refl
-sends_of_one to (Command.Add whole name) = refl
+sends_of_one : (composes : Bool) (to : ℕ) (c : Command) → (left_for composes c).sends to ≡ one (is_send to c)
+sends_of_one composes to (Command.Alloc name size) = refl
+sends_of_one composes to (Command.Set name at bytes tries) = refl
+sends_of_one composes to (Command.Get name at len tries) = refl
+sends_of_one composes to (Command.Write name bytes) = refl
+sends_of_one composes to (Command.Read name len) = refl
+sends_of_one composes to (Command.Slice fresh name at len true) = refl
+sends_of_one composes to (Command.Slice fresh name at len false) = refl
+sends_of_one composes to (Command.Dup fresh name) = refl
+sends_of_one composes to (Command.Retain name) = refl
+sends_of_one composes to (Command.Release name) = refl
+sends_of_one composes to (Command.Refcnt name) = refl
+sends_of_one composes to (Command.Touch name) = refl
+sends_of_one composes to (Command.Forget name) = refl
+sends_of_one composes to (Command.Send name lane) = refl
+sends_of_one composes to (Command.Recv fresh lane) = refl
+sends_of_one composes to (Command.Compose fresh names) = refl
+sends_of_one composes to (Command.Add whole name) = refl
+
+module _ (composes : Bool) where
+  moves_of_each : (cs : List Command) → (left_for_each composes cs).moves ≡ count_by is_move cs
+  moves_of_each [] = refl
+  moves_of_each (c ∷ cs) = omega (arith, moves_of_one composes c, moves_of_each cs, count_more is_move c cs)
+
+  sends_of_each : (to : ℕ) (cs : List Command) → (left_for_each composes cs).sends to ≡ count_by (is_send to) cs
+  sends_of_each to [] = refl
+  sends_of_each to (c ∷ cs) =
+      omega (arith, sends_of_one composes to c, sends_of_each to cs, count_more (is_send to) c cs)
 
 pub moves_of_all : (cs : List Command) → (left_for_all cs).moves ≡ count_by is_move cs
-moves_of_all [] = refl
-moves_of_all (c ∷ cs) = omega (arith, moves_of_one c, moves_of_all cs, count_more is_move c cs)
+moves_of_all cs = moves_of_each (list_any composes cs) cs
 
 pub sends_of_all : (to : ℕ) (cs : List Command) → (left_for_all cs).sends to ≡ count_by (is_send to) cs
-sends_of_all to [] = refl
-sends_of_all to (c ∷ cs) = omega (arith, sends_of_one to c, sends_of_all to cs, count_more (is_send to) c cs)
+sends_of_all to cs = sends_of_each (list_any composes cs) to cs
 
 -- ---- The notes.
 

@@ -5,7 +5,6 @@ pub mod Transfer
 pub mod Settings
 pub mod Words
 pub mod WordForm
-pub mod Playable
 pub mod Pools
 pub mod Needs
 pub mod Standing

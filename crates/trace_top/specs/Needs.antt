@@ -11,6 +11,8 @@ abbrev pub is_move : Command → Bool
 is_move (Command.Alloc name size) = true
 is_move (Command.Slice fresh name at len retained) = retained
 is_move (Command.Retain name) = true
+is_move (Command.Compose fresh names) = true
+is_move (Command.Add whole name) = true
 is_move _ = false
 
 -- the command sends to this lane

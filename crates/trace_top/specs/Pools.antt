@@ -10,10 +10,9 @@ use Rattle.pool_law.specs.declared.run.Shape.{Shape}
 use Rattle.pool_law.specs.Limits.{IsShape, geometry_of}
 use Rattle.trace_text.specs.declared.TraceNo.{TraceNo}
 use Rattle.trace_text.specs.declared.TraceNo.TheVariants as refusals
-use Rattle.trace_text.specs.Reading.{◌>>=◌}
+use Rattle.trace_text.specs.Reading.{◌>>=◌, reading_of}
 use Rattle.trace_top.specs.declared.settings.Setting.{Setting}
 use Rattle.trace_top.specs.declared.settings.Setting.TheVariants.{Order, Arenas, Chunks, Handles, Interval}
-use Rattle.trace_top.specs.Playable.{reading_of}
 use Rattle.trace_top.specs.Settings.{row_of}
 
 -- the number that is asked for, or the option's default

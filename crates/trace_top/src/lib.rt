@@ -13,7 +13,6 @@ mod line;
 mod needs;
 mod output;
 mod play;
-mod playable;
 mod pools;
 mod reading;
 mod settings;

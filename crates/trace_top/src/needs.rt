@@ -166,12 +166,15 @@ fn composes(command: &Command) -> bool
     matches!(command, Command::Compose { .. })
 }
 
-// Whether it makes a root, or retains one.
+// Whether it may make a root, or retains one.
 fn is_move(command: &Command) -> bool
     ensures { result ≡ is_move command.now }
 {
     match command {
-        Command::Alloc { .. } | Command::Retain { .. } => true,
+        Command::Alloc { .. }
+        | Command::Retain { .. }
+        | Command::Compose { .. }
+        | Command::Add { .. } => true,
         Command::Slice { retained, .. } => *retained,
         _ => false,
     }

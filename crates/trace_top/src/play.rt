@@ -4,7 +4,6 @@ ghost use Rattle.std.specs.Prelude.{◌≡◌, ℕ, All, IfOk, length};
 ghost use Rattle.pool_law.specs.Legal.{AreCommands};
 ghost use Rattle.pool_law.specs.Limits.{IsShape};
 ghost use Rattle.pool_law.specs.Logs.{of_lane};
-ghost use Rattle.lane_core.specs.Opened.{IsPlain};
 ghost use Rattle.lane_core.specs.Played.{IsHeeded};
 
 use crate::lanes::{all_lanes, given_back};
@@ -29,7 +28,6 @@ pub fn play<R: Threads + Wait + Sync, G: Gate>(
     requires shape { IsShape shape.now }
     requires lanes { shape.now.lanes ≡ length trace.lanes }
     requires commands { (lane : ℕ) → AreCommands shape.now (of_lane trace.lanes lane) }
-    requires plain { All (All IsPlain) trace.lanes }
     ensures trace { IfOk result (λ run. run.trace.lanes ≡ trace.lanes) }
     ensures shape { IfOk result (λ run. run.shape ≡ shape.now) }
     ensures stopped { IfOk result (IsHeeded (G.stops gate.now)) }

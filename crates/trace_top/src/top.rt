@@ -1,6 +1,5 @@
 //! The top call, part by part: words, source or generated trace, run, sink.
 ghost use Rattle.std.specs.Prelude.{◌≡◌, ◌≤◌, All, None, Some, map, string_bytes, length, IfOk, IfSome};
-ghost use Rattle.lane_core.specs.Opened.{IsPlain};
 ghost use Rattle.lane_core.specs.Played.{IsHeeded, IsPlayed};
 ghost use Rattle.order_laws.specs.HeadlineInOrder.{HeadlineInOrder};
 ghost use Rattle.trace_make.specs.Generated.{generated};
@@ -217,7 +216,6 @@ fn with_trace<R: Threads + Wait + Sync, K: Sink, G: Gate>(
 ) -> Outcome
     requires sound { AreSound read.options }
     requires lanes { AreLanes read.trace.lanes }
-    requires plain { All (All IsPlain) read.trace.lanes }
     requires some_lane { 1 ≤ length read.trace.lanes }
     requires few_lanes { length read.trace.lanes ≤ 16 }
     ensures outcome { ExplainsRun result.status result options.now (read.trace.lanes, read.options)

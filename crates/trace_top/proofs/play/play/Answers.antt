@@ -47,7 +47,7 @@ all_lanes-requires-clause-ready g c =
     subst (λ (t : List (List Command)). AreReady pool c.args.shape.now t seats) (sym c.into_items.ensures)
     (ready trace c.args.shape.now layout c.in_ok-mail.mail.items pool seats c.requires.shape shape short
     c.requires.lanes
-    c.layout_for-layout.ensures.shape c.requires.commands c.requires.plain room sent opened)
+    c.layout_for-layout.ensures.shape c.requires.commands room sent opened)
 
 pub abandon-requires : goal.abandon-requires
 abandon-requires g c = record { seats = all_at (IsPoolSeat c.in_ok-pool.pool) _ c.in-Err.ensures.err }
