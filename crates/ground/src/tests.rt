@@ -1,7 +1,7 @@
 //! Single calls on grounds and racks.
 ghost use Rattle.std.specs.Prelude.{◌≡◌};
 
-use crate::{Ground, Rack};
+use crate::{Ground, Piece, Rack};
 
 fn are_zeros(bytes: &[u8]) -> bool {
     bytes.iter().all(|byte| *byte == 0)
@@ -42,4 +42,9 @@ fn elements_come_from_their_places(rt: HostRuntime) {
     assert!(rt; whole.len() == 8192);
     assert!(rt; place_of_a_byte(whole.bytes()) == Some(6145));
     whole.close(deed);
+}
+
+#[test]
+fn a_piece_is_small(rt: HostRuntime) {
+    assert!(rt; std::mem::size_of::<Piece>() <= 32);
 }

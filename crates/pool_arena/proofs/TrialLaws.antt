@@ -1,5 +1,5 @@
 -- A trial is one after each taking, and after its oldest region came back.
-use Rattle.std.proofs.Common.{◌≡◌, ℕ, ◌<◌, List, [], ◌∷◌, ◌++◌, refl, sym, ap, ◌∙◌, subst, Bool, true, false, Some, inl, inr, lit<}
+use Rattle.std.proofs.Common.{◌≡◌, ℕ, ◌<◌, List, [], ◌∷◌, ◌++◌, length, arith, refl, sym, ap, ◌∙◌, subst, Bool, true, false, Some, inl, inr, lit<}
 use Rattle.std.specs.Prelude.{map, slice_get, if◌then◌else◌, not}
 use Rattle.std.proofs.lemmas.List.{map-append}
 use Rattle.ground.specs.Ground.{Origin, Segment}
@@ -10,20 +10,20 @@ use Rattle.pool_law.specs.declared.id.RegionId.{RegionId}
 use Rattle.pool_law.specs.Same.{same_place, same_taking}
 use Rattle.pool_law.proofs.SameLemmas.{and-first, same_place-is}
 use Rattle.arena_law.specs.Slots.{EachOf, BeginElsewhere}
-use Rattle.pool_arena.specs.ArenaStates.{ArenaState, IsNew, IsSameArena, IsOutOf, IsInPlaceAt, IsInPlaceUnder, Takes, Gives, without_taking}
+use Rattle.pool_arena.specs.ArenaStates.{ArenaState, IsNew, IsSameArena, IsOutOf, IsInPlaceAt, IsInPlaceUnder, Takes, Gives, AtRest, without_taking}
 use Rattle.pool_arena.specs.Trials.{HasOut, IsTrial}
-use Rattle.pool_arena.proofs.OutLaws.{new-out, new-places, take-out, out-of, give-out, left-first, first-place}
+use Rattle.pool_arena.proofs.OutLaws.{new-out, new-places, take-out, out-of, give-out, none-out, left-first, first-place}
 
 abbrev id_of : Region → RegionId
 id_of r = r.id
 
-pub new-trial : (a : ArenaState) → IsNew 0 8192 9 1 a → IsTrial a []
+pub new-trial : (a : ArenaState) → IsNew 0 8192 9 2 a → IsTrial a []
 new-trial a is =
     record {
       number = is.number_is;
       geometry = is.geometry;
-      places = new-places 0 8192 9 1 a is;
-      out = new-out 0 8192 9 1 a (inr (inl refl)) is;
+      places = new-places 0 8192 9 2 a is;
+      out = new-out 0 8192 9 2 a (inr (inl refl)) is;
       placed = tt;
     }
 
@@ -96,3 +96,8 @@ module _ (old : ArenaState) (rs : List Region) (r : Region) (t : IsTrial old (r 
             (give-out old r.id (map id_of (r ∷ rs)) t.out (inl refl) new gives);
         placed = stay-placed old new rs gives.same t.placed.1;
       }
+
+-- where no region is out nothing of a chunk is
+pub ended-trial : (a : ArenaState) (rs : List Region) → length rs ≡ 0 → IsTrial a rs → AtRest a
+ended-trial a [] none t = none-out a t.out
+ended-trial a (r ∷ rs) none t = absurd (omega (arith, none))

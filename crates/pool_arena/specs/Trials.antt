@@ -12,10 +12,10 @@ pub record HasOut (a : ArenaState) (out : List RegionId) : Type 0 where
   pub holds : ArenaHolds a.geometry a.number (law_of a out)
   pub covered : IsCovered a.geometry (law_of a out)
 
--- an arena of number 0 with one chunk place of 4 MiB, of which exactly these regions are out
+-- an arena of number 0 with two chunk places of 4 MiB, of which exactly these regions are out
 pub record IsTrial (a : ArenaState) (regions : List Region) : Type 0 where
   pub number : a.number ≡ 0
   pub geometry : a.geometry ≡ of_order 9
-  pub places : length a.chunks ≡ 1
+  pub places : length a.chunks ≡ 2
   pub out : HasOut a (map (λ r. r.id) regions)
   pub placed : EachOf (λ r. IsInPlaceUnder a r.id r.piece) regions

@@ -1,18 +1,17 @@
 //! An arena as a caller uses it.
 
-ghost use Rattle.std.specs.Prelude.{◌≡◌, ℕ, ◌≤◌, ◌<◌, ◌^◌, length};
+ghost use Rattle.std.specs.Prelude.{◌≡◌, ◌≤◌, ◌<◌, ◌^◌, length};
 ghost use Rattle.size_classes.specs.Sizes.{of_order, of_pages, IsGeometry, class_count};
 ghost use Rattle.pool_arena.specs.ArenaStates.{IsNew, Takes, IsInPlaceAt};
-ghost use Rattle.pool_arena.specs.Trials.{IsTrial};
 
 use crate::Arena;
 use pool_law::{ChunkEnd, ListName, Region};
 use size_classes::DEFAULT_PAGE;
 use std::alloc::Global;
-use std::collections::VecDeque;
-use std::marker::Model;
 use std::process::Abort;
 use std::test::*;
+
+mod trials;
 
 fn crosses<T: Send>(x: T) -> T
     ensures { result ≡ x }
@@ -55,70 +54,12 @@ fn take(rt: &impl Abort, arena: &mut Arena, class: u32) -> Region
     region
 }
 
-fn list_now(arena: &Arena) -> Option<ListName>
-    requires { 0 < length arena.now.chunks }
+fn list_now(arena: &Arena, chunk: u32) -> Option<ListName>
+    requires { chunk < length arena.now.chunks }
 {
-    match arena.chunk_now(0) {
+    match arena.chunk_now(chunk) {
         Some(end) => Some(end.list),
         None => None,
-    }
-}
-
-// An arena of one chunk of 4 MiB, and what is out of it, the oldest first.
-struct Trial {
-    arena: Arena,
-    regions: VecDeque<Region>,
-}
-
-impl Model for Trial {
-    ghost Value = { ℕ };
-
-    ghost view = { λ t. length t.regions.items };
-
-    ghost invariant = { λ t. IsTrial t.arena t.regions.items };
-}
-
-impl Trial {
-    fn new(rt: &impl Abort, alloc: Global) -> Trial {
-        let arena = new_arena(rt, alloc, 9, 1);
-        match VecDeque::with_capacity(alloc, 4) {
-            Ok(regions) => Trial { arena, regions },
-            Err(_) => {
-                arena.leave();
-                panic!(rt; "ample memory");
-            }
-        }
-    }
-
-    // Takes a quarter of the chunk, which begins here and leaves the chunk in this list.
-    fn take(&mut self, rt: &impl Abort, offset: u32, list: ListName) {
-        assert!(rt; self.arena.takings() < 8);
-        let region = take(rt, &mut self.arena, 59);
-        let place = region.id.place;
-        if let Err(failed) = self.regions.push_back(region) {
-            leave(failed.value);
-            panic!(rt; "ample memory");
-        }
-        assert_eq!(rt; (place.offset, place.len), (offset, 1048576));
-        assert_eq!(rt; list_now(&self.arena), Some(list));
-    }
-
-    // Gives the oldest quarter back, which leaves the chunk in this list.
-    fn give(&mut self, rt: &impl Abort, list: Option<ListName>) {
-        let Some(region) = self.regions.pop_front() else {
-            panic!(rt; "nothing is out");
-        };
-        self.arena.give(region);
-        assert_eq!(rt; list_now(&self.arena), list);
-    }
-
-    fn leave(self) {
-        let Trial { arena, mut regions } = self;
-        while let Some(region) = regions.pop_front() {
-            leave(region);
-        }
-        regions.destroy_empty();
-        arena.leave();
     }
 }
 
@@ -217,9 +158,9 @@ fn a_whole_chunk_is_destroyed(rt: HostRuntime) {
     let mut arena = new_arena(&rt, rt.alloc(), 9, 4);
     let a = take(&rt, &mut arena, 67);
     assert_eq!(rt; (a.id.place.offset, a.id.place.len), (0, 4194304));
-    assert_eq!(rt; list_now(&arena), Some(ListName::Q100));
+    assert_eq!(rt; list_now(&arena, 0), Some(ListName::Q100));
     arena.give(a);
-    assert_eq!(rt; list_now(&arena), None);
+    assert_eq!(rt; list_now(&arena, 0), None);
     arena.close();
 }
 
@@ -250,22 +191,6 @@ fn runs_that_meet_are_merged(rt: HostRuntime) {
 }
 
 #[test]
-fn a_chunk_goes_through_all_lists(rt: HostRuntime) {
-    let mut trial = Trial::new(&rt, rt.alloc());
-    trial.take(&rt, 0, ListName::Q000);
-    trial.take(&rt, 1048576, ListName::Q025);
-    trial.take(&rt, 2097152, ListName::Q050);
-    trial.take(&rt, 3145728, ListName::Q100);
-    trial.give(&rt, Some(ListName::Q075));
-    trial.give(&rt, Some(ListName::Q050));
-    trial.give(&rt, Some(ListName::Q025));
-    trial.give(&rt, None);
-    trial.take(&rt, 0, ListName::Q000);
-    assert_eq!(rt; trial.arena.takings(), 5);
-    trial.leave();
-}
-
-#[test]
 fn an_idle_subpage_stays_while_it_is_alone(rt: HostRuntime) {
     let mut arena = new_arena(&rt, rt.alloc(), 4, 1);
     let a = take(&rt, &mut arena, 38);
@@ -287,4 +212,9 @@ fn an_idle_subpage_stays_while_it_is_alone(rt: HostRuntime) {
     };
     assert_eq!(rt; arena.chunk_now(0), Some(end));
     arena.close();
+}
+
+#[test]
+fn a_region_is_small(rt: HostRuntime) {
+    assert!(rt; std::mem::size_of::<Region>() <= 72);
 }

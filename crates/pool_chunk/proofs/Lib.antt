@@ -9,3 +9,4 @@ pub mod NewSubpages
 pub mod PlaceLaws
 pub mod OutLaws
 pub mod StartLaws
+pub mod EightPages

@@ -79,3 +79,20 @@ fn what_is_given_back_is_merged(rt: HostRuntime) {
         }
     }
 }
+
+#[test]
+fn the_whole_ground_comes_back(rt: HostRuntime) {
+    let alloc = rt.alloc();
+    let (ground, deed) = Ground::new(alloc, 131072).expect(&rt, "ample memory");
+    match RunMap::new(alloc, 4, ground) {
+        Err(ground) => {
+            ground.close(deed);
+            panic!(rt; "ample memory");
+        }
+        Ok(map) => {
+            let whole = map.into_piece();
+            assert_eq!(rt; (whole.start(), whole.len()), (0, 131072));
+            whole.close(deed);
+        }
+    }
+}

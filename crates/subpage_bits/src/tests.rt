@@ -53,6 +53,14 @@ fn the_last_given_comes_first_and_then_the_lowest(rt: HostRuntime) {
 }
 
 #[test]
+fn an_idle_subpage_is_a_run_again(rt: HostRuntime) {
+    let (ground, deed) = Ground::new(rt.alloc(), 8192).expect(&rt, "ample memory");
+    let run = Subpage::of(ground, 2048).into_run();
+    assert_eq!(rt; (run.start(), run.len()), (0, 8192));
+    run.close(deed);
+}
+
+#[test]
 fn a_subpage_is_small(rt: HostRuntime) {
     assert!(rt; std::mem::size_of::<Subpage>() <= 1024);
 }

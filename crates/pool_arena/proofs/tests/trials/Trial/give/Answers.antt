@@ -1,7 +1,7 @@
 use Rattle.std.proofs.Common.{subst}
 use Rattle.pool_arena.specs.Trials.{IsTrial}
 use Rattle.pool_arena.proofs.TrialLaws.{given-trial}
-use Rattle.pool_arena.proofs.tests.Trial.give.Goals as goal
+use Rattle.pool_arena.proofs.tests.trials.Trial.give.Goals as goal
 
 pub invariant_of-self : goal.invariant_of-self
 invariant_of-self g c =

@@ -1,6 +1,6 @@
 use Rattle.std.proofs.Common.{length}
 use Rattle.std.specs.Bool.{⊤}
-use Rattle.pool_arena.proofs.tests.Trial.leave.Given as goal
+use Rattle.pool_arena.proofs.tests.trials.Trial.leave.Given as goal
 
 abbrev pub invariant-loop-region : goal.invariant-loop-region
 invariant-loop-region l = ⊤

@@ -1,7 +1,7 @@
 use Rattle.std.proofs.Common.{sym, subst}
 use Rattle.pool_arena.specs.Trials.{IsTrial}
 use Rattle.pool_arena.proofs.TrialLaws.{taken-trial}
-use Rattle.pool_arena.proofs.tests.Trial.take.Goals as goal
+use Rattle.pool_arena.proofs.tests.trials.Trial.take.Goals as goal
 
 pub invariant_of-self : goal.invariant_of-self
 invariant_of-self g c =
