@@ -1,4 +1,4 @@
--- The words of a line, one after another. No public clause cites this module.
+-- The words of a line, one after another.
 use Rattle.std.specs.Prelude.{List, [], ◌∷◌, ◌++◌}
 use Rattle.pool_law.specs.Text.{Text}
 

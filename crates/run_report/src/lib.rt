@@ -16,3 +16,4 @@ mod writer;
 
 pub use summary::summary_of;
 pub use text::text_of;
+pub use writer::Writer;

@@ -53,6 +53,13 @@ impl Writer {
         self.text.push_str(word)
     }
 
+    /// Appends a number as the first word of a line.
+    pub fn first_number(&mut self, number: u64) -> Result<(), AllocError>
+        ensures { OnOk result (self.new ≡ self.old ++ decimal number) }
+    {
+        write!(self.text, "{number}")
+    }
+
     /// Appends two numbers with a dot between them, as the first word of a line.
     pub fn first_dotted(&mut self, a: u64, b: u64) -> Result<(), AllocError>
         ensures { OnOk result (self.new ≡ self.old ++ dotted a b) }

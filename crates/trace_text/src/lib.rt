@@ -21,9 +21,11 @@ mod words;
 pub use forms::VIEW_LIMIT;
 pub use items::{RowNo, array_of, bytes_of, lane_number_of, name_of, number_of};
 pub use limits::{BYTE_LIMIT, COMMAND_LIMIT, LANE_LIMIT};
-pub use options::{OPTION_KEYS, VERSION_KEYS, level_from, level_named, number_from, page_from};
+pub use options::{
+    OPTION_KEYS, VERSION_KEYS, has_keys_of, level_from, level_named, number_from, page_from,
+};
 use pool_law::{Options, Trace};
-pub use reading::{TEXT_LIMIT, read_trace};
+pub use reading::{TEXT_LIMIT, read_trace, value_from};
 pub use words::{Word, word_from};
 
 /// What a text is read as.

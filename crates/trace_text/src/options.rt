@@ -111,7 +111,7 @@ fn options_from(object: &Value) -> Option<Options>
 
 /// Whether a value is an object, all of whose keys are among these.
 #[tactic(auto, unfolding(crate::specs::Options::has_keys_of))]
-fn has_keys_of(known: &[&str], value: &Value) -> bool
+pub fn has_keys_of(known: &[&str], value: &Value) -> bool
     ensures { result ≡ has_keys_of (map (λ key. key.now) known.now) (view value.now) }
 {
     match value.as_object() {

@@ -64,8 +64,8 @@ fn unstuck(alloc: Global, trace: Trace) -> Result<Trace, TraceNo>
     }
 }
 
-/// The JSON value of a text.
-fn value_from(alloc: Global, text: &[u8]) -> Result<Value, TraceNo>
+/// The JSON value of a text. It is refused as `Syntax`, or for want of memory.
+pub fn value_from(alloc: Global, text: &[u8]) -> Result<Value, TraceNo>
     ensures { GivesAs view result (value_of text.now) }
 {
     match Value::from_slice(alloc, text) {

@@ -13,11 +13,12 @@ use Rattle.trace_top.specs.declared.words.Generation.{Generation}
 use Rattle.trace_top.specs.declared.words.RunOptions.{RunOptions}
 use Rattle.trace_top.specs.declared.words.Origin.{Origin}
 use Rattle.trace_top.specs.declared.words.Origin.TheVariants.{Source, Generated}
-use Rattle.trace_top.specs.Ends.{Rose}
+use Rattle.text_ends.specs.Ends.{Rose}
 use Rattle.trace_top.specs.Pools.{Accepted, reading_for}
-use Rattle.trace_top.specs.Transfer.{ReadsText}
+use Rattle.text_ends.specs.Transfer.{ReadsText}
 use Rattle.trace_top.specs.Words.{options_of}
-use Rattle.trace_top.specs.Outcomes.{SourceSpan, SinkSpan, Explains, ExplainsOptions, ExplainsOrigin, ExplainsSource, ExplainsText, ExplainsRun, HaveOrigin, IsDone, IsRead, IsTaken, Completes, Refuses}
+use Rattle.text_ends.specs.Spans.{SourceSpan, SinkSpan, IsTaken}
+use Rattle.trace_top.specs.Outcomes.{Explains, ExplainsOptions, ExplainsOrigin, ExplainsSource, ExplainsText, ExplainsRun, HaveOrigin, IsDone, IsRead, Completes, Refuses}
 
 both_long : (words : Options) (a b : List ℕ) → text_limit < length a → text_limit < length b
     → reading_for words a ≡ reading_for words b

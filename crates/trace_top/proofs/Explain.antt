@@ -9,10 +9,11 @@ use Rattle.trace_top.specs.declared.words.Generation.{Generation}
 use Rattle.trace_top.specs.declared.words.RunOptions.{RunOptions}
 use Rattle.trace_top.specs.declared.words.Origin.{Origin}
 use Rattle.trace_top.specs.declared.words.Origin.TheVariants.{Source, Generated}
-use Rattle.trace_top.specs.Transfer.{ReadsText}
+use Rattle.text_ends.specs.Transfer.{ReadsText}
 use Rattle.trace_top.specs.Pools.{Accepted, reading_for}
 use Rattle.trace_top.specs.Words.{options_of}
-use Rattle.trace_top.specs.Outcomes.{SourceSpan, SinkSpan, IsUnread, Explains, ExplainsOptions, ExplainsOrigin, ExplainsGenerated, ExplainsSource, ExplainsText, ExplainsRun}
+use Rattle.text_ends.specs.Spans.{SourceSpan, SinkSpan, IsUnread}
+use Rattle.trace_top.specs.Outcomes.{Explains, ExplainsOptions, ExplainsOrigin, ExplainsGenerated, ExplainsSource, ExplainsText, ExplainsRun}
 
 pub of_run : (s : Status) (o : Outcome) (options : RunOptions) (text : List ℕ) (accepted : Accepted) (out : SinkSpan)
     → reading_for options.pool text ≡ Ok accepted → ExplainsRun s o options accepted out

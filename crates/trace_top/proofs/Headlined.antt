@@ -11,7 +11,8 @@ use Rattle.trace_top.specs.declared.words.RunOptions.{RunOptions}
 use Rattle.trace_top.specs.declared.words.Origin.{Origin}
 use Rattle.trace_top.specs.declared.words.Origin.TheVariants.{Source, Generated}
 use Rattle.trace_top.specs.Pools.{Accepted}
-use Rattle.trace_top.specs.Outcomes.{SourceSpan, SinkSpan, HasRun, Explains, ExplainsOptions, ExplainsOrigin, ExplainsSource, ExplainsText, ExplainsRun}
+use Rattle.text_ends.specs.Spans.{SourceSpan, SinkSpan}
+use Rattle.trace_top.specs.Outcomes.{HasRun, Explains, ExplainsOptions, ExplainsOrigin, ExplainsSource, ExplainsText, ExplainsRun}
 
 none_is : (run : Option Run) → run ≡ None → IfSome run HeadlineInOrder
 none_is run is = subst (λ (r : Option Run). IfSome r HeadlineInOrder) (sym is) tt

@@ -1,4 +1,3 @@
-pub mod Bytes
 pub mod Sums
 pub mod Places
 pub mod Runs

@@ -1,7 +1,3 @@
-pub mod Ends
-pub mod Memory
-pub mod Standard
-pub mod Transfer
 pub mod Settings
 pub mod Words
 pub mod WordForm

@@ -1,6 +1,6 @@
 -- What each status says: of the outcome, of what was read and of what was written.
 use Rattle.std.specs.Prelude.{◌≡◌, ◌≢◌, ◌⊎◌, Bool, ℕ, List, [], length, Option, Some, None, Ok, Err}
-use Rattle.std.specs.Io.KnownBytes.{Appends, Keeps}
+use Rattle.std.specs.Io.KnownBytes.{Appends}
 use Rattle.pool_law.specs.declared.run.Run.{Run}
 use Rattle.pool_law.specs.Text.{text_of}
 use Rattle.pool_law.specs.Summary.{summary_of}
@@ -14,55 +14,11 @@ use Rattle.trace_top.specs.declared.words.Origin.TheVariants.{Source, Generated}
 use Rattle.trace_top.specs.declared.answer.Status.{Status}
 use Rattle.trace_top.specs.declared.answer.Status.TheVariants.{Whole, Leaks, Words, Trace, ReadFault, WriteFault, Memory}
 use Rattle.trace_top.specs.declared.answer.Outcome.{Outcome}
-use Rattle.trace_top.specs.Ends.{Rose, TakesSome}
-use Rattle.trace_top.specs.Transfer.{ReadsText}
+use Rattle.text_ends.specs.Ends.{Rose, TakesSome}
+use Rattle.text_ends.specs.Transfer.{ReadsText}
+use Rattle.text_ends.specs.Spans.{SourceSpan, SinkSpan, IsUnread, IsUnwritten, IsTaken}
 use Rattle.trace_top.specs.Pools.{Accepted, reading_for, shape_of}
 use Rattle.trace_top.specs.Words.{options_of}
-
--- a source before and after a call
-pub record SourceSpan : Type 0 where
-  pub left : Option (List ℕ)
-  pub left_then : Option (List ℕ)
-  pub faults : ℕ
-  pub faults_then : ℕ
-
--- a sink before and after a call
-pub record SinkSpan : Type 0 where
-  pub got : Option (List ℕ)
-  pub got_then : Option (List ℕ)
-  pub faults : ℕ
-  pub faults_then : ℕ
-  pub empty : ℕ
-  pub empty_then : ℕ
-
--- a source of these meanings before and after a call
-abbrev pub source_span : {S : Type 0} → (S → Option (List ℕ)) → (S → ℕ) → S → S → SourceSpan
-source_span left faults old new =
-    record { left = left old; left_then = left new; faults = faults old; faults_then = faults new }
-
--- a sink of these meanings before and after a call
-abbrev pub sink_span :
-    {K : Type 0} → (K → Option (List ℕ)) → (K → ℕ) → (K → ℕ) → K → K → SinkSpan
-sink_span got faults empty old new =
-    record {
-      got = got old;
-      got_then = got new;
-      faults = faults old;
-      faults_then = faults new;
-      empty = empty old;
-      empty_then = empty new;
-    }
-
--- nothing was read
-pub record IsUnread (src : SourceSpan) : Type 0 where
-  pub left : Keeps src.left src.left_then
-  pub faults : src.faults_then ≡ src.faults
-
--- nothing was written
-pub record IsUnwritten (out : SinkSpan) : Type 0 where
-  pub got : Keeps out.got out.got_then
-  pub faults : out.faults_then ≡ out.faults
-  pub empty : out.empty_then ≡ out.empty
 
 -- the outcome has neither a run nor a refusal
 pub record IsBare (o : Outcome) : Type 0 where
@@ -177,11 +133,6 @@ pub record IsRead (words : List (List ℕ)) (src : SourceSpan) (text : List ℕ)
   pub words_are : HaveOrigin words Source
   pub told : src.left ≡ Some text
   pub faults : Rose src.faults src.faults_then → ⊥
-
--- the sink had no fault, and took something of each piece that isn't empty
-pub record IsTaken (out : SinkSpan) : Type 0 where
-  pub faults : Rose out.faults out.faults_then → ⊥
-  pub empty : Rose out.empty out.empty_then → ⊥
 
 -- a run was written, or there was no memory
 abbrev pub IsDone : Status → Type 0

@@ -4,25 +4,24 @@ ghost use Rattle.lane_core.specs.Played.{IsHeeded, IsPlayed};
 ghost use Rattle.order_laws.specs.HeadlineInOrder.{HeadlineInOrder};
 ghost use Rattle.trace_make.specs.Generated.{generated};
 ghost use Rattle.pool_law.specs.Traces.{AreLanes};
-ghost use Rattle.trace_top.specs.Outcomes.{Completes, Explains, ExplainsOptions, ExplainsRun, ExplainsSource, ExplainsText, Refuses, sink_span, source_span, text_for};
+ghost use Rattle.trace_top.specs.Outcomes.{Completes, Explains, ExplainsOptions, ExplainsRun, ExplainsSource, ExplainsText, Refuses, text_for};
+ghost use Rattle.text_ends.specs.Spans.{sink_span, source_span};
 ghost use Rattle.trace_text.specs.Options.{AreOptions};
 ghost use Rattle.trace_top.specs.Pools.{AreSound, shape_of};
 ghost use Rattle.trace_top.specs.Words.{IsGeneration, IsOrigin, options_of};
 
 use crate::answer::{Outcome, Status, bare};
-use crate::input::{Input, read_all};
-use crate::output::{Output, write_all};
 use crate::play::play;
 use crate::pools::shape;
 use crate::reading::read_for;
 use crate::words::{Generation, Origin, RunOptions, read_words};
-use crate::{Sink, Source};
 use lane_core::{Gate, Played};
 use pool_law::{Bytes, Options, Trace};
 use run_report::{summary_of, text_of};
 use std::alloc::{AllocError, Global};
 use std::sync::Wait;
 use std::thread::Threads;
+use text_ends::{Input, Output, Sink, Source, read_all, write_all};
 use trace_make::make;
 use trace_text::{Read, TraceNo};
 

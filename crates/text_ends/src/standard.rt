@@ -1,6 +1,6 @@
 //! The real ends, the program's trusted edge. They tell nothing of content.
 ghost use Rattle.std.specs.Prelude.{◌≡◌, ◌≤◌, None, IsErr};
-ghost use Rattle.trace_top.specs.Ends.{Rose};
+ghost use Rattle.text_ends.specs.Ends.{Rose};
 
 use crate::{Failed, Sink, Source};
 use std::io::{Read, Write};
@@ -14,7 +14,7 @@ pub struct StdSource<R: Read> {
 }
 
 impl<R: Read> Model for StdSource<R> {
-    ghost use Rattle.trace_top.specs.Standard.{StdReader};
+    ghost use Rattle.text_ends.specs.Standard.{StdReader};
 
     ghost Value = { StdReader };
 
@@ -55,7 +55,7 @@ pub struct StdSink<W: Write> {
 }
 
 impl<W: Write> Model for StdSink<W> {
-    ghost use Rattle.trace_top.specs.Standard.{StdWriter};
+    ghost use Rattle.text_ends.specs.Standard.{StdWriter};
 
     ghost Value = { StdWriter };
 

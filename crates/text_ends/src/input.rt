@@ -1,8 +1,8 @@
 //! Reading a source to its end.
 ghost use Rattle.std.specs.Prelude.{◌≡◌, ◌≤◌, ◌+◌, length, List, ℕ};
 ghost use Rattle.std.specs.declared.option.Option.{Option};
-ghost use Rattle.trace_top.specs.Ends.{Rose};
-ghost use Rattle.trace_top.specs.Transfer.{HasRead};
+ghost use Rattle.text_ends.specs.Ends.{Rose};
+ghost use Rattle.text_ends.specs.Transfer.{HasRead};
 
 use crate::Source;
 use std::alloc::Global;

@@ -1,6 +1,6 @@
 //! Writing a text to a sink.
 ghost use Rattle.std.specs.Prelude.{◌≡◌};
-ghost use Rattle.trace_top.specs.Transfer.{HasWritten};
+ghost use Rattle.text_ends.specs.Transfer.{HasWritten};
 
 use crate::Sink;
 

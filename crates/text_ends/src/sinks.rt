@@ -1,8 +1,8 @@
 //! Sinks in memory, for tests and for callers without files.
 ghost use Rattle.std.specs.Prelude.{◌≡◌, ◌-◌, ◌≤◌, ◌↔◌, [], Some, length, min, Contains, vec_capacity, IfOk, IsOk, IsErr, OnErr};
 ghost use Rattle.std.specs.Io.{WritesAtMost};
-ghost use Rattle.trace_top.specs.Ends.{CountsEmptyTakes, HasCause, TakesFront, next_count};
-ghost use Rattle.trace_top.specs.Memory.{ListWriter, SafeWriter, after_failed_write, after_safe_write, after_write};
+ghost use Rattle.text_ends.specs.Ends.{CountsEmptyTakes, HasCause, TakesFront, next_count};
+ghost use Rattle.text_ends.specs.Memory.{ListWriter, SafeWriter, after_failed_write, after_safe_write, after_write};
 
 use crate::{Failed, Sink};
 use std::alloc::{AllocError, Global};

@@ -3,7 +3,7 @@
 ghost use Rattle.std.specs.Prelude.{ℕ, List};
 ghost use Rattle.std.specs.declared.option.Option.{Option};
 ghost use Rattle.std.specs.Io.{ReadsAtMost, WritesAtMost};
-ghost use Rattle.trace_top.specs.Ends.{CountsEmptyTakes, GivesNext, HasCause, TakesFront};
+ghost use Rattle.text_ends.specs.Ends.{CountsEmptyTakes, GivesNext, HasCause, TakesFront};
 
 /// A read or a write that failed.
 #[derive(Clone, Copy, Debug, PartialEq, Eq)]

@@ -2,11 +2,11 @@
 use Rattle.std.specs.Prelude.{◌≡◌, ℕ, ◌+◌, ◌≤◌, ◌⊎◌, List, length, Option}
 use Rattle.std.specs.Io.KnownBytes.{Consumes, Appends, IsAtEnd}
 use Rattle.trace_text.specs.Reading.{text_limit}
-use Rattle.trace_top.specs.Ends.{Rose, TakesSome}
-use Rattle.trace_top.specs.declared.input.Input.{Input}
-use Rattle.trace_top.specs.declared.input.Input.TheVariants as inputs
-use Rattle.trace_top.specs.declared.output.Output.{Output}
-use Rattle.trace_top.specs.declared.output.Output.TheVariants as outputs
+use Rattle.text_ends.specs.Ends.{Rose, TakesSome}
+use Rattle.text_ends.specs.declared.input.Input.{Input}
+use Rattle.text_ends.specs.declared.input.Input.TheVariants as inputs
+use Rattle.text_ends.specs.declared.output.Output.{Output}
+use Rattle.text_ends.specs.declared.output.Output.TheVariants as outputs
 
 -- these bytes were read: all that were left, or the first of them up to one past the limit
 pub record ReadsText (old new : Option (List ℕ)) (text : List ℕ) : Type 0 where

@@ -1,8 +1,8 @@
 //! Sources in memory, for tests and for callers without files.
 ghost use Rattle.std.specs.Prelude.{◌≡◌, ◌+◌, ◌-◌, ◌^◌, ◌≤◌, ◌<◌, ◌↔◌, ◌++◌, ℕ, List, Some, length, min, take, drop, Contains, IfOk, IsOk, IsErr, OnErr};
 ghost use Rattle.std.specs.Io.{ReadsAtMost};
-ghost use Rattle.trace_top.specs.Ends.{GivesNext, HasCause, next_count};
-ghost use Rattle.trace_top.specs.Memory.{ListReader, after_failed_read, after_read};
+ghost use Rattle.text_ends.specs.Ends.{GivesNext, HasCause, next_count};
+ghost use Rattle.text_ends.specs.Memory.{ListReader, after_failed_read, after_read};
 
 use crate::{Failed, Source};
 use std::alloc::{AllocError, Global};

@@ -1,6 +1,6 @@
 -- Ends in memory: what each holds, and what a call leaves of it.
 use Rattle.std.specs.Prelude.{ℕ, List, ◌++◌, take, drop, if◌then◌else◌}
-use Rattle.trace_top.specs.Ends.{is_empty_take, next_count}
+use Rattle.text_ends.specs.Ends.{is_empty_take, next_count}
 
 -- a list that is read: what is left, the most that a read gives, the calls that fail, and counts
 pub record ListReader : Type 0 where

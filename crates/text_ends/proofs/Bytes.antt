@@ -4,7 +4,7 @@ use Rattle.std.proofs.Math.Seq.{take-append_seam, take-append-add}
 use Rattle.std.specs.Prelude.{Option, ◌==◌, ◌&&◌, nat_lt, false}
 use Rattle.std.specs.Bool.{MatchBool}
 use Rattle.std.proofs.lemmas.Bool.Decides.{nat_tests}
-use Rattle.trace_top.specs.Ends.{Rose}
+use Rattle.text_ends.specs.Ends.{Rose}
 use Rattle.std.specs.Io.KnownBytes.{Appends}
 use Rattle.std.proofs.KnownBytes.{Appends-trans}
 use Rattle.std.proofs.lemmas.List.{drop_all, take_all, drop-drop, take-append-drop}
