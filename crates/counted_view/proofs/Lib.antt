@@ -4,3 +4,4 @@ pub mod LiveLaws
 pub mod TreeLaws
 pub mod SeatLaws
 pub mod NestLaws
+pub mod RootLaws

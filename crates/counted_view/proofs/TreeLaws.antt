@@ -114,7 +114,7 @@ AreCounted-retained rows v x counted at lt few short =
 
 -- ---- A slice.
 
-push_cases : (rows : List Row) (y : Row) (k : ℕ) (z : Row) → slice_get (rows ++ y ∷ []) k ≡ Some z
+pub push_cases : (rows : List Row) (y : Row) (k : ℕ) (z : Row) → slice_get (rows ++ y ∷ []) k ≡ Some z
     → (slice_get rows k ≡ Some z) ⊎ ((k ≡ length rows) × (y ≡ z))
 push_cases [] y zero z e = inr (refl, same_Some y z e)
 push_cases [] y (suc k) z e = absurd (cc e)

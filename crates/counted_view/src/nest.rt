@@ -106,6 +106,7 @@ impl Nest {
         ensures answers { let no = release_no (held_view self.old v) in
             MatchResult result (λ end. no ≡ None) (λ refused. no ≡ Some refused) }
         ensures let_go { OnOk result (self.new ≡ after_call self.old (Release v)) }
+        ensures counted { OnOk result (0 < root_counts self.old) }
         ensures ended { IfOk result (λ end.
             end.ended + live_slices self.new ≡ live_slices self.old) }
         ensures released { IfOk result (λ end.
@@ -123,14 +124,24 @@ impl Nest {
         })
     }
 
-    /// Where `n` bytes of a view from `i` on lie in the root: their offset and length.
+    /// Where `n` bytes of a view from `i` on lie in the root: their offset and length. They lie in
+    /// it, and the nest counts it, so that a seat that counts it so may access them.
     pub fn range(&self, v: u32, i: u32, n: u32) -> Result<(u32, u32), NestNo>
         ensures range { IfOk result (λ range. IfSome (held_view self.now v) (λ x.
             range ≡ (root_index x.at i, n))) }
+        ensures inside { IfOk result (λ range. range.0 + range.1 ≤ self.now.root.capacity) }
+        ensures counts { OnOk result (0 < root_counts self.now) }
         ensures answers { let no = range_no (held_view self.now v) i n in
             MatchResult result (λ range. no ≡ None) (λ refused. no ≡ Some refused) }
     {
         self.tree.range(v, i, n)
+    }
+
+    /// How many views are live, the root among them.
+    pub fn live(&self) -> u32
+        ensures { result ≡ live_views self.now }
+    {
+        self.tree.live()
     }
 
     /// Spends a nest in which nothing is live.

@@ -1,7 +1,7 @@
 //! The rows of a nest, one for each view, and the way upwards from a view that was let go.
 
-ghost use Rattle.std.specs.Prelude.{◌≡◌, is_some, length, slice_get, vec_capacity};
-ghost use Rattle.counted_view.specs.Rows.{row_live, ended_parent, owed, AreCounted, IsOwing, HasClimbed};
+ghost use Rattle.std.specs.Prelude.{◌≡◌, ◌≤◌, is_some, length, slice_get, true, vec_capacity};
+ghost use Rattle.counted_view.specs.Rows.{row_live, live_rows, ended_parent, owed, AreCounted, IsOwing, HasClimbed};
 
 use byte_view::View;
 
@@ -27,6 +27,14 @@ fn is_live(row: &Row) -> bool
     ensures { result ≡ row_live row.now }
 {
     row.holds > 0 || row.live > 0
+}
+
+/// How many views are live.
+pub(crate) fn live_total(rows: &[Row]) -> u32
+    requires { length rows.now ≤ 4097 }
+    ensures { result ≡ live_rows (λ parent. true) rows.now }
+{
+    rows.iter().filter(|row| is_live(row)).count() as u32
 }
 
 // The view that a view was made from, if it is live no more.

@@ -3,14 +3,14 @@
 //! Each view knows which it was made from, and how many made from it live. So a release goes
 //! upwards: it costs the views that it ends.
 
-ghost use Rattle.std.specs.Prelude.{◌≡◌, ◌+◌, ◌≤◌, ◌==◌, false, length, IsSome, IfSome, IfOk, IfErr, MatchResult, Some, None, if◌then◌else◌};
+ghost use Rattle.std.specs.Prelude.{◌≡◌, ◌+◌, ◌<◌, ◌≤◌, ◌==◌, false, length, IsSome, IfSome, IfOk, IfErr, OnOk, MatchResult, Some, None, if◌then◌else◌};
 ghost use Rattle.pool_law.specs.Views.{slice_of, root_index};
-ghost use Rattle.counted_view.specs.Nests.{new_nest, after_call, held_view, root_counts, live_slices, has_all, range_no, slice_no, retain_no, release_no};
+ghost use Rattle.counted_view.specs.Nests.{new_nest, after_call, held_view, root_counts, live_slices, live_views, has_all, range_no, slice_no, retain_no, release_no};
 ghost use Rattle.counted_view.specs.Rows.{shown};
 ghost use Rattle.counted_view.specs.declared.calls.NestCall.TheVariants.{Slice, Retain, Release};
 
 use crate::calls::NestNo;
-use crate::rows::{Row, climb};
+use crate::rows::{Row, climb, live_total};
 use byte_view::View;
 use pool_law::RootId;
 use std::alloc::{AllocError, Global};
@@ -69,9 +69,18 @@ impl ViewTree {
         self.root
     }
 
+    /// How many views are live, the root among them.
+    pub(crate) fn live(&self) -> u32
+        ensures { result ≡ live_views self.now }
+    {
+        live_total(&self.rows)
+    }
+
     // The row of a view that is held.
     fn held(&self, number: u32) -> Result<&Row, NestNo>
         ensures ok { IfOk result (λ row. held_view self.now number ≡ Some (shown row.now)) }
+        ensures root { IfOk result (λ row. row.now.view.at.root ≡ self.now.root) }
+        ensures counts { OnOk result (0 < root_counts self.now) }
         ensures gone { IfErr result (λ no.
             (no ≡ NestNo.Gone) × (held_view self.now number ≡ None)) }
     {
@@ -88,6 +97,8 @@ impl ViewTree {
     pub(crate) fn range(&self, number: u32, start: u32, len: u32) -> Result<(u32, u32), NestNo>
         ensures ok { IfOk result (λ range. IfSome (held_view self.now number) (λ x.
             range ≡ (root_index x.at start, len))) }
+        ensures inside { IfOk result (λ range. range.0 + range.1 ≤ self.now.root.capacity) }
+        ensures counts { OnOk result (0 < root_counts self.now) }
         ensures answers { MatchResult result
             (λ range. range_no (held_view self.now number) start len ≡ None)
             (λ no. range_no (held_view self.now number) start len ≡ Some no) }
@@ -163,7 +174,8 @@ impl ViewTree {
 
     /// Whether a view can be let go.
     pub(crate) fn can_let_go(&self, number: u32) -> Result<(), NestNo>
-        ensures { MatchResult result (λ _. release_no (held_view self.now number) ≡ None)
+        ensures counts { OnOk result (0 < root_counts self.now) }
+        ensures answers { MatchResult result (λ _. release_no (held_view self.now number) ≡ None)
             (λ no. release_no (held_view self.now number) ≡ Some no) }
     {
         let _row = self.held(number)?;

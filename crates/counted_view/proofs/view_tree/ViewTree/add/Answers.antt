@@ -6,7 +6,11 @@ use Rattle.counted_view.specs.declared.calls.NestCall.TheVariants.{Slice}
 use Rattle.byte_view.specs.declared.view.View.{View}
 use Rattle.counted_view.specs.declared.rows.Row.{Row}
 use Rattle.counted_view.specs.Nests.{NestState, NestedView, made_from, held_view, has_all, after_call, root_counts, release_no, if_held}
+use Rattle.pool_law.specs.declared.id.RootId.{RootId}
+use Rattle.pool_law.specs.declared.id.ViewData.{ViewData}
 use Rattle.counted_view.specs.Rows.{shown, AreCounted, root_sum}
+use Rattle.counted_view.specs.Trees.{AreOf}
+use Rattle.counted_view.proofs.RootLaws.{AreOf-set, AreOf-push}
 use Rattle.counted_view.proofs.RowLaws.{one, live_rows-le-length}
 use Rattle.counted_view.proofs.ClimbLaws.{root_sum-more}
 use Rattle.counted_view.proofs.LiveLaws.{root_counts-rows}
@@ -29,6 +33,16 @@ overflow_add-index_mut c =
 abbrev slice : ℕ → View → Row
 slice v view = record { view = view; parent = Some v; holds = 1; live = 0 }
 
+-- a part of a view is one of its root
+part_root : (root : RootId) (rows : List Row) (v : ℕ) (x : Row) (view : View) (start len : ℕ)
+    → slice_get rows v ≡ Some x → 0 < x.holds
+    → IfSome (if_held (slice_get (map shown rows) v)) (λ (y : NestedView). view.at ≡ slice_of y.at start len)
+    → AreOf root rows → view.at.root ≡ root
+part_root root rows v x view start len at held part all =
+    let is : view.at ≡ slice_of x.view.at start len =
+    if_held_at rows v x (λ (y : NestedView). view.at ≡ slice_of y.at start len) at held part in
+    ap (λ (a : ViewData). a.root) is ∙ all v x at
+
 sliced : goal.invariant_of-self
 sliced c =
     let rows : List Row = c.self.inside.rows.items in let v = c.args.number in let x : Row = c.index_mut.result.now in
@@ -49,6 +63,14 @@ sliced c =
       counted =
           subst AreCounted (sym items) (AreCounted-sliced rows v x c.args.view known.counted at
           (let_held rows v x at lets));
+      roots =
+          subst (AreOf c.self.inside.root) (sym items)
+          (AreOf-push c.self.inside.root (set rows v (with_live_part x)) (slice v c.args.view)
+          (AreOf-set c.self.inside.root rows v x (with_live_part x) known.roots at refl)
+          (part_root c.self.inside.root rows v x c.args.view c.args.start c.args.len at (let_held rows v x at lets)
+          (subst (λ (s : NestState). IfSome (held_view s v)
+          (λ (y : NestedView). c.args.view.at ≡ slice_of y.at c.args.start c.args.len)) (sym c.self.view_is)
+          c.requires.part) known.roots));
       some = omega (arith, size);
       bound = known.bound;
       few = omega (arith, size, known.few, room-sliced c.self.inside.root c.self.inside.bound rows room);

@@ -5,6 +5,7 @@ use Rattle.counted_view.specs.declared.calls.NestCall.TheVariants.{Retain}
 use Rattle.counted_view.specs.declared.rows.Row.{Row}
 use Rattle.counted_view.specs.Nests.{NestState, NestedView, held_view, after_call, root_counts, retain_no, if_held}
 use Rattle.counted_view.specs.Rows.{shown, AreCounted}
+use Rattle.counted_view.proofs.RootLaws.{AreOf-set}
 use Rattle.counted_view.proofs.RowLaws.{one}
 use Rattle.counted_view.proofs.ClimbLaws.{root_sum-more}
 use Rattle.counted_view.proofs.LiveLaws.{root_counts-rows}
@@ -25,6 +26,7 @@ counted c =
     let known = c.self.invariant in
     record {
       counted = AreCounted-retained rows v x known.counted at held few (omega (arith, known.few, known.bound));
+      roots = AreOf-set c.self.inside.root rows v x (held_once_more x) known.roots at refl;
       some = omega (arith, known.some, length-set rows v (held_once_more x));
       bound = known.bound;
       few = omega (arith, known.few, length-set rows v (held_once_more x));

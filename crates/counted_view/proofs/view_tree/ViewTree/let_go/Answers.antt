@@ -1,10 +1,11 @@
-use Rattle.std.proofs.Common.{◌≡◌, ◌<◌, ℕ, ◌+◌, List, length, map, set, refl, sym, ap, ◌∙◌, subst, arith, Some, None}
+use Rattle.std.proofs.Common.{◌≡◌, ◌<◌, ℕ, ◌+◌, List, length, map, set, refl, sym, ap, ◌∙◌, subst, arith, Some, None, length-set}
 use Rattle.std.specs.Prelude.{◌==◌, is_some, slice_get}
 use Rattle.std.proofs.lemmas.Option.{slice_get_read}
 use Rattle.counted_view.specs.declared.calls.NestCall.TheVariants.{Release}
 use Rattle.counted_view.specs.declared.rows.Row.{Row}
 use Rattle.counted_view.specs.Nests.{NestState, NestedView, live_from, live_slices, held_view, after_call, root_counts, release_no, if_held}
 use Rattle.counted_view.specs.Rows.{shown, live_rows, owed}
+use Rattle.counted_view.proofs.RootLaws.{AreOf-set, AreOf-shown}
 use Rattle.counted_view.proofs.RowLaws.{one, live-held, live_rows-set}
 use Rattle.counted_view.proofs.ClimbLaws.{root_sum-less}
 use Rattle.counted_view.proofs.LiveLaws.{root_counts-rows, live_from-rows}
@@ -21,6 +22,26 @@ climb-climbed-requires c =
     c.index_mut.ensures.value in
     let known = c.self.invariant in
     IsOwing-released rows v x known.counted at (let_held rows v x at may) (omega (arith, known.few, known.bound))
+
+pub invariant_of-self : goal.invariant_of-self
+invariant_of-self c =
+    let rows : List Row = c.self.inside.rows.items in let v = c.args.number in let x : Row = c.index_mut.result.now in
+    let may : release_no (if_held (slice_get (map shown rows) v))
+    ≡ None = subst (λ (s : NestState). release_no (held_view s v) ≡ None) (sym c.self.view_is) c.requires in
+    let at : slice_get rows v ≡ Some x = slice_get_read rows (length rows) v x refl (let_within rows v may)
+    c.index_mut.ensures.value in
+    let root = c.self.inside.root in let known = c.self.invariant in let made = c.climb-climbed.ensures in
+    let size = length-set rows v (held_once_less x) in
+    record {
+      counted = made.counted;
+      roots =
+          AreOf-shown root (set rows v (held_once_less x)) c.climb-climbed.new.rows.items made.climbed.shown_is
+          (AreOf-set root rows v x (held_once_less x) known.roots at refl);
+      some = omega (arith, known.some, made.len, size);
+      bound = known.bound;
+      few = omega (arith, known.few, made.len, size);
+      room = omega (arith, known.room, made.room);
+    }
 
 pub returns-clause-state : goal.returns-clause-state
 returns-clause-state c =

@@ -1,0 +1,171 @@
+-- The release that ends the root, and what the seat notes then.
+use Rattle.std.proofs.Common.{◌≡◌, ◌≢◌, ℕ, ◌+◌, ◌-◌, ◌*◌, ◌^◌, ◌<◌, ◌≤◌, ◌⊎◌, Bool, true, false, ◌&&◌, ◌||◌, List, [], ◌∷◌, ◌++◌, length, map, refl, sym, ap, ◌∙◌, subst, inl, inr, ⊎_elim, arith, Some, None, eqb-true, eq-eqb, ne_eqb}
+use Rattle.std.specs.Prelude.{Option, IsSome, IfSome, ◌==◌, if◌then◌else◌, nat_lt, nat_le}
+use Rattle.std.proofs.lemmas.Bool.{lt-ltb, le-ltb}
+use Rattle.std.proofs.lemmas.Bool.Decides.{nat_tests}
+use Rattle.std.proofs.lemmas.Option.{same_Some}
+use Rattle.pool_law.specs.declared.id.RootId.{RootId}
+use Rattle.pool_law.specs.declared.note.Did.{Did}
+use Rattle.pool_law.specs.declared.note.Note.{Note}
+use Rattle.pool_law.specs.declared.note.Note.TheVariants.{At, Ref, Busy}
+use Rattle.pool_law.specs.declared.note.Object.{Object}
+use Rattle.pool_law.specs.declared.note.RefDid.TheVariants as steps
+use Rattle.pool_law.specs.Counts.{is_born, is_retain, is_release}
+use Rattle.pool_law.specs.Logs.{own_note}
+use Rattle.pool_law.specs.Roots.{laid_over, bytes_at}
+use Rattle.pool_law.specs.Views.{root_index, in_range}
+use Rattle.pool_law.proofs.HistoryLemmas.{append-assoc}
+use Rattle.pool_law.proofs.PatternLemmas.{same_root-refl}
+use Rattle.pool_table.specs.declared.roots.EndToken.{EndToken}
+use Rattle.pool_table.specs.Counts.{gained_of, lost_of, HasCount}
+use Rattle.pool_table.specs.Seats.{view_of}
+use Rattle.shared_pool.specs.declared.pool.SharedPool.{SharedPool}
+use Rattle.shared_pool.specs.RootNotes.{access}
+use Rattle.shared_pool.specs.Seats.{IsPoolSeat, IsNoted}
+use Rattle.seat_work.specs.Answers.{with_token}
+use Rattle.seat_work.specs.Changes.{no_change}
+use Rattle.seat_work.specs.Growth.{how_many}
+use Rattle.seat_work.specs.Hands.{empty_hand}
+use Rattle.seat_work.specs.Works.{Works, Goes, Proceeds}
+use Rattle.seat_work.proofs.Proceeding.{goes_on, works_after, proceeds_more}
+use Rattle.counted_view.specs.declared.calls.NestCall.{NestCall}
+use Rattle.counted_view.specs.declared.calls.NestCall.TheVariants as accepted
+use Rattle.counted_view.specs.declared.calls.NestNo.{NestNo}
+use Rattle.counted_view.specs.declared.calls.NestNo.TheVariants.{Full, Range}
+use Rattle.counted_view.specs.Nests.{NestedView, NestState, after_call, held_view, root_counts, live_slices, has_all, range_no, slice_no, retain_no, release_no}
+use Rattle.counted_view.specs.NestSeats.{CountsRoot, IsCountedIn, IsReleasedIf}
+use Rattle.counted_view.proofs.SeatLaws.{HasCount-held, some_if_sliced, some_if_retained}
+use Rattle.nest_run.specs.declared.calls.Call.{Call}
+use Rattle.nest_run.specs.declared.calls.Call.TheVariants.{Slice, Retain, Release, Set, Get}
+use Rattle.nest_run.specs.declared.replies.Reply.{Reply}
+use Rattle.nest_run.specs.declared.replies.Reply.TheVariants as replies
+use Rattle.nest_run.specs.declared.views.Play.{Play}
+use Rattle.nest_run.specs.Inputs.{capacity_limit, call_limit}
+use Rattle.nest_run.specs.Plays.{Stage, step, let_go, released}
+use Rattle.nest_run.specs.Standing.{log_of, dids_of, Leave, IsWhole, HasBytes, stage_of, AreHeld, Stands, IsRight, IsPlayed, HasEnded, is_elsewhere, refusal}
+use Rattle.nest_run.proofs.LogLaws.{whole_before, bytes_kept, bytes_set, bytes_got, bytes_read, bytes_ended, leave_same}
+use Rattle.nest_run.proofs.StepLaws.{view_done, view_refused, range_done, range_refused, release_not_full, range_not_full, slice_is_range, retain_is_release, after_held, after_long}
+use Rattle.nest_run.proofs.SeatLogs.{Took, took, Kept, kept, Last, ended, log_noted, counts_change}
+use Rattle.nest_run.proofs.PlayLaws.{stands_after, release_step}
+
+-- ---- The root's end.
+
+elsewhere_none : (n : Note) → is_elsewhere n ≡ true → own_note (Object.Root 0) n ≡ []
+elsewhere_none (At (Object.Arena number) k did) e = refl
+elsewhere_none (At (Object.Cache lane class) k did) e = absurd (cc e)
+elsewhere_none (At (Object.Bin lane) k did) e = refl
+elsewhere_none (At (Object.Mail from to) k did) e = absurd (cc e)
+elsewhere_none (At (Object.Root place) k did) e = absurd (cc e)
+elsewhere_none (Ref root did) e = absurd (cc e)
+elsewhere_none (Busy held) e = absurd (cc e)
+
+-- notes that bring no count and take none
+record IsCountless (root : RootId) (n : Note) : Type 0 where
+  pub born : is_born root n ≡ false
+  pub retained : is_retain root n ≡ false
+  pub released : is_release root n ≡ false
+
+elsewhere_countless : (root : RootId) (n : Note) → is_elsewhere n ≡ true → IsCountless root n
+elsewhere_countless root (At object k did) e = record { born = refl; retained = refl; released = refl }
+elsewhere_countless root (Ref r did) e = absurd (cc e)
+elsewhere_countless root (Busy held) e = absurd (cc e)
+
+vacated_countless : (root : RootId) → IsCountless root (Ref root steps.Vacated)
+vacated_countless root = record { born = refl; retained = refl; released = vacated (same_root-refl root) }
+  where
+    vacated : {b : Bool} → b ≡ true → (b && false) ≡ false
+    vacated {b} e = ap (λ (t : Bool). t && false) e
+
+-- the notes of the end
+abbrev end_notes : RootId → ℕ → Note → Note → List Note
+end_notes root k first second =
+    At (Object.Root root.place) k (Did.End root) ∷ Ref root steps.Vacated ∷ first ∷ second ∷ []
+
+four_none : (test : Note → Bool) (a b c d : Note) → test a ≡ false → test b ≡ false → test c ≡ false → test d ≡ false
+    → how_many test (a ∷ b ∷ c ∷ d ∷ []) ≡ 0
+four_none test a b c d p q r s =
+    (λ i. (if p i then 1 else 0) + ((if q i then 1 else 0) + ((if r i then 1 else 0) + ((if s i then 1 else 0) + 0))))
+
+end_leaves : (log : List Note) (root : RootId) (k n : ℕ) (first second : Note) → is_elsewhere first ≡ true
+    → is_elsewhere second ≡ true → Leave log root n → Leave (log ++ end_notes root k first second) root n
+end_leaves log root k n first second e f left =
+    let over : Note = At (Object.Root root.place) k (Did.End root) in let vacated : Note = Ref root steps.Vacated in
+    let v = vacated_countless root in let a = elsewhere_countless root first e in
+    let b = elsewhere_countless root second f in
+    leave_same log (end_notes root k first second) root n
+    (four_none (is_born root) over vacated first second refl v.born a.born b.born)
+    (four_none (is_retain root) over vacated first second refl v.retained a.retained b.retained)
+    (four_none (is_release root) over vacated first second refl v.released a.released b.released) left
+
+rest_quiet : (root : RootId) (first second : Note) → is_elsewhere first ≡ true → is_elsewhere second ≡ true
+    → dids_of (Ref root steps.Vacated ∷ first ∷ second ∷ []) ≡ []
+rest_quiet root first second e f =
+    (λ i. map_snd (elsewhere_none first e i ++ (elsewhere_none second f i ++ [])))
+  where
+    map_snd : List (ℕ × Did) → List Did
+    map_snd xs = map (λ (x : ℕ × Did). x.1) xs
+
+-- no bytes are left behind it
+end_bytes : (log : List Note) (root : RootId) (k : ℕ) (first second : Note) (bytes : List ℕ) → root.place ≡ 0
+    → is_elsewhere first ≡ true → is_elsewhere second ≡ true
+    → HasBytes (log ++ end_notes root k first second) bytes
+end_bytes log root k first second bytes place e f =
+    let rest : List Note = Ref root steps.Vacated ∷ first ∷ second ∷ [] in
+    subst (λ (p : ℕ). HasBytes (log ++ At (Object.Root p) k (Did.End root) ∷ rest) bytes) (sym place)
+    (subst (λ (ns : List Note). HasBytes ns bytes) (append-assoc log (At (Object.Root 0) k (Did.End root) ∷ []) rest)
+    (bytes_kept (log ++ At (Object.Root 0) k (Did.End root) ∷ []) rest bytes (rest_quiet root first second e f)
+    (bytes_ended log k root bytes)))
+
+module _ (pool : SharedPool) (old mid new : Play) (of count : ℕ) (st : Stands pool 1 old) (same : new.root ≡ old.root)
+    (why : release_no (held_view old.nest of) ≡ None) (after : mid.nest ≡ after_call old.nest (accepted.Release of))
+    (some : 0 < root_counts old.nest) (sum : count + live_slices mid.nest ≡ live_slices old.nest)
+    (still : new.nest ≡ mid.nest) (seat : IsPoolSeat pool mid.seat) (counts : CountsRoot mid.nest mid.seat)
+    (token : EndToken) (lost : Bool) (did : IsReleasedIf lost old.nest.root (Some token) old.seat mid.seat) where
+  pub root_same : mid.nest.root ≡ old.nest.root
+  root_same = ap (λ (s : NestState). s.root) after
+
+  pub last : Last pool old.nest mid.nest old.seat mid.seat st.works seat root_same st.counts counts some token
+  last = ended pool old.nest mid.nest old.seat mid.seat st.works seat root_same st.counts counts some lost token did
+
+  -- the seat may end the root
+  pub end_works : Works pool (with_token token.root) 4 0 mid.seat
+  end_works =
+      subst (λ (r : RootId). Works pool (with_token r) 4 0 mid.seat) (sym last.root_is)
+      (works_after pool empty_hand (with_token old.nest.root) 4 1 0 0 4 0 old.seat mid.seat st.works
+      last.proceeds.goes (omega arith) (omega arith))
+
+  pub ended_played : Proceeds pool empty_hand 4 0 no_change mid.seat new.seat → HasEnded token.root mid.seat new.seat
+      → IsPlayed pool (Release of) old (let_go count true) new
+  ended_played on end =
+      let root : RootId = old.nest.root in let is = last.root_is in
+      let notes : List Note = end_notes root end.number end.first end.second in
+      let log : log_of new.seat ≡ log_of mid.seat ++ notes =
+      end.notes ∙ ap (λ (r : RootId). log_of mid.seat ++ end_notes r end.number end.first end.second) is in
+      let goes = goes_on pool (with_token root) empty_hand 0 0 4 0 4 1 old.seat mid.seat new.seat last.proceeds.goes
+      on.goes (omega arith) (omega arith) in
+      let after_end : new.nest ≡ after_call old.nest (accepted.Release of) = still ∙ after in
+      let now : CountsRoot mid.nest new.seat =
+      (let a = on.changes.counts mid.nest.root in let b = counts in omega (arith, a, b)) in
+      let counted : CountsRoot new.nest new.seat =
+      subst (λ (s : NestState). CountsRoot s new.seat) (sym still) now in
+      let whole_mid = λ (w : IsWhole (log_of new.seat)).
+      whole_before (log_of mid.seat) notes (subst IsWhole log w) in
+      record {
+        next = λ calls from. stands_after pool old new calls from goes counted same
+            (λ left. subst (λ (ns : List Note). Leave ns root (root_counts new.nest)) (sym log)
+            (end_leaves (log_of mid.seat) root end.number (root_counts new.nest) end.first end.second
+            end.first_is end.second_is
+            (subst (λ (s : NestState). Leave (log_of mid.seat) root (root_counts s)) (sym still) (last.leave left))))
+            (accepted.Release of) after_end;
+        whole = λ w. whole_before (log_of old.seat) (Ref root steps.Ended ∷ []) (subst IsWhole last.log (whole_mid w));
+        right = λ w bytes has. record {
+          then_bytes = bytes;
+          step_is =
+              release_step old.nest mid.nest of count true bytes why after sum
+              (eq-eqb (root_counts mid.nest) 0 (last.last st.leave (whole_mid w)))
+              ∙ ap (λ (s : NestState). (let_go count true, stage_of s bytes)) (sym still);
+          has = subst (λ (ns : List Note). HasBytes ns bytes) (sym log)
+              (end_bytes (log_of mid.seat) root end.number end.first end.second bytes st.place
+              end.first_is end.second_is);
+        };
+      }

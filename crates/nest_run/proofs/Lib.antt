@@ -1,0 +1,15 @@
+pub mod OutcomeLaws
+pub mod OneLane
+pub mod LogLaws
+pub mod StepLaws
+pub mod SeatLogs
+pub mod PlayLaws
+pub mod EndLaws
+pub mod AccessLaws
+pub mod RefusalLaws
+pub mod OpenLaws
+pub mod CloseLaws
+pub mod CallLaws
+pub mod HeldLaws
+pub mod EndSteps
+pub mod RowSteps
