@@ -13,8 +13,9 @@ use Rattle.pool_law.specs.Arenas.{Arena, new_arena, chunk_at, take, give, given_
 use Rattle.pool_law.specs.Histories.{after, arena_after}
 use Rattle.arena_law.specs.Slots.{IsSlot, IsSound, EachOf, EachTwo, IsLocated, BeginElsewhere, ArenaHolds, AreApart, OutApart}
 use Rattle.arena_law.proofs.SlotLemmas.{slots-apart}
-use Rattle.arena_law.proofs.ArenaSteps.{take-holds}
-use Rattle.arena_law.proofs.GiveSteps.{Kept, NotAt, given_place-is, any-one, IsOne, EachOf-one, EachOf-filter, EachTwo-filter, others-elsewhere}
+use Rattle.arena_law.proofs.ElementTakes.{take-holds}
+use Rattle.arena_law.proofs.GiveSteps.{Kept, IsOne}
+use Rattle.arena_law.proofs.ElementGives.{NotAt, given_place-is, any-one, EachOf-one, EachOf-filter, EachTwo-filter, others-elsewhere}
 use Rattle.std.proofs.lemmas.Bool.{cond_both}
 
 pub and-first : (a b : Bool) → (a && b) ≡ true → a ≡ true

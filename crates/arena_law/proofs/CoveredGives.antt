@@ -16,9 +16,11 @@ use Rattle.arena_law.specs.Slots.{IsElement, IsSlot, ElementsFit}
 use Rattle.arena_law.specs.Covered.{EachUsed, IsTakenAt, IsCovered}
 use Rattle.pool_law.proofs.ListLemmas.{slice_get-set_same, slice_get-set_other, slice_get-below}
 use Rattle.arena_law.proofs.SlotLemmas.{times-next}
-use Rattle.arena_law.proofs.ChunkSteps.{size_at-pos, pages-pos, one-page, times-one}
+use Rattle.arena_law.proofs.ChunkSteps.{size_at-pos, pages-pos, one-page}
+use Rattle.arena_law.proofs.ElementChanges.{times-one}
 use Rattle.arena_law.proofs.FrontSteps.{Here}
-use Rattle.arena_law.proofs.GiveSteps.{Kept, NotAt, total-here, element_back-is, small_given-element, whole-page}
+use Rattle.arena_law.proofs.GiveSteps.{Kept, total-here}
+use Rattle.arena_law.proofs.ElementGives.{NotAt, element_back-is, small_given-element, whole-page}
 use Rattle.arena_law.proofs.ArenaLaw.{same_taking-place}
 use Rattle.arena_law.proofs.ReturnLaw.{IsOne-filter}
 use Rattle.arena_law.proofs.UsedSteps.{UsedAt, with_elements-same, with_elements-now, with_elements-new, run_given-same, run_given-unused}

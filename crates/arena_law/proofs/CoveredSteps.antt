@@ -16,7 +16,8 @@ use Rattle.pool_law.proofs.ListLemmas.{slice_get-set_other}
 use Rattle.arena_law.proofs.ChunkSteps.{same_or-not}
 use Rattle.arena_law.proofs.FrontSteps.{Here, here-or_not}
 use Rattle.arena_law.proofs.ElementSteps.{none-out}
-use Rattle.arena_law.proofs.ArenaSteps.{elements_at-is, opened-holds, RunTaken, take_run-is, take_class-is, new-subpage}
+use Rattle.arena_law.proofs.ArenaSteps.{opened-holds, RunTaken, take_run-is}
+use Rattle.arena_law.proofs.ElementTakes.{elements_at-is, take_class-is, new-subpage}
 use Rattle.arena_law.proofs.ArenaLaw.{no_chunk}
 use Rattle.arena_law.proofs.ReturnLaw.{IsOne-front, IsOne-last}
 use Rattle.arena_law.proofs.UsedSteps.{UsedAt, SameBut, with_run-same, with_run-now, with_elements-same, with_elements-now, opened-same, opened-after, take_run-by}

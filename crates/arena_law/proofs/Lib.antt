@@ -1,11 +1,14 @@
 pub mod SlotLemmas
 pub mod ChunkSteps
+pub mod ElementChanges
 pub mod RunsBack
 pub mod ListSteps
 pub mod FrontSteps
 pub mod ElementSteps
 pub mod ArenaSteps
+pub mod ElementTakes
 pub mod GiveSteps
+pub mod ElementGives
 pub mod UsedSteps
 pub mod OrderlyParts
 pub mod OrderlySteps

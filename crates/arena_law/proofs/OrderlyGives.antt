@@ -14,12 +14,14 @@ use Rattle.pool_law.specs.Arenas.{Arena, chunk_at, with_elements, with_front, fr
 use Rattle.arena_law.specs.Slots.{IsSlot}
 use Rattle.arena_law.specs.Orderly.{has_spot, IsOrderly}
 use Rattle.pool_law.proofs.ListLemmas.{slice_get-set_same, slice_get-below, slice_set-length}
-use Rattle.arena_law.proofs.ChunkSteps.{Elsewhere, StillOut}
+use Rattle.arena_law.proofs.ChunkSteps.{Elsewhere}
+use Rattle.arena_law.proofs.ElementChanges.{StillOut}
 use Rattle.arena_law.proofs.ListSteps.{left-in, moved-in, down-other}
 use Rattle.arena_law.proofs.FrontSteps.{spot-first, without-same, without-differ, front-same, once-with, others-with, others-without}
 use Rattle.arena_law.proofs.ElementSteps.{not-full}
 use Rattle.arena_law.proofs.ArenaSteps.{chunk_at-below}
-use Rattle.arena_law.proofs.GiveSteps.{Kept, total-here, run_given-is, with_back-good, small_given-element, whole-page}
+use Rattle.arena_law.proofs.GiveSteps.{Kept, total-here, run_given-is}
+use Rattle.arena_law.proofs.ElementGives.{with_back-good, small_given-element, whole-page}
 use Rattle.arena_law.proofs.UsedSteps.{UsedAt, SameBut, with_elements-same, with_elements-new, run_given-same, run_given-unused}
 use Rattle.arena_law.proofs.OrderlyParts.{Listed, begins-listed, listed-with, Roomy, small-below, OnlyOf, spotted-step, spotted-of, orderly-from, orderly-same}
 use Rattle.arena_law.proofs.OrderlySteps.{with_elements-kept, with_elements-listed, with_elements-only, with_elements-before}

@@ -15,7 +15,8 @@ use Rattle.pool_law.specs.Histories.{after, arena_after}
 use Rattle.arena_law.specs.Slots.{IsSlot, IsLocated, ArenaHolds}
 use Rattle.arena_law.specs.Orderly.{IsOrderly}
 use Rattle.pool_law.proofs.SameLemmas.{same_place-is}
-use Rattle.arena_law.proofs.GiveSteps.{any-one, IsOne, EachOf-one}
+use Rattle.arena_law.proofs.GiveSteps.{IsOne}
+use Rattle.arena_law.proofs.ElementGives.{any-one, EachOf-one}
 use Rattle.arena_law.proofs.ArenaLaw.{and-first, same_taking-place, step-holds, new-holds}
 use Rattle.arena_law.proofs.OrderlyTakes.{new-orderly, take-orderly}
 use Rattle.arena_law.proofs.OrderlyGives.{give-orderly}

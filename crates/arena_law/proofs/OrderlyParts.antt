@@ -16,7 +16,8 @@ use Rattle.arena_law.specs.Orderly.{has_spot, SpotsDiffer, HasRoom, chunk_of, Is
 use Rattle.pool_law.proofs.ListLemmas.{slice_get-set_same, slice_get-set_other}
 use Rattle.arena_law.proofs.ChunkSteps.{same_or-not}
 use Rattle.arena_law.proofs.FrontSteps.{Here, here-or_not}
-use Rattle.arena_law.proofs.ArenaSteps.{elements_at-is, not_empty}
+use Rattle.arena_law.proofs.ArenaSteps.{not_empty}
+use Rattle.arena_law.proofs.ElementTakes.{elements_at-is}
 use Rattle.arena_law.proofs.UsedSteps.{UsedAt, SameBut}
 
 -- ---- chunks in lists

@@ -14,7 +14,8 @@ use Rattle.pool_law.specs.Arenas.{Arena, chunk_at, with_run, opened, first_unuse
 use Rattle.arena_law.specs.Slots.{ElementsFit, ArenaHolds}
 use Rattle.arena_law.specs.Orderly.{has_spot, IsOrderly}
 use Rattle.pool_law.proofs.ListLemmas.{slice_set-length}
-use Rattle.arena_law.proofs.ChunkSteps.{Always, run_taken-keeps, elements-keeps, elements_to, StillOut, next_element-is}
+use Rattle.arena_law.proofs.ChunkSteps.{Always, run_taken-keeps}
+use Rattle.arena_law.proofs.ElementChanges.{elements-keeps, elements_to, StillOut, next_element-is}
 use Rattle.arena_law.proofs.ListSteps.{up-in, up-other, entered-in, entered-other}
 use Rattle.arena_law.proofs.FrontSteps.{spot-first, without-same, without-differ, front-same, once-with, others-with, others-without}
 use Rattle.arena_law.proofs.ElementSteps.{not-full}

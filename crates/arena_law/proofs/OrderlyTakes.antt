@@ -15,7 +15,7 @@ use Rattle.arena_law.specs.Slots.{ArenaHolds}
 use Rattle.arena_law.specs.Orderly.{has_spot, SpotsDiffer, HasRoom, IsOrderly}
 use Rattle.arena_law.proofs.FrontSteps.{spot-first, front-same}
 use Rattle.arena_law.proofs.ElementSteps.{next-there, new-has_room}
-use Rattle.arena_law.proofs.ArenaSteps.{elements_at-is, new-subpage, pages_of-pos}
+use Rattle.arena_law.proofs.ElementTakes.{elements_at-is, new-subpage, pages_of-pos}
 use Rattle.arena_law.proofs.ArenaLaw.{new-holds}
 use Rattle.arena_law.proofs.OrderlyParts.{small-below, orderly-from, orderly-same}
 use Rattle.arena_law.proofs.UsedSteps.{take_run-by}

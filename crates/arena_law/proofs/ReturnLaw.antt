@@ -13,8 +13,9 @@ use Rattle.pool_law.specs.Arenas.{Arena, new_arena, take_class, noted_taking, ta
 use Rattle.pool_law.specs.Histories.{after}
 use Rattle.arena_law.specs.Slots.{EachTwo, ArenaHolds, AreApart, OutApart}
 use Rattle.arena_law.specs.Returns.{gives, ComesBackBetween}
-use Rattle.arena_law.proofs.ArenaSteps.{ClassTaken, take_class-is}
-use Rattle.arena_law.proofs.GiveSteps.{IsOne, EachOf-one}
+use Rattle.arena_law.proofs.ElementTakes.{ClassTaken, take_class-is}
+use Rattle.arena_law.proofs.GiveSteps.{IsOne}
+use Rattle.arena_law.proofs.ElementGives.{EachOf-one}
 use Rattle.arena_law.proofs.ArenaLaw.{step-holds, after-holds, new-holds, pairs-apart}
 use Rattle.pool_law.proofs.SameLemmas.{same_region-is}
 use Rattle.std.proofs.lemmas.Bool.{cond_both, true_from_ne_false}

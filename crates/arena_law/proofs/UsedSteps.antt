@@ -14,7 +14,8 @@ use Rattle.pool_law.specs.ChunkLists.{lists_below, sunk, down_to, list_of, walk}
 use Rattle.pool_law.specs.Arenas.{Arena, Spotted, chunk_at, with_run, opened, first_holding, first_unused, run_from, run_from_new, run_taken, take_run, with_elements, unless_gone, run_given}
 use Rattle.arena_law.specs.Slots.{IsSound}
 use Rattle.pool_law.proofs.ListLemmas.{slice_get-set_same, slice_get-below}
-use Rattle.arena_law.proofs.ChunkSteps.{elements_to, pages-pos, run_given-sound, run_given-total, same_or-not}
+use Rattle.arena_law.proofs.ChunkSteps.{pages-pos, run_given-sound, run_given-total, same_or-not}
+use Rattle.arena_law.proofs.ElementChanges.{elements_to}
 use Rattle.arena_law.proofs.RunsBack.{taken-back, given-back, given-keeps, changed-back}
 use Rattle.arena_law.proofs.FrontSteps.{Here}
 use Rattle.arena_law.proofs.ArenaSteps.{chunk_at-same, chunk_at-other, chunk_at-below, first_unused-is, first_holding-is}

@@ -7,6 +7,7 @@ use Rattle.size_classes.specs.Sizes.{IsPage, below, chunk_bytes}
 use Rattle.pool_law.specs.declared.note.Object.{Object}
 use Rattle.pool_law.specs.declared.note.Did.{Did}
 use Rattle.pool_law.specs.declared.id.RootId.{RootId}
+use Rattle.pool_law.specs.declared.id.Parcel.{Parcel}
 use Rattle.pool_law.specs.declared.command.Command.{Command}
 use Rattle.pool_law.specs.declared.report.ChunkEnd.{ChunkEnd}
 use Rattle.pool_law.specs.declared.report.Leak.{Leak}
@@ -22,7 +23,7 @@ use Rattle.pool_law.specs.Leaks.{leaks_of}
 use Rattle.pool_law.specs.Legal.{AreCommands, all_fit, logs_of, replies_of, ends_from, IsLegal}
 use Rattle.pool_law.proofs.SameLemmas.{and-first, and-second}
 use Rattle.law_rows.proofs.Lanes.{all_from, all_lanes, each_from, each_lane}
-use Rattle.law_rows.proofs.HistoriesComputed.{objects_of, objects_pass, object_passes, noted_at, numbered_at, histories}
+use Rattle.law_rows.proofs.HistoriesComputed.{objects_of, objects_pass, object_passes, noted_at, numbered_at, post_numbers, numbers_wanted, fetches_at, fetches_wanted, histories}
 use Rattle.law_rows.proofs.RootTests.{roots_of, roots_pass, root_passes}
 use Rattle.law_rows.proofs.CountsComputed.{counts}
 use Rattle.law_rows.proofs.MarksComputed.{object_marks, marks_pass, busy}
@@ -100,6 +101,8 @@ pub record Findings : Type 0 where
   pub objects_named : Bool
   pub objects : List Bool
   pub histories : List (List (List (ℕ × Did)))
+  pub post_numbers : List (List ℕ)
+  pub fetches : List (List (ℕ × Parcel))
   pub stand : Bool
   pub roots_named : Bool
   pub roots : List Bool
@@ -125,6 +128,8 @@ found_in run logs entries objects roots =
       objects_named = all_from (objects_pass objects) 0 logs;
       objects = map (object_passes run.shape logs) objects;
       histories = map (noted_at logs) objects;
+      post_numbers = map (post_numbers logs) objects;
+      fetches = map (fetches_at logs) objects;
       stand = all_from (λ lane log. list_all (note_stands run.shape lane) log) 0 logs;
       roots_named = all_from (roots_pass roots) 0 entries;
       roots = map (root_passes entries) roots;
@@ -147,6 +152,8 @@ wanted_in run logs objects roots =
       objects_named = true;
       objects = yes_to objects;
       histories = map (numbered_at logs) objects;
+      post_numbers = map (numbers_wanted logs) objects;
+      fetches = map (fetches_wanted logs) objects;
       stand = true;
       roots_named = true;
       roots = yes_to roots;
@@ -282,7 +289,8 @@ module _ (run : Run) (same : found run ≡ wanted run) where
     commands = commands-fit;
     histories =
         histories run.shape logs objects (ap (λ f. f.objects_named) same) (ap (λ f. f.objects) same)
-        (ap (λ f. f.histories) same) (ap (λ f. f.stand) same);
+        (ap (λ f. f.histories) same) (ap (λ f. f.post_numbers) same) (ap (λ f. f.fetches) same)
+        (ap (λ f. f.stand) same);
     counts = counts entries roots (ap (λ f. f.roots_named) same) (ap (λ f. f.roots) same);
     answers = lane_log;
     busy = busy logs objects (ap (λ f. f.objects_named) same) (ap (λ f. f.fit) same) (ap (λ f. f.marks) same);

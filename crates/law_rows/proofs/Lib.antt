@@ -6,3 +6,4 @@ mod CountsComputed
 mod MarksComputed
 mod LegalComputed
 mod OrderedSteps
+pub mod MailRows

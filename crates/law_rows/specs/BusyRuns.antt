@@ -63,7 +63,7 @@ trying_log =
           ∷ answered Reply.Freed 5
           ∷ [];
       notes =
-          mail 0 1 2 (fetch whole_four)
+          mail 0 1 1 (fetch whole_four)
           ∷ mark (Object.Root 0) 1
           ∷ root_place 0 3 (Did.Get 0 (0 ∷ []))
           ∷ Ref four RefDid.Ended
@@ -142,7 +142,7 @@ putting_log =
     record {
       replies = answered Reply.Ok 1 ∷ answered Reply.Freed 5 ∷ [];
       notes =
-          mail 0 1 2 (fetch whole_four)
+          mail 0 1 1 (fetch whole_four)
           ∷ Ref four RefDid.Ended
           ∷ root_place 0 2 (Did.End four)
           ∷ Ref four RefDid.Vacated

@@ -19,4 +19,4 @@ sent = alone (mail 0 1 1 (post whole_four))
 
 -- the parcel with it, as it comes
 abbrev pub came : Entry
-came = alone (mail 0 1 2 (fetch whole_four))
+came = alone (mail 0 1 1 (fetch whole_four))

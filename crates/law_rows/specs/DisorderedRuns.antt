@@ -46,7 +46,7 @@ self_sender_log =
           ∷ cache 0 0 3 (Did.Hit (least_region 1))
           ∷ root_place 1 1 (Did.Birth second (least_region 2))
           ∷ Ref second RefDid.Born
-          ∷ mail 0 0 2 (fetch whole_four)
+          ∷ mail 0 0 1 (fetch whole_four)
           ∷ Ref four (RefDid.Look 1)
           ∷ Ref four RefDid.Kept
           ∷ Ref second RefDid.Ended
@@ -123,7 +123,7 @@ abbrev pub late_ender_log : LaneLog
 late_ender_log =
     record ending_log {
       notes =
-          mail 0 1 2 (fetch whole_four)
+          mail 0 1 1 (fetch whole_four)
           ∷ Ref four RefDid.Ended
           ∷ root_place 0 4 (Did.End four)
           ∷ Ref four RefDid.Vacated

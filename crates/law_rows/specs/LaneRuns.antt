@@ -55,7 +55,7 @@ receiver_log =
           ∷ answered Reply.Freed 5
           ∷ [];
       notes =
-          mail 0 1 2 (fetch whole_four)
+          mail 0 1 1 (fetch whole_four)
           ∷ root_place 0 3 (Did.Get 0 (10 ∷ 11 ∷ []))
           ∷ Ref four RefDid.Ended
           ∷ root_place 0 4 (Did.End four)
@@ -122,7 +122,7 @@ empty_handed_log =
           ∷ answered Reply.Unbound 0
           ∷ [];
       notes =
-          mail 0 1 2 fetch_nothing
+          mail 0 1 1 fetch_nothing
           ∷ closes 1 0 40;
     }
 

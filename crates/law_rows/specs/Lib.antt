@@ -13,6 +13,7 @@ pub mod LeakPlays
 pub mod PlacePlays
 pub mod MarkPlays
 pub mod LogPlays
+pub mod MailPlays
 pub mod TextPlays
 pub mod LanePlays
 pub mod RootRuns

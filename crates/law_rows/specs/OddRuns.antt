@@ -26,7 +26,7 @@ user_log =
           ∷ answered Reply.Ok 1
           ∷ [];
       notes =
-          mail 1 0 2 (fetch whole_four)
+          mail 1 0 1 (fetch whole_four)
           ∷ Ref four RefDid.Retain
           ∷ Ref four RefDid.Kept
           ∷ Ref four (RefDid.Look 1)
@@ -40,7 +40,7 @@ returner_log =
     record {
       replies = answered Reply.Ok 1 ∷ answered Reply.Ok 1 ∷ [];
       notes =
-          mail 0 1 2 (fetch whole_four)
+          mail 0 1 1 (fetch whole_four)
           ∷ mail 1 0 1 (post whole_four)
           ∷ closes 1 0 40;
     }
@@ -101,7 +101,7 @@ early_reader_log =
           ∷ answered Reply.Freed 5
           ∷ [];
       notes =
-          mail 0 1 2 (fetch whole_four)
+          mail 0 1 1 (fetch whole_four)
           ∷ root_place 0 2 (Did.Get 0 (0 ∷ 0 ∷ []))
           ∷ Ref four RefDid.Ended
           ∷ root_place 0 4 (Did.End four)
@@ -172,7 +172,7 @@ ending_log =
     record {
       replies = answered Reply.Ok 1 ∷ answered Reply.Freed 5 ∷ [];
       notes =
-          mail 0 1 2 (fetch whole_four)
+          mail 0 1 1 (fetch whole_four)
           ∷ Ref four RefDid.Ended
           ∷ root_place 0 2 (Did.End four)
           ∷ Ref four RefDid.Vacated

@@ -85,7 +85,7 @@ empty_handed_log =
           ∷ answered Reply.Unbound 0
           ∷ answered Reply.Unbound 0
           ∷ [];
-      notes = mail 0 1 2 fetch_nothing ∷ closes 1 0 40;
+      notes = mail 0 1 1 fetch_nothing ∷ closes 1 0 40;
     }
 
 -- an empty parcel is sent and fetched

@@ -123,8 +123,8 @@ abbrev pub mail_notes : List Note
 mail_notes =
     mail 0 1 1 (post inner_view)
     ∷ mail 0 1 2 post_nothing
-    ∷ mail 0 1 3 (fetch inner_view)
-    ∷ mail 0 1 4 fetch_nothing
+    ∷ mail 0 1 1 (fetch inner_view)
+    ∷ mail 0 1 2 fetch_nothing
     ∷ []
 
 -- what is noted at a root place
@@ -183,7 +183,7 @@ two_logs =
           }
           ∷ record {
             replies = answered Reply.Nothing 1 ∷ [];
-            notes = mail 0 1 2 fetch_nothing ∷ [];
+            notes = mail 0 1 1 fetch_nothing ∷ [];
           }
           ∷ [];
       chunks = chunk_end 0 ListName.QInit 8192 4186112 ∷ [];

@@ -120,8 +120,8 @@ pub fn counts_and_parcels()
         ≡ replies Reply.Ok [] }
     ensures send_to_this_lane { answers (Send 0 1) (alone (mail 0 0 1 (post held_view)) ∷ [])
         ≡ None }
-    ensures recv { answers (Recv 2 1) (alone (mail 1 0 2 (fetch (view (root 9 1 4) 1 2 0 2))) ∷ [])
+    ensures recv { answers (Recv 2 1) (alone (mail 1 0 1 (fetch (view (root 9 1 4) 1 2 0 2))) ∷ [])
         ≡ gives Reply.Ok ((2, Plain (view (root 9 1 4) 1 2 0 2)) ∷ bound) [] }
-    ensures recv_from_this_lane { answers (Recv 2 1) (alone (mail 0 0 2 (fetch held_view)) ∷ [])
+    ensures recv_from_this_lane { answers (Recv 2 1) (alone (mail 0 0 1 (fetch held_view)) ∷ [])
         ≡ None }
 {}

@@ -1,11 +1,10 @@
-//! Caches, bins and mails: first in, first out.
+//! Caches and bins: first in, first out.
 
 ghost use Rattle.std.specs.Prelude.{◌≡◌, [], ◌∷◌, Some, None, is_some, true};
 ghost use Rattle.pool_law.specs.declared.note.CacheNo.{CacheNo};
 ghost use Rattle.pool_law.specs.declared.note.Did.TheVariants.{Hit, Miss, Kept, Back, Trim, Close, Shed, Handle, NoHandle, Home};
 ghost use Rattle.pool_law.specs.Caches.{new_bin, bin_step};
-ghost use Rattle.pool_law.specs.Histories.{after, cache_after, mail_after};
-ghost use Rattle.law_rows.specs.Notes.{root, view, post, fetch, post_nothing, fetch_nothing};
+ghost use Rattle.pool_law.specs.Histories.{after, cache_after};
 ghost use Rattle.law_rows.specs.CachePlays.{small, normal, kept_then, cache_of, holding};
 
 /// A hit takes the front region, and a miss stands only where there is none.
@@ -90,17 +89,4 @@ pub fn bin_order()
     ensures not_twice { after (bin_step 2 3) (new_bin 2 3) (Home 7 ∷ []) ≡ None }
     ensures not_of_another_lane { after (bin_step 2 3) (new_bin 2 3) (Handle 6 ∷ Home 5 ∷ [])
         ≡ None }
-{}
-
-/// Parcels come in the order in which they were sent, and none comes from an empty mail.
-pub fn mail_order()
-    ensures unfetched { mail_after
-        (post (view (root 0 1 4) 0 4 0 0) ∷ post_nothing ∷ fetch (view (root 0 1 4) 0 4 0 0) ∷ [])
-        ≡ Some (record { view = None } ∷ []) }
-    ensures all { mail_after (post_nothing ∷ fetch_nothing ∷ []) ≡ Some [] }
-    ensures not_the_second { mail_after
-        (post (view (root 0 1 4) 0 4 0 0) ∷ post_nothing ∷ fetch_nothing ∷ []) ≡ None }
-    ensures as_it_was_sent { mail_after
-        (post (view (root 0 1 4) 0 4 0 2) ∷ fetch (view (root 0 1 4) 0 4 0 0) ∷ []) ≡ None }
-    ensures none { mail_after (fetch_nothing ∷ []) ≡ None }
 {}

@@ -1,4 +1,4 @@
-//! The order of the objects of a pool: arenas, caches, bins, mails, root places.
+//! The order of the objects of a pool: arenas, caches, bins, root places.
 
 ghost use Rattle.std.specs.Prelude.{◌≡◌, [], ◌∷◌, map};
 ghost use Rattle.pool_law.specs.declared.note.Object.TheVariants.{Arena, Cache, Bin, Mail, Root};
@@ -11,11 +11,9 @@ pub fn homes_in_order()
     ensures caches { map (home_of two_lanes) (Cache 0 0 ∷ Cache 0 39 ∷ Cache 1 0 ∷ Cache 1 39 ∷ [])
         ≡ 2 ∷ 41 ∷ 42 ∷ 81 ∷ [] }
     ensures bins { map (home_of two_lanes) (Bin 0 ∷ Bin 1 ∷ []) ≡ 82 ∷ 83 ∷ [] }
-    ensures mails { map (home_of two_lanes) (Mail 0 0 ∷ Mail 0 1 ∷ Mail 1 0 ∷ Mail 1 1 ∷ [])
-        ≡ 84 ∷ 85 ∷ 86 ∷ 87 ∷ [] }
     ensures root_places { map (home_of two_lanes) (Root 0 ∷ Root 3 ∷ Root 5 ∷ [])
-        ≡ 88 ∷ 91 ∷ 93 ∷ [] }
-    ensures all { objects_of two_lanes ≡ 94 }
+        ≡ 84 ∷ 87 ∷ 89 ∷ [] }
+    ensures all { objects_of two_lanes ≡ 90 }
 {}
 
 /// The objects of that pool.
@@ -25,8 +23,7 @@ pub fn objects_of_a_pool()
     ensures last_cache { IsObjectOf two_lanes (Cache 1 39) }
     ensures no_more_classes { ¬ IsObjectOf two_lanes (Cache 1 40) }
     ensures no_third_bin { ¬ IsObjectOf two_lanes (Bin 2) }
-    ensures mail_to_itself { IsObjectOf two_lanes (Mail 1 1) }
-    ensures no_mail_to_a_third { ¬ IsObjectOf two_lanes (Mail 1 2) }
+    ensures no_mail { ¬ IsObjectOf two_lanes (Mail 1 0) }
     ensures last_root_place { IsObjectOf two_lanes (Root 5) }
     ensures no_more_root_places { ¬ IsObjectOf two_lanes (Root 6) }
 {}

@@ -18,6 +18,7 @@ pub mod leaks;
 pub mod lists;
 pub mod lives;
 pub mod logs;
+pub mod mails;
 pub mod marks;
 pub mod odd_runs;
 pub mod orders;

@@ -56,7 +56,7 @@ pub fn lanes_that_may_note()
     ensures no_handle { lanes_of (bin 2 1 Did.NoHandle) ≡ 2 ∷ [] }
     ensures home { lanes_of (bin 2 1 (Did.Home 9)) ≡ 0 ∷ 1 ∷ 2 ∷ [] }
     ensures post { lanes_of (mail 0 1 1 post_nothing) ≡ 0 ∷ [] }
-    ensures fetch { lanes_of (mail 0 1 2 fetch_nothing) ≡ 1 ∷ [] }
+    ensures fetch { lanes_of (mail 0 1 1 fetch_nothing) ≡ 1 ∷ [] }
     ensures access { lanes_of (root_place 0 2 Did.Touch) ≡ 0 ∷ 1 ∷ 2 ∷ [] }
 {}
 

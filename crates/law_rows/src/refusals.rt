@@ -119,6 +119,6 @@ pub fn send_and_recv()
         ≡ replies Reply.Illegal [] }
     ensures no_parcel { answers (Send 1 1) (alone (mail 0 1 1 (post gone_view)) ∷ []) ≡ None }
     ensures not_silent { answers (Send 1 1) [] ≡ None }
-    ensures nothing { answers (Recv 2 1) (alone (mail 1 0 2 fetch_nothing) ∷ [])
+    ensures nothing { answers (Recv 2 1) (alone (mail 1 0 1 fetch_nothing) ∷ [])
         ≡ replies Reply.Nothing [] }
 {}

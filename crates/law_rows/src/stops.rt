@@ -55,5 +55,5 @@ pub fn stopped_lanes()
     ensures no_view { stopped_run 0 (Send 0 1 ∷ [])
         ((alone (mail 0 1 1 (post whole_four)) ∷ []) ∷ []) ≡ None }
     ensures no_fetch { stopped_run 0 (Recv 0 1 ∷ [])
-        ((alone (mail 1 0 2 fetch_nothing) ∷ []) ∷ []) ≡ None }
+        ((alone (mail 1 0 1 fetch_nothing) ∷ []) ∷ []) ≡ None }
 {}

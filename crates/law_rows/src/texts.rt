@@ -64,8 +64,8 @@ pub fn notes_of_regions()
     ensures mail { note_lines 2 mail_notes ≡ lines
         ("note 2 mail 0 1 1 post 5.6 3+8 1 7"
         ∷ "note 2 mail 0 1 2 post empty"
-        ∷ "note 2 mail 0 1 3 fetch 5.6 3+8 1 7"
-        ∷ "note 2 mail 0 1 4 fetch empty"
+        ∷ "note 2 mail 0 1 1 fetch 5.6 3+8 1 7"
+        ∷ "note 2 mail 0 1 2 fetch empty"
         ∷ []) }
 {}
 
@@ -148,7 +148,7 @@ pub fn parts_in_order()
         ∷ "0.1 forget ok"
         ∷ "1.0 recv nothing"
         ∷ "note 0 root 0 1 birth 1 0.0+0 1 1 4"
-        ∷ "note 1 mail 0 1 2 fetch empty"
+        ∷ "note 1 mail 0 1 1 fetch empty"
         ∷ "chunk 0.0 qInit used 8192 free 4186112"
         ∷ "leak 0.1 capacity 4 count 1 records 1 dropped 0"
         ∷ " 0 touch"

@@ -9,7 +9,7 @@ use Rattle.pool_law.specs.declared.note.RefDid.{RefDid}
 use Rattle.pool_law.specs.declared.note.Note.{Note}
 use Rattle.pool_law.specs.declared.note.Note.TheVariants.{At, Ref}
 use Rattle.pool_law.specs.declared.run.Run.{Run}
-use Rattle.pool_law.specs.Logs.{Logs}
+use Rattle.pool_law.specs.Logs.{Logs, has_history}
 use Rattle.pool_law.specs.Counts.{is_birth, ends_root}
 use Rattle.pool_law.specs.Legal.{IsLegal, logs_of}
 use Rattle.pool_law.specs.Lives.{StandsAt, IsUse, Event, Stands, InOneLog, AtOneObject}
@@ -49,7 +49,7 @@ module _ (logs : Logs) (o : InOneOrder logs) where
       (later-in_log logs o f.lane e.at f.at (At f.object f.number f.did) t h.1)
   one-later e f s t (inr h) =
       later-at_object logs o f.object e.number f.number e.did f.did e.lane e.at f.lane f.at
-      (s ∙ ap (λ object. Some (At object e.number e.did)) h.0) t h.1
+      (ap has_history (sym h.0) ∙ h.1.1) (s ∙ ap (λ object. Some (At object e.number e.did)) h.0) t h.1.0
 
   pub leads-later : (e : Event) (fs : List Event) (g : Event) → Stands logs e → Stands logs g → Leads logs e fs g
       → when e < when g

@@ -4,5 +4,8 @@ pub mod UseMoments
 pub mod LifeWalk
 pub mod ReturnMoments
 pub mod ReadMoments
+pub mod MailMoments
 pub mod HeadlineInOrderLaw
 pub mod AcceptedFronts
+pub mod FrontLogs
+pub mod ShareMoments

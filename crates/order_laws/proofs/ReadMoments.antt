@@ -1,5 +1,5 @@
 -- What was done to an object before a note is what its history has up to there.
-use Rattle.std.proofs.Common.{◌≡◌, ℕ, suc, ◌+◌, ◌-◌, List, [], ◌∷◌, ◌++◌, length, map, take, refl, sym, ap, subst, arith, Some, ◌∙◌, length-append}
+use Rattle.std.proofs.Common.{◌≡◌, ℕ, suc, ◌+◌, ◌-◌, true, List, [], ◌∷◌, ◌++◌, length, map, take, refl, sym, ap, subst, arith, Some, ◌∙◌, length-append}
 use Rattle.std.specs.Prelude.{◌==◌, if◌then◌else◌, slice_get}
 use Rattle.std.proofs.lemmas.List.{take_at}
 use Rattle.pool_law.specs.declared.note.Object.{Object}
@@ -9,7 +9,7 @@ use Rattle.pool_law.specs.declared.note.Note.TheVariants.{At, Ref, Busy}
 use Rattle.pool_law.specs.declared.note.Did.TheVariants.{Get}
 use Rattle.pool_law.specs.declared.run.Run.{Run}
 use Rattle.pool_law.specs.Same.{same_object}
-use Rattle.pool_law.specs.Logs.{Logs, History, dids, own, numbered, history_of}
+use Rattle.pool_law.specs.Logs.{Logs, History, dids, own, numbered, has_history, history_of}
 use Rattle.pool_law.specs.Legal.{IsLegal, logs_of, one_if}
 use Rattle.pool_law.proofs.SameLemmas.{same_object-is}
 use Rattle.pool_law.proofs.HistoryLemmas.{append-assoc, history_of-is}
@@ -17,7 +17,7 @@ use Rattle.run_laws.specs.Reads.{last_written, earlier_at}
 use Rattle.run_laws.proofs.Written.{got-written}
 use Rattle.run_order.specs.Order.{Step, notes_by, is_at, made, Fits, InOneOrder}
 use Rattle.run_order.proofs.Fronts.{by-test, get-behind}
-use Rattle.run_order.proofs.Positions.{fits-there, noted}
+use Rattle.run_order.proofs.Positions.{fits-there, made-alike, noted}
 use Rattle.order_laws.specs.Moments.{did_at, dids_at, GetsLastWritten}
 
 -- what these steps did to an object, each with its lane
@@ -110,12 +110,17 @@ dids-length object (x ∷ xs) =
 
 module _ (logs : Logs) (o : InOneOrder logs) where
   -- the steps' history of an object is that of the logs
-  pub history-in : (object : Object) → history_of object logs ≡ history_in object o.steps
-  history-in object =
+  pub history-in : (object : Object) → has_history object ≡ true → history_of object logs
+      ≡ history_in object o.steps
+  history-in object has =
       history_of-is object logs (history_in object o.steps)
       (λ lane. ap (own object) (sym (o.whole lane))
       ∙ own-in object lane 1 o.steps
-      (λ p x number did e is. omega (arith, subst (Fits (take p o.steps)) is (fits-there logs o p x e))))
+      (λ p x number did e is. omega (
+        arith,
+        (subst (Fits (take p o.steps)) is (fits-there logs o p x e)).0,
+        made-alike object did (take p o.steps) has,
+      )))
 
   -- what an object's history has before a note is what was done to it before
   pub earlier-is : (place number : ℕ) (did : Did) (before after : List Step) (x : Step)
@@ -123,10 +128,11 @@ module _ (logs : Logs) (o : InOneOrder logs) where
       → earlier_at logs place number ≡ dids_at (Object.Root place) before
   earlier-is place number did before after x is note =
       let fits : number ≡ made (is_at (Object.Root place)) before + 1 =
-      subst (Fits before) note (o.fits before after x is) in
+      (subst (Fits before) note (o.fits before after x is)).0
+      ∙ ap (λ n. n + 1) (made-alike (Object.Root place) did before refl) in
       let size : length (dids_at (Object.Root place) before) ≡ number - 1 =
       omega (arith, fits, dids-length (Object.Root place) before) in
-      ap (λ h. take (number - 1) (dids h)) (history-in (Object.Root place))
+      ap (λ h. take (number - 1) (dids h)) (history-in (Object.Root place) refl)
       ∙ ap (take (number - 1)) (dids-in (Object.Root place) o.steps)
       ∙ ap (λ xs. take (number - 1) (dids_at (Object.Root place) xs)) is
       ∙ ap (take (number - 1)) (dids-append (Object.Root place) before (x ∷ after))

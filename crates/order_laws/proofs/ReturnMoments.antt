@@ -140,7 +140,7 @@ module _ (run : Run) (legal : IsLegal run) (o : InOneOrder (logs_of run)) where
       reaches-later logs o (the before.taken) (the_birth v) before.taken.stands v.birth reach in
       let given : when logs o (the before.given) < when logs o (the before.taken) =
       one-later logs o (the before.given) (the before.taken) before.given.stands before.taken.stands
-      (inr (ap Object.Arena arena, before.order)) in
+      (inr (ap Object.Arena arena, (before.order, refl))) in
       omega (arith, born, given)
 
   -- what moves a taking behind a birth with it comes no sooner than the region's return

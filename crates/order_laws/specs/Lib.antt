@@ -1,3 +1,4 @@
 pub mod Moments
 pub mod HeadlineInOrder
 pub mod Accepted
+pub mod Shares

@@ -3,10 +3,14 @@
 //! does nothing.
 
 ghost use Rattle.pool_law.specs.declared.run.Run.{Run};
-ghost use Rattle.pool_law.specs.Legal.{IsLegal, logs_of};
+ghost use Rattle.pool_law.specs.declared.run.Shape.{Shape};
+ghost use Rattle.pool_law.specs.Legal.{IsLegal, HistoriesHold, logs_of};
+ghost use Rattle.pool_law.specs.Logs.{Logs};
 ghost use Rattle.run_order.specs.Order.{InOneOrder};
+ghost use Rattle.run_order.specs.HandOver.{IsHandedOver};
 ghost use Rattle.order_laws.specs.Accepted.{FrontsAccepted};
 ghost use Rattle.order_laws.specs.HeadlineInOrder.{HeadlineInOrder};
+ghost use Rattle.order_laws.specs.Shares.{FrontsAreShared};
 
 /// The headline at each moment. In a legal run whose steps stand in one order: regions of roots in
 /// use have no byte in common; a root is in use while anybody counts it, parcels in the mail
@@ -16,9 +20,26 @@ pub fn headline_in_order()
     ensures moments { (run : Run) → IsLegal run → InOneOrder (logs_of run) → HeadlineInOrder run }
 {}
 
-/// In a legal run whose steps stand in one order, each object accepts at each moment what was done
-/// to it so far: so the run is what one thread may do that makes these steps one after another.
+/// In a legal run whose steps stand in one order, each object with a history accepts at each moment
+/// what was done to it so far, and what was fetched from a mail is the front of what was posted to it
+/// so far: so the run is what one thread may do that makes these steps one after another.
 pub fn fronts_are_accepted()
     ensures accepted { (run : Run) → IsLegal run → (order : InOneOrder (logs_of run)) →
         FrontsAccepted run order }
+{}
+
+/// What was sent is seen in order. In logs whose histories hold and whose steps stand in one order,
+/// what a lane did before its k-th post to another has, at each object, a lower number than what that
+/// lane did there after its k-th fetch from it; at a mail too, whose posts and fetches are numbered
+/// apart.
+pub fn parcels_are_handed_over()
+    ensures handed { (shape : Shape) (logs : Logs) → HistoriesHold shape logs → InOneOrder logs →
+        IsHandedOver logs }
+{}
+
+/// In a legal run whose steps stand in one order, at each moment the counts of a root that are left
+/// are those of the lanes, and of the parcels that lie in the mails, together.
+pub fn counts_are_shared()
+    ensures shared { (run : Run) → IsLegal run → (order : InOneOrder (logs_of run)) →
+        FrontsAreShared run order }
 {}

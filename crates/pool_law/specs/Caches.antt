@@ -1,13 +1,12 @@
--- Caches, bins and mails.
+-- Caches and bins.
 use Rattle.std.specs.Prelude.{ℕ, ◌+◌, ◌-◌, ◌*◌, ◌/◌, Bool, true, false, ◌==◌, ◌&&◌, not, nat_lt, nat_le, min, if◌then◌else◌, List, [], ◌∷◌, ◌++◌, length, map, Option, Some, None}
 use Rattle.std.specs.List.{list_any}
 use Rattle.size_classes.specs.Sizes.{below}
 use Rattle.pool_law.specs.declared.id.RegionId.{RegionId}
-use Rattle.pool_law.specs.declared.id.Parcel.{Parcel}
 use Rattle.pool_law.specs.declared.note.CacheNo.{CacheNo}
 use Rattle.pool_law.specs.declared.note.Did.{Did}
-use Rattle.pool_law.specs.declared.note.Did.TheVariants.{Hit, Miss, Kept, Back, Trim, Close, Shed, Handle, NoHandle, Home, Post, Fetch}
-use Rattle.pool_law.specs.Same.{same_region, same_parcel}
+use Rattle.pool_law.specs.declared.note.Did.TheVariants.{Hit, Miss, Kept, Back, Trim, Close, Shed, Handle, NoHandle, Home}
+use Rattle.pool_law.specs.Same.{same_region}
 use Rattle.pool_law.specs.Limits.{cache_capacity}
 
 -- a cache of regions, first in, first out
@@ -104,9 +103,3 @@ bin_step lane handles places NoHandle = if_so (is_empty places) places
 bin_step lane handles places (Home p) =
     if_so ((p / handles == lane) && not (has_place p places)) (places ++ p ∷ [])
 bin_step lane handles places _ = None
-
--- what a note makes of a mail
-abbrev pub mail_step : List Parcel → Did → Option (List Parcel)
-mail_step parcels (Post parcel) = Some (parcels ++ parcel ∷ [])
-mail_step parcels (Fetch parcel) = front_taken (λ front. same_parcel parcel front) parcels
-mail_step parcels _ = None

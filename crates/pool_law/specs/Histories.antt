@@ -1,12 +1,11 @@
 -- Histories of the objects: what a list of notes makes of an object, and which list the logs give.
-use Rattle.std.specs.Prelude.{ℕ, Bool, List, [], ◌∷◌, ◌++◌, Option, Some, is_some, IsTrue, option_and_then}
+use Rattle.std.specs.Prelude.{ℕ, Bool, false, List, [], ◌∷◌, ◌++◌, Option, Some, is_some, IsTrue, option_and_then}
 use Rattle.pool_law.specs.declared.note.Object.{Object}
 use Rattle.pool_law.specs.declared.note.Did.{Did}
 use Rattle.pool_law.specs.declared.run.Shape.{Shape}
-use Rattle.pool_law.specs.declared.id.Parcel.{Parcel}
 use Rattle.pool_law.specs.Limits.{geometry_of}
 use Rattle.pool_law.specs.Arenas.{Arena, new_arena, arena_step}
-use Rattle.pool_law.specs.Caches.{Cache, new_cache, lane_cache_step, new_bin, bin_step, mail_step}
+use Rattle.pool_law.specs.Caches.{Cache, new_cache, lane_cache_step, new_bin, bin_step}
 use Rattle.pool_law.specs.Roots.{RootPlace, new_place, place_step}
 
 -- what the notes make of a state, one after another; none where one of them may not stand
@@ -27,20 +26,16 @@ cache_after lane class ds = after (lane_cache_step lane class) new_cache ds
 abbrev pub bin_after : Shape → ℕ → List Did → Option (List ℕ)
 bin_after shape lane ds = after (bin_step lane shape.handles) (new_bin lane shape.handles) ds
 
--- a mail after these notes
-abbrev pub mail_after : List Did → Option (List Parcel)
-mail_after ds = after mail_step [] ds
-
 -- a root place after these notes
 abbrev pub place_after : ℕ → List Did → Option RootPlace
 place_after place ds = after (place_step place) new_place ds
 
--- whether the notes are a history of the object
+-- whether the notes are a history of the object; a mail has none (`Mails`)
 abbrev pub accepts : Shape → Object → List Did → Bool
 accepts shape (Object.Arena number) ds = is_some (arena_after shape number ds)
 accepts shape (Object.Cache lane class) ds = is_some (cache_after lane class ds)
 accepts shape (Object.Bin lane) ds = is_some (bin_after shape lane ds)
-accepts shape (Object.Mail from to) ds = is_some (mail_after ds)
+accepts shape (Object.Mail from to) ds = false
 accepts shape (Object.Root place) ds = is_some (place_after place ds)
 
 -- the notes are a history of the object

@@ -6,7 +6,7 @@ use Rattle.pool_law.specs.declared.note.Did.TheVariants.{Take, Full, Give, Hit, 
 
 -- the lanes that may make a note
 pub data Noter : Type 0 where
-  Anyone : Noter
+  Anyone : Noter  -- any lane, at an object with a history
   Owner : Noter  -- the lane of the cache or bin, or a lane of the arena
   Taker : (owner : ℕ) → Noter  -- a lane of the arena, which the note names as owner
   Sender : Noter  -- the first lane of the mail

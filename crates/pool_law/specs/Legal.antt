@@ -16,7 +16,8 @@ use Rattle.pool_law.specs.Same.{same_root}
 use Rattle.pool_law.specs.Limits.{IsShape, geometry_of}
 use Rattle.pool_law.specs.Arenas.{Arena, chunk_ends}
 use Rattle.pool_law.specs.Histories.{IsAccepted, arena_after}
-use Rattle.pool_law.specs.Logs.{Logs, Entry, dids, of_lane, IsHistory, history_of, note_stands, entries_of}
+use Rattle.pool_law.specs.Logs.{Logs, Entry, dids, of_lane, IsHistory, has_history, history_of, note_stands, entries_of}
+use Rattle.pool_law.specs.Mails.{MailsHold}
 use Rattle.pool_law.specs.Counts.{CountsHold, TotalHolds, LookHolds, count_over, count_in, count_step, names_root, is_retain, is_release, is_birth}
 use Rattle.pool_law.specs.LaneLaw.{IsLaneLog}
 use Rattle.pool_law.specs.Busy.{BusyHolds}
@@ -96,10 +97,13 @@ pub record CountsAgree (logs : List (List Entry)) : Type 0 where
   pub looks : (root : RootId) (lane : ℕ) →
       LooksHold root (others_retains root lane 0 logs) 0 0 0 (of_lane logs lane)
 
--- the logs give each object a whole history, which it accepts
+-- the logs give each object but the mails a whole history, which it accepts, and each mail holds
 pub record HistoriesHold (shape : Shape) (logs : Logs) : Type 0 where
-  pub whole : (object : Object) → IsHistory object logs (history_of object logs)
-  pub accepted : (object : Object) → IsAccepted shape object (dids (history_of object logs))
+  pub whole : (object : Object) → IsTrue (has_history object) →
+      IsHistory object logs (history_of object logs)
+  pub accepted : (object : Object) → IsTrue (has_history object) →
+      IsAccepted shape object (dids (history_of object logs))
+  pub mails : MailsHold logs
   pub stand : (lane : ℕ) → IsTrue (list_all (note_stands shape lane) (of_lane logs lane))
 
 -- the chunks of an arena at the end

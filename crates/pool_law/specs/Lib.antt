@@ -10,6 +10,7 @@ pub mod Histories
 pub mod Options
 pub mod Kinds
 pub mod Logs
+pub mod Mails
 pub mod Counts
 pub mod Views
 pub mod Composites

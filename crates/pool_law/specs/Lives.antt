@@ -7,7 +7,7 @@ use Rattle.pool_law.specs.declared.note.Did.{Did}
 use Rattle.pool_law.specs.declared.note.Did.TheVariants.{Take, Full, Give, Hit, Miss, Kept, Back, Trim, Close, Shed, Handle, NoHandle, Home, Post, Fetch, Birth, Set, Get, Touch, End}
 use Rattle.pool_law.specs.declared.note.Note.{Note}
 use Rattle.pool_law.specs.Same.{same_taking}
-use Rattle.pool_law.specs.Logs.{Logs, of_lane}
+use Rattle.pool_law.specs.Logs.{Logs, of_lane, has_history}
 use Rattle.pool_law.specs.Patterns.{one_more}
 
 -- a note stands in a lane's log at this place
@@ -57,9 +57,10 @@ Stands logs e = StandsAt logs e.lane e.at (Note.At e.object e.number e.did)
 abbrev pub InOneLog : Event → Event → Type 0
 InOneLog e f = (e.lane ≡ f.lane) × (e.at < f.at)
 
--- of two events at one object the second has a higher number
+-- of two events in one object's history the second has a higher number
 abbrev pub AtOneObject : Event → Event → Type 0
-AtOneObject e f = (e.object ≡ f.object) × (e.number < f.number)
+AtOneObject e f =
+    (e.object ≡ f.object) × ((e.number < f.number) × IsTrue (has_history e.object))
 
 -- where a region is
 pub data Where : Type 0 where

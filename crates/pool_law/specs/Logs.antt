@@ -85,6 +85,14 @@ history_from object logs n (suc rest) =
 abbrev pub history_of : Object → Logs → History
 history_of object logs = history_from object logs 1 (notes_at object logs)
 
+-- an object has a history: each but the mails, whose notes stand in the order of two logs
+abbrev pub has_history : Object → Bool
+has_history (Arena number) = true
+has_history (Cache lane class) = true
+has_history (Bin lane) = true
+has_history (Mail from to) = false
+has_history (Root place) = true
+
 -- a lane is the object's own: of a cache or bin, or one that takes from an arena
 abbrev pub owns : Shape → ℕ → Object → Bool
 owns shape lane (Arena number) = lane % shape.arenas == number
@@ -105,7 +113,7 @@ is_receiver lane _ = false
 
 -- a lane is among those that may make a note at the object
 abbrev pub is_noter : Shape → ℕ → Object → Noter → Bool
-is_noter shape lane object Anyone = true
+is_noter shape lane object Anyone = has_history object
 is_noter shape lane object Owner = owns shape lane object
 is_noter shape lane object (Taker owner) = owns shape lane object && (owner == lane)
 is_noter shape lane object Sender = is_sender lane object
@@ -119,7 +127,7 @@ may_stand shape lane object did = is_noter shape lane object (noter_of did)
 abbrev pub note_stands : Shape → ℕ → Note → Bool
 note_stands shape lane (At object number did) = may_stand shape lane object did
 note_stands shape lane (Ref root did) = true
-note_stands shape lane (Busy held) = true
+note_stands shape lane (Busy held) = has_history held.object
 
 -- a note with what only its object's history tells: an access's root, and the region of an end
 pub record Entry : Type 0 where

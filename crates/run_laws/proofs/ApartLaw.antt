@@ -13,7 +13,7 @@ use Rattle.pool_law.specs.Limits.{geometry_of}
 use Rattle.pool_law.specs.Same.{same_taking}
 use Rattle.pool_law.specs.Arenas.{Arena, new_arena, arena_step}
 use Rattle.pool_law.specs.Histories.{after, arena_after}
-use Rattle.pool_law.specs.Logs.{Logs, dids, of_lane, history_of}
+use Rattle.pool_law.specs.Logs.{Logs, dids, of_lane, has_history, history_of}
 use Rattle.run_laws.proofs.PagedHistories.{HistoriesPaged}
 use Rattle.pool_law.specs.Lives.{Done, arena_of, with_uses}
 use Rattle.pool_law.specs.Apart.{Before, LieApart}
@@ -139,19 +139,20 @@ module _ (shape : Shape) (logs : Logs) (holds : HistoriesPaged shape logs) (acts
       let t : (c : ℕ) × (f.1 ≡ Take c (with_uses r 0)) = taken f.1 f.3 in
       let p : (arena_of r ≡ arena_of r) × ((0 ≡ 0) × (r.class ≡ t.0)) =
       placed shape holds.page (arena_of r) (dids (history_of (arena_of r) logs)) f.0 (Take t.0 (with_uses r 0))
-      (holds.accepted (arena_of r)) (f.2 ∙ ap (λ x. Some x) t.1) in
+      (holds.accepted (arena_of r) refl) (f.2 ∙ ap (λ x. Some x) t.1) in
       (f.0, f.2 ∙ ap (λ x. Some x) t.1 ∙ ap (λ c. Some (Take c (with_uses r 0))) (sym p.1.1))
     where
       taken : (d : Did) → 1 ≤ takes (with_uses r 0) d → (c : ℕ) × (d ≡ Take c (with_uses r 0))
       taken (Take c x) h = (c, ap (λ y. Take c y) (sym (same_region-is (with_uses r 0) x (one-of-true _ h))))
       taken _ h = absurd (omega arith)
 
-  pub done-at : (o : Object) (j : ℕ) (d : Did) → slice_get (dids (history_of o logs)) j ≡ Some d
+  pub done-at : (o : Object) → has_history o ≡ true → (j : ℕ) (d : Did)
+      → slice_get (dids (history_of o logs)) j ≡ Some d
       → (x : Done logs o d) × (x.number ≡ 1 + j)
-  done-at o j d e =
+  done-at o has j d e =
       let l : (lane : ℕ) × (slice_get (history_of o logs) j ≡ Some (lane, d)) = dids-there (history_of o logs) j d e in
       let n : (i : ℕ) × (slice_get (of_lane logs l.0) i ≡ Some (At o (1 + j) d)) =
-      in-log o logs (history_of o logs) (holds.whole o) l.0 j d l.1 in
+      in-log o logs (history_of o logs) (holds.whole o has) l.0 j d l.1 in
       (record { lane = l.0; at = n.0; number = 1 + j; stands = n.1 }, refl)
 
   pub one-way : (number : ℕ) (a b : RegionId) (i j : ℕ) → number ≡ a.place.arena → number ≡ b.place.arena →
@@ -161,7 +162,7 @@ module _ (shape : Shape) (logs : Logs) (holds : HistoriesPaged shape logs) (acts
   one-way number a b i j of_a of_b at_a at_b less over =
       let ok : (x : Arena) × (arena_after shape number (dids (history_of (Object.Arena number) logs)) ≡ Some x) =
       is-some (arena_after shape number (dids (history_of (Object.Arena number) logs)))
-      (holds.accepted (Object.Arena number)) in
+      (holds.accepted (Object.Arena number) refl) in
       let s : (before between rest : List Did)
       × (dids (history_of (Object.Arena number) logs)
       ≡ (before ++ Take a.class (with_uses a 0) ∷ (between ++ Take b.class (with_uses b 0) ∷ [])) ++ rest)
@@ -192,9 +193,9 @@ module _ (shape : Shape) (logs : Logs) (holds : HistoriesPaged shape logs) (acts
       ap (λ k. slice_get (dids (history_of (Object.Arena k) logs)) n.0) (sym of_a) ∙ n.1 ∙ ap (λ x. Some x) g.1
       ∙ ap (λ x. Some (Give x)) x_is in
       let given : (x : Done logs (arena_of a) (Give (with_uses a g.0.uses)))
-      × (x.number ≡ 1 + n.0) = done-at (arena_of a) n.0 (Give (with_uses a g.0.uses)) there in
+      × (x.number ≡ 1 + n.0) = done-at (arena_of a) refl n.0 (Give (with_uses a g.0.uses)) there in
       let taken : (x : Done logs (arena_of b) (Take b.class (with_uses b 0)))
-      × (x.number ≡ 1 + j) = done-at (arena_of b) j (Take b.class (with_uses b 0))
+      × (x.number ≡ 1 + j) = done-at (arena_of b) refl j (Take b.class (with_uses b 0))
       (ap (λ k. slice_get (dids (history_of (Object.Arena k) logs)) j) (sym of_b) ∙ at_b) in
       record { uses = g.0.uses; given = given.0; taken = taken.0; order = omega (arith, given.1, taken.1, n.2) }
 

@@ -14,7 +14,7 @@ use Rattle.pool_law.specs.Limits.{cached_classes, has_cache}
 use Rattle.pool_law.specs.Same.{same_root}
 use Rattle.pool_law.specs.Caches.{Cache}
 use Rattle.pool_law.specs.Histories.{cache_after}
-use Rattle.pool_law.specs.Logs.{Logs, dids, of_lane, history_of, entry_of, entries_of}
+use Rattle.pool_law.specs.Logs.{Logs, dids, of_lane, has_history, history_of, entry_of, entries_of}
 use Rattle.pool_law.specs.Legal.{CountsAgree}
 use Rattle.run_laws.proofs.PagedHistories.{HistoriesPaged}
 use Rattle.pool_law.specs.Lives.{IsUse, Done}
@@ -188,18 +188,20 @@ module _ (shape : Shape) (logs : Logs) (holds : HistoriesPaged shape logs) (acts
   cache-empty lane class c low cached e =
       let o : Object = Object.Cache lane class in
       ends-empty lane class (dids (history_of (Object.Cache lane class) logs)) c e
-      (sym (at (Object.Cache lane class) grant) ∙ even-over (Object.Cache lane class)
-      ∙ at (Object.Cache lane class) shed_one)
+      (sym (at (Object.Cache lane class) refl grant) ∙ even-over (Object.Cache lane class)
+      ∙ at (Object.Cache lane class) refl shed_one)
       (omega (
         arith,
-        sym (at (Object.Cache lane class) close_one),
+        sym (at (Object.Cache lane class) refl close_one),
         log-most (at_object (Object.Cache lane class) (plain close_one)) logs lane,
         sum-entries logs (at_object (Object.Cache lane class) (plain close_one)) (of_lane logs lane),
         log-closes lane class (map (entry_of logs) (of_lane logs lane)) (parts lane low) cached,
       ))
     where
-      at : (o : Object) (f : Did → ℕ) → sum_over (at_object o (plain f)) logs ≡ total_by f (dids (history_of o logs))
-      at o f = regroup o (plain f) logs (history_of o logs) (holds.whole o) ∙ total-plain f 1 (dids (history_of o logs))
+      at : (o : Object) → has_history o ≡ true → (f : Did → ℕ) → sum_over (at_object o (plain f)) logs
+          ≡ total_by f (dids (history_of o logs))
+      at o has f =
+          regroup o (plain f) logs (history_of o logs) (holds.whole o has) ∙ total-plain f 1 (dids (history_of o logs))
 
   -- the ends of a root's count are the ends of the root
   pub count-notes : (test : Note → Bool) (rest : Logs)

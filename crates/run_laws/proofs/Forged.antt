@@ -327,7 +327,7 @@ later-late e f s t from (inr object) =
     let early : IsEarly f.object f.number × IsEarlyDid f.did =
     early-at f.lane f.at (At f.object f.number f.did) t low in
     absurd (late-not_early f.object e.number f.number (subst (λ o. IsLate o e.number) object.0 late.0) early.0
-    object.1))
+    object.1.0))
     (λ high. high)
     (below-or f.at 8)
 

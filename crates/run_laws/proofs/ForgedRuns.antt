@@ -106,7 +106,7 @@ second_number _ = 0
 pub early-read : Headline read_early → ⊥
 early-read h =
     let own_is : own (Object.Root 0) (of_lane (logs_of read_early) 0)
-    ≡ numbered 0 1 (history_of (Object.Root 0) (logs_of read_early)) = h.legal.histories.whole (Object.Root 0) 0 in
+    ≡ numbered 0 1 (history_of (Object.Root 0) (logs_of read_early)) = h.legal.histories.whole (Object.Root 0) refl 0 in
     let number : ◌≡◌ {A = ℕ} 3 2 = ap second_number own_is in
     absurd (omega (arith, number))
 

@@ -1,5 +1,5 @@
 -- The totals of a region, from the histories and the hands of a run.
-use Rattle.std.proofs.Common.{◌≡◌, ℕ, zero, suc, ◌+◌, ◌≤◌, List, [], ◌∷◌, refl, sym, ap, arith, Some, ◌∙◌}
+use Rattle.std.proofs.Common.{◌≡◌, ℕ, zero, suc, ◌+◌, ◌≤◌, List, [], ◌∷◌, refl, sym, ap, arith, Bool, true, false, Some, ◌∙◌}
 use Rattle.std.specs.Prelude.{◌<◌, map, Option, slice_get}
 use Rattle.pool_law.specs.declared.id.RegionId.{RegionId}
 use Rattle.pool_law.specs.declared.note.Object.{Object}
@@ -13,7 +13,7 @@ use Rattle.pool_law.specs.Arenas.{Arena}
 use Rattle.pool_law.specs.Caches.{Cache}
 use Rattle.pool_law.specs.Roots.{RootPlace, new_place}
 use Rattle.pool_law.specs.Histories.{place_after, cache_after, arena_after}
-use Rattle.pool_law.specs.Logs.{Logs, dids, of_lane, history_of, entry_of, present_before, region_for}
+use Rattle.pool_law.specs.Logs.{Logs, dids, of_lane, has_history, history_of, note_stands, entry_of, present_before, region_for}
 use Rattle.run_laws.proofs.PagedHistories.{HistoriesPaged}
 use Rattle.pool_law.specs.Lives.{cache_of, arena_of}
 use Rattle.run_laws.specs.CacheCounts.{times, puts, removes, total_by}
@@ -31,7 +31,7 @@ use Rattle.arena_law.proofs.TakingLaw.{takings-in_order}
 use Rattle.pool_law.proofs.HistoryLemmas.{over_lanes}
 use Rattle.run_laws.proofs.Sums.{sum_by, sum_over, over-at, over-alike, over-plus, over-many, above}
 use Rattle.run_laws.proofs.Numbered.{plain, total-plain, at_object, regroup, in-history}
-use Rattle.run_laws.proofs.Placed.{IsPlaced, placed, is-some, total-found, one-of-true}
+use Rattle.run_laws.proofs.Placed.{all-at, IsPlaced, placed, mail-placed, is-some, total-found, one-of-true}
 use Rattle.run_laws.proofs.Totals.{dids-at, note_tally, total, born_by, takes, hits, sheds_of, gives_of, takes_in, hits_in, sheds_in, keeps_in, gives_in, births_in, ends_in, placed-weight, none-if, takes-once, pick, pick-most, over_lanes-none, over_lanes-less, over-less}
 use Rattle.run_laws.proofs.PlaceTotals.{births_of, ends_of, ends-below, place_number, born-alike, none-ended, over-less-at}
 
@@ -39,11 +39,17 @@ use Rattle.run_laws.proofs.PlaceTotals.{births_of, ends_of, ends-below, place_nu
 module _ (shape : Shape) (logs : Logs) (holds : HistoriesPaged shape logs) (acts : LanesAct logs) where
   pub note-placed : (lane i k : ℕ) (o : Object) (d : Did) → slice_get (of_lane logs lane) i ≡ Some (At o k d)
       → IsPlaced o d
-  note-placed lane i k o d is =
-      let at : (j : ℕ) × (k ≡ 1 + j) × (slice_get (history_of o logs) j ≡ Some (lane, d)) =
-      in-history o logs (history_of o logs) (holds.whole o) lane i k d is in
-      placed shape holds.page o (dids (history_of o logs)) at.0 d (holds.accepted o)
-      (dids-at (history_of o logs) at.0 lane d at.2)
+  note-placed lane i k o d is = go (has_history o) refl
+    where
+      go : (b : Bool) → has_history o ≡ b → IsPlaced o d
+      go true has =
+          let at : (j : ℕ) × (k ≡ 1 + j) × (slice_get (history_of o logs) j ≡ Some (lane, d)) =
+          in-history o logs (history_of o logs) (holds.whole o has) lane i k d is in
+          placed shape holds.page o (dids (history_of o logs)) at.0 d (holds.accepted o has)
+          (dids-at (history_of o logs) at.0 lane d at.2)
+      go false none =
+          mail-placed shape lane o d none
+          (all-at (note_stands shape lane) (of_lane logs lane) i (At o k d) (holds.stand lane) is)
 
   pub tally-log : (f : Tally) (log : List Note) → tally f (map (entry_of logs) log) ≡ sum_by (note_tally logs f) log
   tally-log f [] = refl
@@ -73,10 +79,10 @@ module _ (shape : Shape) (logs : Logs) (holds : HistoriesPaged shape logs) (acts
       )
 
   module _ (r : RegionId) where
-    pub at-total : (o : Object) (f : Did → ℕ) → sum_over (at_object o (plain f)) logs
+    pub at-total : (o : Object) → has_history o ≡ true → (f : Did → ℕ) → sum_over (at_object o (plain f)) logs
         ≡ total_by f (dids (history_of o logs))
-    at-total o f =
-        regroup o (plain f) logs (history_of o logs) (holds.whole o) ∙ total-plain f 1 (dids (history_of o logs))
+    at-total o has f =
+        regroup o (plain f) logs (history_of o logs) (holds.whole o has) ∙ total-plain f 1 (dids (history_of o logs))
 
     got-weight : (n : Note) → ((o : Object) (k : ℕ) (d : Did) → n ≡ At o k d → IsPlaced o d)
         → note_tally logs (got_by r) n ≡ at_object (arena_of r) (plain (takes r)) n + at_object (cache_of r)
@@ -135,22 +141,22 @@ module _ (shape : Shape) (logs : Logs) (holds : HistoriesPaged shape logs) (acts
         (λ n. at_object (arena_of r) (plain (takes r)) n + at_object (cache_of r) (plain (hits r)) n) logs
         (λ lane i n is. got-weight n (place-of lane i n is))
         ∙ over-plus (at_object (arena_of r) (plain (takes r))) (at_object (cache_of r) (plain (hits r))) logs
-        ∙ (omega (arith, at-total (arena_of r) (takes r), at-total (cache_of r) (hits r)))
+        ∙ (omega (arith, at-total (arena_of r) refl (takes r), at-total (cache_of r) refl (hits r)))
 
     pub shed-total : total logs (shed_by r) ≡ sheds_in logs r
     shed-total =
         over-alike (note_tally logs (shed_by r)) (at_object (cache_of r) (plain (sheds_of r))) logs
-        (λ lane i n is. shed-weight n (place-of lane i n is)) ∙ at-total (cache_of r) (sheds_of r)
+        (λ lane i n is. shed-weight n (place-of lane i n is)) ∙ at-total (cache_of r) refl (sheds_of r)
 
     pub kept-total : total logs (kept_by r) ≡ keeps_in logs r
     kept-total =
         over-alike (note_tally logs (kept_by r)) (at_object (cache_of r) (plain (puts r))) logs
-        (λ lane i n is. kept-weight n (place-of lane i n is)) ∙ at-total (cache_of r) (puts r)
+        (λ lane i n is. kept-weight n (place-of lane i n is)) ∙ at-total (cache_of r) refl (puts r)
 
     pub given-total : total logs (given_by r) ≡ gives_in logs r
     given-total =
         over-alike (note_tally logs (given_by r)) (at_object (arena_of r) (plain (gives_of r))) logs
-        (λ lane i n is. given-weight n (place-of lane i n is)) ∙ at-total (arena_of r) (gives_of r)
+        (λ lane i n is. given-weight n (place-of lane i n is)) ∙ at-total (arena_of r) refl (gives_of r)
 
     used-born : (n : Note) → note_tally logs (used_by r) n ≡ note_tally logs (born_by (one_more r)) n
     used-born (At o k d) = go d (entry_of logs (At o k d)).region
@@ -214,14 +220,15 @@ module _ (shape : Shape) (logs : Logs) (holds : HistoriesPaged shape logs) (acts
     pub removes-less : hits_in logs r + sheds_in logs r ≤ keeps_in logs r
     removes-less =
         let c : (c : Cache) × (cache_after r.owner r.class (dids (history_of (cache_of r) logs)) ≡ Some c) =
-        is-some (cache_after r.owner r.class (dids (history_of (cache_of r) logs))) (holds.accepted (cache_of r)) in
+        is-some (cache_after r.owner r.class (dids (history_of (cache_of r) logs)))
+        (holds.accepted (cache_of r) refl) in
         omega (arith, through c.0 c.1)
 
     pub takes-most : takes_in logs r ≤ 1
     takes-most =
         let a : (a : Arena) × (arena_after shape r.place.arena (dids (history_of (arena_of r) logs)) ≡ Some a) =
         is-some (arena_after shape r.place.arena (dids (history_of (arena_of r) logs)))
-        (holds.accepted (arena_of r)) in
+        (holds.accepted (arena_of r) refl) in
         (takes-once r.place.arena 0 a.0.takings r (dids (history_of (arena_of r) logs))
         (takings-in_order shape r.place.arena (dids (history_of (arena_of r) logs)) a.0 a.1)).0
 
@@ -241,7 +248,7 @@ module _ (shape : Shape) (logs : Logs) (holds : HistoriesPaged shape logs) (acts
             let t : (c : ℕ) × (f.1 ≡ Take c r) = taken f.1 f.3 in
             let p : (arena_of r ≡ arena_of r) × ((r.uses ≡ 0) × (r.class ≡ t.0)) =
             placed shape holds.page (arena_of r) (dids (history_of (arena_of r) logs)) f.0 (Take t.0 r)
-            (holds.accepted (arena_of r)) (f.2 ∙ ap (λ x. Some x) t.1) in
+            (holds.accepted (arena_of r) refl) (f.2 ∙ ap (λ x. Some x) t.1) in
             absurd (omega (arith, p.1.0, used))
 
     -- what ends was born
@@ -281,13 +288,13 @@ module _ (shape : Shape) (logs : Logs) (holds : HistoriesPaged shape logs) (acts
         (at_object (Object.Root p) (plain (births_of r))) logs
     at-place p =
         let t : (t : RootPlace) × (place_after p (dids (history_of (Object.Root p) logs)) ≡ Some t) =
-        is-some (place_after p (dids (history_of (Object.Root p) logs))) (holds.accepted (Object.Root p)) in
+        is-some (place_after p (dids (history_of (Object.Root p) logs))) (holds.accepted (Object.Root p) refl) in
         omega (
           arith,
           regroup (Object.Root p) (ends_of logs p r) logs (history_of (Object.Root p) logs)
-              (holds.whole (Object.Root p)),
+              (holds.whole (Object.Root p) refl),
           regroup (Object.Root p) (plain (births_of r)) logs (history_of (Object.Root p) logs)
-              (holds.whole (Object.Root p)),
+              (holds.whole (Object.Root p) refl),
           ends-below logs p r [] (dids (history_of (Object.Root p) logs)) new_place t.0 refl refl t.1,
         )
 

@@ -120,7 +120,7 @@ module _ (shape : Shape) (logs : Logs) (holds : HistoriesPaged shape logs) (acts
       let at : (j : ℕ) × (slice_get (dids (history_of (arena_of r) logs)) j ≡ Some (Take r.class (with_uses r 0))) =
       taken-at shape logs holds acts r taken in
       let t : Done logs (arena_of r) (Take r.class (with_uses r 0)) =
-      (done-at shape logs holds acts (arena_of r) at.0 (Take r.class (with_uses r 0)) at.1).0 in
+      (done-at shape logs holds acts (arena_of r) refl at.0 (Take r.class (with_uses r 0)) at.1).0 in
       let rest : Later (with_uses r 0) (the t) =
       got-on (sum_over uses_number logs) (with_uses r 0) (the t) (omega arith) t.stands refl in
       record {

@@ -50,10 +50,10 @@ module _ (shape : Shape) (logs : Logs) (holds : HistoriesPaged shape logs) (acts
       let at : (j : ℕ) × (d.number ≡ 1 + j)
       × (slice_get (history_of (Object.Root root.place) logs) j ≡ Some (d.lane, End root)) =
       in-history (Object.Root root.place) logs (history_of (Object.Root root.place) logs)
-      (holds.whole (Object.Root root.place)) d.lane d.at d.number (End root) d.stands in
+      (holds.whole (Object.Root root.place) refl) d.lane d.at d.number (End root) d.stands in
       let ok : (t : RootPlace) × (place_after root.place (dids (history_of (Object.Root root.place) logs)) ≡ Some t) =
       is-some (place_after root.place (dids (history_of (Object.Root root.place) logs)))
-      (holds.accepted (Object.Root root.place)) in
+      (holds.accepted (Object.Root root.place) refl) in
       let b = end-born root.place (dids (history_of (Object.Root root.place) logs)) ok.0 at.0 root ok.1
       (dids-at (history_of (Object.Root root.place) logs) at.0 d.lane (End root) at.2) in
       let l : (lane : ℕ) × (slice_get (history_of (Object.Root root.place) logs) b.2
@@ -62,7 +62,7 @@ module _ (shape : Shape) (logs : Logs) (holds : HistoriesPaged shape logs) (acts
       let n : (i : ℕ) × (slice_get (of_lane logs l.0) i
       ≡ Some (At (Object.Root root.place) (1 + b.2) (Birth root b.1.region))) =
       in-log (Object.Root root.place) logs (history_of (Object.Root root.place) logs)
-      (holds.whole (Object.Root root.place)) l.0 b.2 (Birth root b.1.region) l.1 in
+      (holds.whole (Object.Root root.place) refl) l.0 b.2 (Birth root b.1.region) l.1 in
       let notes : At (Object.Root root.place) u.number (Birth root r)
       ≡ At (Object.Root root.place) (1 + b.2) (Birth root b.1.region) =
       over-one (birth_weight root) logs u.lane l.0 u.at n.0 (At (Object.Root root.place) u.number (Birth root r))
@@ -335,7 +335,7 @@ module _ (shape : Shape) (logs : Logs) (holds : HistoriesPaged shape logs) (acts
   hit-there x h =
       let f : (i : ℕ) × (d : Did) × (slice_get (dids (history_of (cache_of x) logs)) i ≡ Some d)
       × (1 ≤ hits x d) = total-found (hits x) (dids (history_of (cache_of x) logs)) h in
-      (done-at shape logs holds acts (cache_of x) f.0 (Hit x) (f.2 ∙ ap (λ y. Some y) (is f.1 f.3))).0
+      (done-at shape logs holds acts (cache_of x) refl f.0 (Hit x) (f.2 ∙ ap (λ y. Some y) (is f.1 f.3))).0
     where
       is : (d : Did) → 1 ≤ hits x d → d ≡ Hit x
       is (Hit y) h = ap (λ z. Hit z) (sym (same_region-is x y (one-of-true (same_region x y) h)))
@@ -345,7 +345,7 @@ module _ (shape : Shape) (logs : Logs) (holds : HistoriesPaged shape logs) (acts
   shed-there x h =
       let f : (i : ℕ) × (d : Did) × (slice_get (dids (history_of (cache_of x) logs)) i ≡ Some d)
       × (1 ≤ sheds_of x d) = total-found (sheds_of x) (dids (history_of (cache_of x) logs)) h in
-      (done-at shape logs holds acts (cache_of x) f.0 (Shed x) (f.2 ∙ ap (λ y. Some y) (is f.1 f.3))).0
+      (done-at shape logs holds acts (cache_of x) refl f.0 (Shed x) (f.2 ∙ ap (λ y. Some y) (is f.1 f.3))).0
     where
       is : (d : Did) → 1 ≤ sheds_of x d → d ≡ Shed x
       is (Shed y) h = ap (λ z. Shed z) (sym (same_region-is x y (one-of-true (same_region x y) h)))

@@ -173,10 +173,10 @@ module _ (shape : Shape) (logs : Logs) (holds : HistoriesPaged shape logs) (acts
       let at : (j : ℕ) × (k ≡ 1 + j)
       × (slice_get (history_of (Object.Root root.place) logs) j ≡ Some (lane, End root)) =
       in-history (Object.Root root.place) logs (history_of (Object.Root root.place) logs)
-      (holds.whole (Object.Root root.place)) lane i k (End root) is' in
+      (holds.whole (Object.Root root.place) refl) lane i k (End root) is' in
       let ok : (t : RootPlace) × (place_after root.place (dids (history_of (Object.Root root.place) logs)) ≡ Some t) =
       is-some (place_after root.place (dids (history_of (Object.Root root.place) logs)))
-      (holds.accepted (Object.Root root.place)) in
+      (holds.accepted (Object.Root root.place) refl) in
       let b : (m : RootPlace) × (p : Present) × (i : ℕ)
       × (place_after root.place (take at.0 (dids (history_of (Object.Root root.place) logs))) ≡ Some m)
       × (m.present ≡ Some p) × (p.root ≡ root)
@@ -197,7 +197,7 @@ module _ (shape : Shape) (logs : Logs) (holds : HistoriesPaged shape logs) (acts
       let n : (i : ℕ) × (slice_get (of_lane logs l.0) i
       ≡ Some (At (Object.Root root.place) (1 + b.2) (Birth root b.1.region))) =
       in-log (Object.Root root.place) logs (history_of (Object.Root root.place) logs)
-      (holds.whole (Object.Root root.place)) l.0 b.2 (Birth root b.1.region) l.1 in (
+      (holds.whole (Object.Root root.place) refl) l.0 b.2 (Birth root b.1.region) l.1 in (
         record {
           lane = l.0;
           at = n.0;

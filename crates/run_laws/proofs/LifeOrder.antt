@@ -1,5 +1,5 @@
 -- The life of each region: what a cache gives was kept there, and what came back is not used again.
-use Rattle.std.proofs.Common.{◌≡◌, ℕ, zero, suc, ◌+◌, ◌≤◌, ap, arith, Some, ◌∙◌}
+use Rattle.std.proofs.Common.{◌≡◌, ℕ, zero, suc, ◌+◌, ◌≤◌, ap, arith, Some, ◌∙◌, refl}
 use Rattle.std.specs.Prelude.{◌⊎◌, ◌<◌, slice_get}
 use Rattle.pool_law.specs.declared.id.RootId.{RootId}
 use Rattle.pool_law.specs.declared.id.RegionId.{RegionId}
@@ -31,16 +31,16 @@ module _ (shape : Shape) (logs : Logs) (holds : HistoriesPaged shape logs) (acts
       → (kept : Done logs (cache_of r) (Kept r)) × (kept.number < k)
   kept-first lane i k d r is out =
       let at : (j : ℕ) × (k ≡ 1 + j) × (slice_get (history_of (cache_of r) logs) j ≡ Some (lane, d)) =
-      in-history (cache_of r) logs (history_of (cache_of r) logs) (holds.whole (cache_of r)) lane i k d is in
+      in-history (cache_of r) logs (history_of (cache_of r) logs) (holds.whole (cache_of r) refl) lane i k d is in
       let ok : (c : Cache) × (cache_after r.owner r.class (dids (history_of (cache_of r) logs)) ≡ Some c) =
-      is-some (cache_after r.owner r.class (dids (history_of (cache_of r) logs))) (holds.accepted (cache_of r)) in
+      is-some (cache_after r.owner r.class (dids (history_of (cache_of r) logs))) (holds.accepted (cache_of r) refl) in
       let b : (m : ℕ) × (slice_get (dids (history_of (cache_of r) logs)) m ≡ Some (Kept r))
       × (m < at.0) = kept-before r.owner r.class (dids (history_of (cache_of r) logs)) ok.0 at.0 d r ok.1
       (dids-at (history_of (cache_of r) logs) at.0 lane d at.2) out in
       let l : (lane : ℕ) × (slice_get (history_of (cache_of r) logs) b.0 ≡ Some (lane, Kept r)) =
       dids-there (history_of (cache_of r) logs) b.0 (Kept r) b.1 in
       let n : (i : ℕ) × (slice_get (of_lane logs l.0) i ≡ Some (At (cache_of r) (1 + b.0) (Kept r))) =
-      in-log (cache_of r) logs (history_of (cache_of r) logs) (holds.whole (cache_of r)) l.0 b.0 (Kept r) l.1 in
+      in-log (cache_of r) logs (history_of (cache_of r) logs) (holds.whole (cache_of r) refl) l.0 b.0 (Kept r) l.1 in
       (record { lane = l.0; at = n.0; number = 1 + b.0; stands = n.1 }, omega (arith, at.1, b.2))
 
   pub given-most : (r : RegionId) → gives_in logs r ≤ 1

@@ -200,7 +200,7 @@ module _ (shape : Shape) (logs : Logs) (holds : HistoriesPaged shape logs) (acts
               record {
                 later = the h.end ∷ the give ∷ [];
                 lives = (refl, refl);
-                order = (u.birth, ((refl, births-before), (h.end.stands, ((refl, h.held.order), given))));
+                order = (u.birth, ((refl, (births-before, refl)), (h.end.stands, ((refl, h.held.order), given))));
                 all = all-of x (the_birth u ∷ the h.end ∷ the give ∷ []) at-give
                     (λ m f s moves. absurd (none-after x used
                     (omega (
@@ -277,12 +277,12 @@ module _ (shape : Shape) (logs : Logs) (holds : HistoriesPaged shape logs) (acts
                   order = (
                     u.birth,
                     (
-                      (refl, births-before),
+                      (refl, (births-before, refl)),
                       (
                         h.end.stands,
                         (
                           (refl, h.held.order),
-                          (stands, ((refl, after-kept), (s.stands, ((back.1, back.2), back.0.stands)))),
+                          (stands, ((refl, (after-kept, refl)), (s.stands, ((back.1, back.2), back.0.stands)))),
                         ),
                       ),
                     ),
@@ -332,8 +332,8 @@ module _ (shape : Shape) (logs : Logs) (holds : HistoriesPaged shape logs) (acts
                   order = (
                     u.birth,
                     (
-                      (refl, births-before),
-                      (h.end.stands, ((refl, h.held.order), (stands, ((refl, before-hit), rest.order)))),
+                      (refl, (births-before, refl)),
+                      (h.end.stands, ((refl, h.held.order), (stands, ((refl, (before-hit, refl)), rest.order)))),
                     ),
                   );
                   all = all-of x (the_birth u ∷ the h.end ∷ the kept ∷ the g ∷ rest.later) at-hit

@@ -1,81 +1,94 @@
--- The parcels that a mail holds, by what is posted and fetched there.
-use Rattle.std.proofs.Common.{◌≡◌, ℕ, zero, suc, ◌+◌, List, [], ◌∷◌, ◌++◌, take, refl, ap, arith, Bool, true, false, Some, None, ◌∙◌}
-use Rattle.std.specs.Prelude.{◌<◌, ◌==◌, ◌&&◌, if◌then◌else◌, Option, option_and_then, slice_get}
+-- The parcels of a mail, by what is posted and fetched there.
+use Rattle.std.proofs.Common.{◌≡◌, ℕ, zero, suc, ◌+◌, List, [], ◌∷◌, ◌++◌, refl, sym, ap, arith, Bool, true, false, ◌∙◌, eqb-true, ne_eqb}
+use Rattle.std.specs.Prelude.{◌≢◌, ◌<◌, ◌==◌, ◌&&◌, if◌then◌else◌}
+use Rattle.std.specs.List.{list_all}
 use Rattle.size_classes.specs.Sizes.{below}
 use Rattle.pool_law.specs.declared.id.RootId.{RootId}
 use Rattle.pool_law.specs.declared.id.Parcel.{Parcel}
-use Rattle.pool_law.specs.declared.id.ViewData.{ViewData}
 use Rattle.pool_law.specs.declared.note.Object.{Object}
 use Rattle.pool_law.specs.declared.note.Did.{Did}
 use Rattle.pool_law.specs.declared.note.Did.TheVariants.{Post, Fetch}
+use Rattle.pool_law.specs.declared.note.Note.{Note}
+use Rattle.pool_law.specs.declared.note.Note.TheVariants.{At, Ref, Busy}
 use Rattle.pool_law.specs.declared.run.Shape.{Shape}
-use Rattle.pool_law.specs.Limits.{geometry_of}
-use Rattle.pool_law.specs.Same.{same_views, same_parcel, same_root}
-use Rattle.pool_law.specs.Arenas.{Arena, new_arena, arena_step}
-use Rattle.pool_law.specs.Caches.{Cache, new_cache, lane_cache_step, new_bin, bin_step, mail_step}
-use Rattle.pool_law.specs.Roots.{RootPlace, Present, new_place, place_step, place_step_by}
-use Rattle.pool_law.specs.Histories.{after, IsAccepted, arena_after, cache_after, place_after}
-use Rattle.run_laws.specs.CacheCounts.{total_by}
+use Rattle.pool_law.specs.Same.{same_object}
+use Rattle.pool_law.specs.Kinds.{Passing, Stays, Goes, Comes, passing}
+use Rattle.pool_law.specs.Logs.{has_history, may_stand, note_stands}
+use Rattle.pool_law.specs.Mails.{gone, come, posted, fetched}
 use Rattle.pool_law.specs.Counts.{view_is_of}
 use Rattle.run_laws.specs.Parcels.{parcels_of, sum_up}
-use Rattle.pool_law.proofs.SameLemmas.{and-first, same_root-is}
+use Rattle.pool_law.proofs.SameLemmas.{and-first, and-second}
 use Rattle.pool_law.proofs.HistoryLemmas.{over_lanes, over-same}
-use Rattle.run_laws.proofs.Placed.{is-some, step-at}
+use Rattle.run_laws.proofs.Sums.{sum_by}
+use Rattle.run_laws.proofs.Numbered.{plain, at_object}
+use Rattle.run_laws.proofs.Draining.{zero-if}
 use Rattle.run_laws.proofs.Totals.{pick, over_lanes-none}
-use Rattle.std.proofs.lemmas.Bool.{cond_both}
 
 abbrev pub one : Bool → ℕ
 one b = if b then 1 else 0
 
+-- a parcel with the root that goes, and one that comes
+abbrev pub goes_with : RootId → Passing → ℕ
+goes_with root Stays = 0
+goes_with root (Goes p) = one (view_is_of root p.view)
+goes_with root (Comes p) = 0
+
+abbrev pub comes_with : RootId → Passing → ℕ
+comes_with root Stays = 0
+comes_with root (Goes p) = 0
+comes_with root (Comes p) = one (view_is_of root p.view)
+
 abbrev pub posts : RootId → Did → ℕ
-posts root (Post p) = one (view_is_of root p.view)
-posts root _ = 0
+posts root d = goes_with root (passing d)
 
 abbrev pub fetches : RootId → Did → ℕ
-fetches root (Fetch p) = one (view_is_of root p.view)
-fetches root _ = 0
+fetches root d = comes_with root (passing d)
 
-pub parcels-append : (root : RootId) (xs ys : List Parcel)
+pub parcels-append : (root : RootId) (xs ys : List (ℕ × Parcel))
     → parcels_of root (xs ++ ys) ≡ parcels_of root xs + parcels_of root ys
 parcels-append root [] ys = omega arith
 parcels-append root (x ∷ xs) ys = omega (arith, parcels-append root xs ys)
 
--- parcels that are the same have views of the same roots
-pub same-parcels : (root : RootId) (p q : Option ViewData) → same_views p q ≡ true
-    → view_is_of root p ≡ view_is_of root q
-same-parcels root None None e = refl
-same-parcels root None (Some b) e = absurd (cc e)
-same-parcels root (Some a) None e = absurd (cc e)
-same-parcels root (Some a) (Some b) e =
-    ap (λ r. same_root r root) (same_root-is a.root b.root (and-first (same_root a.root b.root) _ e))
-
-pub step-parcels : (root : RootId) (s t : List Parcel) (d : Did) → mail_step s d ≡ Some t
-    → parcels_of root s + posts root d ≡ fetches root d + parcels_of root t
-step-parcels root s t (Post p) e =
-    let same : s ++ p ∷ [] ≡ t = cc e in omega (arith, ap (parcels_of root) same, parcels-append root s (p ∷ []))
-step-parcels root [] t (Fetch p) e = absurd (cc e)
-step-parcels root (x ∷ s) t (Fetch p) e =
-    cond_both (same_parcel p x) (Some s) None
-    (λ z. z ≡ Some t → parcels_of root (x ∷ s) + 0 ≡ one (view_is_of root p.view) + parcels_of root t)
-    (λ test is. let same : s ≡ t = cc is in omega
-    (arith, ap (parcels_of root) same, ap one (same-parcels root p.view x.view test)))
-    (λ _ is. absurd (cc is)) e
-step-parcels root s t _ e = absurd (cc e)
-
-pub after-parcels : (root : RootId) (ds : List Did) (s t : List Parcel) → after mail_step s ds ≡ Some t
-    → parcels_of root s + total_by (posts root) ds ≡ total_by (fetches root) ds + parcels_of root t
-after-parcels root [] s t e = let same : s ≡ t = cc e in omega (arith, ap (parcels_of root) same)
-after-parcels root (d ∷ ds) s t e =
-    go (mail_step s d) (λ m is. step-parcels root s m d is) e (λ m. after-parcels root ds m t)
+-- the posts of a log at a mail are the parcels that it posts there, and so are the fetches
+pub posts-sum : (root : RootId) (mail : Object) (log : List Note)
+    → sum_by (at_object mail (plain (posts root))) log ≡ parcels_of root (posted mail log)
+posts-sum root mail [] = refl
+posts-sum root mail (At o k d ∷ ns) =
+    omega (
+      arith,
+      one-note (same_object mail o) (passing d),
+      parcels-append root (if same_object mail o then gone k (passing d) else []) (posted mail ns),
+      posts-sum root mail ns,
+    )
   where
-    go : (o : Option (List Parcel))
-        → ((m : List Parcel) → o ≡ Some m → parcels_of root s + posts root d ≡ fetches root d + parcels_of root m)
-        → option_and_then (λ m. after mail_step m ds) o ≡ Some t →
-        ((m : List Parcel) → after mail_step m ds ≡ Some t
-        → parcels_of root m + total_by (posts root) ds ≡ total_by (fetches root) ds + parcels_of root t) →
-        parcels_of root s + total_by (posts root) (d ∷ ds) ≡ total_by (fetches root) (d ∷ ds) + parcels_of root t
-    go None first is rest = absurd (cc is)
-    go (Some m) first is rest = omega (arith, first m refl, rest m is)
+    one-note : (b : Bool) (q : Passing) → (if b then goes_with root q else 0)
+        ≡ parcels_of root (if b then gone k q else [])
+    one-note true Stays = refl
+    one-note true (Goes p) = omega arith
+    one-note true (Comes p) = refl
+    one-note false q = refl
+posts-sum root mail (Ref r did ∷ ns) = omega (arith, posts-sum root mail ns)
+posts-sum root mail (Busy held ∷ ns) = omega (arith, posts-sum root mail ns)
+
+pub fetches-sum : (root : RootId) (mail : Object) (log : List Note)
+    → sum_by (at_object mail (plain (fetches root))) log ≡ parcels_of root (fetched mail log)
+fetches-sum root mail [] = refl
+fetches-sum root mail (At o k d ∷ ns) =
+    omega (
+      arith,
+      one-note (same_object mail o) (passing d),
+      parcels-append root (if same_object mail o then come k (passing d) else []) (fetched mail ns),
+      fetches-sum root mail ns,
+    )
+  where
+    one-note : (b : Bool) (q : Passing) → (if b then comes_with root q else 0)
+        ≡ parcels_of root (if b then come k q else [])
+    one-note true Stays = refl
+    one-note true (Goes p) = refl
+    one-note true (Comes p) = omega arith
+    one-note false q = refl
+fetches-sum root mail (Ref r did ∷ ns) = omega (arith, fetches-sum root mail ns)
+fetches-sum root mail (Busy held ∷ ns) = omega (arith, fetches-sum root mail ns)
 
 -- posts and fetches stand at mails
 abbrev pub IsMail : Object → Type 0
@@ -87,64 +100,73 @@ AtMail o (Post p) = IsMail o
 AtMail o (Fetch p) = IsMail o
 AtMail o _ = Unit {0}
 
-pub place-no_mail : (place : ℕ) (m n : RootPlace) (o : Option Present) (d : Did) → place_step_by place m o d ≡ Some n
-    → AtMail (Object.Root place) d
-place-no_mail place m n None (Post p) e = cc e
-place-no_mail place m n None (Fetch p) e = cc e
-place-no_mail place m n (Some q) (Post p) e = cc e
-place-no_mail place m n (Some q) (Fetch p) e = cc e
-place-no_mail place m n o _ e = tt
+pub at-mail : (shape : Shape) (lane : ℕ) (o : Object) (d : Did) → may_stand shape lane o d ≡ true → AtMail o d
+at-mail shape lane (Object.Mail from to) (Post p) e = tt
+at-mail shape lane _ (Post p) e = absurd (cc e)
+at-mail shape lane (Object.Mail from to) (Fetch p) e = tt
+at-mail shape lane _ (Fetch p) e = absurd (cc e)
+at-mail shape lane o _ e = tt
 
-pub at-mail : (shape : Shape) (o : Object) (ds : List Did) (j : ℕ) (d : Did) → IsAccepted shape o ds
-    → slice_get ds j ≡ Some d → AtMail o d
-at-mail shape (Object.Arena number) ds j d ok is =
-    let s : (a : Arena) × (arena_after shape number ds ≡ Some a) = is-some (arena_after shape number ds) ok in
-    let t : (m : Arena) × (n : Arena)
-    × (after (arena_step (geometry_of shape) number) (new_arena (geometry_of shape) shape.chunks) (take j ds)
-    ≡ Some m) × (arena_step (geometry_of shape) number m d ≡ Some n) =
-    step-at (arena_step (geometry_of shape) number) ds (new_arena (geometry_of shape) shape.chunks) s.0 j d
-    s.1 is in
-    go d t.0 t.1 t.3
-  where
-    go : (d : Did) (m n : Arena) → arena_step (geometry_of shape) number m d ≡ Some n → AtMail (Object.Arena number) d
-    go (Post p) m n e = cc e
-    go (Fetch p) m n e = cc e
-    go _ m n e = tt
-at-mail shape (Object.Cache lane class) ds j d ok is =
-    let s : (c : Cache) × (cache_after lane class ds ≡ Some c) = is-some (cache_after lane class ds) ok in
-    let t : (m : Cache) × (n : Cache) × (after (lane_cache_step lane class) new_cache (take j ds) ≡ Some m)
-    × (lane_cache_step lane class m d ≡ Some n) =
-    step-at (lane_cache_step lane class) ds new_cache s.0 j d s.1 is in
-    go d t.0 t.1 t.3
-  where
-    go : (d : Did) (m n : Cache) → lane_cache_step lane class m d ≡ Some n → AtMail (Object.Cache lane class) d
-    go (Post p) m n e = cc e
-    go (Fetch p) m n e = cc e
-    go _ m n e = tt
-at-mail shape (Object.Bin lane) ds j d ok is =
-    let s : (c : List ℕ) × (after (bin_step lane shape.handles) (new_bin lane shape.handles) ds ≡ Some c) =
-    is-some (after (bin_step lane shape.handles) (new_bin lane shape.handles) ds) ok in
-    let t : (m : List ℕ) × (n : List ℕ)
-    × (after (bin_step lane shape.handles) (new_bin lane shape.handles) (take j ds) ≡ Some m)
-    × (bin_step lane shape.handles m d ≡ Some n) =
-    step-at (bin_step lane shape.handles) ds (new_bin lane shape.handles) s.0 j d s.1 is in
-    go d t.0 t.1 t.3
-  where
-    go : (d : Did) (m n : List ℕ) → bin_step lane shape.handles m d ≡ Some n → AtMail (Object.Bin lane) d
-    go (Post p) m n e = cc e
-    go (Fetch p) m n e = cc e
-    go _ m n e = tt
-at-mail shape (Object.Mail from to) ds j d ok is = go d
-  where
-    go : (d : Did) → AtMail (Object.Mail from to) d
-    go (Post p) = tt
-    go (Fetch p) = tt
-    go _ = tt
-at-mail shape (Object.Root place) ds j d ok is =
-    let s : (p : RootPlace) × (place_after place ds ≡ Some p) = is-some (place_after place ds) ok in
-    let t : (m : RootPlace) × (n : RootPlace) × (after (place_step place) new_place (take j ds) ≡ Some m)
-    × (place_step place m d ≡ Some n) = step-at (place_step place) ds new_place s.0 j d s.1 is in
-    place-no_mail place t.0 t.1 t.0.present d t.3
+-- two mails that differ at an end are not the same
+not-first : (a b : ℕ) (c : Bool) (w : ℕ) → a ≢ b → (if (a == b) && c then w else 0) ≡ 0
+not-first a b c w differ = ap (λ z. if z && c then w else 0) (ne_eqb a b differ)
+
+not-second : (c : Bool) (a b w : ℕ) → a ≢ b → (if c && (a == b) then w else 0) ≡ 0
+not-second true a b w differ = ap (λ z. if z then w else 0) (ne_eqb a b differ)
+not-second false a b w differ = refl
+
+-- the first lane of a mail alone posts to it, and the second alone fetches
+module _ (shape : Shape) (root : RootId) (lane from to : ℕ) where
+  abbrev Stand : List Note → Type 0
+  Stand ns = list_all (note_stands shape lane) ns ≡ true
+
+  pub others-post : (ns : List Note) → Stand ns → lane ≢ from
+      → sum_by (at_object (Object.Mail from to) (plain (posts root))) ns ≡ 0
+  others-post [] stand differ = refl
+  others-post (At o k d ∷ ns) stand differ =
+      omega (
+        arith,
+        none o d (and-first _ _ stand),
+        others-post ns (and-second (may_stand shape lane o d) (list_all (note_stands shape lane) ns) stand) differ,
+      )
+    where
+      none : (o : Object) (d : Did) → may_stand shape lane o d ≡ true
+          → (if same_object (Object.Mail from to) o then posts root d else 0) ≡ 0
+      none (Object.Mail a b) (Post p) own =
+          not-first from a (to == b) (one (view_is_of root p.view))
+          (λ same. differ (eqb-true lane a own ∙ sym same))
+      none (Object.Mail a b) _ own = zero-if ((from == a) && (to == b))
+      none _ d own = refl
+  others-post (Ref r did ∷ ns) stand differ = omega (arith, others-post ns stand differ)
+  others-post (Busy held ∷ ns) stand differ =
+      omega (
+        arith,
+        others-post ns (and-second (has_history held.object) (list_all (note_stands shape lane) ns) stand) differ,
+      )
+
+  pub others-fetch : (ns : List Note) → Stand ns → lane ≢ to
+      → sum_by (at_object (Object.Mail from to) (plain (fetches root))) ns ≡ 0
+  others-fetch [] stand differ = refl
+  others-fetch (At o k d ∷ ns) stand differ =
+      omega (
+        arith,
+        none o d (and-first _ _ stand),
+        others-fetch ns (and-second (may_stand shape lane o d) (list_all (note_stands shape lane) ns) stand) differ,
+      )
+    where
+      none : (o : Object) (d : Did) → may_stand shape lane o d ≡ true
+          → (if same_object (Object.Mail from to) o then fetches root d else 0) ≡ 0
+      none (Object.Mail a b) (Fetch p) own =
+          not-second (from == a) to b (one (view_is_of root p.view))
+          (λ same. differ (eqb-true lane b own ∙ sym same))
+      none (Object.Mail a b) _ own = zero-if ((from == a) && (to == b))
+      none _ d own = refl
+  others-fetch (Ref r did ∷ ns) stand differ = omega (arith, others-fetch ns stand differ)
+  others-fetch (Busy held ∷ ns) stand differ =
+      omega (
+        arith,
+        others-fetch ns (and-second (has_history held.object) (list_all (note_stands shape lane) ns) stand) differ,
+      )
 
 -- sums over the numbers below another
 pub sum_up-append : (xs ys : List ℕ) (f : ℕ → ℕ) → sum_up (xs ++ ys) f ≡ sum_up xs f + sum_up ys f

@@ -193,7 +193,7 @@ module _ (shape : Shape) (logs : Logs) (holds : HistoriesPaged shape logs) (acts
           let p : (Object.Arena number ≡ arena_of t.1)
           × ((t.1.uses ≡ 0) × (t.1.class ≡ t.0)) =
           placed shape holds.page (Object.Arena number) ds f.0 (Take t.0 t.1)
-          (holds.accepted (Object.Arena number)) (f.2 ∙ ap (λ x. Some x) t.2) in
+          (holds.accepted (Object.Arena number) refl) (f.2 ∙ ap (λ x. Some x) t.2) in
           let x_is : t.1 ≡ with_uses r 0 = same_taking-back t.1 r t.3 ∙ ap (λ n. with_uses r n) p.1.0 in
           let here : Object.Arena number ≡ arena_of r = p.0 ∙ ap arena_of x_is in
           let at : slice_get (dids (history_of (arena_of r) logs)) f.0

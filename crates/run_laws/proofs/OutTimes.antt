@@ -1,12 +1,11 @@
 -- How often a taking is out of an arena, over its history.
 use Rattle.std.proofs.Common.{inl, inr, ◌≡◌, ℕ, zero, suc, ◌+◌, ◌≤◌, List, [], ◌∷◌, ◌++◌, refl, sym, ap, subst, arith, Bool, true, false, Some, None, ◌∙◌}
 use Rattle.std.specs.Prelude.{nat_lt, not, filter, Option, option_and_then, slice_get}
-use Rattle.std.specs.List.{list_all, list_any}
+use Rattle.std.specs.List.{list_any}
 use Rattle.size_classes.specs.Sizes.{Geometry, class_count}
 use Rattle.pool_law.specs.declared.id.RegionId.{RegionId}
 use Rattle.pool_law.specs.declared.note.Did.{Did}
 use Rattle.pool_law.specs.declared.note.Did.TheVariants.{Take, Full, Give}
-use Rattle.pool_law.specs.declared.note.Note.{Note}
 use Rattle.pool_law.specs.Same.{same_taking, same_region}
 use Rattle.pool_law.specs.Arenas.{Arena, arena_step, take, give, is_out_of, if_none}
 use Rattle.pool_law.specs.Histories.{after}
@@ -15,7 +14,7 @@ use Rattle.arena_law.specs.Slots.{EachOf, ArenaHolds}
 use Rattle.arena_law.specs.Takings.{TakenInOrder}
 use Rattle.arena_law.specs.Returns.{gives}
 use Rattle.run_laws.specs.CacheCounts.{one_of, total_by}
-use Rattle.pool_law.proofs.SameLemmas.{same_region-is, and-first, and-second}
+use Rattle.pool_law.proofs.SameLemmas.{same_region-is}
 use Rattle.pool_law.proofs.PatternLemmas.{same_taking-refl}
 use Rattle.arena_law.proofs.ArenaLaw.{step-holds}
 use Rattle.arena_law.proofs.GiveSteps.{IsOne}
@@ -187,10 +186,3 @@ one-any test x (y ∷ ys) (inr o) e = go (test y) refl (one-any test x ys o e)
     go : (b : Bool) → test y ≡ b → list_any test ys ≡ true → list_any test (y ∷ ys) ≡ true
     go true here rest = rw here refl
     go false here rest = rw here rest
-
-pub all-at : (test : Note → Bool) (ns : List Note) (i : ℕ) (n : Note) → list_all test ns ≡ true
-    → slice_get ns i ≡ Some n → test n ≡ true
-all-at test [] i n all e = absurd (cc e)
-all-at test (x ∷ ns) zero n all e =
-    let same : x ≡ n = cc e in ap test (sym same) ∙ and-first (test x) (list_all test ns) all
-all-at test (x ∷ ns) (suc i) n all e = all-at test ns i n (and-second (test x) (list_all test ns) all) e

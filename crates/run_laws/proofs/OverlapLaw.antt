@@ -295,7 +295,7 @@ module _ (logs : Logs) where
         (among-after logs m.take m.later (the_birth v) m.order
         (births-later b m second b v (same_taking-refl b))) in
         let arenas : arena_of a ≡ arena_of b = ap Object.Arena over.arena in
-        let back : Reaches logs (the before.given) (the before.taken) = ([], inr (arenas, before.order)) in
+        let back : Reaches logs (the before.given) (the before.taken) = ([], inr (arenas, (before.order, refl))) in
         let way : Reaches logs end.end (the_birth v) =
         reach logs end.end (the before.given) (the_birth v) end.order before.given.stands
         (reach logs (the before.given) (the before.taken) (the_birth v) back before.taken.stands born) in

@@ -1,6 +1,7 @@
 -- What was posted and not fetched is in the mails at the end.
-use Rattle.std.proofs.Common.{inl, inr, ◌≡◌, ℕ, zero, suc, ◌+◌, ◌≤◌, List, [], ◌∷◌, length, refl, sym, ap, arith, Bool, true, Some, ◌∙◌, eqb-true}
+use Rattle.std.proofs.Common.{inl, inr, ◌≡◌, ℕ, zero, suc, ◌+◌, ◌≤◌, List, [], ◌∷◌, length, take, drop, take-append-drop, refl, sym, ap, arith, Bool, true, Some, ◌∙◌, eqb-true}
 use Rattle.std.specs.Prelude.{◌⊎◌, ◌<◌, ◌==◌, ◌&&◌, if◌then◌else◌, map, slice_get}
+use Rattle.std.specs.List.{list_all}
 use Rattle.size_classes.specs.Sizes.{below}
 use Rattle.pool_law.specs.declared.id.RootId.{RootId}
 use Rattle.pool_law.specs.declared.id.Parcel.{Parcel}
@@ -10,89 +11,106 @@ use Rattle.pool_law.specs.declared.note.Did.TheVariants.{Post, Fetch}
 use Rattle.pool_law.specs.declared.note.Note.{Note}
 use Rattle.pool_law.specs.declared.note.Note.TheVariants.{At, Ref, Busy}
 use Rattle.pool_law.specs.declared.run.Shape.{Shape}
-use Rattle.pool_law.specs.Histories.{mail_after}
-use Rattle.pool_law.specs.Logs.{Logs, dids, of_lane, history_of, entry_of, entries_of, note_stands}
-use Rattle.pool_law.specs.Legal.{HistoriesHold, CountsAgree}
-use Rattle.run_laws.specs.CacheCounts.{total_by}
+use Rattle.pool_law.specs.Logs.{Logs, of_lane, entry_of, entries_of, note_stands}
+use Rattle.pool_law.specs.Mails.{posted, fetched, MailsHold}
+use Rattle.pool_law.specs.Legal.{CountsAgree}
 use Rattle.pool_law.specs.Counts.{count_in, count_over, is_birth}
 use Rattle.run_laws.specs.CountLaw.{is_posted, is_fetched}
-use Rattle.run_laws.specs.Parcels.{parcels_if, unfetched_of, sum_up, unfetched, PostsWithin, TotalIsShared}
+use Rattle.run_laws.specs.Parcels.{parcels_of, unfetched_of, sum_up, unfetched, PostsWithin, TotalIsShared}
 use Rattle.run_laws.proofs.LogEntries.{lane-there, entry-note}
 use Rattle.run_laws.proofs.CountSums.{total-is_counted}
 use Rattle.pool_law.proofs.HistoryLemmas.{over_lanes, over-same, over-add}
-use Rattle.run_laws.proofs.Sums.{sum_by, sum_over, over-at, over-alike, over-many}
-use Rattle.run_laws.proofs.Numbered.{plain, total-plain, at_object, regroup, in-history, in-log}
-use Rattle.run_laws.proofs.Placed.{is-some, total-found}
-use Rattle.run_laws.proofs.Totals.{dids-at, dids-there, over_lanes-none}
+use Rattle.run_laws.proofs.Sums.{sum_by, sum_over, sum-found, over-at, over-alike, over-single, over-many}
+use Rattle.run_laws.proofs.Numbered.{plain, at_object}
+use Rattle.run_laws.proofs.Totals.{over_lanes-none}
 use Rattle.pool_law.proofs.PatternLemmas.{same_object-refl}
 use Rattle.run_laws.proofs.Draining.{zero-if}
-use Rattle.run_laws.proofs.OutTimes.{all-at}
-use Rattle.run_laws.proofs.MailParcels.{one, posts, fetches, after-parcels, IsMail, AtMail, at-mail, sum_up-over, pick-mail}
+use Rattle.run_laws.proofs.MailParcels.{one, posts, fetches, parcels-append, posts-sum, fetches-sum, IsMail, AtMail, at-mail, others-post, others-fetch, sum_up-over, pick-mail}
+use Rattle.run_laws.proofs.Placed.{all-at}
 
 abbrev pub note_weight : (Did → ℕ) → Note → ℕ
 note_weight f (At o k d) = f d
 note_weight f (Ref r did) = 0
 note_weight f (Busy held) = 0
 
-module _ (shape : Shape) (logs : Logs) (holds : HistoriesHold shape logs) (root : RootId) (n : ℕ)
-    (few : length logs ≤ n) (within : PostsWithin logs n) where
+-- how many entries of all logs pass a test, by their notes
+pub count-notes : (logs : Logs) (test : Note → Bool) (rest : Logs)
+    → count_over test (map (map (entry_of logs)) rest) ≡ sum_over (λ x. one (test x)) rest
+count-notes logs test [] = refl
+count-notes logs test (log ∷ rest) = omega (arith, in_log log, count-notes logs test rest)
+  where
+    in_log : (log : List Note) → count_in test (map (entry_of logs) log) ≡ sum_by (λ x. one (test x)) log
+    in_log [] = refl
+    in_log (x ∷ log) = omega (arith, ap (λ y. one (test y)) (entry-note logs x), in_log log)
+
+module _ (shape : Shape) (logs : Logs)
+    (stand : (lane : ℕ) → list_all (note_stands shape lane) (of_lane logs lane) ≡ true) (hold : MailsHold logs)
+    (root : RootId) (n : ℕ) (few : length logs ≤ n) (within : PostsWithin logs n) where
   -- a mail that is used lies between the lanes
   posted-inside : (lane i k from to : ℕ) (p : Parcel)
       → slice_get (of_lane logs lane) i ≡ Some (At (Object.Mail from to) k (Post p)) → (from < n) × (to < n)
   posted-inside lane i k from to p is =
       let stands : (lane == from) ≡ true = all-at (note_stands shape lane) (of_lane logs lane) i
-      (At (Object.Mail from to) k (Post p)) (holds.stand lane) is in (
+      (At (Object.Mail from to) k (Post p)) (stand lane) is in (
         omega (arith, few, lane-there logs lane i (At (Object.Mail from to) k (Post p)) is, eqb-true lane from stands),
         within from to p (record { lane = lane; at = i; number = k; stands = is }),
       )
 
-  at-total : (o : Object) (f : Did → ℕ) → sum_over (at_object o (plain f)) logs ≡ total_by f (dids (history_of o logs))
-  at-total o f =
-      regroup o (plain f) logs (history_of o logs) (holds.whole o) ∙ total-plain f 1 (dids (history_of o logs))
+  -- what was posted to a mail, and what was fetched from it, with a view of the root
+  abbrev sent : ℕ → ℕ → ℕ
+  sent from to = parcels_of root (posted (Object.Mail from to) (of_lane logs from))
+
+  abbrev got : ℕ → ℕ → ℕ
+  got from to = parcels_of root (fetched (Object.Mail from to) (of_lane logs to))
+
+  posts-total : (from to : ℕ) → sum_over (at_object (Object.Mail from to) (plain (posts root))) logs ≡ sent from to
+  posts-total from to =
+      over-single (at_object (Object.Mail from to) (plain (posts root))) logs from
+      (λ lane differ. others-post shape root lane from to (of_lane logs lane) (stand lane) differ)
+      ∙ posts-sum root (Object.Mail from to) (of_lane logs from)
+
+  fetches-total : (from to : ℕ) → sum_over (at_object (Object.Mail from to) (plain (fetches root))) logs ≡ got from to
+  fetches-total from to =
+      over-single (at_object (Object.Mail from to) (plain (fetches root))) logs to
+      (λ lane differ. others-fetch shape root lane from to (of_lane logs lane) (stand lane) differ)
+      ∙ fetches-sum root (Object.Mail from to) (of_lane logs to)
 
   -- in one mail: what was posted was fetched, or is there
-  mail-even : (from to : ℕ) → total_by (posts root) (dids (history_of (Object.Mail from to) logs))
-      ≡ total_by (fetches root) (dids (history_of (Object.Mail from to) logs)) + unfetched_of logs root from to
+  mail-even : (from to : ℕ) → sent from to ≡ got from to + unfetched_of logs root from to
   mail-even from to =
-      let t : (t : List Parcel) × (mail_after (dids (history_of (Object.Mail from to) logs)) ≡ Some t) =
-      is-some (mail_after (dids (history_of (Object.Mail from to) logs))) (holds.accepted (Object.Mail from to)) in
+      let ps : List (ℕ × Parcel) = posted (Object.Mail from to) (of_lane logs from) in
+      let m : ℕ = length (fetched (Object.Mail from to) (of_lane logs to)) in
       omega (
         arith,
-        after-parcels root (dids (history_of (Object.Mail from to) logs)) [] t.0 t.1,
-        ap (parcels_if root)
-            t.1,
+        ap (parcels_of root) (take-append-drop m ps),
+        parcels-append root (take m ps) (drop m ps),
+        ap (parcels_of root) (hold from to).in_order,
       )
-
-  post-of : (d : Did) → 1 ≤ posts root d → (p : Parcel) × (d ≡ Post p)
-  post-of (Post p) h = (p, refl)
-  post-of _ h = absurd (omega (arith, h))
 
   mail-inside : (lane i k from to : ℕ) (d : Did) → slice_get (of_lane logs lane) i ≡ Some (At (Object.Mail from to) k d)
       → 1 ≤ posts root d + fetches root d → (from < n) × (to < n)
   mail-inside lane i k from to (Post p) is some = posted-inside lane i k from to p is
   mail-inside lane i k from to (Fetch p) is some =
+      let stands : (lane == to) ≡ true = all-at (note_stands shape lane) (of_lane logs lane) i
+      (At (Object.Mail from to) k (Fetch p)) (stand lane) is in
       let weight : at_object (Object.Mail from to) (plain (fetches root)) (At (Object.Mail from to) k (Fetch p))
       ≡ fetches root (Fetch p) =
       ap (λ b. if b then fetches root (Fetch p) else 0) (same_object-refl (Object.Mail from to)) in
-      let fetched : 1 ≤ total_by (fetches root) (dids (history_of (Object.Mail from to) logs)) =
+      let some_sent : 1 ≤ sum_by (at_object (Object.Mail from to) (plain (posts root))) (of_lane logs from) =
       omega (
         arith,
         some,
         weight,
         over-at (at_object (Object.Mail from to) (plain (fetches root))) logs lane i
             (At (Object.Mail from to) k (Fetch p)) is,
-        at-total (Object.Mail from to) (fetches root),
+        fetches-total from to,
+        mail-even from to,
+        posts-sum root (Object.Mail from to) (of_lane logs from),
       ) in
-      let f : (j : ℕ) × (d : Did) × (slice_get (dids (history_of (Object.Mail from to) logs)) j ≡ Some d)
-      × (1 ≤ posts root d) = total-found (posts root) (dids (history_of (Object.Mail from to) logs))
-      (omega (arith, fetched, mail-even from to)) in
-      let q : (q : Parcel) × (f.1 ≡ Post q) = post-of f.1 f.3 in
-      let l : (lane : ℕ) × (slice_get (history_of (Object.Mail from to) logs) f.0 ≡ Some (lane, Post q.0)) =
-      dids-there (history_of (Object.Mail from to) logs) f.0 (Post q.0) (f.2 ∙ ap (λ x. Some x) q.1) in
-      let m : (i : ℕ) × (slice_get (of_lane logs l.0) i ≡ Some (At (Object.Mail from to) (1 + f.0) (Post q.0))) =
-      in-log (Object.Mail from to) logs (history_of (Object.Mail from to) logs) (holds.whole (Object.Mail from to))
-      l.0 f.0 (Post q.0) l.1 in
-      posted-inside l.0 m.0 (1 + f.0) from to q.0 m.1
+      let f = sum-found (at_object (Object.Mail from to) (plain (posts root))) (of_lane logs from) some_sent in (
+        omega (arith, few, lane-there logs from f.0 f.1 f.2),
+        omega (arith, few, lane-there logs lane i (At (Object.Mail from to) k (Fetch p)) is, eqb-true lane to stands),
+      )
   mail-inside lane i k from to _ is some = absurd (omega (arith, some))
 
   abbrev pub Mails : (Did → ℕ) → Note → ℕ
@@ -134,10 +152,7 @@ module _ (shape : Shape) (logs : Logs) (holds : HistoriesHold shape logs) (root 
 
   note-mail : (lane i k : ℕ) (o : Object) (d : Did) → slice_get (of_lane logs lane) i ≡ Some (At o k d) → AtMail o d
   note-mail lane i k o d is =
-      let at : (j : ℕ) × (k ≡ 1 + j) × (slice_get (history_of o logs) j ≡ Some (lane, d)) =
-      in-history o logs (history_of o logs) (holds.whole o) lane i k d is in
-      at-mail shape o (dids (history_of o logs)) at.0 d (holds.accepted o)
-      (dids-at (history_of o logs) at.0 lane d at.2)
+      at-mail shape lane o d (all-at (note_stands shape lane) (of_lane logs lane) i (At o k d) (stand lane) is)
 
   posts-mail : (o : Object) (d : Did) → AtMail o d → (posts root d ≡ 0 → ⊥) → IsMail o
   posts-mail o (Post p) m some = m
@@ -185,60 +200,39 @@ module _ (shape : Shape) (logs : Logs) (holds : HistoriesHold shape logs) (root 
   fetch-weight lane i (Ref r did) is = sym none-inside
   fetch-weight lane i (Busy held) is = sym none-inside
 
-  mails-total : (f : Did → ℕ) → sum_over (Mails f) logs
-      ≡ over_lanes 0 n (λ from. over_lanes 0 n (λ to. total_by f (dids (history_of (Object.Mail from to) logs))))
-  mails-total f =
+  mails-total : (f : Did → ℕ) (total : ℕ → ℕ → ℕ)
+      → ((from to : ℕ) → sum_over (at_object (Object.Mail from to) (plain f)) logs ≡ total from to)
+      → sum_over (Mails f) logs ≡ over_lanes 0 n (λ from. over_lanes 0 n (total from))
+  mails-total f total are =
       over-many (λ from x. over_lanes 0 n (λ to. at_object (Object.Mail from to) (plain f) x)) logs 0 n
       ∙ over-same 0 n (λ from. sum_over (λ x. over_lanes 0 n (λ to. at_object (Object.Mail from to) (plain f) x)) logs)
-      (λ from. over_lanes 0 n (λ to. total_by f (dids (history_of (Object.Mail from to) logs))))
+      (λ from. over_lanes 0 n (total from))
       (λ from. over-many (λ to x. at_object (Object.Mail from to) (plain f) x) logs 0 n
-      ∙ over-same 0 n (λ to. sum_over (at_object (Object.Mail from to) (plain f)) logs)
-      (λ to. total_by f (dids (history_of (Object.Mail from to) logs))) (λ to. at-total (Object.Mail from to) f))
-
-  count-notes : (test : Note → Bool) (rest : Logs)
-      → count_over test (map (map (entry_of logs)) rest) ≡ sum_over (λ x. one (test x)) rest
-  count-notes test [] = refl
-  count-notes test (log ∷ rest) = omega (arith, in_log log, count-notes test rest)
-    where
-      in_log : (log : List Note) → count_in test (map (entry_of logs) log) ≡ sum_by (λ x. one (test x)) log
-      in_log [] = refl
-      in_log (x ∷ log) = omega (arith, ap (λ y. one (test y)) (entry-note logs x), in_log log)
+      ∙ over-same 0 n (λ to. sum_over (at_object (Object.Mail from to) (plain f)) logs) (total from) (are from))
 
   pub posted-left : count_over (is_posted root) (entries_of logs)
       ≡ count_over (is_fetched root) (entries_of logs) + unfetched logs root n
   posted-left =
-      let p : count_over (is_posted root) (entries_of logs)
-      ≡ over_lanes 0 n (λ from. over_lanes 0 n
-      (λ to. total_by (posts root) (dids (history_of (Object.Mail from to) logs)))) =
-      count-notes (is_posted root) logs ∙ over-alike (λ x. one (is_posted root x)) (Mails (posts root)) logs post-weight
-      ∙ mails-total (posts root) in
-      let f : count_over (is_fetched root) (entries_of logs)
-      ≡ over_lanes 0 n (λ from. over_lanes 0 n
-      (λ to. total_by (fetches root) (dids (history_of (Object.Mail from to) logs)))) =
-      count-notes (is_fetched root) logs ∙ over-alike (λ x. one (is_fetched root x)) (Mails (fetches root)) logs
-      fetch-weight ∙ mails-total (fetches root) in
-      let u : unfetched logs root n ≡ over_lanes 0 n (λ from. over_lanes 0 n (λ to. unfetched_of logs root from to)) =
-      sum_up-over n (λ from. sum_up (below n) (λ to. unfetched_of logs root from to))
-      ∙ over-same 0 n (λ from. sum_up (below n) (λ to. unfetched_of logs root from to))
-      (λ from. over_lanes 0 n (λ to. unfetched_of logs root from to))
-      (λ from. sum_up-over n (λ to. unfetched_of logs root from to)) in
-      let both : over_lanes 0 n (λ from. over_lanes 0 n
-      (λ to. total_by (posts root) (dids (history_of (Object.Mail from to) logs)))) ≡
-      over_lanes 0 n (λ from. over_lanes 0 n
-      (λ to. total_by (fetches root) (dids (history_of (Object.Mail from to) logs)))) + over_lanes 0 n
-      (λ from. over_lanes 0 n (λ to. unfetched_of logs root from to)) =
-      over-same 0 n (λ from. over_lanes 0 n
-      (λ to. total_by (posts root) (dids (history_of (Object.Mail from to) logs))))
-      (λ from. over_lanes 0 n (λ to. total_by (fetches root) (dids (history_of (Object.Mail from to) logs)))
-      + over_lanes 0 n (λ to. unfetched_of logs root from to))
-      (λ from. over-same 0 n (λ to. total_by (posts root) (dids (history_of (Object.Mail from to) logs)))
-      (λ to. total_by (fetches root) (dids (history_of (Object.Mail from to) logs)) + unfetched_of logs root from
-      to) (λ to. mail-even from to)
-      ∙ over-add 0 n (λ to. total_by (fetches root) (dids (history_of (Object.Mail from to) logs)))
-      (λ to. unfetched_of logs root from to))
-      ∙ over-add 0 n (λ from. over_lanes 0 n
-      (λ to. total_by (fetches root) (dids (history_of (Object.Mail from to) logs))))
-      (λ from. over_lanes 0 n (λ to. unfetched_of logs root from to)) in
+      let p : count_over (is_posted root) (entries_of logs) ≡ over_lanes 0 n (λ from. over_lanes 0 n (sent from)) =
+      count-notes logs (is_posted root) logs ∙ over-alike (λ x. one (is_posted root x)) (Mails (posts root)) logs
+      post-weight
+      ∙ mails-total (posts root) sent posts-total in
+      let f : count_over (is_fetched root) (entries_of logs) ≡ over_lanes 0 n (λ from. over_lanes 0 n (got from)) =
+      count-notes logs (is_fetched root) logs ∙ over-alike (λ x. one (is_fetched root x)) (Mails (fetches root)) logs
+      fetch-weight ∙ mails-total (fetches root) got fetches-total in
+      let u : unfetched logs root n ≡ over_lanes 0 n (λ from. over_lanes 0 n (unfetched_of logs root from)) =
+      sum_up-over n (λ from. sum_up (below n) (unfetched_of logs root from))
+      ∙ over-same 0 n (λ from. sum_up (below n) (unfetched_of logs root from))
+      (λ from. over_lanes 0 n (unfetched_of logs root from))
+      (λ from. sum_up-over n (unfetched_of logs root from)) in
+      let both : over_lanes 0 n (λ from. over_lanes 0 n (sent from))
+      ≡ over_lanes 0 n (λ from. over_lanes 0 n (got from))
+      + over_lanes 0 n (λ from. over_lanes 0 n (unfetched_of logs root from)) =
+      over-same 0 n (λ from. over_lanes 0 n (sent from))
+      (λ from. over_lanes 0 n (got from) + over_lanes 0 n (unfetched_of logs root from))
+      (λ from. over-same 0 n (sent from) (λ to. got from to + unfetched_of logs root from to) (mail-even from)
+      ∙ over-add 0 n (got from) (unfetched_of logs root from))
+      ∙ over-add 0 n (λ from. over_lanes 0 n (got from)) (λ from. over_lanes 0 n (unfetched_of logs root from)) in
       omega (arith, p, f, u, both)
 
   pub total-shared : CountsAgree (entries_of logs) → 0 < count_over (is_birth root) (entries_of logs)

@@ -6,15 +6,16 @@ use Rattle.pool_law.specs.declared.id.RootId.{RootId}
 use Rattle.pool_law.specs.declared.id.RegionId.{RegionId}
 use Rattle.pool_law.specs.declared.note.Object.{Object}
 use Rattle.pool_law.specs.declared.note.Did.{Did}
-use Rattle.pool_law.specs.declared.note.Did.TheVariants.{Take, Full, Give, Hit, Miss, Kept, Back, Trim, Close, Shed, Handle, NoHandle, Home, Post, Fetch, Birth, End}
+use Rattle.pool_law.specs.declared.note.Did.TheVariants.{Take, Full, Give, Hit, Miss, Kept, Back, Trim, Close, Shed, Handle, NoHandle, Home, Birth, End}
+use Rattle.pool_law.specs.declared.note.Note.{Note}
 use Rattle.pool_law.specs.declared.run.Shape.{Shape}
-use Rattle.pool_law.specs.declared.id.Parcel.{Parcel}
 use Rattle.size_classes.specs.Sizes.{IsPage}
 use Rattle.pool_law.specs.Limits.{geometry_of, cache_capacity}
 use Rattle.pool_law.specs.Same.{same_region, same_taking}
 use Rattle.pool_law.specs.Arenas.{Arena, new_arena, arena_step, give, is_out_of}
-use Rattle.pool_law.specs.Caches.{Cache, new_cache, lane_cache_step, cache_step, is_own, new_bin, bin_step, mail_step}
+use Rattle.pool_law.specs.Caches.{Cache, new_cache, lane_cache_step, cache_step, is_own, new_bin, bin_step}
 use Rattle.pool_law.specs.Roots.{RootPlace, Present, new_place, place_step_by, place_step}
+use Rattle.pool_law.specs.Logs.{has_history, may_stand}
 use Rattle.pool_law.specs.Histories.{after, IsAccepted, arena_after, cache_after, place_after}
 use Rattle.run_laws.specs.CacheCounts.{one_of, times, puts, removes, total_by}
 use Rattle.arena_law.specs.Slots.{ArenaHolds, IsLocated}
@@ -26,9 +27,11 @@ use Rattle.pool_law.proofs.PatternLemmas.{same_region-refl}
 use Rattle.run_laws.proofs.CacheLaw.{if-some, cache_step-balances, goes-through}
 use Rattle.arena_law.proofs.ArenaLaw.{after-holds, new-holds}
 use Rattle.arena_law.proofs.TakingLaw.{step-numbers}
-use Rattle.arena_law.proofs.GiveSteps.{IsOne, EachOf-one, any-one}
+use Rattle.arena_law.proofs.GiveSteps.{IsOne}
+use Rattle.arena_law.proofs.ElementGives.{EachOf-one, any-one}
 use Rattle.run_laws.proofs.PlaceLaw.{place_step-does, was-born, end-present}
 use Rattle.std.proofs.lemmas.Bool.{cond_both}
+use Rattle.std.specs.List.{list_all}
 
 -- the states before and after a note of an accepted history
 pub step-at : {S : Type 0} (step : S → Did → Option S) (ds : List Did) (s t : S) (j : ℕ) (d : Did)
@@ -53,6 +56,14 @@ step-at {S = S} step (x ∷ ds) s t (suc j) d e is = go (step s x) e (λ m more.
 pub is-some : {S : Type 0} (o : Option S) → is_some o ≡ true → (s : S) × (o ≡ Some s)
 is-some None e = absurd (cc e)
 is-some (Some s) e = (s, refl)
+
+-- a note passes a test that all pass
+pub all-at : (test : Note → Bool) (ns : List Note) (i : ℕ) (n : Note) → list_all test ns ≡ true
+    → slice_get ns i ≡ Some n → test n ≡ true
+all-at test [] i n all e = absurd (cc e)
+all-at test (x ∷ ns) zero n all e =
+    let same : x ≡ n = cc e in ap test (sym same) ∙ and-first (test x) (list_all test ns) all
+all-at test (x ∷ ns) (suc i) n all e = all-at test ns i n (and-second (test x) (list_all test ns) all) e
 
 -- what a sum over notes counts is found in them
 pub total-found : (f : Did → ℕ) (ds : List Did) → 1 ≤ total_by f ds
@@ -207,11 +218,18 @@ bin-placed lane handles m n NoHandle step = tt
 bin-placed lane handles m n (Home p) step = tt
 bin-placed lane handles m n _ step = absurd (cc step)
 
-pub mail-placed : (from to : ℕ) (m n : List Parcel) (d : Did) → mail_step m d ≡ Some n
-    → IsPlaced (Object.Mail from to) d
-mail-placed from to m n (Post p) step = tt
-mail-placed from to m n (Fetch p) step = tt
-mail-placed from to m n _ step = absurd (cc step)
+-- at a mail nothing moves a region
+pub mail-placed : (shape : Shape) (lane : ℕ) (o : Object) (d : Did) → has_history o ≡ false
+    → may_stand shape lane o d ≡ true → IsPlaced o d
+mail-placed shape lane (Object.Mail from to) (Take class r) none e = absurd (cc e)
+mail-placed shape lane (Object.Mail from to) (Give r) none e = absurd (cc e)
+mail-placed shape lane (Object.Mail from to) (Hit r) none e = absurd (cc e)
+mail-placed shape lane (Object.Mail from to) (Kept r) none e = absurd (cc e)
+mail-placed shape lane (Object.Mail from to) (Shed r) none e = absurd (cc e)
+mail-placed shape lane (Object.Mail from to) (Birth root r) none e = absurd (cc e)
+mail-placed shape lane (Object.Mail from to) (End root) none e = absurd (cc e)
+mail-placed shape lane (Object.Mail from to) _ none e = tt
+mail-placed shape lane _ d none e = absurd (cc none)
 
 -- a birth in a history, as found in it
 pub born-at : (root : RootId) (r : RegionId) (ds : List Did) → WasBorn root r ds
@@ -306,11 +324,7 @@ placed shape page (Object.Bin lane) ds j d ok is =
     × (bin_step lane shape.handles m d ≡ Some n) =
     step-at (bin_step lane shape.handles) ds (new_bin lane shape.handles) s.0 j d s.1 is in
     bin-placed lane shape.handles t.0 t.1 d t.3
-placed shape page (Object.Mail from to) ds j d ok is =
-    let s : (c : List Parcel) × (after mail_step [] ds ≡ Some c) = is-some (after mail_step [] ds) ok in
-    let t : (m : List Parcel) × (n : List Parcel) × (after mail_step [] (take j ds) ≡ Some m)
-    × (mail_step m d ≡ Some n) = step-at mail_step ds [] s.0 j d s.1 is in
-    mail-placed from to t.0 t.1 d t.3
+placed shape page (Object.Mail from to) ds j d ok is = absurd (cc ok)
 placed shape page (Object.Root place) ds j d ok is =
     let s : (p : RootPlace) × (place_after place ds ≡ Some p) = is-some (place_after place ds) ok in
     place-placed place ds s.0 j d s.1 is

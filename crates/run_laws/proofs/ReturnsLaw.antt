@@ -161,7 +161,7 @@ module _ (shape : Shape) (logs : Logs) (holds : HistoriesPaged shape logs) (acts
       ) in
       let f : (i : ℕ) × (d : Did) × (slice_get (dids (history_of (cache_of r) logs)) i ≡ Some d)
       × (1 ≤ puts r d) = total-found (puts r) (dids (history_of (cache_of r) logs)) some in
-      (done-at shape logs holds acts (cache_of r) f.0 (Kept r) (f.2 ∙ ap (λ x. Some x) (puts-kept r f.1 f.3))).0
+      (done-at shape logs holds acts (cache_of r) refl f.0 (Kept r) (f.2 ∙ ap (λ x. Some x) (puts-kept r f.1 f.3))).0
 
   module _ (parts : (lane : ℕ) → lane < length logs → Parts lane (map (entry_of logs) (of_lane logs lane)))
       (counts : CountsAgree (entries_of logs)) where

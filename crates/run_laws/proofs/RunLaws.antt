@@ -62,7 +62,7 @@ parts-of run legal lane low =
 pub caches-end_empty : (run : Run) → IsLegal run → CachesEndEmpty run.shape (logs_of run)
 caches-end_empty run legal lane class low cached =
     let ends = is-some (cache_after lane class (dids (history_of (Object.Cache lane class) (logs_of run))))
-    (legal.histories.accepted (Object.Cache lane class)) in (
+    (legal.histories.accepted (Object.Cache lane class) refl) in (
       ends.0,
       (
         ends.1,
@@ -79,7 +79,7 @@ regions-return run legal root region used =
 pub arenas-end : (run : Run) → IsLegal run → OutAtEnd run.shape (logs_of run)
 arenas-end run legal number =
     let ends = is-some (arena_after run.shape number (dids (history_of (Object.Arena number) (logs_of run))))
-    (legal.histories.accepted (Object.Arena number)) in (
+    (legal.histories.accepted (Object.Arena number) refl) in (
       ends.0,
       (
         ends.1,
@@ -98,8 +98,8 @@ posts-are_near run legal =
 
 pub totals-are_shared : (run : Run) → IsLegal run → TotalsAreShared (logs_of run) run.shape.lanes
 totals-are_shared run legal root region used =
-    total-shared run.shape (logs_of run) legal.histories root run.shape.lanes (omega (arith, logs-length run legal))
-    (posts-are_near run legal) legal.counts
+    total-shared run.shape (logs_of run) legal.histories.stand legal.histories.mails root run.shape.lanes
+    (omega (arith, logs-length run legal)) (posts-are_near run legal) legal.counts
     (birth-counts run.shape (logs_of run) (paged run legal) (acts-of run legal) (parts-of run legal) root region used)
 
 pub roots-in_one_log : (run : Run) → IsLegal run → StandInOneLog (logs_of run)

@@ -23,14 +23,13 @@ use Rattle.pool_law.proofs.PatternLemmas.{same_taking-refl}
 use Rattle.run_laws.proofs.LogEntries.{lane-there, LanesAct}
 use Rattle.run_laws.proofs.Sums.{sum_over, over-at, above}
 use Rattle.run_laws.proofs.Numbered.{in-log}
-use Rattle.run_laws.proofs.Placed.{is-some, total-found, puts-kept}
+use Rattle.run_laws.proofs.Placed.{all-at, is-some, total-found, puts-kept}
 use Rattle.run_laws.proofs.Totals.{dids-there, takes_in, hits_in, sheds_in, keeps_in, gives_in, births_in, ends_in}
 use Rattle.run_laws.proofs.HandTotals.{births-next, put-down, drops, through}
 use Rattle.run_laws.proofs.LifeLaw.{use-found}
 use Rattle.run_laws.proofs.ApartLaw.{taken-at}
 use Rattle.run_laws.proofs.LogParts.{Parts}
 use Rattle.run_laws.proofs.EndLaw.{cache-empty, kept-cached, end-in, dead-ended}
-use Rattle.run_laws.proofs.OutTimes.{all-at}
 
 abbrev pub uses_number : Note → ℕ
 uses_number (At o k (Birth root x)) = x.uses
@@ -48,7 +47,7 @@ module _ (shape : Shape) (logs : Logs) (holds : HistoriesPaged shape logs) (acts
       dids-there (history_of (arena_of r) logs) j.0 (Take r.class (with_uses r 0)) j.1 in
       let n : (i : ℕ) × (slice_get (of_lane logs l.0) i
       ≡ Some (At (arena_of r) (1 + j.0) (Take r.class (with_uses r 0)))) =
-      in-log (arena_of r) logs (history_of (arena_of r) logs) (holds.whole (arena_of r)) l.0 j.0
+      in-log (arena_of r) logs (history_of (arena_of r) logs) (holds.whole (arena_of r) refl) l.0 j.0
       (Take r.class (with_uses r 0)) l.1 in
       let stands : ((l.0 % shape.arenas == r.place.arena) && (r.owner == l.0))
       ≡ true =
@@ -69,11 +68,11 @@ module _ (shape : Shape) (logs : Logs) (holds : HistoriesPaged shape logs) (acts
       let l : (lane : ℕ) × (slice_get (history_of (cache_of r) logs) f.0 ≡ Some (lane, Kept r)) =
       dids-there (history_of (cache_of r) logs) f.0 (Kept r) is in
       let n : (i : ℕ) × (slice_get (of_lane logs l.0) i ≡ Some (At (cache_of r) (1 + f.0) (Kept r))) =
-      in-log (cache_of r) logs (history_of (cache_of r) logs) (holds.whole (cache_of r)) l.0 f.0 (Kept r) l.1 in
+      in-log (cache_of r) logs (history_of (cache_of r) logs) (holds.whole (cache_of r) refl) l.0 f.0 (Kept r) l.1 in
       let has : has_cache r.class ≡ true = kept-cached shape logs holds acts parts l.0 n.0 (1 + f.0) (cache_of r) r
       n.1 in
       let c : (c : Cache) × (cache_after r.owner r.class (dids (history_of (cache_of r) logs)) ≡ Some c) =
-      is-some (cache_after r.owner r.class (dids (history_of (cache_of r) logs))) (holds.accepted (cache_of r)) in
+      is-some (cache_after r.owner r.class (dids (history_of (cache_of r) logs))) (holds.accepted (cache_of r) refl) in
       let empty : c.0.regions ≡ [] = cache-empty shape logs holds acts parts r.owner r.class c.0 low
       (ltb-true r.class cached_classes has) c.1 in
       omega (arith, through shape logs holds acts r c.0 c.1, ap (times r) empty)

@@ -155,10 +155,11 @@ pub got-written : (shape : Shape) (logs : Logs) → HistoriesHold shape logs
     get_or bytes k 0 ≡ last_written (offset + k) 0 (earlier_at logs place d.number)
 got-written shape logs holds place offset bytes d k low =
     let h = history_of (Object.Root place) logs in
-    let j = in-history (Object.Root place) logs (history_of (Object.Root place) logs) (holds.whole (Object.Root place))
+    let j = in-history (Object.Root place) logs (history_of (Object.Root place) logs)
+    (holds.whole (Object.Root place) refl)
     d.lane d.at d.number (Get offset bytes) d.stands in
     let t = is-some (place_after place (dids (history_of (Object.Root place) logs)))
-    (holds.accepted (Object.Root place)) in
+    (holds.accepted (Object.Root place) refl) in
     let s = step-at (place_step place) (dids (history_of (Object.Root place) logs)) new_place t.0 j.0 (Get offset bytes)
     t.1 (dids-at (history_of (Object.Root place) logs) j.0 d.lane (Get offset bytes) j.2) in
     let g = got-there place s.0 s.1 offset bytes s.3 in

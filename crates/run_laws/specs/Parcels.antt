@@ -1,32 +1,33 @@
 -- The parcels that are not fetched at the end of a run, and how the total of a root is shared by
 -- lanes and parcels.
-use Rattle.std.specs.Prelude.{◌≡◌, ℕ, ◌+◌, ◌<◌, if◌then◌else◌, List, [], ◌∷◌, Option, Some, None}
+use Rattle.std.specs.Prelude.{◌≡◌, ℕ, ◌+◌, ◌<◌, if◌then◌else◌, List, [], ◌∷◌, length, drop}
 use Rattle.pool_law.specs.declared.id.RootId.{RootId}
 use Rattle.pool_law.specs.declared.id.RegionId.{RegionId}
 use Rattle.pool_law.specs.declared.id.Parcel.{Parcel}
 use Rattle.pool_law.specs.declared.note.Object.{Object}
 use Rattle.pool_law.specs.declared.note.Did.{Did}
 use Rattle.size_classes.specs.Sizes.{below}
-use Rattle.pool_law.specs.Histories.{mail_after}
-use Rattle.pool_law.specs.Logs.{Logs, dids, history_of, entries_of}
+use Rattle.pool_law.specs.Logs.{Logs, of_lane, entries_of}
+use Rattle.pool_law.specs.Mails.{posted, fetched}
 use Rattle.pool_law.specs.Counts.{view_is_of}
 use Rattle.run_laws.specs.CountLaw.{counts_of}
 use Rattle.run_laws.specs.Conserved.{total_in}
 use Rattle.pool_law.specs.Lives.{IsUse, Done}
 
--- the parcels with a view of the root
-abbrev pub parcels_of : RootId → List Parcel → ℕ
+-- how many of these parcels have a view of the root
+abbrev pub parcels_of : RootId → List (ℕ × Parcel) → ℕ
 parcels_of root [] = 0
-parcels_of root (p ∷ ps) = (if view_is_of root p.view then 1 else 0) + parcels_of root ps
-
-abbrev pub parcels_if : RootId → Option (List Parcel) → ℕ
-parcels_if root None = 0
-parcels_if root (Some ps) = parcels_of root ps
+parcels_of root (p ∷ ps) = (if view_is_of root p.1.view then 1 else 0) + parcels_of root ps
 
 -- what was posted from one lane to another and not fetched
+abbrev pub left_in : Logs → ℕ → ℕ → List (ℕ × Parcel)
+left_in logs from to =
+    drop (length (fetched (Object.Mail from to) (of_lane logs to)))
+    (posted (Object.Mail from to) (of_lane logs from))
+
+-- how much of it has a view of the root
 abbrev pub unfetched_of : Logs → RootId → ℕ → ℕ → ℕ
-unfetched_of logs root from to =
-    parcels_if root (mail_after (dids (history_of (Object.Mail from to) logs)))
+unfetched_of logs root from to = parcels_of root (left_in logs from to)
 
 -- a sum over numbers
 abbrev pub sum_up : List ℕ → (ℕ → ℕ) → ℕ

@@ -200,7 +200,7 @@ set_unnoted =
     ∷ [])
     ∷ log_with
     (answered_by Reply.Ok 1 ∷ answered_by (Reply.OkBytes (0 ∷ [])) 1 ∷ [])
-    (At (Object.Mail 0 1) 2 (Did.Fetch byte_parcel) ∷ at_root 0 2 (Did.Get 0 (0 ∷ [])) ∷ [])
+    (At (Object.Mail 0 1) 1 (Did.Fetch byte_parcel) ∷ at_root 0 2 (Did.Get 0 (0 ∷ [])) ∷ [])
     ∷ [])
 
 -- a root of four bytes

@@ -1,5 +1,5 @@
 -- Fronts of a list of steps: what was made in them.
-use Rattle.std.proofs.Common.{◌≡◌, ℕ, zero, suc, ◌+◌, ◌≤◌, Bool, true, false, List, [], ◌∷◌, ◌++◌, length, take, drop, refl, ap, arith, Some}
+use Rattle.std.proofs.Common.{◌≡◌, ℕ, zero, suc, ◌+◌, ◌≤◌, Bool, true, false, List, [], ◌∷◌, ◌++◌, length, take, drop, refl, ap, arith, Some, ◌∙◌}
 use Rattle.std.specs.Prelude.{◌<◌, slice_get}
 use Rattle.std.proofs.lemmas.Bool.{cond_both}
 use Rattle.pool_law.specs.declared.note.Note.{Note}
@@ -23,6 +23,21 @@ pub get-behind : {X : Type 0} (before : List X) (x : X) (after : List X)
     → slice_get (before ++ x ∷ after) (length before) ≡ Some x
 get-behind [] x after = refl
 get-behind (y ∷ before) x after = get-behind before x after
+
+-- an item of a front is that of the list there
+pub get-front : {X : Type 0} (xs ys : List X) (k : ℕ) (x : X) → slice_get xs k ≡ Some x
+    → slice_get (xs ++ ys) k ≡ Some x
+get-front [] ys k x e = absurd (cc e)
+get-front (z ∷ xs) ys zero x e = e
+get-front (z ∷ xs) ys (suc k) x e = get-front xs ys k x e
+
+-- an item further behind a front
+pub get-further : {X : Type 0} (before after : List X) (j : ℕ)
+    → slice_get (before ++ after) (length before + j) ≡ slice_get after j
+get-further [] after j = ap (slice_get after) (omega arith)
+get-further (y ∷ before) after j =
+    let next : suc (length before) + j ≡ suc (length before + j) = omega arith in
+    ap (slice_get (y ∷ (before ++ after))) next ∙ get-further before after j
 
 -- a front is as many items of the list
 pub front-is : {X : Type 0} (before after : List X) → take (length before) (before ++ after) ≡ before

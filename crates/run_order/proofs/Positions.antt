@@ -1,14 +1,19 @@
 -- Where the notes of the logs stand in the one order.
-use Rattle.std.proofs.Common.{⊎_elim, ◌≡◌, ℕ, zero, suc, ◌+◌, true, List, [], ◌∷◌, length, take, drop, sym, ap, arith, Some, ◌∙◌, eqb-true, eq-eqb}
-use Rattle.std.specs.Prelude.{◌<◌, ◌==◌, if◌then◌else◌, slice_get}
+use Rattle.std.proofs.Common.{⊎_elim, ◌≡◌, ℕ, zero, suc, ◌+◌, ◌≤◌, Bool, true, false, refl, List, [], ◌∷◌, length, take, drop, sym, ap, arith, Some, ◌∙◌, eqb-true, eq-eqb}
+use Rattle.std.specs.Prelude.{◌<◌, ◌==◌, ◌&&◌, ◌||◌, if◌then◌else◌, slice_get}
 use Rattle.std.proofs.lemmas.Bool.{cases_lt}
+use Rattle.pool_law.specs.declared.id.Parcel.{Parcel}
 use Rattle.pool_law.specs.declared.note.Object.{Object}
 use Rattle.pool_law.specs.declared.note.Did.{Did}
+use Rattle.pool_law.specs.declared.note.Did.TheVariants.{Post, Fetch}
 use Rattle.pool_law.specs.declared.note.Note.{Note}
-use Rattle.pool_law.specs.declared.note.Note.TheVariants.{At}
-use Rattle.pool_law.specs.Logs.{Logs}
+use Rattle.pool_law.specs.declared.note.Note.TheVariants.{At, Ref, Busy}
+use Rattle.pool_law.specs.Same.{same_object}
+use Rattle.pool_law.specs.Kinds.{Passing, Stays, Goes, Comes, passing}
+use Rattle.pool_law.specs.Logs.{Logs, has_history}
+use Rattle.pool_law.specs.Legal.{one_if}
 use Rattle.pool_law.specs.Lives.{StandsAt}
-use Rattle.run_order.specs.Order.{Step, notes_by, is_at, made, Fits, InOneOrder}
+use Rattle.run_order.specs.Order.{Step, notes_by, is_at, is_alike, is_post, is_sent, same_way, made, Fits, InOneOrder}
 use Rattle.run_order.proofs.Fronts.{by-test, split-at, made-more}
 
 -- the place among these steps of a lane's step with this number in its log
@@ -94,6 +99,36 @@ noted-there (y ∷ ys) (suc p) x e =
     (λ _. (r.0, ap suc r.1))
     (λ _. (r.0, ap suc r.1))
 
+-- in an object's history each note is numbered with each
+pub made-alike : (object : Object) (did : Did) (xs : List Step) → has_history object ≡ true
+    → made (is_alike object did) xs ≡ made (is_at object) xs
+made-alike object did [] has = refl
+made-alike object did (x ∷ xs) has = omega (arith, ap one_if (one x.note), made-alike object did xs has)
+  where
+    one : (n : Note) → is_alike object did n ≡ is_at object n
+    one (At other number done) =
+        ap (λ z. (z || same_way (passing did) (passing done)) && same_object object other) has
+    one (Ref root done) = refl
+    one (Busy held) = refl
+
+-- of a mail the posts are numbered by themselves
+pub made-posts : (mail : Object) (parcel : Parcel) (xs : List Step)
+    → made (is_post mail) xs ≤ made (is_alike mail (Post parcel)) xs
+made-posts mail parcel [] = omega arith
+made-posts mail parcel (x ∷ xs) = omega (arith, one x.note, made-posts mail parcel xs)
+  where
+    passed : (has : Bool) (q : Passing) (at : Bool)
+        → one_if (is_sent q && at) ≤ one_if ((has || same_way (Goes parcel) q) && at)
+    passed has Stays at = omega arith
+    passed true (Goes r) at = omega arith
+    passed false (Goes r) at = omega arith
+    passed has (Comes r) at = omega arith
+
+    one : (n : Note) → one_if (is_post mail n) ≤ one_if (is_alike mail (Post parcel) n)
+    one (At other number done) = passed (has_history mail) (passing done) (same_object mail other)
+    one (Ref root done) = omega arith
+    one (Busy held) = omega arith
+
 module _ (logs : Logs) (o : InOneOrder logs) where
   -- the place in the one order of a note of a log
   abbrev pub place : ℕ → ℕ → ℕ
@@ -120,22 +155,42 @@ module _ (logs : Logs) (o : InOneOrder logs) where
   pub fits-there : (p : ℕ) (x : Step) → slice_get o.steps p ≡ Some x → Fits (take p o.steps) x.note
   fits-there p x e = o.fits (take p o.steps) (drop (suc p) o.steps) x (split-at o.steps p x e)
 
-  -- of two notes at one object the one with the higher number stands later
+  -- the number of a note, among those that it is numbered with
+  pub number-there : (object : Object) (n : ℕ) (d : Did) (lane at : ℕ) → StandsAt logs lane at (At object n d)
+      → n ≡ made (is_alike object d) (take (place lane at) o.steps) + 1
+  number-there object n d lane at is =
+      (fits-there (place lane at) (record { lane = lane; note = At object n d }) (there lane at (At object n d) is)).0
+
+  -- of two notes in one object's history the one with the higher number stands later
   pub later-at_object : (object : Object) (m n : ℕ) (d e : Did) (lane at other bt : ℕ) →
+      has_history object ≡ true →
       StandsAt logs lane at (At object m d) → StandsAt logs other bt (At object n e) → m < n →
       place lane at < place other bt
-  later-at_object object m n d e lane at other bt is after less =
-      let number : m ≡ made (is_at object) (take (place lane at) o.steps) + 1 =
-      fits-there (place lane at) (record { lane = lane; note = At object m d }) (there lane at (At object m d) is) in
-      let later : n ≡ made (is_at object) (take (place other bt) o.steps) + 1 =
-      fits-there (place other bt) (record { lane = other; note = At object n e })
-      (there other bt (At object n e) after) in
+  later-at_object object m n d e lane at other bt has is after less =
       ⊎_elim (λ low. low)
       (λ high. absurd (omega (
         arith,
-        number,
-        later,
+        number-there object m d lane at is,
+        number-there object n e other bt after,
         less,
+        made-alike object d (take (place lane at) o.steps) has,
+        made-alike object e (take (place other bt) o.steps) has,
         made-more (is_at object) o.steps (place other bt) (place lane at) high,
+      )))
+      (cases_lt (place lane at) (place other bt))
+
+  -- the post of a parcel stands before the fetch with its number
+  pub post-first : (mail : Object) (n : ℕ) (p q : Parcel) (lane at other bt : ℕ) →
+      StandsAt logs lane at (At mail n (Post p)) → StandsAt logs other bt (At mail n (Fetch q)) →
+      place lane at < place other bt
+  post-first mail n p q lane at other bt sent got =
+      ⊎_elim (λ low. low)
+      (λ high. absurd (omega (
+        arith,
+        number-there mail n (Post p) lane at sent,
+        (fits-there (place other bt) (record { lane = other; note = At mail n (Fetch q) })
+            (there other bt (At mail n (Fetch q)) got)).1,
+        made-posts mail p (take (place lane at) o.steps),
+        made-more (is_post mail) o.steps (place other bt) (place lane at) high,
       )))
       (cases_lt (place lane at) (place other bt))

@@ -1,16 +1,18 @@
 -- Whether a note fits what was done before it, and each of a list of steps does, as tests that compute.
-use Rattle.std.proofs.Common.{◌≡◌, ℕ, ◌+◌, Bool, true, List, [], ◌∷◌, ◌++◌, sym, subst, arith, eqb-true, eq-eqb, ltb-true, lt-ltb}
-use Rattle.std.specs.Prelude.{◌<◌, ◌-◌, ◌==◌, ◌&&◌, nat_lt}
+use Rattle.std.proofs.Common.{◌≡◌, ℕ, ◌+◌, Bool, true, List, [], ◌∷◌, ◌++◌, refl, sym, subst, arith, eqb-true, eq-eqb, ltb-true, lt-ltb, leb-true, le-leb}
+use Rattle.std.specs.Prelude.{◌<◌, ◌-◌, ◌==◌, ◌&&◌, nat_lt, nat_le}
 use Rattle.pool_law.specs.declared.id.RootId.{RootId}
+use Rattle.pool_law.specs.declared.note.Object.{Object}
 use Rattle.pool_law.specs.declared.note.RefDid.{RefDid}
 use Rattle.pool_law.specs.declared.note.RefDid.TheVariants.{Born, Retain, Ended, Vacated, Look}
 use Rattle.pool_law.specs.declared.note.Note.{Note}
 use Rattle.pool_law.specs.declared.note.Note.TheVariants.{At, Ref, Busy}
+use Rattle.pool_law.specs.Kinds.{Passing, Stays, Goes, Comes, passing}
 use Rattle.pool_law.specs.Counts.{is_born, is_retain, is_release, ends_root}
 use Rattle.pool_law.proofs.SameLemmas.{and-first, and-second}
 use Rattle.pool_law.proofs.PatternLemmas.{both_true}
 use Rattle.pool_law.proofs.HistoryLemmas.{append-assoc, append-nil}
-use Rattle.run_order.specs.Order.{Step, made, is_at, is_born_at, is_vacated_at, is_vacated, FitsCount, Fits}
+use Rattle.run_order.specs.Order.{Step, made, is_at, is_alike, is_post, is_born_at, is_vacated_at, is_vacated, FitsCount, FindsIts, Fits}
 
 -- the counts of a root that these steps gain, and those that they lose
 abbrev pub gains : List Step → RootId → ℕ
@@ -32,8 +34,14 @@ count_fits before root Vacated =
     && (gains before root == losses before root + 0)
 count_fits before root (Look found) = nat_lt 0 found && (gains before root == losses before root + found)
 
+abbrev pub finds_its : List Step → Object → ℕ → Passing → Bool
+finds_its before mail number Stays = true
+finds_its before mail number (Goes parcel) = true
+finds_its before mail number (Comes parcel) = nat_le number (made (is_post mail) before)
+
 abbrev pub note_fits : List Step → Note → Bool
-note_fits before (At object number did) = number == made (is_at object) before + 1
+note_fits before (At object number did) =
+    (number == made (is_alike object did) before + 1) && finds_its before object number (passing did)
 note_fits before (Ref root did) = count_fits before root did
 note_fits before (Busy held) = held.number == made (is_at held.object) before
 
@@ -62,13 +70,27 @@ FitsCount-tests before root Ended h = eq-eqb _ _ h
 FitsCount-tests before root Vacated h = both_true _ _ (eq-eqb _ _ h.0) (eq-eqb _ _ h.1)
 FitsCount-tests before root (Look found) h = both_true _ _ (lt-ltb _ _ h.0) (eq-eqb _ _ h.1)
 
+pub finds_its-is : (before : List Step) (mail : Object) (number : ℕ) (passed : Passing)
+    → finds_its before mail number passed ≡ true → FindsIts before mail number passed
+finds_its-is before mail number Stays e = tt
+finds_its-is before mail number (Goes parcel) e = tt
+finds_its-is before mail number (Comes parcel) e = leb-true _ _ e
+
+pub FindsIts-tests : (before : List Step) (mail : Object) (number : ℕ) (passed : Passing)
+    → FindsIts before mail number passed → finds_its before mail number passed ≡ true
+FindsIts-tests before mail number Stays h = refl
+FindsIts-tests before mail number (Goes parcel) h = refl
+FindsIts-tests before mail number (Comes parcel) h = le-leb _ _ h
+
 pub note_fits-is : (before : List Step) (n : Note) → note_fits before n ≡ true → Fits before n
-note_fits-is before (At object number did) e = eqb-true _ _ e
+note_fits-is before (At object number did) e =
+    (eqb-true _ _ (and-first _ _ e), finds_its-is before object number (passing did) (and-second _ _ e))
 note_fits-is before (Ref root did) e = count_fits-is before root did e
 note_fits-is before (Busy held) e = eqb-true _ _ e
 
 pub Fits-tests : (before : List Step) (n : Note) → Fits before n → note_fits before n ≡ true
-Fits-tests before (At object number did) h = eq-eqb _ _ h
+Fits-tests before (At object number did) h =
+    both_true _ _ (eq-eqb _ _ h.0) (FindsIts-tests before object number (passing did) h.1)
 Fits-tests before (Ref root did) h = FitsCount-tests before root did h
 Fits-tests before (Busy held) h = eq-eqb _ _ h
 

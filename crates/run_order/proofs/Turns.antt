@@ -52,7 +52,7 @@ without-other n (suc lane) zero (log ∷ logs) differ = refl
 without-other n (suc lane) (suc other) (log ∷ logs) differ =
     without-other n lane other logs (λ e. differ (ap suc e))
 
-notes-append : (lane : ℕ) (xs ys : List Step) → notes_by lane (xs ++ ys) ≡ notes_by lane xs ++ notes_by lane ys
+pub notes-append : (lane : ℕ) (xs ys : List Step) → notes_by lane (xs ++ ys) ≡ notes_by lane xs ++ notes_by lane ys
 notes-append lane [] ys = refl
 notes-append lane (x ∷ xs) ys =
     by-test

@@ -78,7 +78,7 @@ freed_in_the_mail =
     ∷ at_mail 0 1 (Did.Post parcel)
     ∷ ends_first
     (born_second
-    (at_mail 0 2 (Did.Fetch parcel)
+    (at_mail 0 1 (Did.Fetch parcel)
     ∷ Ref first_root RefDid.Kept
     ∷ [])))
     ∷ []
@@ -93,7 +93,7 @@ freed_in_a_circle =
     ∷ born_second
     (Ref first_root RefDid.Kept
     ∷ []))
-    ∷ (at_mail 1 2 (Did.Fetch parcel) ∷ ends_first [])
+    ∷ (at_mail 1 1 (Did.Fetch parcel) ∷ ends_first [])
     ∷ []
 
 -- a lane reads what stood there before the last write of the lane that sent it the root
@@ -103,7 +103,7 @@ read_before_write =
     (at_root 0 3 (Did.Set 0 (7 ∷ []))
     ∷ at_mail 1 1 (Did.Post parcel)
     ∷ [])
-    ∷ (at_mail 1 2 (Did.Fetch parcel) ∷ at_root 0 2 (Did.Get 0 (0 ∷ [])) ∷ [])
+    ∷ (at_mail 1 1 (Did.Fetch parcel) ∷ at_root 0 2 (Did.Get 0 (0 ∷ [])) ∷ [])
     ∷ []
 
 -- a root is retained after its end

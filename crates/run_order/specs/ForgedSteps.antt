@@ -92,14 +92,14 @@ marked_behind = behind_birth (ends_first (mark 0 ∷ []))
 -- two lanes of which each fetches what the other sends only behind its own fetch
 abbrev pub fetched_in_a_circle : Logs
 fetched_in_a_circle =
-    (At (Object.Mail 1 0) 2 (Did.Fetch parcel) ∷ at_mail 1 1 (Did.Post parcel) ∷ [])
-    ∷ (at_mail 1 2 (Did.Fetch parcel) ∷ At (Object.Mail 1 0) 1 (Did.Post parcel) ∷ [])
+    (At (Object.Mail 1 0) 1 (Did.Fetch parcel) ∷ at_mail 1 1 (Did.Post parcel) ∷ [])
+    ∷ (at_mail 1 1 (Did.Fetch parcel) ∷ At (Object.Mail 1 0) 1 (Did.Post parcel) ∷ [])
     ∷ []
 
 -- a lane fetches what it sends behind that
 abbrev pub fetched_before_its_post : Logs
 fetched_before_its_post =
-    behind_birth (at_mail 0 2 (Did.Fetch parcel) ∷ at_mail 0 1 (Did.Post parcel) ∷ [])
+    behind_birth (at_mail 0 1 (Did.Fetch parcel) ∷ at_mail 0 1 (Did.Post parcel) ∷ [])
 
 -- all of these
 abbrev pub forged_steps : List Logs

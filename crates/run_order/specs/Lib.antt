@@ -1,4 +1,6 @@
 pub mod Order
+pub mod HandOver
 pub mod Turns
 pub mod Forged
 pub mod ForgedSteps
+pub mod MailLogs

@@ -1,13 +1,15 @@
 -- All steps of a run in one order, in which each fits what was done before it.
-use Rattle.std.specs.Prelude.{◌≡◌, ℕ, ◌+◌, ◌<◌, ◌==◌, Bool, false, if◌then◌else◌, List, [], ◌∷◌, ◌++◌}
+use Rattle.std.specs.Prelude.{◌≡◌, ℕ, ◌+◌, ◌<◌, ◌≤◌, ◌==◌, ◌&&◌, ◌||◌, Bool, true, false, if◌then◌else◌, List, [], ◌∷◌, ◌++◌}
 use Rattle.pool_law.specs.declared.id.RootId.{RootId}
 use Rattle.pool_law.specs.declared.note.Object.{Object}
+use Rattle.pool_law.specs.declared.note.Did.{Did}
 use Rattle.pool_law.specs.declared.note.RefDid.{RefDid}
 use Rattle.pool_law.specs.declared.note.RefDid.TheVariants.{Born, Retain, Kept, Ended, Vacated, Look}
 use Rattle.pool_law.specs.declared.note.Note.{Note}
 use Rattle.pool_law.specs.declared.note.Note.TheVariants.{At, Ref, Busy}
 use Rattle.pool_law.specs.Same.{same_object, same_root}
-use Rattle.pool_law.specs.Logs.{Logs, of_lane}
+use Rattle.pool_law.specs.Kinds.{Passing, Stays, Goes, Comes, passing}
+use Rattle.pool_law.specs.Logs.{Logs, of_lane, has_history}
 use Rattle.pool_law.specs.Counts.{is_born, is_retain, is_release, ends_root}
 use Rattle.pool_law.specs.Legal.{one_if}
 
@@ -32,6 +34,38 @@ abbrev pub is_at : Object → Note → Bool
 is_at object (At other number did) = same_object object other
 is_at object (Ref root did) = false
 is_at object (Busy held) = false
+
+-- both notes send a parcel, or both get one, or neither
+abbrev pub same_way : Passing → Passing → Bool
+same_way Stays Stays = true
+same_way Stays (Goes q) = false
+same_way Stays (Comes q) = false
+same_way (Goes p) Stays = false
+same_way (Goes p) (Goes q) = true
+same_way (Goes p) (Comes q) = false
+same_way (Comes p) Stays = false
+same_way (Comes p) (Goes q) = false
+same_way (Comes p) (Comes q) = true
+
+-- a note at the object that is numbered with what is done there: each, where the object has a
+-- history; of a mail the posts are numbered by themselves, and so are the fetches
+abbrev pub is_alike : Object → Did → Note → Bool
+is_alike object did (At other number done) =
+    (has_history object || same_way (passing did) (passing done)) && same_object object other
+is_alike object did (Ref root done) = false
+is_alike object did (Busy held) = false
+
+-- a parcel is sent
+abbrev pub is_sent : Passing → Bool
+is_sent Stays = false
+is_sent (Goes parcel) = true
+is_sent (Comes parcel) = false
+
+-- a post at the mail
+abbrev pub is_post : Object → Note → Bool
+is_post mail (At object number did) = is_sent (passing did) && same_object mail object
+is_post mail (Ref root did) = false
+is_post mail (Busy held) = false
 
 -- the word of a root at this place is set
 abbrev pub is_born_at : ℕ → Note → Bool
@@ -70,9 +104,18 @@ FitsCount before root Vacated =
     (made (ends_root root) before ≡ made (is_vacated root) before + 1) × Leave before root 0
 FitsCount before root (Look found) = (0 < found) × Leave before root found
 
--- a note at an object has the next number there, and a busy mark the number of the last note
+-- what gets a parcel finds its post: as many posts were made there before as its number says
+abbrev pub FindsIts : List Step → Object → ℕ → Passing → Type 0
+FindsIts before mail number Stays = Unit {0}
+FindsIts before mail number (Goes parcel) = Unit {0}
+FindsIts before mail number (Comes parcel) = number ≤ made (is_post mail) before
+
+-- a note at an object has the next number of those that it is numbered with, and a fetch finds its
+-- post; a busy mark has the number of the last note
 abbrev pub Fits : List Step → Note → Type 0
-Fits before (At object number did) = number ≡ made (is_at object) before + 1
+Fits before (At object number did) =
+    (number ≡ made (is_alike object did) before + 1)
+    × FindsIts before object number (passing did)
 Fits before (Ref root did) = FitsCount before root did
 Fits before (Busy held) = held.number ≡ made (is_at held.object) before
 

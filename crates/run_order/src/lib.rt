@@ -4,3 +4,4 @@
 //! steps one after another.
 
 pub mod forged;
+pub mod mails;

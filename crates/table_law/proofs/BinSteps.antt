@@ -1,16 +1,14 @@
--- What one accepted note does to a bin and to a mail.
+-- What one accepted note does to a bin.
 use Rattle.std.proofs.Common.{◌≡◌, ℕ, zero, suc, ◌+◌, ◌*◌, ◌/◌, ◌<◌, ◌≤◌, List, [], ◌∷◌, ◌++◌, map, Bool, true, false, sym, refl, ap, ap₂, ◌∙◌, subst, arith, eqb-true, Some, None}
 use Rattle.std.specs.Prelude.{⊤, ◌==◌, ◌&&◌, not, if◌then◌else◌}
 use native.Mathlib.Nat.{mul-add-div_right, div-eq_of_lt}
 use Rattle.size_classes.specs.Sizes.{below}
 use Rattle.pool_law.specs.declared.run.Shape.{Shape}
-use Rattle.pool_law.specs.declared.id.Parcel.{Parcel}
 use Rattle.pool_law.specs.declared.note.Did.{Did}
-use Rattle.pool_law.specs.declared.note.Did.TheVariants.{Handle, NoHandle, Home, Post, Fetch}
-use Rattle.pool_law.specs.Same.{same_parcel}
-use Rattle.pool_law.specs.Caches.{front_taken, if_so, is_empty, has_place, bin_step, mail_step}
+use Rattle.pool_law.specs.declared.note.Did.TheVariants.{Handle, NoHandle, Home}
+use Rattle.pool_law.specs.Caches.{front_taken, if_so, is_empty, has_place, bin_step}
 use Rattle.table_law.specs.NoteCounts.{place_lane}
-use Rattle.table_law.proofs.Names.{and-first, same_parcel-is}
+use Rattle.table_law.proofs.Names.{and-first}
 
 -- what a test lets through
 pub so : {X : Type 0} (b : Bool) (x m : X) → if_so b x ≡ Some m → (b ≡ true) × (x ≡ m)
@@ -86,25 +84,3 @@ of_new s l (suc n) h =
     ∙ (let z : n / s.handles ≡ 0 = div-eq_of_lt less in omega (arith, z)) in
     subst (OfLane s l) (sym (mapped-push (λ k. l * s.handles + k) (below n) n))
     (of_push s l (bin_of (l * s.handles) n) (l * s.handles + n) (of_new s l n (omega (arith, h))) lane)
-
--- ---- Mails.
-
--- the mail qs becomes m
-abbrev pub IsMailStep : List Parcel → Did → List Parcel → Type 0
-IsMailStep qs (Post q) m = m ≡ qs ++ q ∷ []
-IsMailStep qs (Fetch q) m = qs ≡ q ∷ m
-IsMailStep qs d m = ⊥
-
-fetch_told : (p : Parcel) (q m : List Parcel) → front_taken (λ x. same_parcel p x) q ≡ Some m → q ≡ p ∷ m
-fetch_told p [] m e = absurd (cc e)
-fetch_told p (x ∷ xs) m e = one (same_parcel p x) refl e
-  where
-    one : (b : Bool) → same_parcel p x ≡ b → (if b then Some xs else None) ≡ Some m → x ∷ xs ≡ p ∷ m
-    one true same e =
-        let rest : xs ≡ m = cc e in ap₂ (λ (a : Parcel) (b : List Parcel). a ∷ b) (sym (same_parcel-is p x same)) rest
-    one false same e = absurd (cc e)
-
-pub mail_told : (q m : List Parcel) (d : Did) → mail_step q d ≡ Some m → IsMailStep q d m
-mail_told q m (Post p) e = let same : q ++ p ∷ [] ≡ m = cc e in sym same
-mail_told q m (Fetch p) e = fetch_told p q m e
-mail_told q m d e = absurd (cc e)

@@ -1,4 +1,4 @@
--- What accepted histories say of places in bins, and of views in mails.
+-- What accepted histories say of places in bins.
 use Rattle.std.proofs.Common.{◌≡◌, ◌≢◌, ◌⊎◌, ℕ, zero, suc, ◌+◌, ◌*◌, ◌/◌, ◌<◌, ◌≤◌, List, [], ◌∷◌, ◌++◌, Bool, cond, eqb, sym, refl, ap, ◌∙◌, subst, inl, inr, ⊎_elim, arith, eq-eqb, ne_eqb, suc-mul, lt_of_not-le}
 use Rattle.std.proofs.Math.Nat.{div-lt_iff_lt-mul, le-div_iff_mul-le}
 use Rattle.std.specs.Prelude.{sum_by, count_by}
@@ -7,34 +7,33 @@ use mathlib.Core.Logic.{dite}
 use native.Mathlib.Decide.{ℕ_discrete, dec_le}
 use Rattle.size_classes.specs.Sizes.{below}
 use Rattle.pool_law.specs.declared.run.Shape.{Shape}
-use Rattle.pool_law.specs.declared.id.Parcel.{Parcel}
-use Rattle.pool_law.specs.declared.id.RootId.{RootId}
 use Rattle.pool_law.specs.declared.note.Did.{Did}
-use Rattle.pool_law.specs.declared.note.Did.TheVariants.{Take, Full, Give, Hit, Miss, Kept, Back, Trim, Close, Shed, Handle, NoHandle, Home, Post, Fetch, Birth, Set, Get, Touch, End}
+use Rattle.pool_law.specs.declared.note.Did.TheVariants.{Take, Full, Give, Hit, Miss, Kept, Back, Trim, Close, Shed, Handle, NoHandle, Home, Birth, Set, Get, Touch, End}
 use Rattle.pool_law.specs.declared.note.Object.{Object}
 use Rattle.pool_law.specs.declared.note.Object.TheVariants.{Arena, Cache, Bin, Mail, Root}
 use Rattle.pool_law.specs.declared.note.Noted.{Noted}
 use Rattle.pool_law.specs.Caches.{new_bin}
+use Rattle.pool_law.specs.Homes.{IsObjectOf}
 use Rattle.pool_law.specs.Arenas.{Arena as ArenaState}
 use Rattle.pool_law.specs.Caches.{Cache as CacheState}
 use Rattle.pool_law.specs.Roots.{RootPlace}
-use Rattle.table_law.specs.NoteCounts.{place_lane, did_handle, did_home, parcel_weight, did_fetch, did_post, view_of_root, did_fetch_of, did_post_of}
+use Rattle.table_law.specs.NoteCounts.{place_lane, did_handle, did_home}
 use Rattle.table_law.specs.Histories.{IsHistory, IsBinAfter}
 use Rattle.table_law.specs.Standing.{IsPlaced, IsMailed}
 use Rattle.table_law.proofs.Runs.{balance, keeps}
-use Rattle.table_law.proofs.BinSteps.{IsBinStep, bin_of, mapped-push, IsMailStep}
+use Rattle.table_law.proofs.BinSteps.{IsBinStep, bin_of, mapped-push}
 use Rattle.table_law.proofs.ArenaSteps.{IsArenaStep}
 use Rattle.table_law.proofs.CacheSteps.{IsCacheStep}
 use Rattle.table_law.proofs.PlaceSteps.{IsPlaceStep}
-use Rattle.table_law.proofs.Told.{bin_there, bin_note, bin_runs, last_bin, mail_there, mail_note, mail_runs, last_mail, next_mail, last_arena, last_cache, last_place}
+use Rattle.table_law.proofs.Told.{no_mail, bin_there, bin_note, bin_runs, last_bin, last_arena, last_cache, last_place}
 
--- the empty history is accepted
-pub no_history : (s : Shape) (o : Object) → IsHistory s o []
-no_history s (Arena a) = record { accepted = refl; right = tt }
-no_history s (Cache l c) = record { accepted = refl; right = tt }
-no_history s (Bin l) = record { accepted = refl; right = tt }
-no_history s (Mail f t) = record { accepted = refl; right = tt }
-no_history s (Root p) = record { accepted = refl; right = tt }
+-- the empty history is accepted of each object that has one
+pub no_history : (s : Shape) (o : Object) → IsObjectOf s o → IsHistory s o []
+no_history s (Arena a) f = record { accepted = refl; right = tt }
+no_history s (Cache l c) f = record { accepted = refl; right = tt }
+no_history s (Bin l) f = record { accepted = refl; right = tt }
+no_history s (Mail x t) f = absurd f
+no_history s (Root p) f = record { accepted = refl; right = tt }
 
 -- ---- Places in bins.
 
@@ -197,68 +196,13 @@ place_placed s o p n x y (Get i bs) t = (λ p. inl refl, λ p g. inl refl)
 place_placed s o p n x y Touch t = (λ p. inl refl, λ p g. inl refl)
 place_placed s o p n x y d t = absurd t
 
-mail_placed : (s : Shape) (o : Object) (q m : List Parcel) (d : Did) → IsMailStep q d m → IsPlaced s o d
-mail_placed s o q m (Post x) t p = inl refl
-mail_placed s o q m (Fetch x) t p = inl refl
-mail_placed s o q m d t p = absurd t
-
 -- a place is taken and comes home only at the bin of its lane
 pub placed : (s : Shape) (o : Object) (h : List Noted) (n : Noted) → IsHistory s o (h ++ n ∷ []) → IsPlaced s o n.did
 placed s (Arena a) h n t = let k = last_arena s a h n t in (arena_placed s (Arena a) a k.0 k.1 n.did k.3).0
 placed s (Cache l c) h n t = let k = last_cache s l c h n t in (cache_placed s (Cache l c) l c k.0 k.1 n.did k.2).0
 placed s (Bin l) h n t = let k = last_bin s l h n t in bin_placed s l k.0 k.1 n.did k.2
-placed s (Mail f u) h n t = let k = last_mail s f u h n t in mail_placed s (Mail f u) k.0 k.1 n.did k.2
+placed s (Mail f u) h n t = absurd (no_mail s f u h n t)
 placed s (Root p) h n t = let k = last_place s p h n t in (place_placed s (Root p) p n k.0 k.1 n.did k.3).0
-
--- ---- Views in mails.
-
-abbrev load : ℕ → ℕ → List Parcel → ℕ
-load p g qs = sum_by (parcel_weight p g) qs
-
-mail_step : (p g : ℕ) (q m : List Parcel) (d : Did) → IsMailStep q d m
-    → load p g q + did_post p g d ≡ did_fetch p g d + load p g m
-mail_step p g q m (Post x) t =
-    let a = ap (load p g) t in let b = sum_by_push (parcel_weight p g) q x in omega (arith, a, b)
-mail_step p g q m (Fetch x) t =
-    let a = ap (load p g) t in let b = sum_by-cons (parcel_weight p g) x m in omega (arith, a, b)
-mail_step p g q m d t = absurd t
-
--- no root is fetched more often than it was posted
-pub delivered : (s : Shape) (f t p g : ℕ) (h : List Noted) → IsHistory s (Mail f t) h
-    → sum_by (λ (n : Noted). did_fetch p g n.did) h ≤ sum_by (λ (n : Noted). did_post p g n.did) h
-delivered s f u p g h t =
-    let m = mail_there s f u h t in
-    let a = balance mail_note (load p g) (λ n. did_post p g n.did) (λ n. did_fetch p g n.did)
-    (λ x y n step. mail_step p g x y n.did step) h [] m.0 (mail_runs s f u h m.0 t m.1) in
-    let z : load p g [] ≡ 0 = refl in omega (arith, a, z)
-
--- what is fetched next was posted
-mail_front : (w : Parcel → ℕ) (q m : List Parcel) (x : Parcel) → IsMailStep q (Fetch x) m → w x ≤ sum_by w q
-mail_front w q m x t =
-    let a = ap (λ (l : List Parcel). sum_by w l) t in let b = sum_by-cons w x m in omega (arith, a, b)
-
-abbrev by_root : RootId → Parcel → ℕ
-by_root r q = view_of_root r q.view
-
-root_step : (r : RootId) (q m : List Parcel) (d : Did) → IsMailStep q d m
-    → sum_by (by_root r) q + did_post_of r d ≡ did_fetch_of r d + sum_by (by_root r) m
-root_step r q m (Post x) t =
-    let a = ap (λ (l : List Parcel). sum_by (by_root r) l) t in let b = sum_by_push (by_root r) q x in
-    omega (arith, a, b)
-root_step r q m (Fetch x) t =
-    let a = ap (λ (l : List Parcel). sum_by (by_root r) l) t in let b = sum_by-cons (by_root r) x m in
-    omega (arith, a, b)
-root_step r q m d t = absurd t
-
-pub posted_before : (s : Shape) (f u : ℕ) (r : RootId) (h : List Noted) (n : Noted) (x : Parcel)
-    → IsHistory s (Mail f u) h → IsHistory s (Mail f u) (h ++ n ∷ []) → n.did ≡ Fetch x
-    → view_of_root r x.view ≤ sum_by (λ (n : Noted). did_post_of r n.did) h
-posted_before s f u r h n x t more is =
-    let k = next_mail s f u h n more in
-    let a = balance mail_note (λ q. sum_by (by_root r) q) (λ n. did_post_of r n.did) (λ n. did_fetch_of r n.did)
-    (λ x y n step. root_step r x y n.did step) h [] k.0 (mail_runs s f u h k.0 t k.2) in
-    let low = mail_front (by_root r) k.0 k.1 x (subst (λ (d : Did). IsMailStep k.0 d k.1) is k.3) in
-    let z : sum_by (by_root r) [] ≡ 0 = refl in omega (arith, a, low, z)
 
 bin_mailed : (s : Shape) (l : ℕ) (o : Object) (q m : List ℕ) (d : Did) → IsBinStep s l q d m → IsMailed o d
 bin_mailed s l o q m (Handle x) t p g = inl refl
@@ -271,5 +215,5 @@ pub mailed : (s : Shape) (o : Object) (h : List Noted) (n : Noted) → IsHistory
 mailed s (Arena a) h n t = let k = last_arena s a h n t in (arena_placed s (Arena a) a k.0 k.1 n.did k.3).1
 mailed s (Cache l c) h n t = let k = last_cache s l c h n t in (cache_placed s (Cache l c) l c k.0 k.1 n.did k.2).1
 mailed s (Bin l) h n t = let k = last_bin s l h n t in bin_mailed s l (Bin l) k.0 k.1 n.did k.2
-mailed s (Mail f u) h n t = λ p g. inr (f, u, refl)
+mailed s (Mail f u) h n t = absurd (no_mail s f u h n t)
 mailed s (Root p) h n t = let k = last_place s p h n t in (place_placed s (Root p) p n k.0 k.1 n.did k.3).1

@@ -137,3 +137,15 @@ same_views-is (Some a) (Some b) e = ap (λ (v : ViewData). Some v) (same_view-is
 
 pub same_parcel-is : (a b : Parcel) → same_parcel a b ≡ true → a ≡ b
 same_parcel-is a b e = let view : a.view ≡ b.view = same_views-is a.view b.view e in λ i. record { view = view i }
+
+same_view-refl : (a : ViewData) → same_view a a ≡ true
+same_view-refl a = λ i. same_root-refl a.root i
+    && (eq-eqb a.offset a.offset refl i
+    && (eq-eqb a.len a.len refl i && (eq-eqb a.reader a.reader refl i && eq-eqb a.writer a.writer refl i)))
+
+pub same_parcel-refl : (a : Parcel) → same_parcel a a ≡ true
+same_parcel-refl a = by a.view
+  where
+    by : (o : Option ViewData) → same_views o o ≡ true
+    by None = refl
+    by (Some v) = same_view-refl v

@@ -5,11 +5,10 @@ use Rattle.std.proofs.lemmas.List.Sums.{sum_by-cons}
 use mathlib.Core.Logic.{dite}
 use native.Mathlib.Decide.{ℕ_discrete}
 use Rattle.pool_law.specs.declared.run.Shape.{Shape}
-use Rattle.pool_law.specs.declared.id.Parcel.{Parcel}
 use Rattle.pool_law.specs.declared.id.RootId.{RootId}
 use Rattle.pool_law.specs.declared.id.RegionId.{RegionId}
 use Rattle.pool_law.specs.declared.note.Did.{Did}
-use Rattle.pool_law.specs.declared.note.Did.TheVariants.{Take, Full, Give, Hit, Miss, Kept, Back, Trim, Close, Shed, Handle, NoHandle, Home, Post, Fetch, Birth, Set, Get, Touch, End}
+use Rattle.pool_law.specs.declared.note.Did.TheVariants.{Take, Full, Give, Hit, Miss, Kept, Back, Trim, Close, Shed, Handle, NoHandle, Home, Birth, Set, Get, Touch, End}
 use Rattle.pool_law.specs.declared.note.Object.{Object}
 use Rattle.pool_law.specs.declared.note.Object.TheVariants.{Arena, Cache, Bin, Mail, Root}
 use Rattle.pool_law.specs.declared.note.Noted.{Noted}
@@ -20,11 +19,11 @@ use Rattle.table_law.specs.NoteCounts.{did_birth, did_birth_of, did_birth_as, di
 use Rattle.table_law.specs.Histories.{IsHistory, IsPlaceAfter}
 use Rattle.table_law.specs.Standing.{IsRooted}
 use Rattle.table_law.proofs.Runs.{Runs, balance}
-use Rattle.table_law.proofs.BinSteps.{IsBinStep, IsMailStep}
+use Rattle.table_law.proofs.BinSteps.{IsBinStep}
 use Rattle.table_law.proofs.ArenaSteps.{IsArenaStep}
 use Rattle.table_law.proofs.CacheSteps.{IsCacheStep}
 use Rattle.table_law.proofs.PlaceSteps.{IsPlaceStep, FitsPlace, root_in}
-use Rattle.table_law.proofs.Told.{place_note, place_runs, place_fits, last_place, last_bin, last_mail, last_arena, last_cache}
+use Rattle.table_law.proofs.Told.{no_mail, place_note, place_runs, place_fits, last_place, last_bin, last_arena, last_cache}
 
 same_one : (a b : RootId) → Some a ≡ Some b → a ≡ b
 same_one a b e = ap (λ (o : Option RootId). unwrap_or o a) e
@@ -333,11 +332,6 @@ bin_rooted s l o q m NoHandle t p = inl (refl, λ g. refl)
 bin_rooted s l o q m (Home x) t p = inl (refl, λ g. refl)
 bin_rooted s l o q m d t p = absurd t
 
-mail_rooted : (o : Object) (q m : List Parcel) (d : Did) → IsMailStep q d m → IsRooted o d
-mail_rooted o q m (Post x) t p = inl (refl, λ g. refl)
-mail_rooted o q m (Fetch x) t p = inl (refl, λ g. refl)
-mail_rooted o q m d t p = absurd t
-
 root_rooted : (p : ℕ) (x : RootPlace) (d : Did) (region : Option RegionId) (y : RootPlace)
     → ((r : RootId) → root_in x ≡ Some r → r.place ≡ p) → IsPlaceStep p x d region y → IsRooted (Root p) d
 root_rooted p x (Birth r z) region y f t q = dite (ℕ_discrete r.place q)
@@ -365,6 +359,6 @@ pub rooted : (s : Shape) (o : Object) (h : List Noted) (n : Noted) → IsHistory
 rooted s (Arena a) h n t = let k = last_arena s a h n t in arena_rooted (Arena a) a k.0 k.1 n.did k.3
 rooted s (Cache l c) h n t = let k = last_cache s l c h n t in cache_rooted (Cache l c) l c k.0 k.1 n.did k.2
 rooted s (Bin l) h n t = let k = last_bin s l h n t in bin_rooted s l (Bin l) k.0 k.1 n.did k.2
-rooted s (Mail f u) h n t = let k = last_mail s f u h n t in mail_rooted (Mail f u) k.0 k.1 n.did k.2
+rooted s (Mail f u) h n t = absurd (no_mail s f u h n t)
 rooted s (Root p) h n t =
     let k = last_place s p h n t in root_rooted p k.0 n.did n.region k.1 (root_of p k.0 (place_fits p h k.0 k.2)) k.3

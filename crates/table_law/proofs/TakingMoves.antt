@@ -4,10 +4,9 @@ use Rattle.std.specs.Prelude.{Option}
 use mathlib.Core.Logic.{dite}
 use native.Mathlib.Decide.{ℕ_discrete}
 use Rattle.pool_law.specs.declared.run.Shape.{Shape}
-use Rattle.pool_law.specs.declared.id.Parcel.{Parcel}
 use Rattle.pool_law.specs.declared.id.RegionId.{RegionId}
 use Rattle.pool_law.specs.declared.note.Did.{Did}
-use Rattle.pool_law.specs.declared.note.Did.TheVariants.{Take, Full, Give, Hit, Miss, Kept, Back, Trim, Close, Shed, Handle, NoHandle, Home, Post, Fetch, Birth, Set, Get, Touch, End}
+use Rattle.pool_law.specs.declared.note.Did.TheVariants.{Take, Full, Give, Hit, Miss, Kept, Back, Trim, Close, Shed, Handle, NoHandle, Home, Birth, Set, Get, Touch, End}
 use Rattle.pool_law.specs.declared.note.Object.{Object}
 use Rattle.pool_law.specs.declared.note.Object.TheVariants.{Arena, Cache, Bin, Mail, Root}
 use Rattle.pool_law.specs.declared.note.Noted.{Noted}
@@ -17,11 +16,11 @@ use Rattle.pool_law.specs.Roots.{RootPlace}
 use Rattle.table_law.specs.NoteCounts.{is_taking, arena_out, arena_in, cache_out, cache_in, place_out, place_in}
 use Rattle.table_law.specs.Histories.{IsHistory}
 use Rattle.table_law.specs.Standing.{IsRegioned, IsOfClass}
-use Rattle.table_law.proofs.BinSteps.{IsBinStep, IsMailStep}
+use Rattle.table_law.proofs.BinSteps.{IsBinStep}
 use Rattle.table_law.proofs.ArenaSteps.{IsArenaStep}
 use Rattle.table_law.proofs.CacheSteps.{IsCacheStep}
 use Rattle.table_law.proofs.PlaceSteps.{IsPlaceStep}
-use Rattle.table_law.proofs.Told.{last_bin, last_mail, last_arena, last_cache, last_place}
+use Rattle.table_law.proofs.Told.{no_mail, last_bin, last_arena, last_cache, last_place}
 use Rattle.table_law.proofs.ArenaTakings.{other_arena}
 
 -- the note with what was done written out
@@ -75,12 +74,6 @@ bin_regioned s l q e NoHandle m r g = nothing (Bin l) (with_did e NoHandle) g re
 bin_regioned s l q e (Home x) m r g = nothing (Bin l) (with_did e (Home x)) g refl refl refl
 bin_regioned s l q e d m r g = absurd r
 
-mail_regioned : (f u : ℕ) (q : List Parcel) (e : Noted) (d : Did) (m : List Parcel) → IsMailStep q d m → (g : RegionId)
-    → IsRegioned (Mail f u) (with_did e d) g
-mail_regioned f u q e (Post x) m r g = nothing (Mail f u) (with_did e (Post x)) g refl refl refl
-mail_regioned f u q e (Fetch x) m r g = nothing (Mail f u) (with_did e (Fetch x)) g refl refl refl
-mail_regioned f u q e d m r g = absurd r
-
 root_regioned : (p : ℕ) (x : RootPlace) (e : Noted) (d : Did) (region : Option RegionId) (y : RootPlace)
     → IsPlaceStep p x d region y → (g : RegionId) → IsRegioned (Root p) (with_did e d) g
 root_regioned p x e (Birth r z) region y s g = record { arena = inl refl; cache = inl refl; place = inr (p, refl) }
@@ -96,7 +89,7 @@ pub regioned : (s : Shape) (o : Object) (h : List Noted) (n : Noted) → IsHisto
 regioned s (Arena a) h n t = let k = last_arena s a h n t in arena_regioned a k.0 n n.did k.1 k.3
 regioned s (Cache l c) h n t = let k = last_cache s l c h n t in cache_regioned l c k.0 n n.did k.1 k.2
 regioned s (Bin l) h n t = let k = last_bin s l h n t in bin_regioned s l k.0 n n.did k.1 k.2
-regioned s (Mail f u) h n t = let k = last_mail s f u h n t in mail_regioned f u k.0 n n.did k.1 k.2
+regioned s (Mail f u) h n t = absurd (no_mail s f u h n t)
 regioned s (Root p) h n t = let k = last_place s p h n t in root_regioned p k.0 n n.did n.region k.1 k.3
 
 -- a taking is of the class that its note asks for
@@ -114,10 +107,6 @@ bin_class : (s : Shape) (l : ℕ) (q : List ℕ) (d : Did) (m : List ℕ) → Is
 bin_class s l q (Take k r) m t = absurd t
 bin_class s l q d m t = tt
 
-mail_class : (q : List Parcel) (d : Did) (m : List Parcel) → IsMailStep q d m → IsOfClass d
-mail_class q (Take k r) m t = absurd t
-mail_class q d m t = tt
-
 place_class : (p : ℕ) (x : RootPlace) (d : Did) (region : Option RegionId) (y : RootPlace) → IsPlaceStep p x d region y
     → IsOfClass d
 place_class p x (Take k r) region y s = absurd s
@@ -127,5 +116,5 @@ pub of_class : (s : Shape) (o : Object) (h : List Noted) (n : Noted) → IsHisto
 of_class s (Arena a) h n t = let k = last_arena s a h n t in arena_class a k.0 n.did k.1 k.3
 of_class s (Cache l c) h n t = let k = last_cache s l c h n t in cache_class l c k.0 n.did k.1 k.2
 of_class s (Bin l) h n t = let k = last_bin s l h n t in bin_class s l k.0 n.did k.1 k.2
-of_class s (Mail f u) h n t = let k = last_mail s f u h n t in mail_class k.0 n.did k.1 k.2
+of_class s (Mail f u) h n t = absurd (no_mail s f u h n t)
 of_class s (Root p) h n t = let k = last_place s p h n t in place_class p k.0 n.did n.region k.1 k.3

@@ -1,21 +1,20 @@
 -- A history of each kind of object is a run of that object's steps.
-use Rattle.std.proofs.Common.{◌≡◌, ℕ, List, [], ◌∷◌, ◌++◌, refl, ap, arith, Some, None}
+use Rattle.std.proofs.Common.{◌≡◌, ℕ, List, [], ◌∷◌, ◌++◌, refl, ap, sym, arith, true≢false, Some, None}
 use Rattle.std.specs.Prelude.{Option, option_map}
 use Rattle.pool_law.specs.declared.run.Shape.{Shape}
-use Rattle.pool_law.specs.declared.id.Parcel.{Parcel}
 use Rattle.pool_law.specs.declared.note.Did.{Did}
 use Rattle.pool_law.specs.declared.note.Object.TheVariants.{Arena, Cache, Bin, Mail, Root}
 use Rattle.pool_law.specs.declared.note.Noted.{Noted}
 use Rattle.pool_law.specs.Limits.{geometry_of}
 use Rattle.pool_law.specs.Arenas.{Arena as ArenaState, new_arena, arena_step}
-use Rattle.pool_law.specs.Caches.{Cache as CacheState, new_cache, lane_cache_step, new_bin, bin_step, mail_step}
+use Rattle.pool_law.specs.Caches.{Cache as CacheState, new_cache, lane_cache_step, new_bin, bin_step}
 use Rattle.pool_law.specs.Roots.{RootPlace, new_place, place_step}
-use Rattle.pool_law.specs.Histories.{arena_after, cache_after, bin_after, mail_after, place_after}
+use Rattle.pool_law.specs.Histories.{arena_after, cache_after, bin_after, place_after}
 use Rattle.pool_law.specs.NotedHistories.{noted_dids, IsRightAt}
 use Rattle.pool_law.specs.Logs.{present_in, region_for}
 use Rattle.table_law.specs.Histories.{IsHistory, IsArenaAfter, IsCacheAfter, IsBinAfter, IsPlaceAfter, root_after}
 use Rattle.table_law.proofs.Runs.{Runs, there, told, last_note, next_note, kept, right_last}
-use Rattle.table_law.proofs.BinSteps.{IsBinStep, OfLane, bin_told, of_new, IsMailStep, mail_told}
+use Rattle.table_law.proofs.BinSteps.{IsBinStep, OfLane, bin_told, of_new}
 use Rattle.table_law.proofs.ArenaSteps.{IsArenaStep, OfArena, arena_told}
 use Rattle.table_law.proofs.CacheSteps.{IsCacheStep, cache_told}
 use Rattle.table_law.proofs.PlaceSteps.{IsPlaceStep, FitsPlace, place_told, root_in}
@@ -33,12 +32,12 @@ cache_there s l c h t = there (cache_after l c (noted_dids h)) t.accepted
 pub bin_there : (s : Shape) (l : ℕ) (h : List Noted) → IsHistory s (Bin l) h → (m : List ℕ) × IsBinAfter s l h m
 bin_there s l h t = there (bin_after s l (noted_dids h)) t.accepted
 
-pub mail_there : (s : Shape) (f u : ℕ) (h : List Noted) → IsHistory s (Mail f u) h
-    → (m : List Parcel) × (mail_after (noted_dids h) ≡ Some m)
-mail_there s f u h t = there (mail_after (noted_dids h)) t.accepted
-
 pub place_there : (s : Shape) (p : ℕ) (h : List Noted) → IsHistory s (Root p) h → (x : RootPlace) × IsPlaceAfter p h x
 place_there s p h t = there (place_after p (noted_dids h)) t.accepted
+
+-- no note stands in a history of a mail
+pub no_mail : (s : Shape) (f u : ℕ) (h : List Noted) (n : Noted) → IsHistory s (Mail f u) (h ++ n ∷ []) → ⊥
+no_mail s f u h n t = true≢false (sym t.accepted)
 
 -- ---- Bins.
 
@@ -62,29 +61,6 @@ last_bin s l h n t =
     let of = kept (bin_step l s.handles) (OfLane s l) (λ x y d of is. (bin_told s l x y d of is).1) h
     (new_bin l s.handles) k.0 (new_of s l) k.1 in
     (k.0, m.0, (bin_told s l k.0 m.0 n.did of k.2).0)
-
--- ---- Mails.
-
-abbrev pub mail_note : List Parcel → Noted → List Parcel → Type 0
-mail_note q n m = IsMailStep q n.did m
-
-pub mail_runs : (s : Shape) (f u : ℕ) (h : List Noted) (m : List Parcel) → IsHistory s (Mail f u) h
-    → mail_after (noted_dids h) ≡ Some m → Runs mail_note [] h m
-mail_runs s f u h m t e =
-    told mail_step (Mail f u) (λ b q. Unit {0}) mail_note (λ b x y n _ _ is. (mail_told x y n.did is, tt)) h [] [] m tt
-    t.right e
-
-pub last_mail : (s : Shape) (f u : ℕ) (h : List Noted) (n : Noted) → IsHistory s (Mail f u) (h ++ n ∷ [])
-    → (q : List Parcel) × (m : List Parcel) × IsMailStep q n.did m
-last_mail s f u h n t =
-    let m = mail_there s f u (h ++ n ∷ []) t in let k = last_note mail_step h n [] m.0 m.1 in
-    (k.0, m.0, mail_told k.0 m.0 n.did k.2)
-
-pub next_mail : (s : Shape) (f u : ℕ) (h : List Noted) (n : Noted) → IsHistory s (Mail f u) (h ++ n ∷ [])
-    → (q : List Parcel) × (m : List Parcel) × (mail_after (noted_dids h) ≡ Some q) × IsMailStep q n.did m
-next_mail s f u h n t =
-    let m = mail_there s f u (h ++ n ∷ []) t in let k = last_note mail_step h n [] m.0 m.1 in
-    (k.0, m.0, k.1, mail_told k.0 m.0 n.did k.2)
 
 -- ---- Arenas.
 

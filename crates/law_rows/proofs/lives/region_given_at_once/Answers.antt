@@ -11,7 +11,7 @@ returns-clause-lives c = (refl, (refl, refl))
 
 pub returns-clause-order : goal.returns-clause-order
 returns-clause-order c =
-    (refl, ((refl, omega arith), (refl, ((refl, omega arith), (refl, ((refl, omega arith), refl))))))
+    (refl, ((refl, omega arith), (refl, ((refl, (omega arith, refl)), (refl, ((refl, omega arith), refl))))))
 
 pub returns-clause-before : goal.returns-clause-before
 returns-clause-before c = record {
@@ -29,5 +29,5 @@ returns-clause-apart c = record {
   ended = (refl, refl);
   born = (refl, refl);
   between = event 0 20 first_arena 5 (Did.Give (five_region 1 1)) ∷ larger_taken ∷ [];
-  order = (inl (refl, omega arith), (refl, (inr (refl, omega arith), (refl, inl (refl, omega arith)))));
+  order = (inl (refl, omega arith), (refl, (inr (refl, (omega arith, refl)), (refl, inl (refl, omega arith)))));
 }

@@ -14,12 +14,12 @@ returns-clause-order c = (
     (
       refl,
       (
-        (refl, omega arith),
+        (refl, (omega arith, refl)),
         (
           refl,
           (
             (refl, omega arith),
-            (refl, ((refl, omega arith), (refl, ((refl, omega arith), refl)))),
+            (refl, ((refl, (omega arith, refl)), (refl, ((refl, omega arith), refl)))),
           ),
         ),
       ),

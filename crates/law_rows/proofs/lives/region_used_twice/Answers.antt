@@ -18,7 +18,7 @@ returns-clause-order c = (
     (
       refl,
       (
-        (refl, omega arith),
+        (refl, (omega arith, refl)),
         (
           refl,
           (
@@ -26,7 +26,7 @@ returns-clause-order c = (
             (
               refl,
               (
-                (refl, omega arith),
+                (refl, (omega arith, refl)),
                 (
                   refl,
                   (
@@ -34,14 +34,14 @@ returns-clause-order c = (
                     (
                       refl,
                       (
-                        (refl, omega arith),
+                        (refl, (omega arith, refl)),
                         (
                           refl,
                           (
                             (refl, omega arith),
                             (
                               refl,
-                              ((refl, omega arith), (refl, ((refl, omega arith), refl))),
+                              ((refl, (omega arith, refl)), (refl, ((refl, omega arith), refl))),
                             ),
                           ),
                         ),
@@ -67,5 +67,5 @@ returns-clause-apart c = record {
   born = (refl, refl);
   between =
       event 0 10 least_cache 2 (Did.Kept (least_region 1)) ∷ event 0 13 least_cache 3 (Did.Hit (least_region 1)) ∷ [];
-  order = (inl (refl, omega arith), (refl, (inr (refl, omega arith), (refl, inl (refl, omega arith)))));
+  order = (inl (refl, omega arith), (refl, (inr (refl, (omega arith, refl)), (refl, inl (refl, omega arith)))));
 }
