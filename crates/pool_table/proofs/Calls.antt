@@ -1,7 +1,7 @@
 -- The steps as the calls ask for them: the key, the object and the slot come by equations.
 use Rattle.step_law.specs.Settings.{Setting}
-use Rattle.std.proofs.Common.{◌≡◌, ◌≢◌, ℕ, ◌+◌, ◌-◌, ◌*◌, ◌%◌, ◌^◌, ◌<◌, ◌≤◌, List, [], ◌∷◌, ◌++◌, sym, refl, ◌∙◌, subst, arith, ◌/◌}
-use Rattle.std.specs.Prelude.{Option, Some, None, bit_or}
+use Rattle.std.proofs.Common.{◌≡◌, ◌≢◌, ℕ, ◌+◌, ◌-◌, ◌*◌, ◌%◌, ◌^◌, ◌<◌, ◌≤◌, List, [], ◌∷◌, ◌++◌, sym, refl, ap, ◌∙◌, subst, arith, ◌/◌}
+use Rattle.std.specs.Prelude.{Option, Some, None, bit_or, slice_index}
 use mathlib.Core.Option.{none}
 use Rattle.atomic_table.specs.Table.{Me, step, Allows, Splits, Joins}
 use Rattle.pool_law.specs.declared.run.Shape.{Shape}
@@ -9,6 +9,13 @@ use Rattle.pool_law.specs.declared.note.Noted.{Noted}
 use Rattle.pool_law.specs.declared.note.Object.{Object}
 use Rattle.pool_law.specs.declared.note.Object.TheVariants.{Root}
 use Rattle.pool_law.specs.Homes.{IsObjectOf}
+use Rattle.pool_law.specs.declared.id.Parcel.{Parcel}
+use Rattle.pool_table.specs.Letters.{next_letter, lane_of}
+use Rattle.pool_table.specs.Mailing.{MaySend, MayReceive}
+use Rattle.pool_table.specs.Steps.{sends_next, letter_beside, receives_with, stays}
+use Rattle.pool_table.proofs.Claimed.{stays_sound}
+use Rattle.pool_table.proofs.Sending.{sends_allowed, receives_allowed}
+use Rattle.atomic_table.specs.Table.{keeps}
 use Rattle.pool_table.specs.Slots.{slots_of, slot_of}
 use Rattle.table_law.specs.Histories.{IsHistory}
 use Rattle.pool_law.specs.Naming.{noted_by}
@@ -34,7 +41,7 @@ use Rattle.pool_table.specs.Steps.{claims, marks_claims, GotIn, counts_one, done
 use Rattle.pool_table.proofs.Seatings.{splits_allowed, shares_allowed}
 use Rattle.pool_table.proofs.Joinings.{joins_allowed, accepts_allowed}
 use Rattle.pool_table.proofs.Hands.{births_allowed, hand_place}
-use Rattle.pool_table.proofs.Exact.{born_place, count_born, token_born}
+use Rattle.pool_table.proofs.Exact.{born_place, count_born, counted_of, token_born}
 use Rattle.pool_table.proofs.OneRoot.{one_allowed}
 use mathlib.Core.Option.{some}
 use lib.ListN.{get_elem?}
@@ -248,3 +255,42 @@ module _ {H : Type 0} (stands : List ℕ → Setting → List Noted → H → Ty
         (λ s r at. hand_place stands l some_handle s r id root.place me.0 at has) is
         (λ lt. births_allowed stands l id me root lt has waits
         (λ s r lt g at less. next_birth stands l s r id root.place g me.0 lt at less) out)))
+
+-- ---- Letters.
+module _ {H : Type 0} (stands : List ℕ → Setting → List Noted → H → Type 0) (l key : Layout) (ke : key ≡ l) where
+  pub sends_as : (to to' : ℕ) (parcel parcel' : Parcel) (id : ℕ) (v : SeatView) → to' ≡ to → parcel' ≡ parcel
+      → v.inside ≡ None → MaySend l.shape v to parcel
+      → Splits (IsSound stands key) id v (sends_next to' parcel' v) (letter_beside to' parcel' v)
+  sends_as to to' parcel parcel' id v te pe out may =
+      subst (λ (y : Layout × ℕ × Parcel). Splits (IsSound stands y.0) id v (sends_next y.1 y.2 v)
+      (letter_beside y.1 y.2 v)) (λ i. (sym ke i, sym te i, sym pe i))
+      (sends_allowed stands l v (next_letter to parcel v) out
+      (may.number ∙ ap (λ (o : Option ℕ). Some (lane_of o)) (sym may.number)) may.receiver may.counts refl id)
+
+  pub receives_as : (id other : ℕ) (v w : SeatView) → v.inside ≡ None → MayReceive v w
+      → Joins (IsSound stands key) id v other w (receives_with v w) (blank None)
+  receives_as id other v w out may =
+      subst (λ (y : Layout × SeatView). Joins (IsSound stands y.0) id v other y.1 (receives_with v y.1) (blank None))
+      (λ i. (sym ke i, sym may.alone i))
+      (receives_allowed stands l v w.setting may.letter out may.lane may.next id other)
+
+  -- nothing changes, at the first word
+  pub stays_as : (l' : Layout) (slots word id : ℕ) (me : Me (Option H) SeatView) → l' ≡ l → slots ≡ slots_of l.shape
+      → Allows (IsSound stands key) slots id me word (λ n. n) (counts_one (stays l') (step slots word 0 0 none) me)
+  stays_as l' slots word id me le se =
+      one_allowed stands key slots id me word (λ n. n) (stays l') (step slots word 0 0 none)
+      (subst (λ (y : Layout × Layout). Allows (IsSound stands y.0) slots id me word (λ n. n)
+      (stays y.1 (step slots word 0 0 none) me)) (λ i. (sym ke i, sym le i))
+      (λ s r wide at under. (
+        me.0,
+        keeps,
+        tt,
+        stays_sound stands l id word (slice_index s.words word) me.0 s r at refl,
+        (
+          refl,
+          record {
+            counted = counted_of stands l s r id me.0 at;
+            placed = λ q has. born_place stands l s r q (count_born stands l s r id me.0 at q has);
+          },
+        ),
+      )))

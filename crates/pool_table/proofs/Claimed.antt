@@ -16,6 +16,7 @@ use Rattle.pool_law.specs.declared.note.Noted.{Noted}
 use Rattle.pool_law.specs.declared.note.Object.{Object}
 use Rattle.pool_law.specs.declared.note.Object.TheVariants.{Root}
 use Rattle.pool_law.specs.Homes.{home_of, IsObjectOf}
+use Rattle.pool_table.proofs.Mails.{mailed_same}
 use Rattle.pool_table.specs.Slots.{slots_of, slot_of}
 use Rattle.table_law.specs.Measures.{measures_of}
 use Rattle.pool_table.specs.Words.{word_of}
@@ -23,10 +24,10 @@ use Rattle.table_law.proofs.Apart.{one_home}
 use Rattle.pool_table.specs.declared.views.Layout.{Layout}
 use Rattle.pool_table.specs.declared.views.Inside.{Inside}
 use Rattle.pool_table.specs.declared.views.SeatView.{SeatView}
-use Rattle.pool_table.specs.Views.{Face, parts_of, face, strand, inside_at, is_in, inside_total, spent, one_if, entered}
+use Rattle.pool_table.specs.Views.{ObjectView, parts_of, object_view, object_part, inside_at, is_in, inside_total, spent, one_if, entered}
 use Rattle.pool_table.proofs.RegionNumbers.{arena_tells, few_uses, next_free}
 use Rattle.pool_table.proofs.Regions.{in_hand_once}
-use Rattle.pool_table.proofs.OwnCaches.{cache_tells}
+use Rattle.pool_table.proofs.OwnTakings.{cache_tells}
 use Rattle.pool_table.proofs.Hands.{hand_place}
 use Rattle.pool_table.proofs.Makers.{each_may}
 use Rattle.pool_table.proofs.Places.{hand_bin}
@@ -35,7 +36,6 @@ use Rattle.pool_table.specs.Hands.{MayEnter}
 use Rattle.pool_table.proofs.Weights.{same_parts, counted_parts, settled_same, handy_parts, orderly_parts}
 use Rattle.pool_table.proofs.Looks.{looks_same}
 use Rattle.pool_table.proofs.Births.{born_same}
-use Rattle.pool_table.proofs.Putting.{fetched_place}
 use Rattle.pool_table.proofs.Exact.{counted_of, vacated_of}
 use Rattle.pool_table.proofs.Order.{order_same}
 use Rattle.pool_table.proofs.Sequence.{one_same}
@@ -45,7 +45,7 @@ use Rattle.pool_table.specs.Steps.{IsFree}
 use Rattle.pool_table.specs.Steps.{GotIn, claims}
 use Rattle.pool_table.proofs.Objects.{claimed_kept}
 use Rattle.pool_table.proofs.Tables.{changes, short, holder}
-use Rattle.pool_table.proofs.Entries.{outside_face, or_even, under, inside_face, away_face, not_idle, or_odd}
+use Rattle.pool_table.proofs.Entries.{outside_object_view, or_even, under, inside_object_view, away_object_view, not_idle, or_odd}
 
 module _ {H : Type 0} (stands : List ℕ → Setting → List Noted → H → Type 0) (l : Layout) where
   -- the section of a view that is in it
@@ -72,34 +72,37 @@ module _ {H : Type 0} (stands : List ℕ → Setting → List Noted → H → Ty
   told_own : (s : State (Option H) SeatView) (r : IsSound stands l s) (id : ℕ) (v : SeatView) (o : Object)
       (fits : IsObjectOf l.shape o) → get_elem? s.views id ≡ some v
       → let i = home_of l.shape o in let h = (r.objects o fits).history in
-      IsTold o h (length h + (inside_total (map (face l.shape i) s.views) - is_in (face l.shape i v)))
-      (strand l.shape i v.own)
+      IsTold o h (length h + (inside_total (map (object_view l.shape i) s.views) - is_in (object_view l.shape i v)))
+      (object_part l.shape i v.own)
   told_own s r id v o fits at =
       let i : ℕ = home_of l.shape o in let k = r.objects o fits in let h : List Noted = k.history in
-      let t : ℕ = inside_total (map (face l.shape i) s.views) in let limit : Face
-      → ℕ = λ (f : Face). length h + (t - is_in f) in
-      All-head (IsTold o h (limit (face l.shape i v))) (strand l.shape i v.own) (map (strand l.shape i) v.others)
-      (each_at (λ (f : Face). All (IsTold o h (limit f)) f.parts) (map (face l.shape i) s.views) id (face l.shape i v)
-      k.told (at_map (face l.shape i) s.views id v at))
+      let t : ℕ = inside_total (map (object_view l.shape i) s.views) in let limit : ObjectView
+      → ℕ = λ (f : ObjectView). length h + (t - is_in f) in
+      All-head (IsTold o h (limit (object_view l.shape i v))) (object_part l.shape i v.own)
+      (map (object_part l.shape i) v.others)
+      (each_at (λ (f : ObjectView). All (IsTold o h (limit f)) f.parts) (map (object_view l.shape i) s.views) id
+      (object_view l.shape i v)
+      k.told (at_map (object_view l.shape i) s.views id v at))
 
   -- some other view is in the section
   pub was_held : (s : State (Option H) SeatView) (r : IsSound stands l s) (id : ℕ) (v : SeatView) (o : Object)
       (fits : IsObjectOf l.shape o) → get_elem? s.views id ≡ some v → v.inside ≡ None
-      → inside_total (map (face l.shape (home_of l.shape o)) s.views) ≡ 1
+      → inside_total (map (object_view l.shape (home_of l.shape o)) s.views) ≡ 1
       → WasHeld stands l o (length (r.objects o fits).history) v
   was_held s r id v o fits at out one =
       let i : ℕ = home_of l.shape o in let k = r.objects o fits in
-      let t : ℕ = inside_total (map (face l.shape i) s.views) in let one' : t
+      let t : ℕ = inside_total (map (object_view l.shape i) s.views) in let one' : t
       ≡ 1 = one in let some_in : 0 < t = omega (arith, one') in
       let b = holder stands l i s.views some_in in let j : ℕ = b.0 in let u : SeatView = b.1 in
       let ne : j ≢ id = (λ same. let uv : u ≡ v = some-injective u v
       (sym b.2 ∙ ap (λ (n : ℕ). get_elem? s.views n) same ∙ at) in
-      let z : is_in (face l.shape i u) ≡ 0 = ap (λ (y : SeatView). is_in (face l.shape i y)) uv
-      ∙ ap is_in (outside_face stands l i v out) in let p = b.3 in let q : ℕ = is_in (face l.shape i u) in let z' : q
+      let z : is_in (object_view l.shape i u) ≡ 0 = ap (λ (y : SeatView). is_in (object_view l.shape i y)) uv
+      ∙ ap is_in (outside_object_view stands l i v out) in let p = b.3 in let q : ℕ = is_in (object_view l.shape i u) in
+      let z' : q
       ≡ 0 = z in let p' : 0 < q = p in
       omega (arith, z', p')) in
-      let knows = each_at (Knows k.history) (map (face l.shape i) s.views) j (face l.shape i u) k.knows
-      (at_map (face l.shape i) s.views j u b.2) in
+      let knows = each_at (Knows k.history) (map (object_view l.shape i) s.views) j (object_view l.shape i u) k.knows
+      (at_map (object_view l.shape i) s.views j u b.2) in
       let fine = each_at (IsView l.shape r.setting) s.views j u r.views b.2 in
       let x = section_at i k.history u.inside b.3 knows in
       record {
@@ -120,8 +123,8 @@ module _ {H : Type 0} (stands : List ℕ → Setting → List Noted → H → Ty
         number =
             x.4;
         seen =
-            last_not_below l.shape o k.history (length k.history + (t - is_in (face l.shape i v)))
-            v.own.number (let n : ℕ = length k.history in let z : ℕ = is_in (face l.shape i v) in
+            last_not_below l.shape o k.history (length k.history + (t - is_in (object_view l.shape i v)))
+            v.own.number (let n : ℕ = length k.history in let z : ℕ = is_in (object_view l.shape i v) in
             omega (arith, one')) v.own.notes (told_own s r id v o fits at).told;
       }
 
@@ -131,7 +134,7 @@ module _ {H : Type 0} (stands : List ℕ → Setting → List Noted → H → Ty
   -- another was in the section, and no mark is kept
   pub finds_held : (id : ℕ) (me : Me (Option H) SeatView) (o : Object) → IsObjectOf l.shape o → IsFree me
       → (s : State (Option H) SeatView) (r : IsSound stands l s) → get_elem? s.views id ≡ some me.0
-      → (fits : IsObjectOf l.shape o) → inside_total (map (face l.shape (home_of l.shape o)) s.views) ≡ 1
+      → (fits : IsObjectOf l.shape o) → inside_total (map (object_view l.shape (home_of l.shape o)) s.views) ≡ 1
       → (me.0 ≡ me.0) × (me.1 ≡ me.1) × WasHeld stands l o (slice_index s.words (word_of l.shape o) / 2) me.0
   finds_held id me o f out s r at fits one =
       let k = r.objects o fits in (
@@ -139,7 +142,7 @@ module _ {H : Type 0} (stands : List ℕ → Setting → List Noted → H → Ty
         refl,
         subst (λ (n : ℕ). WasHeld stands l o n me.0)
             (sym (half (slice_index s.words (word_of l.shape o)) (length k.history)
-            (inside_total (map (face l.shape (home_of l.shape o)) s.views)) one k.word_is))
+            (inside_total (map (object_view l.shape (home_of l.shape o)) s.views)) one k.word_is))
             (was_held s r id me.0 o fits at out.0 one),
       )
 
@@ -159,7 +162,7 @@ module _ {H : Type 0} (stands : List ℕ → Setting → List Noted → H → Ty
   pub gets_in : 0 < l.shape.handles → (id : ℕ) (me : Me (Option H) SeatView) (o : Object) (fits : IsObjectOf l.shape o)
       → IsFree me → 0 < me.0.turns → ((p : ℕ) → o ≡ Root p → MayEnter p me.0)
       → (s : State (Option H) SeatView) (r : IsSound stands l s) → get_elem? s.views id ≡ some me.0
-      → inside_total (map (face l.shape (home_of l.shape o)) s.views) ≡ 0
+      → inside_total (map (object_view l.shape (home_of l.shape o)) s.views) ≡ 0
       → Owes s id me (word_of l.shape o) (λ n. bit_or n 1)
       (λ found after. (found % 2 ≡ 0) × GotIn stands l o (slot_of l.shape o) me found after)
   unfolding object_or
@@ -167,31 +170,35 @@ module _ {H : Type 0} (stands : List ℕ → Setting → List Noted → H → Ty
       let i : ℕ = home_of l.shape o in let d : ℕ = slot_of l.shape o in let k = r.objects o fits in let h : List Noted =
       k.history in let n : ℕ = length h in let v : SeatView = me.0 in
       let word : ℕ = slice_index s.words (word_of l.shape o) in let t : ℕ =
-      inside_total (map (face l.shape i) s.views) in
+      inside_total (map (object_view l.shape i) s.views) in
       let wi : word ≡ 2 * n + t = k.word_is in let z : t ≡ 0 = nobody in let w0 : word
       ≡ 2 * n + 0 = omega (arith, wi, z) in
       let x : Inside = record { object = o; number = n; history = h } in
       let w : SeatView = entered v o h n in
       let hv = k.home_is nobody in
       let fine : IsView l.shape r.setting v = each_at (IsView l.shape r.setting) s.views id v r.views at in
-      let vf : face l.shape i v ≡ record { parts = map (strand l.shape i) (parts_of v); inside = None } =
-      outside_face stands l i v out.0 in
-      let wf : face l.shape i w ≡ record { parts = map (strand l.shape i) (parts_of v); inside = Some x } =
-      inside_face stands l i w x refl refl in
-      let there = at_map (face l.shape i) s.views id v at in
-      let told = told_own s r id v o fits at in let last : n + (t - is_in (face l.shape i v)) ≤ n = omega (arith, z) in
-      let kept = claimed_kept stands l.shape r.setting o (map (face l.shape i) s.views) word (get_elem? s.homes d)
-      (get_elem? (set s.homes d none) d) id (face l.shape i v) x k there nobody refl refl in
-      let kept' : IsKept stands l.shape r.setting o (set (map (face l.shape i) s.views) id (face l.shape i w))
+      let vf : object_view l.shape i v ≡ record { parts = map (object_part l.shape i) (parts_of v); inside = None } =
+      outside_object_view stands l i v out.0 in
+      let wf : object_view l.shape i w ≡ record { parts = map (object_part l.shape i) (parts_of v); inside = Some x } =
+      inside_object_view stands l i w x refl refl in
+      let there = at_map (object_view l.shape i) s.views id v at in
+      let told = told_own s r id v o fits at in let last : n + (t - is_in (object_view l.shape i v)) ≤ n =
+      omega (arith, z) in
+      let kept = claimed_kept stands l.shape r.setting o (map (object_view l.shape i) s.views) word
+      (get_elem? s.homes d)
+      (get_elem? (set s.homes d none) d) id (object_view l.shape i v) x k there nobody refl refl in
+      let kept' : IsKept stands l.shape r.setting o
+      (set (map (object_view l.shape i) s.views) id (object_view l.shape i w))
       (bit_or word 1) (get_elem? (set s.homes d none) d) =
-      subst (λ (y : Face × ℕ). IsKept stands l.shape r.setting o (set (map (face l.shape i) s.views) id y.0) y.1
+      subst (λ (y : ObjectView × ℕ). IsKept stands l.shape r.setting o
+      (set (map (object_view l.shape i) s.views) id y.0) y.1
       (get_elem? (set s.homes d none) d)) (λ q. (sym wf q, sym (or_even word n w0) q)) kept in (
         w,
         takes d (Some hv.0),
         hv.1,
         changes stands l s r id v w o (bit_or word 1) (set s.homes d none) fits at
-            (λ j ne. away_face stands l j w x refl (λ e. ne (sym e))
-            ∙ sym (outside_face stands l j v out.0)) (λ m. refl)
+            (λ j ne. away_object_view stands l j w x refl (λ e. ne (sym e))
+            ∙ sym (outside_object_view stands l j v out.0)) (λ m. refl)
             (same_parts v w refl refl)
             (record {
               counted = counted_parts v w refl fine.counted;
@@ -218,6 +225,7 @@ module _ {H : Type 0} (stands : List ℕ → Setting → List Noted → H → Ty
             (order_same s.views id v w at refl r.order)
             (one_same l.shape s.views id v w at refl r.one_order)
             (born_same s.views id v w at refl r.born)
+            (mailed_same s.views id v w at refl refl r.mailed)
             (length-set s.homes d none) (λ j ne. set_else
             s.homes d j none ne) kept',
         (
@@ -259,15 +267,11 @@ module _ {H : Type 0} (stands : List ℕ → Setting → List Noted → H → Ty
               free =
                   λ q n more lt. next_free stands l s r id v at q n o
                   fits more lt;
-              fetched =
-                  λ a b n q is more fetch. fetched_place
-                  stands l s r id v at o fits a b n q is
-                  more fetch;
               lanes =
                   each_may stands l s r o fits;
               seen =
                   next_above l.shape o h
-                  (n + (t - is_in (face l.shape i v))) v.own.number last v.own.notes told.told;
+                  (n + (t - is_in (object_view l.shape i v))) v.own.number last v.own.notes told.told;
               own = told.own;
             },
           ),
@@ -275,10 +279,10 @@ module _ {H : Type 0} (stands : List ℕ → Setting → List Noted → H → Ty
       )
 
   -- the word and the view stay as they are
-  stays : (id i n : ℕ) (v : SeatView) (s : State (Option H) SeatView) → IsSound stands l s
+  pub stays_sound : (id i n : ℕ) (v : SeatView) (s : State (Option H) SeatView) → IsSound stands l s
       → get_elem? s.views id ≡ some v → n ≡ slice_index s.words i
       → IsSound stands l (record { words = set s.words i n; homes = s.homes; views = set s.views id v })
-  stays id i n v s r at same =
+  stays_sound id i n v s r at same =
       subst (λ (x : List ℕ × List SeatView). IsSound stands l (record { words = x.0; homes = s.homes; views = x.1 }))
       (λ q. (sym (ap (λ (m : ℕ). set s.words i m) same ∙ set-get_or s.words i 0) q, sym (set_again s.views id v at) q))
       r
@@ -293,7 +297,7 @@ module _ {H : Type 0} (stands : List ℕ → Setting → List Noted → H → Ty
   claims_allowed some_handle id me o fits out turn may s r _ at _ =
       let i : ℕ = home_of l.shape o in let k = r.objects o fits in let n : ℕ = length k.history in
       let word : ℕ = slice_index s.words (word_of l.shape o) in let t : ℕ =
-      inside_total (map (face l.shape i) s.views) in
+      inside_total (map (object_view l.shape i) s.views) in
       let wi : word ≡ 2 * n + t = k.word_is in let al : t ≤ 1 = k.alone in let par = parity word n t wi al in
       dite (ℕ_discrete t 0)
       (λ z. let g = gets_in some_handle id me o fits out turn may s r at z in (
@@ -310,7 +314,7 @@ module _ {H : Type 0} (stands : List ℕ → Setting → List Noted → H → Ty
         me.0,
         keeps,
         tt,
-        stays id (word_of l.shape o) (bit_or word 1) me.0 s r at
+        stays_sound id (word_of l.shape o) (bit_or word 1) me.0 s r at
             (or_odd word n (let e : word ≡ 2 * n + 1 = omega (arith, wi, one) in e)),
         (
           (λ (even : word % 2 ≡ 0). absurd (omega (arith, even, odd))),

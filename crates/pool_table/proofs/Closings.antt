@@ -21,10 +21,12 @@ use Rattle.pool_table.specs.declared.views.Inside.{Inside}
 use Rattle.pool_table.specs.declared.views.Layout.{Layout}
 use Rattle.pool_table.specs.declared.views.Part.{Part}
 use Rattle.pool_table.specs.declared.views.SeatView.{SeatView}
-use Rattle.pool_table.specs.Views.{Face, parts_of, is_at, is_lane, is_numbered, face, strand, inside_at, is_in, inside_total, in_face, total, numbered, one_if}
+use Rattle.pool_table.specs.Views.{ObjectView, parts_of, is_at, is_lane, is_numbered, object_view, object_part, inside_at, is_in, inside_total, in_object_view, total, numbered, one_if}
 use Rattle.std.proofs.lemmas.List.Sums.{sum_by-cons}
 use Rattle.std.proofs.lemmas.List.Elements.{All-cons, All-nil}
 use Rattle.pool_table.specs.Counts.{IsCounted, weigh, on_root, on_place, place_tally, ref_retain, ref_kept}
+use Rattle.pool_table.specs.Letters.{sent_as, received_as, IsInTurn}
+use Rattle.pool_table.proofs.Mails.{turn_empty}
 use Rattle.pool_table.proofs.Looks.{looks_regroup}
 use Rattle.pool_table.proofs.Order.{order_regroups}
 use Rattle.pool_table.proofs.Sequence.{one_regroups}
@@ -43,7 +45,7 @@ use Rattle.pool_table.proofs.Weights.{weigh_none}
 use Rattle.pool_table.specs.Sound.{IsSound, IsView, IsTold, IsIdle}
 use Rattle.pool_table.specs.Closed.{HasAllLanes, IsClosed}
 use Rattle.pool_table.proofs.Tables.{none_counted}
-use Rattle.pool_table.proofs.Openings.{empty_strands, counts_none}
+use Rattle.pool_table.proofs.OpeningSeats.{empty_object_parts, counts_none}
 use Rattle.pool_table.proofs.Entries.{under}
 
 module _ {H : Type 0} (stands : List ℕ → Setting → List Noted → H → Type 0) (l : Layout) where
@@ -76,20 +78,21 @@ module _ {H : Type 0} (stands : List ℕ → Setting → List Noted → H → Ty
       (others_unnumbered s r id v at all j u ne at' m) k d lt))
 
   -- so nothing of an object stands outside the view
-  idle_face : (i : ℕ) (u : SeatView) → IsIdle u → (is_in (face l.shape i u) ≡ 0)
-      × ((test : Entry → Bool) → in_face test (face l.shape i u) ≡ 0)
-  idle_face i u idle = (
+  idle_object_view : (i : ℕ) (u : SeatView) → IsIdle u → (is_in (object_view l.shape i u) ≡ 0)
+      × ((test : Entry → Bool) → in_object_view test (object_view l.shape i u) ≡ 0)
+  idle_object_view i u idle = (
     ap (λ (y : Option Inside). one_if (inside_at l.shape i y)) idle.inside,
     λ test. counts_none stands l test
-        (map (strand l.shape i) (parts_of u)) (empty_strands stands l i (parts_of u) idle.notes),
+        (map (object_part l.shape i) (parts_of u)) (empty_object_parts stands l i (parts_of u) idle.notes),
   )
 
-  only_view : (f : Face → ℕ) (i : ℕ) (s : St) (id : ℕ) (v : SeatView) → get_elem? s.views id ≡ some v
-      → ((j : ℕ) (u : SeatView) → j ≢ id → get_elem? s.views j ≡ some u → f (face l.shape i u) ≡ 0)
-      → sum_by f (map (face l.shape i) s.views) ≡ f (face l.shape i v)
+  only_view : (f : ObjectView → ℕ) (i : ℕ) (s : St) (id : ℕ) (v : SeatView) → get_elem? s.views id ≡ some v
+      → ((j : ℕ) (u : SeatView) → j ≢ id → get_elem? s.views j ≡ some u → f (object_view l.shape i u) ≡ 0)
+      → sum_by f (map (object_view l.shape i) s.views) ≡ f (object_view l.shape i v)
   only_view f i s id v at others =
-      sum_only f (map (face l.shape i) s.views) id (face l.shape i v) (at_map (face l.shape i) s.views id v at)
-      (λ j x ne e. let b = at_mapped (face l.shape i) s.views j x e in ap f (sym b.2) ∙ others j b.0 ne b.1)
+      sum_only f (map (object_view l.shape i) s.views) id (object_view l.shape i v)
+      (at_map (object_view l.shape i) s.views id v at)
+      (λ j x ne e. let b = at_mapped (object_view l.shape i) s.views j x e in ap f (sym b.2) ∙ others j b.0 ne b.1)
 
   -- the view weighs as much as all views
   alone_weighs : (s : St) (r : IsSound stands l s) (id : ℕ) (v : SeatView) → get_elem? s.views id ≡ some v
@@ -205,6 +208,12 @@ module _ {H : Type 0} (stands : List ℕ → Setting → List Noted → H → Ty
             (λ P empty each. All-cons (λ (u : SeatView). All P (parts_of u)) v []
             (each_at (λ (u : SeatView). All P (parts_of u)) s.views id v each at)
             (All-nil (λ (u : SeatView). All P (parts_of u)))) r.one_order;
+        holders = s.views;
+        mailed = record {
+          kept = λ f. let a = alone_weighs s r id v at all (sent_as f) in
+              let b = alone_weighs s r id v at all (received_as f) in let c = r.mailed.kept f in omega (arith, a, b, c);
+          in_turn = regroups s id v at IsInTurn turn_empty r.mailed.in_turn;
+        };
         counts =
             λ p lt. subst (IsCounted p (v ∷ []))
             (ap (λ (ws : List ℕ). slice_index ws (count_word_of l.shape p)) same
@@ -217,28 +226,31 @@ module _ {H : Type 0} (stands : List ℕ → Setting → List Noted → H → Ty
             length h in
             let idle : (j : ℕ) (u : SeatView) → j ≢ id → get_elem? s.views j ≡ some u
             → IsIdle u = idle_others s r id v at all in
-            let mine : is_in (face l.shape i v) ≡ 0 =
+            let mine : is_in (object_view l.shape i v) ≡ 0 =
             ap (λ (y : Option Inside). one_if (inside_at l.shape i y)) outside in
-            let t : ℕ = inside_total (map (face l.shape i) s.views) in
-            let nobody : t ≡ 0 = only_view is_in i s id v at (λ j u ne e. (idle_face i u (idle j u ne e)).0) ∙ mine in
-            let tot : (test : Entry → Bool) → in_face test (face l.shape i v)
-            ≡ total test (map (face l.shape i) s.views) =
-            (λ test. sym (only_view (in_face test) i s id v at
-            (λ j u ne e. (idle_face i u (idle j u ne e)).1 test))) in
+            let t : ℕ = inside_total (map (object_view l.shape i) s.views) in
+            let nobody : t ≡ 0 = only_view is_in i s id v at (λ j u ne e. (idle_object_view i u (idle j u ne e)).0)
+            ∙ mine in
+            let tot : (test : Entry → Bool) → in_object_view test (object_view l.shape i v)
+            ≡ total test (map (object_view l.shape i) s.views) =
+            (λ test. sym (only_view (in_object_view test) i s id v at
+            (λ j u ne e. (idle_object_view i u (idle j u ne e)).1 test))) in
             let hv = k.home_is nobody in
             let d : ℕ = word_of l.shape o in let wi : slice_index s.words d
             ≡ 2 * n + t =
             k.word_is in let word : ℕ = slice_index s.words d in let wi' : word ≡ 2 * n + t = wi in let w : word
             ≡ 2 * n = omega (arith, wi', nobody) in
-            let told = each_at (λ (f : Face). All (IsTold o h (n + (t - is_in f))) f.parts)
-            (map (face l.shape i) s.views) id (face l.shape i v) k.told (at_map (face l.shape i) s.views id v at) in
-            let lim : n + (t - is_in (face l.shape i v))
-            ≡ n = (let a : ℕ = is_in (face l.shape i v) in let g : n + (t - a) ≡ n = omega (arith, nobody) in g) in
+            let told = each_at (λ (f : ObjectView). All (IsTold o h (n + (t - is_in f))) f.parts)
+            (map (object_view l.shape i) s.views) id (object_view l.shape i v) k.told
+            (at_map (object_view l.shape i) s.views id v at) in
+            let lim : n + (t - is_in (object_view l.shape i v))
+            ≡ n =
+            (let a : ℕ = is_in (object_view l.shape i v) in let g : n + (t - a) ≡ n = omega (arith, nobody) in g) in
             record {
               history = h;
               accepted = k.accepted;
               word_is = laid i (object_listed l.shape o fits) ∙ (ap (λ (ws : List ℕ). slice_index ws d) (sym same) ∙ w);
-              told = subst (λ (z : ℕ). All (IsTold o h z) (face l.shape i v).parts) lim told;
+              told = subst (λ (z : ℕ). All (IsTold o h z) (object_view l.shape i v).parts) lim told;
               once = λ j lt. tot (is_numbered (j + 1)) ∙ k.once j lt;
               as_many = tot is_at ∙ k.as_many;
               home_is = (

@@ -15,13 +15,13 @@ use Rattle.pool_table.specs.declared.views.Layout.{Layout}
 use Rattle.pool_table.specs.declared.views.Part.{Part}
 use Rattle.pool_table.specs.declared.views.Inside.{Inside}
 use Rattle.pool_table.specs.declared.views.SeatView.{SeatView}
-use Rattle.pool_table.specs.Views.{parts_of, is_at, is_about, is_lane, face, strand, inside_at, numbered, spent, with_entry}
+use Rattle.pool_table.specs.Views.{parts_of, took_turn, is_about, is_lane, object_view, object_part, inside_at, numbered, spent, with_entry}
 use Rattle.pool_table.specs.Counts.{gained, lost}
 use Rattle.pool_table.specs.Hands.{put_down, taken, IsOrderly}
 use Rattle.pool_table.proofs.Weights.{IsWeighedSame, settled_same, enters_none}
 use Rattle.pool_table.specs.Order.{IsBelow}
 use Rattle.pool_table.specs.Sound.{IsView, Stands}
-use Rattle.pool_table.proofs.Tables.{strand_skips, strand_takes}
+use Rattle.pool_table.proofs.Tables.{object_part_skips, object_part_takes}
 
 or_one : (n : ℕ) → bit_or n 1 + n % 2 ≡ n + 1
 or_one n =
@@ -47,26 +47,29 @@ unmarked_below b (Busy a) = tt
 
 module _ {H : Type 0} (stands : List ℕ → Setting → List Noted → H → Type 0) (l : Layout) where
   -- a view in no section, as an object sees it
-  pub outside_face : (i : ℕ) (v : SeatView) → v.inside ≡ None
-      → face l.shape i v ≡ record { parts = map (strand l.shape i) (parts_of v); inside = None }
-  outside_face i v e =
-      ap (λ (x : Option Inside). record { parts = map (strand l.shape i) (parts_of v); inside = inside_at l.shape i x })
+  pub outside_object_view : (i : ℕ) (v : SeatView) → v.inside ≡ None
+      → object_view l.shape i v ≡ record { parts = map (object_part l.shape i) (parts_of v); inside = None }
+  outside_object_view i v e =
+      ap (λ (x : Option Inside). record
+      { parts = map (object_part l.shape i) (parts_of v); inside = inside_at l.shape i x })
       e
 
-  pub inside_face : (i : ℕ) (v : SeatView) (x : Inside) → v.inside ≡ Some x → home_of l.shape x.object ≡ i
-      → face l.shape i v ≡ record { parts = map (strand l.shape i) (parts_of v); inside = Some x }
-  inside_face i v x e here =
-      ap (λ (y : Option Inside). record { parts = map (strand l.shape i) (parts_of v); inside = inside_at l.shape i y })
+  pub inside_object_view : (i : ℕ) (v : SeatView) (x : Inside) → v.inside ≡ Some x → home_of l.shape x.object ≡ i
+      → object_view l.shape i v ≡ record { parts = map (object_part l.shape i) (parts_of v); inside = Some x }
+  inside_object_view i v x e here =
+      ap (λ (y : Option Inside). record
+      { parts = map (object_part l.shape i) (parts_of v); inside = inside_at l.shape i y })
       e
-      ∙ ap (λ (b : Bool). record { parts = map (strand l.shape i) (parts_of v); inside = cond b (Some x) None })
+      ∙ ap (λ (b : Bool). record { parts = map (object_part l.shape i) (parts_of v); inside = cond b (Some x) None })
       (eq-eqb (home_of l.shape x.object) i here)
 
-  pub away_face : (i : ℕ) (v : SeatView) (x : Inside) → v.inside ≡ Some x → home_of l.shape x.object ≢ i
-      → face l.shape i v ≡ record { parts = map (strand l.shape i) (parts_of v); inside = None }
-  away_face i v x e away =
-      ap (λ (y : Option Inside). record { parts = map (strand l.shape i) (parts_of v); inside = inside_at l.shape i y })
+  pub away_object_view : (i : ℕ) (v : SeatView) (x : Inside) → v.inside ≡ Some x → home_of l.shape x.object ≢ i
+      → object_view l.shape i v ≡ record { parts = map (object_part l.shape i) (parts_of v); inside = None }
+  away_object_view i v x e away =
+      ap (λ (y : Option Inside). record
+      { parts = map (object_part l.shape i) (parts_of v); inside = inside_at l.shape i y })
       e
-      ∙ ap (λ (b : Bool). record { parts = map (strand l.shape i) (parts_of v); inside = cond b (Some x) None })
+      ∙ ap (λ (b : Bool). record { parts = map (object_part l.shape i) (parts_of v); inside = cond b (Some x) None })
       (ne_eqb (home_of l.shape x.object) i away)
 
   pub not_idle : (gs : Setting) (v : SeatView) → IsView l.shape gs v → 0 < v.turns
@@ -90,8 +93,9 @@ module _ {H : Type 0} (stands : List ℕ → Setting → List Noted → H → Ty
   pub entry_view : (gs : Setting) (v : SeatView) (e : Entry) (t : ℕ) → IsWeighedSame v (with_entry v e t)
       → ((p g : ℕ) → lost p g (with_entry v e t) ≤ gained p g (with_entry v e t))
       → ((p : ℕ) → put_down p (with_entry v e t) ≤ taken p (with_entry v e t)) → IsOrderly (with_entry v e t)
-      → IsView l.shape gs v → 0 < v.turns → Stands l.shape v.own.number e → IsView l.shape gs (with_entry v e t)
-  entry_view gs v e t same counted handy roots fine lt stands_there = record {
+      → IsView l.shape gs v → (All (λ (p : Part). p.number ≡ None) (parts_of v) → ⊥) → Stands l.shape v.own.number e
+      → IsView l.shape gs (with_entry v e t)
+  entry_view gs v e t same counted handy roots fine awake stands_there = record {
     handy = handy;
     roots = roots;
     enters = enters_none (with_entry v e t) refl;
@@ -99,7 +103,7 @@ module _ {H : Type 0} (stands : List ℕ → Setting → List Noted → H → Ty
     beside = fine.beside;
     settled = settled_same v (with_entry v e t) same fine.settled;
     setting_is = fine.setting_is;
-    unnumbered = λ all. absurd (not_idle gs v fine lt (same_numbers v e t all));
+    unnumbered = λ all. absurd (awake (same_numbers v e t all));
     inside = tt;
     notes = All-cons (λ (p : Part). All (Stands l.shape p.number) p.notes) (with_entry v e t).own v.others
         (All-push (Stands l.shape v.own.number) v.own.notes e
@@ -109,29 +113,30 @@ module _ {H : Type 0} (stands : List ℕ → Setting → List Noted → H → Ty
 
   -- what is spent, with one entry more
   pub spent_entry : (v : SeatView) (e : Entry) (t : ℕ)
-      → spent (with_entry v e t) + v.turns ≡ spent v + cond {A = ℕ} (is_at e) 1 0 + t
+      → spent (with_entry v e t) + v.turns ≡ spent v + cond {A = ℕ} (took_turn e) 1 0 + t
   spent_entry v e t =
-      let g : Part → ℕ = λ (p : Part). count_by is_at p.notes in
+      let g : Part → ℕ = λ (p : Part). count_by took_turn p.notes in
       let c : sum_by g (parts_of (with_entry v e t))
       ≡ g (with_entry v e t).own + sum_by g v.others = sum_by-cons g (with_entry v e t).own v.others in
       let d : sum_by g (parts_of v) ≡ g v.own + sum_by g v.others = sum_by-cons g v.own v.others in
-      let a : g (with_entry v e t).own ≡ g v.own + cond {A = ℕ} (is_at e) 1 0 =
-      sum_by_push (λ (x : Entry). cond {A = ℕ} (is_at x) 1 0) v.own.notes e in
+      let a : g (with_entry v e t).own ≡ g v.own + cond {A = ℕ} (took_turn e) 1 0 =
+      sum_by_push (λ (x : Entry). cond {A = ℕ} (took_turn x) 1 0) v.own.notes e in
       omega (arith, c, d, a)
 
-  -- the face of another object doesn't change
+  -- the object view of another object doesn't change
   pub entry_elsewhere : (v : SeatView) (e : Entry) (t j : ℕ) → is_about l.shape j e ≡ false
-      → face l.shape j (with_entry v e t) ≡ record { parts = map (strand l.shape j) (parts_of v); inside = None }
+      → object_view l.shape j (with_entry v e t) ≡ record
+      { parts = map (object_part l.shape j) (parts_of v); inside = None }
   entry_elsewhere v e t j off =
-      ap (λ (p : Part). record { parts = p ∷ map (strand l.shape j) v.others; inside = None })
-      (strand_skips stands l j v.own e off)
+      ap (λ (p : Part). record { parts = p ∷ map (object_part l.shape j) v.others; inside = None })
+      (object_part_skips stands l j v.own e off)
 
   pub entry_here : (v : SeatView) (e : Entry) (t i : ℕ) → is_about l.shape i e ≡ true
-      → face l.shape i (with_entry v e t) ≡ record {
-        parts = record { number = v.own.number; notes = (strand l.shape i v.own).notes ++ e ∷ [] } ∷ map
-            (strand l.shape i) v.others;
+      → object_view l.shape i (with_entry v e t) ≡ record {
+        parts = record { number = v.own.number; notes = (object_part l.shape i v.own).notes ++ e ∷ [] } ∷ map
+            (object_part l.shape i) v.others;
         inside = None;
       }
   entry_here v e t i on =
-      ap (λ (p : Part). record { parts = p ∷ map (strand l.shape i) v.others; inside = None })
-      (strand_takes stands l i v.own e on)
+      ap (λ (p : Part). record { parts = p ∷ map (object_part l.shape i) v.others; inside = None })
+      (object_part_takes stands l i v.own e on)

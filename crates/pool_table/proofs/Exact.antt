@@ -23,7 +23,7 @@ use Rattle.pool_table.specs.declared.views.Entry.{Entry}
 use Rattle.pool_table.specs.declared.views.Layout.{Layout}
 use Rattle.pool_table.specs.declared.views.Part.{Part}
 use Rattle.pool_table.specs.declared.views.SeatView.{SeatView}
-use Rattle.pool_table.specs.Views.{parts_of, face, noted_weight, noted_total}
+use Rattle.pool_table.specs.Views.{parts_of, object_view, noted_weight, noted_total}
 use Rattle.pool_table.specs.Counts.{weigh, on_root, on_this, at_gain, at_loss, fetches, posts, ref_gain, ref_loss, ref_ended, ref_vacated, tally, gained_of, lost_of, HasCount, HasToken}
 use Rattle.pool_table.specs.Hands.{at_birth_of, at_birth_as, at_end, ends, HasEnded}
 use Rattle.pool_table.specs.Births.{root_named, IsBorn, NamesBorn}
@@ -62,11 +62,11 @@ module _ {H : Type 0} (stands : List ℕ → Setting → List Noted → H → Ty
       (all_among s r b 1 (λ (x : Noted). w x.did) (among_root l.shape p w free)) in
       let k = (r.objects (Root p) lt).weights (λ (x : Noted). w x.did) in
       let z : b + 0 ≡ b = omega arith in
-      let one : sum_to 1 (λ i. noted_total (λ (x : Noted). w x.did) (map (face l.shape (b + i)) s.views))
-      ≡ noted_total (λ (x : Noted). w x.did) (map (face l.shape (b + 0)) s.views) = omega arith in
-      let at0 : noted_total (λ (x : Noted). w x.did) (map (face l.shape (b + 0)) s.views)
-      ≡ noted_total (λ (x : Noted). w x.did) (map (face l.shape b) s.views) =
-      ap (λ (j : ℕ). noted_total (λ (x : Noted). w x.did) (map (face l.shape j) s.views)) z in
+      let one : sum_to 1 (λ i. noted_total (λ (x : Noted). w x.did) (map (object_view l.shape (b + i)) s.views))
+      ≡ noted_total (λ (x : Noted). w x.did) (map (object_view l.shape (b + 0)) s.views) = omega arith in
+      let at0 : noted_total (λ (x : Noted). w x.did) (map (object_view l.shape (b + 0)) s.views)
+      ≡ noted_total (λ (x : Noted). w x.did) (map (object_view l.shape b) s.views) =
+      ap (λ (j : ℕ). noted_total (λ (x : Noted). w x.did) (map (object_view l.shape j) s.views)) z in
       sym a ∙ (one ∙ (at0 ∙ k))
 
   -- a root that was born has a place of the shape

@@ -8,6 +8,8 @@ use Rattle.pool_law.specs.declared.run.Shape.{Shape}
 use Rattle.pool_law.specs.declared.id.RootId.{RootId}
 use Rattle.pool_law.specs.declared.note.Noted.{Noted}
 use Rattle.pool_law.specs.declared.note.Object.{Object}
+use Rattle.pool_law.specs.declared.note.Object.TheVariants.{Arena, Cache, Bin, Mail, Root}
+use Rattle.pool_law.specs.Kinds.{Passing}
 use Rattle.pool_law.specs.declared.note.RefDid.TheVariants.{Born, Vacated}
 use Rattle.pool_law.specs.Homes.{home_of, IsObjectOf}
 use Rattle.pool_table.specs.declared.views.Entry.{Entry}
@@ -15,9 +17,9 @@ use Rattle.pool_table.specs.declared.views.Entry.TheVariants.{At, Ref, Busy}
 use Rattle.pool_table.specs.declared.views.Layout.{Layout}
 use Rattle.pool_table.specs.declared.views.Part.{Part}
 use Rattle.pool_table.specs.declared.views.SeatView.{SeatView}
-use Rattle.pool_table.specs.Views.{parts_of, is_at, is_about, face, strand, in_face, total}
+use Rattle.pool_table.specs.Views.{parts_of, is_at, is_about, object_view, object_part, in_object_view, total}
 use Rattle.pool_table.specs.Counts.{weigh, on_root, on_place, ref_gain, ref_loss, ref_born, ref_ended, ref_vacated, tally, place_tally}
-use Rattle.pool_table.specs.Sequence.{weigh_made, on_object, Leave, FitsCount, AreInOneOrder}
+use Rattle.pool_table.specs.Sequence.{Made, FitsNote, weigh_made, on_object, Leave, FitsCount, AreInOneOrder}
 use Rattle.pool_table.specs.Sound.{IsSound}
 
 -- the notes of one object, in all parts
@@ -43,20 +45,29 @@ module _ (s : Shape) (i : ℕ) where
   in_notes (e ∷ es) =
       let a = one_on e es in let b = in_notes es in let c = sum_by-cons (on_object s i) e es in omega (arith, a, b, c)
 
-  in_parts : (ps : List Part) → sum_by (λ (p : Part). count_by is_at p.notes) (map (strand s i) ps)
+  in_parts : (ps : List Part) → sum_by (λ (p : Part). count_by is_at p.notes) (map (object_part s i) ps)
       ≡ sum_by (λ (p : Part). sum_by (on_object s i) p.notes) ps
   in_parts [] = refl
   in_parts (p ∷ ps) =
-      let a = sum_by-cons (λ (p : Part). count_by is_at p.notes) (strand s i p) (map (strand s i) ps) in
+      let a = sum_by-cons (λ (p : Part). count_by is_at p.notes) (object_part s i p) (map (object_part s i) ps) in
       let b = sum_by-cons (λ (p : Part). sum_by (on_object s i) p.notes) p ps in
       let c = in_notes p.notes in let d = in_parts ps in omega (arith, a, b, c, d)
 
-  in_views : (vs : List SeatView) → total is_at (map (face s i) vs) ≡ sum_by (weigh (on_object s i)) vs
+  in_views : (vs : List SeatView) → total is_at (map (object_view s i) vs) ≡ sum_by (weigh (on_object s i)) vs
   in_views [] = refl
   in_views (v ∷ vs) =
-      let a = sum_by-cons (in_face is_at) (face s i v) (map (face s i) vs) in
+      let a = sum_by-cons (in_object_view is_at) (object_view s i v) (map (object_view s i) vs) in
       let b = sum_by-cons (weigh (on_object s i)) v vs in
       let c = in_parts (parts_of v) in let d = in_views vs in omega (arith, a, b, c, d)
+
+-- a note at an object of the shape fits with its next number
+pub note_fits : (s : Shape) (made : List Made) (o : Object) → IsObjectOf s o → (k : ℕ) (passed : Passing)
+    → k ≡ weigh_made (on_object s (home_of s o)) made + 1 → FitsNote s made o k passed
+note_fits s made (Arena a) fits k passed e = e
+note_fits s made (Cache d c) fits k passed e = e
+note_fits s made (Bin b) fits k passed e = e
+note_fits s made (Mail a b) fits k passed e = absurd fits
+note_fits s made (Root p) fits k passed e = e
 
 module _ {H : Type 0} (stands : List ℕ → Setting → List Noted → H → Type 0) (l : Layout) where
   -- the order has as many notes of an object as its history

@@ -17,7 +17,7 @@ use Rattle.pool_law.specs.declared.note.Noted.{Noted}
 use Rattle.pool_law.specs.declared.note.Object.TheVariants.{Bin}
 use Rattle.pool_law.specs.declared.id.RootId.{RootId}
 use Rattle.pool_law.specs.declared.note.RefDid.TheVariants.{Born}
-use Rattle.pool_law.specs.Homes.{home_of, IsObjectOf}
+use Rattle.pool_law.specs.Homes.{home_of}
 use Rattle.pool_table.specs.Slots.{slots_of}
 use Rattle.pool_table.specs.Words.{count_word_of}
 use Rattle.table_law.specs.NoteCounts.{place_lane, did_handle, did_home}
@@ -27,10 +27,10 @@ use Rattle.pool_table.specs.declared.views.Entry.TheVariants.{At, Ref, Busy}
 use Rattle.pool_table.specs.declared.views.Layout.{Layout}
 use Rattle.pool_table.specs.declared.views.Part.{Part}
 use Rattle.pool_table.specs.declared.views.SeatView.{SeatView}
-use Rattle.pool_table.specs.Views.{parts_of, is_about, face, strand, noted_weight, noted_in, noted_total}
+use Rattle.pool_table.specs.Views.{parts_of, is_about, object_view, object_part, noted_weight, noted_in, noted_total}
 use Rattle.pool_table.specs.Counts.{IsCounted, ref_born, ref_vacated, on_place, place_tally, ref_gain, weigh, on_root, on_exact, tally, with_ref, ref_loss, fetches, posts, HasCount}
 use Rattle.pool_table.specs.Hands.{at_in, at_out, taken, put_down, InHand, IsBearing, Waits, at_birth_of, at_birth_as}
-use Rattle.pool_table.specs.Sound.{IsSound, IsView, Stands}
+use Rattle.pool_table.specs.Sound.{IsKnown, IsSound, IsView, Stands}
 use Rattle.pool_table.specs.Steps.{births}
 use Rattle.pool_table.proofs.Counts.{born_kept, weigh_ref}
 use Rattle.pool_table.proofs.Weights.{weigh_none, strict_sum}
@@ -68,31 +68,32 @@ module _ (s : Shape) (p : ℕ) (w : Did → ℕ) (bound : (d : Did) → w d ≤ 
   light lane (Ref r d) t off = refl
   light lane (Busy b) t off = refl
 
-  in_strands : (ps : List Part) → All (λ (q : Part). All (Stands s q.number) q.notes) ps
-      → sum_by (λ (q : Part). sum_by (noted_weight (λ (n : Noted). w n.did)) q.notes) (map (strand s bin) ps)
+  in_object_parts : (ps : List Part) → All (λ (q : Part). All (Stands s q.number) q.notes) ps
+      → sum_by (λ (q : Part). sum_by (noted_weight (λ (n : Noted). w n.did)) q.notes) (map (object_part s bin) ps)
       ≡ sum_by (λ (q : Part). sum_by (noted_weight (λ (n : Noted). w n.did)) q.notes) ps
-  in_strands [] all = refl
-  in_strands (q ∷ ps) all =
+  in_object_parts [] all = refl
+  in_object_parts (q ∷ ps) all =
       let f : Entry → ℕ = noted_weight (λ (n : Noted). w n.did) in let g : Part → ℕ = λ (x : Part). sum_by f x.notes in
-      let a = sum_by-cons g q ps in let b = sum_by-cons g (strand s bin q) (map (strand s bin) ps) in let c =
-      in_strands ps (All-tail (λ (x : Part). All (Stands s x.number) x.notes) q ps all) in
+      let a = sum_by-cons g q ps in let b = sum_by-cons g (object_part s bin q) (map (object_part s bin) ps) in let c =
+      in_object_parts ps (All-tail (λ (x : Part). All (Stands s x.number) x.notes) q ps all) in
       let d = filter_all f (is_about s bin) q.notes
       (All-weaker (Stands s q.number) (λ (e : Entry). is_about s bin e ≡ false → f e ≡ 0) (light q.number) q.notes
       (All-head (λ (x : Part). All (Stands s x.number) x.notes) q ps all)) in
       omega (arith, a, b, c, d)
 
-  pub in_faces : (vs : List SeatView) → All
+  pub in_object_views : (vs : List SeatView) → All
       (λ (v : SeatView). All (λ (q : Part). All (Stands s q.number) q.notes) (parts_of v)) vs
-      → noted_total (λ (n : Noted). w n.did) (map (face s bin) vs)
+      → noted_total (λ (n : Noted). w n.did) (map (object_view s bin) vs)
       ≡ sum_by (weigh (noted_weight (λ (n : Noted). w n.did))) vs
-  in_faces [] all = refl
-  in_faces (v ∷ vs) all =
+  in_object_views [] all = refl
+  in_object_views (v ∷ vs) all =
       let f : Noted → ℕ = λ (n : Noted). w n.did in
-      let a = sum_by-cons (noted_in f) (face s bin v) (map (face s bin) vs) in let b =
+      let a = sum_by-cons (noted_in f) (object_view s bin v) (map (object_view s bin) vs) in let b =
       sum_by-cons (weigh (noted_weight f)) v vs in
-      let c = in_strands (parts_of v)
+      let c = in_object_parts (parts_of v)
       (All-head (λ (v : SeatView). All (λ (q : Part). All (Stands s q.number) q.notes) (parts_of v)) v vs all) in
-      let d = in_faces vs (All-tail (λ (v : SeatView). All (λ (q : Part). All (Stands s q.number) q.notes) (parts_of v))
+      let d = in_object_views vs (All-tail
+      (λ (v : SeatView). All (λ (q : Part). All (Stands s q.number) q.notes) (parts_of v))
       v vs all) in
       omega (arith, a, b, c, d)
 
@@ -116,8 +117,8 @@ module _ {H : Type 0} (stands : List ℕ → Setting → List Noted → H → Ty
       let notes = All-weaker (IsView l.shape r.setting)
       (λ (v : SeatView). All (λ (q : Part). All (Stands l.shape q.number) q.notes) (parts_of v))
       (λ v fine. fine.notes) s.views r.views in
-      let a = in_faces l.shape p (did_handle p) (λ d. omega arith) s.views notes in let b =
-      in_faces l.shape p (did_home p) (λ d. omega arith) s.views notes in
+      let a = in_object_views l.shape p (did_handle p) (λ d. omega arith) s.views notes in let b =
+      in_object_views l.shape p (did_home p) (λ d. omega arith) s.views notes in
       let c = k.weights (λ (n : Noted). did_handle p n.did) in let d = k.weights (λ (n : Noted). did_home p n.did) in
       let e = stock l.shape (place_lane l.shape p) p k.history k.accepted in
       omega (arith, a, b, c, d, e)
@@ -179,7 +180,7 @@ module _ {H : Type 0} (stands : List ℕ → Setting → List Noted → H → Ty
       no_handle p some_handle away lane (At o k n) t = ⊎_elim
           (λ (z : did_handle p n.did + did_home p n.did ≡ 0). omega (arith, z))
           (λ (e : o ≡ Bin (place_lane l.shape p)). let fits : place_lane l.shape p < l.shape.lanes =
-          subst (IsObjectOf l.shape) e t.object in
+          subst (IsKnown l.shape) e t.object in
           absurd (away ((div-lt_iff_lt-mul {k = l.shape.handles} {x = p} {y = l.shape.lanes} some_handle).0 fits)))
           (t.in_place.placed p)
       no_handle p some_handle away lane (Ref q d) t = refl

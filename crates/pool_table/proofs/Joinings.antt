@@ -18,7 +18,7 @@ use Rattle.pool_table.specs.declared.views.Entry.{Entry}
 use Rattle.pool_table.specs.declared.views.Layout.{Layout}
 use Rattle.pool_table.specs.declared.views.Part.{Part}
 use Rattle.pool_table.specs.declared.views.SeatView.{SeatView}
-use Rattle.pool_table.specs.Views.{Face, parts_of, is_at, is_lane, face, strand, inside_at, is_in, in_face, noted_weight, noted_in, numbered, spent, empty_part, one_if, blank, joined}
+use Rattle.pool_table.specs.Views.{ObjectView, parts_of, took_turn, is_lane, object_view, object_part, inside_at, is_in, in_object_view, noted_weight, noted_in, numbered, spent, empty_part, one_if, blank, joined}
 use Rattle.pool_table.specs.Counts.{weigh, on_root, on_place, ref_born, at_gain, at_loss, on_any, reached, returned, ref_kept, ref_gain, ref_loss, ref_ended, ref_vacated, on_exact, ref_retain, weigh_in}
 use Rattle.pool_table.specs.Hands.{at_in, at_out, at_birth, at_end, at_birth_of, at_birth_as}
 use Rattle.pool_table.proofs.Holdings.{held_both}
@@ -28,6 +28,8 @@ use Rattle.pool_table.proofs.Looks.{looks_regroup}
 use Rattle.pool_table.proofs.Order.{order_regroups}
 use Rattle.pool_table.proofs.Sequence.{one_regroups}
 use Rattle.pool_table.proofs.Births.{born_regroups}
+use Rattle.pool_table.specs.declared.views.Letter.{Letter}
+use Rattle.pool_table.proofs.Mails.{lying, mailed_regroups}
 use Rattle.pool_table.specs.Sound.{IsKept, IsSound, IsView, Stands, OnceBelow}
 use Rattle.pool_table.specs.Steps.{share_added, IsShare}
 use Rattle.pool_table.proofs.Objects.{joined_kept}
@@ -76,10 +78,11 @@ module _ {H : Type 0} (stands : List ℕ → Setting → List Noted → H → Ty
       → ((P : Part → Type 0) → P (empty_part None) → All P (parts_of v) → All P (parts_of w)
       → All P (parts_of b) × All P (parts_of z))
       → b.turns + z.turns ≡ v.turns + w.turns → b.moves + z.moves ≡ v.moves + w.moves
+      → ((f : Letter → ℕ) → lying f b + lying f z ≡ lying f v + lying f w)
       → (IsView l.shape r.setting v → IsView l.shape r.setting w
       → IsView l.shape r.setting b × IsView l.shape r.setting z)
       → IsSound stands l (record { words = s.words; homes = s.homes; views = set (set s.views id b) other z })
-  brought_together s r id other v w b z at ne at' vo wo bo zo adds shares turns moves fine =
+  brought_together s r id other v w b z at ne at' vo wo bo zo adds shares turns moves letters fine =
       let before : get_elem? s.views other ≡ some w = sym (set_else s.views id other b ne) ∙ at' in
       let fv : IsView l.shape r.setting v = each_at (IsView l.shape r.setting) s.views id v r.views at in
       let fw : IsView l.shape r.setting w = each_at (IsView l.shape r.setting) s.views other w r.views before in
@@ -90,7 +93,7 @@ module _ {H : Type 0} (stands : List ℕ → Setting → List Noted → H → Ty
       let c : sum_by f (set s.views id b) + f v ≡ sum_by f s.views + f b = sum_set f s.views id v b at in
       omega (arith, a, c, e)) in
       let out : (j : ℕ) (u : SeatView) → u.inside ≡ None
-      → is_in (face l.shape j u) ≡ 0 = (λ j u e. ap (λ y. one_if (inside_at l.shape j y)) e) in
+      → is_in (object_view l.shape j u) ≡ 0 = (λ j u e. ap (λ y. one_if (inside_at l.shape j y)) e) in
       let regrouped : (P : Part → Type 0) → P (empty_part None) → All (λ (u : SeatView). All P (parts_of u)) s.views
       → All (λ (u : SeatView). All P (parts_of u)) (set (set s.views id b) other z) = (λ P empty all.
       let mine = each_at (λ (u : SeatView). All P (parts_of u)) s.views id v all at in let theirs =
@@ -115,45 +118,51 @@ module _ {H : Type 0} (stands : List ℕ → Setting → List Noted → H → Ty
             (sym (same (numbered m) (adds (λ (p : Part). cond {A = ℕ} (is_lane m p.number) 1 0) refl)))
             (r.lanes m);
         objects = λ o fits. let j : ℕ = home_of l.shape o in
-            let there : get_elem? (set (map (face l.shape j) s.views) id (face l.shape j b)) other
-            ≡ some (face l.shape j w) =
-            ap (λ (x : List Face). get_elem? x other) (sym (map-set (face l.shape j) s.views id b))
-            ∙ at_map (face l.shape j) (set s.views id b) other w at' in
-            subst (λ (x : List Face). IsKept stands l.shape r.setting o x (slice_index s.words (word_of l.shape o))
+            let there : get_elem? (set (map (object_view l.shape j) s.views) id (object_view l.shape j b)) other
+            ≡ some (object_view l.shape j w) =
+            ap (λ (x : List ObjectView). get_elem? x other) (sym (map-set (object_view l.shape j) s.views id b))
+            ∙ at_map (object_view l.shape j) (set s.views id b) other w at' in
+            subst (λ (x : List ObjectView). IsKept stands l.shape r.setting o x
+            (slice_index s.words (word_of l.shape o))
             (get_elem? s.homes (slot_of l.shape o)))
-            (sym (map-set (face l.shape j) (set s.views id b) other z
-            ∙ ap (λ (x : List Face). set x other (face l.shape j z)) (map-set (face l.shape j) s.views id b)))
-            (joined_kept stands l.shape r.setting o (map (face l.shape j) s.views)
+            (sym (map-set (object_view l.shape j) (set s.views id b) other z
+            ∙ ap (λ (x : List ObjectView). set x other (object_view l.shape j z))
+            (map-set (object_view l.shape j) s.views id b)))
+            (joined_kept stands l.shape r.setting o (map (object_view l.shape j) s.views)
             (slice_index s.words (word_of l.shape o)) (get_elem? s.homes (slot_of l.shape o)) id other
-            (face l.shape j v) (face l.shape j w) (face l.shape j b) (face l.shape j z) (r.objects o fits)
-            (at_map (face l.shape j) s.views id v at) ne there (out j v vo) (out j w wo) (out j b bo) (out j z zo)
-            (λ test. let g : Part → ℕ = λ (p : Part). count_by test (strand l.shape j p).notes in let q : Part
+            (object_view l.shape j v) (object_view l.shape j w) (object_view l.shape j b) (object_view l.shape j z)
+            (r.objects o fits)
+            (at_map (object_view l.shape j) s.views id v at) ne there (out j v vo) (out j w wo) (out j b bo)
+            (out j z zo)
+            (λ test. let g : Part → ℕ = λ (p : Part). count_by test (object_part l.shape j p).notes in let q : Part
             → ℕ = λ (p : Part). count_by test p.notes in
-            let a : in_face test (face l.shape j b)
-            ≡ sum_by g (parts_of b) = sum_mapped q (strand l.shape j) (parts_of b) in
-            let c : in_face test (face l.shape j z)
-            ≡ sum_by g (parts_of z) = sum_mapped q (strand l.shape j) (parts_of z) in
-            let d : in_face test (face l.shape j v)
-            ≡ sum_by g (parts_of v) = sum_mapped q (strand l.shape j) (parts_of v) in
-            let e : in_face test (face l.shape j w)
-            ≡ sum_by g (parts_of w) = sum_mapped q (strand l.shape j) (parts_of w) in let f = adds g refl in
+            let a : in_object_view test (object_view l.shape j b)
+            ≡ sum_by g (parts_of b) = sum_mapped q (object_part l.shape j) (parts_of b) in
+            let c : in_object_view test (object_view l.shape j z)
+            ≡ sum_by g (parts_of z) = sum_mapped q (object_part l.shape j) (parts_of z) in
+            let d : in_object_view test (object_view l.shape j v)
+            ≡ sum_by g (parts_of v) = sum_mapped q (object_part l.shape j) (parts_of v) in
+            let e : in_object_view test (object_view l.shape j w)
+            ≡ sum_by g (parts_of w) = sum_mapped q (object_part l.shape j) (parts_of w) in let f = adds g refl in
             omega (arith, a, c, d, e, f))
-            (λ f. let g : Part → ℕ = λ (p : Part). sum_by (noted_weight f) (strand l.shape j p).notes in let q : Part
+            (λ f. let g : Part → ℕ = λ (p : Part). sum_by (noted_weight f) (object_part l.shape j p).notes in
+            let q : Part
             → ℕ = λ (p : Part). sum_by (noted_weight f) p.notes in
-            let a : noted_in f (face l.shape j b) ≡ sum_by g (parts_of b) =
-            sum_mapped q (strand l.shape j) (parts_of b) in
-            let c : noted_in f (face l.shape j z) ≡ sum_by g (parts_of z) =
-            sum_mapped q (strand l.shape j) (parts_of z) in
-            let d : noted_in f (face l.shape j v) ≡ sum_by g (parts_of v) =
-            sum_mapped q (strand l.shape j) (parts_of v) in
-            let e : noted_in f (face l.shape j w) ≡ sum_by g (parts_of w) =
-            sum_mapped q (strand l.shape j) (parts_of w) in let h = adds g refl in
+            let a : noted_in f (object_view l.shape j b) ≡ sum_by g (parts_of b) =
+            sum_mapped q (object_part l.shape j) (parts_of b) in
+            let c : noted_in f (object_view l.shape j z) ≡ sum_by g (parts_of z) =
+            sum_mapped q (object_part l.shape j) (parts_of z) in
+            let d : noted_in f (object_view l.shape j v) ≡ sum_by g (parts_of v) =
+            sum_mapped q (object_part l.shape j) (parts_of v) in
+            let e : noted_in f (object_view l.shape j w) ≡ sum_by g (parts_of w) =
+            sum_mapped q (object_part l.shape j) (parts_of w) in let h = adds g refl in
             omega (arith, a, c, d, e, h))
-            (λ P e all more. let got = shares (λ (p : Part). P (strand l.shape j p)) e
-            (each_unmapped P (strand l.shape j) (parts_of v) all) (each_unmapped P (strand l.shape j) (parts_of w) more)
+            (λ P e all more. let got = shares (λ (p : Part). P (object_part l.shape j p)) e
+            (each_unmapped P (object_part l.shape j) (parts_of v) all)
+            (each_unmapped P (object_part l.shape j) (parts_of w) more)
             in (
-              All-map P (strand l.shape j) (parts_of b) got.0,
-              All-map P (strand l.shape j) (parts_of z) got.1,
+              All-map P (object_part l.shape j) (parts_of b) got.0,
+              All-map P (object_part l.shape j) (parts_of z) got.1,
             )));
         born =
             born_regroups s.views (set (set s.views id b) other z)
@@ -166,10 +175,15 @@ module _ {H : Type 0} (stands : List ℕ → Setting → List Noted → H → Ty
         one_order =
             one_regroups l.shape s.views (set (set s.views id b) other z)
             (λ f. same (weigh f) (adds (λ (q : Part). sum_by f q.notes) refl)) regrouped r.one_order;
+        mailed =
+            mailed_regroups s.views (set (set s.views id b) other z)
+            (λ f. same (weigh f) (adds (λ (q : Part). sum_by f q.notes) refl))
+            (λ f. same (lying f) (letters f)) regrouped
+            r.mailed;
         room = r.room;
         budget =
             subst (λ (x : ℕ). x ≤ l.shape.lanes * l.turns)
-            (sym (same spent (let a = adds (λ (p : Part). count_by is_at p.notes) refl in omega
+            (sym (same spent (let a = adds (λ (p : Part). count_by took_turn p.notes) refl in omega
             (arith, a, turns)))) r.budget;
         few = r.few;
         moved =
@@ -204,6 +218,7 @@ module _ {H : Type 0} (stands : List ℕ → Setting → List Noted → H → Ty
       ))
       (let t : ℕ = v.turns in let u : ℕ = w.turns in let g : t + u + 0 ≡ t + u = omega arith in g)
       (let t : ℕ = v.moves in let u : ℕ = w.moves in let g : t + u + 0 ≡ t + u = omega arith in g)
+      (λ f. let a = sum_by-append f v.letters w.letters in omega (arith, a))
       (λ fv fw. (joined_view r.setting fv fw, blank_view r.setting))
     where
       both : (f : Entry → ℕ) → weigh f (joined v w) ≡ weigh f v + weigh f w
@@ -310,6 +325,7 @@ module _ {H : Type 0} (stands : List ℕ → Setting → List Noted → H → Ty
       (let t : ℕ = v.turns in let u : ℕ = w.turns in let none : u ≡ 0 = (λ i. (is i).turns) in
       let g : t + 0 ≡ t + u = omega (arith, none) in g)
       (let t : ℕ = v.moves in let u : ℕ = w.moves in let g : t + u + 0 ≡ t + u = omega arith in g)
+      (λ f. let none : lying f w ≡ 0 = (λ i. lying f (is i)) in omega (arith, none))
       (λ fv fw. (
         record {
           beside = fv.beside;

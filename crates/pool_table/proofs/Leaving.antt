@@ -11,6 +11,7 @@ use Rattle.step_law.proofs.Changes.{each_at, sum_at}
 use Rattle.pool_law.specs.declared.note.Noted.{Noted}
 use Rattle.pool_law.specs.declared.note.Object.{Object}
 use Rattle.pool_law.specs.Homes.{home_of, IsObjectOf}
+use Rattle.pool_table.proofs.Mails.{mailed_same}
 use Rattle.pool_table.specs.Slots.{slots_of, slot_of}
 use Rattle.pool_table.proofs.Slots.{slot_within}
 use Rattle.table_law.specs.Measures.{measures_of}
@@ -18,7 +19,7 @@ use Rattle.pool_table.specs.Words.{word_of}
 use Rattle.pool_table.specs.declared.views.Layout.{Layout}
 use Rattle.pool_table.specs.declared.views.Inside.{Inside}
 use Rattle.pool_table.specs.declared.views.SeatView.{SeatView}
-use Rattle.pool_table.specs.Views.{Face, parts_of, face, strand, is_in, inside_total, spent, left}
+use Rattle.pool_table.specs.Views.{ObjectView, parts_of, object_view, object_part, is_in, inside_total, spent, left}
 use Rattle.pool_table.specs.Hands.{MayLeave}
 use Rattle.pool_table.proofs.Weights.{same_parts, counted_parts, settled_same, handy_parts, orderly_parts, enters_none}
 use Rattle.pool_table.proofs.Looks.{looks_same}
@@ -30,7 +31,7 @@ use Rattle.pool_table.specs.Sections.{StandsFor}
 use Rattle.pool_table.specs.Steps.{idles}
 use Rattle.pool_table.proofs.Objects.{idled_kept}
 use Rattle.pool_table.proofs.Tables.{changes, short}
-use Rattle.pool_table.proofs.Entries.{inside_face, away_face}
+use Rattle.pool_table.proofs.Entries.{inside_object_view, away_object_view}
 use Rattle.pool_table.proofs.Marks.{calm_now}
 use Rattle.pool_table.proofs.Noting.{less_one, in_section}
 
@@ -55,13 +56,15 @@ module _ {H : Type 0} (stands : List ℕ → Setting → List Noted → H → Ty
       let known = in_section stands l s r id v o fits x at e refl in let hk : h ≡ k.history = known.0 in
       let nk : length h
       ≡ length k.history = known.1 in
-      let word : ℕ = slice_index s.words (word_of l.shape o) in let faces : List Face = map (face l.shape i) s.views in
-      let t : ℕ = inside_total faces in
-      let vf = inside_face stands l i v x e refl in
-      let there : get_elem? faces id ≡ some (record { parts = map (strand l.shape i) (parts_of v); inside = Some x }) =
-      at_map (face l.shape i) s.views id v at ∙ ap some vf in
-      let some_in : 1 ≤ t = sum_at is_in faces id
-      (record { parts = map (strand l.shape i) (parts_of v); inside = Some x }) there in
+      let word : ℕ = slice_index s.words (word_of l.shape o) in let object_views : List ObjectView =
+      map (object_view l.shape i) s.views in
+      let t : ℕ = inside_total object_views in
+      let vf = inside_object_view stands l i v x e refl in
+      let there : get_elem? object_views id ≡ some
+      (record { parts = map (object_part l.shape i) (parts_of v); inside = Some x }) =
+      at_map (object_view l.shape i) s.views id v at ∙ ap some vf in
+      let some_in : 1 ≤ t = sum_at is_in object_views id
+      (record { parts = map (object_part l.shape i) (parts_of v); inside = Some x }) there in
       let wi : word ≡ 2 * length k.history + t = k.word_is in let al : t ≤ 1 = k.alone in
       let n : ℕ = length h in let m : ℕ = length k.history in let nm : n ≡ m = nk in let wi' : word ≡ 2 * m + t = wi in
       let w1 : word ≡ 2 * n + 1 = omega (arith, wi', nm, al, some_in) in
@@ -70,17 +73,18 @@ module _ {H : Type 0} (stands : List ℕ → Setting → List Noted → H → Ty
       let down : (word + (2 ^ 64 - 1)) % 2 ^ 64 ≡ 2 * n = less_one stands l word n sh' w1 in
       let w : SeatView = left v in
       let fine : IsView l.shape r.setting v = each_at (IsView l.shape r.setting) s.views id v r.views at in
-      let wf : face l.shape i w ≡ record { parts = map (strand l.shape i) (parts_of v); inside = None } = refl in
+      let wf : object_view l.shape i w ≡ record { parts = map (object_part l.shape i) (parts_of v); inside = None } =
+      refl in
       let gs : stands (measures_of l.shape o) r.setting h home =
       subst (λ (g : Setting). stands (measures_of l.shape o) g h home)
       (same_setting v.setting stands_for.setting stands_for.known fine.setting_is) stands_for.stands_for in
-      let kept = idled_kept stands l.shape r.setting o faces word (2 * n) (get_elem? s.homes d) id
-      (map (strand l.shape i) (parts_of v)) x home k w1 there (calm_now stands l s r id v o fits at leave)
+      let kept = idled_kept stands l.shape r.setting o object_views word (2 * n) (get_elem? s.homes d) id
+      (map (object_part l.shape i) (parts_of v)) x home k w1 there (calm_now stands l s r id v o fits at leave)
       (subst (λ (g : List Noted). stands (measures_of l.shape o) r.setting g home) hk gs) in
       let inside : d < length s.homes = subst (λ (z : ℕ). d < z) (sym wide) (slot_within l.shape o fits) in (
         w1,
         changes stands l s r id v w o ((word + (2 ^ 64 - 1)) % 2 ^ 64) (set s.homes d (some (Some home))) fits at
-            (λ j ne. sym (away_face stands l j v x e (λ q. ne (sym q)))) (λ q. refl) (same_parts v w refl refl)
+            (λ j ne. sym (away_object_view stands l j v x e (λ q. ne (sym q)))) (λ q. refl) (same_parts v w refl refl)
             (record {
               counted = counted_parts v w refl fine.counted;
               settled =
@@ -102,9 +106,10 @@ module _ {H : Type 0} (stands : List ℕ → Setting → List Noted → H → Ty
             })
             (le_refl (spent v)) (looks_same s.views id v w at refl r.looks) (order_same s.views id v w at refl r.order)
             (one_same l.shape s.views id v w at refl r.one_order) (born_same s.views id v w at refl r.born)
+            (mailed_same s.views id v w at refl refl r.mailed)
             (length-set s.homes d (some (Some home))) (λ j ne. set_else s.homes d j (some (Some home)) ne)
             (subst (λ (y : ℕ × maybe.Option (maybe.Option (Option H))). IsKept stands l.shape r.setting o
-            (set faces id (face l.shape i w)) y.0 y.1)
+            (set object_views id (object_view l.shape i w)) y.0 y.1)
             (λ q. (sym down q, sym (set_here s.homes d (some (Some home)) inside) q)) kept),
       )
     where

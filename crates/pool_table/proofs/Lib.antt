@@ -1,8 +1,15 @@
 pub mod Lists
 pub mod Order
 pub mod Sequence
+pub mod Mails
+pub mod Posts
+pub mod Senders
+pub mod Sending
+pub mod Counting
+pub mod MailLogs
 pub mod Looks
 pub mod Births
+pub mod Known
 pub mod Makers
 pub mod Newest
 pub mod Numbers
@@ -26,7 +33,9 @@ pub mod Leaving
 pub mod Seatings
 pub mod Joinings
 pub mod Calls
+pub mod SeatFields
 pub mod Openings
+pub mod OpeningSeats
 pub mod Closings
 pub mod Starts
 pub mod Partition
@@ -44,6 +53,7 @@ pub mod RegionNotes
 pub mod Regions
 pub mod RegionNumbers
 pub mod OwnCaches
+pub mod OwnTakings
 pub mod After
 pub mod LaneCounts
 pub mod Places

@@ -13,13 +13,13 @@ use Rattle.pool_law.specs.declared.note.Object.{Object}
 use Rattle.pool_law.specs.Homes.{home_of, IsObjectOf}
 use Rattle.pool_law.specs.Logs.{may_stand}
 use Rattle.pool_law.specs.NotedHistories.{MayNote, needs_lane}
-use Rattle.table_law.proofs.Apart.{one_home}
+use Rattle.pool_table.proofs.Known.{one_known}
 use Rattle.pool_table.specs.declared.views.Entry.{Entry}
 use Rattle.pool_table.specs.declared.views.Entry.TheVariants.{At, Ref, Busy}
 use Rattle.pool_table.specs.declared.views.Layout.{Layout}
 use Rattle.pool_table.specs.declared.views.Part.{Part}
 use Rattle.pool_table.specs.declared.views.SeatView.{SeatView}
-use Rattle.pool_table.specs.Views.{Face, parts_of, is_about, face, strand, is_in, inside_total, noted_weight, noted_in, noted_total}
+use Rattle.pool_table.specs.Views.{ObjectView, parts_of, is_about, object_view, object_part, is_in, inside_total, noted_weight, noted_in, noted_total}
 use Rattle.pool_table.specs.Sound.{IsSound, IsView, IsTold, Stands, Tells}
 
 -- 1 for a note that its lane may not make at the object, 0 for another
@@ -63,18 +63,18 @@ module _ (s : Shape) (o : Object) (fits : IsObjectOf s o) (h : List Noted) where
   right : (limit : ℕ) (lane : Option ℕ) (e : Entry) → is_about s (home_of s o) e ≡ true → Stands s lane e
       → Tells o h limit lane e → w e ≡ 0
   right limit lane (At p k n) on st t =
-      let same : p ≡ o = one_home s p o st.object fits (eqb-true (home_of s p) (home_of s o) on) in
+      let same : p ≡ o = one_known s p o st.object fits (eqb-true (home_of s p) (home_of s o) on) in
       no_fault s o n.lane n.did (subst (λ (x : Option ℕ × Object). MayNote s x.0 x.1 n.did) (λ i. (sym t.2 i, same i))
       st.lane_may)
   right limit lane (Ref r d) on st t = refl
   right limit lane (Busy b) on st t = refl
 
-  in_strand : (limit : ℕ) (lane : Option ℕ) (es : List Entry) → All (Stands s lane) es
+  in_object_part : (limit : ℕ) (lane : Option ℕ) (es : List Entry) → All (Stands s lane) es
       → All (Tells o h limit lane) (filter (is_about s (home_of s o)) es)
       → sum_by w (filter (is_about s (home_of s o)) es) ≡ 0
-  in_strand limit lane [] st t = refl
-  in_strand limit lane (e ∷ es) st t =
-      one (is_about s (home_of s o) e) refl t (in_strand limit lane es (All-tail (Stands s lane) e es st))
+  in_object_part limit lane [] st t = refl
+  in_object_part limit lane (e ∷ es) st t =
+      one (is_about s (home_of s o) e) refl t (in_object_part limit lane es (All-tail (Stands s lane) e es st))
     where
       one : (b : Bool) → is_about s (home_of s o) e ≡ b
           → All (Tells o h limit lane) (cond b (e ∷ filter (is_about s (home_of s o)) es)
@@ -93,26 +93,28 @@ module _ (s : Shape) (o : Object) (fits : IsObjectOf s o) (h : List Noted) where
   weighs p = sum_by w p.notes
 
   in_parts : (limit : ℕ) (ps : List Part) → All (λ (p : Part). All (Stands s p.number) p.notes) ps
-      → All (IsTold o h limit) (map (strand s (home_of s o)) ps) → sum_by weighs (map (strand s (home_of s o)) ps) ≡ 0
+      → All (IsTold o h limit) (map (object_part s (home_of s o)) ps)
+      → sum_by weighs (map (object_part s (home_of s o)) ps) ≡ 0
   in_parts limit [] st t = refl
   in_parts limit (p ∷ ps) st t =
       let P : Part → Type 0 = λ (p : Part). All (Stands s p.number) p.notes in
-      let q : Part = strand s (home_of s o) p in let qs : List Part = map (strand s (home_of s o)) ps in
+      let q : Part = object_part s (home_of s o) p in let qs : List Part = map (object_part s (home_of s o)) ps in
       let a = sum_by-cons weighs q qs in let here =
-      in_strand limit p.number p.notes (All-head P p ps st) (All-head (IsTold o h limit) q qs t).told in
+      in_object_part limit p.number p.notes (All-head P p ps st) (All-head (IsTold o h limit) q qs t).told in
       let more = in_parts limit ps (All-tail P p ps st) (All-tail (IsTold o h limit) q qs t) in
       omega (arith, a, here, more)
 
-  in_faces : (limit : Face → ℕ) (setting : Setting) (vs : List SeatView) → All (IsView s setting) vs
-      → All (λ (f : Face). All (IsTold o h (limit f)) f.parts) (map (face s (home_of s o)) vs)
-      → noted_total (fault s o) (map (face s (home_of s o)) vs) ≡ 0
-  in_faces limit setting [] fine t = refl
-  in_faces limit setting (v ∷ vs) fine t =
-      let Q : Face → Type 0 = λ (f : Face). All (IsTold o h (limit f)) f.parts in
-      let f : Face = face s (home_of s o) v in let fs : List Face = map (face s (home_of s o)) vs in
+  in_object_views : (limit : ObjectView → ℕ) (setting : Setting) (vs : List SeatView) → All (IsView s setting) vs
+      → All (λ (f : ObjectView). All (IsTold o h (limit f)) f.parts) (map (object_view s (home_of s o)) vs)
+      → noted_total (fault s o) (map (object_view s (home_of s o)) vs) ≡ 0
+  in_object_views limit setting [] fine t = refl
+  in_object_views limit setting (v ∷ vs) fine t =
+      let Q : ObjectView → Type 0 = λ (f : ObjectView). All (IsTold o h (limit f)) f.parts in
+      let f : ObjectView = object_view s (home_of s o) v in let fs : List ObjectView =
+      map (object_view s (home_of s o)) vs in
       let a = sum_by-cons (noted_in (fault s o)) f fs in let here =
       in_parts (limit f) (parts_of v) (All-head (IsView s setting) v vs fine).notes (All-head Q f fs t) in
-      let more = in_faces limit setting vs (All-tail (IsView s setting) v vs fine) (All-tail Q f fs t) in
+      let more = in_object_views limit setting vs (All-tail (IsView s setting) v vs fine) (All-tail Q f fs t) in
       omega (arith, a, here, more)
 
 module _ {H : Type 0} (stands : List ℕ → Setting → List Noted → H → Type 0) (l : Layout) where
@@ -120,8 +122,9 @@ module _ {H : Type 0} (stands : List ℕ → Setting → List Noted → H → Ty
       → All (λ (n : Noted). MayNote l.shape n.lane o n.did) (r.objects o fits).history
   each_may s r o fits =
       let k = r.objects o fits in
-      let faces : List Face = map (face l.shape (home_of l.shape o)) s.views in
-      let none = in_faces l.shape o fits k.history (λ (f : Face). length k.history + (inside_total faces - is_in f))
+      let object_views : List ObjectView = map (object_view l.shape (home_of l.shape o)) s.views in
+      let none = in_object_views l.shape o fits k.history
+      (λ (f : ObjectView). length k.history + (inside_total object_views - is_in f))
       r.setting s.views r.views k.told in
       let total = k.weights (fault l.shape o) in
       none_each (fault l.shape o) (λ (n : Noted). MayNote l.shape n.lane o n.did) (λ n. may_so l.shape o n.lane n.did)

@@ -14,6 +14,7 @@ use Rattle.pool_law.specs.declared.note.Noted.{Noted}
 use Rattle.pool_law.specs.declared.note.Object.{Object}
 use Rattle.pool_law.specs.declared.note.Object.TheVariants.{Arena, Cache, Bin, Mail, Root}
 use Rattle.pool_law.specs.Homes.{home_of, IsObjectOf}
+use Rattle.pool_table.proofs.Mails.{mailed_entry}
 use Rattle.pool_table.specs.Slots.{slots_of, slot_of}
 use Rattle.pool_table.specs.Words.{word_of}
 use Rattle.table_law.specs.Histories.{root_after}
@@ -21,7 +22,7 @@ use Rattle.pool_table.specs.declared.views.Entry.{Entry}
 use Rattle.pool_table.specs.declared.views.Entry.TheVariants.{Busy}
 use Rattle.pool_table.specs.declared.views.Layout.{Layout}
 use Rattle.pool_table.specs.declared.views.SeatView.{SeatView}
-use Rattle.pool_table.specs.Views.{Face, parts_of, face, strand, inside_total, spent, with_entry}
+use Rattle.pool_table.specs.Views.{ObjectView, parts_of, object_view, object_part, inside_total, spent, with_entry}
 use Rattle.pool_table.proofs.Places.{never_held}
 use Rattle.pool_table.proofs.Presence.{tells_root}
 use Rattle.pool_table.specs.Hands.{MayEnter, MayLeave}
@@ -36,7 +37,7 @@ use Rattle.pool_table.specs.Steps.{IsFree}
 use Rattle.pool_table.specs.Steps.{marks_claims}
 use Rattle.pool_table.proofs.Objects.{marked_kept}
 use Rattle.pool_table.proofs.Tables.{changes, alone_among}
-use Rattle.pool_table.proofs.Entries.{unmarked_below, outside_face, same_numbered, entry_view, spent_entry, entry_elsewhere, entry_here, or_odd}
+use Rattle.pool_table.proofs.Entries.{unmarked_below, not_idle, outside_object_view, same_numbered, entry_view, spent_entry, entry_elsewhere, entry_here, or_odd}
 use Rattle.pool_table.proofs.Claimed.{was_held, half, finds_held, gets_in, parity}
 
 module _ {H : Type 0} (stands : List ℕ → Setting → List Noted → H → Type 0) (l : Layout) where
@@ -87,7 +88,7 @@ module _ {H : Type 0} (stands : List ℕ → Setting → List Noted → H → Ty
   marks : (id : ℕ) (me : Me (Option H) SeatView) (o : Object) (fits : IsObjectOf l.shape o) → IsFree me → 0 < me.0.turns
       → ((p : ℕ) → o ≡ Root p → MayEnter p me.0) → IsMarked o → (s : State (Option H) SeatView) (r : IsSound stands l s)
       → get_elem? s.views id ≡ some me.0
-      → inside_total (map (face l.shape (home_of l.shape o)) s.views) ≡ 1 → (word' : ℕ)
+      → inside_total (map (object_view l.shape (home_of l.shape o)) s.views) ≡ 1 → (word' : ℕ)
       → word' ≡ slice_index s.words (word_of l.shape o)
       → IsSound stands l (record {
         words = set s.words (word_of l.shape o) word';
@@ -100,26 +101,27 @@ module _ {H : Type 0} (stands : List ℕ → Setting → List Noted → H → Ty
       let i : ℕ = home_of l.shape o in let d : ℕ = slot_of l.shape o in let k = r.objects o fits in let h : List Noted =
       k.history in let n : ℕ = length h in let v : SeatView = me.0 in
       let word : ℕ = slice_index s.words (word_of l.shape o) in let t : ℕ =
-      inside_total (map (face l.shape i) s.views) in
+      inside_total (map (object_view l.shape i) s.views) in
       let wi : word ≡ 2 * n + t = k.word_is in
       let b : Held = record { object = o; number = word / 2 } in let e : Entry = Busy b in let w : SeatView =
       with_entry v e v.turns in
       let bn : b.number ≡ n = half stands l word n t one wi in
       let light : IsWeighedSame v w = same_entry v e v.turns (λ f p g. refl) (λ f p. refl) (λ f. refl) in
       let fine : IsView l.shape r.setting v = each_at (IsView l.shape r.setting) s.views id v r.views at in
-      let vf : face l.shape i v ≡ record { parts = map (strand l.shape i) (parts_of v); inside = None } =
-      outside_face stands l i v out.0 in
+      let vf : object_view l.shape i v ≡ record { parts = map (object_part l.shape i) (parts_of v); inside = None } =
+      outside_object_view stands l i v out.0 in
       let wf = entry_here stands l v e v.turns i (eq-eqb i i refl) in
-      let there : get_elem? (map (face l.shape i) s.views) id
-      ≡ some (record { parts = map (strand l.shape i) (parts_of v); inside = None }) =
-      at_map (face l.shape i) s.views id v at ∙ ap some vf in
-      let kept = marked_kept stands l.shape r.setting o (map (face l.shape i) s.views) word (get_elem? s.homes d) id
-      (strand l.shape i v.own) (map (strand l.shape i) v.others) b k there one bn marked
+      let there : get_elem? (map (object_view l.shape i) s.views) id
+      ≡ some (record { parts = map (object_part l.shape i) (parts_of v); inside = None }) =
+      at_map (object_view l.shape i) s.views id v at ∙ ap some vf in
+      let kept = marked_kept stands l.shape r.setting o (map (object_view l.shape i) s.views) word (get_elem? s.homes d)
+      id
+      (object_part l.shape i v.own) (map (object_part l.shape i) v.others) b k there one bn marked
       (subst (λ (y : ℕ). WasPresent o h y) (sym bn)
       (present_now s r id v o fits at (was_held stands l s r id v o fits at out.0 one) may)) in
       changes stands l s r id v w o word' s.homes fits at
       (λ j ne. entry_elsewhere stands l v e v.turns j (ne_eqb i j (λ q. ne (sym q)))
-      ∙ sym (outside_face stands l j v out.0))
+      ∙ sym (outside_object_view stands l j v out.0))
       (λ m. same_numbered stands l v e v.turns m) light
       (entry_view stands l r.setting v e v.turns light
       (counted_entry v e v.turns (λ f p g. refl) (λ p g. omega arith) (λ p g lt. absurd (omega (arith, lt)))
@@ -127,7 +129,7 @@ module _ {H : Type 0} (stands : List ℕ → Setting → List Noted → H → Ty
       (λ p lt. absurd (omega (arith, lt))) fine.handy)
       (orderly_entry v e v.turns (λ f p g c. refl) (λ f p g. refl) (λ f p. refl) (λ p. inl refl)
       (λ p g. inl refl) (λ q. inl (record { none = refl; unused = refl; light = λ _. refl }))
-      fine.roots) fine turn (fits, marked))
+      fine.roots) fine (not_idle stands l r.setting v fine turn) (fits, marked))
       (let a = spent_entry stands l v e v.turns in let x : ℕ = spent w in let y : ℕ = spent v in
       let tv : ℕ = v.turns in let a' : x + tv
       ≡ y + 0 + tv = a in let g : x ≤ y = omega (arith, a') in
@@ -137,8 +139,10 @@ module _ {H : Type 0} (stands : List ℕ → Setting → List Noted → H → Ty
       (one_more l.shape s.views id v w e at refl (alone_among stands l s r id v at) r.one_order
       (bn ∙ noted_so_far stands l s r r.one_order o fits))
       (born_entry s.views id v w e at refl (λ q is. absurd (cc is)) r.born)
+      (mailed_entry s.views id v w e at refl refl refl refl r.mailed)
       refl (λ j ne. refl)
-      (subst (λ (y : Face × ℕ). IsKept stands l.shape r.setting o (set (map (face l.shape i) s.views) id y.0) y.1
+      (subst (λ (y : ObjectView × ℕ). IsKept stands l.shape r.setting o
+      (set (map (object_view l.shape i) s.views) id y.0) y.1
       (get_elem? s.homes d)) (λ q. (sym wf q, sym same q)) kept)
 
   pub marks_allowed : 0 < l.shape.handles → (id : ℕ) (me : Me (Option H) SeatView) (o : Object) → IsObjectOf l.shape o
@@ -148,7 +152,7 @@ module _ {H : Type 0} (stands : List ℕ → Setting → List Noted → H → Ty
   marks_allowed some_handle id me o fits out turn may marked s r _ at _ =
       let i : ℕ = home_of l.shape o in let k = r.objects o fits in let n : ℕ = length k.history in
       let word : ℕ = slice_index s.words (word_of l.shape o) in let t : ℕ =
-      inside_total (map (face l.shape i) s.views) in
+      inside_total (map (object_view l.shape i) s.views) in
       let wi : word ≡ 2 * n + t = k.word_is in let al : t ≤ 1 = k.alone in let par = parity stands l word n t wi al in
       dite (ℕ_discrete t 0)
       (λ z. let g = gets_in stands l some_handle id me o fits out turn may s r at z in (

@@ -13,7 +13,7 @@ use Rattle.pool_table.specs.declared.views.Entry.TheVariants.{At, Ref, Busy}
 use Rattle.pool_table.specs.declared.views.Layout.{Layout}
 use Rattle.pool_table.specs.declared.views.Part.{Part}
 use Rattle.pool_table.specs.declared.views.SeatView.{SeatView}
-use Rattle.pool_table.specs.Views.{Face, parts_of, is_about, face, strand, is_in, inside_total}
+use Rattle.pool_table.specs.Views.{ObjectView, parts_of, is_about, object_view, object_part, is_in, inside_total}
 use Rattle.pool_table.specs.Order.{IsBelow}
 use Rattle.pool_table.specs.Sound.{IsSound, IsTold, Tells}
 use Rattle.pool_table.proofs.Order.{IsBelowAll, IsNewest}
@@ -38,7 +38,7 @@ module _ {H : Type 0} (stands : List ℕ → Setting → List Noted → H → Ty
   -- an entry of a part that the history tells is below the history's next note
   below_next : (o : Object) (h : List Noted) (limit : ℕ) (lane : Option ℕ) (n : Noted) (y : Entry)
       → (is_about l.shape (home_of l.shape o) y ≡ true → Tells o h limit lane y) → IsBelow y (At o (length h + 1) n)
-  below_next o h limit lane n (At p k m) told = λ same.
+  below_next o h limit lane n (At p k m) told = λ has same.
       let t = told (eq-eqb (home_of l.shape p) (home_of l.shape o) (ap (home_of l.shape) same)) in
       let in_range = slice_get_within h (k - 1) m t.1 in let pos = t.0 in omega (arith, in_range, pos)
   below_next o h limit lane n (Ref r d) told = tt
@@ -48,15 +48,17 @@ module _ {H : Type 0} (stands : List ℕ → Setting → List Noted → H → Ty
       (n : Noted) → IsNewest (At o (length (r.objects o fits).history + 1) n) s.views
   newest_note s r o fits n =
       let k = r.objects o fits in let h : List Noted = k.history in let i : ℕ = home_of l.shape o in
-      let t : ℕ = inside_total (map (face l.shape i) s.views) in
-      let limit : Face → ℕ = λ (f : Face). length h + (t - is_in f) in
-      All-weaker (λ (v : SeatView). All (IsTold o h (limit (face l.shape i v))) (face l.shape i v).parts)
+      let t : ℕ = inside_total (map (object_view l.shape i) s.views) in
+      let limit : ObjectView → ℕ = λ (f : ObjectView). length h + (t - is_in f) in
+      All-weaker (λ (v : SeatView). All (IsTold o h (limit (object_view l.shape i v))) (object_view l.shape i v).parts)
       (λ (v : SeatView). All (IsBelowAll (At o (length h + 1) n)) (parts_of v))
-      (λ v told. All-weaker (λ (p : Part). IsTold o h (limit (face l.shape i v)) (strand l.shape i p))
+      (λ v told. All-weaker (λ (p : Part). IsTold o h (limit (object_view l.shape i v)) (object_part l.shape i p))
       (IsBelowAll (At o (length h + 1) n))
       (λ p one. All-weaker (λ (y : Entry). is_about l.shape i y ≡ true
-      → Tells o h (limit (face l.shape i v)) p.number y) (λ (y : Entry). IsBelow y (At o (length h + 1) n))
-      (λ y. below_next o h (limit (face l.shape i v)) p.number n y) p.notes
-      (filtered (Tells o h (limit (face l.shape i v)) p.number) (is_about l.shape i) p.notes one.told))
-      (parts_of v) (each_unmapped (IsTold o h (limit (face l.shape i v))) (strand l.shape i) (parts_of v) told))
-      s.views (each_unmapped (λ (f : Face). All (IsTold o h (limit f)) f.parts) (face l.shape i) s.views k.told)
+      → Tells o h (limit (object_view l.shape i v)) p.number y) (λ (y : Entry). IsBelow y (At o (length h + 1) n))
+      (λ y. below_next o h (limit (object_view l.shape i v)) p.number n y) p.notes
+      (filtered (Tells o h (limit (object_view l.shape i v)) p.number) (is_about l.shape i) p.notes one.told))
+      (parts_of v) (each_unmapped (IsTold o h (limit (object_view l.shape i v))) (object_part l.shape i) (parts_of v)
+      told))
+      s.views (each_unmapped (λ (f : ObjectView). All (IsTold o h (limit f)) f.parts) (object_view l.shape i) s.views
+      k.told)

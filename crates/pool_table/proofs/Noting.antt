@@ -13,6 +13,9 @@ use Rattle.pool_law.specs.declared.note.Noted.{Noted}
 use Rattle.pool_law.specs.declared.note.Object.{Object}
 use Rattle.pool_law.specs.declared.note.Object.TheVariants.{Root}
 use Rattle.pool_law.specs.Homes.{home_of, IsObjectOf}
+use Rattle.pool_table.proofs.Mails.{mailed_entry}
+use Rattle.pool_table.proofs.Known.{known, none_in, none_out, plain_at}
+use Rattle.pool_law.specs.Kinds.{passing}
 use Rattle.pool_table.specs.Slots.{slots_of, slot_of}
 use Rattle.pool_table.proofs.Slots.{slot_within}
 use Rattle.table_law.specs.Measures.{measures_of}
@@ -24,7 +27,7 @@ use Rattle.pool_table.specs.declared.views.Entry.TheVariants.{At}
 use Rattle.pool_table.specs.declared.views.Layout.{Layout}
 use Rattle.pool_table.specs.declared.views.Inside.{Inside}
 use Rattle.pool_table.specs.declared.views.SeatView.{SeatView}
-use Rattle.pool_table.specs.Views.{Face, parts_of, face, strand, is_in, inside_total, spent, with_entry}
+use Rattle.pool_table.specs.Views.{ObjectView, parts_of, took_turn, object_view, object_part, is_in, inside_total, spent, with_entry}
 use Rattle.pool_law.specs.declared.note.Did.{Did}
 use Rattle.pool_law.specs.declared.id.Parcel.{Parcel}
 use Rattle.pool_law.specs.declared.id.ViewData.{ViewData}
@@ -45,7 +48,7 @@ use Rattle.pool_table.proofs.Births.{born_entry}
 use Rattle.pool_table.proofs.Putting.{puts_at, note_born}
 use Rattle.pool_table.proofs.Order.{IsNewest, order_entry}
 use Rattle.pool_table.proofs.Sequence.{one_more}
-use Rattle.pool_table.proofs.Fitting.{noted_so_far}
+use Rattle.pool_table.proofs.Fitting.{noted_so_far, note_fits}
 use Rattle.pool_table.proofs.Newest.{newest_note}
 use Rattle.pool_law.specs.NotedHistories.{MayNote}
 use Rattle.pool_table.specs.Sound.{IsKept, IsSound, IsView, Stands, Knows}
@@ -53,7 +56,7 @@ use Rattle.pool_table.specs.Sections.{StandsFor}
 use Rattle.pool_table.specs.Steps.{dones}
 use Rattle.pool_table.proofs.Objects.{done_kept}
 use Rattle.pool_table.proofs.Tables.{changes, short, alone_in, alone_among}
-use Rattle.pool_table.proofs.Entries.{inside_face, away_face, same_numbered, entry_view, spent_entry, entry_elsewhere, entry_here}
+use Rattle.pool_table.proofs.Entries.{inside_object_view, not_idle, away_object_view, same_numbered, entry_view, spent_entry, entry_elsewhere, entry_here}
 
 module _ {H : Type 0} (stands : List ℕ → Setting → List Noted → H → Type 0) (l : Layout) where
   add_one : (word n : ℕ) → n < 4611686018427387904 → word ≡ 2 * n + 1 → (word + 1) % 2 ^ 64 ≡ word + 1
@@ -68,9 +71,14 @@ module _ {H : Type 0} (stands : List ℕ → Setting → List Noted → H → Ty
       → (x.history ≡ (r.objects o fits).history) × (x.number ≡ length (r.objects o fits).history)
   in_section s r id v o fits x at e here =
       let i : ℕ = home_of l.shape o in let k = r.objects o fits in
-      let vf = inside_face stands l i v x e (ap (home_of l.shape) here) in
-      subst (Knows k.history) vf (each_at (Knows k.history) (map (face l.shape i) s.views) id (face l.shape i v) k.knows
-      (at_map (face l.shape i) s.views id v at))
+      let vf = inside_object_view stands l i v x e (ap (home_of l.shape) here) in
+      subst (Knows k.history) vf (each_at (Knows k.history) (map (object_view l.shape i) s.views) id
+      (object_view l.shape i v) k.knows
+      (at_map (object_view l.shape i) s.views id v at))
+
+  at_most : (b : Bool) → cond {A = ℕ} b 1 0 ≤ 1
+  at_most true = omega arith
+  at_most false = omega arith
 
   at_most_one : (p : ℕ) (d : Did) → did_home p d ≤ 1
   at_most_one p (Home q) = small (eqb q p)
@@ -91,7 +99,7 @@ module _ {H : Type 0} (stands : List ℕ → Setting → List Noted → H → Ty
       carried (Some v) = small ((eqb v.root.place p) && (eqb v.root.generation g))
       carried None = omega arith
 
-  one_parcel : (p g : ℕ) (d : Did) → did_post p g d ≤ 1
+  pub one_parcel : (p g : ℕ) (d : Did) → did_post p g d ≤ 1
   one_parcel p g (Post q) = one_carried p g q
   one_parcel p g d = omega arith
 
@@ -188,13 +196,15 @@ module _ {H : Type 0} (stands : List ℕ → Setting → List Noted → H → Ty
       record { object = o; number = length h; history = h } in
       let known = in_section s r id v o fits x at e refl in let hk : h ≡ k.history = known.0 in let nk : length h
       ≡ length k.history = known.1 in
-      let word : ℕ = slice_index s.words (word_of l.shape o) in let faces : List Face = map (face l.shape i) s.views in
-      let t : ℕ = inside_total faces in
-      let vf = inside_face stands l i v x e refl in
-      let there : get_elem? faces id ≡ some (record { parts = map (strand l.shape i) (parts_of v); inside = Some x }) =
-      at_map (face l.shape i) s.views id v at ∙ ap some vf in
-      let some_in : 1 ≤ t = sum_at is_in faces id
-      (record { parts = map (strand l.shape i) (parts_of v); inside = Some x }) there in
+      let word : ℕ = slice_index s.words (word_of l.shape o) in let object_views : List ObjectView =
+      map (object_view l.shape i) s.views in
+      let t : ℕ = inside_total object_views in
+      let vf = inside_object_view stands l i v x e refl in
+      let there : get_elem? object_views id ≡ some
+      (record { parts = map (object_part l.shape i) (parts_of v); inside = Some x }) =
+      at_map (object_view l.shape i) s.views id v at ∙ ap some vf in
+      let some_in : 1 ≤ t = sum_at is_in object_views id
+      (record { parts = map (object_part l.shape i) (parts_of v); inside = Some x }) there in
       let wi : word ≡ 2 * length k.history + t = k.word_is in let al : t ≤ 1 = k.alone in
       let n : ℕ = length h in let m : ℕ = length k.history in let nm : n ≡ m = nk in let wi' : word ≡ 2 * m + t = wi in
       let w1 : word ≡ 2 * n + 1 = omega (arith, wi', nm, al, some_in) in
@@ -202,8 +212,6 @@ module _ {H : Type 0} (stands : List ℕ → Setting → List Noted → H → Ty
       omega (arith, sh, nm) in
       let up : (word + 1) % 2 ^ 64 ≡ word + 1 = add_one word n sh' w1 in
       let ent : Entry = At o (length h + 1) nd in let w : SeatView = with_entry v ent (v.turns - 1) in
-      let follows : IsHistory l.shape o (k.history ++ nd ∷ []) =
-      subst (λ (g : List Noted). IsHistory l.shape o (g ++ nd ∷ [])) hk accepted in
       let puts : PutsAt v nd.did = puts_at stands l s r id v at nd.did hands in
       let light : IsWeighedSame v w = same_entry v ent (v.turns - 1) (λ f p g. refl) (λ f p. refl) (λ f. refl) in
       let fine : IsView l.shape r.setting v = each_at (IsView l.shape r.setting) s.views id v r.views at in
@@ -211,21 +219,23 @@ module _ {H : Type 0} (stands : List ℕ → Setting → List Noted → H → Ty
       let gs : stands (measures_of l.shape o) r.setting (h ++ nd ∷ []) home =
       subst (λ (g : Setting). stands (measures_of l.shape o) g (h ++ nd ∷ []) home)
       (same_setting v.setting stands_for.setting stands_for.known fine.setting_is) stands_for.stands_for in
-      let kept = done_kept stands l.shape r.setting o faces word (get_elem? s.homes d) id (strand l.shape i v.own)
-      (map (strand l.shape i) v.others) x o nd home k there lane
+      let kept = done_kept stands l.shape r.setting o object_views word (get_elem? s.homes d) id
+      (object_part l.shape i v.own)
+      (map (object_part l.shape i) v.others) x o nd home k there lane
       (λ q own. alone_in stands l s r id i q v at (sym lane ∙ own))
       (subst (λ (g : List Noted). IsHistory l.shape o (g ++ nd ∷ [])) hk accepted)
       (subst (λ (g : List Noted). stands (measures_of l.shape o) r.setting (g ++ nd ∷ []) home) hk gs) in
       let inside : d < length s.homes = subst (λ (z : ℕ). d < z) (sym wide) (slot_within l.shape o fits) in
-      let kept' : IsKept stands l.shape r.setting o (set faces id (face l.shape i w)) ((word + 1) % 2 ^ 64)
+      let kept' : IsKept stands l.shape r.setting o (set object_views id (object_view l.shape i w))
+      ((word + 1) % 2 ^ 64)
       (get_elem? (set s.homes d (some (Some home))) d) =
-      subst (λ (y : Face × ℕ × maybe.Option (maybe.Option (Option H))). IsKept stands l.shape r.setting o
-      (set faces id y.0) y.1 y.2)
+      subst (λ (y : ObjectView × ℕ × maybe.Option (maybe.Option (Option H))). IsKept stands l.shape r.setting o
+      (set object_views id y.0) y.1 y.2)
       (λ q. (
         (ap (λ (z : ℕ). record {
           parts = record
-              { number = v.own.number; notes = (strand l.shape i v.own).notes ++ At o (z + 1) nd ∷ [] } ∷ map
-              (strand l.shape i) v.others;
+              { number = v.own.number; notes = (object_part l.shape i v.own).notes ++ At o (z + 1) nd ∷ [] } ∷ map
+              (object_part l.shape i) v.others;
           inside = None;
         }) (sym nk) ∙ sym wf) q,
         sym up q,
@@ -235,7 +245,7 @@ module _ {H : Type 0} (stands : List ℕ → Setting → List Noted → H → Ty
         w1,
         changes stands l s r id v w o ((word + 1) % 2 ^ 64) (set s.homes d (some (Some home))) fits at
             (λ j ne. entry_elsewhere stands l v ent (v.turns - 1) j (ne_eqb i j (λ q. ne (sym q)))
-            ∙ sym (away_face stands l j v x e (λ q. ne (sym q)))) (λ q. same_numbered stands l v ent
+            ∙ sym (away_object_view stands l j v x e (λ q. ne (sym q)))) (λ q. same_numbered stands l v ent
             (v.turns - 1) q) light
             (entry_view stands l r.setting v ent (v.turns - 1) light
             (counted_entry v ent (v.turns - 1) (λ f p g. refl) (λ p g. one_parcel p g nd.did) puts.posted
@@ -246,19 +256,24 @@ module _ {H : Type 0} (stands : List ℕ → Setting → List Noted → H → Ty
             (subst (λ (g : List Noted). IsHistory l.shape o (g ++ nd ∷ [])) hk accepted) p)
             (λ p g. ends_noted s r id v o fits nd at may.in_place.rooted puts
             (subst (λ (g : List Noted). IsHistory l.shape o (g ++ nd ∷ [])) hk accepted) p g)
-            (λ q. note_handles q v o (length h + 1) nd hands) fine.roots) fine turn may)
+            (λ q. note_handles q v o (length h + 1) nd hands) fine.roots) fine
+            (not_idle stands l r.setting v fine turn) may)
             (let a = spent_entry stands l v ent (v.turns - 1) in let p : ℕ = spent w in let q : ℕ = spent v in
             let tv : ℕ =
-            v.turns in let tv' : 0 < tv = turn in let a' : p + tv
-            ≡ q + 1 + (tv - 1) = a in let g : p ≤ q = omega (arith, a', tv') in g)
+            v.turns in let tv' : 0 < tv = turn in let c : ℕ = cond {A = ℕ} (took_turn ent) 1 0 in
+            let c' : c ≤ 1 = at_most (took_turn ent) in let a' : p + tv
+            ≡ q + c + (tv - 1) = a in let g : p ≤ q = omega (arith, a', tv', c') in g)
             (looks_entry s.views id v w ent at refl (λ r k is. absurd (cc is)) r.looks)
             (order_entry s.views id v w ent at refl
             (subst (λ (z : ℕ). IsNewest (At o (z + 1) nd) s.views) (sym nk) (newest_note stands l s r o fits nd))
             r.order)
             (one_more l.shape s.views id v w ent at refl (alone_among stands l s r id v at) r.one_order
-            (ap (λ (z : ℕ). z + 1) (nk ∙ noted_so_far stands l s r r.one_order o fits)))
+            (note_fits l.shape r.one_order.made o fits (length h + 1) (passing nd.did)
+            (ap (λ (z : ℕ). z + 1) (nk ∙ noted_so_far stands l s r r.one_order o fits))))
             (born_entry s.views id v w ent at refl
-            (note_born stands l s r id v at o fits (length h + 1) nd may.in_place.mailed hands follows) r.born)
+            (note_born stands l s r id v at o fits (length h + 1) nd may.in_place.mailed hands) r.born)
+            (mailed_entry s.views id v w ent at refl refl (none_in l.shape o fits (length h + 1) (passing nd.did))
+            (none_out l.shape o fits (length h + 1) (passing nd.did)) r.mailed)
             (length-set s.homes d (some (Some home))) (λ j ne. set_else s.homes d j (some (Some home)) ne) kept',
       )
     where
@@ -281,7 +296,8 @@ module _ {H : Type 0} (stands : List ℕ → Setting → List Noted → H → Ty
       (ap (λ (z : ℕ). (z, Some home) ∷ []) (sym is) ∙ sym has)
       (λ s r wide at _. let got = notes_it id me.0 o fits h home (noted_by me.0.own.number note) e turn refl
       (record {
-        object = fits;
+        object = known l.shape o fits;
+        plain = plain_at l.shape o (noted_by me.0.own.number note) fits;
         lane_may = may;
         in_place =
             in_place l.shape o h (noted_by me.0.own.number note) accepted;

@@ -1,10 +1,11 @@
 -- The order of notes across parts, after each kind of change of a view.
 use Rattle.std.proofs.Common.{◌≡◌, ⊎_elim, ℕ, ◌<◌, List, [], ◌∷◌, ◌++◌, set, sym, refl, ◌∙◌, subst, arith}
-use Rattle.std.specs.Prelude.{All}
+use Rattle.std.specs.Prelude.{All, IsTrue}
 use Rattle.std.proofs.lemmas.List.Elements.{All-cons, All-head, All-tail, All-push, All-set, All-weaker, All-nil}
 use mathlib.Core.Option.{some}
 use lib.ListN.{get_elem?}
 use Rattle.step_law.proofs.Changes.{each_at}
+use Rattle.pool_law.specs.Logs.{has_history}
 use Rattle.pool_table.specs.declared.views.Entry.{Entry}
 use Rattle.pool_table.specs.declared.views.Entry.TheVariants.{At}
 use Rattle.pool_table.specs.declared.views.Part.{Part}
@@ -27,22 +28,22 @@ longer q e = record { number = q.number; notes = q.notes ++ e ∷ [] }
 
 -- a part is in order with a part that has one entry more, the newest
 with_longer : (q p : Part) (e : Entry) → IsBelowAll e q → IsInOrder q p → IsInOrder q (longer p e)
-with_longer q p e new old before after early late o j k m n is where_is lt =
+with_longer q p e new old before after early late o j k m n has is where_is lt =
     ⊎_elim
     (λ (w : (p.notes ≡ early) × (e ≡ At o j m) × (late ≡ [])).
     let here = (at_cut (λ (y : Entry). IsBelow y e) before after (At o k n)
     (subst (λ (l : List Entry). All (λ (y : Entry). IsBelow y e) l) is new)).0 in
-    let there : o ≡ o → k < j = subst (λ (x : Entry). IsBelow (At o k n) x) w.1 here in
-    let more : k < j = there refl in absurd (omega (arith, lt, more)))
+    let there : IsTrue (has_history o) → o ≡ o → k < j = subst (λ (x : Entry). IsBelow (At o k n) x) w.1 here in
+    let more : k < j = there has refl in absurd (omega (arith, lt, more)))
     (λ (w : (rest : List Entry) × (late ≡ rest ++ e ∷ []) × (p.notes ≡ early ++ At o j m ∷ rest)).
-    old before after early w.0 o j k m n is w.2 lt)
+    old before after early w.0 o j k m n has is w.2 lt)
     (cut_last p.notes early late e (At o j m) where_is)
 
 -- a part with one entry more, the newest, is in order with a part
 longer_with : (q p : Part) (e : Entry) →
     ((early late : List Entry) (x : Entry) → p.notes ≡ early ++ x ∷ late → All (λ (y : Entry). IsBelow y e) early)
     → IsInOrder q p → IsInOrder (longer q e) p
-longer_with q p e new old before after early late o j k m n is where_is lt =
+longer_with q p e new old before after early late o j k m n has is where_is lt =
     ⊎_elim
     (λ (w : (q.notes ≡ before) × (e ≡ At o k n) × (after ≡ [])).
     subst (λ (l : List Entry). All (λ (y : Entry). All (IsBelow y) l) early) (sym w.2) (nothing early))
@@ -50,7 +51,7 @@ longer_with q p e new old before after early late o j k m n is where_is lt =
     subst (λ (l : List Entry). All (λ (y : Entry). All (IsBelow y) l) early) (sym w.1)
     (all_two (λ (y : Entry). All (IsBelow y) w.0) (λ (y : Entry). IsBelow y e)
     (λ (y : Entry). All (IsBelow y) (w.0 ++ e ∷ []))
-    (λ y all new. All-push (IsBelow y) w.0 e all new) early (old before w.0 early late o j k m n w.2 where_is lt)
+    (λ y all new. All-push (IsBelow y) w.0 e all new) early (old before w.0 early late o j k m n has w.2 where_is lt)
     (new early late (At o j m) where_is)))
     (cut_last q.notes before after e (At o k n) is)
   where
@@ -153,11 +154,11 @@ order_entry views id v w e at grows new all =
 
 -- the empty part is in order with every part, and every part with it
 empty_in : (q p : Part) → q.notes ≡ [] → IsInOrder q p
-empty_in q p none_of before after early late o j k m n is where_is lt =
+empty_in q p none_of before after early late o j k m n has is where_is lt =
     none_cut before after (At o k n) (sym none_of ∙ is)
 
 in_empty : (q p : Part) → p.notes ≡ [] → IsInOrder q p
-in_empty q p none_of before after early late o j k m n is where_is lt =
+in_empty q p none_of before after early late o j k m n has is where_is lt =
     none_cut early late (At o j m) (sym none_of ∙ where_is)
 
 abbrev pub HasNone : SeatView → Type 0

@@ -45,9 +45,8 @@ count_here s p full =
 
 few_single : (s : Shape) → IsShape s → single_of s ≤ 1024
 few_single s shape =
-    let n : ℕ = s.lanes in let x : ℕ = n * n in let lanes : n ≤ 16 = shape.lanes in let arenas = shape.arenas in
-    let le : x ≤ 16 * n = mul-le-mul_right n lanes in
-    let g : s.arenas + n * 41 + x ≤ 1024 = omega (arith, lanes, arenas, le) in
+    let n : ℕ = s.lanes in let lanes : n ≤ 16 = shape.lanes in let arenas = shape.arenas in
+    let g : s.arenas + n * 41 ≤ 1024 = omega (arith, lanes, arenas) in
     g
 
 few_places : (s : Shape) → IsShape s → s.lanes * s.handles ≤ 65536

@@ -32,7 +32,7 @@ use Rattle.pool_table.proofs.Ledgers.{sum_add}
 use Rattle.pool_table.proofs.Weights.{strict_sum}
 use Rattle.pool_table.proofs.WordChanges.{live_word}
 use Rattle.pool_table.proofs.CountSteps.{token_word}
-use Rattle.pool_table.proofs.Hands.{in_faces, hand_word, taken_once}
+use Rattle.pool_table.proofs.Hands.{in_object_views, hand_word, taken_once}
 
 -- where two elements lose less than they gain
 pub strict_two : {A : Type 0} (a b c d : A → ℕ) (l : List A) (i j : ℕ) (v w : A) → i ≢ j
@@ -83,8 +83,8 @@ module _ {H : Type 0} (stands : List ℕ → Setting → List Noted → H → Ty
       let notes = All-weaker (IsView l.shape r.setting)
       (λ (v : SeatView). All (λ (q : Part). All (Stands l.shape q.number) q.notes) (parts_of v))
       (λ v fine. fine.notes) s.views r.views in
-      let a = in_faces l.shape p (did_handle p) (λ d. omega arith) s.views notes in let b =
-      in_faces l.shape p (did_home p) (λ d. omega arith) s.views notes in
+      let a = in_object_views l.shape p (did_handle p) (λ d. omega arith) s.views notes in let b =
+      in_object_views l.shape p (did_home p) (λ d. omega arith) s.views notes in
       let c = o.weights (λ (n : Noted). did_handle p n.did) in let d = o.weights (λ (n : Noted). did_home p n.did) in
       let e = in_bin l.shape (place_lane l.shape p) p o.history m o.accepted after (some_handle p lt) refl in
       let f = k.all_born in let g = k.all_vacated in

@@ -27,7 +27,8 @@ use Rattle.table_law.proofs.Roots.{place_born, of_birth, place_births, place_end
 use Rattle.pool_table.specs.declared.views.Entry.{Entry}
 use Rattle.pool_table.specs.declared.views.Entry.TheVariants.{At, Ref, Busy}
 use Rattle.pool_table.specs.declared.views.Part.{Part}
-use Rattle.pool_table.specs.Views.{parts_of, is_at, spent}
+use Rattle.pool_law.specs.Kinds.{passing}
+use Rattle.pool_table.specs.Views.{parts_of, is_turn, took_turn, spent}
 use Rattle.pool_table.specs.declared.views.Layout.{Layout}
 use Rattle.pool_table.specs.declared.views.SeatView.{SeatView}
 use Rattle.pool_table.specs.Counts.{ref_born, ref_ended, ref_vacated, on_place, on_root, place_tally, tally, weigh}
@@ -162,14 +163,14 @@ module _ {H : Type 0} (stands : List ℕ → Setting → List Noted → H → Ty
       absurd (omega (arith, a', b', hi', none)))
 
   -- each birth at a place is a note, and so spent a turn
-  birth_spends : (p : ℕ) (e : Entry) → at_birth p e ≤ cond {A = ℕ} (is_at e) 1 0
+  birth_spends : (p : ℕ) (e : Entry) → at_birth p e ≤ cond {A = ℕ} (took_turn e) 1 0
   birth_spends p (At o k n) = by n.did
     where
       once : (b : Bool) → cond {A = ℕ} b 1 0 ≤ 1
       once true = omega arith
       once false = omega arith
 
-      by : (d : Did) → did_birth p d ≤ 1
+      by : (d : Did) → did_birth p d ≤ cond {A = ℕ} (is_turn o (passing d)) 1 0
       by (Birth q g) = once (eqb q.place p)
       by d = omega arith
   birth_spends p (Ref r d) = omega arith
@@ -181,9 +182,9 @@ module _ {H : Type 0} (stands : List ℕ → Setting → List Noted → H → Ty
       let nb = history_births s r p lt x after in
       let le : sum_by (weigh (at_birth p)) s.views ≤ sum_by spent s.views =
       sum_by-le-sum_by (weigh (at_birth p)) spent s.views
-      (λ v. let a : weigh (at_birth p) v ≤ sum_by (λ (q : Part). count_by is_at q.notes) (parts_of v) =
-      sum_by-le-sum_by (λ (q : Part). sum_by (at_birth p) q.notes) (λ (q : Part). count_by is_at q.notes)
-      (parts_of v) (λ q. sum_by-le-sum_by (at_birth p) (λ (e : Entry). cond {A = ℕ} (is_at e) 1 0)
+      (λ v. let a : weigh (at_birth p) v ≤ sum_by (λ (q : Part). count_by took_turn q.notes) (parts_of v) =
+      sum_by-le-sum_by (λ (q : Part). sum_by (at_birth p) q.notes) (λ (q : Part). count_by took_turn q.notes)
+      (parts_of v) (λ q. sum_by-le-sum_by (at_birth p) (λ (e : Entry). cond {A = ℕ} (took_turn e) 1 0)
       q.notes (birth_spends p)) in omega (arith, a)) in
       let b = r.budget in
       let bi : ℕ = sum_by (weigh (at_birth p)) s.views in let n : ℕ = x.generation in let y : ℕ =

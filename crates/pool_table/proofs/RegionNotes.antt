@@ -27,14 +27,14 @@ use Rattle.pool_table.specs.declared.views.Entry.TheVariants.{At, Ref, Busy}
 use Rattle.pool_table.specs.declared.views.Layout.{Layout}
 use Rattle.pool_table.specs.declared.views.Part.{Part}
 use Rattle.pool_table.specs.declared.views.SeatView.{SeatView}
-use Rattle.pool_table.specs.Views.{parts_of, face, noted_weight, noted_total}
+use Rattle.pool_table.specs.Views.{parts_of, object_view, noted_weight, noted_total}
 use Rattle.pool_table.specs.Counts.{weigh}
 use Rattle.pool_table.specs.Holders.{sum_to, region_at}
-use Rattle.pool_table.specs.Sound.{IsSound, IsView, Stands}
+use Rattle.pool_table.specs.Sound.{IsKnown, IsSound, IsView, Stands}
 use Rattle.pool_table.proofs.Partition.{sum_to_eq, sum_to_add, in_views, IsAmong}
 
 abbrev pub roots_from : Shape → ℕ
-roots_from s = s.arenas + s.lanes * 41 + s.lanes * s.lanes
+roots_from s = s.arenas + s.lanes * 41
 
 module _ (q : RegionId) where
   -- a note that moves nothing of the taking moves none of its uses
@@ -139,21 +139,21 @@ module _ {H : Type 0} (stands : List ℕ → Setting → List Noted → H → Ty
   object_notes s r o fits w among =
       let b : ℕ = home_of l.shape o in let a = in_views l.shape b 1 w s.views (all_among s r b 1 w among) in let k =
       (r.objects o fits).weights w in let z : b + 0 ≡ b = omega arith in
-      let one : sum_to 1 (λ i. noted_total w (map (face l.shape (b + i)) s.views))
-      ≡ noted_total w (map (face l.shape (b + 0)) s.views) = omega arith in
-      sym a ∙ (one ∙ (ap (λ (j : ℕ). noted_total w (map (face l.shape j) s.views)) z ∙ k))
+      let one : sum_to 1 (λ i. noted_total w (map (object_view l.shape (b + i)) s.views))
+      ≡ noted_total w (map (object_view l.shape (b + 0)) s.views) = omega arith in
+      sym a ∙ (one ∙ (ap (λ (j : ℕ). noted_total w (map (object_view l.shape j) s.views)) z ∙ k))
 
   -- notes of a row of objects, where each got what it gave and has
   pub row_notes : (s : St) (r : IsSound stands l s) (base n : ℕ) (w x : Noted → ℕ) (has : ℕ → ℕ) → Among base n w
       → Among base n x
-      → ((i : ℕ) → i < n → noted_total w (map (face l.shape (base + i)) s.views)
-      ≡ noted_total x (map (face l.shape (base + i)) s.views) + has i)
+      → ((i : ℕ) → i < n → noted_total w (map (object_view l.shape (base + i)) s.views)
+      ≡ noted_total x (map (object_view l.shape (base + i)) s.views) + has i)
       → sum_by (weigh (noted_weight w)) s.views ≡ sum_by (weigh (noted_weight x)) s.views + sum_to n has
   row_notes s r base n w x has aw ax each =
-      let f : ℕ → ℕ = λ i. noted_total x (map (face l.shape (base + i)) s.views) in
+      let f : ℕ → ℕ = λ i. noted_total x (map (object_view l.shape (base + i)) s.views) in
       let a = in_views l.shape base n w s.views (all_among s r base n w aw) in let b =
       in_views l.shape base n x s.views (all_among s r base n x ax) in
-      let c = sum_to_eq n (λ i. noted_total w (map (face l.shape (base + i)) s.views)) (λ i. f i + has i) each in
+      let c = sum_to_eq n (λ i. noted_total w (map (object_view l.shape (base + i)) s.views)) (λ i. f i + has i) each in
       let d = sum_to_add n f has in
       omega (arith, a, b, c, d)
 
@@ -179,7 +179,7 @@ module _ {H : Type 0} (stands : List ℕ → Setting → List Noted → H → Ty
   among_none q w none bound lane (At o k n) st = ⊎_elim
       (λ (z : arena_out (is_taking q) n.did + arena_in (is_taking q) n.did ≡ 0). inl (bound n z))
       (λ (e : o ≡ Arena q.place.arena). let fits : q.place.arena < l.shape.arenas =
-      subst (IsObjectOf l.shape) e st.object in absurd (none fits))
+      subst (IsKnown l.shape) e st.object in absurd (none fits))
       (st.in_place.regioned q).arena
   among_none q w none bound lane (Ref p d) st = inl refl
   among_none q w none bound lane (Busy b) st = inl refl
@@ -190,7 +190,7 @@ module _ {H : Type 0} (stands : List ℕ → Setting → List Noted → H → Ty
   among_caches q w bound lane (At o k n) st = ⊎_elim
       (λ (z : cache_out (is_taking q) n.did + cache_in (is_taking q) n.did ≡ 0). inl (bound n z))
       (λ (e : (d : ℕ) × (c : ℕ) × (o ≡ Cache d c)). let fits : IsObjectOf l.shape (Cache e.0 e.1) =
-      subst (IsObjectOf l.shape) e.2 st.object in let f0 = fits.0 in let f1 = fits.1 in
+      subst (IsKnown l.shape) e.2 st.object in let f0 = fits.0 in let f1 = fits.1 in
       inr (
         e.0 * 40 + e.1,
         (let g : e.0 * 40 + e.1 < l.shape.lanes * 40 = omega (arith, f0, f1) in g),
@@ -208,7 +208,7 @@ module _ {H : Type 0} (stands : List ℕ → Setting → List Noted → H → Ty
   among_places q w bound lane (At o k n) st = ⊎_elim
       (λ (z : place_out (is_taking q) n + place_in (is_taking q) n.did ≡ 0). inl (bound n z))
       (λ (e : (p : ℕ) × (o ≡ Root p)). let fits : IsObjectOf l.shape (Root e.0) =
-      subst (IsObjectOf l.shape) e.1 st.object in
+      subst (IsKnown l.shape) e.1 st.object in
       inr (e.0, fits, (λ i. ap (λ (x : Object). eqb (home_of l.shape x) i) e.1)))
       (st.in_place.regioned q).place
   among_places q w bound lane (Ref p d) st = inl refl
@@ -218,15 +218,15 @@ module _ {H : Type 0} (stands : List ℕ → Setting → List Noted → H → Ty
   abbrev pub CacheHas : St → ℕ → CacheState → Type 0
   CacheHas s i x =
       (w : RegionId → ℕ) → noted_total (λ (n : Noted). cache_in w n.did)
-      (map (face l.shape (l.shape.arenas + i)) s.views)
-      ≡ noted_total (λ (n : Noted). cache_out w n.did) (map (face l.shape (l.shape.arenas + i)) s.views)
+      (map (object_view l.shape (l.shape.arenas + i)) s.views)
+      ≡ noted_total (λ (n : Noted). cache_out w n.did) (map (object_view l.shape (l.shape.arenas + i)) s.views)
       + sum_by w x.regions
 
   abbrev pub PlaceHas : St → ℕ → RootPlace → Type 0
   PlaceHas s p x =
       (w : RegionId → ℕ) → noted_total (λ (n : Noted). place_in w n.did)
-      (map (face l.shape (roots_from l.shape + p)) s.views)
-      ≡ noted_total (place_out w) (map (face l.shape (roots_from l.shape + p)) s.views) + weight_or w
+      (map (object_view l.shape (roots_from l.shape + p)) s.views)
+      ≡ noted_total (place_out w) (map (object_view l.shape (roots_from l.shape + p)) s.views) + weight_or w
       (region_at x)
 
   pub cache_has : (s : St) (r : IsSound stands l s) (d c : ℕ) (fits : IsObjectOf l.shape (Cache d c)) (x : CacheState)
@@ -236,8 +236,8 @@ module _ {H : Type 0} (stands : List ℕ → Setting → List Noted → H → Ty
       ≡ l.shape.arenas + (d * 40 + c) = omega arith in
       let a = k.weights (λ (n : Noted). cache_in w n.did) in let b = k.weights (λ (n : Noted). cache_out w n.did) in
       let g = cache_law l.shape w d c k.history x k.accepted after in
-      subst (λ (j : ℕ). noted_total (λ (n : Noted). cache_in w n.did) (map (face l.shape j) s.views)
-      ≡ noted_total (λ (n : Noted). cache_out w n.did) (map (face l.shape j) s.views) + sum_by w x.regions) home
+      subst (λ (j : ℕ). noted_total (λ (n : Noted). cache_in w n.did) (map (object_view l.shape j) s.views)
+      ≡ noted_total (λ (n : Noted). cache_out w n.did) (map (object_view l.shape j) s.views) + sum_by w x.regions) home
       (omega (arith, a, b, g))
 
   pub place_has : (s : St) (r : IsSound stands l s) (p : ℕ) (fits : IsObjectOf l.shape (Root p)) (x : RootPlace)

@@ -32,12 +32,13 @@ use Rattle.pool_table.specs.declared.views.Entry.TheVariants.{At, Ref, Busy}
 use Rattle.pool_table.specs.declared.views.Layout.{Layout}
 use Rattle.pool_table.specs.declared.views.Part.{Part}
 use Rattle.pool_table.specs.declared.views.SeatView.{SeatView}
-use Rattle.pool_table.specs.Views.{parts_of, is_at, spent}
+use Rattle.pool_law.specs.Kinds.{passing}
+use Rattle.pool_table.specs.Views.{parts_of, is_turn, took_turn, spent}
 use Rattle.pool_table.specs.Counts.{weigh}
 use Rattle.pool_table.specs.Hands.{from_arena, to_place, HasTaking, HasRegion, IsLaidDown}
 use Rattle.pool_table.specs.Holders.{region_at}
 use Rattle.pool_table.specs.Learned.{did_take_up}
-use Rattle.pool_table.specs.Sound.{IsSound, Stands}
+use Rattle.pool_table.specs.Sound.{IsKnown, IsSound, Stands}
 use Rattle.pool_table.proofs.Partition.{sum_to_at, in_views, IsAmong}
 use Rattle.pool_table.proofs.RegionNotes.{all_among, object_notes, is_in_list, cache_has, place_has, Spread, cached, placed}
 use Rattle.pool_table.proofs.Regions.{arena_side, in_hand, some_side, some_spread, sums, in_no_hand}
@@ -95,7 +96,7 @@ module _ {H : Type 0} (stands : List ℕ → Setting → List Noted → H → Ty
           → IsAmong l.shape 0 0 (λ (n : Noted). arena_out (has_number a t) n.did) e
       away a t none (At o k n) lane st = ⊎_elim
           (λ (z : arena_out (has_number a t) n.did ≡ 0). inl z)
-          (λ (e : o ≡ Arena a). let fits : a < l.shape.arenas = subst (IsObjectOf l.shape) e st.object in
+          (λ (e : o ≡ Arena a). let fits : a < l.shape.arenas = subst (IsKnown l.shape) e st.object in
           absurd (none fits))
           (numbered_at a t o n st.in_place.regioned)
       away a t none (Ref p d) lane st = inl refl
@@ -116,10 +117,10 @@ module _ {H : Type 0} (stands : List ℕ → Setting → List Noted → H → Ty
       has).out_once in is_in_list q x.out (omega (arith, one)))) fits after
 
   -- no region in hand has more uses than there are notes
-  born_at : (q : RegionId) (e : Entry) → to_place (is_taking q) e ≤ cond {A = ℕ} (is_at e) 1 0
+  born_at : (q : RegionId) (e : Entry) → to_place (is_taking q) e ≤ cond {A = ℕ} (took_turn e) 1 0
   born_at q (At o k n) = by n.did
     where
-      by : (d : Did) → place_in (is_taking q) d ≤ 1
+      by : (d : Did) → place_in (is_taking q) d ≤ cond {A = ℕ} (is_turn o (passing d)) 1 0
       by (Birth root x) = at_most (same_taking q x)
       by d = omega arith
   born_at q (Ref p d) = omega arith
@@ -133,8 +134,8 @@ module _ {H : Type 0} (stands : List ℕ → Setting → List Noted → H → Ty
       let le : sum_by (weigh (to_place (is_taking q))) s.views ≤ sum_by spent s.views =
       sum_by-le-sum_by (weigh (to_place (is_taking q))) spent s.views (λ v.
       let a = sum_by-le-sum_by (λ (p : Part). sum_by (to_place (is_taking q)) p.notes)
-      (λ (p : Part). count_by is_at p.notes) (parts_of v)
-      (λ p. sum_by-le-sum_by (to_place (is_taking q)) (λ (e : Entry). cond {A = ℕ} (is_at e) 1 0) p.notes
+      (λ (p : Part). count_by took_turn p.notes) (parts_of v)
+      (λ p. sum_by-le-sum_by (to_place (is_taking q)) (λ (e : Entry). cond {A = ℕ} (took_turn e) 1 0) p.notes
       (born_at q)) in
       omega (arith, a)) in
       let b = r.budget in let m = r.room in let t : ℕ = l.shape.lanes * l.turns in let n : ℕ = sum_by spent s.views in

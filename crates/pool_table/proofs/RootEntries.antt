@@ -14,7 +14,7 @@ use Rattle.pool_law.specs.declared.note.RefDid.{RefDid}
 use Rattle.pool_law.specs.declared.note.Noted.{Noted}
 use Rattle.pool_law.specs.declared.note.Object.{Object}
 use Rattle.pool_law.specs.declared.note.Object.TheVariants.{Root}
-use Rattle.pool_law.specs.Homes.{home_of, IsObjectOf}
+use Rattle.pool_law.specs.Homes.{home_of}
 use Rattle.pool_law.specs.Same.{same_root}
 use Rattle.table_law.specs.NoteCounts.{is_root, view_weight, view_of_root, did_birth, did_birth_of, did_birth_as, did_end, did_fetch, did_post, did_fetch_of, did_post_of, did_end_of}
 use Rattle.table_law.proofs.Names.{same_root-or, same_root-refl}
@@ -25,7 +25,7 @@ use Rattle.pool_table.specs.declared.views.Part.{Part}
 use Rattle.pool_table.specs.Counts.{on_root, on_this, at_gain, at_loss, fetches, posts}
 use Rattle.pool_table.specs.Hands.{at_birth_of, at_birth_as, at_end, ends}
 use Rattle.pool_table.specs.Births.{carried, root_named}
-use Rattle.pool_table.specs.Sound.{Stands}
+use Rattle.pool_table.specs.Sound.{IsKnown, Stands}
 use Rattle.pool_table.proofs.Partition.{IsAmong}
 
 -- ---- One entry.
@@ -231,7 +231,7 @@ pub none_among : (s : Shape) (p g c : ℕ) → (p < s.lanes * s.handles → ⊥)
     → IsAmong s 0 0 (λ (n : Noted). did_birth_as p g c n.did) e
 none_among s p g c none (lane) (At o k n) t = ⊎_elim
     (λ (z : (did_birth p n.did ≡ 0) × ((g : ℕ) → did_end p g n.did ≡ 0)). inl (as_birth p g c n.did z.0))
-    (λ (e : o ≡ Root p). let fits : p < s.lanes * s.handles = subst (IsObjectOf s) e t.object in absurd (none fits))
+    (λ (e : o ≡ Root p). let fits : p < s.lanes * s.handles = subst (IsKnown s) e t.object in absurd (none fits))
     (t.in_place.rooted p)
 none_among s p g c none lane (Ref r d) t = inl refl
 none_among s p g c none lane (Busy b) t = inl refl

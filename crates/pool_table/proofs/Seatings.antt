@@ -17,7 +17,7 @@ use Rattle.pool_table.specs.Slots.{slot_of}
 use Rattle.pool_table.specs.declared.views.Layout.{Layout}
 use Rattle.pool_table.specs.declared.views.Part.{Part}
 use Rattle.pool_table.specs.declared.views.SeatView.{SeatView}
-use Rattle.pool_table.specs.Views.{Face, parts_of, is_at, is_lane, face, strand, inside_at, is_in, in_face, noted_weight, noted_in, numbered, spent, empty_part, one_if}
+use Rattle.pool_table.specs.Views.{ObjectView, parts_of, took_turn, is_lane, object_view, object_part, inside_at, is_in, in_object_view, noted_weight, noted_in, numbered, spent, empty_part, one_if}
 use Rattle.pool_table.specs.Counts.{weigh, on_root, on_place, on_any, reached, returned, ref_kept, ref_retain}
 use Rattle.pool_table.proofs.Weights.{counted_none, settled_none, handy_none, orderly_none, orderly_parts, enters_none}
 use Rattle.pool_table.proofs.Counts.{other_kept}
@@ -25,6 +25,8 @@ use Rattle.pool_table.proofs.Looks.{looks_regroup}
 use Rattle.pool_table.proofs.Order.{order_regroups}
 use Rattle.pool_table.proofs.Sequence.{one_regroups}
 use Rattle.pool_table.proofs.Births.{born_regroups}
+use Rattle.pool_table.specs.declared.views.Letter.{Letter}
+use Rattle.pool_table.proofs.Mails.{lying, mailed_regroups}
 use Rattle.pool_table.specs.Sound.{IsKept, IsSound, IsView, Stands, OnceBelow}
 use Rattle.pool_table.specs.Steps.{blank_beside, share_left, share_of}
 use Rattle.pool_table.proofs.Objects.{split_kept}
@@ -41,9 +43,10 @@ module _ {H : Type 0} (stands : List ℕ → Setting → List Noted → H → Ty
       → ((P : Part → Type 0) → P (empty_part None) → All P (parts_of v)
       → All P (parts_of left) × All P (parts_of right))
       → left.turns + right.turns ≡ v.turns → left.moves + right.moves ≡ v.moves
+      → ((f : Letter → ℕ) → lying f left + lying f right ≡ lying f v)
       → (IsView l.shape r.setting v → IsView l.shape r.setting left × IsView l.shape r.setting right)
       → IsSound stands l (record { words = s.words; homes = s.homes; views = set s.views id left ++ right ∷ [] })
-  cut_in_two s r id v left right at vo lo ro adds shares turns moves fine =
+  cut_in_two s r id v left right at vo lo ro adds shares turns moves letters fine =
       let both = fine (each_at (IsView l.shape r.setting) s.views id v r.views at) in
       let same : (f : SeatView → ℕ) → f left + f right ≡ f v
       → sum_by f (set s.views id left ++ right ∷ []) ≡ sum_by f s.views = (λ f e.
@@ -52,7 +55,7 @@ module _ {H : Type 0} (stands : List ℕ → Setting → List Noted → H → Ty
       let b : sum_by f (set s.views id left) + f v ≡ sum_by f s.views + f left = sum_set f s.views id v left at in
       omega (arith, a, b, e)) in
       let out : (j : ℕ) (u : SeatView) → u.inside ≡ None
-      → is_in (face l.shape j u) ≡ 0 = (λ j u e. ap (λ y. one_if (inside_at l.shape j y)) e) in
+      → is_in (object_view l.shape j u) ≡ 0 = (λ j u e. ap (λ y. one_if (inside_at l.shape j y)) e) in
       let regrouped : (P : Part → Type 0) → P (empty_part None) → All (λ (u : SeatView). All P (parts_of u)) s.views
       → All (λ (u : SeatView). All P (parts_of u)) (set s.views id left ++ right ∷ []) = (λ P empty all.
       let got = shares P empty (each_at (λ (u : SeatView). All P (parts_of u)) s.views id v all at) in
@@ -74,37 +77,40 @@ module _ {H : Type 0} (stands : List ℕ → Setting → List Noted → H → Ty
             λ m. subst (OnceBelow l.shape.lanes m)
             (sym (same (numbered m) (adds (λ (p : Part). cond {A = ℕ} (is_lane m p.number) 1 0) refl))) (r.lanes m);
         objects = λ o fits. let j : ℕ = home_of l.shape o in
-            subst (λ (x : List Face). IsKept stands l.shape r.setting o x (slice_index s.words (word_of l.shape o))
+            subst (λ (x : List ObjectView). IsKept stands l.shape r.setting o x
+            (slice_index s.words (word_of l.shape o))
             (get_elem? s.homes (slot_of l.shape o)))
-            (sym (map_push (face l.shape j) (set s.views id left) right
-            ∙ ap (λ (x : List Face). x ++ face l.shape j right ∷ []) (map-set (face l.shape j) s.views id left)))
-            (split_kept stands l.shape r.setting o (map (face l.shape j) s.views)
-            (slice_index s.words (word_of l.shape o)) (get_elem? s.homes (slot_of l.shape o)) id (face l.shape j v)
-            (face l.shape j left) (face l.shape j right) (r.objects o fits)
-            (at_map (face l.shape j) s.views id v at)
+            (sym (map_push (object_view l.shape j) (set s.views id left) right
+            ∙ ap (λ (x : List ObjectView). x ++ object_view l.shape j right ∷ [])
+            (map-set (object_view l.shape j) s.views id left)))
+            (split_kept stands l.shape r.setting o (map (object_view l.shape j) s.views)
+            (slice_index s.words (word_of l.shape o)) (get_elem? s.homes (slot_of l.shape o)) id
+            (object_view l.shape j v)
+            (object_view l.shape j left) (object_view l.shape j right) (r.objects o fits)
+            (at_map (object_view l.shape j) s.views id v at)
             (out j v vo) (out j left lo) (out j right ro)
-            (λ test. let g : Part → ℕ = λ (p : Part). count_by test (strand l.shape j p).notes in
+            (λ test. let g : Part → ℕ = λ (p : Part). count_by test (object_part l.shape j p).notes in
             let q : Part → ℕ = λ (p : Part). count_by test p.notes in
-            let a : in_face test (face l.shape j left)
-            ≡ sum_by g (parts_of left) = sum_mapped q (strand l.shape j) (parts_of left) in
-            let b : in_face test (face l.shape j right)
-            ≡ sum_by g (parts_of right) = sum_mapped q (strand l.shape j) (parts_of right) in
-            let c : in_face test (face l.shape j v)
-            ≡ sum_by g (parts_of v) = sum_mapped q (strand l.shape j) (parts_of v) in let d = adds g refl in
+            let a : in_object_view test (object_view l.shape j left)
+            ≡ sum_by g (parts_of left) = sum_mapped q (object_part l.shape j) (parts_of left) in
+            let b : in_object_view test (object_view l.shape j right)
+            ≡ sum_by g (parts_of right) = sum_mapped q (object_part l.shape j) (parts_of right) in
+            let c : in_object_view test (object_view l.shape j v)
+            ≡ sum_by g (parts_of v) = sum_mapped q (object_part l.shape j) (parts_of v) in let d = adds g refl in
             omega (arith, a, b, c, d))
-            (λ f. let g : Part → ℕ = λ (p : Part). sum_by (noted_weight f) (strand l.shape j p).notes in
+            (λ f. let g : Part → ℕ = λ (p : Part). sum_by (noted_weight f) (object_part l.shape j p).notes in
             let q : Part → ℕ = λ (p : Part). sum_by (noted_weight f) p.notes in
-            let a : noted_in f (face l.shape j left)
-            ≡ sum_by g (parts_of left) = sum_mapped q (strand l.shape j) (parts_of left) in
-            let b : noted_in f (face l.shape j right)
-            ≡ sum_by g (parts_of right) = sum_mapped q (strand l.shape j) (parts_of right) in
-            let c : noted_in f (face l.shape j v) ≡ sum_by g (parts_of v) =
-            sum_mapped q (strand l.shape j) (parts_of v) in let d = adds g refl in
+            let a : noted_in f (object_view l.shape j left)
+            ≡ sum_by g (parts_of left) = sum_mapped q (object_part l.shape j) (parts_of left) in
+            let b : noted_in f (object_view l.shape j right)
+            ≡ sum_by g (parts_of right) = sum_mapped q (object_part l.shape j) (parts_of right) in
+            let c : noted_in f (object_view l.shape j v) ≡ sum_by g (parts_of v) =
+            sum_mapped q (object_part l.shape j) (parts_of v) in let d = adds g refl in
             omega (arith, a, b, c, d))
-            (λ P e all. let got = shares (λ (p : Part). P (strand l.shape j p)) e
-            (each_unmapped P (strand l.shape j) (parts_of v) all) in (
-              All-map P (strand l.shape j) (parts_of left) got.0,
-              All-map P (strand l.shape j) (parts_of right)
+            (λ P e all. let got = shares (λ (p : Part). P (object_part l.shape j p)) e
+            (each_unmapped P (object_part l.shape j) (parts_of v) all) in (
+              All-map P (object_part l.shape j) (parts_of left) got.0,
+              All-map P (object_part l.shape j) (parts_of right)
                   got.1,
             )));
         born =
@@ -118,10 +124,15 @@ module _ {H : Type 0} (stands : List ℕ → Setting → List Noted → H → Ty
         one_order =
             one_regroups l.shape s.views (set s.views id left ++ right ∷ [])
             (λ f. same (weigh f) (adds (λ (q : Part). sum_by f q.notes) refl)) regrouped r.one_order;
+        mailed =
+            mailed_regroups s.views (set s.views id left ++ right ∷ [])
+            (λ f. same (weigh f) (adds (λ (q : Part). sum_by f q.notes) refl))
+            (λ f. same (lying f) (letters f)) regrouped
+            r.mailed;
         room = r.room;
         budget =
             subst (λ (x : ℕ). x ≤ l.shape.lanes * l.turns)
-            (sym (same spent (let a = adds (λ (p : Part). count_by is_at p.notes) refl in omega (arith, a, turns))))
+            (sym (same spent (let a = adds (λ (p : Part). count_by took_turn p.notes) refl in omega (arith, a, turns))))
             r.budget;
         few = r.few;
         moved =
@@ -148,6 +159,7 @@ module _ {H : Type 0} (stands : List ℕ → Setting → List Noted → H → Ty
       (λ P e all. (all, All-cons P (empty_part None) [] e (All-nil P)))
       (let t : ℕ = v.turns in let g : t + 0 ≡ t = omega arith in g)
       (let t : ℕ = v.moves in let g : t + 0 ≡ t = omega arith in g)
+      (λ f. omega arith)
       (λ fine. (
         fine,
         record {
@@ -189,6 +201,7 @@ module _ {H : Type 0} (stands : List ℕ → Setting → List Noted → H → Ty
       (λ P e all. (all, All-cons P (empty_part None) [] e (All-nil P)))
       (let t : ℕ = v.turns in let g : t + 0 ≡ t = omega arith in g)
       (let t : ℕ = v.moves in let le' : n ≤ t = le in let g : (t - n) + n ≡ t = omega (arith, le') in g)
+      (λ f. omega arith)
       (λ fine. (
         record {
           beside = fine.beside;

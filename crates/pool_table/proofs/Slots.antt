@@ -12,7 +12,7 @@ use Rattle.pool_law.specs.declared.run.Shape.{Shape}
 use Rattle.pool_law.specs.declared.note.Object.{Object}
 use Rattle.pool_law.specs.declared.note.Object.TheVariants.{Arena, Cache, Bin, Mail, Root}
 use Rattle.pool_law.specs.Homes.{home_of, objects_of, IsObjectOf}
-use Rattle.table_law.proofs.Apart.{home_within, in_square}
+use Rattle.table_law.proofs.Apart.{home_within}
 use Rattle.pool_table.specs.Words.{single_of}
 use Rattle.pool_table.specs.Slots.{slot_at, slots_of, slot_of, gap_of, laid_out, IsEmptyBetween}
 
@@ -32,19 +32,14 @@ slot_packed s i le =
 -- all objects but root places come first
 pub single_home : (s : Shape) (o : Object) → IsObjectOf s o → ((p : ℕ) → o ≡ Root p → ⊥) → home_of s o < single_of s
 single_home s (Arena a) f no_root =
-    let x : ℕ = s.lanes * s.lanes in let g : a < s.arenas + s.lanes * 41 + x = omega (arith, f) in g
+    let g : a < s.arenas + s.lanes * 41 = omega (arith, f) in g
 single_home s (Cache lane class) f no_root =
-    let x : ℕ = s.lanes * s.lanes in let p = f.0 in let q = f.1 in
-    let g : s.arenas + lane * 40 + class < s.arenas + s.lanes * 41 + x = omega (arith, p, q) in
+    let p = f.0 in let q = f.1 in let g : s.arenas + lane * 40 + class < s.arenas + s.lanes * 41 =
+    omega (arith, p, q) in
     g
 single_home s (Bin lane) f no_root =
-    let x : ℕ = s.lanes * s.lanes in let g : s.arenas + s.lanes * 40 + lane < s.arenas + s.lanes * 41 + x =
-    omega (arith, f) in
-    g
-single_home s (Mail f t) h no_root =
-    let x : ℕ = s.lanes * s.lanes in let z : ℕ = f * s.lanes + t in let k : z < x = in_square s.lanes f t h.0 h.1 in
-    let g : s.arenas + s.lanes * 41 + z < s.arenas + s.lanes * 41 + x = omega (arith, k) in
-    g
+    let g : s.arenas + s.lanes * 40 + lane < s.arenas + s.lanes * 41 = omega (arith, f) in g
+single_home s (Mail f t) h no_root = absurd h
 single_home s (Root p) f no_root = absurd (no_root p refl)
 
 pub first_slot : (s : Shape) → slot_at s 0 ≡ 0

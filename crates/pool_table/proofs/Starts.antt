@@ -16,7 +16,7 @@ use Rattle.pool_table.specs.declared.views.Layout.{Layout}
 use Rattle.pool_table.specs.declared.views.SeatView.{SeatView}
 use Rattle.pool_table.specs.Sound.{IsSound, IsShape}
 use Rattle.pool_table.specs.Steps.{first_view, rest_view, lane_view, first_lane, rest_of_lanes}
-use Rattle.pool_table.proofs.Openings.{cuts_allowed, cut_first, cut_rest, opens}
+use Rattle.pool_table.proofs.OpeningSeats.{cuts_allowed, cut_first, cut_rest, opens}
 
 module _ {H : Type 0} (stands : List ℕ → Setting → List Noted → H → Type 0) (l : Layout) where
   pub cuts_as : (key : Layout) (id i n : ℕ) (g : Setting) (v : SeatView) → key ≡ l → 0 < n → v ≡ rest_view l i n g

@@ -15,7 +15,7 @@ use Rattle.pool_law.specs.declared.note.Object.TheVariants.{Arena, Cache, Bin, M
 use Rattle.pool_table.specs.declared.views.Entry.{Entry}
 use Rattle.pool_table.specs.declared.views.Entry.TheVariants.{At, Ref, Busy}
 use Rattle.pool_table.specs.declared.views.Part.{Part}
-use Rattle.pool_table.specs.Views.{Face, is_numbered, noted_of, is_lane, in_face, total, noted_weight, empty_part}
+use Rattle.pool_table.specs.Views.{ObjectView, is_numbered, noted_of, is_lane, in_object_view, total, noted_weight, empty_part}
 use Rattle.pool_table.specs.Sound.{Before, Tells, IsTold, IsMarked, WasPresent}
 
 -- what was present once was present then, whatever notes come later
@@ -206,15 +206,16 @@ module _ (o : Object) where
       (All-weaker (Tells o h limit p.number) (λ (e : Entry). cond {A = ℕ} (is_numbered (length h + 1) e) 1 0 ≡ 0)
       (beyond h limit p.number) p.notes t.told)
 
-  pub beyond_all : (h : List Noted) (limit : Face → ℕ) (faces : List Face)
-      → All (λ (f : Face). All (IsTold o h (limit f)) f.parts) faces → total (is_numbered (length h + 1)) faces ≡ 0
-  beyond_all h limit faces all =
-      sum_none (in_face (is_numbered (length h + 1))) faces
-      (All-weaker (λ (f : Face). All (IsTold o h (limit f)) f.parts)
-      (λ (f : Face). in_face (is_numbered (length h + 1)) f ≡ 0)
+  pub beyond_all : (h : List Noted) (limit : ObjectView → ℕ) (object_views : List ObjectView)
+      → All (λ (f : ObjectView). All (IsTold o h (limit f)) f.parts) object_views
+      → total (is_numbered (length h + 1)) object_views ≡ 0
+  beyond_all h limit object_views all =
+      sum_none (in_object_view (is_numbered (length h + 1))) object_views
+      (All-weaker (λ (f : ObjectView). All (IsTold o h (limit f)) f.parts)
+      (λ (f : ObjectView). in_object_view (is_numbered (length h + 1)) f ≡ 0)
       (λ f t. sum_none (λ (p : Part). count_by (is_numbered (length h + 1)) p.notes) f.parts
       (All-weaker (IsTold o h (limit f)) (λ (p : Part). count_by (is_numbered (length h + 1)) p.notes ≡ 0)
-      (beyond_part h (limit f)) f.parts t)) faces all)
+      (beyond_part h (limit f)) f.parts t)) object_views all)
 
   -- where no mark may be the history's length, each is below it
   tells_calm : (h : List Noted) (limit limit' : ℕ) → ((n : ℕ) → IsMarked o → WasPresent o h n → n ≢ length h)
@@ -255,21 +256,22 @@ module _ (o : Object) where
       (λ m e. lane_apart m nd.lane (get_or ps k d).number (λ l. apart m l k d lt) e) (all k d lt)
 
   -- a note with the next number, and then each number stands once
-  pub each_once : (h : List Noted) (faces : List Face)
-      → ((k : ℕ) → k < length h → total (is_numbered (k + 1)) faces ≡ 1) → total (is_numbered (length h + 1)) faces ≡ 0
+  pub each_once : (h : List Noted) (object_views : List ObjectView)
+      → ((k : ℕ) → k < length h → total (is_numbered (k + 1)) object_views ≡ 1)
+      → total (is_numbered (length h + 1)) object_views ≡ 0
       → (q : Object) (nd : Noted) (j : ℕ) → j < length h + 1
-      → total (is_numbered (j + 1)) faces + cond {A = ℕ} (is_numbered (j + 1) (At q (length h + 1) nd)) 1 0 ≡ 1
-  each_once h faces once fresh q nd j lt = ⊎_elim
+      → total (is_numbered (j + 1)) object_views + cond {A = ℕ} (is_numbered (j + 1) (At q (length h + 1) nd)) 1 0 ≡ 1
+  each_once h object_views once fresh q nd j lt = ⊎_elim
       (λ (t : (eqb (length h + 1) (j + 1) ≡ true) × (length h + 1 ≡ j + 1)).
       let l : ℕ = length h in let e : l + 1 ≡ j + 1 = t.1 in let same : l ≡ j = omega (arith, e) in
-      let z : total (is_numbered (j + 1)) faces ≡ 0 =
-      subst (λ (k : ℕ). total (is_numbered (k + 1)) faces ≡ 0) same fresh in
+      let z : total (is_numbered (j + 1)) object_views ≡ 0 =
+      subst (λ (k : ℕ). total (is_numbered (k + 1)) object_views ≡ 0) same fresh in
       let c : cond {A = ℕ} (eqb (length h + 1) (j + 1)) 1 0 ≡ 1 = ap (λ (b : Bool). cond {A = ℕ} b 1 0) t.0 in
       omega (arith, z, c))
       (λ (t : (eqb (length h + 1) (j + 1) ≡ false) × (length h + 1 ≢ j + 1)).
       let l : ℕ = length h in let ne : l + 1 ≢ j + 1 = t.1 in let lt' : j < l + 1 = lt in let below : j < l =
       omega (arith, ne, lt') in
-      let z : total (is_numbered (j + 1)) faces ≡ 1 = once j below in
+      let z : total (is_numbered (j + 1)) object_views ≡ 1 = once j below in
       let c : cond {A = ℕ} (eqb (length h + 1) (j + 1)) 1 0 ≡ 0 = ap (λ (b : Bool). cond {A = ℕ} b 1 0) t.0 in
       omega (arith, z, c))
       (eqb_tells (length h + 1) (j + 1))

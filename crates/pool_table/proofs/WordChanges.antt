@@ -1,4 +1,4 @@
--- A step on the word of a count changes no other word, and no face.
+-- A step on the word of a count changes no other word, and no object view.
 use Rattle.step_law.specs.Settings.{Setting}
 use Rattle.std.proofs.Common.{◌≡◌, ◌≢◌, ℕ, ◌+◌, ◌*◌, ◌<◌, ◌≤◌, List, ◌∷◌, map, length, set, Bool, true, false, cond, sym, refl, ap, ◌∙◌, subst, inl, inr, arith, length-set, get_or-set_same, get_or-set_other, lt_of_not-le, ◌++◌, []}
 use Rattle.std.specs.Prelude.{Option, None, All, sum_by, count_by, slice_index}
@@ -17,13 +17,14 @@ use Rattle.pool_law.specs.declared.note.RefDid.TheVariants.{Look}
 use Rattle.pool_law.specs.Homes.{home_of}
 use Rattle.pool_table.specs.Slots.{slot_of}
 use Rattle.pool_table.specs.Words.{word_of, count_word_of}
+use Rattle.pool_table.proofs.Mails.{mailed_entry}
 use Rattle.pool_table.proofs.Words.{count_word, count_once, object_no_count}
 use Rattle.pool_table.specs.declared.views.Entry.{Entry}
 use Rattle.pool_table.specs.declared.views.Entry.TheVariants.{At, Ref, Busy}
 use Rattle.pool_table.specs.declared.views.Layout.{Layout}
 use Rattle.pool_table.specs.declared.views.Part.{Part}
 use Rattle.pool_table.specs.declared.views.SeatView.{SeatView}
-use Rattle.pool_table.specs.Views.{Face, parts_of, is_at, is_lane, face, strand, inside_at, numbered, spent}
+use Rattle.pool_table.specs.Views.{ObjectView, parts_of, took_turn, is_lane, object_view, object_part, inside_at, numbered, spent}
 use Rattle.pool_table.specs.Counts.{IsCounted, on_root, ref_gain, ref_loss, ref_ended, ref_vacated, ref_born, on_place, weigh, tally, at_gain, at_loss, on_any, gained, lost, reached, returned, ref_kept, with_ref, ref_retain}
 use Rattle.pool_table.specs.Hands.{taken, put_down, IsOrderly}
 use Rattle.table_law.specs.NoteCounts.{is_root}
@@ -39,7 +40,7 @@ use Rattle.pool_table.specs.Sound.{IsKept, IsSound, IsView, Stands, OnceBelow}
 use Rattle.pool_table.proofs.AtPlace.{CountsAt}
 use Rattle.pool_table.proofs.Counts.{weigh_ref, sums_ref, other_place, place_elsewhere, other_kept}
 use Rattle.pool_table.proofs.Weights.{weigh_none, strict_sum, enters_none}
-use Rattle.pool_table.proofs.Tables.{strand_skips, alone_among}
+use Rattle.pool_table.proofs.Tables.{object_part_skips, alone_among}
 use Rattle.pool_table.proofs.Transit.{transit}
 use Rattle.pool_table.proofs.Beyond.{few_counts}
 
@@ -90,11 +91,15 @@ module _ {H : Type 0} (stands : List ℕ → Setting → List Noted → H → Ty
       let b' : t < 1073741824 = b in
       omega (arith, a', b')
 
-  face_ref : (j : ℕ) (v : SeatView) (r : RootId) (d : RefDid) (m : ℕ)
-      → face l.shape j (with_ref v r d m) ≡ face l.shape j v
-  face_ref j v r d m =
-      ap (λ (p : Part). record { parts = p ∷ map (strand l.shape j) v.others; inside = inside_at l.shape j v.inside })
-      (strand_skips stands l j v.own (Ref r d) refl)
+  object_view_ref : (j : ℕ) (v : SeatView) (r : RootId) (d : RefDid) (m : ℕ)
+      → object_view l.shape j (with_ref v r d m) ≡ object_view l.shape j v
+  object_view_ref j v r d m =
+      ap (λ (p : Part). record {
+        parts = p ∷ map (object_part l.shape j) v.others;
+        inside =
+            inside_at l.shape j v.inside;
+      })
+      (object_part_skips stands l j v.own (Ref r d) refl)
 
   -- the word of a root place and one view change
   pub ref_changes : (s : St) (r : IsSound stands l s) (id p n m : ℕ) (v : SeatView) (root : RootId) (d : RefDid)
@@ -122,9 +127,9 @@ module _ {H : Type 0} (stands : List ℕ → Setting → List Noted → H → Ty
       let light : (f : Entry → ℕ) → f (Ref root d) ≡ 0
       → sum_by (weigh f) (set s.views id w) ≡ sum_by (weigh f) s.views =
       (λ f e. let a = sums_ref f s.views id v root d m at in omega (arith, a, e)) in
-      let made : count_by is_at w.own.notes ≡ count_by is_at v.own.notes =
-      (let a = sum_by_push (λ (x : Entry). cond {A = ℕ} (is_at x) 1 0) v.own.notes (Ref root d) in
-      let b : cond {A = ℕ} (is_at (Ref root d)) 1 0 ≡ 0 = refl in omega (arith, a, b)) in
+      let made : count_by took_turn w.own.notes ≡ count_by took_turn v.own.notes =
+      (let a = sum_by_push (λ (x : Entry). cond {A = ℕ} (took_turn x) 1 0) v.own.notes (Ref root d) in
+      let b : cond {A = ℕ} (took_turn (Ref root d)) 1 0 ≡ 0 = refl in omega (arith, a, b)) in
       record {
         setting = r.setting;
         words = length-set s.words d' n ∙ r.words;
@@ -159,10 +164,10 @@ module _ {H : Type 0} (stands : List ℕ → Setting → List Noted → H → Ty
             sum_by-cons (λ (x : Part). cond {A = ℕ} (is_lane k x.number) 1 0) v.own v.others in
             omega (arith, a, b)))) (r.lanes k);
         objects = λ o fits. let i : ℕ = home_of l.shape o in
-            subst (λ (y : List Face × ℕ). IsKept stands l.shape r.setting o y.0 y.1
+            subst (λ (y : List ObjectView × ℕ). IsKept stands l.shape r.setting o y.0 y.1
             (get_elem? s.homes (slot_of l.shape o)))
             (λ x. (
-              sym (map_same (face l.shape i) s.views id v w at (face_ref i v root d m)) x,
+              sym (map_same (object_view l.shape i) s.views id v w at (object_view_ref i v root d m)) x,
               sym
                   (get_or-set_other s.words d' (word_of l.shape o) n 0 (object_no_count l.shape o p fits lt)) x,
             ))
@@ -179,12 +184,13 @@ module _ {H : Type 0} (stands : List ℕ → Setting → List Noted → H → Ty
             order_entry s.views id v w (Ref root d) at refl (newest (Ref root d) (counts_below root d) s.views) r.order;
         one_order =
             one_more l.shape s.views id v w (Ref root d) at refl (alone_among stands l s r id v at) r.one_order fit;
+        mailed = mailed_entry s.views id v w (Ref root d) at refl refl refl refl r.mailed;
         room = r.room;
         budget =
             subst (λ (x : ℕ). x ≤ l.shape.lanes * l.turns)
             (sym (sum_same spent s.views id v w at
-            (let a = sum_by-cons (λ (x : Part). count_by is_at x.notes) w.own v.others in let b =
-            sum_by-cons (λ (x : Part). count_by is_at x.notes) v.own v.others in
+            (let a = sum_by-cons (λ (x : Part). count_by took_turn x.notes) w.own v.others in let b =
+            sum_by-cons (λ (x : Part). count_by took_turn x.notes) v.own v.others in
             omega (arith, a, b, made)))) r.budget;
         few = r.few;
         moved =

@@ -143,8 +143,8 @@ object_no_count s o p f lt e =
 -- there is a first word
 pub some_word : (s : Shape) (words : ℕ) → 0 < s.lanes → words ≡ words_of s → 0 < words
 some_word s words lt are =
-    let x : ℕ = s.lanes * s.lanes in let y : ℕ = s.lanes * s.handles in
-    let g : 0 < s.arenas + s.lanes * 41 + x + y + y = omega (arith, lt) in
+    let y : ℕ = s.lanes * s.handles in
+    let g : 0 < s.arenas + s.lanes * 41 + y + y = omega (arith, lt) in
     let a : word_at s 0 < words_of s = word_there s 0 g in let n : ℕ = words_of s in let m : ℕ = word_at s 0 in
     let a' : m < n = a in let are' : words ≡ n = are in
     omega (arith, a', are')

@@ -17,9 +17,10 @@ use Rattle.table_law.specs.Histories.{IsHistory}
 use Rattle.table_law.specs.Measures.{measures_of}
 use Rattle.pool_table.specs.declared.views.Layout.{Layout}
 use Rattle.pool_table.specs.declared.views.SeatView.{SeatView}
-use Rattle.pool_table.specs.Views.{is_at, is_numbered, face, in_face, numbered}
+use Rattle.pool_table.specs.Views.{is_at, is_numbered, object_view, in_object_view, numbered}
 use Rattle.pool_table.specs.Counts.{IsCounted}
 use Rattle.pool_table.specs.Births.{IsBorn, AreBorn}
+use Rattle.pool_table.specs.Letters.{LettersKept}
 use Rattle.pool_table.specs.Looks.{AreLooksRight}
 use Rattle.pool_table.specs.Order.{AreInOrder}
 use Rattle.pool_table.specs.Sequence.{AreInOneOrder}
@@ -37,10 +38,10 @@ pub record IsWhole {H : Type 0}
   pub history : List Noted
   pub accepted : IsHistory shape o history
   pub word_is : word ≡ 2 * length history
-  pub told : All (IsTold o history (length history)) (face shape (home_of shape o) v).parts
+  pub told : All (IsTold o history (length history)) (object_view shape (home_of shape o) v).parts
   pub once : (k : ℕ) → k < length history →
-      in_face (is_numbered (k + 1)) (face shape (home_of shape o) v) ≡ 1
-  pub as_many : in_face is_at (face shape (home_of shape o) v) ≡ length history
+      in_object_view (is_numbered (k + 1)) (object_view shape (home_of shape o) v) ≡ 1
+  pub as_many : in_object_view is_at (object_view shape (home_of shape o) v) ≡ length history
   pub home_is :
       (x : H) × (get_elem? homes (home_of shape o) ≡ some (Some x))
       × IfSome v.setting (λ (g : Setting). stands (measures_of shape o) g history x)
@@ -77,3 +78,6 @@ pub record IsClosed {H : Type 0}
   pub order : AreInOrder (v ∷ [])
   -- all steps stand in one order, in which each fits those before it
   pub one_order : AreInOneOrder l.shape (v ∷ [])
+  -- each letter that was sent was received, or lies unfetched in a view
+  pub holders : List SeatView
+  pub mailed : LettersKept (v ∷ []) holders

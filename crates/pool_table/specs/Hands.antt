@@ -7,7 +7,7 @@ use Rattle.pool_law.specs.declared.note.Did.{Did}
 use Rattle.pool_law.specs.declared.note.Did.TheVariants.{Give, Kept, Home, Post, Birth, End}
 use Rattle.pool_law.specs.declared.note.Noted.{Noted}
 use Rattle.pool_law.specs.declared.note.Object.{Object}
-use Rattle.pool_law.specs.declared.note.Object.TheVariants.{Mail, Root}
+use Rattle.pool_law.specs.declared.note.Object.TheVariants.{Root}
 use Rattle.table_law.specs.NoteCounts.{did_handle, did_home, did_birth, did_birth_of, did_birth_as, did_end, did_end_of, is_taking, uses_in, arena_out, arena_in, cache_out, cache_in, place_out, place_in}
 use Rattle.pool_table.specs.declared.views.Entry.{Entry}
 use Rattle.pool_table.specs.declared.views.SeatView.{SeatView}
@@ -161,9 +161,8 @@ pub record IsOrderly (v : SeatView) : Type 0 where
   -- no taking is laid down that isn't in hand
   pub held : (q : RegionId) → IsHeldRight q v
 
--- its section may end with no note: that of a mail, or of a root place in hand where no birth waits
+-- its section may end with no note: that of a root place in hand where no birth waits
 abbrev pub MayLeave : SeatView → Object → Type 0
-MayLeave v (Mail f t) = ⊤
 MayLeave v (Root p) = InHand p v × NoneWaits p v
 MayLeave v o = ⊥
 

@@ -1,14 +1,13 @@
 -- What a seat learns where it gets into a section.
 use Rattle.step_law.specs.Settings.{Setting}
 use Rattle.std.specs.Prelude.{◌≡◌, ℕ, ◌+◌, ◌*◌, ◌<◌, ◌≤◌, ◌==◌, ◌&&◌, true, List, [], ◌∷◌, ◌++◌, length, Some, None, IfSome, All, filter, filter_map, count_by, sum_by}
-use Rattle.pool_law.specs.declared.id.Parcel.{Parcel}
 use Rattle.pool_law.specs.declared.id.RegionId.{RegionId}
 use Rattle.pool_law.specs.declared.id.RootId.{RootId}
 use Rattle.pool_law.specs.declared.note.Did.{Did}
-use Rattle.pool_law.specs.declared.note.Did.TheVariants.{Take, Give, Fetch}
+use Rattle.pool_law.specs.declared.note.Did.TheVariants.{Take, Give}
 use Rattle.pool_law.specs.declared.note.Noted.{Noted}
 use Rattle.pool_law.specs.declared.note.Object.{Object}
-use Rattle.pool_law.specs.declared.note.Object.TheVariants.{Arena, Cache, Bin, Mail, Root}
+use Rattle.pool_law.specs.declared.note.Object.TheVariants.{Arena, Cache, Bin, Root}
 use Rattle.pool_law.specs.Homes.{home_of, IsObjectOf}
 use Rattle.pool_law.specs.NotedHistories.{MayNote}
 use Rattle.pool_law.specs.Arenas.{Arena as ArenaState, is_out_of}
@@ -75,6 +74,12 @@ abbrev pub did_take_up : RegionId → Noted → ℕ
 did_take_up q n =
     arena_out (is_taking q) n.did + (cache_out (is_taking q) n.did + place_out (is_taking q) n)
 
+-- what a view knows of its counts at any moment: none of a root is below 0, and each root that it
+-- counts is at one of the shape's places
+pub record KnowsCounts (l : Layout) (v : SeatView) : Type 0 where
+  pub counted : (r : RootId) → lost_of r v ≤ gained_of r v
+  pub placed : (r : RootId) → HasCount r v → r.place < l.shape.lanes * l.shape.handles
+
 -- what a seat that got into the section of o learns: the history h, for which the home value x
 -- stands
 pub record Enters {H : Type 0}
@@ -105,10 +110,6 @@ pub record Enters {H : Type 0}
   -- no place in hand is in the bin
   pub bin : (b p : ℕ) (m : List ℕ) → o ≡ Bin b → IsBinAfter l.shape b h m → InHand p v →
       count_by (λ (x : ℕ). x == p) m ≡ 0
-  -- a root that may be fetched next is of one of the root places
-  pub fetched : (a b : ℕ) (n : Noted) (q : Parcel) → o ≡ Mail a b →
-      IsHistory l.shape o (h ++ n ∷ []) → n.did ≡ Fetch q →
-      IfSome q.view (λ w. w.root.place < l.shape.lanes * l.shape.handles)
   -- each note is one that its lane may make there
   pub lanes : All (λ (n : Noted). MayNote l.shape n.lane o n.did) h
   -- the next note's number is above all that the seat has noted of the object

@@ -3,6 +3,8 @@ pub mod Slots
 pub mod Firsts
 pub mod Views
 pub mod Counts
+pub mod Letters
+pub mod SeatFields
 pub mod Looks
 pub mod Order
 pub mod Numbers
@@ -12,6 +14,7 @@ pub mod Sequence
 pub mod Sound
 pub mod Learned
 pub mod Steps
+pub mod Mailing
 pub mod Seats
 pub mod Sections
 pub mod Opened

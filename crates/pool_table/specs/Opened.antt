@@ -1,6 +1,6 @@
 -- What a contract says of a table that has just been made.
 use Rattle.step_law.specs.Settings.{Setting}
-use Rattle.std.specs.Prelude.{◌≡◌, ℕ, ◌<◌, List, [], length, Some, slice_get, HoldsAt}
+use Rattle.std.specs.Prelude.{◌≡◌, ℕ, ◌<◌, List, [], length, Some, slice_get, slice_index, HoldsAt}
 use Rattle.step_law.specs.declared.Told.{Ghosts}
 use Rattle.pool_law.specs.declared.note.Noted.{Noted}
 use Rattle.pool_law.specs.declared.note.Object.{Object}
@@ -23,6 +23,10 @@ pub record AreFirstSeats {H : Type 0} {G : Ghosts H Noted}
     (l : Layout) (g : Setting) (t : PoolTable H) (seats : List (PoolSeat H G)) : Type 0 where
   pub many : length seats ≡ l.shape.lanes
   pub each : (k : ℕ) → k < l.shape.lanes → HoldsAt (IsFirstSeat l g k t) seats k
+
+-- so many numbers, each 0
+abbrev pub AreNone : ℕ → List ℕ → Type 0
+AreNone n numbers = (length numbers ≡ n) × ((k : ℕ) → k < n → slice_index numbers k ≡ 0)
 
 -- each object's home value stands for no notes
 abbrev pub StandAtFirst : {H : Type 0} →

@@ -1,16 +1,20 @@
 -- All steps made so far, in one order, over all parts.
-use Rattle.std.specs.Prelude.{◌≡◌, ℕ, ◌+◌, ◌<◌, ◌==◌, cond, List, [], ◌∷◌, ◌++◌, Option, Some, All, sum_by}
+use Rattle.std.specs.Prelude.{◌≡◌, ℕ, ◌+◌, ◌<◌, ◌≤◌, ◌==◌, cond, List, [], ◌∷◌, ◌++◌, Option, Some, All, sum_by}
 use Rattle.pool_law.specs.declared.run.Shape.{Shape}
 use Rattle.pool_law.specs.declared.id.RootId.{RootId}
 use Rattle.pool_law.specs.declared.note.RefDid.{RefDid}
 use Rattle.pool_law.specs.declared.note.RefDid.TheVariants.{Born, Retain, Kept, Ended, Vacated, Look}
+use Rattle.pool_law.specs.declared.note.Object.{Object}
+use Rattle.pool_law.specs.declared.note.Object.TheVariants.{Mail}
 use Rattle.pool_law.specs.Homes.{home_of}
+use Rattle.pool_law.specs.Kinds.{Passing, Stays, Goes, Comes, passing}
 use Rattle.pool_table.specs.declared.views.Entry.{Entry}
 use Rattle.pool_table.specs.declared.views.Entry.TheVariants.{At, Ref, Busy}
 use Rattle.pool_table.specs.declared.views.Part.{Part}
 use Rattle.pool_table.specs.declared.views.SeatView.{SeatView}
 use Rattle.pool_table.specs.Views.{parts_of, is_lane}
 use Rattle.pool_table.specs.Counts.{weigh, on_root, on_place, ref_gain, ref_loss, ref_born, ref_ended, ref_vacated}
+use Rattle.pool_table.specs.Letters.{sent_as, received_as, is_on_way}
 
 -- a step that was made: the number of its part, if it has one, and the entry that it left there
 pub record Made : Type 0 where
@@ -56,9 +60,28 @@ FitsCount made r Vacated =
     × Leave made r 0
 FitsCount made r (Look k) = (0 < k) × Leave made r k
 
--- a note has the next number of its object, and a busy mark the number of the last note
+-- how many letters from a to b these steps sent, and received
+abbrev pub made_sent : ℕ → ℕ → List Made → ℕ
+made_sent a b made = weigh_made (sent_as (is_on_way a b)) made
+
+abbrev pub made_received : ℕ → ℕ → List Made → ℕ
+made_received a b made = weigh_made (received_as (is_on_way a b)) made
+
+-- a note at a mail fits the steps before it: a post has the next number of the posts there, a fetch
+-- the next number of the fetches, and so many were posted
+abbrev pub FitsMail : List Made → ℕ → ℕ → ℕ → Passing → Type 0
+FitsMail made a b k Stays = ⊥
+FitsMail made a b k (Goes parcel) = k ≡ made_sent a b made + 1
+FitsMail made a b k (Comes parcel) = (k ≡ made_received a b made + 1) × (k ≤ made_sent a b made)
+
+-- a note of another object has its next number
+abbrev pub FitsNote : Shape → List Made → Object → ℕ → Passing → Type 0
+FitsNote s made (Mail a b) k passed = FitsMail made a b k passed
+FitsNote s made o k passed = k ≡ weigh_made (on_object s (home_of s o)) made + 1
+
+-- a note has the next number of its kind, and a busy mark the number of the last note
 abbrev pub Fits : Shape → List Made → Entry → Type 0
-Fits s made (At o k n) = k ≡ weigh_made (on_object s (home_of s o)) made + 1
+Fits s made (At o k n) = FitsNote s made o k (passing n.did)
 Fits s made (Busy b) = b.number ≡ weigh_made (on_object s (home_of s b.object)) made
 Fits s made (Ref r d) = FitsCount made r d
 

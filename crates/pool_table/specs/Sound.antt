@@ -10,7 +10,7 @@ use Rattle.pool_law.specs.declared.run.Shape.{Shape}
 use Rattle.pool_law.specs.NotedHistories.{MayNote}
 use Rattle.pool_law.specs.declared.note.Noted.{Noted}
 use Rattle.pool_law.specs.declared.note.Object.{Object}
-use Rattle.pool_law.specs.declared.note.Object.TheVariants.{Cache, Root}
+use Rattle.pool_law.specs.declared.note.Object.TheVariants.{Arena, Cache, Bin, Mail, Root}
 use Rattle.pool_law.specs.Homes.{home_of, objects_of, IsObjectOf}
 use Rattle.table_law.specs.Measures.{measures_of}
 use Rattle.pool_table.specs.Words.{words_of, word_of, count_word_of}
@@ -26,11 +26,12 @@ use Rattle.pool_table.specs.declared.views.Layout.{Layout}
 use Rattle.pool_table.specs.Counts.{IsCounted, gained, lost, gained_beside, lost_beside, reached, returned, weigh, on_root, ref_ended, ref_vacated}
 use Rattle.pool_table.specs.Hands.{put_down, taken, MayEnter, IsOrderly}
 use Rattle.pool_table.specs.Births.{AreBorn}
+use Rattle.pool_table.specs.Letters.{AreMailed}
 use Rattle.pool_table.specs.Looks.{AreLooksRight}
 use Rattle.pool_table.specs.Order.{AreInOrder}
 use Rattle.pool_table.specs.Sequence.{AreInOneOrder}
 use Rattle.pool_table.specs.Numbers.{IsNotBelow}
-use Rattle.pool_table.specs.Views.{Face, parts_of, is_at, is_numbered, noted_of, is_lane, face, is_in, inside_total, total, noted_total, numbered, spent}
+use Rattle.pool_table.specs.Views.{ObjectView, parts_of, is_at, is_numbered, noted_of, is_lane, object_view, is_in, inside_total, total, noted_total, numbered, spent}
 
 -- of two entries of one part on one object, the first and the second: numbers rise, and the note
 -- after a busy mark is another part's
@@ -75,39 +76,56 @@ pub record IsTold (o : Object) (h : List Noted) (limit : ℕ) (p : Part) : Type 
       filter_map noted_of p.notes ≡ filter (λ (n : Noted). is_lane m n.lane) h
 
 -- a view in the section knows the history
-abbrev pub Knows : List Noted → Face → Type 0
+abbrev pub Knows : List Noted → ObjectView → Type 0
 Knows h f = IfSome f.inside (λ (x : Inside). (x.history ≡ h) × (x.number ≡ length h))
 
 -- what the word and the home of one object are to what all views show of it
 pub record IsKept {H : Type 0}
     (stands : List ℕ → Setting → List Noted → H → Type 0)
     (shape : Shape) (setting : Setting) (o : Object)
-    (faces : List Face) (word : ℕ) (home : maybe.Option (maybe.Option (Option H))) : Type 0 where
+    (object_views : List ObjectView) (word : ℕ) (home : maybe.Option (maybe.Option (Option H))) : Type 0 where
   pub history : List Noted
   pub accepted : IsHistory shape o history
   -- the word is twice the number of notes, and odd where a view is in the section
-  pub word_is : word ≡ 2 * length history + inside_total faces
+  pub word_is : word ≡ 2 * length history + inside_total object_views
   -- no two views are
-  pub alone : inside_total faces ≤ 1
+  pub alone : inside_total object_views ≤ 1
   -- that view knows the history
-  pub knows : All (Knows history) faces
+  pub knows : All (Knows history) object_views
   -- the entries of each part are told by the history; a mark is below the number of notes, or of
   -- one more where another view is in the section
   pub told :
-      All (λ (f : Face).
-      All (IsTold o history (length history + (inside_total faces - is_in f))) f.parts) faces
+      All (λ (f : ObjectView).
+      All (IsTold o history (length history + (inside_total object_views - is_in f))) f.parts) object_views
   -- the notes in all parts are those of the history, each once
-  pub once : (k : ℕ) → k < length history → total (is_numbered (k + 1)) faces ≡ 1
-  pub as_many : total is_at faces ≡ length history
-  pub weights : (f : Noted → ℕ) → noted_total f faces ≡ sum_by f history
+  pub once : (k : ℕ) → k < length history → total (is_numbered (k + 1)) object_views ≡ 1
+  pub as_many : total is_at object_views ≡ length history
+  pub weights : (f : Noted → ℕ) → noted_total f object_views ≡ sum_by f history
   -- where no view is in the section the home value is in its slot, and stands for the history
-  pub home_is : inside_total faces ≡ 0 →
+  pub home_is : inside_total object_views ≡ 0 →
       (x : H) × (home ≡ some (some (Some x))) × stands (measures_of shape o) setting history x
 
--- a note stands on an object of the shape, in the log of a lane that may note it, where it may move
--- what it moves
+-- the object is one of the shape, or a mail of two of its lanes
+abbrev pub IsKnown : Shape → Object → Type 0
+IsKnown s (Arena a) = IsObjectOf s (Arena a)
+IsKnown s (Cache lane class) = IsObjectOf s (Cache lane class)
+IsKnown s (Bin lane) = IsObjectOf s (Bin lane)
+IsKnown s (Mail a b) = (a < s.lanes) × (b < s.lanes)
+IsKnown s (Root p) = IsObjectOf s (Root p)
+
+-- a note at a mail tells of no root and no region
+abbrev pub IsPlain : Object → Noted → Type 0
+IsPlain (Arena a) n = ⊤
+IsPlain (Cache lane class) n = ⊤
+IsPlain (Bin lane) n = ⊤
+IsPlain (Mail a b) n = (n.root ≡ None) × (n.region ≡ None)
+IsPlain (Root p) n = ⊤
+
+-- a note stands on such an object, in the log of a lane that may note it, where it may move what it
+-- moves
 pub record NoteStands (s : Shape) (lane : Option ℕ) (o : Object) (n : Noted) : Type 0 where
-  pub object : IsObjectOf s o
+  pub object : IsKnown s o
+  pub plain : IsPlain o n
   pub lane_may : MayNote s lane o n.did
   pub in_place : IsInPlace s o n
 
@@ -178,7 +196,7 @@ pub record IsSound {H : Type 0}
   -- each object, with its word and its home
   pub objects : (o : Object) → IsObjectOf l.shape o →
       IsKept stands l.shape setting o
-      (map (face l.shape (home_of l.shape o)) s.views)
+      (map (object_view l.shape (home_of l.shape o)) s.views)
       (slice_index s.words (word_of l.shape o))
       (get_elem? s.homes (slot_of l.shape o))
   -- each root place, with the word of its count
@@ -191,6 +209,8 @@ pub record IsSound {H : Type 0}
   pub order : AreInOrder s.views
   -- all steps made so far stand in one order, in which each fits those before it
   pub one_order : AreInOneOrder l.shape s.views
+  -- each letter that was sent was received, or lies in one view, and all are numbered in turn
+  pub mailed : AreMailed s.views
   -- the notes made and the turns left are within what was given, and so are the moves left with the
   -- retains that no release took back; so no word overflows
   pub room : l.shape.lanes * l.turns < 4611686018427387904

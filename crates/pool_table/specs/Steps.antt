@@ -15,10 +15,12 @@ use Rattle.pool_table.specs.declared.views.Inside.{Inside}
 use Rattle.pool_table.specs.declared.views.SeatView.{SeatView}
 use Rattle.pool_table.specs.Views.{empty_part, blank, entered, left, with_entry}
 use Rattle.pool_law.specs.declared.id.RootId.{RootId}
+use Rattle.pool_law.specs.declared.id.Parcel.{Parcel}
 use Rattle.pool_law.specs.declared.note.RefDid.TheVariants.{Born, Retain, Kept, Ended, Vacated, Look}
 use Rattle.pool_table.specs.Counts.{with_ref, HasCount, HasToken, CountsOne}
 use Rattle.pool_table.specs.Hands.{Waits, InHand, HasNoEnd}
-use Rattle.pool_table.specs.Learned.{Enters}
+use Rattle.pool_table.specs.Letters.{next_letter, letter_view, sends, receives_first}
+use Rattle.pool_table.specs.Learned.{Enters, KnowsCounts}
 use Rattle.pool_table.specs.Sound.{WasHeld}
 
 -- what a step tells: the step, what the seat had, the word that was found, what the seat has then
@@ -30,6 +32,9 @@ no_object = Arena 0
 
 abbrev pub no_root : RootId
 no_root = record { place = 0; generation = 0; capacity = 0 }
+
+abbrev pub no_parcel : Parcel
+no_parcel = record { view = None }
 
 abbrev pub no_layout : Layout
 no_layout =
@@ -61,6 +66,7 @@ first_view l g =
       own = empty_part None;
       others = lane_parts 0 l.shape.lanes;
       inside = None;
+      letters = [];
       moves = l.shape.lanes * l.moves;
       turns = l.shape.lanes * l.turns;
       setting = Some g;
@@ -73,6 +79,7 @@ rest_view l i n g =
       own = empty_part None;
       others = lane_parts i n;
       inside = None;
+      letters = [];
       moves = n * l.moves;
       turns = n * l.turns;
       setting = Some g;
@@ -85,6 +92,7 @@ lane_view l i g =
       own = empty_part (Some i);
       others = [];
       inside = None;
+      letters = [];
       moves = l.moves;
       turns = l.turns;
       setting = Some g;
@@ -110,6 +118,7 @@ first_lane v =
       own = first_of v.others;
       others = [];
       inside = None;
+      letters = [];
       moves = share v.moves v.others;
       turns = share v.turns v.others;
       setting = v.setting;
@@ -140,6 +149,18 @@ IsShare v = v ≡ share_of v.moves v
 -- so many moves come to a view
 abbrev pub share_added : ℕ → SeatView → SeatView
 share_added n v = record v { moves = v.moves + n }
+
+-- the view of the seat that a letter is sent with
+abbrev pub letter_beside : ℕ → Parcel → SeatView → SeatView
+letter_beside to parcel v = letter_view v.setting (next_letter to parcel v)
+
+-- the letter is sent
+abbrev pub sends_next : ℕ → Parcel → SeatView → SeatView
+sends_next to parcel v = sends v (next_letter to parcel v)
+
+-- the letter that comes with a seat is received
+abbrev pub receives_with : SeatView → SeatView → SeatView
+receives_with v w = receives_first v w.letters
 
 -- a seat in no section, which holds no home value
 abbrev pub IsFree : {H : Type 0} → Me (Option H) SeatView → Type 0
@@ -186,6 +207,10 @@ module _ {H : Type 0} where
   idles s me found after =
       IfSome me.0.inside (λ (x : Inside).
       (found ≡ 2 * x.number + 1) × (after.0 ≡ left me.0) × (after.1 ≡ rest me.1))
+
+  -- nothing changes, and the seat learns of its counts
+  abbrev pub stays : Layout → Told H
+  stays l s me found after = (after ≡ me) × KnowsCounts l me.0
 
   -- steps on the word of a root
   abbrev pub retains : RootId → Told H

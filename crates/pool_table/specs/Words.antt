@@ -9,9 +9,9 @@ use Rattle.pool_law.specs.Homes.{lane_homes, home_of, objects_of}
 abbrev pub listed_of : Shape → ℕ
 listed_of s = objects_of s + s.lanes * s.handles
 
--- the words of arenas, caches, bins and mails
+-- the words of arenas, caches and bins
 abbrev pub single_of : Shape → ℕ
-single_of s = s.arenas + s.lanes * lane_homes + s.lanes * s.lanes
+single_of s = s.arenas + s.lanes * lane_homes
 
 -- what a lane's root places leave free of the last 16 words
 abbrev pub padding : Shape → ℕ

@@ -31,11 +31,12 @@ impl<H: Told<Note = Noted>> PoolTable<H> {
         let PoolTable {
             table,
             layout,
+            alloc: _,
             firsts: _,
             spare_homes,
             spare_words,
         } = self;
-        let PoolSeat { seat, number: _ } = seat;
+        let (seat, _letter) = seat.into_parts();
         let mut closed = table.close_with(seat);
         let words = take_words(&closed, &layout.shape, spare_words);
         let homes = take_homes(&mut closed, &layout.shape, spare_homes);

@@ -30,10 +30,8 @@ pub(crate) fn home_index(shape: &Shape, object: Object) -> usize
         Object::Arena(a) => a as usize,
         Object::Cache { lane, class } => arenas + lane as usize * CACHES + class as usize,
         Object::Bin(lane) => arenas + lanes * CACHES + lane as usize,
-        Object::Mail { from, to } => arenas
-            + lanes * LANE_HOMES
-            + (from as usize * lanes + to as usize),
-        Object::Root(place) => arenas + lanes * LANE_HOMES + lanes * lanes + place as usize,
+        Object::Mail { from: _, to: _ } => unreachable!(),
+        Object::Root(place) => arenas + lanes * LANE_HOMES + place as usize,
     }
 }
 
@@ -43,7 +41,7 @@ pub(crate) fn object_count(shape: &Shape) -> usize
     ensures { result ≡ objects_of shape.now }
 {
     let lanes = shape.lanes as usize;
-    shape.arenas as usize + lanes * LANE_HOMES + lanes * lanes + lanes * shape.handles as usize
+    shape.arenas as usize + lanes * LANE_HOMES + lanes * shape.handles as usize
 }
 
 pub(crate) fn listed_count(shape: &Shape) -> usize
@@ -59,7 +57,7 @@ pub(crate) fn word_count(shape: &Shape) -> usize
 {
     let lanes = shape.lanes as usize;
     let handles = shape.handles as usize;
-    let single = shape.arenas as usize + lanes * LANE_HOMES + lanes * lanes;
+    let single = shape.arenas as usize + lanes * LANE_HOMES;
     single * 16 + 2 * lanes * (handles + (16 - handles % 16) % 16)
 }
 
@@ -71,7 +69,7 @@ pub(crate) fn word_index(shape: &Shape, listed: usize) -> usize
     ensures { result ≡ word_at shape.now listed }
 {
     let lanes = shape.lanes as usize;
-    let single = shape.arenas as usize + lanes * LANE_HOMES + lanes * lanes;
+    let single = shape.arenas as usize + lanes * LANE_HOMES;
     if listed < single {
         return listed * 16;
     }
@@ -121,7 +119,7 @@ pub(crate) fn single_count(shape: &Shape) -> usize
     ensures { result ≡ single_of shape.now }
 {
     let lanes = shape.lanes as usize;
-    shape.arenas as usize + lanes * LANE_HOMES + lanes * lanes
+    shape.arenas as usize + lanes * LANE_HOMES
 }
 
 /// Where the slot of a number lies, and where the last one ends.

@@ -1,6 +1,6 @@
 #![tactic(auto)]
-//! The table of words through which threads share a pool: sections on its objects, and the counts
-//! of its roots.
+//! The table of words through which threads share a pool: sections on its objects, the counts of
+//! its roots, and letters between its lanes.
 //!
 //! Each step is one atomic step on one word. Between any two steps the table is sound
 //! (`specs/Sound.antt`).
@@ -9,6 +9,7 @@ mod closing;
 mod firsts;
 mod index;
 pub mod laws;
+mod letters;
 mod making;
 mod opening;
 mod root_sections;
@@ -27,4 +28,4 @@ mod views;
 pub use roots::{Dropped, EndToken};
 pub use rule::{Blanks, Claiming, Claims, Dones, Idles, Joins, MarksClaims, Opening, Rule};
 pub use table::{PoolSeat, PoolTable, Section};
-pub use views::{Entry, Fixed, Inside, Layout, Part, SeatView};
+pub use views::{Entry, Fixed, Inside, Layout, Letter, Part, SeatView};

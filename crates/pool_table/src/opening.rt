@@ -1,18 +1,18 @@
 //! How a table is made, and its first seats.
 
-ghost use Rattle.std.specs.Prelude.{◌≡◌, ◌*◌, ◌<◌, ◌≤◌, ◌^◌, [], length, IfOk, IfErr, vec_capacity};
+ghost use Rattle.std.specs.Prelude.{◌≡◌, ◌*◌, ◌<◌, ◌≤◌, ◌^◌, [], length, All, IfOk, IfErr, vec_len, vec_capacity};
 ghost use Rattle.pool_law.specs.Homes.{objects_of};
 ghost use Rattle.pool_table.specs.Words.{listed_of, IsOpening};
 ghost use Rattle.pool_table.specs.Slots.{slots_of};
 ghost use Rattle.pool_table.specs.Sound.{IsShape};
 ghost use Rattle.pool_table.specs.Steps.{first_view};
-ghost use Rattle.pool_table.specs.Opened.{AreFirstSeats, StandAtFirst};
+ghost use Rattle.pool_table.specs.Opened.{AreFirstSeats, AreNone, StandAtFirst};
 
 use crate::firsts::Firsts;
 use crate::index::{listed_count, object_count, slot_count};
 use crate::making::{opening_words, unwrapped, wrapped};
 use crate::rule::{Cuts, Opening};
-use crate::table::{PoolSeat, PoolTable};
+use crate::table::{LANES, PoolSeat, PoolTable};
 use crate::views::{Layout, SeatView};
 use atomic_table::{Refused, Seat, Table};
 use pool_law::{Noted, Shape};
@@ -27,6 +27,19 @@ struct Room<H: Told<Note = Noted>> {
     spare_words: Vec<u64>,
     spare_homes: Vec<Option<H>>,
     seats: Vec<PoolSeat<H>>,
+    counts: Vec<Vec<u64>>,
+}
+
+// No letter counted yet to any lane, for so many lanes.
+fn no_letters(alloc: Global, lanes: u32) -> Result<Vec<Vec<u64>>, AllocError>
+    ensures many { IfOk result (λ v. vec_len v ≡ lanes) }
+    ensures none { IfOk result (λ v. All (λ c. AreNone LANES c.items) v.items) }
+{
+    let mut counts = Vec::with_capacity(alloc, lanes as usize)?;
+    for _lane in 0..lanes {
+        counts.push(Vec::from_elem(alloc, 0u64, LANES)?)?;
+    }
+    Ok(counts)
 }
 
 fn take_room<H: Told<Note = Noted>>(alloc: Global, shape: &Shape) -> Result<Room<H>, AllocError>
@@ -40,9 +53,12 @@ fn take_room<H: Told<Note = Noted>>(alloc: Global, shape: &Shape) -> Result<Room
         (r.spare_homes.items ≡ []) × (objects_of shape.now ≤ vec_capacity r.spare_homes)) }
     ensures seats { IfOk result (λ r.
         (r.seats.items ≡ []) × (shape.now.lanes ≤ vec_capacity r.seats)) }
+    ensures counts { IfOk result (λ r. vec_len r.counts ≡ shape.now.lanes) }
+    ensures none { IfOk result (λ r. All (λ c. AreNone LANES c.items) r.counts.items) }
 {
     let objects = object_count(shape);
     let count = listed_count(shape);
+    let counts = no_letters(alloc, shape.lanes)?;
     let words = opening_words(alloc, shape)?;
     let spare_words = Vec::with_capacity(alloc, count)?;
     let slots: Vec<Option<H>> = Vec::with_capacity(alloc, slot_count(shape))?;
@@ -61,6 +77,7 @@ fn take_room<H: Told<Note = Noted>>(alloc: Global, shape: &Shape) -> Result<Room
         spare_words,
         spare_homes,
         seats,
+        counts,
     })
 }
 
@@ -70,19 +87,27 @@ impl<H: Told<Note = Noted>> PoolTable<H> {
         &self,
         mut rest: Seat<Option<H>, SeatView>,
         mut seats: Vec<PoolSeat<H>>,
+        mut counts: Vec<Vec<u64>>,
     ) -> Vec<PoolSeat<H>>
         requires own { rest.table_id ≡ self.now.table.shared.table_id }
         requires rest { let homes = self.now.table.shared.key.homes.value in
             rest.me ≡ (first_view self.now.layout (H.settles homes.items), []) }
         requires room { (seats.items ≡ []) × (self.now.layout.shape.lanes ≤ vec_capacity seats) }
+        requires counts { vec_len counts ≡ self.now.layout.shape.lanes }
+        requires none { All (λ c. AreNone LANES c.items) counts.items }
         ensures { let homes = self.now.table.shared.key.homes.value in
             AreFirstSeats self.now.layout (H.settles homes.items) self.now result.items }
     {
         for i in 0..self.layout.shape.lanes {
             let seat = self.table.shared.split_seat::<Cuts>(&mut rest);
+            let Some(sent) = counts.pop() else {
+                unreachable!()
+            };
             let pushed = seats.push(PoolSeat {
                 seat,
                 number: Some(i),
+                letter: None,
+                sent,
             });
             let Ok(()) = pushed else { unreachable!() };
         }
@@ -115,6 +140,7 @@ impl<H: Told<Note = Noted>> PoolTable<H> {
             spare_words,
             spare_homes,
             seats,
+            counts,
         } = room;
         let opening = Opening {
             layout,
@@ -128,11 +154,12 @@ impl<H: Told<Note = Noted>> PoolTable<H> {
                 let table = PoolTable {
                     table,
                     layout,
+                    alloc,
                     firsts,
                     spare_homes,
                     spare_words,
                 };
-                let seats = table.first_seats(rest, seats);
+                let seats = table.first_seats(rest, seats, counts);
                 Ok((table, seats))
             }
             Err(Refused { slots }) => {

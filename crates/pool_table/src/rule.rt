@@ -113,6 +113,36 @@ impl<M: Sharing> Split<SeatView> for Shares<M> {
     ghost right = { share_of M.moves };
 }
 
+/// Which letter a split sends.
+pub trait Lettered {
+    ghost use Rattle.std.specs.Prelude.{ℕ};
+    ghost use Rattle.pool_law.specs.declared.id.Parcel.{Parcel};
+
+    ghost to: { ℕ };
+
+    ghost parcel: { Parcel };
+}
+
+impl Lettered for Brand {
+    ghost use Rattle.pool_table.specs.Steps.{no_parcel};
+
+    ghost to = { 0 };
+
+    ghost parcel = { no_parcel };
+}
+
+pub struct Sends<X> {
+    of: PhantomData<X>,
+}
+
+impl<X: Lettered> Split<SeatView> for Sends<X> {
+    ghost use Rattle.pool_table.specs.Steps.{sends_next, letter_beside};
+
+    ghost left = { sends_next X.to X.parcel };
+
+    ghost right = { letter_beside X.to X.parcel };
+}
+
 /// Cuts off the first of the other parts, with its share of the moves and turns.
 pub struct Cuts;
 
@@ -146,6 +176,30 @@ impl Join<SeatView> for Accepts {
     ghost both = { λ v w. share_added w.moves v };
 
     ghost spent = { blank None };
+}
+
+/// Receives the letter of the other seat.
+pub struct Receives;
+
+impl Join<SeatView> for Receives {
+    ghost use Rattle.std.specs.Prelude.{None};
+    ghost use Rattle.pool_table.specs.Views.{blank};
+    ghost use Rattle.pool_table.specs.Steps.{receives_with};
+
+    ghost both = { receives_with };
+
+    ghost spent = { blank None };
+}
+
+/// A step that notes nothing, at which the seat learns of its counts.
+pub struct Stays<C> {
+    of: PhantomData<C>,
+}
+
+impl<H: Told<Note = Noted>, C: Claiming> Play<Option<H>, SeatView> for Stays<C> {
+    ghost use Rattle.pool_table.specs.Steps.{counts_one, stays};
+
+    ghost then = { counts_one (stays C.layout) };
 }
 
 /// Which root a step is on.

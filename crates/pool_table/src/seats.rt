@@ -2,12 +2,13 @@
 
 ghost use Rattle.std.specs.Prelude.{◌≡◌, ◌≤◌, None, []};
 ghost use Rattle.pool_table.specs.Views.{blank, joined};
+ghost use Rattle.pool_table.specs.Letters.{first_letter};
 ghost use Rattle.pool_table.specs.Steps.{share_left, share_of, share_added, IsShare};
 ghost use Rattle.pool_table.specs.Seats.{view_of, IsSeatOf, IsOutside, HasView, SameSeat};
 
 use crate::rule::{Accepts, Blanks, Joins, Shares, Sharing};
 use crate::table::{PoolSeat, PoolTable};
-use crate::views::SeatView;
+use crate::views::{Letter, SeatView};
 use atomic_table::Seat;
 use pool_law::Noted;
 use std::marker::Brand;
@@ -20,9 +21,35 @@ impl<H: Told<Note = Noted>> PoolSeat<H> {
     {
         self.number
     }
+
+    /// The first letter that it holds, and none where it holds no letter.
+    pub fn letter(&self) -> Option<Letter>
+        ensures { result ≡ first_letter (view_of self.now).letters }
+    {
+        self.letter
+    }
 }
 
 impl<H: Told<Note = Noted>> PoolTable<H> {
+    // A seat without a number.
+    #[inline(always)]
+    pub(crate) fn unnumbered(
+        &self,
+        seat: Seat<Option<H>, SeatView>,
+        letter: Option<Letter>,
+    ) -> PoolSeat<H>
+        requires number { seat.me.0.own.number ≡ None }
+        requires letter { first_letter seat.me.0.letters ≡ letter }
+        ensures { result.seat ≡ seat }
+    {
+        PoolSeat {
+            seat,
+            number: None,
+            letter,
+            sent: Vec::new(self.alloc),
+        }
+    }
+
     /// A new seat without notes, moves and turns.
     pub fn split(&self, seat: &mut PoolSeat<H>) -> PoolSeat<H>
         requires own { IsSeatOf self.now seat.old }
@@ -33,10 +60,7 @@ impl<H: Told<Note = Noted>> PoolTable<H> {
         ensures empty { HasView result (blank (view_of seat.old).setting) }
     {
         let other = self.table.shared.split_seat::<Blanks>(&mut seat.seat);
-        PoolSeat {
-            seat: other,
-            number: None,
-        }
+        self.unnumbered(other, None)
     }
 
     // The split, by the number that its type has.
@@ -71,10 +95,7 @@ impl<H: Told<Note = Noted>> PoolTable<H> {
         ensures share { HasView result (share_of moves (view_of seat.old)) }
     {
         let other = self.share_seat::<Brand>(&mut seat.seat, moves);
-        PoolSeat {
-            seat: other,
-            number: None,
-        }
+        self.unnumbered(other, None)
     }
 
     /// The seat gets the moves of a share, and nothing of it stays. The share is spent.
@@ -87,10 +108,7 @@ impl<H: Told<Note = Noted>> PoolTable<H> {
         ensures same { SameSeat seat.old seat.new }
         ensures added { HasView seat.new (share_added (view_of share).moves (view_of seat.old)) }
     {
-        let PoolSeat {
-            seat: share,
-            number: _,
-        } = share;
+        let (share, _letter) = share.into_parts();
         self.table
             .shared
             .join_seat::<Accepts>(&mut seat.seat, share);
@@ -105,10 +123,10 @@ impl<H: Told<Note = Noted>> PoolTable<H> {
         ensures same { SameSeat seat.old seat.new }
         ensures joined { HasView seat.new (joined (view_of seat.old) (view_of other)) }
     {
-        let PoolSeat {
-            seat: other,
-            number: _,
-        } = other;
+        let (other, letter) = other.into_parts();
         self.table.shared.join_seat::<Joins>(&mut seat.seat, other);
+        if seat.letter.is_none() {
+            seat.letter = letter;
+        }
     }
 }

@@ -136,8 +136,8 @@ impl<H: Told<Note = Noted>> PoolTable<H> {
         found / 2 + 1
     }
 
-    /// Ends a section with no note, where its home value is as it was: that of a mail, or that of a
-    /// root place in the seat's hands where no birth waits, as where the place is worn out.
+    /// Ends a section with no note, where its home value is as it was: that of a root place in the
+    /// seat's hands where no birth waits, as where the place is worn out.
     #[inline(always)]
     pub fn idle(&self, seat: &mut PoolSeat<H>, section: Section<H>)
         requires own { IsSeatOf self.now seat.old }

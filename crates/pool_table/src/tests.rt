@@ -5,6 +5,7 @@ ghost use Rattle.std.specs.Prelude.{◌≡◌, ℕ, ◌<◌, ◌≤◌, ◌+◌,
 ghost use Rattle.pool_law.specs.declared.note.Noted.{Noted};
 ghost use Rattle.pool_table.specs.Opened.{IsFirstSeat};
 
+mod letters;
 mod moves;
 
 use crate::{Layout, PoolSeat, PoolTable, Section};
@@ -13,7 +14,6 @@ use size_classes::DEFAULT_PAGE;
 use std::alloc::{AllocError, Global};
 use std::marker::Brand;
 use std::test::Fail;
-use std::thread::join_mut;
 use step_law::{Told, pack};
 
 /// A home value that keeps each note made on it.
@@ -58,13 +58,13 @@ const LAYOUT: Layout = Layout {
     turns: 8,
 };
 
-// A home value for each of 89 objects: one arena, 80 caches, two bins, four mails, two root places.
+// A home value for each of 85 objects: one arena, 80 caches, two bins, two root places.
 fn empty_homes(alloc: Global) -> Result<Vec<Diary>, AllocError>
-    ensures many { IfOk result (λ v. length v.items ≡ 89) }
+    ensures many { IfOk result (λ v. length v.items ≡ 85) }
     ensures empty { IfOk result (λ v. All (λ d. d.notes.items ≡ []) v.items) }
 {
     let mut homes = Vec::new(alloc);
-    for _made in 0..89usize {
+    for _made in 0..85usize {
         homes.push(Diary {
             notes: Vec::new(alloc),
         })?;
@@ -150,46 +150,12 @@ fn a_second_claim_is_held(rt: HostRuntime) -> Result<(), Fail> {
     assert!(rt; noted_at == 1);
     table.join(&mut first, second);
     let (homes, words) = table.close_with(first);
-    assert!(rt; homes.len() == 89 && words.len() == 91);
-    assert!(rt; words[81] == 2 && words[89] == 1 && words[90] == 1);
+    assert!(rt; homes.len() == 85 && words.len() == 87);
+    assert!(rt; words[81] == 2 && words[85] == 1 && words[86] == 1);
     Ok(())
 }
 
 #[test]
 fn a_count_of_generation_two_is_packed(rt: HostRuntime) {
     assert!(rt; pack(2, 2) == 0x0000_0002_0000_0002);
-}
-
-// Claims a mail, and leaves it as it was. Answers whether it got in.
-fn visit(table: &PoolTable<Diary>, seat: &mut PoolSeat<Diary>, lane: u32) -> bool
-    requires layout { table.now.layout ≡ LAYOUT }
-    requires seat { (g : Setting) × IsFirstSeat LAYOUT g lane table.now seat.old }
-    ensures { (g : Setting) × IsFirstSeat LAYOUT g lane table.now seat.new }
-{
-    let section = match table.claim(seat, Object::Mail { from: 0, to: 1 }, false) {
-        Ok(section) => section,
-        Err(_held) => return false,
-    };
-    table.idle(seat, section);
-    true
-}
-
-#[test]
-fn two_threads_visit_one_mail(rt: HostRuntime) -> Result<(), Fail> {
-    let Opened {
-        table,
-        mut first,
-        mut second,
-    } = open_table(rt.alloc())?;
-    let shared = &table;
-    let (left, right) = join_mut(
-        &rt,
-        &mut || visit(shared, &mut first, 0),
-        &mut || visit(shared, &mut second, 1),
-    );
-    assert!(rt; left || right);
-    table.join(&mut first, second);
-    let (homes, words) = table.close_with(first);
-    assert!(rt; homes.len() == 89 && words[84] == 0);
-    Ok(())
 }

@@ -1,7 +1,8 @@
-//! What a seat knows, as plain data. No value of these types but `Layout` is ever made.
+//! What a seat knows, as plain data. No value of these types but `Layout` and `Letter` is ever
+//! made.
 ghost use Rattle.step_law.specs.Settings.{Setting};
 
-use pool_law::{Held, Noted, Object, RefDid, RootId, Shape};
+use pool_law::{Held, Noted, Object, Parcel, RefDid, RootId, Shape};
 use std::collections::LinkedList;
 use std::marker::Model;
 
@@ -45,6 +46,19 @@ pub struct Inside {
     pub history: LinkedList<Noted>,
 }
 
+/// What one `send` sends: the parcel, with its number among the letters of its way.
+#[derive(Clone, Copy, PartialEq, Eq, Debug, Drop)]
+pub struct Letter {
+    /// The lane that sent it.
+    pub from: u32,
+    /// The lane that it is for.
+    pub to: u32,
+    /// Its number among the letters from the one lane to the other, from 1.
+    pub number: u64,
+    /// What it carries.
+    pub parcel: Parcel,
+}
+
 /// What is settled once as a pool opens, as contracts see it.
 pub struct Fixed {
     pub ghost told: { Setting },
@@ -66,6 +80,7 @@ pub struct SeatView {
     pub own: Part,
     pub others: LinkedList<Part>,
     pub inside: Option<Inside>,
+    pub letters: LinkedList<Letter>,
     pub moves: u64,
     pub turns: u64,
     pub setting: Option<Fixed>,

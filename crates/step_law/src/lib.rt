@@ -7,7 +7,7 @@ ghost use Rattle.step_law.specs.Settings.{Setting};
 /// A value that stands for the notes made on it so far, oldest first.
 ///
 /// A setting is seen by contracts alone: the grounds of the pool's chunk places, by arena and
-/// chunk, and the room of its mails.
+/// chunk.
 pub trait Told {
     type Note;
 

@@ -159,7 +159,7 @@ fn moves_come_back(rt: HostRuntime) -> Result<(), Fail> {
     }
     table.join(&mut first, second);
     let (_homes, words) = table.close_with(first);
-    assert!(rt; words.len() == 91 && words[89] == pack(1, 2));
+    assert!(rt; words.len() == 87 && words[85] == pack(1, 2));
     Ok(())
 }
 
@@ -189,6 +189,6 @@ fn moves_are_handed_on(rt: HostRuntime) -> Result<(), Fail> {
     assert!(rt; first.number() == Some(0) && second.number() == Some(1));
     table.join(&mut first, second);
     let (_homes, words) = table.close_with(first);
-    assert!(rt; words.len() == 91 && words[89] == 1 && words[90] == 1);
+    assert!(rt; words.len() == 87 && words[85] == 1 && words[86] == 1);
     Ok(())
 }

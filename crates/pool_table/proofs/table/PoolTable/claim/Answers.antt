@@ -7,6 +7,8 @@ use Rattle.pool_law.specs.Homes.{IsObjectOf}
 use Rattle.pool_table.specs.Sound.{WasHeld}
 use Rattle.pool_table.proofs.Places.{never_held}
 use Rattle.pool_table.proofs.Calls.{got_in, was_held, took}
+use Rattle.std.proofs.Common.{ap}
+use Rattle.pool_table.proofs.SeatFields.{fits_as, fits_claims}
 use Rattle.pool_table.proofs.table.PoolTable.claim.Goals as goal
 
 pub claim_word-found-requires-clause-named : goal.claim_word-found-requires-clause-named
@@ -33,3 +35,25 @@ returns-then-found-eq1-clause-free g c =
     found c.claim_word-found.new.seat.me c.claim_word-found.ensures.told c.if-found-eq1.true in
     λ p e holds. never_held g.H.Told.stands l p (found / 2) v (subst (IsObjectOf s) e c.requires.object)
     (subst (λ x. WasHeld g.H.Told.stands l x (found / 2) v) e held) holds
+
+pub invariant_of-seat : goal.invariant_of-seat
+invariant_of-seat g c =
+    let s = c.args.seat.now in let v = s.seat.me.0 in
+    let l = c.args.self.now.layout in
+    record {
+      of_view = fits_claims s.number s.letter s.sent.items g.H.Told.stands l c.args.object c.args.mark
+          (step (slots_of l.shape) (word_of l.shape c.args.object) 1 0 none) s.seat.me c.claim_word-found.new.seat.me
+          c.claim_word-found.result c.claim_word-found.ensures.told s.of_view;
+    }
+
+pub invariant_of-seat-2 : goal.invariant_of-seat-2
+invariant_of-seat-2 g c =
+    let s = c.args.seat.now in let v = s.seat.me.0 in
+    let l = c.args.self.now.layout in
+    record {
+      of_view = fits_as s.number s.letter s.sent.items c.claim_word-found.new.seat.me.0 c.exchange-taken.new.seat.me.0
+          (ap (λ m. m.0) c.exchange-taken.ensures.3)
+          (fits_claims s.number s.letter s.sent.items g.H.Told.stands l c.args.object c.args.mark
+          (step (slots_of l.shape) (word_of l.shape c.args.object) 1 0 none) s.seat.me c.claim_word-found.new.seat.me
+          c.claim_word-found.result c.claim_word-found.ensures.told s.of_view);
+    }

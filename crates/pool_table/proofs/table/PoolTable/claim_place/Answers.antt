@@ -9,6 +9,8 @@ use Rattle.pool_table.specs.Steps.{GotIn}
 use Rattle.pool_table.proofs.Places.{never_held}
 use Rattle.pool_table.proofs.Calls.{got_in, was_held, took}
 use Rattle.pool_table.proofs.RootCalls.{held_place}
+use Rattle.std.proofs.Common.{ap}
+use Rattle.pool_table.proofs.SeatFields.{fits_as, fits_claims}
 use Rattle.pool_table.proofs.table.PoolTable.claim_place.Goals as goal
 
 pub exchange-taken-requires : goal.exchange-taken-requires
@@ -35,3 +37,28 @@ returns-then-found-eq1-clause-free g c =
     c.args.seat.now.seat.me found c.claim_place_word-found.new.seat.me c.claim_place_word-found.ensures.told
     c.if-found-eq1.true in
     never_held g.H.Told.stands l p (found / 2) v (held_place g.H.Told.stands l p (found / 2) v held) held
+
+pub invariant_of-seat : goal.invariant_of-seat
+invariant_of-seat g c =
+    let s = c.args.seat.now in let v = s.seat.me.0 in
+    let l = c.args.self.now.layout in
+    record {
+      of_view = fits_claims s.number s.letter s.sent.items g.H.Told.stands l (Root c.args.place) c.args.mark
+          (step (slots_of l.shape) (word_of l.shape (Root c.args.place)) 1 0 none) s.seat.me
+          c.claim_place_word-found.new.seat.me
+          c.claim_place_word-found.result c.claim_place_word-found.ensures.told s.of_view;
+    }
+
+pub invariant_of-seat-2 : goal.invariant_of-seat-2
+invariant_of-seat-2 g c =
+    let s = c.args.seat.now in let v = s.seat.me.0 in
+    let l = c.args.self.now.layout in
+    record {
+      of_view = fits_as s.number s.letter s.sent.items c.claim_place_word-found.new.seat.me.0
+          c.exchange-taken.new.seat.me.0
+          (ap (λ m. m.0) c.exchange-taken.ensures.3)
+          (fits_claims s.number s.letter s.sent.items g.H.Told.stands l (Root c.args.place) c.args.mark
+          (step (slots_of l.shape) (word_of l.shape (Root c.args.place)) 1 0 none) s.seat.me
+          c.claim_place_word-found.new.seat.me
+          c.claim_place_word-found.result c.claim_place_word-found.ensures.told s.of_view);
+    }

@@ -2,6 +2,10 @@ use Rattle.std.proofs.Common.{◌∷◌, ap, ◌∙◌}
 use Rattle.std.specs.Prelude.{Some}
 use Rattle.atomic_table.specs.Table.{rest}
 use Rattle.pool_table.proofs.Calls.{word_within, dones_as}
+use Rattle.atomic_table.specs.Table.{step}
+use Rattle.pool_table.specs.Slots.{slots_of}
+use Rattle.pool_table.proofs.SeatFields.{fits_as, fits_dones}
+use mathlib.Core.Option.{none}
 use Rattle.pool_table.proofs.table.PoolTable.done.Goals as goal
 
 pub fetch_add-found-requires : goal.fetch_add-found-requires
@@ -17,3 +21,18 @@ fetch_add-found-requires g c = (
       c.requires.section.inside.holds)
       c.requires.turn c.requires.lane c.requires.hands c.requires.section.follows c.requires.section.stands_for,
 )
+
+pub invariant_of-seat : goal.invariant_of-seat
+invariant_of-seat g c =
+    let s = c.args.seat.now in let v = s.seat.me.0 in
+    record {
+      of_view = fits_dones s.number s.letter s.sent.items c.args.self.now.layout.shape c.args.section.object _
+          c.requires.section.history g.N.Named.note
+          (step (slots_of c.args.self.now.layout.shape) c.args.section.slot.word 1 0 none) c.exchange-empty.new.seat.me
+          c.fetch_add-found.new.seat.me c.fetch_add-found.result c.requires.section.inside.object
+          (ap (λ m. m.0.inside) c.exchange-empty.ensures.3 ∙ c.requires.section.inside.inside)
+          c.fetch_add-found.ensures.2.0
+          (fits_as s.number s.letter s.sent.items v c.exchange-empty.new.seat.me.0
+          (ap (λ m. m.0) c.exchange-empty.ensures.3)
+          s.of_view);
+    }

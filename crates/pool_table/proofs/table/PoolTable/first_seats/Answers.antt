@@ -1,5 +1,11 @@
-use Rattle.std.proofs.Common.{rules, ◌≡◌, ◌+◌, ◌-◌, [], length, ap, ◌∙◌, arith}
+use Rattle.std.proofs.Common.{rules, refl, subst, ℕ, Vec, Global, ◌≡◌, ◌+◌, ◌-◌, [], length, ap, ◌∙◌, arith}
+use Rattle.std.specs.Prelude.{Some, None, All}
+use Rattle.pool_table.specs.Opened.{AreNone}
 use Rattle.pool_table.specs.Steps.{rest_view, lane_view}
+use Rattle.pool_table.specs.Views.{empty_part}
+use Rattle.pool_table.proofs.Counting.{counts_none}
+use Rattle.pool_table.proofs.Lists.{at_cut}
+use Rattle.pool_table.proofs.SeatFields.{fits_as}
 use Rattle.pool_table.proofs.Words.{some_word}
 use Rattle.pool_table.proofs.Starts.{cuts_as, cut_views, made_push}
 use Rattle.pool_table.proofs.table.PoolTable.first_seats.Goals as goal
@@ -15,11 +21,19 @@ split_seat-seat-requires g c = let l = c.args.self.now.layout in let i = c.loop-
 
 pub invariant_of-push : goal.invariant_of-push
 invariant_of-push g c = let l = c.args.self.now.layout in let i = c.loop-i.i in let t = c.loop-i-test.true in
-    record {
-      numbered = ap (λ m. m.0.own.number) c.split_seat-seat.ensures.4
-          ∙ ap (λ v. v.own.number) (cut_views g.H.Told.stands l i (l.shape.lanes - i)
-          (g.H.Told.settles c.args.self.now.table.shared.key.homes.value.items) c.loop-i.rest.me.0 (omega (arith, t))
-          (ap (λ m. m.0) c.loop-i.invariant.rest)).0;
+    let gs = g.H.Told.settles c.args.self.now.table.shared.key.homes.value.items in
+    let same : c.split_seat-seat.result.me.0 ≡ lane_view l i gs = ap (λ m. m.0) c.split_seat-seat.ensures.4
+    ∙ (cut_views g.H.Told.stands l i (l.shape.lanes - i) gs c.loop-i.rest.me.0 (omega (arith, t))
+    (ap (λ m. m.0) c.loop-i.invariant.rest)).0 in record {
+      of_view = fits_as (Some i) None c.in-Some.sent.items (lane_view l i gs) c.split_seat-seat.result.me.0 same
+          (record {
+            numbered = refl;
+            lettered = refl;
+            counted = counts_none (empty_part (Some i)) c.in-Some.sent.items refl
+                (at_cut (λ (x : Vec ℕ Global). AreNone 16 x.items) c.pop.new.self.items [] c.in-Some.sent
+                (subst (All (λ (x : Vec ℕ Global). AreNone 16 x.items)) c.in-Some.ensures.items
+                c.loop-i.invariant.none)).0;
+          });
     }
 
 pub loop-i-preserved : goal.loop-i-preserved
@@ -37,6 +51,11 @@ loop-i-preserved g c = let l = c.args.self.now.layout in let i = c.loop-i.i in l
                 c.loop-i.invariant.rest q,
           ));
       own = c.split_seat-seat.ensures.0 ∙ c.loop-i.invariant.own;
+      left = (let a = c.loop-i.invariant.left in let b = c.in-Some.ensures.len in omega (arith, a, b, t));
+      none =
+          (at_cut (λ (x : Vec ℕ Global). AreNone 16 x.items) c.pop.new.self.items [] c.in-Some.sent
+          (subst (All (λ (x : Vec ℕ Global). AreNone 16 x.items)) c.in-Some.ensures.items
+          c.loop-i.invariant.none)).1;
       many = c.in-Ok.ensures.len ∙ (let a = c.loop-i.invariant.many in omega (arith, a));
       room = (let a = c.loop-i.invariant.room in let b = c.push-pushed.ensures.capacity in omega (arith, a, b));
       made =

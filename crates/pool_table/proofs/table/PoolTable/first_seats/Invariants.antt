@@ -1,5 +1,6 @@
 use Rattle.std.proofs.Common.{◌≡◌, ◌≤◌, ◌<◌, ◌-◌, ℕ, []}
-use Rattle.std.specs.Prelude.{vec_len, vec_capacity, HoldsAt}
+use Rattle.std.specs.Prelude.{vec_len, vec_capacity, HoldsAt, All}
+use Rattle.pool_table.specs.Opened.{AreNone}
 use Rattle.pool_table.specs.Steps.{rest_view, lane_view}
 use Rattle.pool_table.proofs.table.PoolTable.first_seats.Given as goal
 
@@ -12,6 +13,8 @@ invariant-loop-i g l = record {
   );
   own : l.rest.table_id ≡ l.self.table.shared.table_id;
   many : vec_len l.seats ≡ l.i;
+  left : vec_len l.counts ≡ l.self.layout.shape.lanes - l.i;
+  none : All (λ c. AreNone 16 c.items) l.counts.items;
   room : l.self.layout.shape.lanes ≤ vec_capacity l.seats;
   made : (k : ℕ) → k < l.i → HoldsAt
       (λ s. (s.seat.table_id ≡ l.self.table.shared.table_id)

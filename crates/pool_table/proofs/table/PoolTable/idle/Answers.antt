@@ -2,6 +2,10 @@ use Rattle.std.proofs.Common.{◌∷◌, ap, ◌∙◌}
 use Rattle.std.specs.Prelude.{Some}
 use Rattle.atomic_table.specs.Table.{rest}
 use Rattle.pool_table.proofs.Calls.{word_within, idles_as}
+use Rattle.atomic_table.specs.Table.{step}
+use Rattle.pool_table.specs.Slots.{slots_of}
+use Rattle.pool_table.proofs.SeatFields.{fits_as, fits_idles}
+use mathlib.Core.Option.{none}
 use Rattle.pool_table.proofs.table.PoolTable.idle.Goals as goal
 
 pub fetch_sub-requires : goal.fetch_sub-requires
@@ -17,3 +21,16 @@ fetch_sub-requires g c = (
       c.requires.section.inside.holds)
       c.requires.leaves c.requires.section.stands_for,
 )
+
+pub invariant_of-seat : goal.invariant_of-seat
+invariant_of-seat g c =
+    let s = c.args.seat.now in let v = s.seat.me.0 in
+    record {
+      of_view = fits_idles s.number s.letter s.sent.items _
+          (step (slots_of c.args.self.now.layout.shape) c.args.section.slot.word 1 0 none) c.exchange-empty.new.seat.me
+          c.fetch_sub.new.seat.me c.fetch_sub.result
+          (ap (λ m. m.0.inside) c.exchange-empty.ensures.3 ∙ c.requires.section.inside.inside) c.fetch_sub.ensures.2
+          (fits_as s.number s.letter s.sent.items v c.exchange-empty.new.seat.me.0
+          (ap (λ m. m.0) c.exchange-empty.ensures.3)
+          s.of_view);
+    }

@@ -1,0 +1,14 @@
+use Rattle.std.proofs.Common.{ap, ◌/◌, ◌%◌}
+use Rattle.pool_law.specs.declared.note.RefDid.TheVariants.{Look}
+use Rattle.pool_table.specs.Counts.{with_ref}
+use Rattle.pool_table.proofs.SeatFields.{fits_as, fits_ref}
+use Rattle.pool_table.proofs.table.PoolTable.look.Goals as goal
+
+pub invariant_of-seat : goal.invariant_of-seat
+invariant_of-seat g c =
+    let s = c.args.seat.now in let v = s.seat.me.0 in let r = c.args.root in
+    let d = Look (c.look_word-word.result % 4294967296 / 2) in record {
+      of_view = fits_as s.number s.letter s.sent.items (with_ref v r d v.moves) c.look_word-word.new.seat.me.0
+          (ap (λ m. m.0) c.look_word-word.ensures.noted)
+          (fits_ref s.number s.letter s.sent.items v r d v.moves s.of_view);
+    }
