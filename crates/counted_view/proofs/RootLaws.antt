@@ -1,12 +1,11 @@
 -- That all views are of one root, and that the nest counts it while any of them is held.
-use Rattle.std.proofs.Common.{◌≡◌, ℕ, zero, suc, ◌+◌, ◌<◌, ◌≤◌, ◌⊎◌, ◌≢◌, Bool, true, false, ◌&&◌, ◌||◌, List, [], ◌∷◌, ◌++◌, length, map, set, refl, sym, ap, ◌∙◌, subst, ⊎_elim, arith, Some, None, sum_by, eq-eqb}
-use Rattle.std.specs.Prelude.{Option, option_map, nat_lt, ◌==◌, if◌then◌else◌, slice_get}
-use Rattle.std.proofs.lemmas.Bool.{ltb-true}
+use Rattle.std.proofs.Common.{◌≡◌, ℕ, zero, suc, ◌+◌, ◌<◌, ◌≤◌, ◌≢◌, Bool, true, ◌&&◌, ◌||◌, List, [], ◌∷◌, ◌++◌, length, map, set, refl, sym, ap, ◌∙◌, subst, ⊎_elim, arith, Some, None, sum_by, eq-eqb}
+use Rattle.std.specs.Prelude.{Option, option_map, nat_lt, slice_get}
 use Rattle.std.proofs.lemmas.List.Sums.{sum_by-cons}
 use Rattle.std.proofs.lemmas.Option.{slice_get_within, slice_get-map, same_Some}
 use Rattle.pool_law.specs.declared.id.RootId.{RootId}
 use Rattle.counted_view.specs.declared.rows.Row.{Row}
-use Rattle.counted_view.specs.Nests.{NestedView, made_from, if_held, held_view, root_counts}
+use Rattle.counted_view.specs.Nests.{NestedView, made_from, root_counts}
 use Rattle.counted_view.specs.Rows.{shown, row_live, live_rows, root_sum, IsBelow, AreCounted}
 use Rattle.counted_view.specs.Trees.{AreOf}
 use Rattle.counted_view.proofs.RowLaws.{one, live-held, live-kept, set_cases}

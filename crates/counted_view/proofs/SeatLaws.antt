@@ -3,22 +3,19 @@ use Rattle.std.proofs.Common.{◌≡◌, ℕ, ◌+◌, ◌-◌, ◌<◌, Bool, t
 use Rattle.std.specs.Prelude.{Option, IsSome, option_map, unwrap_or, nat_lt, ◌==◌, if◌then◌else◌, slice_get, MatchBool}
 use Rattle.std.proofs.lemmas.Bool.{lt-ltb, le-ltb, ltb-true}
 use Rattle.std.proofs.lemmas.List.Sums.{sum_by-cons, sum_by_push}
-use Rattle.step_law.specs.declared.Told.{Ghosts}
 use Rattle.pool_law.specs.declared.id.RootId.{RootId}
-use Rattle.pool_law.specs.declared.note.Noted.{Noted}
 use Rattle.pool_law.specs.declared.note.RefDid.{RefDid}
 use Rattle.pool_law.specs.declared.note.RefDid.TheVariants as steps
 use Rattle.pool_law.specs.Views.{in_range}
 use Rattle.pool_law.proofs.PatternLemmas.{same_root-refl}
 use Rattle.pool_table.specs.declared.roots.EndToken.{EndToken}
-use Rattle.pool_table.specs.declared.table.PoolSeat.{PoolSeat}
+use Rattle.shared_pool.specs.declared.seat.PoolSeat.{PoolSeat}
 use Rattle.pool_table.specs.declared.views.Entry.{Entry}
 use Rattle.pool_table.specs.declared.views.Entry.TheVariants.{Ref}
 use Rattle.pool_table.specs.declared.views.Part.{Part}
 use Rattle.pool_table.specs.declared.views.SeatView.{SeatView}
 use Rattle.pool_table.specs.Counts.{weigh, ref_gain, ref_loss, on_this, fetches, posts, gained_of, lost_of, with_ref, HasCount}
-use Rattle.pool_table.specs.Seats.{view_of}
-use Rattle.shared_pool.specs.declared.home.Home.{Home}
+use Rattle.shared_pool.specs.SeatViews.{view_of}
 use Rattle.shared_pool.specs.RootNotes.{IsReleasedAs}
 use Rattle.counted_view.specs.declared.calls.NestNo.{NestNo}
 use Rattle.counted_view.specs.declared.calls.NestNo.TheVariants.{Range, Full}
@@ -70,14 +67,14 @@ counts_ref v w root d moves before after is sum counts =
 pub counts_some : (v : SeatView) (root : RootId) (times : ℕ) → Counts root times v → 0 < times → HasCount root v
 counts_some v root times counts some = omega (arith, counts, some)
 
-module _ {G : Ghosts Home Noted} (root : RootId) (old new : PoolSeat Home G) where
+module _ (root : RootId) (old new : PoolSeat) where
   counted_by : (b : Bool) (times : ℕ) → MatchBool b (IsRetained root old new) (new ≡ old)
       → Counts root times (view_of old) → Counts root (times + one b) (view_of new)
   counted_by true times did counts =
       counts_ref (view_of old) (view_of new) root steps.Retain ((view_of old).moves - 1) times (times + 1)
       (ap (λ m. m.0) did) (omega arith) counts
   counted_by false times did counts =
-      subst (λ (s : PoolSeat Home G). Counts root (times + 0) (view_of s)) (sym did) (omega (arith, counts))
+      subst (λ (s : PoolSeat). Counts root (times + 0) (view_of s)) (sym did) (omega (arith, counts))
 
   -- one hold more is counted where it is one of view 0
   pub counted_in : (number times : ℕ) → IsCountedIn number root old new → Counts root times (view_of old)
@@ -98,7 +95,7 @@ module _ {G : Ghosts Home Noted} (root : RootId) (old new : PoolSeat Home G) whe
       → Counts root (times + one lost) (view_of old) → Counts root times (view_of new)
   released_if true token times did counts = lost_by token times did counts
   released_if false token times did counts =
-      subst (λ (s : PoolSeat Home G). Counts root times (view_of s)) (sym did.1) (omega (arith, counts))
+      subst (λ (s : PoolSeat). Counts root times (view_of s)) (sym did.1) (omega (arith, counts))
 
 -- ---- What the answers say of a nest.
 
@@ -141,7 +138,7 @@ lost_is false new old e = le-ltb new old (omega arith)
 
 -- ---- The nest and the seat.
 
-module _ {G : Ghosts Home Noted} (s t : NestState) (root : RootId) (old new : PoolSeat Home G) (is : root ≡ s.root)
+module _ (s t : NestState) (root : RootId) (old new : PoolSeat) (is : root ≡ s.root)
     (same : t.root ≡ s.root) where
   moved : (k : ℕ) → k ≡ root_counts t → Counts root k (view_of new) → CountsRoot t new
   moved k sum counts =
@@ -173,7 +170,7 @@ module _ {G : Ghosts Home Noted} (s t : NestState) (root : RootId) (old new : Po
       counts_some (view_of old) root (root_counts s) (was counts) (omega (arith, sum))
 
 -- a seat that counts the root of a nest whose view 0 is held
-pub HasCount-held : {G : Ghosts Home Noted} (s : NestState) (root : RootId) (seat : PoolSeat Home G) (number : ℕ)
+pub HasCount-held : (s : NestState) (root : RootId) (seat : PoolSeat) (number : ℕ)
     → root ≡ s.root → number ≡ 0 → IsSome (held_view s number) → CountsRoot s seat → HasCount root (view_of seat)
 HasCount-held s root seat number is zero held counts =
     let at_zero : IsSome (held_view s 0) = subst (λ (n : ℕ). IsSome (held_view s n)) zero held in

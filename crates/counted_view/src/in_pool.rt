@@ -2,7 +2,7 @@
 
 ghost use Rattle.std.specs.Prelude.{◌≡◌, ◌<◌, IsTrue};
 ghost use Rattle.pool_table.specs.Counts.{HasCount};
-ghost use Rattle.pool_table.specs.Seats.{view_of, SameSeat};
+ghost use Rattle.shared_pool.specs.SeatViews.{view_of, SameSeat};
 ghost use Rattle.shared_pool.specs.Seats.{IsPoolSeat};
 ghost use Rattle.counted_view.specs.NestSeats.{IsCountedIn, IsReleasedIf};
 

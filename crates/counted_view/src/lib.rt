@@ -9,8 +9,6 @@ mod calls;
 mod in_pool;
 mod nest;
 mod rows;
-#[cfg(test)]
-mod tests;
 mod view_tree;
 
 pub use calls::{NestCall, NestEnd, NestNo};

@@ -1,51 +1,36 @@
 -- Accesses to the root's bytes.
-use Rattle.std.proofs.Common.{◌≡◌, ◌≢◌, ℕ, ◌+◌, ◌-◌, ◌*◌, ◌^◌, ◌<◌, ◌≤◌, ◌⊎◌, Bool, true, false, ◌&&◌, ◌||◌, List, [], ◌∷◌, ◌++◌, length, map, refl, sym, ap, ◌∙◌, subst, inl, inr, ⊎_elim, arith, Some, None, eqb-true, eq-eqb, ne_eqb}
-use Rattle.std.specs.Prelude.{Option, IsSome, IfSome, ◌==◌, if◌then◌else◌, nat_lt, nat_le, min}
-use Rattle.std.proofs.lemmas.Bool.{lt-ltb, le-ltb}
-use Rattle.std.proofs.lemmas.Bool.Decides.{nat_tests}
-use Rattle.std.proofs.lemmas.Option.{same_Some}
+use Rattle.std.proofs.Common.{◌≡◌, ◌≢◌, ℕ, ◌+◌, ◌-◌, ◌*◌, ◌^◌, ◌<◌, ◌≤◌, ◌⊎◌, ◌&&◌, ◌||◌, List, [], ◌∷◌, ◌++◌, length, refl, sym, ap, ◌∙◌, subst, ⊎_elim, arith, Some, None}
+use Rattle.std.specs.Prelude.{Option, IfSome, ◌==◌, if◌then◌else◌, min}
 use Rattle.pool_law.specs.declared.id.RootId.{RootId}
 use Rattle.pool_law.specs.declared.note.Did.{Did}
 use Rattle.pool_law.specs.declared.note.Note.{Note}
-use Rattle.pool_law.specs.declared.note.Note.TheVariants.{At, Ref, Busy}
+use Rattle.pool_law.specs.declared.note.Note.TheVariants.{At}
 use Rattle.pool_law.specs.declared.note.Object.{Object}
 use Rattle.pool_law.specs.declared.note.RefDid.TheVariants as steps
-use Rattle.pool_law.specs.Counts.{is_born, is_retain, is_release}
-use Rattle.pool_law.specs.Logs.{own_note}
 use Rattle.pool_law.specs.Roots.{laid_over, bytes_at}
-use Rattle.pool_law.specs.Views.{root_index, in_range}
-use Rattle.pool_law.proofs.HistoryLemmas.{append-assoc}
-use Rattle.pool_law.proofs.PatternLemmas.{same_root-refl}
-use Rattle.pool_table.specs.declared.roots.EndToken.{EndToken}
-use Rattle.pool_table.specs.Counts.{gained_of, lost_of, HasCount}
-use Rattle.pool_table.specs.Seats.{view_of}
+use Rattle.pool_law.specs.Views.{root_index}
+use Rattle.pool_table.specs.Counts.{HasCount}
+use Rattle.shared_pool.specs.SeatViews.{view_of}
 use Rattle.shared_pool.specs.declared.pool.SharedPool.{SharedPool}
 use Rattle.shared_pool.specs.RootNotes.{access}
-use Rattle.shared_pool.specs.Seats.{IsPoolSeat, IsNoted}
-use Rattle.seat_work.specs.Answers.{with_token}
+use Rattle.shared_pool.specs.Seats.{IsNoted}
 use Rattle.seat_work.specs.Changes.{no_change}
-use Rattle.seat_work.specs.Growth.{how_many}
 use Rattle.seat_work.specs.Hands.{empty_hand}
-use Rattle.seat_work.specs.Works.{Works, Goes, Proceeds}
-use Rattle.seat_work.proofs.Proceeding.{goes_on, works_after, proceeds_more}
-use Rattle.counted_view.specs.declared.calls.NestCall.{NestCall}
+use Rattle.seat_work.specs.Works.{Works, Proceeds}
+use Rattle.seat_work.proofs.Proceeding.{proceeds_more}
 use Rattle.counted_view.specs.declared.calls.NestCall.TheVariants as accepted
-use Rattle.counted_view.specs.declared.calls.NestNo.{NestNo}
-use Rattle.counted_view.specs.declared.calls.NestNo.TheVariants.{Full, Range}
-use Rattle.counted_view.specs.Nests.{NestedView, NestState, after_call, held_view, root_counts, live_slices, has_all, range_no, slice_no, retain_no, release_no}
-use Rattle.counted_view.specs.NestSeats.{CountsRoot, IsCountedIn, IsReleasedIf}
-use Rattle.counted_view.proofs.SeatLaws.{HasCount-held, some_if_sliced, some_if_retained}
+use Rattle.counted_view.specs.Nests.{NestedView, NestState, held_view, root_counts, range_no}
+use Rattle.counted_view.specs.NestSeats.{CountsRoot}
 use Rattle.nest_run.specs.declared.calls.Call.{Call}
-use Rattle.nest_run.specs.declared.calls.Call.TheVariants.{Slice, Retain, Release, Set, Get}
+use Rattle.nest_run.specs.declared.calls.Call.TheVariants.{Set, Get}
 use Rattle.nest_run.specs.declared.replies.Reply.{Reply}
 use Rattle.nest_run.specs.declared.replies.Reply.TheVariants as replies
 use Rattle.nest_run.specs.declared.views.Play.{Play}
-use Rattle.nest_run.specs.Inputs.{capacity_limit, call_limit}
-use Rattle.nest_run.specs.Plays.{Stage, step, let_go, released}
-use Rattle.nest_run.specs.Standing.{log_of, dids_of, Leave, IsWhole, HasBytes, stage_of, AreHeld, Stands, IsRight, IsPlayed, HasEnded, is_elsewhere, refusal}
-use Rattle.nest_run.proofs.LogLaws.{whole_before, bytes_kept, bytes_set, bytes_got, bytes_read, bytes_ended, leave_same}
-use Rattle.nest_run.proofs.StepLaws.{view_done, view_refused, range_done, range_refused, release_not_full, range_not_full, slice_is_range, retain_is_release, after_held, after_long}
-use Rattle.nest_run.proofs.SeatLogs.{Took, took, Kept, kept, Last, ended, log_noted, counts_change}
+use Rattle.nest_run.specs.Plays.{step}
+use Rattle.nest_run.specs.Standing.{log_of, Leave, IsWhole, HasBytes, stage_of, Stands, IsPlayed}
+use Rattle.nest_run.proofs.LogLaws.{whole_before, bytes_set, bytes_got, bytes_read, leave_same}
+use Rattle.nest_run.proofs.StepLaws.{range_done}
+use Rattle.nest_run.proofs.SeatLogs.{log_noted}
 use Rattle.nest_run.proofs.PlayLaws.{stands_still}
 use Rattle.nest_run.proofs.OpenLaws.{works_less}
 

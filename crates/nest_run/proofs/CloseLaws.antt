@@ -1,13 +1,10 @@
 -- The close of a pool of one seat.
-use Rattle.std.proofs.Common.{◌≡◌, ℕ, zero, suc, ◌+◌, ◌<◌, List, [], ◌∷◌, length, refl, sym, ap, ◌∙◌, subst, arith, Some}
-use Rattle.std.specs.Prelude.{All, HoldsAt, Option}
-use Rattle.step_law.specs.declared.Told.{Ghosts}
-use Rattle.pool_law.specs.declared.note.Noted.{Noted}
+use Rattle.std.proofs.Common.{◌≡◌, ℕ, zero, suc, ◌+◌, ◌<◌, [], ◌∷◌, sym, ap, ◌∙◌, arith, Some}
+use Rattle.std.specs.Prelude.{All, HoldsAt}
 use Rattle.pool_law.specs.declared.run.Shape.{Shape}
-use Rattle.pool_table.specs.declared.table.PoolSeat.{PoolSeat}
+use Rattle.shared_pool.specs.declared.seat.PoolSeat.{PoolSeat}
 use Rattle.pool_table.specs.declared.views.Layout.{Layout}
-use Rattle.pool_table.specs.Seats.{view_of}
-use Rattle.shared_pool.specs.declared.home.Home.{Home}
+use Rattle.shared_pool.specs.SeatViews.{view_of}
 use Rattle.shared_pool.specs.declared.pool.SharedPool.{SharedPool}
 use Rattle.shared_pool.specs.Closing.{AreWhole}
 use Rattle.shared_pool.specs.Seated.{IsDone, AreDone, parts_in}
@@ -22,7 +19,7 @@ use Rattle.nest_run.specs.Plays.{replies_to, live_after}
 use Rattle.nest_run.specs.Standing.{log_of, IsWhole, HasPlayed}
 use Rattle.nest_run.proofs.OneLane.{closed_whole}
 
-module _ {G : Ghosts Home Noted} (pool : SharedPool) (layout : pool.layout ≡ LAYOUT) (seat : PoolSeat Home G) where
+module _ (pool : SharedPool) (layout : pool.layout ≡ LAYOUT) (seat : PoolSeat) where
   lanes : pool.table.layout.shape.lanes ≡ 1
   lanes = ap (λ (l : Layout). l.shape.lanes) (pool.same_layout ∙ layout)
 
@@ -46,8 +43,8 @@ module _ {G : Ghosts Home Noted} (pool : SharedPool) (layout : pool.layout ≡ L
   one_seat is (suc k) d lt = absurd (omega (arith, lt))
 
 -- what the close tells of all notes says that all was right
-pub closed_right : {G : Ghosts Home Noted} (pool : SharedPool) (shape : Shape) (input : Input) (played : Played)
-    (seat : PoolSeat Home G) → HasPlayed pool input played seat → AreWhole shape (parts_in (seat ∷ []))
+pub closed_right : (pool : SharedPool) (shape : Shape) (input : Input) (played : Played)
+    (seat : PoolSeat) → HasPlayed pool input played seat → AreWhole shape (parts_in (seat ∷ []))
     → played ≡ record { replies = replies_to input; live = live_after input }
 closed_right pool shape input played seat has whole =
     let w : IsWhole (log_of seat) = closed_whole shape (view_of seat).own whole in

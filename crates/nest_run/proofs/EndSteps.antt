@@ -1,18 +1,16 @@
 -- The three notes with which a root ends, and what the seat has in hand between them.
-use Rattle.std.proofs.Common.{◌≡◌, ℕ, ◌+◌, ◌≤◌, List, [], ◌∷◌, ◌++◌, refl, sym, ap, ◌∙◌, arith, None, true}
-use Rattle.step_law.specs.declared.Told.{Ghosts}
+use Rattle.std.proofs.Common.{◌≡◌, ℕ, ◌+◌, ◌≤◌, List, [], ◌∷◌, ◌++◌, refl, ap, ◌∙◌, arith}
 use Rattle.handle_bin.specs.Bins.{HandleValue}
 use Rattle.pool_law.specs.declared.id.Region.{Region}
 use Rattle.pool_law.specs.declared.id.RootId.{RootId}
 use Rattle.pool_law.specs.declared.note.Did.{Did}
 use Rattle.pool_law.specs.declared.note.Note.{Note}
 use Rattle.pool_law.specs.declared.note.Note.TheVariants.{At, Ref}
-use Rattle.pool_law.specs.declared.note.Noted.{Noted}
 use Rattle.pool_law.specs.declared.note.Object.{Object}
 use Rattle.pool_law.specs.declared.note.RefDid.TheVariants as steps
 use Rattle.pool_law.proofs.HistoryLemmas.{append-assoc}
-use Rattle.pool_table.specs.declared.table.PoolSeat.{PoolSeat}
-use Rattle.pool_table.specs.Seats.{view_of}
+use Rattle.shared_pool.specs.declared.seat.PoolSeat.{PoolSeat}
+use Rattle.shared_pool.specs.SeatViews.{view_of}
 use Rattle.shared_pool.specs.declared.home.Home.{Home}
 use Rattle.shared_pool.specs.declared.pool.SharedPool.{SharedPool}
 use Rattle.shared_pool.specs.Holding.{HoldsHandle}
@@ -21,7 +19,7 @@ use Rattle.shared_pool.specs.RootNotes.{end_of, IsNotedWith}
 use Rattle.shared_pool.specs.Seats.{IsPoolSeat, IsNoted}
 use Rattle.seat_work.specs.Answers.{with_place, with_both, with_token}
 use Rattle.seat_work.specs.Changes.{no_change}
-use Rattle.seat_work.specs.Hands.{Hand, empty_hand}
+use Rattle.seat_work.specs.Hands.{empty_hand}
 use Rattle.seat_work.specs.Works.{Works, Proceeds}
 use Rattle.seat_work.proofs.Calls.{ended_root, gave_region, handle_home}
 use Rattle.seat_work.proofs.Holds.{holds_handle, is_handle}
@@ -30,7 +28,7 @@ use Rattle.nest_run.specs.Standing.{log_of, HasEnded}
 use Rattle.nest_run.proofs.OpenLaws.{works_less}
 use Rattle.nest_run.proofs.SeatLogs.{log_noted, log_with}
 
-module _ {G : Ghosts Home Noted} (pool : SharedPool) (root : RootId) (s0 s1 s2 s3 : PoolSeat Home G)
+module _ (pool : SharedPool) (root : RootId) (s0 s1 s2 s3 : PoolSeat)
     (works0 : Works pool (with_token root) 4 0 s0) (h : HandleValue) (r : Region) (j : ℕ) (seat1 : IsPoolSeat pool s1)
     (noted1 : IsNotedWith pool s0 s1 root j (end_of root r.id) steps.Vacated (view_of s0).moves)
     (at : h.place ≡ root.place) (holds1 : HoldsHandle pool s1 h) where

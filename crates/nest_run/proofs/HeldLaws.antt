@@ -1,21 +1,17 @@
 -- What a seat has in hand is in the hands of any seat with the same view.
-use Rattle.std.proofs.Common.{◌≡◌, ℕ, sym, subst, Some, None}
-use Rattle.std.specs.Prelude.{Option, IfSome}
-use Rattle.step_law.specs.Settings.{Setting}
-use Rattle.step_law.specs.declared.Told.{Ghosts}
+use Rattle.std.proofs.Common.{◌≡◌, sym, subst}
+use Rattle.std.specs.Prelude.{IfSome}
 use Rattle.handle_bin.specs.Bins.{HandleValue}
 use Rattle.pool_law.specs.declared.id.Region.{Region}
-use Rattle.pool_law.specs.declared.note.Noted.{Noted}
 use Rattle.pool_law.specs.Places.{IsInPlace}
-use Rattle.pool_table.specs.declared.table.PoolSeat.{PoolSeat}
+use Rattle.shared_pool.specs.declared.seat.PoolSeat.{PoolSeat}
 use Rattle.pool_table.specs.declared.views.SeatView.{SeatView}
 use Rattle.pool_table.specs.Hands.{InHand, NoneWaits, HasRegion}
-use Rattle.pool_table.specs.Seats.{view_of}
-use Rattle.shared_pool.specs.declared.home.Home.{Home}
+use Rattle.shared_pool.specs.SeatViews.{view_of}
 use Rattle.shared_pool.specs.declared.pool.SharedPool.{SharedPool}
 use Rattle.shared_pool.specs.Holding.{HoldsRegion, HoldsHandle}
 
-module _ {G : Ghosts Home Noted} (pool : SharedPool) (old new : PoolSeat Home G)
+module _ (pool : SharedPool) (old new : PoolSeat)
     (same : view_of new ≡ view_of old) where
   pub region_same : (r : Region) → HoldsRegion pool old r → HoldsRegion pool new r
   region_same r holds = record {

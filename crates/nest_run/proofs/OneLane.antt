@@ -52,7 +52,7 @@ history_is : (shape : Shape) (log : List Note) → HistoriesHold shape (log ∷ 
     → dids (history_of (Object.Root 0) (log ∷ [])) ≡ dids_of log
 history_is shape log holds =
     let h : History = history_of (Object.Root 0) (log ∷ []) in
-    let whole = holds.whole (Object.Root 0) in
+    let whole = holds.whole (Object.Root 0) refl in
     sym (all_own 1 h (λ lane other. sym (whole lane) ∙ ap (own (Object.Root 0)) (other_lane log lane other)))
     ∙ ap (map (λ (e : ℕ × Did). e.1)) (sym (whole 0))
 
@@ -144,7 +144,7 @@ pub closed_whole : (shape : Shape) (part : Part) → AreWhole shape (part ∷ []
 closed_whole shape part whole =
     let log : List Note = map note_of part.notes in
     let place = some_if (place_after 0 (dids (history_of (Object.Root 0) (log ∷ []))))
-    (whole.histories.accepted (Object.Root 0)) in
+    (whole.histories.accepted (Object.Root 0) refl) in
     record {
       state = place.0;
       place = ap (place_after 0) (sym (history_is shape log whole.histories)) ∙ place.1;

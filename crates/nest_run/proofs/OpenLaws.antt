@@ -1,40 +1,32 @@
 -- A root that is born in a new pool, and the first moment of a play.
-use Rattle.std.proofs.Common.{◌≡◌, ℕ, ◌+◌, ◌-◌, ◌*◌, ◌<◌, ◌≤◌, Bool, true, false, ◌&&◌, List, [], ◌∷◌, ◌++◌, length, map, replicate, zero, suc, refl, sym, ap, ◌∙◌, subst, arith, Some, None}
-use Rattle.std.specs.Prelude.{Option, IfSome, if◌then◌else◌, slice_get}
+use Rattle.std.proofs.Common.{◌≡◌, ℕ, ◌+◌, ◌-◌, ◌*◌, ◌<◌, ◌≤◌, Bool, false, ◌&&◌, List, [], ◌∷◌, ◌++◌, map, replicate, zero, suc, refl, sym, ap, ◌∙◌, subst, arith, Some, None}
+use Rattle.std.specs.Prelude.{IfSome, if◌then◌else◌}
 use Rattle.std.proofs.lemmas.Option.{same_Some}
-use Rattle.step_law.specs.declared.Told.{Ghosts}
 use Rattle.handle_bin.specs.Bins.{HandleValue}
-use Rattle.pool_arena.specs.Standing.{taken_or_full}
 use Rattle.pool_law.specs.declared.id.Region.{Region}
-use Rattle.pool_law.specs.declared.id.RegionId.{RegionId}
 use Rattle.pool_law.specs.declared.id.RootId.{RootId}
 use Rattle.pool_law.specs.declared.note.Did.{Did}
 use Rattle.pool_law.specs.declared.note.Note.{Note}
 use Rattle.pool_law.specs.declared.note.Note.TheVariants.{At, Ref}
-use Rattle.pool_law.specs.declared.note.Noted.{Noted}
 use Rattle.pool_law.specs.declared.note.Object.{Object}
 use Rattle.pool_law.specs.declared.note.RefDid.TheVariants as steps
-use Rattle.pool_law.specs.Histories.{place_after}
-use Rattle.pool_law.specs.Roots.{RootPlace}
 use Rattle.pool_law.specs.Same.{same_root}
-use Rattle.pool_law.proofs.HistoryLemmas.{append-assoc}
 use Rattle.pool_law.proofs.PatternLemmas.{same_root-refl}
-use Rattle.pool_table.specs.declared.table.PoolSeat.{PoolSeat}
+use Rattle.shared_pool.specs.declared.seat.PoolSeat.{PoolSeat}
 use Rattle.pool_table.specs.declared.views.Layout.{Layout}
 use Rattle.pool_table.specs.declared.views.SeatView.{SeatView}
 use Rattle.pool_table.specs.Counts.{gained_of, lost_of}
-use Rattle.pool_table.specs.Seats.{view_of}
-use Rattle.shared_pool.specs.declared.home.Home.{Home}
+use Rattle.shared_pool.specs.SeatViews.{view_of}
 use Rattle.shared_pool.specs.declared.pool.SharedPool.{SharedPool}
 use Rattle.shared_pool.specs.Closing.{note_of}
-use Rattle.shared_pool.specs.Holding.{HoldsHandle, HoldsRegion}
-use Rattle.shared_pool.specs.Notes.{plain, popped}
+use Rattle.shared_pool.specs.Holding.{HoldsHandle}
+use Rattle.shared_pool.specs.Notes.{plain}
 use Rattle.shared_pool.specs.Opening.{IsOpened}
 use Rattle.shared_pool.specs.RootNotes.{birth, IsNotedWith}
 use Rattle.shared_pool.specs.SeatLanes.{lane_of}
 use Rattle.shared_pool.specs.Seats.{IsPoolSeat, IsNoted}
 use Rattle.seat_work.specs.Answers.{with_place, with_both}
-use Rattle.seat_work.specs.Changes.{no_change, once_more, Changes}
+use Rattle.seat_work.specs.Changes.{no_change, once_more}
 use Rattle.seat_work.specs.Hands.{Hand, empty_hand}
 use Rattle.seat_work.specs.Works.{Works, Proceeds}
 use Rattle.seat_work.proofs.Calls.{popped_handle, took_region, born_root}
@@ -47,8 +39,8 @@ use Rattle.nest_run.specs.declared.openings.TheConstants.{LAYOUT}
 use Rattle.nest_run.specs.declared.views.Play.{Play}
 use Rattle.nest_run.specs.Inputs.{capacity_limit, call_limit}
 use Rattle.nest_run.specs.Plays.{first_root}
-use Rattle.nest_run.specs.Standing.{log_of, dids_of, Leave, IsWhole, HasBytes, IsBorn, Stands, AreHeld}
-use Rattle.nest_run.proofs.LogLaws.{born_first, leave_more}
+use Rattle.nest_run.specs.Standing.{log_of, dids_of, Leave, IsBorn, Stands, AreHeld}
+use Rattle.nest_run.proofs.LogLaws.{born_first}
 use Rattle.nest_run.proofs.SeatLogs.{log_noted, log_with}
 
 -- the notes of the opening
@@ -58,7 +50,7 @@ opening lane j popped' arena k taken root n born =
     ∷ At (Object.Root root.place) n born ∷ Ref root steps.Born ∷ []
 
 -- with less to spend
-pub works_less : {G : Ghosts Home Noted} (pool : SharedPool) (hand : Hand) (t m a b : ℕ) (s : PoolSeat Home G)
+pub works_less : (pool : SharedPool) (hand : Hand) (t m a b : ℕ) (s : PoolSeat)
     → Works pool hand t m s → a ≤ t → b ≤ m → Works pool hand a b s
 works_less pool hand t m a b s w le lf = record {
   seat = w.seat;
@@ -84,10 +76,10 @@ born_leaves root lane j arena k n p t b =
     ap (λ (x : Bool). if x && false then 1 else 0) (same_root-refl root) in
     omega (arith, one, none)
 
-module _ {G : Ghosts Home Noted} (pool : SharedPool) (layout : pool.layout ≡ LAYOUT) (mail : List ℕ)
-    (s0 s1 s2 s3 : PoolSeat Home G) (opened : IsOpened LAYOUT mail pool 0 s0) where
+module _ (pool : SharedPool) (layout : pool.layout ≡ LAYOUT)
+    (s0 s1 s2 s3 : PoolSeat) (opened : IsOpened LAYOUT pool 0 s0) where
   abbrev works0 : Works pool empty_hand 16387 4096 s0
-  works0 = opened_works pool LAYOUT mail 0 16387 4096 s0 opened (omega arith) (omega arith)
+  works0 = opened_works pool LAYOUT 0 16387 4096 s0 opened (omega arith) (omega arith)
 
   module _ (h : HandleValue) (j : ℕ) (seat1 : IsPoolSeat pool s1)
       (noted1 : IsNoted pool s0 s1 (Object.Bin (lane_of s0)) j (plain (Did.Handle h.place)))

@@ -1,10 +1,8 @@
 -- The notes of a seat after a call, and what the counts of its root come to.
 use Rattle.std.proofs.Common.{◌≡◌, ℕ, ◌+◌, ◌-◌, ◌<◌, ◌≤◌, Bool, true, false, List, [], ◌∷◌, ◌++◌, map, refl, sym, ap, ◌∙◌, subst, arith, Some, None}
-use Rattle.std.specs.Prelude.{Option, ◌==◌, if◌then◌else◌, MatchBool}
+use Rattle.std.specs.Prelude.{◌==◌, if◌then◌else◌, MatchBool}
 use Rattle.std.proofs.lemmas.List.{map-append}
-use Rattle.step_law.specs.declared.Told.{Ghosts}
 use Rattle.pool_law.specs.declared.id.RootId.{RootId}
-use Rattle.pool_law.specs.declared.note.Did.{Did}
 use Rattle.pool_law.specs.declared.note.Note.{Note}
 use Rattle.pool_law.specs.declared.note.Note.TheVariants.{At, Ref}
 use Rattle.pool_law.specs.declared.note.Noted.{Noted}
@@ -14,30 +12,29 @@ use Rattle.pool_law.specs.declared.note.RefDid.TheVariants as steps
 use Rattle.pool_law.specs.Naming.{noted_by}
 use Rattle.pool_law.proofs.HistoryLemmas.{append-assoc}
 use Rattle.pool_table.specs.declared.roots.EndToken.{EndToken}
-use Rattle.pool_table.specs.declared.table.PoolSeat.{PoolSeat}
+use Rattle.shared_pool.specs.declared.seat.PoolSeat.{PoolSeat}
 use Rattle.pool_table.specs.declared.views.Entry.{Entry}
 use Rattle.pool_table.specs.declared.views.Entry.TheVariants as entries
 use Rattle.pool_table.specs.declared.views.SeatView.{SeatView}
 use Rattle.pool_table.specs.Counts.{gained_of, lost_of, with_ref, HasCount}
-use Rattle.pool_table.specs.Seats.{view_of, HasView}
-use Rattle.shared_pool.specs.declared.home.Home.{Home}
+use Rattle.shared_pool.specs.SeatViews.{view_of, HasView}
 use Rattle.shared_pool.specs.declared.pool.SharedPool.{SharedPool}
 use Rattle.shared_pool.specs.Closing.{note_of}
 use Rattle.shared_pool.specs.RootNotes.{IsNotedWith, HoldsToken}
 use Rattle.shared_pool.specs.Seats.{IsPoolSeat, IsNoted}
 use Rattle.seat_work.specs.Answers.{with_token}
-use Rattle.seat_work.specs.Changes.{Change, Changes, no_change, once_more, once_less, times}
-use Rattle.seat_work.specs.Hands.{Hand, empty_hand}
+use Rattle.seat_work.specs.Changes.{Change, Changes, once_more, once_less, times}
+use Rattle.seat_work.specs.Hands.{empty_hand}
 use Rattle.seat_work.specs.Works.{Works, Goes, Proceeds}
 use Rattle.seat_work.proofs.Calls.{retained, released_kept, released_last}
 use Rattle.seat_work.proofs.Counting.{one_self}
 use Rattle.seat_work.proofs.Proceeding.{goes_none, proceeds_more}
 use Rattle.counted_view.specs.Nests.{NestState, root_counts}
-use Rattle.counted_view.specs.NestSeats.{CountsRoot, IsRetained, IsReleasedIf, release_of}
-use Rattle.nest_run.specs.Standing.{log_of, dids_of, Leave, IsWhole, HasEnded, FitsRelease}
-use Rattle.nest_run.proofs.LogLaws.{leave_retained, leave_released, release_found, whole_before, bytes_kept}
+use Rattle.counted_view.specs.NestSeats.{CountsRoot, IsRetained, IsReleasedIf}
+use Rattle.nest_run.specs.Standing.{log_of, dids_of, Leave, IsWhole}
+use Rattle.nest_run.proofs.LogLaws.{leave_retained, leave_released, release_found}
 
-module _ {G : Ghosts Home Noted} (old new : PoolSeat Home G) where
+module _ (old new : PoolSeat) where
   log_more : (es : List Entry) → (view_of new).own.notes ≡ (view_of old).own.notes ++ es
       → log_of new ≡ log_of old ++ map note_of es
   log_more es e = ap (map note_of) e ∙ map-append note_of (view_of old).own.notes es
@@ -62,7 +59,7 @@ module _ {G : Ghosts Home Noted} (old new : PoolSeat Home G) where
 
 -- ---- What the nest counts more or less.
 
-module _ {G : Ghosts Home Noted} (s t : NestState) (old new : PoolSeat Home G) (same : t.root ≡ s.root)
+module _ (s t : NestState) (old new : PoolSeat) (same : t.root ≡ s.root)
     (was : CountsRoot s old) (is : CountsRoot t new) where
   -- what a change tells of the root tells it of the nest's counts
   pub counts_change : (c : Change) → Changes c (view_of old) (view_of new)
@@ -75,14 +72,14 @@ module _ {G : Ghosts Home Noted} (s t : NestState) (old new : PoolSeat Home G) (
   pub counts_same : new ≡ old → root_counts t ≡ root_counts s
   counts_same e =
       let now = subst (λ (r : RootId). gained_of r (view_of new) ≡ lost_of r (view_of new) + root_counts t) same is in
-      let there = subst (λ (x : PoolSeat Home G).
+      let there = subst (λ (x : PoolSeat).
       gained_of s.root (view_of x) ≡ lost_of s.root (view_of x) + root_counts t) e now in
       omega (arith, there, was)
 
 -- ---- A count more, if it is one of view 0.
 
 -- what a call left that took a count or left all: the notes are those before and some that say nothing of bytes
-pub record Took {G : Ghosts Home Noted} (pool : SharedPool) (s t : NestState) (old new : PoolSeat Home G) : Type 0
+pub record Took (pool : SharedPool) (s t : NestState) (old new : PoolSeat) : Type 0
   where
     pub goes : Goes pool empty_hand 4 1 old new
     pub more : List Note
@@ -90,7 +87,7 @@ pub record Took {G : Ghosts Home Noted} (pool : SharedPool) (s t : NestState) (o
     pub quiet : dids_of more ≡ []
     pub leave : Leave (log_of old) s.root (root_counts s) → Leave (log_of new) s.root (root_counts t)
 
-module _ {G : Ghosts Home Noted} (pool : SharedPool) (s t : NestState) (old new : PoolSeat Home G)
+module _ (pool : SharedPool) (s t : NestState) (old new : PoolSeat)
     (works : Works pool empty_hand 4 1 old) (seat : IsPoolSeat pool new) (same : t.root ≡ s.root)
     (was : CountsRoot s old) (is : CountsRoot t new) where
   abbrev u : SeatView
@@ -102,12 +99,12 @@ module _ {G : Ghosts Home Noted} (pool : SharedPool) (s t : NestState) (old new 
 
   pub stayed : new ≡ old → Took pool s t old new
   stayed e = record {
-    goes = subst (λ (x : PoolSeat Home G). Goes pool empty_hand 4 1 old x) (sym e) (at_rest);
+    goes = subst (λ (x : PoolSeat). Goes pool empty_hand 4 1 old x) (sym e) (at_rest);
     more = [];
     log = ap log_of e ∙ sym (append-nil (log_of old));
     quiet = refl;
     leave = λ left. subst (λ (n : ℕ). Leave (log_of new) s.root n) (sym (counts_same s t old new same was is e))
-        (subst (λ (x : PoolSeat Home G). Leave (log_of x) s.root (root_counts s)) (sym e) left);
+        (subst (λ (x : PoolSeat). Leave (log_of x) s.root (root_counts s)) (sym e) left);
   }
     where
       append-nil : (xs : List Note) → xs ++ [] ≡ xs
@@ -148,12 +145,12 @@ module _ {G : Ghosts Home Noted} (pool : SharedPool) (s t : NestState) (old new 
 -- ---- A count less, if the nest counts the root less.
 
 -- what a release left that ended nothing of the pool: a count is left, if the notes turn out to be whole
-pub record Kept {G : Ghosts Home Noted} (pool : SharedPool) (s t : NestState) (old new : PoolSeat Home G) : Type 0
+pub record Kept (pool : SharedPool) (s t : NestState) (old new : PoolSeat) : Type 0
   where
     pub took : Took pool s t old new
     pub counted : Leave (log_of old) s.root (root_counts s) → IsWhole (log_of new) → 0 < root_counts t
 
-module _ {G : Ghosts Home Noted} (pool : SharedPool) (s t : NestState) (old new : PoolSeat Home G)
+module _ (pool : SharedPool) (s t : NestState) (old new : PoolSeat)
     (works : Works pool empty_hand 4 1 old) (seat : IsPoolSeat pool new) (same : t.root ≡ s.root)
     (was : CountsRoot s old) (is : CountsRoot t new) (some : 0 < root_counts s) where
   abbrev v : SeatView

@@ -1,11 +1,9 @@
 -- What a seat that plays calls has noted, and what that tells. No public clause cites this module.
-use Rattle.std.specs.Prelude.{◌≡◌, ℕ, ◌+◌, ◌-◌, ◌*◌, ◌<◌, ◌≤◌, Bool, true, false, List, [], ◌∷◌, ◌++◌, length, map, drop, replicate, Option, Some, None, IfSome, slice_get}
-use Rattle.step_law.specs.declared.Told.{Ghosts}
+use Rattle.std.specs.Prelude.{◌≡◌, ℕ, ◌+◌, ◌-◌, ◌*◌, ◌<◌, ◌≤◌, Bool, true, false, List, [], ◌∷◌, ◌++◌, length, map, drop, replicate, Some, IfSome, slice_get}
 use Rattle.pool_law.specs.declared.id.RootId.{RootId}
 use Rattle.pool_law.specs.declared.note.Did.{Did}
 use Rattle.pool_law.specs.declared.note.Note.{Note}
 use Rattle.pool_law.specs.declared.note.Note.TheVariants.{At, Ref}
-use Rattle.pool_law.specs.declared.note.Noted.{Noted}
 use Rattle.pool_law.specs.declared.note.Object.{Object}
 use Rattle.pool_law.specs.declared.note.RefDid.{RefDid}
 use Rattle.pool_law.specs.declared.note.RefDid.TheVariants as steps
@@ -13,10 +11,9 @@ use Rattle.pool_law.specs.Counts.{is_born, is_retain, is_release}
 use Rattle.pool_law.specs.Histories.{place_after}
 use Rattle.pool_law.specs.Logs.{own}
 use Rattle.pool_law.specs.Roots.{RootPlace}
-use Rattle.pool_table.specs.declared.table.PoolSeat.{PoolSeat}
+use Rattle.shared_pool.specs.declared.seat.PoolSeat.{PoolSeat}
 use Rattle.pool_table.specs.Counts.{gained_of, lost_of}
-use Rattle.pool_table.specs.Seats.{view_of}
-use Rattle.shared_pool.specs.declared.home.Home.{Home}
+use Rattle.shared_pool.specs.SeatViews.{view_of}
 use Rattle.shared_pool.specs.declared.pool.SharedPool.{SharedPool}
 use Rattle.shared_pool.specs.Closing.{note_of}
 use Rattle.seat_work.specs.Growth.{how_many}
@@ -38,7 +35,7 @@ use Rattle.nest_run.specs.Plays.{Stage, first_root, step, stage_after, replies_f
 -- ---- Notes.
 
 -- the notes of a seat
-abbrev pub log_of : {G : Ghosts Home Noted} → PoolSeat Home G → List Note
+abbrev pub log_of : PoolSeat → List Note
 log_of s = map note_of (view_of s).own.notes
 
 -- what was done at the first root place, in order
@@ -152,35 +149,34 @@ is_elsewhere (At (Object.Arena number) k did) = true
 is_elsewhere (At (Object.Bin lane) k did) = true
 is_elsewhere _ = false
 
-module _ {G : Ghosts Home Noted} where
-  -- the seat has born a root, which it counts once
-  pub record IsBorn (pool : SharedPool) (capacity : ℕ) (root : RootId) (s : PoolSeat Home G) :
-      Type 0 where
-    pub works : Works pool empty_hand (4 * call_limit) call_limit s
-    pub counts : gained_of root (view_of s) ≡ lost_of root (view_of s) + 1
-    pub place : root.place ≡ 0
-    pub capacity_is : root.capacity ≡ capacity
-    pub leave : Leave (log_of s) root 1
-    pub first : IsWhole (log_of s) → root ≡ first_root capacity
-    pub zeros : HasBytes (log_of s) (replicate capacity 0)
+-- the seat has born a root, which it counts once
+pub record IsBorn (pool : SharedPool) (capacity : ℕ) (root : RootId) (s : PoolSeat) :
+    Type 0 where
+  pub works : Works pool empty_hand (4 * call_limit) call_limit s
+  pub counts : gained_of root (view_of s) ≡ lost_of root (view_of s) + 1
+  pub place : root.place ≡ 0
+  pub capacity_is : root.capacity ≡ capacity
+  pub leave : Leave (log_of s) root 1
+  pub first : IsWhole (log_of s) → root ≡ first_root capacity
+  pub zeros : HasBytes (log_of s) (replicate capacity 0)
 
-  -- the seat noted the root's end, and two things elsewhere
-  pub record HasEnded (root : RootId) (old new : PoolSeat Home G) : Type 0 where
-    pub number : ℕ
-    pub first : Note
-    pub second : Note
-    pub notes : log_of new ≡ log_of old
-        ++ At (Object.Root root.place) number (Did.End root)
-        ∷ Ref root steps.Vacated
-        ∷ first
-        ∷ second
-        ∷ []
-    pub first_is : is_elsewhere first ≡ true
-    pub second_is : is_elsewhere second ≡ true
+-- the seat noted the root's end, and two things elsewhere
+pub record HasEnded (root : RootId) (old new : PoolSeat) : Type 0 where
+  pub number : ℕ
+  pub first : Note
+  pub second : Note
+  pub notes : log_of new ≡ log_of old
+      ++ At (Object.Root root.place) number (Did.End root)
+      ∷ Ref root steps.Vacated
+      ∷ first
+      ∷ second
+      ∷ []
+  pub first_is : is_elsewhere first ≡ true
+  pub second_is : is_elsewhere second ≡ true
 
-  -- the seat has played an input: what came of it is right, if the notes turn out to be whole
-  pub record HasPlayed
-      (pool : SharedPool) (input : Input) (played : Played) (s : PoolSeat Home G) : Type 0 where
-    pub works : Works pool empty_hand 0 0 s
-    pub replies : IsWhole (log_of s) → played.replies ≡ replies_to input
-    pub live : IsWhole (log_of s) → played.live ≡ live_after input
+-- the seat has played an input: what came of it is right, if the notes turn out to be whole
+pub record HasPlayed
+    (pool : SharedPool) (input : Input) (played : Played) (s : PoolSeat) : Type 0 where
+  pub works : Works pool empty_hand 0 0 s
+  pub replies : IsWhole (log_of s) → played.replies ≡ replies_to input
+  pub live : IsWhole (log_of s) → played.live ≡ live_after input

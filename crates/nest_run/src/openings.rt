@@ -36,7 +36,7 @@ const WHOLE_CHUNK: u32 = 67;
 /// A pool, its seat, and the vector in which that came.
 pub fn open(alloc: Global) -> Result<(SharedPool, PoolSeat, Vec<PoolSeat>), AllocError>
     ensures layout { IfOk result (λ o. o.0.layout ≡ LAYOUT) }
-    ensures seat { IfOk result (λ o. IsOpened LAYOUT (0 ∷ []) o.0 0 o.1) }
+    ensures seat { IfOk result (λ o. IsOpened LAYOUT o.0 0 o.1) }
     ensures spare { IfOk result (λ o. (o.2.items ≡ []) × (0 < vec_capacity o.2)) }
 {
     let (pool, mut seats) = SharedPool::new(alloc, LAYOUT, &[0])?;
@@ -54,7 +54,7 @@ pub fn bear<W: Wait>(
     capacity: u32,
 ) -> Option<RootId>
     requires layout { pool.now.layout ≡ LAYOUT }
-    requires seat { IsOpened LAYOUT (0 ∷ []) pool.now 0 seat.old }
+    requires seat { IsOpened LAYOUT pool.now 0 seat.old }
     requires capacity { capacity ≤ capacity_limit }
     ensures seat { IsPoolSeat pool.now seat.new }
     ensures born { IfSome result (λ root. IsBorn pool.now capacity root seat.new) }

@@ -39,7 +39,7 @@ pub fn play<W: Wait>(rt: &W, alloc: Global, input: &Input) -> Result<Played, All
         pool.abandon(seats);
         return Err(AllocError);
     };
-    match pool.close(alloc, seats) {
+    match pool.close(rt, alloc, seats) {
         Ok(_end) => Ok(played),
         Err((pool, seats)) => {
             pool.abandon(seats);
@@ -58,7 +58,7 @@ fn play_in<W: Wait>(
 ) -> (PoolSeat, Option<Played>)
     requires input { IsInput input.now }
     requires layout { pool.now.layout ≡ LAYOUT }
-    requires seat { IsOpened LAYOUT (0 ∷ []) pool.now 0 first }
+    requires seat { IsOpened LAYOUT pool.now 0 first }
     ensures seat { IsPoolSeat pool.now result.0 }
     ensures played { IfSome result.1 (λ played. HasPlayed pool.now input.now played result.0) }
 {

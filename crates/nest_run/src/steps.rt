@@ -6,7 +6,7 @@ ghost use Rattle.pool_arena.specs.Standing.{taken_or_full};
 ghost use Rattle.pool_law.specs.declared.note.Did.{Did};
 ghost use Rattle.pool_law.specs.declared.note.Object.TheVariants.{Arena, Bin};
 ghost use Rattle.pool_law.specs.Limits.{geometry_of};
-ghost use Rattle.pool_table.specs.Seats.{view_of};
+ghost use Rattle.shared_pool.specs.SeatViews.{view_of};
 ghost use Rattle.shared_pool.specs.Holding.{HoldsHandle, HoldsRegion};
 ghost use Rattle.shared_pool.specs.Notes.{plain, popped};
 ghost use Rattle.shared_pool.specs.SeatLanes.{lane_of};

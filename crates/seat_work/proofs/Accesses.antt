@@ -1,24 +1,22 @@
 -- An access to a root: it changes neither counts nor hands, and sends nothing.
 use Rattle.std.proofs.Common.{◌≡◌, ℕ, ◌-◌, List, [], ◌∷◌, ◌++◌, Option, refl, subst, arith}
-use Rattle.step_law.specs.declared.Told.{Ghosts}
 use Rattle.pool_law.specs.declared.id.RootId.{RootId}
 use Rattle.pool_law.specs.declared.note.Did.{Did}
 use Rattle.pool_law.specs.declared.note.Noted.{Noted}
 use Rattle.pool_law.specs.declared.note.Object.{Object}
 use Rattle.pool_law.specs.declared.note.Object.TheVariants.{Root}
 use Rattle.pool_law.specs.Naming.{noted_by}
-use Rattle.pool_table.specs.declared.table.PoolSeat.{PoolSeat}
+use Rattle.shared_pool.specs.declared.seat.PoolSeat.{PoolSeat}
 use Rattle.pool_table.specs.declared.views.Entry.{Entry}
 use Rattle.pool_table.specs.declared.views.Entry.TheVariants.{At}
 use Rattle.pool_table.specs.declared.views.SeatView.{SeatView}
 use Rattle.pool_table.specs.Counts.{HasCount}
 use Rattle.pool_table.specs.Numbers.{IsAbove}
-use Rattle.pool_table.specs.Seats.{view_of, HasView}
+use Rattle.shared_pool.specs.SeatViews.{view_of, HasView}
 use Rattle.pool_table.specs.Views.{with_entry}
 use Rattle.table_law.specs.Histories.{IsHistory}
-use Rattle.shared_pool.specs.declared.home.Home.{Home}
 use Rattle.shared_pool.specs.declared.pool.SharedPool.{SharedPool}
-use Rattle.shared_pool.specs.Quotas.{posts}
+use Rattle.pool_table.specs.Letters.{sent_on}
 use Rattle.shared_pool.specs.RootNotes.{access}
 use Rattle.shared_pool.specs.Seats.{IsPoolSeat, IsNoted}
 use Rattle.seat_work.specs.Hands.{empty_hand, lane_in}
@@ -36,7 +34,7 @@ module _ (root : RootId) (number : ℕ) (lane : Option ℕ) where
   pub record IsQuiet (did : Did) : Type 0 where
     pub carries : (m : ℕ) → Carries m empty_hand empty_hand (entries did)
     pub tells : Tells no_change (entries did)
-    pub unsent : (m to : ℕ) → posts m to (entries did) ≡ 0
+    pub unsent : (m to : ℕ) → sent_on m to (entries did) ≡ 0
 
   pub set_quiet : (offset : ℕ) (bytes : List ℕ) → IsQuiet (Did.Set offset bytes)
   set_quiet offset bytes = record {
@@ -87,14 +85,14 @@ module _ (root : RootId) (number : ℕ) (lane : Option ℕ) where
   }
 
 -- what an access leaves
-pub record IsAccessed {G : Ghosts Home Noted} (pool : SharedPool) (old new : PoolSeat Home G) (root : RootId)
+pub record IsAccessed (pool : SharedPool) (old new : PoolSeat) (root : RootId)
     (number : ℕ) (did : Did) : Type 0 where
   pub proceeds : Proceeds pool empty_hand 1 0 no_change old new
   pub counts : HasCount root (view_of new)
   pub noted : IsNoted pool old new (Root root.place) number (access root did)
 
 -- the note of a call is the next of any seat with the same view
-pub noted_same : {G : Ghosts Home Noted} (pool : SharedPool) (old mid new : PoolSeat Home G) (number : ℕ)
+pub noted_same : (pool : SharedPool) (old mid new : PoolSeat) (number : ℕ)
     (o : SeatView → Object) (n : Noted) → view_of mid ≡ view_of old
     → IsNoted pool mid new (o (view_of mid)) number n → IsNoted pool old new (o (view_of old)) number n
 noted_same pool old mid new number o n same noted = record {
@@ -110,7 +108,7 @@ noted_same pool old mid new number o n same noted = record {
       same noted.seat;
 }
 
-module _ {G : Ghosts Home Noted} (pool : SharedPool) (old mid new : PoolSeat Home G) (root : RootId) (number : ℕ)
+module _ (pool : SharedPool) (old mid new : PoolSeat) (root : RootId) (number : ℕ)
     (did : Did) (seat : IsPoolSeat pool mid) (same : view_of mid ≡ view_of old) where
   pub accessed : IsPoolSeat pool new → Works pool empty_hand 1 0 old → HasCount root (view_of old)
       → IsQuiet root number (view_of mid).own.number did

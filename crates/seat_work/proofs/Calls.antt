@@ -1,7 +1,6 @@
 -- What each call of the pool leaves to a seat that works.
 use Rattle.std.proofs.Common.{◌≡◌, ℕ, ◌+◌, ◌-◌, ◌<◌, ◌≤◌, List, [], ◌∷◌, Bool, true, false, Option, Some, None, refl, ap, arith}
 use Rattle.std.specs.Prelude.{IfSome}
-use Rattle.step_law.specs.declared.Told.{Ghosts}
 use Rattle.handle_bin.specs.Bins.{HandleValue}
 use Rattle.pool_arena.specs.Standing.{taken_or_full}
 use Rattle.pool_law.specs.declared.id.Region.{Region}
@@ -18,17 +17,16 @@ use Rattle.pool_law.specs.declared.note.RefDid.TheVariants.{Born, Retain, Kept, 
 use Rattle.pool_law.specs.declared.report.Watch.{Watch}
 use Rattle.pool_law.specs.Naming.{noted_by}
 use Rattle.pool_law.specs.Same.{same_root}
-use Rattle.pool_table.specs.declared.table.PoolSeat.{PoolSeat}
+use Rattle.shared_pool.specs.declared.seat.PoolSeat.{PoolSeat}
 use Rattle.pool_table.specs.declared.views.Entry.{Entry}
 use Rattle.pool_table.specs.declared.views.Entry.TheVariants.{At, Ref, Busy}
 use Rattle.pool_table.specs.declared.views.SeatView.{SeatView}
 use Rattle.pool_table.specs.Counts.{HasCount, with_ref}
-use Rattle.pool_table.specs.Seats.{view_of, HasView}
-use Rattle.shared_pool.specs.declared.home.Home.{Home}
+use Rattle.shared_pool.specs.SeatViews.{view_of, HasView}
 use Rattle.shared_pool.specs.declared.pool.SharedPool.{SharedPool}
 use Rattle.shared_pool.specs.Holding.{HoldsRegion, HoldsHandle}
 use Rattle.shared_pool.specs.Notes.{plain, popped, hit}
-use Rattle.shared_pool.specs.Quotas.{posts}
+use Rattle.pool_table.specs.Letters.{sent_on}
 use Rattle.shared_pool.specs.RootNotes.{birth, end_of, IsNotedWith}
 use Rattle.shared_pool.specs.SeatLanes.{lane_of}
 use Rattle.shared_pool.specs.Seats.{IsPoolSeat, IsNoted, FoundBusy}
@@ -45,7 +43,7 @@ use Rattle.seat_work.proofs.Proceeding.{proceeds_by}
 
 -- ---- What comes is the pool's.
 
-module _ {G : Ghosts Home Noted} (pool : SharedPool) (new : PoolSeat Home G) where
+module _ (pool : SharedPool) (new : PoolSeat) where
   pub some_handle : (o : Option HandleValue) (lane : ℕ) → IfSome o (λ h. HoldsHandle pool new h × (h.lane ≡ lane))
       → IfSome o (IsHandle pool)
   some_handle None lane holds = tt
@@ -65,7 +63,7 @@ module _ {G : Ghosts Home Noted} (pool : SharedPool) (new : PoolSeat Home G) whe
 
 -- ---- Calls that make one note.
 
-module _ {G : Ghosts Home Noted} (pool : SharedPool) (old new : PoolSeat Home G) (is : IsPoolSeat pool new)
+module _ (pool : SharedPool) (old new : PoolSeat) (is : IsPoolSeat pool new)
     (number : ℕ) where
   abbrev v : SeatView
   v = view_of old
@@ -76,7 +74,7 @@ module _ {G : Ghosts Home Noted} (pool : SharedPool) (old new : PoolSeat Home G)
   -- a note that tells of no count's end
   pub proceeds_noted : (before after : Hand) (c : Change) (o : Object) (n : Noted) → Works pool before 1 0 old
       → IsNoted pool old new o number n → Carries (lane_in v) before after (entries o n) → Tells c (entries o n)
-      → Holds c.gone v → ((to : ℕ) → posts (lane_in v) to (entries o n) ≤ 0) → Proceeds pool after 1 0 c old new
+      → Holds c.gone v → ((to : ℕ) → sent_on (lane_in v) to (entries o n) ≤ 0) → Proceeds pool after 1 0 c old new
   proceeds_noted before after c o n works noted carries tells holds unsent =
       let turns = ap (λ m. m.0.turns) noted.seat in
       proceeds_by pool before after 1 0 old new works is c (entries o n) 1 0
@@ -85,7 +83,7 @@ module _ {G : Ghosts Home Noted} (pool : SharedPool) (old new : PoolSeat Home G)
   -- a note that tells nothing
   quiet : (before after : Hand) (o : Object) (n : Noted) → Works pool before 1 0 old → IsNoted pool old new o number n
       → Carries (lane_in v) before after (entries o n) → Tells no_change (entries o n)
-      → ((to : ℕ) → posts (lane_in v) to (entries o n) ≤ 0) → Proceeds pool after 1 0 no_change old new
+      → ((to : ℕ) → sent_on (lane_in v) to (entries o n) ≤ 0) → Proceeds pool after 1 0 no_change old new
   quiet before after o n works noted carries tells unsent =
       proceeds_noted before after no_change o n works noted carries tells works.paid unsent
 
@@ -164,7 +162,7 @@ module _ {G : Ghosts Home Noted} (pool : SharedPool) (old new : PoolSeat Home G)
           (record { counts = λ root. refl; ended = λ root. refl; empty = refl; full = refl }) (λ to. omega arith)
 
 -- a cache that another seat was in is passed by, with a mark
-pub marked : {G : Ghosts Home Noted} (pool : SharedPool) (old new : PoolSeat Home G) → IsPoolSeat pool new
+pub marked : (pool : SharedPool) (old new : PoolSeat) → IsPoolSeat pool new
     → (hand : Hand) (o : Object) (held : Held) → Works pool hand 1 0 old → FoundBusy pool o true old new held
     → Proceeds pool hand 1 0 no_change old new
 marked pool old new is hand o held works found =
@@ -176,7 +174,7 @@ marked pool old new is hand o held works found =
 
 -- ---- Calls on a root.
 
-module _ {G : Ghosts Home Noted} (pool : SharedPool) (old new : PoolSeat Home G) (is : IsPoolSeat pool new)
+module _ (pool : SharedPool) (old new : PoolSeat) (is : IsPoolSeat pool new)
     (root : RootId) where
   abbrev u : SeatView
   u = view_of old

@@ -45,7 +45,7 @@ changes_by c v w es spent grows tells =
 
 module _ (c : Change) (v w : SeatView) (changes : Changes c v w) where
   -- what goes was counted, so what comes is
-  pub holds_after : Holds c.gone v → Holds c.got w
+  holds_after : Holds c.gone v → Holds c.got w
   holds_after holds root = let a = changes.counts root in let b = holds root in omega (arith, a, b)
 
   pub paid_after : Holds c.gone v → IsPaid w
@@ -66,9 +66,6 @@ holds_one v r paid has root = go (same_root r root) refl
     go false other =
         let none : one_for r root ≡ 0 = ap (λ (b : Bool). if b then 1 else 0) other in let a = paid root in
         omega (arith, none, a)
-
-pub counts_one : (v : SeatView) (r : RootId) → Holds (r ∷ []) v → HasCount r v
-counts_one v r holds = let a = holds r in let one = one_self r in omega (arith, a, one)
 
 -- a change that takes no count away
 pub still_counts : (c : Change) (v w : SeatView) (r : RootId) → c.gone ≡ [] → Changes c v w → HasCount r v

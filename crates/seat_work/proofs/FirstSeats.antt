@@ -1,13 +1,10 @@
 -- A seat that has noted nothing has nothing in hand, and one with nothing in hand is done.
-use Rattle.std.proofs.Common.{◌≡◌, ℕ, ◌+◌, ◌≤◌, Bool, true, false, List, [], refl, sym, subst, arith, le-ltb}
+use Rattle.std.proofs.Common.{◌≡◌, ℕ, ◌+◌, ◌≤◌, Bool, true, false, [], refl, sym, subst, arith, le-ltb}
 use Rattle.std.specs.Prelude.{◌==◌, if◌then◌else◌}
-use Rattle.step_law.specs.declared.Told.{Ghosts}
-use Rattle.pool_law.specs.declared.note.Noted.{Noted}
-use Rattle.pool_table.specs.declared.table.PoolSeat.{PoolSeat}
+use Rattle.shared_pool.specs.declared.seat.PoolSeat.{PoolSeat}
 use Rattle.pool_table.specs.declared.views.Layout.{Layout}
 use Rattle.pool_table.specs.declared.views.SeatView.{SeatView}
-use Rattle.pool_table.specs.Seats.{view_of}
-use Rattle.shared_pool.specs.declared.home.Home.{Home}
+use Rattle.shared_pool.specs.SeatViews.{view_of}
 use Rattle.shared_pool.specs.declared.pool.SharedPool.{SharedPool}
 use Rattle.shared_pool.specs.Opening.{IsOpened}
 use Rattle.shared_pool.specs.Seated.{HasNothing}
@@ -55,10 +52,10 @@ has_nothing v held = record {
 }
 
 -- a seat that was opened may spend what it got
-pub opened_works : {G : Ghosts Home Noted} (pool : SharedPool) (l : Layout) (mail : List ℕ) (lane turns moves : ℕ)
-    (s : PoolSeat Home G) → IsOpened l mail pool lane s → turns ≤ l.turns → moves ≤ l.moves
+pub opened_works : (pool : SharedPool) (l : Layout) (lane turns moves : ℕ)
+    (s : PoolSeat) → IsOpened l pool lane s → turns ≤ l.turns → moves ≤ l.moves
     → Works pool empty_hand turns moves s
-opened_works pool l mail lane turns moves s opened enough few = record {
+opened_works pool l lane turns moves s opened enough few = record {
   seat = opened.seat;
   held = IsHeld-empty (view_of s) opened.notes opened.seat.alone;
   paid = new_paid (view_of s) opened.notes opened.seat.alone;

@@ -2,27 +2,28 @@
 use Rattle.std.proofs.Common.{◌≡◌, ℕ, ◌+◌, ◌-◌, ◌≤◌, List, [], ◌∷◌, ◌++◌, true, false, sym, ap, ◌∙◌, arith, append_assoc, append-nil}
 use Rattle.std.specs.Prelude.{sum_by}
 use Rattle.std.proofs.lemmas.List.Sums.{sum_by-cons, sum_by-append}
-use Rattle.step_law.specs.declared.Told.{Ghosts}
 use Rattle.pool_law.specs.declared.id.RootId.{RootId}
+use Rattle.pool_law.specs.declared.note.Did.{Did}
 use Rattle.pool_law.specs.declared.note.Held.{Held}
 use Rattle.pool_law.specs.declared.note.Noted.{Noted}
 use Rattle.pool_law.specs.declared.note.Object.{Object}
-use Rattle.pool_law.specs.declared.note.Object.TheVariants.{Root}
+use Rattle.pool_law.specs.declared.note.Object.TheVariants.{Mail, Root}
 use Rattle.pool_law.specs.declared.note.RefDid.{RefDid}
 use Rattle.pool_law.specs.Naming.{noted_by}
 use Rattle.pool_table.specs.declared.views.Entry.{Entry}
 use Rattle.pool_table.specs.declared.views.Entry.TheVariants.{At, Ref, Busy}
 use Rattle.pool_table.specs.declared.views.Part.{Part}
 use Rattle.pool_table.specs.declared.views.SeatView.{SeatView}
-use Rattle.pool_table.specs.declared.table.PoolSeat.{PoolSeat}
+use Rattle.shared_pool.specs.declared.seat.PoolSeat.{PoolSeat}
 use Rattle.pool_table.specs.Counts.{weigh, with_ref}
 use Rattle.pool_table.specs.Learned.{in_own}
-use Rattle.pool_table.specs.Seats.{view_of, HasView}
+use Rattle.shared_pool.specs.SeatViews.{view_of, HasView}
 use Rattle.pool_table.specs.Views.{with_entry}
-use Rattle.shared_pool.specs.declared.home.Home.{Home}
 use Rattle.shared_pool.specs.declared.pool.SharedPool.{SharedPool}
 use Rattle.shared_pool.specs.Closing.{note_of}
-use Rattle.shared_pool.specs.Quotas.{posts}
+use Rattle.pool_table.specs.Letters.{is_on_way, sent_as, sent_on}
+use Rattle.shared_pool.specs.MailAnswers.{HasNotedAt}
+use Rattle.shared_pool.specs.Notes.{plain}
 use Rattle.shared_pool.specs.RootNotes.{IsNotedWith}
 use Rattle.shared_pool.specs.Seats.{IsPoolSeat, IsNoted, FoundBusy}
 use Rattle.seat_work.specs.Growth.{IsOneStep, HasMore}
@@ -50,13 +51,10 @@ weigh_own f v alone =
     let a : weigh f v ≡ g v.own + sum_by g v.others = sum_by-cons g v.own v.others in
     let b : sum_by g v.others ≡ 0 = ap (λ (ps : List Part). sum_by g ps) alone in omega (arith, a, b)
 
--- posts over two lists of entries
-pub posts_append : (sender receiver : ℕ) (xs ys : List Entry)
-    → posts sender receiver (xs ++ ys) ≡ posts sender receiver xs + posts sender receiver ys
-posts_append sender receiver [] ys = omega arith
-posts_append sender receiver (At o k n ∷ xs) ys = let h = posts_append sender receiver xs ys in omega (arith, h)
-posts_append sender receiver (Ref r d ∷ xs) ys = posts_append sender receiver xs ys
-posts_append sender receiver (Busy b ∷ xs) ys = posts_append sender receiver xs ys
+-- how many letters two lists of entries send
+pub sent_append : (from to : ℕ) (xs ys : List Entry) →
+    sent_on from to (xs ++ ys) ≡ sent_on from to xs + sent_on from to ys
+sent_append from to xs ys = sum_by-append (sent_as (is_on_way from to)) xs ys
 
 module _ (v w : SeatView) (added : List Entry) (spent : ℕ) (grows : Grows v w added spent) where
   pub own_more : (f : Entry → ℕ) → in_own f w ≡ in_own f v + sum_by f added
@@ -67,7 +65,7 @@ module _ (v w : SeatView) (added : List Entry) (spent : ℕ) (grows : Grows v w 
       let a = weigh_own f w grows.alone in let b = weigh_own f v grows.was_alone in let c = own_more f in
       omega (arith, a, b, c)
 
-module _ {G : Ghosts Home Noted} (pool : SharedPool) (old new : PoolSeat Home G) (was : IsPoolSeat pool old)
+module _ (pool : SharedPool) (old new : PoolSeat) (was : IsPoolSeat pool old)
     (is : IsPoolSeat pool new) where
   abbrev v : SeatView
   v = view_of old
@@ -94,6 +92,12 @@ module _ {G : Ghosts Home Noted} (pool : SharedPool) (old new : PoolSeat Home G)
   pub grows_noted : (o : Object) (number : ℕ) (n : Noted) → IsNoted pool old new o number n
       → Grows v (view_of new) (note_at o number n ∷ []) 0
   grows_noted o number n noted = grows_entry (note_at o number n) (v.turns - 1) (omega arith) (ap (λ m. m.0) noted.seat)
+
+  -- the entry of a letter costs no turn
+  pub grows_mailed : (from to number : ℕ) (did : Did) → HasNotedAt old new from to number did
+      → Grows v (view_of new) (note_at (Mail from to) number (plain did) ∷ []) 0
+  grows_mailed from to number did noted =
+      grows_entry (note_at (Mail from to) number (plain did)) v.turns (omega arith) (ap (λ m. m.0) noted)
 
   pub grows_busy : (o : Object) (held : Held) → FoundBusy pool o true old new held
       → Grows v (view_of new) (Busy held ∷ []) 0
@@ -134,39 +138,38 @@ module _ {G : Ghosts Home Noted} (pool : SharedPool) (old new : PoolSeat Home G)
         moves = (let a = ap (λ (x : SeatView). x.moves) view in omega (arith, a, le));
       }
 
-module _ {G : Ghosts Home Noted} where
-  -- a view that is as it was, and one with a step on the word of a root more
-  pub grows_none : (pool : SharedPool) (old new : PoolSeat Home G) → IsPoolSeat pool old → HasView new (view_of old)
-      → Grows (view_of old) (view_of new) [] 0
-  grows_none pool old new was has =
-      let view : view_of new ≡ view_of old = ap (λ m. m.0) has in
-      record {
-        more = record {
-          notes = ap (λ (x : SeatView). x.own.notes) view ∙ sym (append-nil (view_of old).own.notes);
-          number = ap (λ (x : SeatView). x.own.number) view;
-          setting = ap (λ (x : SeatView). x.setting) view;
-          turns = (let a = ap (λ (x : SeatView). x.turns) view in omega (arith, a));
-          one = one_none;
-        };
-        was_alone = was.alone;
-        alone = ap (λ (x : SeatView). x.others) view ∙ was.alone;
-        moves = (let a = ap (λ (x : SeatView). x.moves) view in omega (arith, a));
-      }
+-- a view that is as it was, and one with a step on the word of a root more
+pub grows_none : (pool : SharedPool) (old new : PoolSeat) → IsPoolSeat pool old → HasView new (view_of old)
+    → Grows (view_of old) (view_of new) [] 0
+grows_none pool old new was has =
+    let view : view_of new ≡ view_of old = ap (λ m. m.0) has in
+    record {
+      more = record {
+        notes = ap (λ (x : SeatView). x.own.notes) view ∙ sym (append-nil (view_of old).own.notes);
+        number = ap (λ (x : SeatView). x.own.number) view;
+        setting = ap (λ (x : SeatView). x.setting) view;
+        turns = (let a = ap (λ (x : SeatView). x.turns) view in omega (arith, a));
+        one = one_none;
+      };
+      was_alone = was.alone;
+      alone = ap (λ (x : SeatView). x.others) view ∙ was.alone;
+      moves = (let a = ap (λ (x : SeatView). x.moves) view in omega (arith, a));
+    }
 
-  pub grows_ref : (pool : SharedPool) (old new : PoolSeat Home G) → IsPoolSeat pool old → IsPoolSeat pool new
-      → (r : RootId) (d : RefDid) (moves spent : ℕ) → HasView new (with_ref (view_of old) r d moves)
-      → (view_of old).moves ≤ moves + spent → Grows (view_of old) (view_of new) (Ref r d ∷ []) spent
-  grows_ref pool old new was is r d moves spent has le =
-      let view : view_of new ≡ with_ref (view_of old) r d moves = ap (λ m. m.0) has in
-      record {
-        more = record {
-          notes = ap (λ (x : SeatView). x.own.notes) view;
-          number = ap (λ (x : SeatView). x.own.number) view;
-          setting = ap (λ (x : SeatView). x.setting) view;
-          turns = (let a = ap (λ (x : SeatView). x.turns) view in omega (arith, a));
-          one = one_entry (Ref r d);
-        };
-        was_alone = was.alone;
-        alone = is.alone;
-        moves = (let a = ap (λ (x : SeatView). x.moves) view in omega (arith, a, le));
-      }
+pub grows_ref : (pool : SharedPool) (old new : PoolSeat) → IsPoolSeat pool old → IsPoolSeat pool new
+    → (r : RootId) (d : RefDid) (moves spent : ℕ) → HasView new (with_ref (view_of old) r d moves)
+    → (view_of old).moves ≤ moves + spent → Grows (view_of old) (view_of new) (Ref r d ∷ []) spent
+grows_ref pool old new was is r d moves spent has le =
+    let view : view_of new ≡ with_ref (view_of old) r d moves = ap (λ m. m.0) has in
+    record {
+      more = record {
+        notes = ap (λ (x : SeatView). x.own.notes) view;
+        number = ap (λ (x : SeatView). x.own.number) view;
+        setting = ap (λ (x : SeatView). x.setting) view;
+        turns = (let a = ap (λ (x : SeatView). x.turns) view in omega (arith, a));
+        one = one_entry (Ref r d);
+      };
+      was_alone = was.alone;
+      alone = is.alone;
+      moves = (let a = ap (λ (x : SeatView). x.moves) view in omega (arith, a, le));
+    }

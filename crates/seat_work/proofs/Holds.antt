@@ -3,24 +3,21 @@ use Rattle.std.proofs.Common.{◌≡◌, ℕ, ◌+◌, ◌<◌, Bool, false, con
 use Rattle.std.specs.Prelude.{Option, Some, IfSome, ◌==◌, if◌then◌else◌}
 use Rattle.std.proofs.lemmas.Bool.Decides.{nat_tests}
 use Rattle.step_law.specs.Settings.{Setting}
-use Rattle.step_law.specs.declared.Told.{Ghosts}
 use Rattle.pool_law.specs.declared.id.Region.{Region}
-use Rattle.pool_law.specs.declared.note.Noted.{Noted}
 use Rattle.pool_law.specs.Places.{IsInPlace}
 use Rattle.pool_law.proofs.PatternLemmas.{same_number, same_taking-refl}
 use Rattle.table_law.specs.NoteCounts.{is_taking, uses_in}
 use Rattle.handle_bin.specs.Bins.{HandleValue}
 use Rattle.pool_table.specs.declared.views.SeatView.{SeatView}
-use Rattle.pool_table.specs.declared.table.PoolSeat.{PoolSeat}
-use Rattle.pool_table.specs.Seats.{view_of}
-use Rattle.shared_pool.specs.declared.home.Home.{Home}
+use Rattle.shared_pool.specs.declared.seat.PoolSeat.{PoolSeat}
+use Rattle.shared_pool.specs.SeatViews.{view_of}
 use Rattle.shared_pool.specs.declared.pool.SharedPool.{SharedPool}
 use Rattle.shared_pool.specs.Holding.{HoldsHandle, HoldsRegion}
 use Rattle.shared_pool.specs.Quotas.{quota_left, has_closed}
 use Rattle.seat_work.specs.Hands.{lane_in, Hand, IsHeld, IsHandle, IsRegion, is_place}
 use Rattle.seat_work.proofs.HandNotes.{same_quota}
 
-module _ {G : Ghosts Home Noted} (pool : SharedPool) (s : PoolSeat Home G) (hand : Hand) where
+module _ (pool : SharedPool) (s : PoolSeat) (hand : Hand) where
   pub holds_handle : (h : HandleValue) → IsHeld (record hand { place = Some h.place }) (view_of s) → IsHandle pool h
       → HoldsHandle pool s h
   holds_handle h held is = record {
@@ -50,15 +47,15 @@ module _ {G : Ghosts Home Noted} (pool : SharedPool) (s : PoolSeat Home G) (hand
     len = is.len;
   }
 
-module _ {G : Ghosts Home Noted} (pool : SharedPool) where
-  pub is_handle : (s : PoolSeat Home G) (h : HandleValue) → HoldsHandle pool s h → IsHandle pool h
+module _ (pool : SharedPool) where
+  pub is_handle : (s : PoolSeat) (h : HandleValue) → HoldsHandle pool s h → IsHandle pool h
   is_handle s h holds = record { lane = holds.lane; place = holds.place }
 
-  pub is_region : (s : PoolSeat Home G) (r : Region) → HoldsRegion pool s r → IsRegion pool s r
+  pub is_region : (s : PoolSeat) (r : Region) → HoldsRegion pool s r → IsRegion pool s r
   is_region s r holds = record { here = holds.here; owner = holds.owner; class = holds.class; len = holds.len }
 
   -- a region stays one of the pool
-  pub region_stays : (old new : PoolSeat Home G) (r : Region) → (view_of new).setting ≡ (view_of old).setting
+  pub region_stays : (old new : PoolSeat) (r : Region) → (view_of new).setting ≡ (view_of old).setting
       → IsRegion pool old r → IsRegion pool new r
   region_stays old new r same is = record {
     here = subst (λ (x : Option Setting). IfSome x (λ t. IsInPlace t.grounds r.id.place r.piece)) (sym same) is.here;

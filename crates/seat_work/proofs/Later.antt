@@ -1,14 +1,12 @@
 -- A seat further on, behind steps of its own.
 use Rattle.std.proofs.Common.{◌≡◌, ℕ, List, [], ◌++◌, true, refl, sym, ap, ◌∙◌, subst, arith, append_assoc, append-nil, length-append}
-use Rattle.step_law.specs.declared.Told.{Ghosts}
 use Rattle.pool_law.specs.declared.note.Held.{Held}
 use Rattle.pool_law.specs.declared.note.Noted.{Noted}
 use Rattle.pool_law.specs.declared.note.Object.{Object}
-use Rattle.pool_table.specs.declared.table.PoolSeat.{PoolSeat}
+use Rattle.shared_pool.specs.declared.seat.PoolSeat.{PoolSeat}
 use Rattle.pool_table.specs.declared.views.Entry.{Entry}
 use Rattle.pool_table.specs.declared.views.SeatView.{SeatView}
-use Rattle.pool_table.specs.Seats.{view_of, HasView, SameSeat}
-use Rattle.shared_pool.specs.declared.home.Home.{Home}
+use Rattle.shared_pool.specs.SeatViews.{view_of, HasView, SameSeat}
 use Rattle.shared_pool.specs.declared.pool.SharedPool.{SharedPool}
 use Rattle.shared_pool.specs.Seats.{IsPoolSeat, IsNoted, FoundBusy}
 use Rattle.seat_work.specs.Growth.{HasGrown}
@@ -45,15 +43,15 @@ grown_by v w es spent grows = record {
 
 -- ---- Seats that go on.
 
-pub same_on : {G : Ghosts Home Noted} (old mid new : PoolSeat Home G) → SameSeat old mid → SameSeat mid new
+pub same_on : (old mid new : PoolSeat) → SameSeat old mid → SameSeat mid new
     → SameSeat old new
 same_on old mid new x y = (y.0 ∙ x.0, y.1 ∙ x.1)
 
-module _ {G : Ghosts Home Noted} (pool : SharedPool) where
-  pub later_none : (s : PoolSeat Home G) → IsPoolSeat pool s → IsLater pool s s
+module _ (pool : SharedPool) where
+  pub later_none : (s : PoolSeat) → IsPoolSeat pool s → IsLater pool s s
   later_none s is = record { same = (refl, refl); seat = is; added = []; grown = grown_none (view_of s) }
 
-  pub later_on : (old mid new : PoolSeat Home G) → IsLater pool old mid → IsLater pool mid new → IsLater pool old new
+  pub later_on : (old mid new : PoolSeat) → IsLater pool old mid → IsLater pool mid new → IsLater pool old new
   later_on old mid new x y = record {
     same = same_on old mid new x.same y.same;
     seat = y.seat;
@@ -62,7 +60,7 @@ module _ {G : Ghosts Home Noted} (pool : SharedPool) where
   }
 
   -- what follows a seat that knows what it knew
-  pub later_same : (old mid new : PoolSeat Home G) → SameSeat old mid → view_of mid ≡ view_of old
+  pub later_same : (old mid new : PoolSeat) → SameSeat old mid → view_of mid ≡ view_of old
       → IsLater pool mid new → IsLater pool old new
   later_same old mid new same view x = record {
     same = same_on old mid new same x.same;
@@ -71,7 +69,7 @@ module _ {G : Ghosts Home Noted} (pool : SharedPool) where
     grown = subst (λ (v : SeatView). HasGrown v (view_of new) x.added) view x.grown;
   }
 
-  module _ (old new : PoolSeat Home G) (same : SameSeat old new) (was : IsPoolSeat pool old)
+  module _ (old new : PoolSeat) (same : SameSeat old new) (was : IsPoolSeat pool old)
       (is : IsPoolSeat pool new) where
     later_by : (es : List Entry) (spent : ℕ) → Grows (view_of old) (view_of new) es spent → IsLater pool old new
     later_by es spent grows =

@@ -11,4 +11,5 @@ pub mod HandedOver
 pub mod Later
 pub mod Worn
 pub mod FirstSeats
-mod Trials
+pub mod MailRooms
+pub mod Trials

@@ -1,40 +1,37 @@
 -- A seat that goes on from step to step.
 use Rattle.std.proofs.Common.{◌≡◌, ℕ, ◌+◌, ◌≤◌, List, sym, ap, ◌∙◌, subst, arith, refl}
 use Rattle.std.specs.Prelude.{unwrap_or}
-use Rattle.step_law.specs.declared.Told.{Ghosts}
-use Rattle.pool_law.specs.declared.note.Noted.{Noted}
-use Rattle.pool_table.specs.declared.table.PoolSeat.{PoolSeat}
+use Rattle.shared_pool.specs.declared.seat.PoolSeat.{PoolSeat}
 use Rattle.pool_table.specs.declared.views.Entry.{Entry}
 use Rattle.pool_table.specs.declared.views.SeatView.{SeatView}
-use Rattle.pool_table.specs.Seats.{view_of, HasView}
-use Rattle.shared_pool.specs.declared.home.Home.{Home}
+use Rattle.shared_pool.specs.SeatViews.{view_of, HasView}
 use Rattle.shared_pool.specs.declared.pool.SharedPool.{SharedPool}
-use Rattle.shared_pool.specs.Quotas.{posts}
+use Rattle.pool_table.specs.Letters.{sent_on}
 use Rattle.shared_pool.specs.Seats.{IsPoolSeat}
 use Rattle.seat_work.specs.Hands.{Hand, IsHeld, lane_in}
 use Rattle.seat_work.specs.Changes.{Holds, IsPaid, Change, Changes, no_change}
 use Rattle.seat_work.specs.HandOvers.{Sends}
 use Rattle.seat_work.specs.Works.{Works, Goes, Proceeds}
 use Rattle.seat_work.proofs.Counting.{Tells, changes_by, paid_after}
-use Rattle.seat_work.proofs.Grown.{Grows, posts_append}
+use Rattle.seat_work.proofs.Grown.{Grows, sent_append}
 use Rattle.seat_work.proofs.HandLaws.{Carries, held_on}
 
 -- ---- What is sent.
 
 -- entries of which no more than so many are posts
 pub sends_by : (v w : SeatView) (es : List Entry) (spent : ℕ) → Grows v w es spent → (count : ℕ)
-    → ((to : ℕ) → posts (lane_in v) to es ≤ count) → Sends count v w
+    → ((to : ℕ) → sent_on (lane_in v) to es ≤ count) → Sends count v w
 sends_by v w es spent grows count few = record {
   number = grows.more.number;
   setting = grows.more.setting;
   sent = λ to. (let a = posted to in let b = few to in omega (arith, a, b));
 }
   where
-    posted : (to : ℕ) → posts (lane_in w) to w.own.notes
-        ≡ posts (lane_in v) to v.own.notes + posts (lane_in v) to es
+    posted : (to : ℕ) → sent_on (lane_in w) to w.own.notes
+        ≡ sent_on (lane_in v) to v.own.notes + sent_on (lane_in v) to es
     posted to =
-        (λ i. posts (unwrap_or (grows.more.number i) 0) to (grows.more.notes i))
-        ∙ posts_append (lane_in v) to v.own.notes es
+        (λ i. sent_on (unwrap_or (grows.more.number i) 0) to (grows.more.notes i))
+        ∙ sent_append (lane_in v) to v.own.notes es
 
 -- one after another
 pub sends_on : (a b : ℕ) (u v w : SeatView) → Sends a u v → Sends b v w → Sends (a + b) u w
@@ -62,10 +59,10 @@ changes_then c u v w x y = record {
   full = (let p = x.full in let q = y.full in omega (arith, p, q));
 }
 
-module _ {G : Ghosts Home Noted} (pool : SharedPool) where
+module _ (pool : SharedPool) where
   -- ---- One piece of work after another.
 
-  pub goes_on : (between after : Hand) (a b c d t m : ℕ) (old mid new : PoolSeat Home G) → Goes pool between a b old mid
+  pub goes_on : (between after : Hand) (a b c d t m : ℕ) (old mid new : PoolSeat) → Goes pool between a b old mid
       → Goes pool after c d mid new → a + c ≤ t → b + d ≤ m → Goes pool after t m old new
   goes_on between after a b c d t m old mid new x y le lf = record {
     seat = y.seat;
@@ -77,7 +74,7 @@ module _ {G : Ghosts Home Noted} (pool : SharedPool) where
   }
 
   -- nothing was spent yet
-  pub goes_none : (hand : Hand) (t m : ℕ) (s : PoolSeat Home G) → Works pool hand t m s → Goes pool hand 0 0 s s
+  pub goes_none : (hand : Hand) (t m : ℕ) (s : PoolSeat) → Works pool hand t m s → Goes pool hand 0 0 s s
   goes_none hand t m s works = record {
     seat = works.seat;
     held = works.held;
@@ -87,7 +84,7 @@ module _ {G : Ghosts Home Noted} (pool : SharedPool) where
     number = refl;
   }
 
-  pub proceeds_on : (c : Change) (between after : Hand) (a b d e t m : ℕ) (old mid new : PoolSeat Home G)
+  pub proceeds_on : (c : Change) (between after : Hand) (a b d e t m : ℕ) (old mid new : PoolSeat)
       → Proceeds pool between a b no_change old mid → Proceeds pool after d e c mid new → a + d ≤ t → b + e ≤ m
       → Proceeds pool after t m c old new
   proceeds_on c between after a b d e t m old mid new x y le lf = record {
@@ -96,7 +93,7 @@ module _ {G : Ghosts Home Noted} (pool : SharedPool) where
     sends = sends_on 0 0 (view_of old) (view_of mid) (view_of new) x.sends y.sends;
   }
 
-  pub proceeds_then : (c : Change) (between after : Hand) (a b d e t m : ℕ) (old mid new : PoolSeat Home G)
+  pub proceeds_then : (c : Change) (between after : Hand) (a b d e t m : ℕ) (old mid new : PoolSeat)
       → Proceeds pool between a b c old mid → Proceeds pool after d e no_change mid new → a + d ≤ t → b + e ≤ m
       → Proceeds pool after t m c old new
   proceeds_then c between after a b d e t m old mid new x y le lf = record {
@@ -106,7 +103,7 @@ module _ {G : Ghosts Home Noted} (pool : SharedPool) where
   }
 
   -- more could have been spent
-  pub proceeds_more : (c : Change) (hand : Hand) (a b t m : ℕ) (old new : PoolSeat Home G)
+  pub proceeds_more : (c : Change) (hand : Hand) (a b t m : ℕ) (old new : PoolSeat)
       → Proceeds pool hand a b c old new → a ≤ t → b ≤ m → Proceeds pool hand t m c old new
   proceeds_more c hand a b t m old new x le lf = record {
     goes = record {
@@ -122,7 +119,7 @@ module _ {G : Ghosts Home Noted} (pool : SharedPool) where
   }
 
   -- what is left serves the next piece
-  pub works_after : (before after : Hand) (t m a b s n : ℕ) (old new : PoolSeat Home G) → Works pool before t m old
+  pub works_after : (before after : Hand) (t m a b s n : ℕ) (old new : PoolSeat) → Works pool before t m old
       → Goes pool after a b old new → s + a ≤ t → n + b ≤ m → Works pool after s n new
   works_after before after t m a b s n old new works goes le lf = record {
     seat = goes.seat;
@@ -134,7 +131,7 @@ module _ {G : Ghosts Home Noted} (pool : SharedPool) where
 
   -- ---- A seat that knows what it knew.
 
-  pub works_same : (hand : Hand) (t m : ℕ) (old mid : PoolSeat Home G) → IsPoolSeat pool mid → view_of mid ≡ view_of old
+  pub works_same : (hand : Hand) (t m : ℕ) (old mid : PoolSeat) → IsPoolSeat pool mid → view_of mid ≡ view_of old
       → Works pool hand t m old → Works pool hand t m mid
   works_same hand t m old mid seat same works = record {
     seat = seat;
@@ -144,7 +141,7 @@ module _ {G : Ghosts Home Noted} (pool : SharedPool) where
     moves_left = (let p = works.moves_left in let q = ap (λ (v : SeatView). v.moves) same in omega (arith, p, q));
   }
 
-  pub goes_same : (hand : Hand) (t m : ℕ) (old mid new : PoolSeat Home G) → view_of mid ≡ view_of old
+  pub goes_same : (hand : Hand) (t m : ℕ) (old mid new : PoolSeat) → view_of mid ≡ view_of old
       → Goes pool hand t m mid new → Goes pool hand t m old new
   goes_same hand t m old mid new same x = record {
     seat = x.seat;
@@ -155,7 +152,7 @@ module _ {G : Ghosts Home Noted} (pool : SharedPool) where
     number = x.number ∙ ap (λ (v : SeatView). v.own.number) same;
   }
 
-  pub proceeds_same : (c : Change) (hand : Hand) (t m : ℕ) (old mid new : PoolSeat Home G) → view_of mid ≡ view_of old
+  pub proceeds_same : (c : Change) (hand : Hand) (t m : ℕ) (old mid new : PoolSeat) → view_of mid ≡ view_of old
       → Proceeds pool hand t m c mid new → Proceeds pool hand t m c old new
   proceeds_same c hand t m old mid new same x = record {
     goes = goes_same hand t m old mid new same x.goes;
@@ -164,7 +161,7 @@ module _ {G : Ghosts Home Noted} (pool : SharedPool) where
   }
 
   -- nothing was done
-  pub proceeds_none : (hand : Hand) (t m a b : ℕ) (old new : PoolSeat Home G) → Works pool hand t m old
+  pub proceeds_none : (hand : Hand) (t m a b : ℕ) (old new : PoolSeat) → Works pool hand t m old
       → IsPoolSeat pool new → HasView new (view_of old) → Proceeds pool hand a b no_change old new
   proceeds_none hand t m a b old new works seat has =
       let same : view_of new ≡ view_of old = ap (λ m. m.0) has in
@@ -190,7 +187,7 @@ module _ {G : Ghosts Home Noted} (pool : SharedPool) where
 
   -- ---- A step.
 
-  module _ (before after : Hand) (t m : ℕ) (old new : PoolSeat Home G) (works : Works pool before t m old)
+  module _ (before after : Hand) (t m : ℕ) (old new : PoolSeat) (works : Works pool before t m old)
       (is : IsPoolSeat pool new) (c : Change) (es : List Entry) (turns spent : ℕ)
       (grows : Grows (view_of old) (view_of new) es spent)
       (took : (view_of old).turns ≤ (view_of new).turns + turns)
@@ -212,7 +209,7 @@ module _ {G : Ghosts Home Noted} (pool : SharedPool) where
       number = grows.more.number;
     }
 
-    pub proceeds_by : ((to : ℕ) → posts (lane_in v) to es ≤ 0) → Proceeds pool after turns spent c old new
+    pub proceeds_by : ((to : ℕ) → sent_on (lane_in v) to es ≤ 0) → Proceeds pool after turns spent c old new
     proceeds_by unsent = record {
       goes = goes_by;
       changes = changes_by c v w es spent grows tells;

@@ -1,27 +1,24 @@
 -- Lemmas for the tests: the seats of a pool with two lanes.
-use Rattle.std.proofs.Common.{◌≡◌, ℕ, ◌+◌, ◌*◌, ◌<◌, List, [], ◌∷◌, zero, suc, length, Option, Some, None, sym, ap, ◌∙◌, subst, arith}
-use Rattle.std.specs.Prelude.{HoldsAt, IfSome, slice_get, slice_index_or, unwrap_or, remove}
+use Rattle.std.proofs.Common.{◌≡◌, ℕ, ◌+◌, ◌*◌, ◌<◌, List, [], ◌∷◌, zero, suc, length, Option, Some, sym, ap, ◌∙◌, subst, arith}
+use Rattle.std.specs.Prelude.{HoldsAt, slice_get, slice_index_or, unwrap_or, remove}
 use Rattle.std.proofs.lemmas.List.Edits.{get_or-remove_above}
-use Rattle.step_law.specs.Settings.{Setting}
-use Rattle.step_law.specs.declared.Told.{Ghosts}
-use Rattle.pool_law.specs.declared.note.Noted.{Noted}
-use Rattle.pool_law.specs.declared.run.Shape.{Shape}
-use Rattle.pool_table.specs.declared.table.PoolSeat.{PoolSeat}
+use Rattle.shared_pool.specs.declared.seat.PoolSeat.{PoolSeat}
 use Rattle.pool_table.specs.declared.views.Entry.{Entry}
 use Rattle.pool_table.specs.declared.views.Layout.{Layout}
 use Rattle.pool_table.specs.declared.views.SeatView.{SeatView}
-use Rattle.pool_table.specs.Seats.{view_of}
-use Rattle.shared_pool.specs.declared.home.Home.{Home}
+use Rattle.shared_pool.specs.SeatViews.{view_of}
 use Rattle.shared_pool.specs.declared.pool.SharedPool.{SharedPool}
 use Rattle.shared_pool.specs.MailAnswers.{HasRoom}
-use Rattle.shared_pool.specs.Opening.{IsOpened}
-use Rattle.shared_pool.specs.Quotas.{posts}
+use Rattle.shared_pool.specs.Mails.{AtMail}
+use Rattle.shared_pool.specs.Opening.{HasRooms, IsOpened}
+use Rattle.pool_table.specs.Letters.{sent_on}
 use Rattle.shared_pool.specs.SeatLanes.{lane_of}
 use Rattle.shared_pool.specs.Seated.{IsDone, AreDone}
 use Rattle.seat_work.specs.HandOvers.{Sends}
 use Rattle.seat_work.specs.Hands.{empty_hand, lane_in}
 use Rattle.seat_work.specs.Works.{Works}
 use Rattle.seat_work.proofs.FirstSeats.{has_nothing}
+use Rattle.seat_work.proofs.MailRooms.{room_at}
 
 -- the first two elements of a list, taken out one after the other
 pub first_two : {X : Type 0} (P : ℕ → X → Type 0) (items rest : List X) (a b : X) → 1 < length items
@@ -33,43 +30,26 @@ first_two {X} P items rest a b two first behind second each =
     (subst (P 0) (sym first) (each 0 (omega arith) a), subst (P 1) (sym next) (each 1 (omega arith) b))
 
 -- a seat that posted nothing more has the room that it had
-pub room_kept : (s : Shape) (to : ℕ) (v w : SeatView) → HasRoom s (lane_in v) to v → Sends 0 v w
-    → HasRoom s (lane_in w) to w
-room_kept s to v w has sends =
+pub room_kept : (pool : SharedPool) (to : ℕ) (v w : SeatView) → HasRoom pool (lane_in v) to v → Sends 0 v w
+    → HasRoom pool (lane_in w) to w
+room_kept pool to v w has sends =
     let lane : lane_in w ≡ lane_in v = ap (λ (n : Option ℕ). unwrap_or n 0) sends.number in
-    record {
-      room = has.room;
-      known =
-          subst (λ (x : Option Setting × ℕ).
-          IfSome x.0 (λ t. slice_get t.mail (x.1 * s.lanes + to) ≡ Some has.room))
-          (λ i. (sym sends.setting i, sym lane i)) has.known;
-      fewer = (let a = sends.sent to in let b = has.fewer in omega (arith, a, b));
-    }
+    subst (λ (from : ℕ). AtMail pool from to (λ m. sent_on from to w.own.notes < m.room)) (sym lane)
+    (λ d. (let a = sends.sent to in let b = ap (λ (from : ℕ). sent_on from to w.own.notes) lane in let c = has d in
+    omega (arith, a, b, c)))
 
-module _ {G : Ghosts Home Noted} (pool : SharedPool) where
+module _ (pool : SharedPool) where
   -- the first of two lanes may post to the other
-  pub opened_room : (l : Layout) (s : PoolSeat Home G) → l.shape.lanes ≡ 2
-      → IsOpened l (1 ∷ 1 ∷ 1 ∷ 1 ∷ []) pool 0 s → HasRoom l.shape (lane_of s) 1 (view_of s)
-  opened_room l s two opened =
-      record {
-        room = 1;
-        known = go (view_of s).setting opened.mail_is;
-        fewer =
-            (let a = ap (λ (es : List Entry). posts (lane_of s) 1 es) opened.notes in omega (arith, a));
-      }
-    where
-      lane : lane_of s ≡ 0
-      lane = ap (λ (n : Option ℕ). unwrap_or n 0) opened.number
-
-      go : (o : Option Setting) → IfSome o (λ t. t.mail ≡ 1 ∷ 1 ∷ 1 ∷ 1 ∷ [])
-          → IfSome o (λ t. slice_get t.mail (lane_of s * l.shape.lanes + 1) ≡ Some 1)
-      go None mail = tt
-      go (Some t) mail =
-          (λ i. slice_get (mail i) (lane i * l.shape.lanes + 1))
-          ∙ ap (λ (n : ℕ). slice_get (1 ∷ 1 ∷ 1 ∷ 1 ∷ []) (0 * n + 1)) two
+  pub opened_room : (l : Layout) (s : PoolSeat) → pool.table.layout.shape.lanes ≡ 2
+      → HasRooms pool (1 ∷ 1 ∷ 1 ∷ 1 ∷ []) → IsOpened l pool 0 s → HasRoom pool (lane_of s) 1 (view_of s)
+  opened_room l s two rooms opened d =
+      let lane : lane_of s ≡ 0 = ap (λ (n : Option ℕ). unwrap_or n 0) opened.number in
+      let a = room_at pool (1 ∷ 1 ∷ 1 ∷ 1 ∷ []) (lane_of s) 1 1 rooms
+      (λ i. slice_get (1 ∷ 1 ∷ 1 ∷ 1 ∷ []) (lane i * two i + 1)) d in
+      let b = ap (λ (es : List Entry). sent_on (lane_of s) 1 es) opened.notes in omega (arith, a, b)
 
   -- two seats with nothing in hand are those with which the pool is closed
-  pub both_done : (a b : PoolSeat Home G) → pool.table.layout.shape.lanes ≡ 2 → Works pool empty_hand 0 0 a
+  pub both_done : (a b : PoolSeat) → pool.table.layout.shape.lanes ≡ 2 → Works pool empty_hand 0 0 a
       → Works pool empty_hand 0 0 b → (view_of a).own.number ≡ Some 0 → (view_of b).own.number ≡ Some 1
       → AreDone pool (a ∷ b ∷ [])
   both_done a b two x y first second =

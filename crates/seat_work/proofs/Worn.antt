@@ -1,15 +1,12 @@
 -- How a refusal as worn out keeps its cause, from the call that found it to the caller.
 use Rattle.std.proofs.Common.{◌≡◌, ℕ, Option, Some, None}
 use Rattle.std.specs.Prelude.{Result, Ok, Err, IfErr, IfSome}
-use Rattle.step_law.specs.declared.Told.{Ghosts}
 use Rattle.handle_bin.specs.Bins.{HandleValue}
 use Rattle.pool_law.specs.declared.id.RootId.{RootId}
 use Rattle.pool_law.specs.declared.note.Did.{Did}
-use Rattle.pool_law.specs.declared.note.Noted.{Noted}
 use Rattle.pool_law.specs.declared.note.Object.TheVariants.{Bin}
-use Rattle.pool_table.specs.declared.table.PoolSeat.{PoolSeat}
-use Rattle.pool_table.specs.Seats.{view_of, SameSeat}
-use Rattle.shared_pool.specs.declared.home.Home.{Home}
+use Rattle.shared_pool.specs.declared.seat.PoolSeat.{PoolSeat}
+use Rattle.shared_pool.specs.SeatViews.{view_of, SameSeat}
 use Rattle.shared_pool.specs.declared.pool.SharedPool.{SharedPool}
 use Rattle.shared_pool.specs.Notes.{plain, popped}
 use Rattle.shared_pool.specs.SeatLanes.{lane_of}
@@ -22,7 +19,7 @@ use Rattle.seat_work.specs.Answers.{TookHandle, IsWorn, IsWornAt}
 use Rattle.seat_work.proofs.Accesses.{noted_same}
 use Rattle.seat_work.proofs.Later.{same_on, later_on}
 
-module _ {G : Ghosts Home Noted} (pool : SharedPool) (old mid new : PoolSeat Home G) where
+module _ (pool : SharedPool) (old mid new : PoolSeat) where
   -- a handle that was popped is the next of the lane
   pub took_handle : (o : Option HandleValue) (number : ℕ) → SameSeat old mid → SameSeat mid new
       → view_of mid ≡ view_of old → IsNoted pool mid new (Bin (lane_of mid)) number (plain (popped o))

@@ -1,16 +1,13 @@
 -- What an allocation answered, and what is in hand on the way.
 use Rattle.std.specs.Prelude.{ℕ, Option, Some, None, Result, Ok, Err}
-use Rattle.step_law.specs.declared.Told.{Ghosts}
 use Rattle.handle_bin.specs.Bins.{HandleValue}
 use Rattle.pool_law.specs.declared.id.Region.{Region}
 use Rattle.pool_law.specs.declared.id.RegionId.{RegionId}
 use Rattle.pool_law.specs.declared.id.RootId.{RootId}
 use Rattle.pool_law.specs.declared.note.Did.{Did}
-use Rattle.pool_law.specs.declared.note.Noted.{Noted}
 use Rattle.pool_law.specs.declared.note.Object.TheVariants.{Bin}
-use Rattle.pool_table.specs.declared.table.PoolSeat.{PoolSeat}
-use Rattle.pool_table.specs.Seats.{view_of, SameSeat}
-use Rattle.shared_pool.specs.declared.home.Home.{Home}
+use Rattle.shared_pool.specs.declared.seat.PoolSeat.{PoolSeat}
+use Rattle.shared_pool.specs.SeatViews.{view_of, SameSeat}
 use Rattle.shared_pool.specs.declared.pool.SharedPool.{SharedPool}
 use Rattle.shared_pool.specs.Notes.{plain}
 use Rattle.shared_pool.specs.SeatLanes.{lane_of}
@@ -67,36 +64,35 @@ abbrev pub allocated : Result RootId AllocNo → Change
 allocated (Ok root) = once_more root
 allocated (Err why) = refused why
 
-module _ {G : Ghosts Home Noted} where
-  -- the same seat took the handle of this place, the next of its lane
-  pub record TookHandle (pool : SharedPool) (place : ℕ) (old new : PoolSeat Home G) : Type 0 where
-    pub same : SameSeat old new
-    pub number : ℕ
-    pub noted : IsNoted pool old new (Bin (lane_of old)) number (plain (Did.Handle place))
+-- the same seat took the handle of this place, the next of its lane
+pub record TookHandle (pool : SharedPool) (place : ℕ) (old new : PoolSeat) : Type 0 where
+  pub same : SameSeat old new
+  pub number : ℕ
+  pub noted : IsNoted pool old new (Bin (lane_of old)) number (plain (Did.Handle place))
 
-  -- the seat got so far that it had the handle of this place and a region in hand, and found the
-  -- place worn out; then it went on
-  pub record FindsWorn (pool : SharedPool) (place : ℕ) (old new : PoolSeat Home G) : Type 0 where
-    pub mid : PoolSeat Home G
-    pub before : IsLater pool old mid
-    pub region : RegionId
-    pub held : IsHeld (with_both place region) (view_of mid)
-    pub found : FoundWorn pool place mid
-    pub after : IsLater pool mid new
+-- the seat got so far that it had the handle of this place and a region in hand, and found the
+-- place worn out; then it went on
+pub record FindsWorn (pool : SharedPool) (place : ℕ) (old new : PoolSeat) : Type 0 where
+  pub mid : PoolSeat
+  pub before : IsLater pool old mid
+  pub region : RegionId
+  pub held : IsHeld (with_both place region) (view_of mid)
+  pub found : FoundWorn pool place mid
+  pub after : IsLater pool mid new
 
-  -- so it went with the handle that it took first
-  pub record MeetsWorn (pool : SharedPool) (old new : PoolSeat Home G) : Type 0 where
-    pub place : ℕ
-    pub start : PoolSeat Home G
-    pub took : TookHandle pool place old start
-    pub finds : FindsWorn pool place start new
+-- so it went with the handle that it took first
+pub record MeetsWorn (pool : SharedPool) (old new : PoolSeat) : Type 0 where
+  pub place : ℕ
+  pub start : PoolSeat
+  pub took : TookHandle pool place old start
+  pub finds : FindsWorn pool place start new
 
-  -- the cause of a refusal as worn out, from before a handle was taken; and with the handle of a
-  -- place in hand
-  abbrev pub IsWorn : SharedPool → PoolSeat Home G → PoolSeat Home G → AllocNo → Type 0
-  IsWorn pool old new Worn = MeetsWorn pool old new
-  IsWorn pool old new _ = Unit {0}
+-- the cause of a refusal as worn out, from before a handle was taken; and with the handle of a
+-- place in hand
+abbrev pub IsWorn : SharedPool → PoolSeat → PoolSeat → AllocNo → Type 0
+IsWorn pool old new Worn = MeetsWorn pool old new
+IsWorn pool old new _ = Unit {0}
 
-  abbrev pub IsWornAt : SharedPool → ℕ → PoolSeat Home G → PoolSeat Home G → AllocNo → Type 0
-  IsWornAt pool place old new Worn = FindsWorn pool place old new
-  IsWornAt pool place old new _ = Unit {0}
+abbrev pub IsWornAt : SharedPool → ℕ → PoolSeat → PoolSeat → AllocNo → Type 0
+IsWornAt pool place old new Worn = FindsWorn pool place old new
+IsWornAt pool place old new _ = Unit {0}

@@ -4,7 +4,7 @@ use Rattle.pool_law.specs.declared.id.Parcel.{Parcel}
 use Rattle.pool_law.specs.declared.id.RootId.{RootId}
 use Rattle.pool_law.specs.declared.id.ViewData.{ViewData}
 use Rattle.pool_table.specs.declared.views.SeatView.{SeatView}
-use Rattle.shared_pool.specs.Quotas.{posts}
+use Rattle.pool_table.specs.Letters.{sent_on}
 use Rattle.seat_work.specs.Hands.{lane_in}
 use Rattle.seat_work.specs.Changes.{Change, no_change}
 
@@ -13,7 +13,7 @@ pub record Sends (count : ℕ) (old new : SeatView) : Type 0 where
   pub number : new.own.number ≡ old.own.number
   pub setting : new.setting ≡ old.setting
   pub sent : (to : ℕ) →
-      posts (lane_in new) to new.own.notes ≤ count + posts (lane_in old) to old.own.notes
+      sent_on (lane_in new) to new.own.notes ≤ count + sent_on (lane_in old) to old.own.notes
 
 -- the root of a view, if there is one
 abbrev pub roots_in : Option ViewData → List RootId
@@ -27,8 +27,3 @@ posted parcel = record no_change { gone = roots_in parcel.view }
 abbrev pub fetched : Option Parcel → Change
 fetched None = no_change
 fetched (Some parcel) = record no_change { got = roots_in parcel.view }
-
--- a fetch costs a turn where a parcel came
-abbrev pub fetch_turns : Option Parcel → ℕ
-fetch_turns None = 0
-fetch_turns (Some parcel) = 1

@@ -1,24 +1,21 @@
 -- What a seat has in hand, exactly: at most one root place, one region and one end token; and how
 -- far it has closed and drained its caches.
 use Rattle.std.specs.Prelude.{◌≡◌, ℕ, ◌+◌, ◌*◌, ◌/◌, ◌<◌, ◌==◌, cond, if◌then◌else◌, nat_lt, unwrap_or, Option, Some, None, IfSome}
-use Rattle.step_law.specs.declared.Told.{Ghosts}
 use Rattle.size_classes.specs.Sizes.{class_count, size_at}
 use Rattle.pool_law.specs.declared.id.RootId.{RootId}
 use Rattle.pool_law.specs.declared.id.RegionId.{RegionId}
 use Rattle.pool_law.specs.declared.id.Region.{Region}
-use Rattle.pool_law.specs.declared.note.Noted.{Noted}
 use Rattle.pool_law.specs.Limits.{geometry_of}
 use Rattle.pool_law.specs.Places.{IsInPlace}
 use Rattle.pool_law.specs.Same.{same_root}
 use Rattle.table_law.specs.NoteCounts.{is_taking, uses_in}
 use Rattle.handle_bin.specs.Bins.{HandleValue}
-use Rattle.pool_table.specs.declared.table.PoolSeat.{PoolSeat}
+use Rattle.shared_pool.specs.declared.seat.PoolSeat.{PoolSeat}
 use Rattle.pool_table.specs.declared.views.SeatView.{SeatView}
 use Rattle.pool_table.specs.Counts.{weigh, on_this, on_place, ref_born, ref_ended, ref_vacated}
 use Rattle.pool_table.specs.Hands.{taken, put_down, at_birth, grasped, laid, uses_come, uses_gone, ends}
-use Rattle.pool_table.specs.Seats.{view_of}
+use Rattle.shared_pool.specs.SeatViews.{view_of}
 use Rattle.shared_pool.specs.Quotas.{quota_left, has_closed}
-use Rattle.shared_pool.specs.declared.home.Home.{Home}
 use Rattle.shared_pool.specs.declared.pool.SharedPool.{SharedPool}
 
 -- the lane of a view that has one
@@ -77,10 +74,9 @@ pub record IsHandle (pool : SharedPool) (h : HandleValue) : Type 0 where
   pub lane : h.lane ≡ h.place / pool.table.layout.shape.handles
   pub place : h.place < pool.table.layout.shape.lanes * pool.table.layout.shape.handles
 
-module _ {G : Ghosts Home Noted} where
-  -- a region of the pool, with the memory of its place, as long as its class says
-  pub record IsRegion (pool : SharedPool) (s : PoolSeat Home G) (r : Region) : Type 0 where
-    pub here : IfSome (view_of s).setting (λ t. IsInPlace t.grounds r.id.place r.piece)
-    pub owner : r.id.owner < pool.table.layout.shape.lanes
-    pub class : r.id.class < class_count (geometry_of pool.table.layout.shape)
-    pub len : r.id.place.len ≡ size_at r.id.class
+-- a region of the pool, with the memory of its place, as long as its class says
+pub record IsRegion (pool : SharedPool) (s : PoolSeat) (r : Region) : Type 0 where
+  pub here : IfSome (view_of s).setting (λ t. IsInPlace t.grounds r.id.place r.piece)
+  pub owner : r.id.owner < pool.table.layout.shape.lanes
+  pub class : r.id.class < class_count (geometry_of pool.table.layout.shape)
+  pub len : r.id.place.len ≡ size_at r.id.class

@@ -1,11 +1,8 @@
 -- What a seat has in hand and left, and how it goes on from there.
 use Rattle.std.specs.Prelude.{◌≡◌, ℕ, ◌+◌, ◌≤◌, List}
-use Rattle.step_law.specs.declared.Told.{Ghosts}
-use Rattle.pool_law.specs.declared.note.Noted.{Noted}
-use Rattle.pool_table.specs.declared.table.PoolSeat.{PoolSeat}
+use Rattle.shared_pool.specs.declared.seat.PoolSeat.{PoolSeat}
 use Rattle.pool_table.specs.declared.views.Entry.{Entry}
-use Rattle.pool_table.specs.Seats.{view_of, SameSeat}
-use Rattle.shared_pool.specs.declared.home.Home.{Home}
+use Rattle.shared_pool.specs.SeatViews.{view_of, SameSeat}
 use Rattle.shared_pool.specs.declared.pool.SharedPool.{SharedPool}
 use Rattle.shared_pool.specs.Seats.{IsPoolSeat}
 use Rattle.seat_work.specs.Hands.{Hand, IsHeld}
@@ -13,37 +10,36 @@ use Rattle.seat_work.specs.Growth.{HasGrown}
 use Rattle.seat_work.specs.Changes.{IsPaid, Change, Changes}
 use Rattle.seat_work.specs.HandOvers.{Sends}
 
-module _ {G : Ghosts Home Noted} where
-  -- a seat of the pool with just this in hand, and so many turns and moves left
-  pub record Works (pool : SharedPool) (hand : Hand) (turns moves : ℕ) (s : PoolSeat Home G) :
-      Type 0 where
-    pub seat : IsPoolSeat pool s
-    pub held : IsHeld hand (view_of s)
-    pub paid : IsPaid (view_of s)
-    pub turns_left : turns ≤ (view_of s).turns
-    pub moves_left : moves ≤ (view_of s).moves
+-- a seat of the pool with just this in hand, and so many turns and moves left
+pub record Works (pool : SharedPool) (hand : Hand) (turns moves : ℕ) (s : PoolSeat) :
+    Type 0 where
+  pub seat : IsPoolSeat pool s
+  pub held : IsHeld hand (view_of s)
+  pub paid : IsPaid (view_of s)
+  pub turns_left : turns ≤ (view_of s).turns
+  pub moves_left : moves ≤ (view_of s).moves
 
-  -- the seat has just this in hand now, and spent at most so many turns and moves
-  pub record Goes (pool : SharedPool) (hand : Hand) (turns moves : ℕ) (old new : PoolSeat Home G) :
-      Type 0 where
-    pub seat : IsPoolSeat pool new
-    pub held : IsHeld hand (view_of new)
-    pub paid : IsPaid (view_of new)
-    pub turns_left : (view_of old).turns ≤ (view_of new).turns + turns
-    pub moves_left : (view_of old).moves ≤ (view_of new).moves + moves
-    pub number : (view_of new).own.number ≡ (view_of old).own.number
+-- the seat has just this in hand now, and spent at most so many turns and moves
+pub record Goes (pool : SharedPool) (hand : Hand) (turns moves : ℕ) (old new : PoolSeat) :
+    Type 0 where
+  pub seat : IsPoolSeat pool new
+  pub held : IsHeld hand (view_of new)
+  pub paid : IsPaid (view_of new)
+  pub turns_left : (view_of old).turns ≤ (view_of new).turns + turns
+  pub moves_left : (view_of old).moves ≤ (view_of new).moves + moves
+  pub number : (view_of new).own.number ≡ (view_of old).own.number
 
-  -- it went so far, this alone changed of what it counts and found, and it posted nothing
-  pub record Proceeds
-      (pool : SharedPool) (hand : Hand) (turns moves : ℕ) (c : Change)
-      (old new : PoolSeat Home G) : Type 0 where
-    pub goes : Goes pool hand turns moves old new
-    pub changes : Changes c (view_of old) (view_of new)
-    pub sends : Sends 0 (view_of old) (view_of new)
+-- it went so far, this alone changed of what it counts and found, and it posted nothing
+pub record Proceeds
+    (pool : SharedPool) (hand : Hand) (turns moves : ℕ) (c : Change)
+    (old new : PoolSeat) : Type 0 where
+  pub goes : Goes pool hand turns moves old new
+  pub changes : Changes c (view_of old) (view_of new)
+  pub sends : Sends 0 (view_of old) (view_of new)
 
-  -- the same seat of the pool further on, behind some steps of its own
-  pub record IsLater (pool : SharedPool) (old new : PoolSeat Home G) : Type 0 where
-    pub same : SameSeat old new
-    pub seat : IsPoolSeat pool new
-    pub added : List Entry
-    pub grown : HasGrown (view_of old) (view_of new) added
+-- the same seat of the pool further on, behind some steps of its own
+pub record IsLater (pool : SharedPool) (old new : PoolSeat) : Type 0 where
+  pub same : SameSeat old new
+  pub seat : IsPoolSeat pool new
+  pub added : List Entry
+  pub grown : HasGrown (view_of old) (view_of new) added

@@ -5,7 +5,7 @@ ghost use Rattle.std.specs.Fn.{FnOnceReturnsAt};
 ghost use Rattle.pool_law.specs.declared.note.Did.{Did};
 ghost use Rattle.pool_law.specs.declared.note.Object.TheVariants.{Root};
 ghost use Rattle.pool_table.specs.Counts.{HasCount};
-ghost use Rattle.pool_table.specs.Seats.{view_of};
+ghost use Rattle.shared_pool.specs.SeatViews.{view_of};
 ghost use Rattle.shared_pool.specs.RootNotes.{access};
 ghost use Rattle.shared_pool.specs.Seats.{IsNoted};
 ghost use Rattle.seat_work.specs.Hands.{empty_hand};

@@ -2,7 +2,7 @@
 
 ghost use Rattle.std.specs.Prelude.{true, false};
 ghost use Rattle.pool_table.specs.Counts.{HasCount};
-ghost use Rattle.pool_table.specs.Seats.{view_of};
+ghost use Rattle.shared_pool.specs.SeatViews.{view_of};
 ghost use Rattle.seat_work.specs.Hands.{empty_hand};
 ghost use Rattle.seat_work.specs.Changes.{once_more, once_less};
 ghost use Rattle.seat_work.specs.Works.{Works, Proceeds};

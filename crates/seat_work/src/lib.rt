@@ -9,8 +9,6 @@ mod birth;
 mod counts;
 mod ending;
 mod hand_over;
-#[cfg(test)]
-mod tests;
 
 pub use access::{get, set, with_bytes};
 pub use allocation::{AllocNo, allocate};

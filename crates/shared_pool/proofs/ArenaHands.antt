@@ -2,12 +2,10 @@
 use Rattle.std.proofs.Common.{◌≡◌, ℕ, ◌+◌, ◌-◌, ◌<◌, sym, ap, ◌∙◌, subst, arith, Bool, cond}
 use Rattle.std.specs.Prelude.{Option, Some, IfSome}
 use Rattle.step_law.specs.Settings.{Setting}
-use Rattle.step_law.specs.declared.Told.{Ghosts}
 use Rattle.size_classes.specs.Sizes.{class_count, size_at}
 use Rattle.pool_law.specs.declared.id.Region.{Region}
 use Rattle.pool_law.specs.declared.id.RegionId.{RegionId}
 use Rattle.pool_law.specs.declared.note.Did.TheVariants.{Take}
-use Rattle.pool_law.specs.declared.note.Noted.{Noted}
 use Rattle.pool_law.specs.declared.note.Object.{Object}
 use Rattle.pool_law.specs.Limits.{geometry_of}
 use Rattle.pool_law.specs.Naming.{noted_by}
@@ -17,13 +15,12 @@ use Rattle.table_law.proofs.Names.{same_taking-refl}
 use Rattle.pool_table.specs.declared.views.Entry.{Entry}
 use Rattle.pool_table.specs.declared.views.Entry.TheVariants.{At}
 use Rattle.pool_table.specs.declared.views.SeatView.{SeatView}
-use Rattle.pool_table.specs.declared.table.PoolSeat.{PoolSeat}
+use Rattle.shared_pool.specs.declared.seat.PoolSeat.{PoolSeat}
 use Rattle.pool_table.specs.Counts.{weigh}
 use Rattle.pool_table.specs.Hands.{HasRegion, IsLaidDown, from_arena, from_cache, from_place, to_arena, to_cache, to_place}
-use Rattle.pool_table.specs.Seats.{view_of}
+use Rattle.shared_pool.specs.SeatViews.{view_of}
 use Rattle.pool_table.specs.Views.{with_entry}
 use Rattle.pool_table.proofs.Weights.{weigh_entry}
-use Rattle.shared_pool.specs.declared.home.Home.{Home}
 use Rattle.shared_pool.specs.declared.pool.SharedPool.{SharedPool}
 use Rattle.shared_pool.specs.Holding.{HoldsRegion}
 use Rattle.shared_pool.specs.Notes.{plain}
@@ -62,7 +59,7 @@ has_taken v o number turns lane class r before unused =
     none = ap (λ (b : Bool). cond b r.uses 0) (same_taking-refl r) ∙ unused
 
 -- a call that noted a taking leaves the seat with the region
-pub took_region : {G : Ghosts Home Noted} (pool : SharedPool) (old new : PoolSeat Home G) (o : Object)
+pub took_region : (pool : SharedPool) (old new : PoolSeat) (o : Object)
     (number class : ℕ) (r : Region) (setting : Setting) → (view_of old).setting ≡ Some setting
     → IsNoted pool old new o number (plain (Take class r.id)) →
     IsLaidDown r.id (view_of old) → r.id.uses ≡ 0 → IsInPlace setting.grounds r.id.place r.piece

@@ -38,7 +38,7 @@ use Rattle.pool_table.specs.declared.table.Section.{Section}
 use Rattle.pool_table.specs.Seats.{view_of}
 use Rattle.pool_table.specs.Sections.{GotSection}
 use Rattle.shared_pool.specs.declared.home.Home.{Home}
-use Rattle.shared_pool.specs.declared.home.Home.TheVariants.{Arena, Cache, Bin, Mail, Root}
+use Rattle.shared_pool.specs.declared.home.Home.TheVariants.{Arena, Cache, Bin, Root}
 use Rattle.shared_pool.specs.Standing.{HomeStands, IsArenaAt, IsArena, IfArena, StandsMore}
 use Rattle.shared_pool.specs.Notes.{plain}
 use Rattle.shared_pool.proofs.Endings.{stood, IsNext, plain_watch}
@@ -68,7 +68,6 @@ pub is_arena : (setting : Setting) (h : List Noted) (number order page chunks : 
 is_arena setting h number order page chunks (Arena a) at = tt
 is_arena setting h number order page chunks (Cache q) at = absurd (cc at.measured)
 is_arena setting h number order page chunks (Bin b) at = absurd (cc at.measured)
-is_arena setting h number order page chunks (Mail m) at = absurd (cc at.measured)
 is_arena setting h number order page chunks (Root s) at = absurd (cc at.measured)
 
 -- the law's arena of the object is the one for which the value stands
@@ -101,7 +100,6 @@ arena_follows s setting number h n (Arena a) t is at right =
     }
 arena_follows s setting number h n (Cache q) t is at right = absurd is
 arena_follows s setting number h n (Bin b) t is at right = absurd is
-arena_follows s setting number h n (Mail m) t is at right = absurd is
 arena_follows s setting number h n (Root r) t is at right = absurd is
 
 -- after a call on the arena its note follows, and the home value stands for it
@@ -165,11 +163,9 @@ module _ {G : Ghosts Home Noted} (l : Layout) (number : ℕ) (old new : PoolSeat
           stood_more (measures_of l.shape (ArenaOf number)) setting got.history (noted_by (view_of old).own.number n)
           (Give r) a.value b.value (ap (λ (x : Noted). x.did) is) gives.same (gives-stands a.value b.value r gives)
           at (is_out r here hand a.value at)
-      go (Arena a) (Mail y) was arena gives at = absurd arena
       go (Arena a) (Cache y) was arena gives at = absurd arena
       go (Arena a) (Bin y) was arena gives at = absurd arena
       go (Arena a) (Root y) was arena gives at = absurd arena
-      go (Mail x) y was arena gives at = absurd was
       go (Cache x) y was arena gives at = absurd was
       go (Bin x) y was arena gives at = absurd was
       go (Root x) y was arena gives at = absurd was
@@ -191,7 +187,6 @@ module _ {G : Ghosts Home Noted} (l : Layout) (number : ℕ) (old new : PoolSeat
           let holds : ArenaHolds s.geometry s.number x =
           after-holds s.geometry s.number (noted_dids got.history) first x new at.stands.told in
           (here ∙ number_is, out-slot s.geometry s.number x r holds (is_out r here hand s at))
-      go (Mail x) at = tt
       go (Cache x) at = tt
       go (Bin x) at = tt
       go (Root x) at = tt
@@ -209,7 +204,6 @@ module _ {G : Ghosts Home Noted} (l : Layout) (number : ℕ) (old new : PoolSeat
           let most = takings-most s.number 0 (noted_dids got.history) s.takings order in
           let many = length-map got.history (λ (n : Noted). n.did) in
           let short = got.learned.short in omega (arith, most, many, short)
-      go (Mail x) at = tt
       go (Cache x) at = tt
       go (Bin x) at = tt
       go (Root x) at = tt
@@ -223,7 +217,6 @@ module _ {G : Ghosts Home Noted} (l : Layout) (number : ℕ) (old new : PoolSeat
           → HomeStands (measures_of l.shape (ArenaOf number)) setting got.history x
           → IsInPlace setting.grounds r.place piece
       go (Arena a) was place at = place setting.grounds at.stands.on
-      go (Mail x) was place at = absurd was
       go (Cache x) was place at = absurd was
       go (Bin x) was place at = absurd was
       go (Root x) was place at = absurd was

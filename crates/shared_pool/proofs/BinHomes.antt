@@ -15,7 +15,7 @@ use Rattle.table_law.proofs.Runs.{right_push}
 use Rattle.handle_bin.specs.Bins.{BinValue, Makes, places_in}
 use Rattle.handle_bin.proofs.StandingLaws.{stands_more}
 use Rattle.shared_pool.specs.declared.home.Home.{Home}
-use Rattle.shared_pool.specs.declared.home.Home.TheVariants.{Arena, Cache, Bin, Mail, Root}
+use Rattle.shared_pool.specs.declared.home.Home.TheVariants.{Arena, Cache, Bin, Root}
 use Rattle.shared_pool.specs.Standing.{HomeStands, IsBinAt, IsBin, IfBin, StandsMore}
 use Rattle.shared_pool.specs.Notes.{plain}
 use Rattle.shared_pool.proofs.Endings.{stood, IsNext, plain_watch}
@@ -41,7 +41,6 @@ pub is_bin : (setting : Setting) (h : List Noted) (lane handles : ℕ) (home : H
 is_bin setting h lane handles (Arena a) at = absurd (cc at.measured)
 is_bin setting h lane handles (Cache q) at = absurd (cc at.measured)
 is_bin setting h lane handles (Bin b) at = tt
-is_bin setting h lane handles (Mail m) at = absurd (cc at.measured)
 is_bin setting h lane handles (Root s) at = absurd (cc at.measured)
 
 pub bin_follows : (s : Shape) (setting : Setting) (lane : ℕ) (h : List Noted) (n : Noted) (home : Home)
@@ -63,7 +62,6 @@ bin_follows s setting lane h n (Bin b) t is at right =
     handles_is = cc at.measured
 bin_follows s setting lane h n (Arena a) t is at right = absurd is
 bin_follows s setting lane h n (Cache q) t is at right = absurd is
-bin_follows s setting lane h n (Mail m) t is at right = absurd is
 bin_follows s setting lane h n (Root r) t is at right = absurd is
 
 -- what holds of the lane and the handles of the value holds of those of the object
@@ -80,7 +78,6 @@ bin_is s setting lane h (Bin b) P at is holds =
     handles_is = cc at.measured
 bin_is s setting lane h (Arena a) P at is holds = absurd is
 bin_is s setting lane h (Cache q) P at is holds = absurd is
-bin_is s setting lane h (Mail m) P at is holds = absurd is
 bin_is s setting lane h (Root r) P at is holds = absurd is
 
 -- the places in the value are those of the object after its history
@@ -100,7 +97,6 @@ bin_has s setting lane h (Bin b) P at is so =
     handles_is = cc at.measured
 bin_has s setting lane h (Arena a) P at is so = absurd is
 bin_has s setting lane h (Cache q) P at is so = absurd is
-bin_has s setting lane h (Mail m) P at is so = absurd is
 bin_has s setting lane h (Root r) P at is so = absurd is
 
 -- after a call on the bin its note follows, and the home value stands for it

@@ -29,7 +29,7 @@ use Rattle.table_law.proofs.Told.{cache_there, next_cache}
 use Rattle.pool_table.specs.declared.views.Entry.TheVariants.{At}
 use Rattle.pool_table.specs.declared.views.SeatView.{SeatView}
 use Rattle.pool_table.specs.declared.views.Layout.{Layout}
-use Rattle.pool_table.specs.declared.table.PoolSeat.{PoolSeat}
+use Rattle.pool_table.specs.declared.table.PoolSeat.{PoolSeat as TableSeat}
 use Rattle.pool_table.specs.declared.table.Section.{Section}
 use Rattle.pool_table.specs.Views.{with_entry, entered}
 use Rattle.pool_table.specs.Hands.{from_arena, to_arena, from_cache, to_cache, from_place, to_place, HasRegion, IsLaidDown, PutsDown}
@@ -39,11 +39,13 @@ use Rattle.pool_table.specs.Sections.{GotSection}
 use Rattle.pool_table.proofs.Weights.{weigh_entry}
 use Rattle.shared_pool.specs.declared.home.Home.{Home}
 use Rattle.shared_pool.specs.declared.pool.SharedPool.{SharedPool}
+use Rattle.shared_pool.specs.declared.seat.PoolSeat.{PoolSeat}
 use Rattle.shared_pool.specs.declared.went.Put.{Put}
 use Rattle.shared_pool.specs.declared.went.Put.TheVariants.{Kept, Back}
 use Rattle.shared_pool.specs.CacheAnswers.{was_put, WasInPlace}
 use Rattle.shared_pool.specs.Holding.{HoldsRegion}
 use Rattle.shared_pool.specs.Notes.{hit}
+use Rattle.shared_pool.specs.SeatViews.{view_of as seat_view}
 use Rattle.shared_pool.specs.Standing.{HomeStands}
 use Rattle.shared_pool.proofs.Endings.{stood}
 
@@ -105,7 +107,7 @@ module _ (v : SeatView) (r : RegionId) (o : Object) (number turns : ℕ) (n : No
 
 -- ---- What a seat holds after a pop and a shed.
 
-module _ {G : Ghosts Home Noted} (pool : SharedPool) (lane class : ℕ) (old new last : PoolSeat Home G)
+module _ {G : Ghosts Home Noted} (pool : SharedPool) (lane class : ℕ) (old new : TableSeat Home G) (last : PoolSeat)
     (section : Section Home) (got : GotSection HomeStands pool.table.layout (CacheOf lane class) old new section)
     (setting : Setting) (known : (view_of old).setting ≡ Some setting)
     (below : lane < pool.table.layout.shape.lanes) (cached : class < 40) (shape : IsShape pool.table.layout.shape) where
@@ -117,7 +119,7 @@ module _ {G : Ghosts Home Noted} (pool : SharedPool) (lane class : ℕ) (old new
       → IsHistory s (CacheOf lane class) (got.history ++ n ∷ []) →
       ((c y : CacheState) → IsCacheStep lane class c n.did y → c.regions ≡ x.id ∷ y.regions) → WasInPlace section.home x
       →
-      view_of last ≡ with_entry (view_of old) (At (CacheOf lane class) number n) turns →
+      seat_view last ≡ with_entry (view_of old) (At (CacheOf lane class) number n) turns →
       HoldsRegion pool last x × (x.id.owner ≡ lane) × (x.id.class ≡ class)
   held number turns n x out follows front was seen =
       let l = pool.table.layout in let v = view_of old in
@@ -153,7 +155,7 @@ module _ {G : Ghosts Home Noted} (pool : SharedPool) (lane class : ℕ) (old new
 
   pub popped_held : (number turns : ℕ) (n : Noted) (r : Option Region) → n.did ≡ hit r
       → IsHistory s (CacheOf lane class) (got.history ++ n ∷ []) → IfSome r (λ x. WasInPlace section.home x) →
-      view_of last ≡ with_entry (view_of old) (At (CacheOf lane class) number n) turns →
+      seat_view last ≡ with_entry (view_of old) (At (CacheOf lane class) number n) turns →
       IfSome r (λ x. HoldsRegion pool last x × (x.id.owner ≡ lane) × (x.id.class ≡ class))
   popped_held number turns n None did follows was seen = tt
   popped_held number turns n (Some x) did follows was seen =
@@ -161,7 +163,7 @@ module _ {G : Ghosts Home Noted} (pool : SharedPool) (lane class : ℕ) (old new
 
   pub shed_held : (number turns : ℕ) (n : Noted) (x : Region) → n.did ≡ Shed x.id
       → IsHistory s (CacheOf lane class) (got.history ++ n ∷ []) → WasInPlace section.home x →
-      view_of last ≡ with_entry (view_of old) (At (CacheOf lane class) number n) turns →
+      seat_view last ≡ with_entry (view_of old) (At (CacheOf lane class) number n) turns →
       HoldsRegion pool last x × (x.id.owner ≡ lane) × (x.id.class ≡ class)
   shed_held number turns n x did follows was seen =
       held number turns n x (shed_takes x.id n did) follows (shed_front n x.id did) was seen

@@ -27,7 +27,7 @@ use Rattle.pool_table.specs.declared.table.Section.{Section}
 use Rattle.pool_table.specs.Seats.{view_of}
 use Rattle.pool_table.specs.Sections.{GotSection}
 use Rattle.shared_pool.specs.declared.home.Home.{Home}
-use Rattle.shared_pool.specs.declared.home.Home.TheVariants.{Arena, Cache, Bin, Mail, Root}
+use Rattle.shared_pool.specs.declared.home.Home.TheVariants.{Arena, Cache, Bin, Root}
 use Rattle.shared_pool.specs.Standing.{HomeStands, HasClassLength, IsCacheAt, IsCache, IfCache}
 use Rattle.shared_pool.specs.Notes.{plain}
 use Rattle.shared_pool.proofs.Endings.{IsNext, plain_watch}
@@ -56,7 +56,6 @@ pub is_cache : (setting : Setting) (h : List Noted) (lane class : ℕ) (home : H
 is_cache setting h lane class (Arena a) at = absurd (cc at.measured)
 is_cache setting h lane class (Cache q) at = tt
 is_cache setting h lane class (Bin b) at = absurd (cc at.measured)
-is_cache setting h lane class (Mail m) at = absurd (cc at.measured)
 is_cache setting h lane class (Root s) at = absurd (cc at.measured)
 
 -- the value is the law's cache after its history
@@ -73,7 +72,6 @@ cache_has s setting lane class h (Cache q) P at is so accepted =
     class_is = cc at.measured
 cache_has s setting lane class h (Arena a) P at is so accepted = absurd is
 cache_has s setting lane class h (Bin b) P at is so accepted = absurd is
-cache_has s setting lane class h (Mail m) P at is so accepted = absurd is
 cache_has s setting lane class h (Root r) P at is so accepted = absurd is
 
 -- what a cache of that capacity makes of a note, the lane's makes of it, if it is of the lane
@@ -115,7 +113,6 @@ cache_follows s setting lane class h n (Cache q) t is own at right =
     class_is = cc at.measured
 cache_follows s setting lane class h n (Arena a) t is own at right = absurd is
 cache_follows s setting lane class h n (Bin b) t is own at right = absurd is
-cache_follows s setting lane class h n (Mail m) t is own at right = absurd is
 cache_follows s setting lane class h n (Root r) t is own at right = absurd is
 
 -- after a call on the cache its note follows, and the home value stands for it

@@ -17,14 +17,14 @@ use Rattle.pool_law.specs.NotedHistories.{noted_dids, MayNote}
 use Rattle.pool_law.specs.Same.{same_object, same_region}
 use Rattle.pool_law.proofs.SameLemmas.{same_object-is}
 use Rattle.table_law.specs.Histories.{IsCacheAfter}
-use Rattle.table_law.proofs.Apart.{one_home}
+use Rattle.pool_table.proofs.Known.{one_known}
 use Rattle.table_law.proofs.BinSteps.{so}
 use Rattle.pool_table.specs.declared.views.Entry.{Entry}
 use Rattle.pool_table.specs.declared.views.Entry.TheVariants.{At, Ref, Busy}
 use Rattle.pool_table.specs.declared.views.Layout.{Layout}
 use Rattle.pool_table.specs.declared.views.SeatView.{SeatView}
 use Rattle.pool_table.specs.Views.{noted_of, is_about, is_lane}
-use Rattle.pool_table.specs.Sound.{Stands}
+use Rattle.pool_table.specs.Sound.{IsKnown, Stands}
 use Rattle.pool_table.specs.Learned.{Enters}
 use Rattle.pool_table.specs.declared.views.Part.{Part}
 use Rattle.shared_pool.specs.declared.home.Home.{Home}
@@ -86,14 +86,14 @@ module _ (s : Shape) (lane class : ℕ) (fits : IsObjectOf s (Cache lane class))
   at = home_of s (Cache lane class)
 
   -- two tests for the cache say the same of an object of the shape
-  test_is : (o : Object) → IsObjectOf s o → same_object o (Cache lane class) ≡ eqb (home_of s o) at
+  test_is : (o : Object) → IsKnown s o → same_object o (Cache lane class) ≡ eqb (home_of s o) at
   test_is o of = go (same_object o (Cache lane class)) (eqb (home_of s o) at) refl refl
     where
       go : (a b : Bool) → same_object o (Cache lane class) ≡ a → eqb (home_of s o) at ≡ b → a ≡ b
       go true true x y = refl
       go true false x y = sym (eq-eqb (home_of s o) at (ap (home_of s) (same_object-is o (Cache lane class) x))) ∙ y
       go false true x y =
-          let is : o ≡ Cache lane class = one_home s o (Cache lane class) of fits (eqb-true (home_of s o) at y) in
+          let is : o ≡ Cache lane class = one_known s o (Cache lane class) of fits (eqb-true (home_of s o) at y) in
           sym x ∙ ap (λ z. same_object z (Cache lane class)) is ∙ same_pair lane class
       go false false x y = refl
 

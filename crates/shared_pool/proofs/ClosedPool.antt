@@ -2,12 +2,10 @@
 use Rattle.std.proofs.Common.{◌≡◌, ℕ, ◌+◌, ◌*◌, List, sym, ap, ◌∙◌, subst, refl, arith, Some, None}
 use Rattle.std.specs.Prelude.{◌≤◌, Option, length}
 use Rattle.step_law.specs.Settings.{Setting}
-use Rattle.step_law.specs.declared.Told.{Ghosts}
 use Rattle.size_classes.specs.Sizes.{IsPage, below}
-use Rattle.pool_law.specs.declared.note.Noted.{Noted}
 use Rattle.pool_law.specs.declared.run.Shape.{Shape}
 use Rattle.pool_law.specs.Legal.{ends_from}
-use Rattle.pool_table.specs.declared.table.PoolSeat.{PoolSeat}
+use Rattle.shared_pool.specs.declared.seat.PoolSeat.{PoolSeat}
 use Rattle.pool_table.specs.declared.views.Layout.{Layout}
 use Rattle.pool_table.specs.declared.views.Part.{Part}
 use Rattle.pool_table.specs.declared.views.SeatView.{SeatView}
@@ -24,16 +22,16 @@ use Rattle.shared_pool.specs.Seated.{AreDone, parts_in}
 use Rattle.shared_pool.specs.Standing.{HomeStands}
 use Rattle.shared_pool.proofs.ClosingLaw.{parts-whole}
 use Rattle.shared_pool.proofs.JoinedParts.{HasNoToken, lanes_joined, places_joined, takings_joined, tokens_joined}
-use Rattle.shared_pool.proofs.EmptyStart.{are_out}
+use Rattle.shared_pool.proofs.EmptyTables.{are_out}
 use Rattle.shared_pool.proofs.LastChunks.{arenas_here, chunks_told}
-use Rattle.shared_pool.proofs.LiveTold.{places_here, live_told}
+use Rattle.shared_pool.proofs.LiveTables.{places_here, live_told}
 
 found_in : (n : ℕ) (o : Option Setting) → arenas_known o ≡ Some n
     → (x : Setting) × (o ≡ Some x) × (length x.grounds ≡ n)
 found_in n None e = absurd (cc e)
 found_in n (Some x) e = (x, refl, cc e)
 
-module _ {G : Ghosts Home Noted} (pool : SharedPool) (seats : List (PoolSeat Home G)) (done : AreDone pool seats)
+module _ (pool : SharedPool) (seats : List PoolSeat) (done : AreDone pool seats)
     (v : SeatView) (parts : parts_of v ≡ parts_in seats)
     (settled : arenas_known v.setting ≡ Some pool.table.layout.shape.arenas) (homes : List (Option Home))
     (words : List ℕ) (closed : IsClosed HomeStands pool.table.layout v homes words) where
@@ -75,8 +73,8 @@ module _ {G : Ghosts Home Noted} (pool : SharedPool) (seats : List (PoolSeat Hom
   -- there is a home value for each arena, and more
   pub many : shape.arenas ≤ length homes
   many =
-      let x : ℕ = shape.lanes * shape.lanes in let y : ℕ = shape.lanes * shape.handles in let e : length homes
-      ≡ shape.arenas + shape.lanes * 41 + x + y = closed.home_count in
+      let y : ℕ = shape.lanes * shape.handles in
+      let e : length homes ≡ shape.arenas + shape.lanes * 41 + y = closed.home_count in
       omega (arith, e)
 
   pub out : AreOut shape.arenas homes (left_of homes)

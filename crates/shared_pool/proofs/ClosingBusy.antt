@@ -1,7 +1,7 @@
 -- The busy marks of the parts, as the logs have them.
 use Rattle.step_law.specs.Settings.{Setting}
 use Rattle.std.proofs.Common.{◌≡◌, ℕ, suc, ◌+◌, ◌<◌, ◌≤◌, List, [], ◌∷◌, length, get_or, Bool, true, false, cond, sym, refl, ap, ◌∙◌, subst, arith, ⊎_elim, eq-eqb, eqb-true, Some}
-use Rattle.std.specs.Prelude.{◌==◌, Option, option_map, unwrap_or, All, AllPairs, MatchBool, filter, max, slice_get}
+use Rattle.std.specs.Prelude.{◌==◌, Option, option_map, unwrap_or, All, AllPairs, IsTrue, MatchBool, filter, max, slice_get}
 use Rattle.std.proofs.lemmas.Option.{slice_get-map, slice_get_within, get_or_from_slice_get}
 use Rattle.std.proofs.lemmas.List.Elements.{All-head, All-tail, All-weaker}
 use mathlib.Core.Logic.{dite}
@@ -12,9 +12,10 @@ use Rattle.pool_law.specs.declared.note.Held.{Held}
 use Rattle.pool_law.specs.declared.note.Note.{Note}
 use Rattle.pool_law.specs.declared.note.Noted.{Noted}
 use Rattle.pool_law.specs.declared.note.Object.{Object}
+use Rattle.pool_law.specs.declared.note.Object.TheVariants.{Arena, Cache, Bin, Mail, Root}
 use Rattle.pool_law.specs.Homes.{home_of, IsObjectOf}
 use Rattle.pool_law.specs.Same.{same_object}
-use Rattle.pool_law.specs.Logs.{History as LawHistory, of_lane, history_of}
+use Rattle.pool_law.specs.Logs.{History as LawHistory, of_lane, has_history, history_of}
 use Rattle.pool_law.specs.Busy.{MarksFit, IsOfAnother, MarksHold, BusyHolds}
 use Rattle.pool_table.specs.declared.views.Entry.{Entry}
 use Rattle.pool_table.specs.declared.views.Entry.TheVariants.{At, Ref, Busy}
@@ -24,9 +25,10 @@ use Rattle.pool_table.specs.declared.views.SeatView.{SeatView}
 use Rattle.pool_table.specs.Views.{parts_of, is_about, is_numbered}
 use Rattle.pool_table.specs.Sound.{Before, Tells, Stands}
 use Rattle.pool_table.specs.Closed.{IsClosed}
+use Rattle.pool_table.proofs.Known.{known}
 use Rattle.shared_pool.specs.Closing.{AreLanes, logs_in}
 use Rattle.shared_pool.proofs.ClosingNumbers.{with_lane}
-use Rattle.shared_pool.proofs.ClosingHistories.{object_or, same_about, no_same, notes_in, pairs_head, pairs_tail}
+use Rattle.shared_pool.proofs.ClosingHistories.{object_or, same_about, no_same, no_mail, notes_in, pairs_head, pairs_tail}
 use Rattle.shared_pool.proofs.ClosingWhole.{at, there_or, log_at, log_past, stands_at, told_at, history_at, note_there}
 use Rattle.shared_pool.proofs.ClosingEntries.{in_filter}
 
@@ -35,7 +37,7 @@ by_test b c A B e t = subst (λ (x : Bool). MatchBool x A B) (sym e) t
 
 -- ---- Numbers rise.
 
--- what stands in a lane's strand at an object is above what the lane has seen there
+-- what stands in a lane's object part at an object is above what the lane has seen there
 abbrev RisesIn : ℕ → List Entry → Type 0
 RisesIn seen [] = Unit {0}
 RisesIn seen (At o k n ∷ es) = (seen < k) × RisesIn k es
@@ -103,7 +105,7 @@ fits_all s lane o fits seen least (Busy h ∷ es) low all r =
     let st = All-head (Stands s lane) (Busy h) es all in let rest = All-tail (Stands s lane) (Busy h) es all in
     by_test (same_object o h.object) (home_of s h.object == home_of s o)
     ((seen ≤ h.number) × MarksFit o h.number (h.number + 1) (notes_in es)) (MarksFit o seen least (notes_in es))
-    (same_about s o h.object fits st.0)
+    (same_about s o h.object fits (known s h.object st.0))
     (by (home_of s h.object == home_of s o) (λ x y above t. fits_all s lane o fits x y es above rest t) r)
   where
     by : (b : Bool) → ((x y : ℕ) → y ≤ x + 1 → RisesIn x (filter (is_about s (home_of s o)) es)
@@ -114,21 +116,43 @@ fits_all s lane o fits seen least (Busy h ∷ es) low all r =
     by true ih r = (r.0, ih h.number (h.number + 1) (omega arith) r.1)
     by false ih r = ih seen least low r
 
-fits_none : (s : Shape) (lane : Option ℕ) (o : Object) → (IsObjectOf s o → ⊥) → (had least : ℕ) (es : List Entry)
-    → All (Stands s lane) es → MarksFit o had least (notes_in es)
-fits_none s lane o none had least [] all = tt
-fits_none s lane o none had least (At p k n ∷ es) all =
+fits_none : (s : Shape) (lane : Option ℕ) (o : Object) → IsTrue (has_history o) → (IsObjectOf s o → ⊥)
+    → (had least : ℕ) (es : List Entry) → All (Stands s lane) es → MarksFit o had least (notes_in es)
+fits_none s lane o has none had least [] all = tt
+fits_none s lane o has none had least (At p k n ∷ es) all =
     let st = All-head (Stands s lane) (At p k n) es all in
     by_test (same_object o p) false ((least ≤ k) × MarksFit o (max had k) least (notes_in es))
-    (MarksFit o had least (notes_in es)) (no_same s o p none st.object)
-    (fits_none s lane o none had least es (All-tail (Stands s lane) (At p k n) es all))
-fits_none s lane o none had least (Ref r d ∷ es) all =
-    fits_none s lane o none had least es (All-tail (Stands s lane) (Ref r d) es all)
-fits_none s lane o none had least (Busy h ∷ es) all =
+    (MarksFit o had least (notes_in es)) (no_same s o p has none st.object)
+    (fits_none s lane o has none had least es (All-tail (Stands s lane) (At p k n) es all))
+fits_none s lane o has none had least (Ref r d ∷ es) all =
+    fits_none s lane o has none had least es (All-tail (Stands s lane) (Ref r d) es all)
+fits_none s lane o has none had least (Busy h ∷ es) all =
     let st = All-head (Stands s lane) (Busy h) es all in
     by_test (same_object o h.object) false ((had ≤ h.number) × MarksFit o h.number (h.number + 1) (notes_in es))
-    (MarksFit o had least (notes_in es)) (no_same s o h.object none st.0)
-    (fits_none s lane o none had least es (All-tail (Stands s lane) (Busy h) es all))
+    (MarksFit o had least (notes_in es)) (no_same s o h.object has none (known s h.object st.0))
+    (fits_none s lane o has none had least es (All-tail (Stands s lane) (Busy h) es all))
+
+-- no mark stands at a mail
+fits_mail : (s : Shape) (lane : Option ℕ) (a b had : ℕ) (es : List Entry) → All (Stands s lane) es
+    → MarksFit (Mail a b) had 0 (notes_in es)
+fits_mail s lane a b had [] all = tt
+fits_mail s lane a b had (At p k n ∷ es) all =
+    let rest = All-tail (Stands s lane) (At p k n) es all in
+    by (same_object (Mail a b) p) (fits_mail s lane a b (max had k) es rest) (fits_mail s lane a b had es rest)
+  where
+    by : (t : Bool) → MarksFit (Mail a b) (max had k) 0 (notes_in es) → MarksFit (Mail a b) had 0 (notes_in es)
+        → MatchBool t ((0 ≤ k) × MarksFit (Mail a b) (max had k) 0 (notes_in es))
+        (MarksFit (Mail a b) had 0 (notes_in es))
+    by true on off = (omega arith, on)
+    by false on off = off
+fits_mail s lane a b had (Ref r d ∷ es) all =
+    fits_mail s lane a b had es (All-tail (Stands s lane) (Ref r d) es all)
+fits_mail s lane a b had (Busy h ∷ es) all =
+    let st = All-head (Stands s lane) (Busy h) es all in
+    by_test (same_object (Mail a b) h.object) false
+    ((had ≤ h.number) × MarksFit (Mail a b) h.number (h.number + 1) (notes_in es))
+    (MarksFit (Mail a b) had 0 (notes_in es)) (no_mail s a b h.object st.0)
+    (fits_mail s lane a b had es (All-tail (Stands s lane) (Busy h) es all))
 
 told_above : (o : Object) (h : List Noted) (limit : ℕ) (lane : Option ℕ) (e : Entry) → Tells o h limit lane e
     → Above 0 e
@@ -177,9 +201,10 @@ module _ {H : Type 0} (stands : List ℕ → Setting → List Noted → H → Ty
   abbrev histories : Object → LawHistory
   histories o = history_of o (logs_in (parts_of v))
 
-  fits_at : (lane : ℕ) (p : Part) → slice_get (parts_of v) lane ≡ Some p → (o : Object)
+  -- at an object of the shape, and at another with a history
+  fits_there : (lane : ℕ) (p : Part) → slice_get (parts_of v) lane ≡ Some p → (o : Object) → IsTrue (has_history o)
       → MarksFit o 0 0 (notes_in p.notes)
-  fits_at lane p there o = ⊎_elim
+  fits_there lane p there o has = ⊎_elim
       (λ (fits : IsObjectOf l.shape o).
       let h = (closed.objects o fits).history in let t =
       told_at stands l v homes words closed lanes o fits lane p there in
@@ -188,9 +213,18 @@ module _ {H : Type 0} (stands : List ℕ → Setting → List Noted → H → Ty
       (rises_in 0 (filter (is_about l.shape (home_of l.shape o)) p.notes) t.ordered
       (All-weaker (Tells o h (length h) p.number) (Above 0) (told_above o h (length h) p.number)
       (filter (is_about l.shape (home_of l.shape o)) p.notes) t.told)))
-      (λ (none : IsObjectOf l.shape o → ⊥). fits_none l.shape p.number o none 0 0 p.notes
+      (λ (none : IsObjectOf l.shape o → ⊥). fits_none l.shape p.number o has none 0 0 p.notes
       (stands_at stands l v homes words closed lanes lane p there))
       (object_or l.shape o)
+
+  fits_at : (lane : ℕ) (p : Part) → slice_get (parts_of v) lane ≡ Some p → (o : Object)
+      → MarksFit o 0 0 (notes_in p.notes)
+  fits_at lane p there (Arena a) = fits_there lane p there (Arena a) refl
+  fits_at lane p there (Cache d c) = fits_there lane p there (Cache d c) refl
+  fits_at lane p there (Bin b) = fits_there lane p there (Bin b) refl
+  fits_at lane p there (Mail a b) =
+      fits_mail l.shape p.number a b 0 p.notes (stands_at stands l v homes words closed lanes lane p there)
+  fits_at lane p there (Root q) = fits_there lane p there (Root q) refl
 
   mark_at : (lane : ℕ) (p : Part) → slice_get (parts_of v) lane ≡ Some p → (j : ℕ) (b : Held)
       → slice_get p.notes j ≡ Some (Busy b) → IsOfAnother lane (slice_get (histories b.object) b.number)

@@ -1,7 +1,7 @@
 -- What the entries of the parts know is what the histories of root places give.
 use Rattle.step_law.specs.Settings.{Setting}
 use Rattle.std.proofs.Common.{◌≡◌, ℕ, zero, suc, ◌-◌, List, [], ◌∷◌, ◌++◌, length, map, take, Bool, true, false, cond, sym, refl, ap, ◌∙◌, subst, eq-eqb, Some, append_assoc}
-use Rattle.std.specs.Prelude.{Option, All, filter, slice_get}
+use Rattle.std.specs.Prelude.{Option, All, IsTrue, filter, slice_get}
 use Rattle.std.proofs.lemmas.Option.{slice_get-get_or}
 use Rattle.std.proofs.lemmas.List.Elements.{All-head, All-tail}
 use Rattle.pool_law.specs.declared.note.Did.{Did}
@@ -12,7 +12,7 @@ use Rattle.pool_law.specs.declared.note.Object.TheVariants.{Arena, Cache, Bin, M
 use Rattle.pool_law.specs.Homes.{home_of, IsObjectOf}
 use Rattle.pool_law.specs.Histories.{place_after}
 use Rattle.pool_law.specs.NotedHistories.{noted_dids, IsRightAt}
-use Rattle.pool_law.specs.Logs.{Entry as LawEntry, dids, history_of, entry_of as law_entry_of, entries_of, present_in, root_for, region_for}
+use Rattle.pool_law.specs.Logs.{Entry as LawEntry, dids, has_history, history_of, entry_of as law_entry_of, entries_of, present_in, root_for, region_for}
 use Rattle.table_law.specs.Histories.{AreRight}
 use Rattle.pool_table.specs.declared.views.Entry.{Entry}
 use Rattle.pool_table.specs.declared.views.Entry.TheVariants.{At, Ref, Busy}
@@ -20,10 +20,10 @@ use Rattle.pool_table.specs.declared.views.Layout.{Layout}
 use Rattle.pool_table.specs.declared.views.Part.{Part}
 use Rattle.pool_table.specs.declared.views.SeatView.{SeatView}
 use Rattle.pool_table.specs.Views.{parts_of, is_about}
-use Rattle.pool_table.specs.Sound.{Tells, Stands}
+use Rattle.pool_table.specs.Sound.{Tells, NoteStands, Stands}
 use Rattle.pool_table.specs.Closed.{IsClosed}
 use Rattle.shared_pool.specs.Closing.{AreLanes, note_of, entry_of, logs_in, entries_in}
-use Rattle.shared_pool.proofs.ClosingHistories.{notes_in}
+use Rattle.shared_pool.proofs.ClosingHistories.{notes_in, with_history}
 use Rattle.shared_pool.proofs.ClosingWhole.{at, told_at, stands_at, dids_at}
 
 -- what holds of each by its index holds of each
@@ -84,14 +84,14 @@ module _ {H : Type 0} (stands : List ℕ → Setting → List Noted → H → Ty
   abbrev pub History : (o : Object) → IsObjectOf l.shape o → List Noted
   History o fits = (closed.objects o fits).history
 
-  -- a note of a part is that of its object's history
+  -- a note of a part at an object with a history is that of the history
   pub told_note : (lane : ℕ) (p : Part) → slice_get (parts_of v) lane ≡ Some p
-      → (j : ℕ) (o : Object) (k : ℕ) (n : Noted) → slice_get p.notes j ≡ Some (At o k n) →
-      (fits : IsObjectOf l.shape o) × Tells o (History o fits) (length (History o fits)) p.number (At o k n)
-  told_note lane p there j o k n is =
+      → (j : ℕ) (o : Object) (k : ℕ) (n : Noted) → slice_get p.notes j ≡ Some (At o k n) → IsTrue (has_history o)
+      → (fits : IsObjectOf l.shape o) × Tells o (History o fits) (length (History o fits)) p.number (At o k n)
+  told_note lane p there j o k n is has =
       let st = at (Stands l.shape p.number) p.notes j (At o k n)
       (stands_at stands l v homes words closed lanes lane p there) is in
-      let fits : IsObjectOf l.shape o = st.object in
+      let fits : IsObjectOf l.shape o = with_history l.shape o has st.object in
       let t = told_at stands l v homes words closed lanes o fits lane p there in
       let f = in_filter (is_about l.shape (home_of l.shape o)) p.notes j (At o k n) is
       (eq-eqb (home_of l.shape o) (home_of l.shape o) refl) in (
@@ -103,20 +103,29 @@ module _ {H : Type 0} (stands : List ℕ → Setting → List Noted → H → Ty
   knows : (lane : ℕ) (p : Part) → slice_get (parts_of v) lane ≡ Some p → (j : ℕ) (e : Entry)
       → slice_get p.notes j ≡ Some e → law_entry_of (logs_in (parts_of v)) (note_of e) ≡ entry_of e
   knows lane p there j (At o k n) is =
-      let t = told_note lane p there j o k n is in
-      by o t.0 (right_from o [] (History o t.0) (closed.objects o t.0).accepted.right (k - 1) n t.1.1)
+      by o is
+      (at (Stands l.shape p.number) p.notes j (At o k n)
+      (stands_at stands l v homes words closed lanes lane p there) is)
     where
-      by : (o : Object) (fits : IsObjectOf l.shape o) → IsRightAt o (take (k - 1) (History o fits)) n
+      right_at : (o : Object) → slice_get p.notes j ≡ Some (At o k n) → IsTrue (has_history o)
+          → (fits : IsObjectOf l.shape o) × IsRightAt o (take (k - 1) (History o fits)) n
+      right_at o is has = let t = told_note lane p there j o k n is has in (
+        t.0,
+        right_from o [] (History o t.0) (closed.objects o t.0).accepted.right (k - 1) n t.1.1,
+      )
+
+      by : (o : Object) → slice_get p.notes j ≡ Some (At o k n) → NoteStands l.shape p.number o n
           → law_entry_of (logs_in (parts_of v)) (note_of (At o k n)) ≡ entry_of (At o k n)
-      by (Arena a) fits right =
+      by (Arena a) is st = let right = (right_at (Arena a) is refl).1 in
           λ i. record { note = Note.At (Arena a) k n.did; root = sym right.0 i; region = sym right.1 i }
-      by (Cache d c) fits right =
+      by (Cache d c) is st = let right = (right_at (Cache d c) is refl).1 in
           λ i. record { note = Note.At (Cache d c) k n.did; root = sym right.0 i; region = sym right.1 i }
-      by (Bin d) fits right =
+      by (Bin d) is st = let right = (right_at (Bin d) is refl).1 in
           λ i. record { note = Note.At (Bin d) k n.did; root = sym right.0 i; region = sym right.1 i }
-      by (Mail f u) fits right =
-          λ i. record { note = Note.At (Mail f u) k n.did; root = sym right.0 i; region = sym right.1 i }
-      by (Root place) fits right =
+      by (Mail f u) is st =
+          λ i. record { note = Note.At (Mail f u) k n.did; root = sym st.plain.0 i; region = sym st.plain.1 i }
+      by (Root place) is st =
+          let r = right_at (Root place) is refl in let fits = r.0 in let right = r.1 in
           let e : take (k - 1) (dids (history_of (Root place) (logs_in (parts_of v))))
           ≡ noted_dids (take (k - 1) (History (Root place) fits)) =
           ap (take (k - 1)) (dids_at stands l v homes words closed lanes (Root place) fits)

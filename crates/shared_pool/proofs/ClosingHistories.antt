@@ -1,6 +1,6 @@
 -- The parts of all lanes give each object its history.
 use Rattle.std.proofs.Common.{◌≡◌, ◌⊎◌, ℕ, suc, ◌+◌, ◌-◌, ◌*◌, ◌<◌, ◌≤◌, List, [], ◌∷◌, ◌++◌, length, map, Bool, true, false, cond, sym, refl, ap, ◌∙◌, subst, arith, inl, inr, ⊎_elim, eq-eqb, ne_eqb, Some}
-use Rattle.std.specs.Prelude.{◌==◌, Option, All, AllPairs, filter, filter_map}
+use Rattle.std.specs.Prelude.{◌==◌, Option, IsTrue, All, AllPairs, filter, filter_map}
 use Rattle.std.proofs.lemmas.List.Elements.{All-head, All-tail, All-weaker}
 use mathlib.Core.Logic.{dite}
 use native.Mathlib.Decide.{ℕ_discrete, dec_le}
@@ -11,16 +11,16 @@ use Rattle.pool_law.specs.declared.note.Noted.{Noted}
 use Rattle.pool_law.specs.declared.note.Object.{Object}
 use Rattle.pool_law.specs.declared.note.Object.TheVariants.{Arena, Cache, Bin, Mail, Root}
 use Rattle.pool_law.specs.Homes.{home_of, IsObjectOf}
-use Rattle.pool_law.specs.Logs.{own, numbered}
+use Rattle.pool_law.specs.Logs.{own, numbered, has_history}
 use Rattle.pool_law.specs.Same.{same_object}
 use Rattle.pool_law.proofs.SameLemmas.{same_object-is}
 use Rattle.pool_law.proofs.PatternLemmas.{same_object-refl}
-use Rattle.table_law.proofs.Apart.{one_home}
 use Rattle.pool_table.specs.declared.views.Entry.{Entry}
 use Rattle.pool_table.specs.declared.views.Entry.TheVariants.{At, Ref, Busy}
 use Rattle.pool_table.specs.declared.views.Part.{Part}
-use Rattle.pool_table.specs.Views.{is_about, is_lane, noted_of, strand}
-use Rattle.pool_table.specs.Sound.{Before, Tells, IsTold, Stands}
+use Rattle.pool_table.specs.Views.{is_about, is_lane, noted_of, object_part}
+use Rattle.pool_table.specs.Sound.{Before, Tells, IsKnown, IsTold, Stands}
+use Rattle.pool_table.proofs.Known.{one_known}
 use Rattle.shared_pool.specs.Closing.{note_of}
 use Rattle.shared_pool.proofs.ClosingNumbers.{Tagged, dids_in, lawful, Rising, AllSit, AllLaned, is_numbered as are_numbered}
 
@@ -39,7 +39,7 @@ pub object_or : (s : Shape) (o : Object) → IsObjectOf s o ⊎ (IsObjectOf s o 
 object_or s (Arena a) = below_or a s.arenas
 object_or s (Cache l c) = both_or l s.lanes c 40
 object_or s (Bin l) = below_or l s.lanes
-object_or s (Mail f t) = both_or f s.lanes t s.lanes
+object_or s (Mail f t) = inr (λ none. none)
 object_or s (Root p) = below_or p (s.lanes * s.handles)
 
 -- a test that isn't passed
@@ -47,19 +47,44 @@ not_passed : (b : Bool) → (b ≡ true → ⊥) → b ≡ false
 not_passed true fails = absurd (fails refl)
 not_passed false fails = refl
 
--- on objects of the shape, the same object is the same home
-pub same_about : (s : Shape) (o p : Object) → IsObjectOf s o → IsObjectOf s p
+-- an object with a history that is known is one of the shape
+pub with_history : (s : Shape) (o : Object) → IsTrue (has_history o) → IsKnown s o → IsObjectOf s o
+with_history s (Arena a) has known = known
+with_history s (Cache l c) has known = known
+with_history s (Bin l) has known = known
+with_history s (Mail f t) has known = absurd (cc has)
+with_history s (Root p) has known = known
+
+-- an object of the shape has a history
+pub its_history : (s : Shape) (o : Object) → IsObjectOf s o → IsTrue (has_history o)
+its_history s (Arena a) fits = refl
+its_history s (Cache l c) fits = refl
+its_history s (Bin l) fits = refl
+its_history s (Mail f t) fits = absurd fits
+its_history s (Root p) fits = refl
+
+-- an object of the shape and a known one are the same where they have the same home
+pub same_about : (s : Shape) (o p : Object) → IsObjectOf s o → IsKnown s p
     → same_object o p ≡ (home_of s p == home_of s o)
-same_about s o p fo fp = dite (ℕ_discrete (home_of s p) (home_of s o))
-    (λ e. let same : o ≡ p = one_home s o p fo fp (sym e) in
-    subst (λ (x : Object). same_object o x ≡ true) same (same_object-refl o)
+same_about s o p fo kp = dite (ℕ_discrete (home_of s p) (home_of s o))
+    (λ e. let same : p ≡ o = one_known s p o kp fo e in
+    subst (λ (x : Object). same_object o x ≡ true) (sym same) (same_object-refl o)
     ∙ sym (eq-eqb (home_of s p) (home_of s o) e))
     (λ ne. not_passed (same_object o p) (λ t. ne (ap (home_of s) (sym (same_object-is o p t))))
     ∙ sym (ne_eqb (home_of s p) (home_of s o) ne))
 
--- and one that isn't of the shape is no object of it
-pub no_same : (s : Shape) (o p : Object) → (IsObjectOf s o → ⊥) → IsObjectOf s p → same_object o p ≡ false
-no_same s o p none fp = not_passed (same_object o p) (λ t. none (subst (IsObjectOf s) (sym (same_object-is o p t)) fp))
+-- and one with a history that isn't of the shape is no known one
+pub no_same : (s : Shape) (o p : Object) → IsTrue (has_history o) → (IsObjectOf s o → ⊥) → IsKnown s p
+    → same_object o p ≡ false
+no_same s o p has none kp =
+    not_passed (same_object o p)
+    (λ t. none (with_history s o has (subst (IsKnown s) (sym (same_object-is o p t)) kp)))
+
+-- an object of the shape is no mail
+pub no_mail : (s : Shape) (a b : ℕ) (p : Object) → IsObjectOf s p → same_object (Mail a b) p ≡ false
+no_mail s a b p fits =
+    not_passed (same_object (Mail a b) p)
+    (λ t. subst (IsObjectOf s) (sym (same_object-is (Mail a b) p t)) fits)
 
 -- ---- One part.
 
@@ -72,13 +97,13 @@ tagged (At o k n ∷ es) = (k, n) ∷ tagged es
 tagged (Ref r d ∷ es) = tagged es
 tagged (Busy b ∷ es) = tagged es
 
--- what a lane noted at an object is what its strand there has
-pub own_strand : (s : Shape) (lane : Option ℕ) (o : Object) → IsObjectOf s o → (es : List Entry)
+-- what a lane noted at an object is what its object part there has
+pub own_object_part : (s : Shape) (lane : Option ℕ) (o : Object) → IsObjectOf s o → (es : List Entry)
     → All (Stands s lane) es → own o (notes_in es) ≡ dids_in (tagged (filter (is_about s (home_of s o)) es))
-own_strand s lane o fits [] all = refl
-own_strand s lane o fits (At p k n ∷ es) all =
+own_object_part s lane o fits [] all = refl
+own_object_part s lane o fits (At p k n ∷ es) all =
     let st = All-head (Stands s lane) (At p k n) es all in let ih =
-    own_strand s lane o fits es (All-tail (Stands s lane) (At p k n) es all) in
+    own_object_part s lane o fits es (All-tail (Stands s lane) (At p k n) es all) in
     let e : same_object o p ≡ (home_of s p == home_of s o) = same_about s o p fits st.object in
     ap (λ (b : Bool). cond b ((k, n.did) ∷ []) [] ++ own o (notes_in es)) e ∙ by (home_of s p == home_of s o) ih
   where
@@ -88,9 +113,10 @@ own_strand s lane o fits (At p k n ∷ es) all =
         (filter (is_about s (home_of s o)) es)))
     by true ih = ap (λ (t : List (ℕ × Did)). (k, n.did) ∷ t) ih
     by false ih = ih
-own_strand s lane o fits (Ref r d ∷ es) all = own_strand s lane o fits es (All-tail (Stands s lane) (Ref r d) es all)
-own_strand s lane o fits (Busy b ∷ es) all =
-    own_strand s lane o fits es (All-tail (Stands s lane) (Busy b) es all) ∙ by (home_of s b.object == home_of s o)
+own_object_part s lane o fits (Ref r d ∷ es) all =
+    own_object_part s lane o fits es (All-tail (Stands s lane) (Ref r d) es all)
+own_object_part s lane o fits (Busy b ∷ es) all =
+    own_object_part s lane o fits es (All-tail (Stands s lane) (Busy b) es all) ∙ by (home_of s b.object == home_of s o)
   where
     by : (t : Bool) → dids_in (tagged (filter (is_about s (home_of s o)) es))
         ≡ dids_in (tagged (cond t (Busy b ∷ filter (is_about s (home_of s o)) es)
@@ -99,15 +125,17 @@ own_strand s lane o fits (Busy b ∷ es) all =
     by false = refl
 
 -- at what isn't an object of the shape it noted nothing
-pub own_none : (s : Shape) (lane : Option ℕ) (o : Object) → (IsObjectOf s o → ⊥) → (es : List Entry)
-    → All (Stands s lane) es → own o (notes_in es) ≡ []
-own_none s lane o none [] all = refl
-own_none s lane o none (At p k n ∷ es) all =
+pub own_none : (s : Shape) (lane : Option ℕ) (o : Object) → IsTrue (has_history o) → (IsObjectOf s o → ⊥)
+    → (es : List Entry) → All (Stands s lane) es → own o (notes_in es) ≡ []
+own_none s lane o has none [] all = refl
+own_none s lane o has none (At p k n ∷ es) all =
     let st = All-head (Stands s lane) (At p k n) es all in let ih =
-    own_none s lane o none es (All-tail (Stands s lane) (At p k n) es all) in
-    ap (λ (b : Bool). cond b ((k, n.did) ∷ []) [] ++ own o (notes_in es)) (no_same s o p none st.object) ∙ ih
-own_none s lane o none (Ref r d ∷ es) all = own_none s lane o none es (All-tail (Stands s lane) (Ref r d) es all)
-own_none s lane o none (Busy b ∷ es) all = own_none s lane o none es (All-tail (Stands s lane) (Busy b) es all)
+    own_none s lane o has none es (All-tail (Stands s lane) (At p k n) es all) in
+    ap (λ (b : Bool). cond b ((k, n.did) ∷ []) [] ++ own o (notes_in es)) (no_same s o p has none st.object) ∙ ih
+own_none s lane o has none (Ref r d ∷ es) all =
+    own_none s lane o has none es (All-tail (Stands s lane) (Ref r d) es all)
+own_none s lane o has none (Busy b ∷ es) all =
+    own_none s lane o has none es (All-tail (Stands s lane) (Busy b) es all)
 
 -- the first of a list is related to all others
 pub pairs_head : {X : Type 0} (R : X → X → Type 0) (x : X) (xs : List X) → AllPairs R (x ∷ xs) → All (R x) xs
@@ -174,11 +202,12 @@ notes_tagged (Busy b ∷ es) = notes_tagged es
 
 -- a lane's notes at an object are those that the history has of the lane
 pub part_numbered : (s : Shape) (o : Object) (h : List Noted) (limit i : ℕ) (p : Part) → IsObjectOf s o
-    → p.number ≡ Some i → All (Stands s p.number) p.notes → IsTold o h limit (strand s (home_of s o) p) → AllLaned h →
+    → p.number ≡ Some i → All (Stands s p.number) p.notes → IsTold o h limit (object_part s (home_of s o) p)
+    → AllLaned h →
     own o (notes_in p.notes) ≡ numbered i 1 (lawful h)
 part_numbered s o h limit i p fits number st told laned =
     let es : List Entry = filter (is_about s (home_of s o)) p.notes in
-    own_strand s p.number o fits p.notes st
+    own_object_part s p.number o fits p.notes st
     ∙ are_numbered i 1 h (tagged es)
     (rises 1 es told.ordered (All-weaker (Tells o h limit p.number) (AtLeast 1) (told_least o h limit p.number) es
     told.told))

@@ -10,7 +10,7 @@ use Rattle.pool_table.specs.Closed.{IsClosed}
 use Rattle.shared_pool.specs.Closing.{AreLanes, AreWhole, HasNoPlace}
 use Rattle.shared_pool.proofs.ClosingWhole.{histories_hold}
 use Rattle.shared_pool.proofs.ClosingEntries.{entries_hold}
-use Rattle.shared_pool.proofs.ClosingOrder.{order_holds}
+use Rattle.shared_pool.proofs.ClosingMails.{mails_hold}
 use Rattle.shared_pool.proofs.ClosingOneOrder.{one_order_holds}
 use Rattle.shared_pool.proofs.ClosingBusy.{busy_holds}
 use Rattle.shared_pool.proofs.ClosingLooks.{looks_right}
@@ -23,12 +23,12 @@ pub parts-whole : {H : Type 0} (stands : List ℕ → Setting → List Noted →
     (homes : List (Option H)) (words : List ℕ) →
     IsClosed stands l v homes words → AreLanes l.shape (parts_of v) → HasNoPlace v → AreWhole l.shape (parts_of v)
 parts-whole stands l v homes words closed lanes none = record {
-  histories = histories_hold stands l v homes words closed lanes;
+  histories =
+      histories_hold stands l v homes words closed lanes (mails_hold stands l v homes words closed lanes);
   entries = entries_hold stands l v homes words closed lanes;
   born = named_born stands l v homes words closed;
   totals = totals_hold stands l v homes words closed none;
   looks = looks_right stands l v homes words closed;
   busy = busy_holds stands l v homes words closed lanes;
-  order = order_holds stands l v homes words closed;
   one_order = one_order_holds stands l v homes words closed lanes;
 }

@@ -18,7 +18,6 @@ use Rattle.pool_law.specs.Homes.{home_of, objects_of, IsObjectOf}
 use Rattle.pool_law.specs.Same.{same_root}
 use Rattle.pool_law.specs.Counts.{TotalHolds, count_over, total_of, is_retain, is_release, is_birth, ends_root}
 use Rattle.table_law.specs.NoteCounts.{is_root, did_birth, did_birth_as, did_end}
-use Rattle.table_law.proofs.Apart.{one_home}
 use Rattle.table_law.proofs.Names.{and-first, and-second, same_root-is}
 use Rattle.pool_table.specs.declared.views.Entry.{Entry}
 use Rattle.pool_table.specs.declared.views.Entry.TheVariants.{At, Ref, Busy}
@@ -31,6 +30,7 @@ use Rattle.pool_table.specs.Births.{IsBorn}
 use Rattle.pool_table.specs.Hands.{at_birth_as, at_end}
 use Rattle.pool_table.specs.Sound.{Tells, Stands}
 use Rattle.pool_table.specs.Closed.{IsClosed}
+use Rattle.pool_table.proofs.Known.{one_known}
 use Rattle.pool_table.proofs.Looks.{gains_are}
 use Rattle.shared_pool.specs.Closing.{AreLanes, HasNoPlace, entries_in}
 use Rattle.shared_pool.specs.Ends.{count_in}
@@ -186,7 +186,7 @@ module _ {H : Type 0} (stands : List ℕ → Setting → List Noted → H → Ty
           Tells o (History o fits) (length (History o fits)) part.number e → Stands l.shape part.number e
           → Standing o k n
       by lane part there index (At p j m) stood about number tells st =
-          let object : p ≡ o = one_home l.shape p o st.object fits
+          let object : p ≡ o = one_known l.shape p o st.object fits
           (eqb-true (home_of l.shape p) (home_of l.shape o) about) in
           let j_is : j ≡ k + 1 = eqb-true j (k + 1) number in
           let spot : j - 1 ≡ k = omega (arith, j_is) in
@@ -279,8 +279,6 @@ module _ {H : Type 0} (stands : List ℕ → Setting → List Noted → H → Ty
         let ends = ends_as r.place r.generation e.1 e.3 in
         let stood : slice_get q.1.notes e.0 ≡ Some (At ends.object ends.number ends.noted) = e.2
         ∙ ap (λ (x : Entry). Some x) ends.is in
-        let t = told_note stands l v homes words closed lanes q.0 q.1 q.2 e.0 ends.object ends.number ends.noted
-        stood in
         let st = at (Stands l.shape q.1.number) q.1.notes e.0 (At ends.object ends.number ends.noted)
         (stands_at stands l v homes words closed lanes q.0 q.1 q.2) stood in
         let object : ends.object ≡ Root r.place = ⊎_elim
@@ -290,16 +288,9 @@ module _ {H : Type 0} (stands : List ℕ → Setting → List Noted → H → Ty
         absurd (omega (arith, y, a, b)))
         (λ (x : ends.object ≡ Root r.place). x)
         (st.in_place.rooted r.place) in
-        there_at ends.object object t.0 ends.number ends.noted ends.root t.1.1 ends.did ends.generation
-      where
-        there_at : (o : Object) → o ≡ Root r.place → (fits : IsObjectOf l.shape o) (number : ℕ) (n : Noted) (q : RootId)
-            → slice_get (History o fits) (number - 1) ≡ Some n → n.did ≡ End q → q.generation ≡ r.generation →
-            (k : ℕ) × (n : Noted) × (q : RootId) × (fits : IsObjectOf l.shape (Root r.place))
-            × (slice_get (History (Root r.place) fits) k ≡ Some n) × (n.did ≡ End q) × (q.generation ≡ r.generation)
-        there_at o same fits number n q is did generation =
-            subst (λ (x : Object). (k : ℕ) × (n : Noted) × (q : RootId) × (fits : IsObjectOf l.shape x)
-            × (slice_get (History x fits) k ≡ Some n) × (n.did ≡ End q) × (q.generation ≡ r.generation))
-            same (number - 1, n, q, fits, is, did, generation)
+        let t = told_note stands l v homes words closed lanes q.0 q.1 q.2 e.0 (Root r.place) ends.number ends.noted
+        (subst (λ (o : Object). slice_get q.1.notes e.0 ≡ Some (At o ends.number ends.noted)) object stood) refl in
+        (ends.number - 1, ends.noted, ends.root, t.0, t.1.1, ends.did, ends.generation)
 
     -- the word of a live root tells its count
     pub count_told : total_of r (entries_in (parts_of v)) ≢ 0

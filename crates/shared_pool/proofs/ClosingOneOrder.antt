@@ -1,32 +1,31 @@
 -- At the close all steps of all lanes stand in one order, in which each fits those before it.
 use Rattle.step_law.specs.Settings.{Setting}
-use Rattle.std.proofs.Common.{◌≡◌, ℕ, ◌+◌, ◌<◌, ◌≤◌, List, [], ◌∷◌, length, map, Bool, true, false, cond, sym, refl, ap, ◌∙◌, subst, arith, ⊎_elim, eq-eqb, eqb-true, Some}
-use Rattle.std.specs.Prelude.{◌==◌, if◌then◌else◌, Option, All, sum_by, slice_get}
+use Rattle.std.proofs.Common.{◌≡◌, ℕ, ◌+◌, ◌<◌, ◌≤◌, List, [], ◌∷◌, length, map, Bool, true, false, cond, sym, refl, ap, ◌∙◌, subst, arith, ⊎_elim, Some}
+use Rattle.std.specs.Prelude.{◌==◌, Option, All, IsTrue, slice_get}
 use Rattle.std.proofs.lemmas.List.Elements.{All-head, All-weaker}
 use Rattle.pool_law.specs.declared.run.Shape.{Shape}
 use Rattle.pool_law.specs.declared.id.RootId.{RootId}
 use Rattle.pool_law.specs.declared.note.Note.{Note}
 use Rattle.pool_law.specs.declared.note.Noted.{Noted}
 use Rattle.pool_law.specs.declared.note.Object.{Object}
+use Rattle.pool_law.specs.declared.note.Object.TheVariants.{Arena, Cache, Bin, Mail, Root}
 use Rattle.pool_law.specs.declared.note.RefDid.{RefDid}
 use Rattle.pool_law.specs.declared.note.RefDid.TheVariants.{Born, Retain, Kept, Ended, Vacated, Look}
 use Rattle.pool_law.specs.Homes.{home_of, IsObjectOf}
-use Rattle.pool_law.specs.Same.{same_object}
-use Rattle.pool_law.specs.Logs.{of_lane}
+use Rattle.pool_law.specs.Kinds.{passing}
+use Rattle.pool_law.specs.NotedHistories.{MayNote}
+use Rattle.pool_law.specs.Logs.{has_history}
 use Rattle.pool_law.specs.Counts.{is_born, is_retain, is_release, ends_root}
-use Rattle.pool_law.proofs.SameLemmas.{same_object-is}
-use Rattle.pool_law.proofs.PatternLemmas.{same_object-refl}
 use Rattle.table_law.specs.NoteCounts.{is_root}
-use Rattle.table_law.proofs.Apart.{one_home}
-use Rattle.run_order.specs.Order.{Step, Fits, FitsCount, Leave, InOneOrder, is_at, is_born_at, is_vacated_at, is_vacated, made as made_of}
+use Rattle.run_order.specs.Order.{Step, Fits, FitsCount, Leave, InOneOrder, is_at, is_alike, is_born_at, is_vacated_at, is_vacated, made as made_of}
 use Rattle.pool_table.specs.declared.views.Entry.{Entry}
 use Rattle.pool_table.specs.declared.views.Entry.TheVariants.{At, Ref, Busy}
 use Rattle.pool_table.specs.declared.views.Layout.{Layout}
 use Rattle.pool_table.specs.declared.views.Part.{Part}
 use Rattle.pool_table.specs.declared.views.SeatView.{SeatView}
 use Rattle.pool_table.specs.Views.{parts_of}
-use Rattle.pool_table.specs.Counts.{on_root, on_place, weigh, ref_gain, ref_loss, ref_born, ref_retain, ref_ended, ref_vacated}
-use Rattle.pool_table.specs.Births.{IsBorn, NamesBorn, root_named}
+use Rattle.pool_table.specs.Counts.{on_root, on_place, ref_gain, ref_loss, ref_born, ref_retain, ref_ended, ref_vacated}
+use Rattle.pool_table.specs.Births.{IsBorn, NamesBorn}
 use Rattle.pool_table.specs.Sequence as table
 use Rattle.pool_table.specs.Sequence.{Made, weigh_made, entries_by, on_object, HasItsOwn, AreInOneOrder}
 use Rattle.pool_table.specs.Sound.{Stands}
@@ -35,20 +34,19 @@ use Rattle.pool_table.proofs.Lists.{at_cut, all_two}
 use Rattle.pool_table.proofs.Looks.{sum_adds}
 use Rattle.shared_pool.specs.Closing.{AreLanes, note_of, logs_in}
 use Rattle.shared_pool.proofs.ClosingWhole.{at, there_or, log_at, log_past, stands_at}
-use Rattle.shared_pool.proofs.ClosingSums.{law, Alone, tests_same, nothing, retains_alike, borns_alike, ends_alike, releases_alike, same_cond}
+use Rattle.shared_pool.proofs.ClosingSums.{law, Alone, sums_same, nothing, retains_alike, borns_alike, ends_alike, releases_alike, same_cond}
+use Rattle.shared_pool.proofs.ClosingHistories.{same_about}
+use Rattle.shared_pool.proofs.ClosingPosts.{alike_at, finds_none, mail_fits}
 use Rattle.shared_pool.proofs.ClosingLooks.{names}
 use Rattle.shared_pool.proofs.ClosingTotals.{one_is}
-use Rattle.shared_pool.proofs.ClosingSteps.{IsOfLane, step_of, one, all_of_lanes, parts_have, of_all_steps, notes_alike, none_past, cut_steps, made_is}
+use Rattle.shared_pool.proofs.ClosingSteps.{IsOfLane, step_of, one, all_of_lanes, parts_have, of_all_steps, notes_alike, none_past, cut_steps, made_is, made_weighs}
 
 -- ---- One entry, as the law tests it and as the table weighs it.
 
 object_alike : (s : Shape) (o : Object) → IsObjectOf s o → (lane : Option ℕ) (e : Entry) → Stands s lane e
     → law (is_at o) e ≡ on_object s (home_of s o) e
 object_alike s o fits lane (At p k n) stands =
-    ap (λ (b : Bool). cond {A = ℕ} b 1 0) (tests_same (same_object o p) (home_of s p == home_of s o)
-    (λ t. eq-eqb (home_of s p) (home_of s o) (ap (home_of s) (sym (same_object-is o p t))))
-    (λ t. subst (λ (q : Object). same_object o q ≡ true)
-    (sym (one_home s p o stands.object fits (eqb-true (home_of s p) (home_of s o) t))) (same_object-refl o)))
+    ap (λ (b : Bool). cond {A = ℕ} b 1 0) (same_about s o p fits stands.object)
 object_alike s o fits lane (Ref r d) stands = refl
 object_alike s o fits lane (Busy b) stands = refl
 
@@ -194,10 +192,28 @@ module _ {H : Type 0} (stands : List ℕ → Setting → List Noted → H → Ty
       (λ (x : Made). law (is_at o) x.entry ≡ on_object l.shape (home_of l.shape o) x.entry)
       (λ x k. object_alike l.shape o fits k.lane x.entry k.stood) xs all)
 
+  -- a note at an object of the shape
+  note_fits : (xs : List Made) → All (λ (x : Made). IsKnown x.entry) xs → (o : Object) → IsObjectOf l.shape o
+      → IsTrue (has_history o) → (k : ℕ) (n : Noted) → (lane : Option ℕ) → MayNote l.shape lane o n.did
+      → k ≡ weigh_made (on_object l.shape (home_of l.shape o)) xs + 1 → Fits (map step_of xs) (Note.At o k n.did)
+  note_fits xs all o fits has k n lane may fit =
+      let a = notes_at xs all o fits in
+      let b = made_weighs (is_alike o n.did) xs
+      ∙ (sums_same (λ (x : Made). law (is_alike o n.did) x.entry) (λ (x : Made). law (is_at o) x.entry) xs
+      (λ j d lt. alike_at o has n.did _) ∙ sym (made_weighs (is_at o) xs)) in
+      (omega (arith, fit, a, b), finds_none l.shape o fits lane n.did may (map step_of xs) k)
+
   fits_alike : (xs : List Made) → All (λ (x : Made). IsKnown x.entry) xs → (e : Entry) → IsKnown e
       → table.Fits l.shape xs e → Fits (map step_of xs) (note_of e)
-  fits_alike xs all (At o k n) is fit =
-      let a = notes_at xs all o is.stood.object in omega (arith, fit, a)
+  fits_alike xs all (At (Mail a b) k n) is fit = mail_fits xs a b k n.did (passing n.did) refl fit
+  fits_alike xs all (At (Arena a) k n) is fit =
+      note_fits xs all (Arena a) is.stood.object refl k n is.lane is.stood.lane_may fit
+  fits_alike xs all (At (Cache d c) k n) is fit =
+      note_fits xs all (Cache d c) is.stood.object refl k n is.lane is.stood.lane_may fit
+  fits_alike xs all (At (Bin b) k n) is fit =
+      note_fits xs all (Bin b) is.stood.object refl k n is.lane is.stood.lane_may fit
+  fits_alike xs all (At (Root p) k n) is fit =
+      note_fits xs all (Root p) is.stood.object refl k n is.lane is.stood.lane_may fit
   fits_alike xs all (Busy b) is fit = let a = notes_at xs all b.object is.stood.0 in omega (arith, fit, a)
   fits_alike xs all (Ref r d) is fit =
       let born : IsBorn (v ∷ []) r = is.named r refl in

@@ -13,7 +13,7 @@ use Rattle.pool_law.specs.declared.note.Note.{Note}
 use Rattle.pool_law.specs.declared.note.Noted.{Noted}
 use Rattle.pool_law.specs.declared.note.Object.TheVariants.{Root}
 use Rattle.pool_law.specs.declared.run.Shape.{Shape}
-use Rattle.pool_law.specs.Homes.{objects_of, IsObjectOf}
+use Rattle.pool_law.specs.Homes.{objects_of}
 use Rattle.pool_law.specs.Counts.{TotalHolds, count_over, is_retain, is_release, is_born, is_birth, ends_root}
 use Rattle.table_law.specs.NoteCounts.{is_root, did_birth, did_birth_of, did_birth_as, did_end}
 use Rattle.pool_table.specs.declared.views.Entry.{Entry}
@@ -25,7 +25,7 @@ use Rattle.pool_table.specs.Views.{parts_of}
 use Rattle.pool_table.specs.Counts.{IsCounted, on_root, weigh, tally, ref_gain, ref_loss, ref_retain, ref_born, ref_ended}
 use Rattle.pool_table.specs.Births.{IsBorn}
 use Rattle.pool_table.specs.Hands.{at_birth_of, at_birth_as, taken, put_down, InHand}
-use Rattle.pool_table.specs.Sound.{Stands}
+use Rattle.pool_table.specs.Sound.{IsKnown, Stands}
 use Rattle.pool_table.specs.Closed.{IsClosed}
 use Rattle.pool_table.proofs.Looks.{gains_are}
 use Rattle.shared_pool.specs.Closing.{entries_in, HasNoPlace}
@@ -65,7 +65,7 @@ stands_there : (s : Shape) (lane : Option ℕ) (p g c : ℕ) (e : Entry) → Sta
 stands_there s lane p g c (At o k n) st lt = ⊎_elim
     (λ (z : (did_birth p n.did ≡ 0) × ((g : ℕ) → did_end p g n.did ≡ 0)). let y = at_place p g c n.did z.0 in
     absurd (omega (arith, y, lt)))
-    (λ (e : o ≡ Root p). subst (IsObjectOf s) e st.object)
+    (λ (e : o ≡ Root p). subst (IsKnown s) e st.object)
     (st.in_place.rooted p)
 stands_there s lane p g c (Ref r d) st lt = absurd (omega (arith, lt))
 stands_there s lane p g c (Busy b) st lt = absurd (omega (arith, lt))

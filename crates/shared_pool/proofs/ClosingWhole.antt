@@ -17,7 +17,8 @@ use Rattle.pool_law.specs.declared.note.Object.TheVariants.{Arena, Cache, Bin, M
 use Rattle.pool_law.specs.Homes.{home_of, IsObjectOf}
 use Rattle.pool_law.specs.Histories.{IsAccepted}
 use Rattle.pool_law.specs.NotedHistories.{noted_dids}
-use Rattle.pool_law.specs.Logs.{History, dids, of_lane, own, IsHistory as IsLawful, history_of, note_stands}
+use Rattle.pool_law.specs.Logs.{History, dids, of_lane, own, IsHistory as IsLawful, history_of, has_history, note_stands}
+use Rattle.pool_law.specs.Mails.{MailsHold}
 use Rattle.pool_law.specs.Legal.{HistoriesHold}
 use Rattle.pool_law.proofs.HistoryLemmas.{history_of-is}
 use Rattle.pool_table.specs.declared.views.Entry.{Entry}
@@ -25,12 +26,12 @@ use Rattle.pool_table.specs.declared.views.Entry.TheVariants.{At, Ref, Busy}
 use Rattle.pool_table.specs.declared.views.Layout.{Layout}
 use Rattle.pool_table.specs.declared.views.Part.{Part}
 use Rattle.pool_table.specs.declared.views.SeatView.{SeatView}
-use Rattle.pool_table.specs.Views.{parts_of, is_lane, is_numbered, strand, face, in_face}
+use Rattle.pool_table.specs.Views.{parts_of, is_lane, is_numbered, object_part, object_view, in_object_view}
 use Rattle.pool_table.specs.Sound.{Tells, IsTold, Stands}
 use Rattle.pool_table.specs.Closed.{IsClosed}
 use Rattle.shared_pool.specs.Closing.{AreLanes, logs_in}
 use Rattle.shared_pool.proofs.ClosingNumbers.{lawful, AllLaned, none_numbered}
-use Rattle.shared_pool.proofs.ClosingHistories.{object_or, notes_in, own_none, part_numbered}
+use Rattle.shared_pool.proofs.ClosingHistories.{object_or, notes_in, own_none, its_history, part_numbered}
 
 -- ---- Lists.
 
@@ -96,12 +97,12 @@ dids_lawful : (h : List Noted) → dids (lawful h) ≡ noted_dids h
 dids_lawful [] = refl
 dids_lawful (n ∷ h) = ap (λ (ds : List Did). n.did ∷ ds) (dids_lawful h)
 
-none_accepted : (s : Shape) (o : Object) → IsAccepted s o []
-none_accepted s (Arena a) = refl
-none_accepted s (Cache l c) = refl
-none_accepted s (Bin l) = refl
-none_accepted s (Mail f t) = refl
-none_accepted s (Root p) = refl
+none_accepted : (s : Shape) (o : Object) → IsTrue (has_history o) → IsAccepted s o []
+none_accepted s (Arena a) has = refl
+none_accepted s (Cache l c) has = refl
+none_accepted s (Bin l) has = refl
+none_accepted s (Mail f t) has = absurd (cc has)
+none_accepted s (Root p) has = refl
 
 all_stand : (s : Shape) (lane : ℕ) (es : List Entry) → All (Stands s (Some lane)) es
     → IsTrue (list_all (note_stands s lane) (notes_in es))
@@ -111,7 +112,11 @@ all_stand s lane (At o k n ∷ es) all =
     all_stand s lane es (All-tail (Stands s (Some lane)) (At o k n) es all) in
     λ i. st.lane_may i && ih i
 all_stand s lane (Ref r d ∷ es) all = all_stand s lane es (All-tail (Stands s (Some lane)) (Ref r d) es all)
-all_stand s lane (Busy b ∷ es) all = all_stand s lane es (All-tail (Stands s (Some lane)) (Busy b) es all)
+all_stand s lane (Busy b ∷ es) all =
+    let st = All-head (Stands s (Some lane)) (Busy b) es all in let ih =
+    all_stand s lane es (All-tail (Stands s (Some lane)) (Busy b) es all) in
+    let has = its_history s b.object st.0 in
+    λ i. has i && ih i
 
 laned : (h : List Noted) → ((k : ℕ) (n : Noted) → slice_get h k ≡ Some n → (i : ℕ) × (n.lane ≡ Some i)) → AllLaned h
 laned [] each = tt
@@ -142,7 +147,7 @@ module _ {H : Type 0} (stands : List ℕ → Setting → List Noted → H → Ty
     history = (closed.objects o fits).history
 
     abbrev pub here : Part → Part
-    here p = strand l.shape (home_of l.shape o) p
+    here p = object_part l.shape (home_of l.shape o) p
 
     pub told_at : (lane : ℕ) (p : Part) → slice_get (parts_of v) lane ≡ Some p
         → IsTold o history (length history) (here p)
@@ -166,7 +171,7 @@ module _ {H : Type 0} (stands : List ℕ → Setting → List Noted → H → Ty
         let lt = slice_get_within history k n is in
         let once = (closed.objects o fits).once k lt in
         let r = in_parts (is_numbered (k + 1)) (map here (parts_of v))
-        (let m : ℕ = in_face (is_numbered (k + 1)) (face l.shape (home_of l.shape o) v) in let e : m
+        (let m : ℕ = in_object_view (is_numbered (k + 1)) (object_view l.shape (home_of l.shape o) v) in let e : m
         ≡ 1 = once in let g : 0 < m = omega (arith, e) in g) in
         let q = in_map here (parts_of v) r.0 r.1 r.2 in
         let t = told_at r.0 q.0 q.1 in
@@ -215,27 +220,29 @@ module _ {H : Type 0} (stands : List ℕ → Setting → List Noted → H → Ty
     dids_at = ap dids history_at ∙ dids_lawful history
 
   -- an object that isn't one of the shape has none
-  whole_none : (o : Object) → (IsObjectOf l.shape o → ⊥) → IsLawful o (logs_in (parts_of v)) []
-  whole_none o none lane = ⊎_elim
+  whole_none : (o : Object) → IsTrue (has_history o) → (IsObjectOf l.shape o → ⊥)
+      → IsLawful o (logs_in (parts_of v)) []
+  whole_none o has none lane = ⊎_elim
       (λ (t : (p : Part) × (slice_get (parts_of v) lane ≡ Some p)). ap (λ (x : List Note). own o x)
-      (log_at (parts_of v) lane t.0 t.1) ∙ own_none l.shape t.0.number o none t.0.notes (stands_at lane t.0 t.1))
+      (log_at (parts_of v) lane t.0 t.1) ∙ own_none l.shape t.0.number o has none t.0.notes (stands_at lane t.0 t.1))
       (λ (past : length (parts_of v) ≤ lane). ap (λ (x : List Note). own o x) (log_past (parts_of v) lane past))
       (there_or (parts_of v) lane)
 
-  pub histories_hold : HistoriesHold l.shape (logs_in (parts_of v))
-  histories_hold = record {
-    whole = λ o. ⊎_elim
+  pub histories_hold : MailsHold (logs_in (parts_of v)) → HistoriesHold l.shape (logs_in (parts_of v))
+  histories_hold mails = record {
+    whole = λ o has. ⊎_elim
         (λ (fits : IsObjectOf l.shape o). subst (IsLawful o (logs_in (parts_of v))) (sym (history_at o fits))
         (whole_at o fits))
         (λ (none : IsObjectOf l.shape o → ⊥). subst (IsLawful o (logs_in (parts_of v)))
-        (sym (history_of-is o (logs_in (parts_of v)) [] (whole_none o none))) (whole_none o none))
+        (sym (history_of-is o (logs_in (parts_of v)) [] (whole_none o has none))) (whole_none o has none))
         (object_or l.shape o);
-    accepted = λ o. ⊎_elim
+    accepted = λ o has. ⊎_elim
         (λ (fits : IsObjectOf l.shape o). subst (IsAccepted l.shape o) (sym (dids_at o fits))
         (closed.objects o fits).accepted.accepted)
         (λ (none : IsObjectOf l.shape o → ⊥). subst (λ (h : History). IsAccepted l.shape o (dids h))
-        (sym (history_of-is o (logs_in (parts_of v)) [] (whole_none o none))) (none_accepted l.shape o))
+        (sym (history_of-is o (logs_in (parts_of v)) [] (whole_none o has none))) (none_accepted l.shape o has))
         (object_or l.shape o);
+    mails = mails;
     stand = λ lane. ⊎_elim
         (λ (t : (p : Part) × (slice_get (parts_of v) lane ≡ Some p)).
         subst (λ (x : List Note). IsTrue (list_all (note_stands l.shape lane) x))

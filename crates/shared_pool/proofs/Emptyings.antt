@@ -21,11 +21,11 @@ use Rattle.arena_law.specs.Covered.{IsCovered}
 use Rattle.arena_law.proofs.ArenaLaw.{give-holds}
 use Rattle.arena_law.proofs.CoveredGives.{give-covered}
 use Rattle.arena_law.proofs.CoveredLaw.{covered-rests}
-use Rattle.arena_law.proofs.GiveSteps.{EachOf-one}
+use Rattle.arena_law.proofs.ElementGives.{EachOf-one}
 use Rattle.arena_law.proofs.OrderlyLaw.{out-slot}
 use Rattle.pool_arena.specs.ArenaStates.{ArenaState, law_of, IsOutOf, Gives, AtRest, without_taking}
 use Rattle.shared_pool.specs.declared.home.Home.{Home}
-use Rattle.shared_pool.specs.declared.home.Home.TheVariants.{Arena, Cache, Bin, Mail, Root}
+use Rattle.shared_pool.specs.declared.home.Home.TheVariants.{Arena, Cache, Bin, Root}
 use Rattle.shared_pool.proofs.ClosingEntries.{from_at}
 use Rattle.shared_pool.proofs.Openings.{at_left, there_at as place_there}
 use Rattle.shared_pool.specs.Emptying.{Left, left_at, left_of, IsOutside, IsArenaWith, AreOut, MayGive, GivesAt, IsResting}
@@ -173,7 +173,6 @@ module _ (n : ℕ) (homes : List (Option Home)) (r : RegionId) (p : Segment) (le
   may_home (Some None) is at = absurd at
   may_home (Some (Some (Cache q))) is at = absurd at
   may_home (Some (Some (Bin b))) is at = absurd at
-  may_home (Some (Some (Mail m))) is at = absurd at
   may_home (Some (Some (Root s))) is at = absurd at
 
   -- the arena of its place takes it back
@@ -197,12 +196,10 @@ module _ (n : ℕ) (homes : List (Option Home)) (r : RegionId) (p : Segment) (le
   given_home (Some (Arena a)) None at gives = absurd gives
   given_home (Some (Arena a)) (Some (Cache q)) at gives = absurd gives
   given_home (Some (Arena a)) (Some (Bin b)) at gives = absurd gives
-  given_home (Some (Arena a)) (Some (Mail m)) at gives = absurd gives
   given_home (Some (Arena a)) (Some (Root s)) at gives = absurd gives
   given_home None z at gives = absurd at
   given_home (Some (Cache q)) z at gives = absurd at
   given_home (Some (Bin b)) z at gives = absurd at
-  given_home (Some (Mail m)) z at gives = absurd at
   given_home (Some (Root s)) z at gives = absurd at
 
   -- the others are still out
@@ -294,7 +291,6 @@ at_rest n homes o k lt y is =
     go None at = absurd at
     go (Some (Cache q)) at = absurd at
     go (Some (Bin b)) at = absurd at
-    go (Some (Mail m)) at = absurd at
     go (Some (Root s)) at = absurd at
 
 pub all_rest : (n : ℕ) (homes : List (Option Home)) → length homes ≡ n → AreOut n homes [] → All IsResting homes
@@ -311,7 +307,6 @@ none_left_at grounds k out (Some (Arena a)) at = refl
 none_left_at grounds k out None at = absurd at
 none_left_at grounds k out (Some (Cache q)) at = absurd at
 none_left_at grounds k out (Some (Bin b)) at = absurd at
-none_left_at grounds k out (Some (Mail m)) at = absurd at
 none_left_at grounds k out (Some (Root s)) at = absurd at
 
 none_in : (homes : List (Option Home)) → ((k : ℕ) (y : Option Home) → slice_get homes k ≡ Some y → left_at y ≡ [])
@@ -380,12 +375,10 @@ both_arenas (Some (Arena a)) (Some (Arena b)) r gives = refl
 both_arenas (Some (Arena a)) None r gives = absurd gives
 both_arenas (Some (Arena a)) (Some (Cache q)) r gives = absurd gives
 both_arenas (Some (Arena a)) (Some (Bin b)) r gives = absurd gives
-both_arenas (Some (Arena a)) (Some (Mail m)) r gives = absurd gives
 both_arenas (Some (Arena a)) (Some (Root s)) r gives = absurd gives
 both_arenas None z r gives = absurd gives
 both_arenas (Some (Cache q)) z r gives = absurd gives
 both_arenas (Some (Bin b)) z r gives = absurd gives
-both_arenas (Some (Mail m)) z r gives = absurd gives
 both_arenas (Some (Root s)) z r gives = absurd gives
 
 -- a region in the hand is given to its arena

@@ -1,35 +1,33 @@
 -- What a section tells, and when it may end.
 use Rattle.std.proofs.Common.{◌≡◌, ℕ, ◌+◌, ◌-◌, List, [], ◌∷◌, ◌++◌, length, sym, ap, ◌∙◌, subst, refl}
-use Rattle.std.specs.Prelude.{Bool, true, false, MatchBool, Option, Some, None, IfSome}
+use Rattle.std.specs.Prelude.{Option, Some, None, IfSome}
 use Rattle.step_law.specs.Settings.{Setting}
 use Rattle.step_law.specs.declared.Told.{Ghosts}
 use Rattle.pool_law.specs.declared.note.Did.{Did}
 use Rattle.pool_law.specs.declared.note.Did.TheVariants.{Birth}
-use Rattle.pool_law.specs.declared.note.Held.{Held}
 use Rattle.pool_law.specs.declared.note.Noted.{Noted}
 use Rattle.pool_law.specs.NotedHistories.{IsRightWatch}
 use Rattle.pool_law.specs.declared.note.Object.{Object}
 use Rattle.pool_law.specs.Naming.{noted_by}
 use Rattle.table_law.specs.Histories.{IsHistory}
 use Rattle.table_law.specs.Measures.{measures_of}
-use Rattle.pool_table.specs.declared.views.Entry.TheVariants.{At, Busy}
+use Rattle.pool_table.specs.declared.views.Entry.TheVariants.{At}
 use Rattle.pool_table.specs.declared.views.Layout.{Layout}
 use Rattle.pool_table.specs.declared.views.SeatView.{SeatView}
-use Rattle.pool_table.specs.declared.table.PoolSeat.{PoolSeat}
+use Rattle.pool_table.specs.declared.table.PoolSeat.{PoolSeat as TableSeat}
 use Rattle.pool_table.specs.declared.table.Section.{Section}
 use Rattle.pool_table.specs.declared.table.Slot.{Slot}
-use Rattle.pool_table.specs.Counts.{CountsOne}
 use Rattle.pool_table.specs.Numbers.{IsAbove}
 use Rattle.pool_table.specs.Views.{with_entry}
-use Rattle.pool_table.specs.Seats.{view_of, HasView, SameSeat}
+use Rattle.pool_table.specs.Seats.{view_of, HasView}
 use Rattle.pool_table.specs.Sections.{GotSection, MayEnd, IsInside}
-use Rattle.pool_table.proofs.OneRoot.{marked_one}
 use Rattle.shared_pool.specs.declared.home.Home.{Home}
 use Rattle.shared_pool.specs.declared.pool.SharedPool.{SharedPool}
+use Rattle.shared_pool.specs.declared.seat.PoolSeat.{PoolSeat}
 use Rattle.shared_pool.specs.Standing.{HomeStands}
-use Rattle.shared_pool.specs.Seats.{IsPoolSeat, IsNoted, FoundBusy}
+use Rattle.shared_pool.specs.Seats.{IsNoted}
 
-module _ {G : Ghosts Home Noted} (l : Layout) (o : Object) (old new : PoolSeat Home G) (section : Section Home)
+module _ {G : Ghosts Home Noted} (l : Layout) (o : Object) (old new : TableSeat Home G) (section : Section Home)
     (got : GotSection HomeStands l o old new section) (setting : Setting) (known : (view_of old).setting ≡ Some setting)
   where
     -- the home value of the section stands for the history
@@ -76,60 +74,34 @@ module _ {G : Ghosts Home Noted} (l : Layout) (o : Object) (old new : PoolSeat H
         number_is : (view_of new).own.number ≡ (view_of old).own.number
         number_is = ap (λ v. v.own.number) got.view
 
-    -- the note that ended the section
-    pub made : (pool : SharedPool) (last : PoolSeat Home G) (after : Section Home) (number : ℕ) (n : Noted)
-        → pool.table.layout ≡ l → IsNext after n →
-        IfSome (view_of new).inside (λ x. number ≡ x.number + 1) →
-        HasView last (with_entry (view_of new) (At after.object number (noted_by (view_of new).own.number n))
-        ((view_of new).turns - 1)) →
-        IsNoted pool old last o number n
-    made pool last after number n layout next counted has =
-        record {
-          history = got.history;
-          number_is = number_is;
-          accepted = subst (λ (y : Layout). IsHistory y.shape o (longer n)) (sym layout) next.follows;
-          above = subst (λ (k : ℕ). IsAbove o k (view_of old).own.notes) (sym number_is) got.learned.seen;
-          seat =
-              subst (λ (x : SeatView × Object). HasView last
-              (with_entry x.0 (At x.1 number (noted_by x.0.own.number n)) (x.0.turns - 1)))
-              (λ i. (got.view i, (next.same_object ∙ got.object) i)) has;
-        }
-      where
-        number_is : number ≡ length got.history + 1
-        number_is = subst (λ (v : SeatView). IfSome v.inside (λ x. number ≡ x.number + 1)) got.view counted
+-- the note that ended the section, after which the seat has the table's seat that is left
+pub made : (l : Layout) (o : Object) (old : PoolSeat) (new : TableSeat Home _) (section : Section Home)
+    (got : GotSection HomeStands l o old.seat new section) (setting : Setting)
+    (known : (view_of old.seat).setting ≡ Some setting) (pool : SharedPool) (last : TableSeat Home _)
+    (after : Section Home) (number : ℕ) (n : Noted) → pool.table.layout ≡ l
+    → IsNext l o old.seat new section got setting known after n →
+    IfSome (view_of new).inside (λ x. number ≡ x.number + 1) →
+    HasView last (with_entry (view_of new) (At after.object number (noted_by (view_of new).own.number n))
+    ((view_of new).turns - 1)) →
+    IsNoted pool old (record old { seat = last }) o number n
+made l o old new section got setting known pool last after number n layout next counted has =
+    record {
+      history = got.history;
+      number_is = number_is;
+      accepted =
+          subst (λ (y : Layout). IsHistory y.shape o (longer l o old.seat new section got setting known n)) (sym layout)
+          next.follows;
+      above = subst (λ (k : ℕ). IsAbove o k (view_of old.seat).own.notes) (sym number_is) got.learned.seen;
+      seat =
+          subst (λ (x : SeatView × Object). HasView last
+          (with_entry x.0 (At x.1 number (noted_by x.0.own.number n)) (x.0.turns - 1)))
+          (λ i. (got.view i, (next.same_object ∙ got.object) i)) has;
+    }
+  where
+    number_is : number ≡ length got.history + 1
+    number_is = subst (λ (v : SeatView). IfSome v.inside (λ x. number ≡ x.number + 1)) got.view counted
 
 -- a plain note carries no watch
 pub plain_watch : (did : Did) → IsRightWatch did None
 plain_watch (Birth root region) = tt
 plain_watch _ = refl
-
--- a seat stays one of the pool's where only its own entries and its moves and turns change
-pub seat_stays : {G : Ghosts Home Noted} (pool : SharedPool) (old new : PoolSeat Home G) (v : SeatView)
-    → IsPoolSeat pool old → SameSeat old new → HasView new v → v.inside ≡ None → v.others ≡ (view_of old).others
-    → v.own.number ≡ (view_of old).own.number → v.setting ≡ (view_of old).setting → CountsOne v → IsPoolSeat pool new
-seat_stays pool old new v s same has outside others number setting counts =
-    record {
-      own = same.0 ∙ s.own;
-      outside = (ap (λ m. m.0.inside) has ∙ outside, ap (λ m. m.1) has);
-      alone = ap (λ m. m.0.others) has ∙ (others ∙ s.alone);
-      lane = s.lane;
-      number = ap (λ m. m.0.own.number) has ∙ (number ∙ s.number);
-      below = s.below;
-      setting = s.setting;
-      settled = ap (λ m. m.0.setting) has ∙ (setting ∙ s.settled);
-      arenas = s.arenas;
-      mails = s.mails;
-      counts = subst CountsOne (sym (ap (λ m. m.0) has)) counts;
-    }
-
--- so it does where it found another seat at the object
-pub held_seat : {G : Ghosts Home Noted} (pool : SharedPool) (o : Object) (mark : Bool) (old new : PoolSeat Home G)
-    (held : Held) → IsPoolSeat pool old → SameSeat old new → FoundBusy pool o mark old new held → IsPoolSeat pool new
-held_seat {G} pool o mark old new held s same found = by mark found.marked
-  where
-    by : (mark : Bool) → MatchBool mark (HasView new (with_entry (view_of old) (Busy held) (view_of old).turns))
-        (HasView new (view_of old)) → IsPoolSeat pool new
-    by true has =
-        seat_stays pool old new (with_entry (view_of old) (Busy held) (view_of old).turns) s same has refl refl refl
-        refl (marked_one (view_of old) held (view_of old).turns s.counts)
-    by false has = seat_stays pool old new (view_of old) s same has s.outside.0 refl refl refl s.counts

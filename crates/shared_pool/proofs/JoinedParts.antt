@@ -1,18 +1,18 @@
 -- The parts of the seats with which a pool is closed, as the parts of one view.
-use Rattle.std.proofs.Common.{◌≡◌, ℕ, suc, ◌+◌, ◌<◌, ◌≤◌, List, [], ◌∷◌, ◌++◌, append_assoc, length, Bool, cond, sym, refl, ap, ◌∙◌, subst, arith, eq-eqb, ne_eqb, Some}
-use Rattle.std.specs.Prelude.{◌==◌, All, reverse, slice_get, sum_by, count_by}
+use Rattle.std.proofs.Common.{◌≡◌, ℕ, ◌+◌, ◌<◌, ◌≤◌, List, [], ◌∷◌, ◌++◌, ◌*◌, append_assoc, length, map, sym, refl, ap, ◌∙◌, subst, arith, Some}
+use Rattle.std.specs.Prelude.{All, reverse, slice_get, sum_by}
 use Rattle.std.proofs.lemmas.Option.{slice_get_within, get_or_from_slice_get}
-use Rattle.std.proofs.lemmas.List.Elements.{All-head, All-tail}
+use Rattle.std.proofs.lemmas.List.Elements.{All-cons, All-head, All-map, All-nil, All-tail}
 use Rattle.std.proofs.lemmas.List.{length-map, reverse-append, reverse-reverse}
 use Rattle.std.proofs.lemmas.List.Sums.{sum_by-cons}
 use mathlib.Core.Logic.{dite}
 use native.Mathlib.Decide.{ℕ_discrete, dec_le}
-use Rattle.step_law.specs.declared.Told.{Ghosts}
+use Rattle.atomic_table.specs.Seated.{TableId}
 use Rattle.pool_law.specs.declared.id.RootId.{RootId}
-use Rattle.pool_law.specs.declared.note.Noted.{Noted}
 use Rattle.pool_law.specs.declared.run.Shape.{Shape}
-use Rattle.pool_table.specs.declared.table.PoolSeat.{PoolSeat}
+use Rattle.shared_pool.specs.declared.seat.PoolSeat.{PoolSeat}
 use Rattle.pool_table.specs.declared.views.Entry.{Entry}
+use Rattle.pool_table.specs.declared.views.Layout.{Layout}
 use Rattle.pool_table.specs.declared.views.Part.{Part}
 use Rattle.pool_table.specs.declared.views.SeatView.{SeatView}
 use Rattle.pool_table.specs.Closed.{HasAllLanes}
@@ -20,38 +20,20 @@ use Rattle.pool_table.specs.Counts.{weigh, weigh_in, on_place, on_this, ref_born
 use Rattle.pool_law.specs.declared.id.RegionId.{RegionId}
 use Rattle.table_law.specs.NoteCounts.{is_taking}
 use Rattle.pool_table.specs.Hands.{HasTaking, at_in, at_out, taken, put_down, from_arena, to_arena, from_cache, to_cache, from_place, to_place, grasped, laid}
-use Rattle.pool_table.specs.Seats.{view_of}
-use Rattle.pool_table.specs.Views.{is_lane, joined, parts_of}
+use Rattle.shared_pool.specs.SeatViews.{view_of}
+use Rattle.pool_table.specs.Views.{joined, parts_of}
+use Rattle.pool_table.specs.declared.table.PoolTable.{PoolTable}
 use Rattle.shared_pool.specs.declared.home.Home.{Home}
+use Rattle.shared_pool.specs.declared.mail.Mail.{Mail}
 use Rattle.shared_pool.specs.declared.pool.SharedPool.{SharedPool}
 use Rattle.shared_pool.specs.Closing.{AreLanes, HasNoPlace}
-use Rattle.shared_pool.specs.Joining.{IsApart, AreApart, arenas_known}
+use Rattle.shared_pool.specs.Joining.{IsApart, AreApart, HasFetches, arenas_known}
+use Rattle.shared_pool.specs.MailEnds.{IsReceiver, KnownEnds, receiver}
+use Rattle.shared_pool.specs.Seats.{IsPoolSeat}
 use Rattle.shared_pool.specs.Seated.{HasNothing, IsDone, AreDone, parts_in}
 use Rattle.shared_pool.proofs.ClosingEntries.{from_at}
+use Rattle.shared_pool.proofs.ClosingMails.{lanes_all}
 use Rattle.shared_pool.proofs.ClosingWhole.{in_map}
-
--- one part for each number
-once_from : (ps : List Part) (j m : ℕ) → ((k : ℕ) (p : Part) → slice_get ps k ≡ Some p → p.number ≡ Some (j + k)) →
-    (j ≤ m → m < j + length ps → count_by (λ (p : Part). is_lane m p.number) ps ≡ 1)
-    × ((m < j) → count_by (λ (p : Part). is_lane m p.number) ps ≡ 0)
-once_from [] j m each = ((λ le lt. absurd (omega (arith, le, lt))), λ lt. refl)
-once_from (p ∷ ps) j m each =
-    let first : p.number ≡ Some j = each 0 p refl ∙ ap (λ (x : ℕ). Some x) (omega arith) in
-    let rest = once_from ps (j + 1) m (λ k q is. each (suc k) q is ∙ ap (λ (x : ℕ). Some x) (omega arith)) in
-    let count = sum_by-cons (λ (q : Part). cond {A = ℕ} (is_lane m q.number) 1 0) p ps in
-    let here : is_lane m p.number ≡ (j == m) = ap (is_lane m) first in
-    let n : ℕ = length ps in
-    dite (ℕ_discrete j m)
-    (λ e. let one : cond {A = ℕ} (is_lane m p.number) 1 0
-    ≡ 1 = ap (λ (b : Bool). cond {A = ℕ} b 1 0) (here ∙ eq-eqb j m e) in
-    let none = rest.1 (omega (arith, e)) in
-    ((λ le lt. omega (arith, count, one, none)), λ lt. absurd (omega (arith, e, lt))))
-    (λ ne. let zero_here : cond {A = ℕ} (is_lane m p.number) 1 0
-    ≡ 0 = ap (λ (b : Bool). cond {A = ℕ} b 1 0) (here ∙ ne_eqb j m ne) in (
-      (λ le lt. let lt' : m < j + suc n = lt in let one = rest.0 (omega (arith, le, ne)) (omega (arith, lt')) in
-          omega (arith, count, zero_here, one)),
-      λ lt. let none = rest.1 (omega (arith, lt)) in omega (arith, count, zero_here, none),
-    ))
 
 -- nothing in hand, by parts
 abbrev pub HasNoToken : List Part → Type 0
@@ -68,137 +50,174 @@ HasNoTakingIn ps =
     + (weigh_in (from_cache (is_taking q)) ps + weigh_in (from_place (is_taking q)) ps) ≤
     weigh_in (to_arena (is_taking q)) ps + (weigh_in (to_cache (is_taking q)) ps + weigh_in (to_place (is_taking q)) ps)
 
-module _ {G : Ghosts Home Noted} where
-  -- a view with one part
-  own_weighs : (f : Entry → ℕ) (s : PoolSeat Home G) → (view_of s).others ≡ []
-      → weigh f (view_of s) ≡ sum_by f (view_of s).own.notes
-  own_weighs f s alone =
-      let a = sum_by-cons (λ (q : Part). sum_by f q.notes) (view_of s).own (view_of s).others in
-      let b : weigh_in f (view_of s).others ≡ 0 = ap (weigh_in f) alone in omega (arith, a, b)
+-- a view with one part
+own_weighs : (f : Entry → ℕ) (s : PoolSeat) → (view_of s).others ≡ []
+    → weigh f (view_of s) ≡ sum_by f (view_of s).own.notes
+own_weighs f s alone =
+    let a = sum_by-cons (λ (q : Part). sum_by f q.notes) (view_of s).own (view_of s).others in
+    let b : weigh_in f (view_of s).others ≡ 0 = ap (weigh_in f) alone in omega (arith, a, b)
 
-  -- the parts of a seat that another was joined to
-  pub joined_more : (s t u : PoolSeat Home G) (rest seats : List (PoolSeat Home G)) → (view_of t).others ≡ []
-      → view_of u ≡ joined (view_of s) (view_of t) → seats ≡ rest ++ t ∷ [] →
-      parts_of (view_of u) ++ parts_in (reverse rest) ≡ parts_of (view_of s) ++ parts_in (reverse seats)
-  joined_more s t u rest seats alone is popped =
-      ap (λ (v : SeatView). parts_of v ++ parts_in (reverse rest)) is
-      ∙ ap (λ (ps : List Part). (view_of s).own ∷ ((view_of s).others ++ ((view_of t).own ∷ ps)) ++ parts_in
-      (reverse rest)) alone
-      ∙ ap (λ (ps : List Part). (view_of s).own ∷ ps)
-      (append_assoc (view_of s).others ((view_of t).own ∷ []) (parts_in (reverse rest)))
-      ∙ ap (λ (ss : List (PoolSeat Home G)). parts_of (view_of s) ++ parts_in ss)
-      (sym (ap reverse popped ∙ reverse-append rest (t ∷ [])))
+-- the parts of a view to which a seat's was joined
+pub joined_more : (v w : SeatView) (t : PoolSeat) (rest seats : List PoolSeat) → (view_of t).others ≡ []
+    → w ≡ joined v (view_of t) → seats ≡ rest ++ t ∷ [] →
+    parts_of w ++ parts_in (reverse rest) ≡ parts_of v ++ parts_in (reverse seats)
+joined_more v w t rest seats alone is popped =
+    ap (λ (u : SeatView). parts_of u ++ parts_in (reverse rest)) is
+    ∙ ap (λ (ps : List Part). v.own ∷ (v.others ++ ((view_of t).own ∷ ps)) ++ parts_in (reverse rest)) alone
+    ∙ ap (λ (ps : List Part). v.own ∷ ps)
+    (append_assoc v.others ((view_of t).own ∷ []) (parts_in (reverse rest)))
+    ∙ ap (λ (ss : List PoolSeat). parts_of v ++ parts_in ss)
+    (sym (ap reverse popped ∙ reverse-append rest (t ∷ [])))
 
-  -- the parts of the first of them, and of the others
-  pub first_parts : (s : PoolSeat Home G) (rest seats : List (PoolSeat Home G)) → (view_of s).others ≡ []
-      → reverse seats ≡ rest ++ s ∷ [] →
-      parts_of (view_of s) ++ parts_in (reverse rest) ≡ parts_in seats
-  first_parts s rest seats alone is =
-      ap (λ (ps : List Part). (view_of s).own ∷ (ps ++ parts_in (reverse rest))) alone
-      ∙ ap (λ (ss : List (PoolSeat Home G)). parts_in ss)
-      (sym (reverse-append rest (s ∷ [])) ∙ ap (λ (ss : List (PoolSeat Home G)). reverse ss) (sym is)
-      ∙ reverse-reverse seats)
+-- the parts of the first of them, and of the others
+pub first_parts : (s : PoolSeat) (rest seats : List PoolSeat) → (view_of s).others ≡ []
+    → reverse seats ≡ rest ++ s ∷ [] →
+    parts_of (view_of s) ++ parts_in (reverse rest) ≡ parts_in seats
+first_parts s rest seats alone is =
+    ap (λ (ps : List Part). (view_of s).own ∷ (ps ++ parts_in (reverse rest))) alone
+    ∙ ap (λ (ss : List PoolSeat). parts_in ss)
+    (sym (reverse-append rest (s ∷ [])) ∙ ap (λ (ss : List PoolSeat). reverse ss) (sym is)
+    ∙ reverse-reverse seats)
 
-  pub record IsEmptyHanded (s : PoolSeat Home G) : Type 0 where
-    pub alone : (view_of s).others ≡ []
-    pub nothing : HasNothing (view_of s)
+pub record IsEmptyHanded (s : PoolSeat) : Type 0 where
+  pub alone : (view_of s).others ≡ []
+  pub nothing : HasNothing (view_of s)
 
-  more : (f : Entry → ℕ) (s : PoolSeat Home G) (ss : List (PoolSeat Home G)) → (view_of s).others ≡ []
-      → weigh_in f (parts_in (s ∷ ss)) ≡ weigh f (view_of s) + weigh_in f (parts_in ss)
-  more f s ss alone =
-      let a = sum_by-cons (λ (q : Part). sum_by f q.notes) (view_of s).own (parts_in ss) in let b =
-      own_weighs f s alone in
-      omega (arith, a, b)
+more : (f : Entry → ℕ) (s : PoolSeat) (ss : List PoolSeat) → (view_of s).others ≡ []
+    → weigh_in f (parts_in (s ∷ ss)) ≡ weigh f (view_of s) + weigh_in f (parts_in ss)
+more f s ss alone =
+    let a = sum_by-cons (λ (q : Part). sum_by f q.notes) (view_of s).own (parts_in ss) in let b =
+    own_weighs f s alone in
+    omega (arith, a, b)
 
-  no_place : (ss : List (PoolSeat Home G)) → All IsEmptyHanded ss → HasNoPlaceIn (parts_in ss)
-  no_place [] all p = omega arith
-  no_place (s ∷ ss) all p =
-      let e = All-head IsEmptyHanded s ss all in let ih = no_place ss (All-tail IsEmptyHanded s ss all) p in
-      let a = more (at_in p) s ss e.alone in let b = more (on_place ref_vacated p) s ss e.alone in
-      let c = more (at_out p) s ss e.alone in let d = more (on_place ref_born p) s ss e.alone in
-      let x : ℕ = taken p (view_of s) in let y : ℕ = put_down p (view_of s) in
-      let le : x ≤ y = dite (dec_le x y) (λ le. le)
-      (λ gt. absurd (e.nothing.place p (let z : y < x = omega (arith, gt) in z))) in
-      omega (arith, a, b, c, d, ih, le)
+no_place : (ss : List PoolSeat) → All IsEmptyHanded ss → HasNoPlaceIn (parts_in ss)
+no_place [] all p = omega arith
+no_place (s ∷ ss) all p =
+    let e = All-head IsEmptyHanded s ss all in let ih = no_place ss (All-tail IsEmptyHanded s ss all) p in
+    let a = more (at_in p) s ss e.alone in let b = more (on_place ref_vacated p) s ss e.alone in
+    let c = more (at_out p) s ss e.alone in let d = more (on_place ref_born p) s ss e.alone in
+    let x : ℕ = taken p (view_of s) in let y : ℕ = put_down p (view_of s) in
+    let le : x ≤ y = dite (dec_le x y) (λ le. le)
+    (λ gt. absurd (e.nothing.place p (let z : y < x = omega (arith, gt) in z))) in
+    omega (arith, a, b, c, d, ih, le)
 
-  no_taking : (ss : List (PoolSeat Home G)) → All IsEmptyHanded ss → HasNoTakingIn (parts_in ss)
-  no_taking [] all q = omega arith
-  no_taking (s ∷ ss) all q =
-      let e = All-head IsEmptyHanded s ss all in let ih = no_taking ss (All-tail IsEmptyHanded s ss all) q in
-      let a = more (from_arena (is_taking q)) s ss e.alone in let b = more (from_cache (is_taking q)) s ss e.alone in
-      let c = more (from_place (is_taking q)) s ss e.alone in
-      let d = more (to_arena (is_taking q)) s ss e.alone in let f = more (to_cache (is_taking q)) s ss e.alone in
-      let k = more (to_place (is_taking q)) s ss e.alone in
-      let x : ℕ = grasped (is_taking q) (view_of s) in let y : ℕ = laid (is_taking q) (view_of s) in
-      let le : x ≤ y = dite (dec_le x y) (λ le. le)
-      (λ gt. absurd (e.nothing.region q (let z : y < x = omega (arith, gt) in z))) in
-      omega (arith, a, b, c, d, f, k, ih, le)
+no_taking : (ss : List PoolSeat) → All IsEmptyHanded ss → HasNoTakingIn (parts_in ss)
+no_taking [] all q = omega arith
+no_taking (s ∷ ss) all q =
+    let e = All-head IsEmptyHanded s ss all in let ih = no_taking ss (All-tail IsEmptyHanded s ss all) q in
+    let a = more (from_arena (is_taking q)) s ss e.alone in let b = more (from_cache (is_taking q)) s ss e.alone in
+    let c = more (from_place (is_taking q)) s ss e.alone in
+    let d = more (to_arena (is_taking q)) s ss e.alone in let f = more (to_cache (is_taking q)) s ss e.alone in
+    let k = more (to_place (is_taking q)) s ss e.alone in
+    let x : ℕ = grasped (is_taking q) (view_of s) in let y : ℕ = laid (is_taking q) (view_of s) in
+    let le : x ≤ y = dite (dec_le x y) (λ le. le)
+    (λ gt. absurd (e.nothing.region q (let z : y < x = omega (arith, gt) in z))) in
+    omega (arith, a, b, c, d, f, k, ih, le)
 
-  no_token : (ss : List (PoolSeat Home G)) → All IsEmptyHanded ss → HasNoToken (parts_in ss)
-  no_token [] all r one none = absurd (omega (arith, one))
-  no_token (s ∷ ss) all r one none =
-      let e = All-head IsEmptyHanded s ss all in let ih = no_token ss (All-tail IsEmptyHanded s ss all) r in
-      let a = more (on_this ref_ended r) s ss e.alone in let b = more (on_this ref_vacated r) s ss e.alone in
-      dite (ℕ_discrete (weigh (on_this ref_ended r) (view_of s)) 0)
-      (λ z. ih (omega (arith, a, z, one)) (omega (arith, b, none)))
-      (λ ne. e.nothing.token r (omega (arith, a, b, one, none, ne)))
+no_token : (ss : List PoolSeat) → All IsEmptyHanded ss → HasNoToken (parts_in ss)
+no_token [] all r one none = absurd (omega (arith, one))
+no_token (s ∷ ss) all r one none =
+    let e = All-head IsEmptyHanded s ss all in let ih = no_token ss (All-tail IsEmptyHanded s ss all) r in
+    let a = more (on_this ref_ended r) s ss e.alone in let b = more (on_this ref_vacated r) s ss e.alone in
+    dite (ℕ_discrete (weigh (on_this ref_ended r) (view_of s)) 0)
+    (λ z. ih (omega (arith, a, z, one)) (omega (arith, b, none)))
+    (λ ne. e.nothing.token r (omega (arith, a, b, one, none, ne)))
 
-  module _ (pool : SharedPool) (seats : List (PoolSeat Home G)) (done : AreDone pool seats) where
-    abbrev shape : Shape
-    shape = pool.table.layout.shape
+-- a seat that may be joined, whose lane's mails may be emptied
+pub record IsReady (table : PoolTable Home) (mails : List Mail) (shape : Shape) (s : PoolSeat) : Type 0 where
+  pub apart : IsApart table s.seat
+  pub fetches : HasFetches mails shape s
 
-    one : (lane : ℕ) (s : PoolSeat Home G) → slice_get seats lane ≡ Some s → IsDone pool lane s
-    one lane s is =
-        let lt : lane < shape.lanes = subst (λ (n : ℕ). lane < n) done.many (slice_get_within seats lane s is) in
-        subst (IsDone pool lane) (get_or_from_slice_get seats lane s s is) (done.each lane lt s)
+pub all_ready : (table : PoolTable Home) (mails : List Mail) (shape : Shape) (seats : List PoolSeat)
+    → AreApart table (map (λ (s : PoolSeat). s.seat) seats) → All (HasFetches mails shape) seats
+    → All (IsReady table mails shape) seats
+all_ready table mails shape [] apart ends = All-nil (IsReady table mails shape)
+all_ready table mails shape (s ∷ ss) apart ends =
+    All-cons (IsReady table mails shape) s ss
+    (record {
+      apart = All-head (IsApart table) s.seat (map (λ (s : PoolSeat). s.seat) ss) apart;
+      fetches = All-head (HasFetches mails shape) s ss ends;
+    })
+    (all_ready table mails shape ss (All-tail (IsApart table) s.seat (map (λ (s : PoolSeat). s.seat) ss) apart)
+    (All-tail (HasFetches mails shape) s ss ends))
 
-    pub lanes_in : AreLanes shape (parts_in seats)
-    lanes_in =
-        record {
-          many = length-map seats (λ (s : PoolSeat Home G). (view_of s).own) ∙ done.many;
-          numbers =
-              λ lane p is. let t =
-              in_map (λ (s : PoolSeat Home G). (view_of s).own) seats lane p is in
-              ap (λ (q : Part). q.number) (sym t.2) ∙ (one lane t.0 t.1).number;
-        }
+-- what a lane's ends of the mails are for the close
+has_fetches : (pool : SharedPool) (s : PoolSeat) → IsPoolSeat pool s
+    → HasFetches pool.mails.items pool.table.layout.shape s
+has_fetches pool s seat = record {
+  lane = seat.lane;
+  number = seat.number;
+  below = seat.below;
+  few = subst (λ (l : Layout). l.shape.lanes ≤ 16) (sym pool.same_layout) pool.shape.lanes_most;
+  many = subst (λ (l : Layout). length pool.mails.items ≡ l.shape.lanes * l.shape.lanes) (sym pool.same_layout)
+      pool.many;
+  ends = λ from lt pass m. let f = seat.fetches from lt pass m in (f.0, receives _ _ _ _ _ _ f.1);
+}
+  where
+    receives : (e : KnownEnds) (table : TableId) (from to room count : ℕ)
+        → e ≡ receiver table from to room count → IsReceiver e
+    receives e table from to room count is =
+        subst (λ (x : KnownEnds). x ≡ receiver x.table x.from x.to x.room x.received) (sym is) refl
 
-    pub apart : AreApart pool.table seats
-    apart = from_at (IsApart pool.table) seats (λ lane s is. let d = (one lane s is).seat in
-        record {
-          own = d.own;
-          outside = d.outside;
-          alone = d.alone;
-          settled = ap arenas_known d.settled
-              ∙ ap (λ (n : ℕ). Some n) d.arenas;
-        })
+module _ (pool : SharedPool) (seats : List PoolSeat) (done : AreDone pool seats) where
+  abbrev shape : Shape
+  shape = pool.table.layout.shape
 
-    empty_handed : All IsEmptyHanded seats
-    empty_handed =
-        from_at IsEmptyHanded seats (λ lane s is. let d = one lane s is in
-        record { alone = d.seat.alone; nothing = d.nothing })
+  one : (lane : ℕ) (s : PoolSeat) → slice_get seats lane ≡ Some s → IsDone pool lane s
+  one lane s is =
+      let lt : lane < shape.lanes = subst (λ (n : ℕ). lane < n) done.many (slice_get_within seats lane s is) in
+      subst (IsDone pool lane) (get_or_from_slice_get seats lane s s is) (done.each lane lt s)
 
-    module _ (v : SeatView) (parts : parts_of v ≡ parts_in seats) where
-      pub lanes_joined : AreLanes shape (parts_of v)
-      lanes_joined = subst (AreLanes shape) (sym parts) lanes_in
+  pub lanes_in : AreLanes shape (parts_in seats)
+  lanes_in =
+      record {
+        many = length-map seats (λ (s : PoolSeat). (view_of s).own) ∙ done.many;
+        numbers =
+            λ lane p is. let t =
+            in_map (λ (s : PoolSeat). (view_of s).own) seats lane p is in
+            ap (λ (q : Part). q.number) (sym t.2) ∙ (one lane t.0 t.1).number;
+      }
 
-      pub all_lanes : HasAllLanes pool.table.layout v
-      all_lanes m lt =
-          let l = lanes_joined in
-          let once = once_from (parts_of v) 0 m (λ k p is. l.numbers k p is ∙ ap (λ (x : ℕ). Some x) (omega arith)) in
-          let wide = l.many in once.0 (omega arith) (omega (arith, lt, wide))
+  pub apart : AreApart pool.table (map (λ (s : PoolSeat). s.seat) seats)
+  apart =
+      All-map (IsApart pool.table) (λ (s : PoolSeat). s.seat) seats
+      (from_at (λ (s : PoolSeat). IsApart pool.table s.seat) seats (λ lane s is. let d = (one lane s is).seat in
+      record {
+        own = d.own;
+        outside = d.outside;
+        alone = d.alone;
+        settled = ap arenas_known d.settled
+            ∙ ap (λ (n : ℕ). Some n) d.arenas;
+      }))
 
-      pub places_joined : HasNoPlace v
-      places_joined p hand =
-          let le = subst HasNoPlaceIn (sym parts) (no_place seats empty_handed) p in
-          let x : ℕ = taken p v in let y : ℕ = put_down p v in let le' : x ≤ y = le in let lt : y < x = hand in
-          absurd (omega (arith, le', lt))
+  -- each has its lane's ends of the mails
+  pub ends : All (HasFetches pool.mails.items shape) seats
+  ends = from_at (HasFetches pool.mails.items shape) seats (λ lane s is. has_fetches pool s (one lane s is).seat)
 
-      pub takings_joined : (q : RegionId) → HasTaking q v → ⊥
-      takings_joined q hand =
-          let le = subst HasNoTakingIn (sym parts) (no_taking seats empty_handed) q in
-          let x : ℕ = grasped (is_taking q) v in let y : ℕ = laid (is_taking q) v in let le' : x ≤ y = le in
-          let lt : y < x = hand in
-          absurd (omega (arith, le', lt))
+  empty_handed : All IsEmptyHanded seats
+  empty_handed =
+      from_at IsEmptyHanded seats (λ lane s is. let d = one lane s is in
+      record { alone = d.seat.alone; nothing = d.nothing })
 
-      pub tokens_joined : HasNoToken (parts_of v)
-      tokens_joined = subst HasNoToken (sym parts) (no_token seats empty_handed)
+  module _ (v : SeatView) (parts : parts_of v ≡ parts_in seats) where
+    pub lanes_joined : AreLanes shape (parts_of v)
+    lanes_joined = subst (AreLanes shape) (sym parts) lanes_in
+
+    pub all_lanes : HasAllLanes pool.table.layout v
+    all_lanes = lanes_all pool.table.layout v lanes_joined
+
+    pub places_joined : HasNoPlace v
+    places_joined p hand =
+        let le = subst HasNoPlaceIn (sym parts) (no_place seats empty_handed) p in
+        let x : ℕ = taken p v in let y : ℕ = put_down p v in let le' : x ≤ y = le in let lt : y < x = hand in
+        absurd (omega (arith, le', lt))
+
+    pub takings_joined : (q : RegionId) → HasTaking q v → ⊥
+    takings_joined q hand =
+        let le = subst HasNoTakingIn (sym parts) (no_taking seats empty_handed) q in
+        let x : ℕ = grasped (is_taking q) v in let y : ℕ = laid (is_taking q) v in let le' : x ≤ y = le in
+        let lt : y < x = hand in
+        absurd (omega (arith, le', lt))
+
+    pub tokens_joined : HasNoToken (parts_of v)
+    tokens_joined = subst HasNoToken (sym parts) (no_token seats empty_handed)

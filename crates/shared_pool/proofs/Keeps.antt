@@ -1,8 +1,7 @@
 -- What a call leaves in a seat's hands, where its note moves nothing of that kind, and what it costs.
 use Rattle.std.proofs.Common.{◌≡◌, ℕ, ◌+◌, ◌-◌, ◌≤◌, List, [], ◌∷◌, ◌++◌, Bool, true, false, refl, sym, ap, ◌∙◌, subst, arith}
-use Rattle.std.specs.Prelude.{Option, Some, None, IfSome, unwrap_or, if◌then◌else◌, ◌&&◌}
+use Rattle.std.specs.Prelude.{Option, Some, None, IfSome, unwrap_or, if◌then◌else◌}
 use Rattle.step_law.specs.Settings.{Setting}
-use Rattle.step_law.specs.declared.Told.{Ghosts}
 use Rattle.pool_law.specs.declared.id.RootId.{RootId}
 use Rattle.pool_law.specs.declared.id.Region.{Region}
 use Rattle.pool_law.specs.declared.id.RegionId.{RegionId}
@@ -10,8 +9,9 @@ use Rattle.pool_law.specs.declared.note.Did.{Did as DidWhat}
 use Rattle.pool_law.specs.declared.note.Held.{Held}
 use Rattle.pool_law.specs.declared.note.Noted.{Noted}
 use Rattle.pool_law.specs.declared.note.Object.{Object}
-use Rattle.pool_law.specs.declared.note.Object.TheVariants.{Cache, Mail, Root}
+use Rattle.pool_law.specs.declared.note.Object.TheVariants.{Cache, Root}
 use Rattle.pool_law.specs.declared.note.RefDid.{RefDid}
+use Rattle.pool_law.specs.Kinds.{Stays, passing}
 use Rattle.pool_law.specs.Naming.{noted_by}
 use Rattle.pool_law.specs.Places.{IsInPlace}
 use Rattle.pool_law.specs.Same.{same_object}
@@ -20,19 +20,19 @@ use Rattle.handle_bin.specs.Bins.{HandleValue}
 use Rattle.pool_table.specs.declared.views.Entry.{Entry}
 use Rattle.pool_table.specs.declared.views.Entry.TheVariants.{At, Ref, Busy}
 use Rattle.pool_table.specs.declared.views.SeatView.{SeatView}
-use Rattle.pool_table.specs.declared.table.PoolSeat.{PoolSeat}
+use Rattle.shared_pool.specs.declared.seat.PoolSeat.{PoolSeat}
 use Rattle.pool_table.specs.Counts.{weigh, on_place, on_this, ref_born, ref_vacated, ref_gain, ref_loss, fetches, posts, with_ref, HasCount}
 use Rattle.pool_table.specs.Hands.{InHand, NoneWaits, at_in, at_out, at_birth, from_arena, to_arena, from_cache, to_cache, from_place, to_place}
-use Rattle.pool_table.specs.Seats.{view_of, HasView}
+use Rattle.shared_pool.specs.SeatViews.{view_of, HasView}
+use Rattle.pool_table.specs.Letters.{sent_on}
 use Rattle.pool_table.specs.Views.{with_entry}
 use Rattle.pool_table.proofs.Weights.{weigh_entry}
-use Rattle.shared_pool.specs.declared.home.Home.{Home}
 use Rattle.shared_pool.specs.declared.pool.SharedPool.{SharedPool}
 use Rattle.shared_pool.specs.Holding.{HoldsHandle, HoldsRegion}
 use Rattle.shared_pool.specs.CacheAnswers.{was_put}
 use Rattle.pool_arena.specs.Standing.{taken_or_full}
 use Rattle.shared_pool.specs.Notes.{popped, hit}
-use Rattle.shared_pool.specs.Quotas.{quota_after, quota_from, quota_left, is_post, posts as sent}
+use Rattle.shared_pool.specs.Quotas.{quota_after, quota_from, quota_left}
 use Rattle.shared_pool.specs.Answers.{IfDid}
 use Rattle.shared_pool.specs.declared.went.Went.{Went}
 use Rattle.shared_pool.specs.declared.went.Went.TheVariants.{Did}
@@ -42,6 +42,7 @@ use Rattle.shared_pool.specs.RootNotes.{IsNotedWith}
 use Rattle.shared_pool.specs.SeatLanes.{lane_of}
 use Rattle.shared_pool.specs.Seats.{IsNoted, FoundBusy}
 use Rattle.shared_pool.specs.Spending.{Spends, PostsNothing}
+use Rattle.shared_pool.proofs.SeatEnds.{IsQuiet, letters_quiet, quiet_ref, quiet_stays}
 
 -- a quota over two lists of entries
 quota_append : (lane class quota : ℕ) (xs ys : List Entry)
@@ -64,9 +65,9 @@ frugal_note o k n same lane class = go (same_object o (Cache lane class))
     go true = same
     go false = refl
 
--- the notes of a bin, a cache and an arena that give no quota and post nothing
+-- the notes of a bin, a cache and an arena that give no quota and carry no parcel
 abbrev pub no_more : DidWhat → Type 0
-no_more d = (quota_after 0 d ≡ 0) × (is_post d ≡ false)
+no_more d = (quota_after 0 d ≡ 0) × (passing d ≡ Stays)
 
 pub popped_no_more : (h : Option HandleValue) → no_more (popped h)
 popped_no_more (Some h) = (refl, refl)
@@ -89,30 +90,9 @@ pub did_at : {T B : Type 0} (P : ℕ → T → Type 0) (went : Went T B) (k : �
     → P k x
 did_at P went k x is did = subst (λ r. IfDid r P) is did
 
--- what is posted over two lists of entries
-sent_append : (a b : ℕ) (xs ys : List Entry) → sent a b (xs ++ ys) ≡ sent a b xs + sent a b ys
-sent_append a b [] ys = omega arith
-sent_append a b (At o k n ∷ xs) ys =
-    let t : ℕ = (if same_object o (Mail a b) && is_post n.did then 1 else 0) in let h = sent_append a b xs ys in
-    omega (arith, h)
-sent_append a b (Ref r d ∷ xs) ys = sent_append a b xs ys
-sent_append a b (Busy held ∷ xs) ys = sent_append a b xs ys
-
--- an entry that posts nothing
-unposted : (a b : ℕ) (es : List Entry) (o : Object) (k : ℕ) (n : Noted) → is_post n.did ≡ false
-    → sent a b (es ++ At o k n ∷ []) ≡ sent a b es
-unposted a b es o k n other =
-    let sum = sent_append a b es (At o k n ∷ []) in let none = go (same_object o (Mail a b)) (is_post n.did) other in
-    omega (arith, sum, none)
-  where
-    go : (x y : Bool) → y ≡ false → (if x && y then 1 else 0) + 0 ≡ 0
-    go true true is = absurd (cc is)
-    go true false is = refl
-    go false y is = refl
-
-unposted_ref : (a b : ℕ) (es : List Entry) (root : RootId) (step : RefDid)
-    → sent a b (es ++ Ref root step ∷ []) ≡ sent a b es
-unposted_ref a b es root step = let sum = sent_append a b es (Ref root step ∷ []) in omega (arith, sum)
+-- an entry that sends no letter
+unposted : (a b : ℕ) (es : List Entry) (e : Entry) → IsQuiet e → sent_on a b (es ++ e ∷ []) ≡ sent_on a b es
+unposted a b es e quiet = (letters_quiet es e quiet).sent a b
 
 -- one entry more leaves no quota where there was none
 no_quota_more : (lane : ℕ) (es : List Entry) (e : Entry) → IsFrugal e → ((class : ℕ) → quota_left lane class es ≡ 0)
@@ -124,213 +104,213 @@ no_quota_more lane es e frugal none class =
 abbrev ViewNoQuota : SeatView → Type 0
 ViewNoQuota v = (class : ℕ) → quota_left (unwrap_or v.own.number 0) class v.own.notes ≡ 0
 
-module _ {G : Ghosts Home Noted} where
-  -- what is spent in two steps
-  pub spends_both : (a b c d : ℕ) (old mid new : PoolSeat Home G) → Spends a b old mid → Spends c d mid new
-      → Spends (c + a) (d + b) old new
-  spends_both a b c d old mid new x y = record {
-    turns_left = (let p = x.turns_left in let q = y.turns_left in omega (arith, p, q));
-    moves_left = (let p = x.moves_left in let q = y.moves_left in omega (arith, p, q));
-    no_quota = λ none. y.no_quota (x.no_quota none);
-  }
+-- what is spent in two steps
+pub spends_both : (a b c d : ℕ) (old mid new : PoolSeat) → Spends a b old mid → Spends c d mid new
+    → Spends (c + a) (d + b) old new
+spends_both a b c d old mid new x y = record {
+  turns_left = (let p = x.turns_left in let q = y.turns_left in omega (arith, p, q));
+  moves_left = (let p = x.moves_left in let q = y.moves_left in omega (arith, p, q));
+  no_quota = λ none. y.no_quota (x.no_quota none);
+}
 
-  pub spends_more : (a b c d : ℕ) (old new : PoolSeat Home G) → Spends a b old new → a ≤ c → b ≤ d → Spends c d old new
-  spends_more a b c d old new x le lf = record {
-    turns_left = (let p = x.turns_left in omega (arith, p, le));
-    moves_left = (let p = x.moves_left in omega (arith, p, lf));
-    no_quota = x.no_quota;
-  }
+pub spends_more : (a b c d : ℕ) (old new : PoolSeat) → Spends a b old new → a ≤ c → b ≤ d → Spends c d old new
+spends_more a b c d old new x le lf = record {
+  turns_left = (let p = x.turns_left in omega (arith, p, le));
+  moves_left = (let p = x.moves_left in omega (arith, p, lf));
+  no_quota = x.no_quota;
+}
 
-  -- a view known by its entries costs what they cost
-  spends_view : (turns moves : ℕ) (old new : PoolSeat Home G) (w : SeatView) → view_of new ≡ w
-      → (view_of old).turns ≤ w.turns + turns → (view_of old).moves ≤ w.moves + moves
-      → (ViewNoQuota (view_of old) → ViewNoQuota w) → Spends turns moves old new
-  spends_view turns moves old new w is t m q = record {
-    turns_left = subst (λ (x : SeatView). (view_of old).turns ≤ x.turns + turns) (sym is) t;
-    moves_left = subst (λ (x : SeatView). (view_of old).moves ≤ x.moves + moves) (sym is) m;
-    no_quota = λ none. subst ViewNoQuota (sym is) (q none);
-  }
+-- a view known by its entries costs what they cost
+spends_view : (turns moves : ℕ) (old new : PoolSeat) (w : SeatView) → view_of new ≡ w
+    → (view_of old).turns ≤ w.turns + turns → (view_of old).moves ≤ w.moves + moves
+    → (ViewNoQuota (view_of old) → ViewNoQuota w) → Spends turns moves old new
+spends_view turns moves old new w is t m q = record {
+  turns_left = subst (λ (x : SeatView). (view_of old).turns ≤ x.turns + turns) (sym is) t;
+  moves_left = subst (λ (x : SeatView). (view_of old).moves ≤ x.moves + moves) (sym is) m;
+  no_quota = λ none. subst ViewNoQuota (sym is) (q none);
+}
 
-  -- a view known by its entries posts what they post
-  nothing_view : (old new : PoolSeat Home G) (w : SeatView) → view_of new ≡ w → w.setting ≡ (view_of old).setting
-      → w.own.number ≡ (view_of old).own.number → ((a b : ℕ) → sent a b w.own.notes ≡ sent a b (view_of old).own.notes)
-      → PostsNothing old new
-  nothing_view old new w is setting number posted = record {
-    setting = ap (λ (x : SeatView). x.setting) is ∙ setting;
-    number = ap (λ (x : SeatView). x.own.number) is ∙ number;
-    posted = λ a b. ap (λ (x : SeatView). sent a b x.own.notes) is ∙ posted a b;
-  }
+-- a view known by its entries posts what they post
+nothing_view : (old new : PoolSeat) (w : SeatView) → view_of new ≡ w → w.setting ≡ (view_of old).setting
+    → w.own.number ≡ (view_of old).own.number
+    → ((a b : ℕ) → sent_on a b w.own.notes ≡ sent_on a b (view_of old).own.notes)
+    → PostsNothing old new
+nothing_view old new w is setting number posted = record {
+  setting = ap (λ (x : SeatView). x.setting) is ∙ setting;
+  number = ap (λ (x : SeatView). x.own.number) is ∙ number;
+  posted = λ a b. ap (λ (x : SeatView). sent_on a b x.own.notes) is ∙ posted a b;
+}
 
-  pub nothing_both : (old mid new : PoolSeat Home G) → PostsNothing old mid → PostsNothing mid new
-      → PostsNothing old new
-  nothing_both old mid new x y =
-      record {
-        setting = y.setting ∙ x.setting;
-        number = y.number ∙ x.number;
-        posted = λ a b. y.posted a b
-            ∙ x.posted a b;
-      }
+pub nothing_both : (old mid new : PoolSeat) → PostsNothing old mid → PostsNothing mid new
+    → PostsNothing old new
+nothing_both old mid new x y =
+    record {
+      setting = y.setting ∙ x.setting;
+      number = y.number ∙ x.number;
+      posted = λ a b. y.posted a b
+          ∙ x.posted a b;
+    }
 
-  -- a call that found another seat costs nothing
-  pub held_free : (pool : SharedPool) (o : Object) (mark : Bool) (old new : PoolSeat Home G) (held : Held)
-      → FoundBusy pool o mark old new held → Spends 0 0 old new
-  held_free pool o true old new held found =
-      spends_view 0 0 old new (with_entry (view_of old) (Busy held) (view_of old).turns) (ap (λ m. m.0) found.marked)
-      (omega arith) (omega arith)
-      (no_quota_more (lane_of old) (view_of old).own.notes (Busy held) (λ lane class. refl))
-  held_free pool o false old new held found =
-      spends_view 0 0 old new (view_of old) (ap (λ m. m.0) found.marked) (omega arith) (omega arith) (λ none. none)
+-- a call that found another seat costs nothing
+pub held_free : (pool : SharedPool) (o : Object) (mark : Bool) (old new : PoolSeat) (held : Held)
+    → FoundBusy pool o mark old new held → Spends 0 0 old new
+held_free pool o true old new held found =
+    spends_view 0 0 old new (with_entry (view_of old) (Busy held) (view_of old).turns) (ap (λ m. m.0) found.marked)
+    (omega arith) (omega arith)
+    (no_quota_more (lane_of old) (view_of old).own.notes (Busy held) (λ lane class. refl))
+held_free pool o false old new held found =
+    spends_view 0 0 old new (view_of old) (ap (λ m. m.0) found.marked) (omega arith) (omega arith) (λ none. none)
 
-  -- ---- A seat whose own part got one entry more.
+-- ---- A seat whose own part got one entry more.
 
-  module _ (pool : SharedPool) (old new : PoolSeat Home G) (e : Entry) (turns : ℕ)
-      (view : view_of new ≡ with_entry (view_of old) e turns) where
-    more : (f : Entry → ℕ) → weigh f (view_of new) ≡ weigh f (view_of old) + f e
-    more f = ap (weigh f) view ∙ weigh_entry f (view_of old) e turns
+module _ (pool : SharedPool) (old new : PoolSeat) (e : Entry) (turns : ℕ)
+    (view : view_of new ≡ with_entry (view_of old) e turns) where
+  more : (f : Entry → ℕ) → weigh f (view_of new) ≡ weigh f (view_of old) + f e
+  more f = ap (weigh f) view ∙ weigh_entry f (view_of old) e turns
 
-    entry_handle : (h : HandleValue) → ((f : RefDid → ℕ) → on_place f h.place e ≡ 0) → at_out h.place e ≡ 0
-        → at_birth h.place e ≡ 0 → HoldsHandle pool old h → HoldsHandle pool new h
-    entry_handle h off home birth holds =
-        let p : ℕ = h.place in let born = more (on_place ref_born p) in let b = off ref_born in record {
-          hand =
-              (let a = more (at_in p) in let d = more (at_out p) in let c = more (on_place ref_vacated p) in let i =
-              holds.hand in omega (arith, a, b, c, d, born, i, home));
-          waits = (let a = more (at_birth p) in let i = holds.waits in omega (arith, a, b, born, i, birth));
-          lane = holds.lane;
-          place = holds.place;
-        }
-
-    entry_count : (r : RootId) → on_this ref_loss r e ≡ 0 → posts r e ≡ 0 → HasCount r (view_of old)
-        → HasCount r (view_of new)
-    entry_count r off post has =
-        let a = more (on_this ref_gain r) in let b = more (on_this ref_loss r) in let c = more (fetches r) in let d =
-        more (posts r) in
-        omega (arith, a, b, c, d, has, off, post)
-
-  pub held_handle : (pool : SharedPool) (o : Object) (mark : Bool) (old new : PoolSeat Home G) (held : Held)
-      (h : HandleValue) → FoundBusy pool o mark old new held → HoldsHandle pool old h → HoldsHandle pool new h
-  held_handle pool o true old new held h found holds =
-      entry_handle pool old new (Busy held) (view_of old).turns (ap (λ m. m.0) found.marked) h (λ f. refl) refl refl
-      holds
-  held_handle pool o false old new held h found holds =
-      let same = sym (ap (λ m. m.0) found.marked) in
-      record {
-        hand = subst (λ (v : SeatView). InHand h.place v) same holds.hand;
-        waits =
-            subst (λ (v : SeatView). NoneWaits h.place v) same holds.waits;
+  entry_handle : (h : HandleValue) → ((f : RefDid → ℕ) → on_place f h.place e ≡ 0) → at_out h.place e ≡ 0
+      → at_birth h.place e ≡ 0 → HoldsHandle pool old h → HoldsHandle pool new h
+  entry_handle h off home birth holds =
+      let p : ℕ = h.place in let born = more (on_place ref_born p) in let b = off ref_born in record {
+        hand =
+            (let a = more (at_in p) in let d = more (at_out p) in let c = more (on_place ref_vacated p) in let i =
+            holds.hand in omega (arith, a, b, c, d, born, i, home));
+        waits = (let a = more (at_birth p) in let i = holds.waits in omega (arith, a, b, born, i, birth));
         lane = holds.lane;
         place = holds.place;
       }
 
-  pub held_count : (pool : SharedPool) (o : Object) (mark : Bool) (old new : PoolSeat Home G) (held : Held) (r : RootId)
-      → FoundBusy pool o mark old new held → HasCount r (view_of old) → HasCount r (view_of new)
-  held_count pool o true old new held r found has =
-      entry_count pool old new (Busy held) (view_of old).turns (ap (λ m. m.0) found.marked) r refl refl has
-  held_count pool o false old new held r found has =
-      subst (λ (v : SeatView). HasCount r v) (sym (ap (λ m. m.0) found.marked)) has
+  entry_count : (r : RootId) → on_this ref_loss r e ≡ 0 → posts r e ≡ 0 → HasCount r (view_of old)
+      → HasCount r (view_of new)
+  entry_count r off post has =
+      let a = more (on_this ref_gain r) in let b = more (on_this ref_loss r) in let c = more (fetches r) in let d =
+      more (posts r) in
+      omega (arith, a, b, c, d, has, off, post)
 
-  module _ (pool : SharedPool) (old new : PoolSeat Home G) (o : Object) (number : ℕ) (n : Noted)
-      (noted : IsNoted pool old new o number n) where
-    abbrev v : SeatView
-    v = view_of old
+pub held_handle : (pool : SharedPool) (o : Object) (mark : Bool) (old new : PoolSeat) (held : Held)
+    (h : HandleValue) → FoundBusy pool o mark old new held → HoldsHandle pool old h → HoldsHandle pool new h
+held_handle pool o true old new held h found holds =
+    entry_handle pool old new (Busy held) (view_of old).turns (ap (λ m. m.0) found.marked) h (λ f. refl) refl refl
+    holds
+held_handle pool o false old new held h found holds =
+    let same = sym (ap (λ m. m.0) found.marked) in
+    record {
+      hand = subst (λ (v : SeatView). InHand h.place v) same holds.hand;
+      waits =
+          subst (λ (v : SeatView). NoneWaits h.place v) same holds.waits;
+      lane = holds.lane;
+      place = holds.place;
+    }
 
-    abbrev e : Entry
-    e = At o number (noted_by v.own.number n)
+pub held_count : (pool : SharedPool) (o : Object) (mark : Bool) (old new : PoolSeat) (held : Held) (r : RootId)
+    → FoundBusy pool o mark old new held → HasCount r (view_of old) → HasCount r (view_of new)
+held_count pool o true old new held r found has =
+    entry_count pool old new (Busy held) (view_of old).turns (ap (λ m. m.0) found.marked) r refl refl has
+held_count pool o false old new held r found has =
+    subst (λ (v : SeatView). HasCount r v) (sym (ap (λ m. m.0) found.marked)) has
 
-    view : view_of new ≡ with_entry v e (v.turns - 1)
-    view = ap (λ m. m.0) noted.seat
+module _ (pool : SharedPool) (old new : PoolSeat) (o : Object) (number : ℕ) (n : Noted)
+    (noted : IsNoted pool old new o number n) where
+  abbrev v : SeatView
+  v = view_of old
 
-    -- a note costs a turn
-    pub note_costs : quota_after 0 n.did ≡ 0 → Spends 1 0 old new
-    note_costs same =
-        spends_view 1 0 old new (with_entry v e (v.turns - 1)) view (omega arith) (omega arith)
-        (no_quota_more (lane_of old) v.own.notes e (frugal_note o number (noted_by v.own.number n) same))
+  abbrev e : Entry
+  e = At o number (noted_by v.own.number n)
 
-    -- what isn't a post posts nothing
-    pub note_nothing : is_post n.did ≡ false → PostsNothing old new
-    note_nothing other =
-        nothing_view old new (with_entry v e (v.turns - 1)) view refl refl
-        (λ a b. unposted a b v.own.notes o number (noted_by v.own.number n) other)
+  view : view_of new ≡ with_entry v e (v.turns - 1)
+  view = ap (λ m. m.0) noted.seat
 
-    pub keeps_handle : (h : HandleValue) → did_home h.place n.did ≡ 0 → did_birth h.place n.did ≡ 0
-        → HoldsHandle pool old h → HoldsHandle pool new h
-    keeps_handle h home birth = entry_handle pool old new e (v.turns - 1) view h (λ f. refl) home birth
+  -- a note costs a turn
+  pub note_costs : quota_after 0 n.did ≡ 0 → Spends 1 0 old new
+  note_costs same =
+      spends_view 1 0 old new (with_entry v e (v.turns - 1)) view (omega arith) (omega arith)
+      (no_quota_more (lane_of old) v.own.notes e (frugal_note o number (noted_by v.own.number n) same))
 
-    pub keeps_count : (r : RootId) → did_post_of r n.did ≡ 0 → HasCount r v → HasCount r (view_of new)
-    keeps_count r post = entry_count pool old new e (v.turns - 1) view r refl post
+  -- what isn't a post posts nothing
+  pub note_nothing : passing n.did ≡ Stays → PostsNothing old new
+  note_nothing other =
+      nothing_view old new (with_entry v e (v.turns - 1)) view refl refl
+      (λ a b. unposted a b v.own.notes e (quiet_stays o number (noted_by v.own.number n) other))
 
-    -- the note moves no region
-    pub record MovesNoRegion : Type 0 where
-      pub arena_out : (f : RegionId → ℕ) → arena_out f n.did ≡ 0
-      pub arena_in : (f : RegionId → ℕ) → arena_in f n.did ≡ 0
-      pub cache_out : (f : RegionId → ℕ) → cache_out f n.did ≡ 0
-      pub cache_in : (f : RegionId → ℕ) → cache_in f n.did ≡ 0
-      pub place_out : (f : RegionId → ℕ) → place_out f (noted_by v.own.number n) ≡ 0
-      pub place_in : (f : RegionId → ℕ) → place_in f n.did ≡ 0
+  pub keeps_handle : (h : HandleValue) → did_home h.place n.did ≡ 0 → did_birth h.place n.did ≡ 0
+      → HoldsHandle pool old h → HoldsHandle pool new h
+  keeps_handle h home birth = entry_handle pool old new e (v.turns - 1) view h (λ f. refl) home birth
 
-    pub keeps_region : (r : Region) → MovesNoRegion → HoldsRegion pool old r → HoldsRegion pool new r
-    keeps_region r none holds =
-        record {
-          hand = record {
-            taking =
-                (let f = is_taking r.id in let i = holds.hand.taking in let a =
-                same (from_arena f) (none.arena_out f) in let b =
-                same (to_arena f) (none.arena_in f) in let c =
-                same (from_cache f) (none.cache_out f) in let d = same (to_cache f) (none.cache_in f) in
-                let g = same (from_place f) (none.place_out f) in let h = same (to_place f) (none.place_in f) in
-                omega (arith, i, a, b, c, d, g, h));
-            uses =
-                (let f = uses_in r.id in let i = holds.hand.uses in let a = same (from_arena f) (none.arena_out f) in
-                let b = same (to_arena f) (none.arena_in f) in let c = same (from_cache f) (none.cache_out f) in
-                let d = same (to_cache f) (none.cache_in f) in
-                let g = same (from_place f) (none.place_out f) in let h = same (to_place f) (none.place_in f) in let k =
-                same (to_place (is_taking r.id)) (none.place_in (is_taking r.id)) in
-                omega (arith, i, a, b, c, d, g, h, k));
-          };
-          here =
-              subst (λ (x : Option Setting). IfSome x (λ t. IsInPlace t.grounds r.id.place r.piece))
-              (sym (ap (λ (w : SeatView). w.setting) view)) holds.here;
-          owner = holds.owner;
-          class = holds.class;
-          len = holds.len;
-        }
-      where
-        same : (f : Entry → ℕ) → f e ≡ 0 → weigh f (view_of new) ≡ weigh f v
-        same f z = let a = more pool old new e (v.turns - 1) view f in omega (arith, a, z)
+  pub keeps_count : (r : RootId) → did_post_of r n.did ≡ 0 → HasCount r v → HasCount r (view_of new)
+  keeps_count r post = entry_count pool old new e (v.turns - 1) view r refl post
 
-  -- a step on a root's word costs the moves that it costs
-  pub ref_costs : (old new : PoolSeat Home G) (root : RootId) (step : RefDid) (moves spent : ℕ)
-      → HasView new (with_ref (view_of old) root step moves) → (view_of old).moves ≤ moves + spent
-      → Spends 0 spent old new
-  ref_costs old new root step moves spent has le =
-      spends_view 0 spent old new (with_ref (view_of old) root step moves) (ap (λ m. m.0) has) (omega arith) le
-      (no_quota_more (lane_of old) (view_of old).own.notes (Ref root step) (λ lane class. refl))
+  -- the note moves no region
+  pub record MovesNoRegion : Type 0 where
+    pub arena_out : (f : RegionId → ℕ) → arena_out f n.did ≡ 0
+    pub arena_in : (f : RegionId → ℕ) → arena_in f n.did ≡ 0
+    pub cache_out : (f : RegionId → ℕ) → cache_out f n.did ≡ 0
+    pub cache_in : (f : RegionId → ℕ) → cache_in f n.did ≡ 0
+    pub place_out : (f : RegionId → ℕ) → place_out f (noted_by v.own.number n) ≡ 0
+    pub place_in : (f : RegionId → ℕ) → place_in f n.did ≡ 0
 
-  -- a note with a step on its root's word costs a turn, and the moves that it costs
-  pub with_costs : (pool : SharedPool) (old new : PoolSeat Home G) (root : RootId) (number : ℕ) (n : Noted)
-      (step : RefDid) (moves spent : ℕ) → IsNotedWith pool old new root number n step moves → quota_after 0 n.did ≡ 0
-      → (view_of old).moves ≤ moves + spent → Spends 1 spent old new
-  with_costs pool old new root number n step moves spent noted same le =
-      let v = view_of old in let e : Entry = At (Root root.place) number (noted_by v.own.number n) in
-      spends_view 1 spent old new (with_ref (with_entry v e (v.turns - 1)) root step moves) (ap (λ m. m.0) noted.seat)
-      (omega arith) le
-      (λ none. no_quota_more (lane_of old) (v.own.notes ++ e ∷ []) (Ref root step) (λ lane class. refl)
-      (no_quota_more (lane_of old) v.own.notes e
-      (frugal_note (Root root.place) number (noted_by v.own.number n) same) none))
+  pub keeps_region : (r : Region) → MovesNoRegion → HoldsRegion pool old r → HoldsRegion pool new r
+  keeps_region r none holds =
+      record {
+        hand = record {
+          taking =
+              (let f = is_taking r.id in let i = holds.hand.taking in let a =
+              same (from_arena f) (none.arena_out f) in let b =
+              same (to_arena f) (none.arena_in f) in let c =
+              same (from_cache f) (none.cache_out f) in let d = same (to_cache f) (none.cache_in f) in
+              let g = same (from_place f) (none.place_out f) in let h = same (to_place f) (none.place_in f) in
+              omega (arith, i, a, b, c, d, g, h));
+          uses =
+              (let f = uses_in r.id in let i = holds.hand.uses in let a = same (from_arena f) (none.arena_out f) in
+              let b = same (to_arena f) (none.arena_in f) in let c = same (from_cache f) (none.cache_out f) in
+              let d = same (to_cache f) (none.cache_in f) in
+              let g = same (from_place f) (none.place_out f) in let h = same (to_place f) (none.place_in f) in let k =
+              same (to_place (is_taking r.id)) (none.place_in (is_taking r.id)) in
+              omega (arith, i, a, b, c, d, g, h, k));
+        };
+        here =
+            subst (λ (x : Option Setting). IfSome x (λ t. IsInPlace t.grounds r.id.place r.piece))
+            (sym (ap (λ (w : SeatView). w.setting) view)) holds.here;
+        owner = holds.owner;
+        class = holds.class;
+        len = holds.len;
+      }
+    where
+      same : (f : Entry → ℕ) → f e ≡ 0 → weigh f (view_of new) ≡ weigh f v
+      same f z = let a = more pool old new e (v.turns - 1) view f in omega (arith, a, z)
 
-  -- neither a step on a root's word posts anything, nor a note with one
-  pub ref_nothing : (old new : PoolSeat Home G) (root : RootId) (step : RefDid) (moves : ℕ)
-      → HasView new (with_ref (view_of old) root step moves) → PostsNothing old new
-  ref_nothing old new root step moves has =
-      nothing_view old new (with_ref (view_of old) root step moves) (ap (λ m. m.0) has) refl refl
-      (λ a b. unposted_ref a b (view_of old).own.notes root step)
+-- a step on a root's word costs the moves that it costs
+pub ref_costs : (old new : PoolSeat) (root : RootId) (step : RefDid) (moves spent : ℕ)
+    → HasView new (with_ref (view_of old) root step moves) → (view_of old).moves ≤ moves + spent
+    → Spends 0 spent old new
+ref_costs old new root step moves spent has le =
+    spends_view 0 spent old new (with_ref (view_of old) root step moves) (ap (λ m. m.0) has) (omega arith) le
+    (no_quota_more (lane_of old) (view_of old).own.notes (Ref root step) (λ lane class. refl))
 
-  pub with_nothing : (pool : SharedPool) (old new : PoolSeat Home G) (root : RootId) (number : ℕ) (n : Noted)
-      (step : RefDid) (moves : ℕ) → IsNotedWith pool old new root number n step moves → is_post n.did ≡ false
-      → PostsNothing old new
-  with_nothing pool old new root number n step moves noted other =
-      let v = view_of old in let e : Entry = At (Root root.place) number (noted_by v.own.number n) in
-      nothing_view old new (with_ref (with_entry v e (v.turns - 1)) root step moves) (ap (λ m. m.0) noted.seat) refl
-      refl
-      (λ a b. unposted_ref a b (v.own.notes ++ e ∷ []) root step
-      ∙ unposted a b v.own.notes (Root root.place) number (noted_by v.own.number n) other)
+-- a note with a step on its root's word costs a turn, and the moves that it costs
+pub with_costs : (pool : SharedPool) (old new : PoolSeat) (root : RootId) (number : ℕ) (n : Noted)
+    (step : RefDid) (moves spent : ℕ) → IsNotedWith pool old new root number n step moves → quota_after 0 n.did ≡ 0
+    → (view_of old).moves ≤ moves + spent → Spends 1 spent old new
+with_costs pool old new root number n step moves spent noted same le =
+    let v = view_of old in let e : Entry = At (Root root.place) number (noted_by v.own.number n) in
+    spends_view 1 spent old new (with_ref (with_entry v e (v.turns - 1)) root step moves) (ap (λ m. m.0) noted.seat)
+    (omega arith) le
+    (λ none. no_quota_more (lane_of old) (v.own.notes ++ e ∷ []) (Ref root step) (λ lane class. refl)
+    (no_quota_more (lane_of old) v.own.notes e
+    (frugal_note (Root root.place) number (noted_by v.own.number n) same) none))
+
+-- neither a step on a root's word posts anything, nor a note with one
+pub ref_nothing : (old new : PoolSeat) (root : RootId) (step : RefDid) (moves : ℕ)
+    → HasView new (with_ref (view_of old) root step moves) → PostsNothing old new
+ref_nothing old new root step moves has =
+    nothing_view old new (with_ref (view_of old) root step moves) (ap (λ m. m.0) has) refl refl
+    (λ a b. unposted a b (view_of old).own.notes (Ref root step) (quiet_ref root step))
+
+pub with_nothing : (pool : SharedPool) (old new : PoolSeat) (root : RootId) (number : ℕ) (n : Noted)
+    (step : RefDid) (moves : ℕ) → IsNotedWith pool old new root number n step moves → passing n.did ≡ Stays
+    → PostsNothing old new
+with_nothing pool old new root number n step moves noted other =
+    let v = view_of old in let e : Entry = At (Root root.place) number (noted_by v.own.number n) in
+    nothing_view old new (with_ref (with_entry v e (v.turns - 1)) root step moves) (ap (λ m. m.0) noted.seat) refl
+    refl
+    (λ a b. unposted a b (v.own.notes ++ e ∷ []) (Ref root step) (quiet_ref root step)
+    ∙ unposted a b v.own.notes e (quiet_stays (Root root.place) number (noted_by v.own.number n) other))

@@ -27,7 +27,7 @@ use Rattle.shared_pool.specs.Closing.{AreLanes, logs_in}
 use Rattle.shared_pool.specs.Ends.{chunks_in, chunks_from, IsArenaOf, AreArenas}
 use Rattle.shared_pool.specs.Standing.{HomeStands}
 use Rattle.shared_pool.specs.declared.home.Home.{Home}
-use Rattle.shared_pool.specs.declared.home.Home.TheVariants.{Arena, Cache, Bin, Mail, Root}
+use Rattle.shared_pool.specs.declared.home.Home.TheVariants.{Arena, Cache, Bin, Root}
 use Rattle.shared_pool.proofs.ArenaHomes.{as_told}
 use Rattle.shared_pool.proofs.ClosingWhole.{dids_at}
 
@@ -136,7 +136,6 @@ module _ (l : Layout) (v : SeatView) (homes : List (Option Home)) (words : List 
       (chunks_is, sym (ends_out state out 0 state.chunks) ∙ named ∙ sym (ap (ends_of l.shape k) told))
   arena_at k fits (Cache q) at = absurd (cc at.measured)
   arena_at k fits (Bin b) at = absurd (cc at.measured)
-  arena_at k fits (Mail m) at = absurd (cc at.measured)
   arena_at k fits (Root s) at = absurd (cc at.measured)
 
   pub arenas_here : AreArenas l.shape homes

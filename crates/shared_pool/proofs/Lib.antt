@@ -4,14 +4,20 @@ pub mod BinHomes
 pub mod CacheHands
 pub mod CacheHomes
 pub mod CacheQuotas
+pub mod SeatEnds
 pub mod Endings
+pub mod SeatCalls
 pub mod Numbers
 pub mod PlaceHands
-pub mod MailHomes
-pub mod MailRooms
+pub mod MailMoves
+pub mod MailWays
+pub mod MailSeats
 pub mod OpeningHomes
 pub mod OpeningSeats
 pub mod Openings
+pub mod Dealings
+pub mod NewMails
+pub mod DealtEnds
 pub mod PlaceLaws
 pub mod ClosingNumbers
 pub mod ClosingHistories
@@ -19,7 +25,7 @@ pub mod PlaceRecords
 pub mod PlaceHomes
 pub mod ClosingWhole
 pub mod ClosingEntries
-pub mod ClosingOrder
+pub mod ClosingMails
 pub mod ClosingBusy
 pub mod ClosingSums
 pub mod ClosingLooks
@@ -28,6 +34,7 @@ pub mod ClosingBirths
 pub mod ClosingTotals
 pub mod ClosingNames
 pub mod ClosingSteps
+pub mod ClosingPosts
 pub mod ClosingOneOrder
 pub mod ClosingLaw
 pub mod PlaceBirths
@@ -39,9 +46,12 @@ pub mod SeatShares
 pub mod JoinedParts
 pub mod LastChunks
 pub mod PlaceLives
+pub mod PlaceRoots
 pub mod ClosingLives
 pub mod LiveTold
+pub mod LiveTables
 pub mod Emptyings
 pub mod EmptyStart
+pub mod EmptyTables
 pub mod ClosedPool
-mod Trials
+pub mod Trials

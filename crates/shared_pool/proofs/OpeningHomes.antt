@@ -1,31 +1,27 @@
 -- Each home value with which a pool opens stands for no notes, under what they settle.
-use Rattle.std.proofs.Common.{◌≡◌, ℕ, ◌+◌, ◌*◌, ◌%◌, ◌<◌, List, [], ◌∷◌, ◌++◌, length, map, sym, ap, ◌∙◌, subst, refl, arith}
-use Rattle.std.specs.Prelude.{Option, Some, None, IfSome, slice_get, filter_map, unwrap_or}
+use Rattle.std.proofs.Common.{◌≡◌, ℕ, ◌+◌, ◌*◌, ◌%◌, ◌<◌, List, [], ◌∷◌, length, map, sym, ap, ◌∙◌, subst, refl, arith}
+use Rattle.std.specs.Prelude.{Some, None, slice_get, filter_map, unwrap_or}
 use Rattle.std.proofs.lemmas.List.{length-map, length-replicate}
-use Rattle.std.proofs.lemmas.List.Elements.{All-nil, filter_map-append}
+use Rattle.std.proofs.lemmas.List.Elements.{All-nil}
 use Rattle.ground.specs.Ground.{Origin}
 use Rattle.step_law.specs.Settings.{Setting}
-use Rattle.pool_law.specs.declared.id.Parcel.{Parcel}
 use Rattle.pool_law.specs.declared.id.Region.{Region}
-use Rattle.pool_law.specs.declared.note.Noted.{Noted}
 use Rattle.pool_law.specs.declared.note.Object.TheVariants.{Arena as ArenaOf, Cache as CacheOf, Bin as BinOf, Mail as MailOf, Root as RootOf}
 use Rattle.pool_law.specs.declared.run.Shape.{Shape}
 use Rattle.pool_law.specs.Arenas.{Arena as ArenaLaw, new_arena}
+use Rattle.pool_law.specs.Homes.{objects_of}
 use Rattle.pool_law.specs.Limits.{cache_capacity}
-use Rattle.pool_law.specs.Views.{IsView}
 use Rattle.table_law.specs.Measures.{measures_of}
-use Rattle.table_law.proofs.Apart.{in_square}
 use Rattle.pool_arena.specs.ArenaStates.{ArenaState, IsNew}
 use Rattle.region_cache.proofs.StandingLaws.{stands_new as cache_new}
 use Rattle.handle_bin.proofs.StandingLaws.{stands_new as bin_new}
 use Rattle.pool_table.specs.Opened.{StandAtFirst}
 use Rattle.shared_pool.specs.declared.home.Home.{Home}
-use Rattle.shared_pool.specs.declared.home.Home.TheVariants.{Arena, Cache, Bin, Mail, Root}
-use Rattle.shared_pool.specs.Mails.{IsSentBy}
-use Rattle.shared_pool.specs.Settling.{grounds_in, room_in, settled_by}
-use Rattle.shared_pool.specs.Standing.{HomeStands, HasClassLength, IsArenaAt, IsCacheAt, IsBinAt, IsMailAt, IsPlaceAt}
-use Rattle.shared_pool.specs.Opening.{IsFirstArena, IsCacheOf, IsFirstCache, IsFirstBin, IsMailOf, IsFirstMail, IsNewRoot, AreFirst}
-use Rattle.shared_pool.proofs.Openings.{added, there_at, kept, longer_by, silent, told_at, map_at, rooms}
+use Rattle.shared_pool.specs.declared.home.Home.TheVariants.{Arena, Cache, Bin, Root}
+use Rattle.shared_pool.specs.Settling.{grounds_in, settled_by}
+use Rattle.shared_pool.specs.Standing.{HomeStands, HasClassLength, IsArenaAt, IsCacheAt, IsBinAt, IsPlaceAt}
+use Rattle.shared_pool.specs.Opening.{IsFirstArena, IsCacheOf, IsFirstCache, IsFirstBin, IsNewRoot, AreFirst}
+use Rattle.shared_pool.proofs.Openings.{added, kept, longer_by, silent, told_at, map_at}
 
 -- ---- A new value stands for no notes.
 
@@ -62,7 +58,6 @@ cache_stands s g lane class (Cache q) is =
     })
 cache_stands s g lane class (Arena a) is = absurd is
 cache_stands s g lane class (Bin b) is = absurd is
-cache_stands s g lane class (Mail m) is = absurd is
 cache_stands s g lane class (Root r) is = absurd is
 
 bin_stands : (s : Shape) (g : Setting) (lane : ℕ) (x : Home) → IsFirstBin s.handles lane x
@@ -72,27 +67,7 @@ bin_stands s g lane (Bin b) is =
     (record { measured = refl; stands = bin_new g.grounds lane s.handles })
 bin_stands s g lane (Arena a) is = absurd is
 bin_stands s g lane (Cache q) is = absurd is
-bin_stands s g lane (Mail m) is = absurd is
 bin_stands s g lane (Root r) is = absurd is
-
-mail_stands : (s : Shape) (g : Setting) (sender receiver room : ℕ) (x : Home)
-    → slice_get g.mail (sender * s.lanes + receiver) ≡ Some room → IsMailOf room x
-    → HomeStands (measures_of s (MailOf sender receiver)) g [] x
-mail_stands s g sender receiver room (Mail m) here is =
-    subst (IsMailAt (3 ∷ sender ∷ receiver ∷ s.lanes ∷ []) g []) (sym is)
-    (record {
-      sender = sender;
-      receiver = receiver;
-      lanes = s.lanes;
-      measured = refl;
-      room = here;
-      stands = record { told = refl; sent = All-nil (λ (n : Noted). IsSentBy sender n.did n.lane) };
-      views = All-nil (λ (p : Parcel). IfSome p.view IsView);
-    })
-mail_stands s g sender receiver room (Arena a) here is = absurd is
-mail_stands s g sender receiver room (Cache q) here is = absurd is
-mail_stands s g sender receiver room (Bin b) here is = absurd is
-mail_stands s g sender receiver room (Root r) here is = absurd is
 
 root_stands : (s : Shape) (g : Setting) (place : ℕ) (x : Home) → IsNewRoot x
     → HomeStands (measures_of s (RootOf place)) g [] x
@@ -112,44 +87,26 @@ root_stands s g place (Root r) is =
 root_stands s g place (Arena a) is = absurd is
 root_stands s g place (Cache q) is = absurd is
 root_stands s g place (Bin b) is = absurd is
-root_stands s g place (Mail m) is = absurd is
 
--- ---- What tells of no grounds and of no room.
+-- ---- What tells of no grounds.
 
-cache_quiet : (class : ℕ) (x : Home) → IsCacheOf class x → (grounds_in x ≡ None) × (room_in x ≡ None)
-cache_quiet class (Cache q) is = (refl, refl)
+cache_quiet : (class : ℕ) (x : Home) → IsCacheOf class x → grounds_in x ≡ None
+cache_quiet class (Cache q) is = refl
 cache_quiet class (Arena a) is = absurd is
 cache_quiet class (Bin b) is = absurd is
-cache_quiet class (Mail m) is = absurd is
 cache_quiet class (Root r) is = absurd is
 
-bin_quiet : (handles k : ℕ) (x : Home) → IsFirstBin handles k x → (grounds_in x ≡ None) × (room_in x ≡ None)
-bin_quiet handles k (Bin b) is = (refl, refl)
+bin_quiet : (handles k : ℕ) (x : Home) → IsFirstBin handles k x → grounds_in x ≡ None
+bin_quiet handles k (Bin b) is = refl
 bin_quiet handles k (Arena a) is = absurd is
 bin_quiet handles k (Cache q) is = absurd is
-bin_quiet handles k (Mail m) is = absurd is
 bin_quiet handles k (Root r) is = absurd is
 
-root_quiet : (x : Home) → IsNewRoot x → (grounds_in x ≡ None) × (room_in x ≡ None)
-root_quiet (Root r) is = (refl, refl)
+root_quiet : (x : Home) → IsNewRoot x → grounds_in x ≡ None
+root_quiet (Root r) is = refl
 root_quiet (Arena a) is = absurd is
 root_quiet (Cache q) is = absurd is
 root_quiet (Bin b) is = absurd is
-root_quiet (Mail m) is = absurd is
-
-arena_quiet : (s : Shape) (k : ℕ) (x : Home) → IsFirstArena s k x → room_in x ≡ None
-arena_quiet s k (Arena a) is = refl
-arena_quiet s k (Cache q) is = absurd is
-arena_quiet s k (Bin b) is = absurd is
-arena_quiet s k (Mail m) is = absurd is
-arena_quiet s k (Root r) is = absurd is
-
-mail_quiet : (room : ℕ) (x : Home) → IsMailOf room x → grounds_in x ≡ None
-mail_quiet room (Mail m) is = refl
-mail_quiet room (Arena a) is = absurd is
-mail_quiet room (Cache q) is = absurd is
-mail_quiet room (Bin b) is = absurd is
-mail_quiet room (Root r) is = absurd is
 
 -- the grounds of an arena, and none of another value
 abbrev grounds_at : Home → List Origin
@@ -159,7 +116,6 @@ arena_tells : (s : Shape) (k : ℕ) (x : Home) → IsFirstArena s k x → ground
 arena_tells s k (Arena a) is = refl
 arena_tells s k (Cache q) is = absurd is
 arena_tells s k (Bin b) is = absurd is
-arena_tells s k (Mail m) is = absurd is
 arena_tells s k (Root r) is = absurd is
 
 arena_home_stands : (s : Shape) (g : Setting) (k : ℕ) (x : Home) → IsFirstArena s k x
@@ -167,7 +123,6 @@ arena_home_stands : (s : Shape) (g : Setting) (k : ℕ) (x : Home) → IsFirstAr
 arena_home_stands s g k (Arena a) is here = arena_stands s g k a.value is here
 arena_home_stands s g k (Cache q) is here = absurd is
 arena_home_stands s g k (Bin b) is here = absurd is
-arena_home_stands s g k (Mail m) is here = absurd is
 arena_home_stands s g k (Root r) is here = absurd is
 
 -- the class of a place in rows of forty
@@ -176,8 +131,7 @@ column lane class lt = omega (arith, lt)
 
 -- ---- All of them together.
 
-module _ (s : Shape) (mail : List ℕ) (homes : List Home) (wide : length mail ≡ s.lanes * s.lanes)
-    (f : AreFirst s mail homes) where
+module _ (s : Shape) (homes : List Home) (f : AreFirst s homes) where
   len_first : length f.first ≡ s.arenas
   len_first =
       longer_by (IsFirstArena s) s.arenas [] f.first f.arenas ∙ (let e : 0 + s.arenas ≡ s.arenas = omega arith in e)
@@ -190,56 +144,30 @@ module _ (s : Shape) (mail : List ℕ) (homes : List Home) (wide : length mail �
       let a = longer_by (IsFirstBin s.handles) s.lanes f.second f.third f.bins in let b = len_second in
       omega (arith, a, b)
 
-  len_fourth : length f.fourth ≡ s.arenas + s.lanes * 41 + s.lanes * s.lanes
-  len_fourth =
-      longer_by (IsFirstMail mail) (s.lanes * s.lanes) f.third f.fourth f.mails
-      ∙ ap (λ n. n + s.lanes * s.lanes) len_third
-
-  room_at : (k : ℕ) (x : Home) → k < s.lanes * s.lanes → IsFirstMail mail k x
-      → (room : ℕ) × (slice_get mail k ≡ Some room) × IsMailOf room x
-  room_at k x lt is =
-      let t = there_at mail k (subst (λ n. k < n) (sym wide) lt) in
-      (t.0, t.1, subst (λ (o : Option ℕ). IfSome o (λ room. IsMailOf room x)) t.1 is)
-
   first_is : (k : ℕ) (x : Home) → slice_get f.first k ≡ Some x → IsFirstArena s k x
   first_is k x e = f.arenas.each k x (subst (λ xs. slice_get xs k ≡ Some x) f.arenas.is e)
 
   grounds_are : filter_map grounds_in homes ≡ map grounds_at f.first
   grounds_are =
-      silent grounds_in (λ k. IsNewRoot) (s.lanes * s.handles) f.fourth homes f.roots (λ k x lt is. (root_quiet x is).0)
-      ∙ (silent grounds_in (IsFirstMail mail) (s.lanes * s.lanes) f.third f.fourth f.mails
-      (λ k x lt is. let r = room_at k x lt is in mail_quiet r.0 x r.2)
+      silent grounds_in (λ k. IsNewRoot) (s.lanes * s.handles) f.third homes f.roots (λ k x lt is. root_quiet x is)
       ∙ (silent grounds_in (IsFirstBin s.handles) s.lanes f.second f.third f.bins
-      (λ k x lt is. (bin_quiet s.handles k x is).0)
+      (λ k x lt is. bin_quiet s.handles k x is)
       ∙ (silent grounds_in IsFirstCache (s.lanes * 40) f.first f.second f.caches
-      (λ k x lt is. (cache_quiet (k % 40) x is).0)
-      ∙ told_at grounds_in f.first grounds_at (λ k x e. arena_tells s k x (first_is k x e)))))
+      (λ k x lt is. cache_quiet (k % 40) x is)
+      ∙ told_at grounds_in f.first grounds_at (λ k x e. arena_tells s k x (first_is k x e))))
 
-  third_silent : filter_map room_in f.third ≡ []
-  third_silent =
-      silent room_in (IsFirstBin s.handles) s.lanes f.second f.third f.bins
-      (λ k x lt is. (bin_quiet s.handles k x is).1)
-      ∙ (silent room_in IsFirstCache (s.lanes * 40) f.first f.second f.caches
-      (λ k x lt is. (cache_quiet (k % 40) x is).1)
-      ∙ silent room_in (IsFirstArena s) s.arenas [] f.first f.arenas (λ k x lt is. arena_quiet s k x is))
-
-  -- the setting that they settle has the mail's rooms
-  pub mail_is : filter_map room_in homes ≡ mail
-  mail_is =
-      silent room_in (λ k. IsNewRoot) (s.lanes * s.handles) f.fourth homes f.roots (λ k x lt is. (root_quiet x is).1)
-      ∙ (ap (filter_map room_in) f.mails.is ∙ (filter_map-append room_in f.third f.mails.more
-      ∙ (ap (λ xs. xs ++ filter_map room_in f.mails.more) third_silent
-      ∙ rooms f.mails.more mail (f.mails.many ∙ sym wide) f.mails.each)))
-
-  -- and the grounds of each arena
+  -- they settle the grounds of each arena
   pub grounds_many : length (filter_map grounds_in homes) ≡ s.arenas
   grounds_many = ap length grounds_are ∙ (length-map f.first grounds_at ∙ len_first)
 
-  from_fourth : (k : ℕ) (x : Home) → slice_get f.fourth k ≡ Some x → slice_get homes k ≡ Some x
-  from_fourth k x e = kept (λ k. IsNewRoot) (s.lanes * s.handles) f.fourth homes f.roots k x e
+  -- there is one for each object
+  pub homes_many : length homes ≡ objects_of s
+  homes_many =
+      longer_by (λ k. IsNewRoot) (s.lanes * s.handles) f.third homes f.roots
+      ∙ ap (λ n. n + s.lanes * s.handles) len_third
 
   from_third : (k : ℕ) (x : Home) → slice_get f.third k ≡ Some x → slice_get homes k ≡ Some x
-  from_third k x e = from_fourth k x (kept (IsFirstMail mail) (s.lanes * s.lanes) f.third f.fourth f.mails k x e)
+  from_third k x e = kept (λ k. IsNewRoot) (s.lanes * s.handles) f.third homes f.roots k x e
 
   from_second : (k : ℕ) (x : Home) → slice_get f.second k ≡ Some x → slice_get homes k ≡ Some x
   from_second k x e = from_third k x (kept (IsFirstBin s.handles) s.lanes f.second f.third f.bins k x e)
@@ -275,18 +203,8 @@ module _ (s : Shape) (mail : List ℕ) (homes : List Home) (wide : length mail �
         from_third (s.arenas + s.lanes * 40 + lane) t.0 (subst (λ i. slice_get f.third i ≡ Some t.0) at t.1),
         bin_stands s (settled_by homes) lane t.0 t.2,
       )
-  all_stand (MailOf sender receiver) fits =
-      let k : ℕ = sender * s.lanes + receiver in
-      let lt : k < s.lanes * s.lanes = in_square s.lanes sender receiver fits.0 fits.1 in
-      let t = added (IsFirstMail mail) (s.lanes * s.lanes) f.third f.fourth f.mails k lt in
-      let at : length f.third + k ≡ s.arenas + s.lanes * 41 + k = ap (λ n. n + k) len_third in
-      let r = room_at k t.0 lt t.2 in (
-        t.0,
-        from_fourth (s.arenas + s.lanes * 41 + k) t.0 (subst (λ i. slice_get f.fourth i ≡ Some t.0) at t.1),
-        mail_stands s (settled_by homes) sender receiver r.0 t.0 (ap (λ ys. slice_get ys k) mail_is ∙ r.1) r.2,
-      )
+  all_stand (MailOf sender receiver) fits = absurd fits
   all_stand (RootOf place) fits =
-      let t = added (λ k. IsNewRoot) (s.lanes * s.handles) f.fourth homes f.roots place fits in
-      let at : length f.fourth + place ≡ s.arenas + s.lanes * 41 + s.lanes * s.lanes + place =
-      ap (λ n. n + place) len_fourth in
+      let t = added (λ k. IsNewRoot) (s.lanes * s.handles) f.third homes f.roots place fits in
+      let at : length f.third + place ≡ s.arenas + s.lanes * 41 + place = ap (λ n. n + place) len_third in
       (t.0, subst (λ i. slice_get homes i ≡ Some t.0) at t.1, root_stands s (settled_by homes) place t.0 t.2)

@@ -1,15 +1,12 @@
 -- Home values are added one after another.
 use Rattle.std.proofs.Common.{◌≡◌, ℕ, zero, suc, ◌+◌, ◌<◌, List, [], ◌∷◌, ◌++◌, length, map, sym, ap, ◌∙◌, subst, refl, arith, append_assoc, append-nil}
-use Rattle.std.specs.Prelude.{Option, Some, None, slice_get, slice_index_or, filter_map}
+use Rattle.std.specs.Prelude.{Option, Some, None, slice_get, filter_map}
 use Rattle.std.specs.List.{cons_option}
 use Rattle.pool_law.proofs.ListLemmas.{slice_get-below}
 use Rattle.std.proofs.lemmas.List.{length_push, length-append}
 use Rattle.std.proofs.lemmas.List.Elements.{filter_map-append}
 use Rattle.shared_pool.specs.declared.home.Home.{Home}
-use Rattle.shared_pool.specs.declared.home.Home.TheVariants.{Arena, Cache, Bin, Mail, Root}
-use Rattle.shared_pool.specs.Mails.{MailState}
-use Rattle.shared_pool.specs.Settling.{room_in}
-use Rattle.shared_pool.specs.Opening.{Adds, IsMailOf, IsFirstMail}
+use Rattle.shared_pool.specs.Opening.{Adds}
 
 -- what a list with one item more has at a place
 pushed_at : {X : Type 0} (xs : List X) (y x : X) (k : ℕ) (P : ℕ → X → Type 0) → slice_get (xs ++ y ∷ []) k ≡ Some x
@@ -31,11 +28,6 @@ adds_push P n old mid new x a here is =
       many = length_push a.more x ∙ ap (λ m. m + 1) a.many;
       each = λ k y e. pushed_at a.more x y k P e a.each (subst (λ m. P m x) (sym a.many) here);
     }
-
-pub mail_at : (mail : List ℕ) (k d : ℕ) (x : Home) → IsMailOf (slice_index_or mail k d) x → IsFirstMail mail k x
-mail_at [] k d x is = tt
-mail_at (m ∷ mail) zero d x is = is
-mail_at (m ∷ mail) (suc k) d x is = mail_at mail k d x is
 
 -- ---- Where what was added stands.
 
@@ -101,20 +93,3 @@ pub map_at : {X Y : Type 0} (g : X → Y) (xs : List X) (k : ℕ) (x : X) → sl
 map_at g [] k x e = absurd (cc e)
 map_at g (z ∷ xs) zero x e = let same : z ≡ x = cc e in ap (λ y. Some (g y)) same
 map_at g (z ∷ xs) (suc k) x e = map_at g xs k x e
-
-room_is : (room : ℕ) (x : Home) → IsMailOf room x → room_in x ≡ Some room
-room_is room (Mail m) is = ap (λ (s : MailState). Some s.room) is
-room_is room (Arena a) is = absurd is
-room_is room (Cache q) is = absurd is
-room_is room (Bin b) is = absurd is
-room_is room (Root s) is = absurd is
-
--- the rooms of the mails are those that were given
-pub rooms : (xs : List Home) (mail : List ℕ) → length xs ≡ length mail
-    → ((k : ℕ) (x : Home) → slice_get xs k ≡ Some x → IsFirstMail mail k x) → filter_map room_in xs ≡ mail
-rooms [] [] many all = refl
-rooms [] (m ∷ mail) many all = absurd (omega (arith, many))
-rooms (x ∷ xs) [] many all = absurd (omega (arith, many))
-rooms (x ∷ xs) (m ∷ mail) many all =
-    ap (λ o. cons_option o (filter_map room_in xs)) (room_is m x (all 0 x refl))
-    ∙ ap (λ ys. m ∷ ys) (rooms xs mail (omega (arith, many)) (λ k. all (suc k)))

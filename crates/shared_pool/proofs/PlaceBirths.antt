@@ -42,7 +42,7 @@ use Rattle.shared_pool.specs.RootNotes.{birth, end_of}
 use Rattle.shared_pool.specs.RootPlaces.{RootState, PlaceState, last_generation, law_root, law_place, PlaceStandsFor}
 use Rattle.shared_pool.specs.PlaceSteps.{MayBear, used, cleared, born_root, with_born}
 use Rattle.shared_pool.specs.declared.home.Home.{Home}
-use Rattle.shared_pool.specs.declared.home.Home.TheVariants.{Arena, Cache, Bin, Mail, Root}
+use Rattle.shared_pool.specs.declared.home.Home.TheVariants.{Arena, Cache, Bin, Root}
 use Rattle.shared_pool.specs.Standing.{HomeStands, HasClassLength, IsPlaceAt, IsPlace, IfPlace}
 use Rattle.shared_pool.proofs.PlaceLaws.{same_root-refl}
 use Rattle.shared_pool.proofs.PlaceRecords.{unborn, watch_born}
@@ -164,15 +164,11 @@ home_born s setting p h n (Root y) (Cache t) root region handle watch at po pn m
     len handle_place handle_lane is watch_is made = absurd pn
 home_born s setting p h n (Root y) (Bin t) root region handle watch at po pn may place next fits in_place owner class
     len handle_place handle_lane is watch_is made = absurd pn
-home_born s setting p h n (Root y) (Mail t) root region handle watch at po pn may place next fits in_place owner class
-    len handle_place handle_lane is watch_is made = absurd pn
 home_born s setting p h n (Arena y) new root region handle watch at po pn may place next fits in_place owner class len
     handle_place handle_lane is watch_is made = absurd po
 home_born s setting p h n (Cache y) new root region handle watch at po pn may place next fits in_place owner class len
     handle_place handle_lane is watch_is made = absurd po
 home_born s setting p h n (Bin y) new root region handle watch at po pn may place next fits in_place owner class len
-    handle_place handle_lane is watch_is made = absurd po
-home_born s setting p h n (Mail y) new root region handle watch at po pn may place next fits in_place owner class len
     handle_place handle_lane is watch_is made = absurd po
 
 one : (n : ℕ) → (n == n) ≡ true

@@ -21,7 +21,7 @@ use Rattle.handle_bin.specs.Bins.{HandleValue}
 use Rattle.pool_table.specs.declared.views.Entry.TheVariants.{At}
 use Rattle.pool_table.specs.declared.views.Layout.{Layout}
 use Rattle.pool_table.specs.declared.views.SeatView.{SeatView}
-use Rattle.pool_table.specs.declared.table.PoolSeat.{PoolSeat}
+use Rattle.pool_table.specs.declared.table.PoolSeat.{PoolSeat as TableSeat}
 use Rattle.pool_table.specs.declared.table.Section.{Section}
 use Rattle.pool_table.specs.Numbers.{IsAbove}
 use Rattle.pool_table.specs.Views.{with_entry}
@@ -33,15 +33,16 @@ use Rattle.shared_pool.specs.RootNotes.{birth, IsNotedWith}
 use Rattle.shared_pool.specs.RootPlaces.{last_generation, law_place, PlaceStandsFor}
 use Rattle.shared_pool.specs.PlaceSteps.{MayBear, born_root, with_born}
 use Rattle.shared_pool.specs.declared.home.Home.{Home}
-use Rattle.shared_pool.specs.declared.home.Home.TheVariants.{Arena, Cache, Bin, Mail, Root}
+use Rattle.shared_pool.specs.declared.home.Home.TheVariants.{Arena, Cache, Bin, Root}
 use Rattle.shared_pool.specs.declared.pool.SharedPool.{SharedPool}
+use Rattle.shared_pool.specs.declared.seat.PoolSeat.{PoolSeat}
 use Rattle.shared_pool.specs.Standing.{HomeStands, HasClassLength, IsPlace, IfPlace}
 use Rattle.shared_pool.specs.Seats.{IsNoted}
 use Rattle.shared_pool.proofs.PlaceHomes.{is_place, place_at, place_follows}
 use Rattle.shared_pool.proofs.PlaceBirths.{may_bear, home_born}
 use Rattle.shared_pool.proofs.Endings.{stood, IsNext}
 
-module _ {G : Ghosts Home Noted} (l : Layout) (p : ℕ) (old new : PoolSeat Home G) (section : Section Home)
+module _ {G : Ghosts Home Noted} (l : Layout) (p : ℕ) (old new : TableSeat Home G) (section : Section Home)
     (got : GotSection HomeStands l (RootOf p) old new section) (setting : Setting)
     (known : (view_of old).setting ≡ Some setting) where
   stands_here : HomeStands (measures_of l.shape (RootOf p)) setting got.history section.home
@@ -63,7 +64,6 @@ module _ {G : Ghosts Home Noted} (l : Layout) (p : ℕ) (old new : PoolSeat Home
       go (Arena a) at young = tt
       go (Cache q) at young = tt
       go (Bin b) at young = tt
-      go (Mail m) at young = tt
 
   -- the place after its history, where it is worn out
   pub worn_here : IfPlace section.home (λ y. y.generation ≡ last_generation)
@@ -79,7 +79,6 @@ module _ {G : Ghosts Home Noted} (l : Layout) (p : ℕ) (old new : PoolSeat Home
       go (Arena a) is at worn = absurd is
       go (Cache q) is at worn = absurd is
       go (Bin b) is at worn = absurd is
-      go (Mail m) is at worn = absurd is
 
   -- after a birth its note follows
   pub born_next : (after : Section Home) (root : RootId) (region : Region) (handle : HandleValue) (watch : Option Watch)
@@ -107,17 +106,20 @@ module _ {G : Ghosts Home Noted} (l : Layout) (p : ℕ) (old new : PoolSeat Home
       }
 
 -- the note of a birth, and the step that makes it
-pub born_noted : {G : Ghosts Home Noted} (pool : SharedPool) (old last new : PoolSeat Home G) (p number : ℕ)
+pub born_noted : (pool : SharedPool) (old : PoolSeat) (last new : TableSeat Home _) (p number : ℕ)
     (root result : RootId) (region : RegionId) (watch : Option Watch)
-    → IsNoted pool old last (RootOf p) number (birth root region watch) → root.place ≡ p → result ≡ root →
+    → IsNoted pool old (record old { seat = last }) (RootOf p) number (birth root region watch) → root.place ≡ p
+    → result ≡ root →
     HasView new (with_ref (view_of last) result Born (view_of last).moves)
-    → IsNotedWith pool old new result number (birth result region watch) Born (view_of old).moves
+    → IsNotedWith pool old (record old { seat = new }) result number (birth result region watch) Born
+    (view_of old.seat).moves
 born_noted pool old last new p number root result region watch m place same has =
-    let v = view_of old in let n : Noted = noted_by v.own.number (birth root region watch) in
+    let v = view_of old.seat in let n : Noted = noted_by v.own.number (birth root region watch) in
     let here : HasView new (with_ref (with_entry v (At (RootOf p) number n) (v.turns - 1)) root Born v.moves) =
     subst (λ (x : RootId × SeatView). HasView new (with_ref x.1 x.0 Born x.1.moves)) (λ i. (same i, (m.seat i).0))
     has in
-    subst (λ (q : RootId). IsNotedWith pool old new q number (birth q region watch) Born v.moves) (sym same)
+    subst (λ (q : RootId). IsNotedWith pool old (record old { seat = new }) q number (birth q region watch) Born
+    v.moves) (sym same)
     (record {
       history = m.history;
       number_is = m.number_is;

@@ -33,7 +33,7 @@ use Rattle.shared_pool.specs.RootPlaces.{RootState, PlaceState, law_root, law_pl
 use Rattle.shared_pool.specs.PlaceSteps.{MayEnd, vacated}
 use Rattle.shared_pool.specs.PlaceStanding.{IfPlaces}
 use Rattle.shared_pool.specs.declared.home.Home.{Home}
-use Rattle.shared_pool.specs.declared.home.Home.TheVariants.{Arena, Cache, Bin, Mail, Root}
+use Rattle.shared_pool.specs.declared.home.Home.TheVariants.{Arena, Cache, Bin, Root}
 use Rattle.shared_pool.specs.Standing.{HomeStands, HasClassLength, IsPlaceAt, IsPlace, IfPlace}
 use Rattle.shared_pool.proofs.PlaceLaws.{ends as law_ends}
 use Rattle.shared_pool.proofs.PlaceHomes.{Fits, is_place, place_at, place_follows, present_root}
@@ -104,7 +104,6 @@ home_out s setting p h root (Root y) region handle at po is out =
 home_out s setting p h root (Arena y) region handle at po is out = absurd po
 home_out s setting p h root (Cache y) region handle at po is out = absurd po
 home_out s setting p h root (Bin y) region handle at po is out = absurd po
-home_out s setting p h root (Mail y) region handle at po is out = absurd po
 
 -- a root that is present may end
 pub home_ends : (s : Shape) (setting : Setting) (p : ℕ) (h : List Noted) (root : RootId) (home : Home)
@@ -117,7 +116,6 @@ home_ends s setting p h root (Root y) at is =
 home_ends s setting p h root (Arena y) at is = tt
 home_ends s setting p h root (Cache y) at is = tt
 home_ends s setting p h root (Bin y) at is = tt
-home_ends s setting p h root (Mail y) at is = tt
 
 -- after an end the place is vacant
 pub home_vacated : (s : Shape) (setting : Setting) (p : ℕ) (h : List Noted) (n : Noted) (root : RootId) (old new : Home)
@@ -151,11 +149,9 @@ home_vacated s setting p h n root (Root y) (Root t) at po pn is did made =
 home_vacated s setting p h n root (Root y) (Arena t) at po pn is did made = absurd pn
 home_vacated s setting p h n root (Root y) (Cache t) at po pn is did made = absurd pn
 home_vacated s setting p h n root (Root y) (Bin t) at po pn is did made = absurd pn
-home_vacated s setting p h n root (Root y) (Mail t) at po pn is did made = absurd pn
 home_vacated s setting p h n root (Arena y) new at po pn is did made = absurd po
 home_vacated s setting p h n root (Cache y) new at po pn is did made = absurd po
 home_vacated s setting p h n root (Bin y) new at po pn is did made = absurd po
-home_vacated s setting p h n root (Mail y) new at po pn is did made = absurd po
 
 module _ {G : Ghosts Home Noted} (l : Layout) (p : ℕ) (old new : PoolSeat Home G) (section : Section Home)
     (got : GotSection HomeStands l (RootOf p) old new section) (setting : Setting)

@@ -28,12 +28,14 @@ use Rattle.pool_table.specs.Learned.{Enters}
 use Rattle.pool_table.proofs.Weights.{weigh_entry}
 use Rattle.step_law.specs.Settings.{Setting}
 use Rattle.step_law.specs.declared.Told.{Ghosts}
-use Rattle.pool_table.specs.declared.table.PoolSeat.{PoolSeat}
+use Rattle.pool_table.specs.declared.table.PoolSeat.{PoolSeat as TableSeat}
 use Rattle.pool_table.specs.declared.table.Section.{Section}
 use Rattle.pool_table.specs.Seats.{view_of}
 use Rattle.pool_table.specs.Sections.{GotSection}
 use Rattle.shared_pool.specs.declared.home.Home.{Home}
 use Rattle.shared_pool.specs.declared.pool.SharedPool.{SharedPool}
+use Rattle.shared_pool.specs.declared.seat.PoolSeat.{PoolSeat}
+use Rattle.shared_pool.specs.SeatViews.{view_of as seat_view}
 use Rattle.shared_pool.specs.Holding.{HoldsHandle}
 use Rattle.shared_pool.specs.Notes.{popped}
 use Rattle.shared_pool.specs.Standing.{HomeStands, IsBin, IfBin}
@@ -141,7 +143,7 @@ module _ (l : Layout) (lane : ℕ) (v : SeatView) (h : List Noted) (home : Home)
 -- ---- What a seat holds after a pop, and may put down.
 
 -- a handle of the lane whose place is in hand may be put into the bin
-module _ {G : Ghosts Home Noted} (l : Layout) (lane : ℕ) (old new : PoolSeat Home G) (section : Section Home)
+module _ {G : Ghosts Home Noted} (l : Layout) (lane : ℕ) (old new : TableSeat Home G) (section : Section Home)
     (got : GotSection HomeStands l (BinOf lane) old new section) (setting : Setting)
     (known : (view_of old).setting ≡ Some setting) where
   pub homeless : (x : HandleValue) → IsBin section.home → x.lane ≡ lane → x.lane ≡ x.place / l.shape.handles
@@ -155,7 +157,7 @@ module _ {G : Ghosts Home Noted} (l : Layout) (lane : ℕ) (old new : PoolSeat H
         away = away l lane (view_of old) got.history section.home got.learned (places_in b.ready) x.place after has;
       })
 
-module _ {G : Ghosts Home Noted} (pool : SharedPool) (lane : ℕ) (old new last : PoolSeat Home G)
+module _ {G : Ghosts Home Noted} (pool : SharedPool) (lane : ℕ) (old new : TableSeat Home G) (last : PoolSeat)
     (section : Section Home) (got : GotSection HomeStands pool.table.layout (BinOf lane) old new section)
     (setting : Setting) (known : (view_of old).setting ≡ Some setting) where
   abbrev s : Shape
@@ -165,7 +167,7 @@ module _ {G : Ghosts Home Noted} (pool : SharedPool) (lane : ℕ) (old new last 
       → IsHistory s (BinOf lane) (got.history ++ n ∷ []) → IsBin section.home →
       IfSome r (λ h. IfBin section.home (λ b. IsTrue (is_of b.lane b.handles h)))
       → IfBin section.home (λ b. 0 < b.handles) →
-      view_of last ≡ with_entry (view_of old) (At (BinOf lane) number n) turns →
+      seat_view last ≡ with_entry (view_of old) (At (BinOf lane) number n) turns →
       IfSome r (λ h. HoldsHandle pool last h × (h.lane ≡ lane))
   popped_held number turns n None did lt follows bin own some seen = tt
   popped_held number turns n (Some x) did lt follows bin own some seen =

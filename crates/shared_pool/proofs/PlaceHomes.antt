@@ -34,7 +34,7 @@ use Rattle.shared_pool.specs.RootPlaces.{RootState, PlaceState, law_root, law_pl
 use Rattle.shared_pool.specs.PlaceSteps.{MayAccess, Accesses, accessed}
 use Rattle.shared_pool.specs.PlaceStanding.{IsAccessed}
 use Rattle.shared_pool.specs.declared.home.Home.{Home}
-use Rattle.shared_pool.specs.declared.home.Home.TheVariants.{Arena, Cache, Bin, Mail, Root}
+use Rattle.shared_pool.specs.declared.home.Home.TheVariants.{Arena, Cache, Bin, Root}
 use Rattle.shared_pool.specs.Standing.{HomeStands, HasClassLength, IsPlaceAt, IsPlace, IfPlace}
 use Rattle.shared_pool.proofs.PlaceLaws.{same_root-refl}
 use Rattle.shared_pool.proofs.PlaceRecords.{access_in, is_at, accesses_more, watch_same, short}
@@ -45,7 +45,6 @@ pub is_place : (setting : Setting) (h : List Noted) (place handles lanes order p
 is_place setting h place handles lanes order page (Arena a) at = absurd (cc at.measured)
 is_place setting h place handles lanes order page (Cache q) at = absurd (cc at.measured)
 is_place setting h place handles lanes order page (Bin b) at = absurd (cc at.measured)
-is_place setting h place handles lanes order page (Mail m) at = absurd (cc at.measured)
 is_place setting h place handles lanes order page (Root s) at = tt
 
 -- what a root place tells, by its measures
@@ -64,7 +63,6 @@ place_at s setting p h (Root y) at =
 place_at s setting p h (Arena a) at = tt
 place_at s setting p h (Cache q) at = tt
 place_at s setting p h (Bin b) at = tt
-place_at s setting p h (Mail m) at = tt
 
 -- the history of a place has what the place has
 present_told : (p : ℕ) (h : List Noted) (s : PlaceState) → place_after p (noted_dids h) ≡ Some (law_place s)
@@ -178,11 +176,9 @@ home_more measures setting h n access (Root s) (Root t) po pn a is at =
 home_more measures setting h n access (Root s) (Arena t) po pn a is at = absurd pn
 home_more measures setting h n access (Root s) (Cache t) po pn a is at = absurd pn
 home_more measures setting h n access (Root s) (Bin t) po pn a is at = absurd pn
-home_more measures setting h n access (Root s) (Mail t) po pn a is at = absurd pn
 home_more measures setting h n access (Arena s) new po pn a is at = absurd po
 home_more measures setting h n access (Cache s) new po pn a is at = absurd po
 home_more measures setting h n access (Bin s) new po pn a is at = absurd po
-home_more measures setting h n access (Mail s) new po pn a is at = absurd po
 
 pub place_follows : (s : Shape) (setting : Setting) (p : ℕ) (h : List Noted) (n : Noted) (home : Home)
     → IsHistory s (RootOf p) h → IsPlace home →
@@ -198,7 +194,6 @@ place_follows s setting p h n (Root y) t is at right =
 place_follows s setting p h n (Arena a) t is at right = absurd is
 place_follows s setting p h n (Cache q) t is at right = absurd is
 place_follows s setting p h n (Bin b) t is at right = absurd is
-place_follows s setting p h n (Mail m) t is at right = absurd is
 
 -- a section of a root place whose root the seat counts
 module _ {G : Ghosts Home Noted} (l : Layout) (root : RootId) (old new : PoolSeat Home G) (section : Section Home)
@@ -223,7 +218,6 @@ module _ {G : Ghosts Home Noted} (l : Layout) (root : RootId) (old new : PoolSea
       go (Arena a) at = tt
       go (Cache q) at = tt
       go (Bin b) at = tt
-      go (Mail m) at = tt
 
   -- after an access its note follows, and the home value stands for it
   pub next : (after : Section Home) (n : Noted) (access : Access) → after.object ≡ section.object

@@ -1,15 +1,14 @@
 -- A seat that shares moves or accepts them stays a seat of the pool.
-use Rattle.std.proofs.Common.{◌≡◌, ℕ, ◌+◌, ◌-◌, [], sym, ap, ◌∙◌, subst, refl}
-use Rattle.std.specs.Prelude.{Some}
-use Rattle.step_law.specs.declared.Told.{Ghosts}
-use Rattle.pool_law.specs.declared.note.Noted.{Noted}
+use Rattle.std.proofs.Common.{◌≡◌, ℕ, sym, ap, subst, refl}
 use Rattle.pool_table.specs.declared.views.SeatView.{SeatView}
-use Rattle.pool_table.specs.declared.table.PoolSeat.{PoolSeat}
+use Rattle.pool_table.specs.declared.table.PoolSeat.{PoolSeat as TableSeat}
 use Rattle.pool_table.specs.Counts.{CountsOne}
 use Rattle.pool_table.specs.Seats.{view_of, HasView, SameSeat}
 use Rattle.shared_pool.specs.declared.home.Home.{Home}
 use Rattle.shared_pool.specs.declared.pool.SharedPool.{SharedPool}
+use Rattle.shared_pool.specs.declared.seat.PoolSeat.{PoolSeat}
 use Rattle.shared_pool.specs.Seats.{IsPoolSeat}
+use Rattle.shared_pool.proofs.SeatEnds.{seat_spent}
 
 -- the view with another number of moves
 abbrev moved : SeatView → ℕ → SeatView
@@ -19,19 +18,9 @@ counts_same : (v : SeatView) (n : ℕ) → CountsOne v → CountsOne (moved v n)
 counts_same v n counts = record { one = counts.one; ended = counts.ended }
 
 -- all that is asked of a seat of the pool but its moves
-pub still_seat : {G : Ghosts Home Noted} (pool : SharedPool) (old new : PoolSeat Home G) (n : ℕ) → IsPoolSeat pool old
-    → SameSeat old new → HasView new (record (view_of old) { moves = n }) → IsPoolSeat pool new
-still_seat pool old new n seat same has =
-    let view : view_of new ≡ moved (view_of old) n = ap (λ me. me.0) has in record {
-      own = same.0 ∙ seat.own;
-      outside = ((λ i. (view i).inside) ∙ seat.outside.0, ap (λ me. me.1) has);
-      alone = (λ i. (view i).others) ∙ seat.alone;
-      lane = seat.lane;
-      number = (λ i. (view i).own.number) ∙ seat.number;
-      below = seat.below;
-      setting = seat.setting;
-      settled = (λ i. (view i).setting) ∙ seat.settled;
-      arenas = seat.arenas;
-      mails = seat.mails;
-      counts = subst CountsOne (sym view) (counts_same (view_of old) n seat.counts);
-    }
+pub still_seat : (pool : SharedPool) (old : PoolSeat) (last : TableSeat Home _) (n : ℕ) → IsPoolSeat pool old
+    → SameSeat old.seat last → HasView last (moved (view_of old.seat) n) → IsPoolSeat pool (record old { seat = last })
+still_seat pool old last n s same has =
+    let v = view_of old.seat in
+    seat_spent pool old (record old { seat = last }) n v.turns s same refl refl has
+    (subst CountsOne (sym (ap (λ m. m.0) has)) (counts_same v n s.counts))

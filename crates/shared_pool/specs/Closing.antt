@@ -1,8 +1,6 @@
 -- What the parts of all seats are at the close, as logs of lanes.
-use Rattle.std.specs.Prelude.{◌≡◌, ℕ, ◌<◌, List, ◌∷◌, ◌++◌, length, map, Some, None, slice_get}
+use Rattle.std.specs.Prelude.{◌≡◌, ℕ, ◌<◌, List, length, map, Some, None, slice_get}
 use Rattle.pool_law.specs.declared.id.RootId.{RootId}
-use Rattle.pool_law.specs.declared.note.Object.{Object}
-use Rattle.pool_law.specs.declared.note.Did.{Did}
 use Rattle.pool_law.specs.declared.note.Note.{Note}
 use Rattle.pool_law.specs.declared.run.Shape.{Shape}
 use Rattle.pool_law.specs.NotedHistories.{entry_of_noted}
@@ -37,17 +35,6 @@ logs_in parts = map (λ p. map note_of p.notes) parts
 abbrev pub entries_in : List Part → List (List Entry)
 entries_in parts = map (λ p. map entry_of p.notes) parts
 
--- a note that stands after one at an object is numbered above all that stands, in another log,
--- before an earlier note there: so what a lane did before a post has, at each object, a lower
--- number than what the receiver did there after the fetch of it
-abbrev pub IsOrdered : Logs → Type 0
-IsOrdered logs =
-    (lane other : ℕ) (before after early late : List Note)
-    (o p : Object) (j k m n : ℕ) (a b d e : Did) (between beyond : List Note) →
-    of_lane logs lane ≡ before ++ Note.At o k a ∷ (between ++ Note.At p n b ∷ after) →
-    of_lane logs other ≡ early ++ Note.At p m d ∷ (beyond ++ Note.At o j e ∷ late) →
-    j < k → m < n
-
 -- the parts are those of the lanes, in order
 pub record AreLanes (shape : Shape) (parts : List Part) : Type 0 where
   pub many : length parts ≡ shape.lanes
@@ -71,6 +58,5 @@ pub record AreWhole (shape : Shape) (parts : List Part) : Type 0 where
       (of_lane (entries_in parts) lane)
   pub busy : (lane : ℕ) →
       BusyHolds lane (λ object. history_of object (logs_in parts)) (of_lane (logs_in parts) lane)
-  pub order : IsOrdered (logs_in parts)
   -- all steps of all lanes stand in one order, in which each fits those before it
   pub one_order : InOneOrder (logs_in parts)

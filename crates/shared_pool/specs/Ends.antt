@@ -78,7 +78,7 @@ IsPlaceHere _ = ⊥
 
 -- where the first root place stands among the home values
 abbrev pub first_place : Shape → ℕ
-first_place s = s.arenas + s.lanes * lane_homes + s.lanes * s.lanes
+first_place s = s.arenas + s.lanes * lane_homes
 
 -- what is told of the root places with these numbers
 abbrev pub told_from : Shape → List (Option Home) → List ℕ → List ℕ → List LiveRoot

@@ -1,4 +1,7 @@
-pub mod Mails
+pub mod Posting
+pub mod MailEnds
+pub mod Carries
+pub mod SeatViews
 pub mod RootPlaces
 pub mod PlaceViews
 pub mod PlaceSteps
@@ -6,6 +9,7 @@ pub mod Standing
 pub mod SeatLanes
 pub mod Handing
 pub mod Shares
+pub mod Mails
 pub mod Seats
 pub mod Spending
 pub mod Answers
@@ -24,6 +28,7 @@ pub mod Quotas
 pub mod Settling
 pub mod Opening
 pub mod Joining
+pub mod Dealing
 pub mod Rooms
 pub mod Ends
 pub mod Emptying

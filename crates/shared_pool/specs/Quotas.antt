@@ -1,8 +1,8 @@
--- What a seat's own notes say of the caches of its lane, and of its mails.
-use Rattle.std.specs.Prelude.{ℕ, ◌+◌, ◌-◌, Bool, true, false, ◌&&◌, if◌then◌else◌, List, [], ◌∷◌}
+-- What a seat's own notes say of the caches of its lane.
+use Rattle.std.specs.Prelude.{ℕ, ◌-◌, Bool, true, false, ◌&&◌, if◌then◌else◌, List, [], ◌∷◌}
 use Rattle.pool_law.specs.declared.note.Did.{Did}
-use Rattle.pool_law.specs.declared.note.Did.TheVariants.{Trim, Close, Shed, Post}
-use Rattle.pool_law.specs.declared.note.Object.TheVariants.{Cache, Mail}
+use Rattle.pool_law.specs.declared.note.Did.TheVariants.{Trim, Close, Shed}
+use Rattle.pool_law.specs.declared.note.Object.TheVariants.{Cache}
 use Rattle.pool_law.specs.Same.{same_object}
 use Rattle.pool_table.specs.declared.views.Entry.{Entry}
 use Rattle.pool_table.specs.declared.views.Entry.TheVariants.{At, Ref, Busy}
@@ -40,17 +40,3 @@ has_closed lane class (At object number noted ∷ es) =
     else has_closed lane class es
 has_closed lane class (Ref root did ∷ es) = has_closed lane class es
 has_closed lane class (Busy held ∷ es) = has_closed lane class es
-
--- a note is a post
-abbrev pub is_post : Did → Bool
-is_post (Post parcel) = true
-is_post _ = false
-
--- how many parcels the seat posted from one lane to another
-abbrev pub posts : ℕ → ℕ → List Entry → ℕ
-posts sender receiver [] = 0
-posts sender receiver (At object number noted ∷ es) =
-    (if same_object object (Mail sender receiver) && is_post noted.did then 1 else 0)
-    + posts sender receiver es
-posts sender receiver (Ref root did ∷ es) = posts sender receiver es
-posts sender receiver (Busy held ∷ es) = posts sender receiver es

@@ -1,6 +1,5 @@
 -- The notes of the calls on a root place, and what they leave in a seat's hands.
 use Rattle.std.specs.Prelude.{◌≡◌, ℕ, ◌+◌, ◌-◌, List, [], ◌∷◌, ◌++◌, length, Option, Some, None}
-use Rattle.step_law.specs.declared.Told.{Ghosts}
 use Rattle.pool_law.specs.declared.id.RootId.{RootId}
 use Rattle.pool_law.specs.declared.id.RegionId.{RegionId}
 use Rattle.pool_law.specs.declared.note.Did.{Did}
@@ -11,14 +10,13 @@ use Rattle.pool_law.specs.declared.report.Watch.{Watch}
 use Rattle.pool_law.specs.Naming.{noted_by}
 use Rattle.table_law.specs.Histories.{IsHistory}
 use Rattle.pool_table.specs.declared.roots.EndToken.{EndToken}
-use Rattle.pool_table.specs.declared.table.PoolSeat.{PoolSeat}
+use Rattle.shared_pool.specs.declared.seat.PoolSeat.{PoolSeat}
 use Rattle.pool_table.specs.declared.views.Entry.TheVariants.{At}
 use Rattle.pool_table.specs.Views.{with_entry}
 use Rattle.pool_table.specs.Counts.{with_ref, HasToken}
 use Rattle.pool_table.specs.Hands.{HasNoEnd}
 use Rattle.pool_table.specs.Numbers.{IsAbove}
-use Rattle.pool_table.specs.Seats.{view_of, HasView}
-use Rattle.shared_pool.specs.declared.home.Home.{Home}
+use Rattle.shared_pool.specs.SeatViews.{view_of, HasView}
 use Rattle.shared_pool.specs.declared.pool.SharedPool.{SharedPool}
 use Rattle.shared_pool.specs.declared.went.Release.{Release}
 use Rattle.shared_pool.specs.declared.went.Release.TheVariants.{Kept, Ended}
@@ -44,30 +42,29 @@ abbrev pub end_of : RootId → RegionId → Noted
 end_of root region =
     record { did = Did.End root; lane = None; watch = None; root = None; region = Some region }
 
-module _ {G : Ghosts Home Noted} where
-  -- the call made this note at the root's place, as the next after a history that the place
-  -- accepts, and then this step on its word
-  pub record IsNotedWith
-      (pool : SharedPool) (old new : PoolSeat Home G) (root : RootId) (number : ℕ) (n : Noted)
-      (step : RefDid) (moves : ℕ) : Type 0 where
-    pub history : List Noted
-    pub number_is : number ≡ length history + 1
-    pub accepted : IsHistory pool.table.layout.shape (Object.Root root.place)
-        (history ++ noted_by (view_of old).own.number n ∷ [])
-    pub above : IsAbove (Object.Root root.place) number (view_of old).own.notes
-    pub seat : let v = view_of old in
-        let note = At (Object.Root root.place) number (noted_by v.own.number n) in
-        HasView new (with_ref (with_entry v note (v.turns - 1)) root step moves)
+-- the call made this note at the root's place, as the next after a history that the place
+-- accepts, and then this step on its word
+pub record IsNotedWith
+    (pool : SharedPool) (old new : PoolSeat) (root : RootId) (number : ℕ) (n : Noted)
+    (step : RefDid) (moves : ℕ) : Type 0 where
+  pub history : List Noted
+  pub number_is : number ≡ length history + 1
+  pub accepted : IsHistory pool.table.layout.shape (Object.Root root.place)
+      (history ++ noted_by (view_of old).own.number n ∷ [])
+  pub above : IsAbove (Object.Root root.place) number (view_of old).own.notes
+  pub seat : let v = view_of old in
+      let note = At (Object.Root root.place) number (noted_by v.own.number n) in
+      HasView new (with_ref (with_entry v note (v.turns - 1)) root step moves)
 
-  -- the seat has the token of a root whose end it hasn't noted
-  pub record HoldsToken (s : PoolSeat Home G) (token : EndToken) : Type 0 where
-    pub token_is : HasToken token.root (view_of s)
-    pub no_end : HasNoEnd token.root (view_of s)
+-- the seat has the token of a root whose end it hasn't noted
+pub record HoldsToken (s : PoolSeat) (token : EndToken) : Type 0 where
+  pub token_is : HasToken token.root (view_of s)
+  pub no_end : HasNoEnd token.root (view_of s)
 
-  -- what a release made, by its answer
-  abbrev pub IsReleasedAs : Release → RootId → PoolSeat Home G → PoolSeat Home G → Type 0
-  IsReleasedAs Kept root old new =
-      HasView new (with_ref (view_of old) root RefDid.Kept ((view_of old).moves + 1))
-  IsReleasedAs (Ended token) root old new =
-      (token.root ≡ root) × HoldsToken new token
-      × HasView new (with_ref (view_of old) root RefDid.Ended (view_of old).moves)
+-- what a release made, by its answer
+abbrev pub IsReleasedAs : Release → RootId → PoolSeat → PoolSeat → Type 0
+IsReleasedAs Kept root old new =
+    HasView new (with_ref (view_of old) root RefDid.Kept ((view_of old).moves + 1))
+IsReleasedAs (Ended token) root old new =
+    (token.root ≡ root) × HoldsToken new token
+    × HasView new (with_ref (view_of old) root RefDid.Ended (view_of old).moves)

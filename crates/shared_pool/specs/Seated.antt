@@ -1,16 +1,13 @@
 -- The seats with which a pool is closed.
 use Rattle.std.specs.Prelude.{◌≡◌, ℕ, ◌<◌, List, length, map, Some, HoldsAt}
-use Rattle.step_law.specs.declared.Told.{Ghosts}
 use Rattle.pool_law.specs.declared.id.RootId.{RootId}
 use Rattle.pool_law.specs.declared.id.RegionId.{RegionId}
-use Rattle.pool_law.specs.declared.note.Noted.{Noted}
 use Rattle.pool_table.specs.declared.views.Part.{Part}
 use Rattle.pool_table.specs.declared.views.SeatView.{SeatView}
-use Rattle.pool_table.specs.declared.table.PoolSeat.{PoolSeat}
+use Rattle.shared_pool.specs.declared.seat.PoolSeat.{PoolSeat}
 use Rattle.pool_table.specs.Counts.{HasToken}
 use Rattle.pool_table.specs.Hands.{HasTaking}
-use Rattle.pool_table.specs.Seats.{view_of}
-use Rattle.shared_pool.specs.declared.home.Home.{Home}
+use Rattle.shared_pool.specs.SeatViews.{view_of}
 use Rattle.shared_pool.specs.declared.pool.SharedPool.{SharedPool}
 use Rattle.shared_pool.specs.Closing.{HasNoPlace}
 use Rattle.shared_pool.specs.Seats.{IsPoolSeat}
@@ -21,19 +18,18 @@ pub record HasNothing (v : SeatView) : Type 0 where
   pub place : HasNoPlace v
   pub token : (root : RootId) → HasToken root v → ⊥
 
-module _ {G : Ghosts Home Noted} where
-  -- the seat of this lane, with nothing in hand
-  pub record IsDone (pool : SharedPool) (lane : ℕ) (s : PoolSeat Home G) : Type 0 where
-    pub seat : IsPoolSeat pool s
-    pub number : (view_of s).own.number ≡ Some lane
-    pub nothing : HasNothing (view_of s)
+-- the seat of this lane, with nothing in hand
+pub record IsDone (pool : SharedPool) (lane : ℕ) (s : PoolSeat) : Type 0 where
+  pub seat : IsPoolSeat pool s
+  pub number : (view_of s).own.number ≡ Some lane
+  pub nothing : HasNothing (view_of s)
 
-  -- the seats of all lanes, in order, with nothing in hand
-  pub record AreDone (pool : SharedPool) (seats : List (PoolSeat Home G)) : Type 0 where
-    pub many : length seats ≡ pool.table.layout.shape.lanes
-    pub each : (lane : ℕ) → lane < pool.table.layout.shape.lanes →
-        HoldsAt (IsDone pool lane) seats lane
+-- the seats of all lanes, in order, with nothing in hand
+pub record AreDone (pool : SharedPool) (seats : List PoolSeat) : Type 0 where
+  pub many : length seats ≡ pool.table.layout.shape.lanes
+  pub each : (lane : ℕ) → lane < pool.table.layout.shape.lanes →
+      HoldsAt (IsDone pool lane) seats lane
 
-  -- the notes that each of them made
-  abbrev pub parts_in : List (PoolSeat Home G) → List Part
-  parts_in seats = map (λ s. (view_of s).own) seats
+-- the notes that each of them made
+abbrev pub parts_in : List PoolSeat → List Part
+parts_in seats = map (λ s. (view_of s).own) seats

@@ -1,9 +1,8 @@
 -- Of which pool a share is.
-use Rattle.std.specs.Mem.{manually_drop_value}
 use Rattle.pool_table.specs.Seats.{IsSeatOf}
 use Rattle.shared_pool.specs.declared.pool.SharedPool.{SharedPool}
 use Rattle.shared_pool.specs.declared.share.Share.{Share}
 
 -- the share is of this pool
 abbrev pub IsShareOf : SharedPool → Share → Type 0
-IsShareOf pool s = IsSeatOf pool.table (manually_drop_value s.seat)
+IsShareOf pool s = IsSeatOf pool.table s.seat

@@ -1,22 +1,20 @@
 -- When a home value stands for the history of its object.
-use Rattle.std.specs.Prelude.{◌≡◌, ℕ, ◌+◌, ◌*◌, ◌<◌, ⊤, List, [], ◌∷◌, ◌++◌, length, Some, IfSome, All, slice_get}
+use Rattle.std.specs.Prelude.{◌≡◌, ℕ, ◌+◌, ◌*◌, ◌<◌, ⊤, List, [], ◌∷◌, ◌++◌, length, IfSome, All}
 use Rattle.step_law.specs.Settings.{Setting}
 use Rattle.pool_law.specs.declared.id.RegionId.{RegionId}
 use Rattle.pool_law.specs.declared.note.Did.{Did}
 use Rattle.pool_law.specs.declared.note.Noted.{Noted}
 use Rattle.size_classes.specs.Sizes.{of_pages, class_count, size_at}
 use Rattle.pool_law.specs.Limits.{cache_capacity}
-use Rattle.pool_law.specs.Views.{IsView}
 use Rattle.pool_arena.specs.ArenaStates.{ArenaState}
 use Rattle.pool_arena.specs.Standing.{StandsFor as ArenaStandsFor}
 use Rattle.region_cache.specs.Queues.{Queue}
 use Rattle.region_cache.specs.Standing.{StandsFor as CacheStandsFor}
 use Rattle.handle_bin.specs.Bins.{BinValue}
 use Rattle.handle_bin.specs.Standing.{StandsFor as BinStandsFor}
-use Rattle.shared_pool.specs.Mails.{MailState, MailStandsFor}
 use Rattle.shared_pool.specs.RootPlaces.{PlaceState, PlaceStandsFor}
 use Rattle.shared_pool.specs.declared.home.Home.{Home}
-use Rattle.shared_pool.specs.declared.home.Home.TheVariants.{Arena, Cache, Bin, Mail, Root}
+use Rattle.shared_pool.specs.declared.home.Home.TheVariants.{Arena, Cache, Bin, Root}
 
 -- the arena of these measures, and its history
 pub record IsArenaAt
@@ -45,17 +43,6 @@ pub record IsBinAt
   pub measured : measures ≡ 2 ∷ b.lane ∷ b.handles ∷ []
   pub stands : BinStandsFor setting.grounds h b
 
--- the mail of two lanes, with room for the posts of that pair
-pub record IsMailAt
-    (measures : List ℕ) (setting : Setting) (h : List Noted) (m : MailState) : Type 0 where
-  pub sender : ℕ
-  pub receiver : ℕ
-  pub lanes : ℕ
-  pub measured : measures ≡ 3 ∷ sender ∷ receiver ∷ lanes ∷ []
-  pub room : slice_get setting.mail (sender * lanes + receiver) ≡ Some m.room
-  pub stands : MailStandsFor sender h m
-  pub views : All (λ p. IfSome p.view IsView) m.parcels
-
 -- a root place
 pub record IsPlaceAt
     (measures : List ℕ) (setting : Setting) (h : List Noted) (s : PlaceState) : Type 0 where
@@ -74,7 +61,6 @@ abbrev pub HomeStands : List ℕ → Setting → List Noted → Home → Type 0
 HomeStands measures setting h (Arena a) = IsArenaAt measures setting h a.value
 HomeStands measures setting h (Cache q) = IsCacheAt measures setting h q.value
 HomeStands measures setting h (Bin b) = IsBinAt measures setting h b.value
-HomeStands measures setting h (Mail m) = IsMailAt measures setting h m.value
 HomeStands measures setting h (Root s) = IsPlaceAt measures setting h s.value
 
 -- which home value it is
@@ -103,17 +89,9 @@ abbrev pub IfArena : Home → (ArenaState → Type 0) → Type 0
 IfArena (Arena a) P = P a.value
 IfArena _ P = ⊤
 
-abbrev pub IfMail : Home → (MailState → Type 0) → Type 0
-IfMail (Mail m) P = P m.value
-IfMail _ P = ⊤
-
 abbrev pub IfPlace : Home → (PlaceState → Type 0) → Type 0
 IfPlace (Root s) P = P s.value
 IfPlace _ P = ⊤
-
-abbrev pub IsMail : Home → Type 0
-IsMail (Mail m) = ⊤
-IsMail _ = ⊥
 
 abbrev pub IsPlace : Home → Type 0
 IsPlace (Root s) = ⊤

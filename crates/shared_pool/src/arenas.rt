@@ -7,7 +7,7 @@ ghost use Rattle.pool_law.specs.declared.note.Object.TheVariants.{Arena};
 ghost use Rattle.pool_law.specs.Limits.{geometry_of};
 ghost use Rattle.pool_arena.specs.ArenaStates.{IsOutOf, IsInPlaceAt, IsInPlaceUnder, Gives};
 ghost use Rattle.pool_arena.specs.Standing.{taken_or_full};
-ghost use Rattle.pool_table.specs.Seats.{view_of, SameSeat};
+ghost use Rattle.shared_pool.specs.SeatViews.{view_of, SameSeat};
 ghost use Rattle.shared_pool.specs.Answers.{IfDid, IfHeld};
 ghost use Rattle.shared_pool.specs.Holding.{HoldsRegion};
 ghost use Rattle.shared_pool.specs.Notes.{plain};
@@ -16,7 +16,9 @@ ghost use Rattle.shared_pool.specs.Seats.{IsPoolSeat, IsNoted, FoundBusy};
 ghost use Rattle.shared_pool.specs.Standing.{IsArena, IfArena, HasClassLength, StandsMore};
 
 use crate::home::Home;
-use crate::pool::{PoolSeat, SharedPool, lane_of, note, noted};
+use crate::noting::{lane_of, note, noted};
+use crate::pool::SharedPool;
+use crate::seat::PoolSeat;
 use crate::went::Went;
 use pool_law::{Did, Object, Region};
 use pool_table::Section;
@@ -44,13 +46,13 @@ impl SharedPool {
     {
         let lane = lane_of(seat);
         let object = Object::Arena(lane % self.layout.shape.arenas);
-        let mut section = match self.table.claim(seat, object, false) {
+        let mut section = match self.table.claim(&mut seat.seat, object, false) {
             Ok(section) => section,
             Err(held) => return Went::Held(held, ()),
         };
         let region = take(&mut section, class, lane);
         let noted = noted(taken(class, &region));
-        let number = note::<Brand>(&self.table, seat, section, &noted);
+        let number = note::<Brand>(&self.table, &mut seat.seat, section, &noted);
         Went::Did(number, region)
     }
 
@@ -68,13 +70,16 @@ impl SharedPool {
             × FoundBusy self.now (Arena region.id.place.arena) false seat.old seat.new held) }
     {
         let id = region.id;
-        let mut section = match self.table.claim(seat, Object::Arena(id.place.arena), false) {
+        let mut section = match self
+            .table
+            .claim(&mut seat.seat, Object::Arena(id.place.arena), false)
+        {
             Ok(section) => section,
             Err(held) => return Went::Held(held, region),
         };
         give(&mut section, region);
         let noted = noted(Did::Give(id));
-        let number = note::<Brand>(&self.table, seat, section, &noted);
+        let number = note::<Brand>(&self.table, &mut seat.seat, section, &noted);
         Went::Did(number, ())
     }
 }

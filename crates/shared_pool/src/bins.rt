@@ -3,7 +3,7 @@
 ghost use Rattle.std.specs.Prelude.{◌≡◌, ◌<◌, false, IfSome, IsTrue};
 ghost use Rattle.pool_law.specs.declared.note.Did.{Did};
 ghost use Rattle.pool_law.specs.declared.note.Object.TheVariants.{Bin};
-ghost use Rattle.pool_table.specs.Seats.{view_of, SameSeat};
+ghost use Rattle.shared_pool.specs.SeatViews.{view_of, SameSeat};
 ghost use Rattle.shared_pool.specs.Holding.{HoldsHandle};
 ghost use Rattle.shared_pool.specs.Seats.{IsPoolSeat, IsNoted, FoundBusy};
 ghost use Rattle.shared_pool.specs.SeatLanes.{lane_of};
@@ -13,7 +13,9 @@ ghost use Rattle.shared_pool.specs.Standing.{IsBin, IfBin, StandsMore};
 ghost use Rattle.handle_bin.specs.Bins.{IsHomeless, is_of};
 
 use crate::home::Home;
-use crate::pool::{PoolSeat, SharedPool, lane_of, note, noted};
+use crate::noting::{lane_of, note, noted};
+use crate::pool::SharedPool;
+use crate::seat::PoolSeat;
 use crate::went::Went;
 use handle_bin::Handle;
 use pool_law::{Did, Object};
@@ -36,13 +38,13 @@ impl SharedPool {
             FoundBusy self.now (Bin (lane_of seat.old)) false seat.old seat.new held) }
     {
         let lane = lane_of(seat);
-        let mut section = match self.table.claim(seat, Object::Bin(lane), false) {
+        let mut section = match self.table.claim(&mut seat.seat, Object::Bin(lane), false) {
             Ok(section) => section,
             Err(held) => return Went::Held(held, ()),
         };
         let handle = pop(&mut section);
         let noted = noted(taken(&handle));
-        let number = note::<Brand>(&self.table, seat, section, &noted);
+        let number = note::<Brand>(&self.table, &mut seat.seat, section, &noted);
         Went::Did(number, handle)
     }
 
@@ -60,13 +62,16 @@ impl SharedPool {
         ensures held { IfHeld result (λ held back. (back ≡ handle)
             × FoundBusy self.now (Bin handle.lane) false seat.old seat.new held) }
     {
-        let mut section = match self.table.claim(seat, Object::Bin(handle.lane()), false) {
+        let mut section = match self
+            .table
+            .claim(&mut seat.seat, Object::Bin(handle.lane()), false)
+        {
             Ok(section) => section,
             Err(held) => return Went::Held(held, handle),
         };
         let noted = noted(Did::Home(handle.place()));
         put(&mut section, handle);
-        let number = note::<Brand>(&self.table, seat, section, &noted);
+        let number = note::<Brand>(&self.table, &mut seat.seat, section, &noted);
         Went::Did(number, ())
     }
 }

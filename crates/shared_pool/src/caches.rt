@@ -4,7 +4,7 @@ ghost use Rattle.std.specs.Prelude.{◌≡◌, ◌+◌, ◌<◌, ◌≤◌, true
 ghost use Rattle.pool_law.specs.declared.note.Did.{Did};
 ghost use Rattle.pool_law.specs.declared.note.Object.TheVariants.{Cache};
 ghost use Rattle.pool_law.specs.Limits.{cached_classes};
-ghost use Rattle.pool_table.specs.Seats.{view_of, SameSeat};
+ghost use Rattle.shared_pool.specs.SeatViews.{view_of, SameSeat};
 ghost use Rattle.pool_table.specs.Learned.{in_own, takes_of, gives_of};
 ghost use Rattle.shared_pool.specs.Answers.{IfDid, IfHeld};
 ghost use Rattle.shared_pool.specs.CacheAnswers.{was_put, IfBack, WasInPlace, StandsMoreWith};
@@ -16,7 +16,9 @@ ghost use Rattle.shared_pool.specs.Seats.{IsPoolSeat, IsNoted, FoundBusy};
 ghost use Rattle.shared_pool.specs.Standing.{IsCache, IfCache, StandsMore};
 
 use crate::home::Home;
-use crate::pool::{PoolSeat, SharedPool, lane_of, note, noted};
+use crate::noting::{lane_of, note, noted};
+use crate::pool::SharedPool;
+use crate::seat::PoolSeat;
 use crate::went::{Put, Went};
 use pool_law::{Did, Object, Region, RegionId};
 use pool_table::Section;
@@ -45,13 +47,13 @@ impl SharedPool {
             lane: lane_of(seat),
             class,
         };
-        let mut section = match self.table.claim(seat, object, true) {
+        let mut section = match self.table.claim(&mut seat.seat, object, true) {
             Ok(section) => section,
             Err(held) => return Went::Held(held, ()),
         };
         let region = pop(&mut section);
         let noted = noted(popped(&region));
-        let number = note::<Brand>(&self.table, seat, section, &noted);
+        let number = note::<Brand>(&self.table, &mut seat.seat, section, &noted);
         Went::Did(number, region)
     }
 
@@ -78,13 +80,13 @@ impl SharedPool {
             lane: id.owner,
             class: id.class,
         };
-        let mut section = match self.table.claim(seat, home, true) {
+        let mut section = match self.table.claim(&mut seat.seat, home, true) {
             Ok(section) => section,
             Err(held) => return Went::Held(held, region),
         };
         let put = put(&mut section, region);
         let noted = noted(answered(id, &put));
-        let number = note::<Brand>(&self.table, seat, section, &noted);
+        let number = note::<Brand>(&self.table, &mut seat.seat, section, &noted);
         Went::Did(number, put)
     }
 
@@ -110,13 +112,13 @@ impl SharedPool {
             lane: lane_of(seat),
             class,
         };
-        let mut section = match self.table.claim(seat, object, false) {
+        let mut section = match self.table.claim(&mut seat.seat, object, false) {
             Ok(section) => section,
             Err(held) => return Went::Held(held, ()),
         };
         let quota = trim(&mut section);
         let noted = noted(Did::Trim(quota));
-        let number = note::<Brand>(&self.table, seat, section, &noted);
+        let number = note::<Brand>(&self.table, &mut seat.seat, section, &noted);
         Went::Did(number, quota)
     }
 
@@ -143,13 +145,13 @@ impl SharedPool {
             lane: lane_of(seat),
             class,
         };
-        let mut section = match self.table.claim(seat, object, false) {
+        let mut section = match self.table.claim(&mut seat.seat, object, false) {
             Ok(section) => section,
             Err(held) => return Went::Held(held, ()),
         };
         let quota = close(&mut section);
         let noted = noted(Did::Close(quota));
-        let number = note::<Brand>(&self.table, seat, section, &noted);
+        let number = note::<Brand>(&self.table, &mut seat.seat, section, &noted);
         Went::Did(number, quota)
     }
 
@@ -174,13 +176,13 @@ impl SharedPool {
             lane: lane_of(seat),
             class,
         };
-        let mut section = match self.table.claim(seat, cache, false) {
+        let mut section = match self.table.claim(&mut seat.seat, cache, false) {
             Ok(section) => section,
             Err(held) => return Went::Held(held, ()),
         };
         let region = shed(&mut section);
         let noted = noted(Did::Shed(region.id));
-        let number = note::<Brand>(&self.table, seat, section, &noted);
+        let number = note::<Brand>(&self.table, &mut seat.seat, section, &noted);
         Went::Did(number, region)
     }
 }

@@ -1,12 +1,12 @@
 //! How a pool ends: closed, with what stands then, or abandoned.
 
-ghost use Rattle.std.specs.Prelude.{◌≡◌, ◌*◌, ◌<◌, ◌≤◌, ℕ, List, length, All, IfErr, IfOk};
+ghost use Rattle.std.specs.Prelude.{◌≡◌, ◌*◌, ◌<◌, ◌≤◌, length, map, All, IfErr, IfOk};
 ghost use Rattle.size_classes.specs.Sizes.{below};
 ghost use Rattle.pool_law.specs.Legal.{ends_from};
 ghost use Rattle.pool_table.specs.Views.{parts_of};
 ghost use Rattle.pool_table.specs.Seats.{view_of, IsSeatOf, IsOutside};
 ghost use Rattle.shared_pool.specs.Closing.{AreWhole, logs_in};
-ghost use Rattle.shared_pool.specs.Joining.{AreApart, IsSettled};
+ghost use Rattle.shared_pool.specs.Joining.{AreApart, IsSettled, HasFetches, AreFetchesOf, IsFetchesOf};
 ghost use Rattle.shared_pool.specs.Live.{AreLiveRoots};
 ghost use Rattle.shared_pool.specs.Seated.{AreDone, parts_in};
 ghost use Rattle.shared_pool.specs.Seats.{IsPoolSeat};
@@ -15,23 +15,30 @@ use crate::emptying::close_arenas;
 use crate::home::Home;
 use crate::last_chunks::chunk_ends;
 use crate::live_roots::live_roots;
-use crate::pool::{PoolSeat, SharedPool};
+use crate::mail::Mail;
+use crate::pool::SharedPool;
+use crate::queue::{MailPass, pop};
 use crate::room::Room;
+use crate::seat::{PoolSeat, TableSeat};
 use crate::went::PoolEnd;
+use pool_law::Shape;
 use pool_law::list::Items;
 use pool_table::PoolTable;
 use std::alloc::Global;
 use std::mem::ManuallyDrop;
+use std::sync::Wait;
 
 impl SharedPool {
     /// Closes the pool with the seats of all lanes, in order, which have nothing in hand, and tells
     /// what stands then: the chunks that are in a list, and the sampled roots that are live.
     ///
     /// It takes its memory first. After want of memory the pool and the seats come back as they
-    /// were. Else what caches and live roots still have goes back to the arenas, which give the
-    /// memory of all chunks back.
-    pub fn close(
+    /// were. Else the letters that nobody fetched are taken out of the mails, and stay unfetched:
+    /// the roots that they count are live. What caches and live roots still have goes back to the
+    /// arenas, which give the memory of all chunks back.
+    pub fn close<W: Wait>(
         self,
+        rt: &W,
         alloc: Global,
         seats: Vec<PoolSeat>,
     ) -> Result<PoolEnd, (SharedPool, Vec<PoolSeat>)>
@@ -46,8 +53,12 @@ impl SharedPool {
         let Ok(room) = Room::reserve(alloc, &self.layout.shape) else {
             return Err((self, seats));
         };
-        let SharedPool { table, layout } = self;
-        let seat = joined(&table, seats);
+        let SharedPool {
+            table,
+            mails,
+            layout,
+        } = self;
+        let seat = joined(rt, &table, &mails, &layout.shape, seats);
         let (mut homes, words) = table.close_with(seat);
         let Room {
             chunks,
@@ -73,22 +84,70 @@ impl SharedPool {
     }
 }
 
-// The seat that has the parts of all of these, in order.
-fn joined(table: &PoolTable<Home>, mut seats: Vec<PoolSeat>) -> PoolSeat
+// The seat of the table that has the parts of all of these, in order.
+fn joined<W: Wait>(
+    rt: &W,
+    table: &PoolTable<Home>,
+    mails: &[Mail],
+    shape: &Shape,
+    mut seats: Vec<PoolSeat>,
+) -> TableSeat
     requires some_seat { 0 < length seats.items }
-    requires apart { AreApart table.now seats.items }
+    requires apart { AreApart table.now (map (λ s. s.seat) seats.items) }
+    requires ends { All (HasFetches mails.now shape.now) seats.items }
     ensures own { IsSeatOf table.now result }
     ensures outside { IsOutside result }
     ensures settled { IsSettled table.now result }
     ensures parts { parts_of (view_of result) ≡ parts_in seats.items }
 {
     seats.as_mut_slice().reverse();
-    let Some(mut whole) = seats.pop() else {
+    let Some(first) = seats.pop() else {
         unreachable!()
     };
+    let mut whole = bare(rt, mails, shape, first);
     while let Some(seat) = seats.pop() {
+        let seat = bare(rt, mails, shape, seat);
         table.join(&mut whole, seat);
     }
     seats.destroy_empty();
     whole
+}
+
+// The table's seat of a lane, whose mails are emptied.
+fn bare<W: Wait>(rt: &W, mails: &[Mail], shape: &Shape, seat: PoolSeat) -> TableSeat
+    requires ends { HasFetches mails.now shape.now seat }
+    ensures { result ≡ seat.seat }
+{
+    let PoolSeat {
+        seat,
+        posts: _,
+        fetches,
+    } = seat;
+    let Some(lane) = seat.number() else {
+        unreachable!()
+    };
+    empty_all(rt, mails, shape.lanes, lane, fetches);
+    seat
+}
+
+// Takes the letters out of all mails to a lane, with its ends of them.
+fn empty_all<W: Wait>(rt: &W, mails: &[Mail], lanes: u32, lane: u32, mut ends: Vec<MailPass>)
+    requires lanes { lane < lanes × (lanes ≤ 16) }
+    requires many { length mails.now ≡ lanes * lanes }
+    requires ends { AreFetchesOf mails.now lanes lane ends.items }
+{
+    for from in 0..lanes {
+        empty(
+            rt,
+            &mails[(from * lanes + lane) as usize],
+            &mut ends[from as usize],
+        );
+    }
+}
+
+// Takes the letters out of a mail. They stay unfetched.
+fn empty<W: Wait>(rt: &W, mail: &Mail, pass: &mut MailPass)
+    requires end { IsFetchesOf mail.now pass.old }
+{
+    while let Some(_letter) = pop(rt, &mail.queue, pass) {}
 }

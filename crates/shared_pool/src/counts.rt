@@ -3,11 +3,12 @@
 ghost use Rattle.std.specs.Prelude.{◌≡◌, ◌-◌, ◌<◌};
 ghost use Rattle.pool_law.specs.declared.note.RefDid.TheVariants.{Retain, Look};
 ghost use Rattle.pool_table.specs.Counts.{HasCount, with_ref};
-ghost use Rattle.pool_table.specs.Seats.{view_of, HasView, SameSeat};
+ghost use Rattle.shared_pool.specs.SeatViews.{view_of, HasView, SameSeat};
 ghost use Rattle.shared_pool.specs.RootNotes.{IsReleasedAs};
 ghost use Rattle.shared_pool.specs.Seats.{IsPoolSeat};
 
-use crate::pool::{PoolSeat, SharedPool};
+use crate::pool::SharedPool;
+use crate::seat::PoolSeat;
 use crate::went::Release;
 use pool_law::RootId;
 use pool_table::Dropped;
@@ -23,7 +24,7 @@ impl SharedPool {
         ensures did { let v = view_of seat.old in
             HasView seat.new (with_ref v root Retain (v.moves - 1)) }
     {
-        self.table.retain(seat, root);
+        self.table.retain(&mut seat.seat, root);
     }
 
     /// One count less of a root that the seat counts. Ended comes exactly where it was the last
@@ -36,7 +37,7 @@ impl SharedPool {
         ensures seat { IsPoolSeat self.now seat.new }
         ensures did { IsReleasedAs result root seat.old seat.new }
     {
-        match self.table.release(seat, root) {
+        match self.table.release(&mut seat.seat, root) {
             Dropped::Kept => Release::Kept,
             Dropped::Ended(token) => Release::Ended(token),
         }
@@ -52,6 +53,6 @@ impl SharedPool {
         ensures did { let v = view_of seat.old in
             HasView seat.new (with_ref v root (Look result) v.moves) }
     {
-        self.table.look(seat, root)
+        self.table.look(&mut seat.seat, root)
     }
 }

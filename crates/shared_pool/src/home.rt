@@ -1,6 +1,5 @@
 //! What stands at each object of a pool.
 
-use crate::mail::Mail;
 use crate::root_place::RootPlace;
 use handle_bin::Bin;
 use pool_arena::Arena;
@@ -12,6 +11,5 @@ pub enum Home {
     Arena(Box<Arena>),
     Cache(Box<Cache>),
     Bin(Box<Bin>),
-    Mail(Box<Mail>),
     Root(Box<RootPlace>),
 }

@@ -57,7 +57,7 @@ fn first_place(shape: &Shape) -> usize
     ensures { result ≡ first_place shape.now }
 {
     let lanes = shape.lanes as usize;
-    shape.arenas as usize + lanes * (CACHED_CLASSES as usize + 1) + lanes * lanes
+    shape.arenas as usize + lanes * (CACHED_CLASSES as usize + 1)
 }
 
 // The count in the word of a root's count.

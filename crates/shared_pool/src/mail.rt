@@ -1,53 +1,30 @@
 //! The mail from one lane to another.
 
-ghost use Rattle.std.specs.Prelude.{◌≡◌, ◌<◌, ◌∷◌, ◌++◌, [], length, IfOk, IfSome, IfNone};
+ghost use Rattle.std.specs.Prelude.{◌≡◌, ◌≤◌, IfOk};
+ghost use Rattle.crossbeam_queue.specs.Passes.{view, IsPassOf, ruled_capacity};
+ghost use Rattle.shared_pool.specs.MailEnds.{no_ends};
 
-use circular_buffer::HeapCircularBuffer;
-use pool_law::Parcel;
+use crate::queue::{MailPass, Queue, new_queue};
 use std::alloc::{AllocError, Global};
-use std::marker::Model;
 
-/// Parcels that were posted and not fetched yet, first in, first out.
+/// The mail from one lane to another: parcels that were posted and not fetched yet, first in, first
+/// out.
 #[derive(Drop)]
 pub struct Mail {
-    parcels: HeapCircularBuffer<Parcel>,
-}
-
-impl Model for Mail {
-    ghost use Rattle.shared_pool.specs.Mails.{MailState};
-
-    ghost Value = { MailState };
-
-    ghost view = { λ m. record { parcels = m.parcels.items; room = m.parcels.capacity } };
+    pub(crate) queue: Queue,
+    /// How many parcels are posted there in all. Where there is no room, the pool's `post` and
+    /// `fetch` aren't used between the two lanes, and `send` and `receive` may be.
+    pub(crate) room: u32,
+    ghost capacity: { room ≤ ruled_capacity queue },
 }
 
 impl Mail {
-    ghost use Rattle.shared_pool.specs.Mails.{new_mail, with_parcels};
-
-    /// An empty mail with room for so many parcels. All memory is taken here.
-    pub(crate) fn new(alloc: Global, room: u32) -> Result<Mail, AllocError>
-        ensures { IfOk result (λ mail. mail ≡ new_mail room) }
+    // An empty mail with this room, and its first pass. All memory is taken here.
+    pub(crate) fn new(alloc: Global, room: u32) -> Result<(Mail, MailPass), AllocError>
+        ensures { IfOk result (λ r. (r.0.room ≡ room)
+            × IsPassOf r.0.queue r.1 × (view r.1 ≡ no_ends)) }
     {
-        let parcels = HeapCircularBuffer::with_capacity(alloc, room as usize)?;
-        Ok(Mail { parcels })
-    }
-
-    /// Puts a parcel behind the others.
-    pub(crate) fn post(&mut self, parcel: Parcel)
-        requires { length self.old.parcels < self.old.room }
-        ensures { self.new ≡ with_parcels self.old (self.old.parcels ++ parcel ∷ []) }
-    {
-        let posted = self.parcels.try_push_back(parcel);
-        let Ok(()) = posted else { unreachable!() };
-    }
-
-    /// Takes the front parcel. None comes exactly where there is none.
-    pub(crate) fn fetch(&mut self) -> Option<Parcel>
-        ensures some { IfSome result (λ p. self.old.parcels ≡ p ∷ self.new.parcels) }
-        ensures none { IfNone result (self.old.parcels ≡ []) }
-        ensures rest { self.new ≡ with_parcels self.old self.new.parcels }
-        ensures same { IfNone result (self.new ≡ self.old) }
-    {
-        self.parcels.pop_front()
+        let (queue, pass) = new_queue(alloc, room.max(1) as usize)?;
+        Ok((Mail { queue, room }, pass))
     }
 }

@@ -2,12 +2,13 @@
 
 ghost use Rattle.std.specs.Prelude.{◌≡◌, ◌*◌, ◌<◌, ◌≤◌, ◌^◌, ◌++◌, ◌∷◌, [], length, IfOk};
 ghost use Rattle.pool_law.specs.Limits.{IsShape, cached_classes, cache_capacity};
-ghost use Rattle.shared_pool.specs.Opening.{IsFirstArena, IsCacheOf, IsFirstCache, IsFirstBin, IsMailOf, IsFirstMail, IsNewRoot, Adds, AreFirst, AreOpened};
+ghost use Rattle.shared_pool.specs.Opening.{IsFirstArena, IsCacheOf, IsFirstCache, IsFirstBin, IsNewRoot, Adds, AreFirst, AreFirstOf, AreOpened};
 
+use crate::dealing::{SeatRoom, new_mails};
 use crate::home::Home;
-use crate::mail::Mail;
-use crate::pool::{PoolSeat, SharedPool};
+use crate::pool::SharedPool;
 use crate::root_place::{Root, RootPlace};
+use crate::seat::{PoolSeat, TableSeat};
 use handle_bin::Bin;
 use pool_arena::Arena;
 use pool_law::Shape;
@@ -33,32 +34,58 @@ impl SharedPool {
         ensures layout { IfOk result (λ r. r.0.layout ≡ layout) }
         ensures seats { IfOk result (λ r. AreOpened layout mail.now r.0 r.1.items) }
     {
-        let mut homes = Vec::new(alloc);
-        let Ok(()) = fill(alloc, &layout.shape, mail, &mut homes) else {
-            spend_all(homes);
-            return Err(AllocError);
-        };
-        match PoolTable::new(alloc, layout, homes) {
-            Ok((table, seats)) => Ok((SharedPool { table, layout }, seats)),
-            Err(homes) => {
-                spend_all(homes);
+        let lanes = layout.shape.lanes;
+        let (mails, posts) = new_mails(alloc, lanes, mail)?;
+        let room = SeatRoom::take(alloc, lanes, posts)?;
+        match new_table(alloc, layout) {
+            Ok((table, seats)) => {
+                let pool = SharedPool {
+                    table,
+                    mails,
+                    layout,
+                };
+                let seats = room.deal(&pool, seats);
+                Ok((pool, seats))
+            }
+            Err(AllocError) => {
+                room.give_up();
                 Err(AllocError)
             }
         }
     }
 }
 
+// A table with the home values of all objects, and its first seats.
+fn new_table(alloc: Global, layout: Layout) -> Result<(PoolTable<Home>, Vec<TableSeat>), AllocError>
+    requires shape { IsShape layout.shape }
+    requires moves { layout.shape.lanes * layout.moves < 2 ^ 30 }
+    requires turns { layout.shape.lanes * layout.turns < 2 ^ 62 }
+    ensures layout { IfOk result (λ r. r.0.layout ≡ layout) }
+    ensures seats { IfOk result (λ r. AreFirstOf layout r.0 r.1.items) }
+{
+    let mut homes = Vec::new(alloc);
+    let Ok(()) = fill(alloc, &layout.shape, &mut homes) else {
+        spend_all(homes);
+        return Err(AllocError);
+    };
+    match PoolTable::new(alloc, layout, homes) {
+        Ok((table, seats)) => Ok((table, seats)),
+        Err(homes) => {
+            spend_all(homes);
+            Err(AllocError)
+        }
+    }
+}
+
 // The home values of all objects.
-fn fill(alloc: Global, shape: &Shape, mail: &[u32], homes: &mut Vec<Home>) -> Result<(), AllocError>
+fn fill(alloc: Global, shape: &Shape, homes: &mut Vec<Home>) -> Result<(), AllocError>
     requires shape { IsShape shape.now }
-    requires mail { length mail.now ≡ shape.now.lanes * shape.now.lanes }
     requires empty { homes.old.items ≡ [] }
-    ensures { IfOk result (λ u. AreFirst shape.now mail.now homes.new.items) }
+    ensures { IfOk result (λ u. AreFirst shape.now homes.new.items) }
 {
     add_arenas(alloc, shape, homes)?;
     add_caches(alloc, shape, homes)?;
     add_bins(alloc, shape, homes)?;
-    add_mails(alloc, mail, homes)?;
     add_roots(alloc, shape, homes)
 }
 
@@ -93,17 +120,6 @@ fn add_bins(alloc: Global, shape: &Shape, homes: &mut Vec<Home>) -> Result<(), A
 {
     for lane in 0..shape.lanes {
         let home = bin_home(alloc, lane, shape.handles)?;
-        add(homes, home)?;
-    }
-    Ok(())
-}
-
-fn add_mails(alloc: Global, mail: &[u32], homes: &mut Vec<Home>) -> Result<(), AllocError>
-    ensures { IfOk result (λ u.
-        Adds (IsFirstMail mail.now) (length mail.now) homes.old.items homes.new.items) }
-{
-    for index in 0..mail.len() {
-        let home = mail_home(alloc, mail[index])?;
         add(homes, home)?;
     }
     Ok(())
@@ -190,13 +206,6 @@ fn bin_home(alloc: Global, lane: u32, handles: u32) -> Result<Home, AllocError>
     }
 }
 
-fn mail_home(alloc: Global, room: u32) -> Result<Home, AllocError>
-    ensures { IfOk result (IsMailOf room) }
-{
-    let mail = Mail::new(alloc, room)?;
-    Ok(Home::Mail(Box::new(alloc, mail)?))
-}
-
 fn root_home(alloc: Global) -> Result<Home, AllocError>
     ensures { IfOk result IsNewRoot }
 {
@@ -226,7 +235,6 @@ pub(crate) fn spend(home: Home) {
         Home::Arena(arena) => Box::into_inner(arena).leave(),
         Home::Cache(cache) => Box::into_inner(cache).leave(),
         Home::Bin(bin) => Box::into_inner(bin).leave(),
-        Home::Mail(_mail) => (),
         Home::Root(place) => spend_place(Box::into_inner(place)),
     }
 }

@@ -1,84 +1,20 @@
-//! The pool, its seats, and the note that ends each section.
+//! The pool that many threads share.
 
-ghost use Rattle.std.specs.Prelude.{◌≡◌, ◌-◌, ◌+◌, ◌<◌, Some, IfSome, IsSome};
+ghost use Rattle.std.specs.Prelude.{◌≡◌, ◌*◌, length};
 ghost use Rattle.pool_law.specs.Limits.{IsShape};
 ghost use Rattle.pool_law.proofs.ShapeLemmas.{shape-prop};
-ghost use Rattle.pool_law.specs.Naming.{noted_by};
-ghost use Rattle.pool_law.specs.NotedHistories.{MayNote};
-ghost use Rattle.pool_table.specs.declared.views.Entry.TheVariants.{At};
-ghost use Rattle.pool_table.specs.Counts.{CountsOne};
-ghost use Rattle.pool_table.specs.Views.{with_entry};
-ghost use Rattle.pool_table.specs.Seats.{view_of, IsSeatOf, HasView, SameSeat};
-ghost use Rattle.pool_table.specs.Hands.{PutsDown};
-ghost use Rattle.pool_table.specs.Sections.{MayEnd};
-ghost use Rattle.shared_pool.specs.Standing.{HomeStands};
-ghost use Rattle.shared_pool.specs.SeatLanes.{lane_of};
-ghost use Rattle.shared_pool.specs.Notes.{plain};
 
 use crate::home::Home;
-use pool_law::{Did, Named, Noted};
-use pool_table::{Layout, PoolTable, Section};
-
-/// The pass with which its holder makes steps on a pool. A seat of a pool has a lane's number, and
-/// the notes that it made.
-pub type PoolSeat = pool_table::PoolSeat<Home>;
+use crate::mail::Mail;
+use pool_table::{Layout, PoolTable};
 
 /// A pool that many threads share, each with a seat. It must be spent.
 pub struct SharedPool {
     pub(crate) table: PoolTable<Home>,
+    // That of two lanes stands at the first one's number times the lanes, plus the second's.
+    pub(crate) mails: Vec<Mail>,
     pub(crate) layout: Layout,
     ghost same_layout: { table.layout ≡ layout },
     ghost shape: { IsShape layout.shape } by { shape-prop layout.shape },
-}
-
-// Ends a section with this note, and answers its number.
-#[inline(always)]
-pub(crate) fn note<N: Named>(
-    table: &PoolTable<Home>,
-    seat: &mut PoolSeat,
-    section: Section<Home>,
-    noted: &Noted,
-) -> u64
-    requires named { N.note ≡ noted.now }
-    requires own { IsSeatOf table.now seat.old }
-    requires turn { 0 < (view_of seat.old).turns }
-    requires section { MayEnd HomeStands table.now.layout.shape seat.old section noted.now }
-    requires lane { let v = view_of seat.old in
-        MayNote table.now.layout.shape v.own.number section.object noted.now.did }
-    requires hands { PutsDown (view_of seat.old) noted.now.did }
-    ensures same { SameSeat seat.old seat.new }
-    ensures number { IfSome (view_of seat.old).inside (λ x. result ≡ x.number + 1) }
-    ensures counts { CountsOne (view_of seat.new) }
-    ensures noted { let v = view_of seat.old in
-        let note = At section.object result (noted_by v.own.number noted.now) in
-        HasView seat.new (with_entry v note (v.turns - 1)) }
-{
-    table.done::<N>(seat, section)
-}
-
-// The lane of a seat that has one.
-#[inline(always)]
-pub(crate) fn lane_of(seat: &PoolSeat) -> u32
-    requires { IsSome (view_of seat.now).own.number }
-    ensures lane { result ≡ lane_of seat.now }
-    ensures number { (view_of seat.now).own.number ≡ Some result }
-{
-    let Some(lane) = seat.number() else {
-        unreachable!()
-    };
-    lane
-}
-
-// A note with nothing beside what was done.
-#[inline(always)]
-pub(crate) fn noted(did: Did) -> Noted
-    ensures { result ≡ plain did }
-{
-    Noted {
-        did,
-        lane: None,
-        watch: None,
-        root: None,
-        region: None,
-    }
+    ghost many: { length mails.items ≡ layout.shape.lanes * layout.shape.lanes },
 }

@@ -15,7 +15,7 @@ ghost use Rattle.shared_pool.specs.PlaceStanding.{home_bytes};
 ghost use Rattle.shared_pool.specs.RootNotes.{access};
 
 use crate::home::Home;
-use crate::pool::PoolSeat;
+use crate::seat::TableSeat;
 use pool_law::{Named, RootId};
 use pool_table::{PoolTable, Section};
 
@@ -23,7 +23,7 @@ use pool_table::{PoolTable, Section};
 #[inline(always)]
 pub(crate) fn note_set<N: Named>(
     table: &PoolTable<Home>,
-    seat: &mut PoolSeat,
+    seat: &mut TableSeat,
     section: Section<Home>,
     root: RootId,
     offset: u32,
@@ -49,7 +49,7 @@ pub(crate) fn note_set<N: Named>(
 #[inline(always)]
 pub(crate) fn note_get<N: Named>(
     table: &PoolTable<Home>,
-    seat: &mut PoolSeat,
+    seat: &mut TableSeat,
     section: Section<Home>,
     root: RootId,
     offset: u32,
@@ -75,7 +75,7 @@ pub(crate) fn note_get<N: Named>(
 #[inline(always)]
 pub(crate) fn note_shown<N: Named>(
     table: &PoolTable<Home>,
-    seat: &mut PoolSeat,
+    seat: &mut TableSeat,
     section: Section<Home>,
     root: RootId,
     offset: u32,

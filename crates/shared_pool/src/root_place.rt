@@ -1,6 +1,6 @@
 //! The place of one root after another: the root that is there, its memory, and the place's handle.
 
-ghost use Rattle.std.specs.Prelude.{◌≡◌, ℕ, ◌+◌, ◌-◌, ◌^◌, ◌<◌, ◌≤◌, List, length, Some, None, IsSome, true, false};
+ghost use Rattle.std.specs.Prelude.{◌≡◌, ◌+◌, ◌-◌, ◌^◌, ◌<◌, ◌≤◌, length, Some, None, IsSome, true, false};
 ghost use Rattle.std.specs.Fn.{FnOnceReturnsAt};
 ghost use Rattle.ground.specs.Ground.{with_bytes};
 ghost use Rattle.handle_bin.specs.Lending.{with_tracker};

@@ -6,16 +6,18 @@ ghost use Rattle.pool_law.specs.declared.note.Did.{Did};
 ghost use Rattle.pool_law.specs.declared.note.Object.TheVariants.{Root};
 ghost use Rattle.pool_law.specs.declared.note.RefDid.TheVariants.{Born, Vacated};
 ghost use Rattle.pool_table.specs.Counts.{HasCount};
-ghost use Rattle.pool_table.specs.Seats.{view_of, HasView, SameSeat};
+ghost use Rattle.shared_pool.specs.SeatViews.{view_of, HasView, SameSeat};
 ghost use Rattle.shared_pool.specs.Answers.{IfDid, IfHeld};
 ghost use Rattle.shared_pool.specs.Holding.{HoldsRegion, HoldsHandle};
 ghost use Rattle.shared_pool.specs.RootNotes.{access, birth, end_of, IsNotedWith, HoldsToken};
 ghost use Rattle.shared_pool.specs.Seats.{IsPoolSeat, IsNoted, FoundBusy};
 ghost use Rattle.shared_pool.specs.Wearing.{IsShort, FoundWorn};
 
+use crate::noting::{lane_of, note};
 use crate::place_sections::{bear, end, get, is_worn, set, show, touch};
-use crate::pool::{PoolSeat, SharedPool, lane_of, note};
+use crate::pool::SharedPool;
 use crate::root_notes::{note_get, note_set, note_shown};
+use crate::seat::PoolSeat;
 use crate::went::{Retired, Went, Worn};
 use handle_bin::Handle;
 use pool_law::{Did, Noted, Region, RegionId, RootId, Watch};
@@ -93,12 +95,12 @@ impl SharedPool {
         ensures worn { IfErr result (λ worn. FoundWorn self.now handle.place seat.old) }
     {
         let place = handle.place();
-        let mut section = match self.table.claim_place(seat, place, false) {
+        let mut section = match self.table.claim_place(&mut seat.seat, place, false) {
             Ok(section) => section,
             Err(_held) => unreachable!(),
         };
         if is_worn(&mut section) {
-            self.table.idle(seat, section);
+            self.table.idle(&mut seat.seat, section);
             return Err(Worn { handle, region });
         }
         let used = RegionId {
@@ -113,8 +115,8 @@ impl SharedPool {
             root: None,
             region: None,
         };
-        let number = note::<Brand>(&self.table, seat, section, &noted);
-        let root = self.table.birth(seat, place, capacity);
+        let number = note::<Brand>(&self.table, &mut seat.seat, section, &noted);
+        let root = self.table.birth(&mut seat.seat, place, capacity);
         Ok((number, root))
     }
 
@@ -141,12 +143,12 @@ impl SharedPool {
             FoundBusy self.now (Root root.place) mark seat.old seat.new held) }
     {
         let lane = lane_of(seat);
-        let mut section = match self.table.claim_place(seat, root.place, mark) {
+        let mut section = match self.table.claim_place(&mut seat.seat, root.place, mark) {
             Ok(section) => section,
             Err(held) => return Went::Held(held, ()),
         };
         set(&mut section, lane, offset, bytes);
-        let number = note_set::<Brand>(&self.table, seat, section, root, offset, bytes);
+        let number = note_set::<Brand>(&self.table, &mut seat.seat, section, root, offset, bytes);
         Went::Did(number, ())
     }
 
@@ -174,12 +176,12 @@ impl SharedPool {
             × FoundBusy self.now (Root root.place) mark seat.old seat.new held) }
     {
         let lane = lane_of(seat);
-        let mut section = match self.table.claim_place(seat, root.place, mark) {
+        let mut section = match self.table.claim_place(&mut seat.seat, root.place, mark) {
             Ok(section) => section,
             Err(held) => return Went::Held(held, ()),
         };
         get(&mut section, lane, offset, out);
-        let number = note_get::<Brand>(&self.table, seat, section, root, offset, out);
+        let number = note_get::<Brand>(&self.table, &mut seat.seat, section, root, offset, out);
         Went::Did(number, ())
     }
 
@@ -208,12 +210,12 @@ impl SharedPool {
             × FoundBusy self.now (Root root.place) false seat.old seat.new held) }
     {
         let lane = lane_of(seat);
-        let mut section = match self.table.claim_place(seat, root.place, false) {
+        let mut section = match self.table.claim_place(&mut seat.seat, root.place, false) {
             Ok(section) => section,
             Err(held) => return Went::Held(held, f),
         };
         let answer = show(&mut section, lane, offset, len, f);
-        let number = note_shown::<Brand>(&self.table, seat, section, root, offset, len);
+        let number = note_shown::<Brand>(&self.table, &mut seat.seat, section, root, offset, len);
         Went::Did(number, answer)
     }
 
@@ -230,7 +232,7 @@ impl SharedPool {
             FoundBusy self.now (Root root.place) false seat.old seat.new held) }
     {
         let lane = lane_of(seat);
-        let mut section = match self.table.claim_place(seat, root.place, false) {
+        let mut section = match self.table.claim_place(&mut seat.seat, root.place, false) {
             Ok(section) => section,
             Err(held) => return Went::Held(held, ()),
         };
@@ -242,7 +244,7 @@ impl SharedPool {
             root: Some(root),
             region: None,
         };
-        let number = note::<Brand>(&self.table, seat, section, &noted);
+        let number = note::<Brand>(&self.table, &mut seat.seat, section, &noted);
         Went::Did(number, ())
     }
 
@@ -261,7 +263,7 @@ impl SharedPool {
             × (result.handle.place ≡ token.root.place) }
     {
         let root = token.root();
-        let mut section = match self.table.claim_place(seat, root.place, false) {
+        let mut section = match self.table.claim_place(&mut seat.seat, root.place, false) {
             Ok(section) => section,
             Err(_held) => unreachable!(),
         };
@@ -273,8 +275,8 @@ impl SharedPool {
             root: None,
             region: Some(region.id),
         };
-        let number = note::<Brand>(&self.table, seat, section, &noted);
-        self.table.vacate(seat, token);
+        let number = note::<Brand>(&self.table, &mut seat.seat, section, &noted);
+        self.table.vacate(&mut seat.seat, token);
         Retired {
             number,
             region,

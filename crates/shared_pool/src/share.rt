@@ -1,19 +1,25 @@
 //! Moves on the way from one seat to another.
 
 ghost use Rattle.std.specs.Prelude.{◌≡◌};
-ghost use Rattle.std.specs.Mem.{manually_drop_value};
 ghost use Rattle.shared_pool.specs.Handing.{HasMoves};
 
-use crate::pool::PoolSeat;
+use crate::seat::TableSeat;
 use std::mem::ManuallyDrop;
 
 /// Moves of a pool on the way from one seat to another, by any channel. A share that is dropped
 /// takes its moves with it: no seat gets them.
-#[derive(Drop)]
 pub struct Share {
-    pub(crate) seat: ManuallyDrop<PoolSeat>,
+    pub(crate) seat: TableSeat,
     pub(crate) moves: u32,
-    ghost has: { HasMoves moves (manually_drop_value seat) },
+    ghost has: { HasMoves moves seat },
+}
+
+impl Drop for Share {
+    // A seat that has moves alone has nothing that is to be freed.
+    fn drop(self) {
+        let Share { seat, moves: _ } = self;
+        let _seat = unsafe { ManuallyDrop::new_unchecked(seat) };
+    }
 }
 
 impl Share {
@@ -22,5 +28,13 @@ impl Share {
         ensures { result ≡ self.now.moves }
     {
         self.moves
+    }
+
+    // The seat, for `accept`.
+    pub(crate) fn into_seat(self) -> TableSeat
+        ensures { result ≡ self.seat }
+    {
+        let Share { seat, moves: _ } = self;
+        seat
     }
 }

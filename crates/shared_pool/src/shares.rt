@@ -1,14 +1,14 @@
 //! Moves that one seat hands to another. No call here waits, and none claims an object.
 
 ghost use Rattle.std.specs.Prelude.{◌≡◌, ◌≤◌};
-ghost use Rattle.pool_table.specs.Seats.{view_of, HasView, SameSeat};
+ghost use Rattle.shared_pool.specs.SeatViews.{view_of, HasView, SameSeat};
 ghost use Rattle.pool_table.specs.Steps.{share_left, share_added};
 ghost use Rattle.shared_pool.specs.Seats.{IsPoolSeat};
 ghost use Rattle.shared_pool.specs.Shares.{IsShareOf};
 
-use crate::pool::{PoolSeat, SharedPool};
+use crate::pool::SharedPool;
+use crate::seat::PoolSeat;
 use crate::share::Share;
-use std::mem::ManuallyDrop;
 
 impl SharedPool {
     /// Takes so many moves out of a seat, for the seat that accepts them. Where one lane retains
@@ -22,11 +22,8 @@ impl SharedPool {
         ensures left { HasView seat.new (share_left moves (view_of seat.old)) }
         ensures share { IsShareOf self.now result × (result.moves ≡ moves) }
     {
-        let taken = self.table.share(seat, moves);
-        Share {
-            seat: unsafe { ManuallyDrop::new_unchecked(taken) },
-            moves,
-        }
+        let taken = self.table.share(&mut seat.seat, moves);
+        Share { seat: taken, moves }
     }
 
     /// The seat has the moves of a share too, and nothing else of it changes.
@@ -37,10 +34,6 @@ impl SharedPool {
         ensures seat { IsPoolSeat self.now seat.new }
         ensures more { HasView seat.new (share_added share.moves (view_of seat.old)) }
     {
-        let Share {
-            seat: taken,
-            moves: _,
-        } = share;
-        self.table.accept(seat, ManuallyDrop::into_inner(taken));
+        self.table.accept(&mut seat.seat, share.into_seat());
     }
 }

@@ -26,9 +26,10 @@ pub enum Release {
 
 /// What a fetch found.
 pub enum Fetched {
+    /// The next parcel, with the number of its fetch, which is that of its post too.
     Got(u64, Parcel),
+    /// The mail's queue was empty.
     Empty,
-    Held(Held),
 }
 
 /// What is left of a root that ended: its region and its place's handle.

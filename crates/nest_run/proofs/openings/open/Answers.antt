@@ -18,5 +18,5 @@ only_one {X} P items rest a many e each = go rest e
 pub returns-clause-seat : goal.returns-clause-seat
 returns-clause-seat c =
     let s = c.in_ok-pool.ensures.seats in
-    only_one (IsOpened LAYOUT (0 ∷ []) c.in_ok-pool.pool 0) c.in_ok-pool.seats.items c.pop.new.self.items c.in-Some.seat
+    only_one (IsOpened LAYOUT c.in_ok-pool.pool 0) c.in_ok-pool.seats.items c.pop.new.self.items c.in-Some.seat
     s.many c.in-Some.ensures.items (s.each 0 (omega arith))

@@ -1,5 +1,5 @@
 use Rattle.std.proofs.Common.{◌≡◌}
-use Rattle.pool_table.specs.Seats.{view_of}
+use Rattle.shared_pool.specs.SeatViews.{view_of}
 use Rattle.shared_pool.specs.Seats.{IsPoolSeat}
 use Rattle.nest_run.proofs.steps.pop_handle.Given as goal
 

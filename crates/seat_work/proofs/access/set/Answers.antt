@@ -2,7 +2,7 @@ use Rattle.std.proofs.Common.{sym, subst}
 use Rattle.pool_law.specs.declared.note.Did.{Did}
 use Rattle.pool_table.specs.declared.views.SeatView.{SeatView}
 use Rattle.pool_table.specs.Counts.{HasCount}
-use Rattle.pool_table.specs.Seats.{view_of}
+use Rattle.shared_pool.specs.SeatViews.{view_of}
 use Rattle.seat_work.proofs.Accesses.{accessed, set_quiet}
 use Rattle.seat_work.proofs.access.set.Goals as goal
 

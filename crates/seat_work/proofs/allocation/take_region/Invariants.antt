@@ -1,5 +1,5 @@
 use Rattle.std.proofs.Common.{◌≡◌}
-use Rattle.pool_table.specs.Seats.{view_of, SameSeat}
+use Rattle.shared_pool.specs.SeatViews.{view_of, SameSeat}
 use Rattle.shared_pool.specs.Seats.{IsPoolSeat}
 use Rattle.seat_work.proofs.allocation.take_region.Given as goal
 

@@ -1,7 +1,7 @@
 use Rattle.std.proofs.Common.{◌≡◌, ℕ, List, map, sym, ap, ◌∙◌, true}
 use Rattle.std.specs.Prelude.{Option}
 use Rattle.counted_view.specs.declared.rows.Row.{Row}
-use Rattle.counted_view.specs.Nests.{NestState, live_from, live_views}
+use Rattle.counted_view.specs.Nests.{live_from, live_views}
 use Rattle.counted_view.specs.Rows.{shown, live_rows}
 use Rattle.counted_view.proofs.LiveLaws.{live_from-rows}
 use Rattle.counted_view.proofs.view_tree.ViewTree.live.Goals as goal

@@ -1,73 +1,75 @@
-use Rattle.std.proofs.Common.{subst, refl, ap}
-use Rattle.std.specs.Prelude.{ℕ}
-use Rattle.pool_table.specs.Learned.{Enters}
-use Rattle.shared_pool.specs.Standing.{HomeStands}
-use Rattle.pool_law.specs.declared.note.Noted.{Noted}
-use Rattle.pool_law.specs.declared.note.Object.TheVariants.{Mail}
-use Rattle.pool_law.specs.Naming.{noted_by}
-use Rattle.pool_table.specs.Seats.{view_of}
-use Rattle.shared_pool.specs.Seats.{IsNoted}
-use Rattle.shared_pool.proofs.MailHomes.{next_fetch, home_view, is_mail, home_drained}
-use Rattle.shared_pool.proofs.Endings.{stood, ends, made}
+use Rattle.std.proofs.Common.{◌∙◌, ap, arith, refl}
+use Rattle.pool_table.specs.Seats as table
+use Rattle.shared_pool.proofs.MailSeats.{drained, empty_seat, fetch_within, fetched_seat, is_next, may_pop, may_receive, noted_fetch}
 use Rattle.shared_pool.proofs.pool.SharedPool.fetch.Goals as goal
 
-pub note-requires-clause-section : goal.note-requires-clause-section
-note-requires-clause-section c =
-    let got = c.in-Ok.ensures.got in let fetch = c.fetch in let seat = c.requires.seat in
-    ends c.args.self.now.table.layout (Mail c.args.from c.lane_of.result) c.args.seat.now c.claim.new.seat
-    c.in-Ok.section got seat.setting seat.settled fetch.new.section c.noted-noted.result
-    (next_fetch c.args.self.now.table.layout c.args.from c.lane_of.result c.args.seat.now c.claim.new.seat
-    c.in-Ok.section got seat.setting seat.settled fetch.new.section c.in-Some.parcel c.in-Some.ensures.same.0
-    c.in-Some.ensures.same.1
-    c.in-Some.ensures.mail c.in-Some.ensures.stands c.noted-noted.result c.noted-noted.ensures)
+pub index_mut-requires : goal.index_mut-requires
+index_mut-requires g c =
+    let pool = c.args.self.now in let old = c.args.seat.now in let m = c.mail.result.now in
+    let lt = fetch_within pool old c.requires.seat c.args.from c.requires.from_is m _ c.lane_of-lane.ensures.lane
+    c.mail.ensures in
+    let many = old.fetches.ok.0 in omega (arith, lt, many)
 
-pub returns-in-Some-clause-got : goal.returns-in-Some-clause-got
-returns-in-Some-clause-got c =
-    let got = c.in-Ok.ensures.got in let fetch = c.fetch in let seat = c.requires.seat in
-    subst (λ (x : ℕ × Noted). IsNoted c.args.self.now c.args.seat.now c.note.new.seat (Mail c.args.from x.0)
-    c.note.result x.1) (λ i. (c.lane_of.ensures.lane i, c.noted-noted.ensures i))
-    (made c.args.self.now.table.layout (Mail c.args.from c.lane_of.result) c.args.seat.now c.claim.new.seat
-    c.in-Ok.section got seat.setting seat.settled c.args.self.now c.note.new.seat fetch.new.section c.note.result
-    c.noted-noted.result refl
-    (next_fetch c.args.self.now.table.layout c.args.from c.lane_of.result c.args.seat.now c.claim.new.seat
-    c.in-Ok.section got seat.setting seat.settled fetch.new.section c.in-Some.parcel c.in-Some.ensures.same.0
-    c.in-Some.ensures.same.1
-    c.in-Some.ensures.mail c.in-Some.ensures.stands c.noted-noted.result c.noted-noted.ensures)
-    c.note.ensures.number c.note.ensures.noted)
-
-pub returns-in-Some-clause-view : goal.returns-in-Some-clause-view
-returns-in-Some-clause-view c =
-    let got = c.in-Ok.ensures.got in let seat = c.requires.seat in
-    home_view seat.setting got.history c.args.from c.lane_of.result c.args.self.now.table.layout.shape.lanes
-    c.in-Some.parcel c.in-Ok.section.home
-    (stood c.args.self.now.table.layout (Mail c.args.from c.lane_of.result) c.args.seat.now c.claim.new.seat
-    c.in-Ok.section got seat.setting seat.settled) c.in-Some.ensures.front
-
-pub returns-in-Some-clause-place : goal.returns-in-Some-clause-place
-returns-in-Some-clause-place c =
-    let got = c.in-Ok.ensures.got in let fetch = c.fetch in let seat = c.requires.seat in
-    got.learned.fetched c.args.from c.lane_of.result
-    (noted_by (view_of c.args.seat.now).own.number c.noted-noted.result) c.in-Some.parcel refl
-    (next_fetch c.args.self.now.table.layout c.args.from c.lane_of.result c.args.seat.now c.claim.new.seat
-    c.in-Ok.section got seat.setting seat.settled fetch.new.section c.in-Some.parcel c.in-Some.ensures.same.0
-    c.in-Some.ensures.same.1
-    c.in-Some.ensures.mail c.in-Some.ensures.stands c.noted-noted.result c.noted-noted.ensures).follows
-    (ap (λ (n : Noted). n.did) c.noted-noted.ensures)
-
-pub returns-in-None-clause-drained : goal.returns-in-None-clause-drained
-returns-in-None-clause-drained c =
-    let got = c.in-Ok.ensures.got in let seat = c.requires.seat in let l = c.args.self.now.table.layout in let home =
-    c.in-Ok.section.home in
-    let stands = stood l (Mail c.args.from c.lane_of.result) c.args.seat.now c.claim.new.seat c.in-Ok.section got
-    seat.setting seat.settled in
+pub pop-requires : goal.pop-requires
+pop-requires g c =
+    let pool = c.args.self.now in let m = c.mail.result.now in
     record {
-      history = got.history;
-      home = home;
-      learned =
-          subst (λ (k : ℕ). Enters HomeStands l (Mail c.args.from k) (view_of c.args.seat.now) got.history home)
-          c.lane_of.ensures.lane got.learned;
-      drained =
-          home_drained seat.setting got.history c.args.from c.lane_of.result l.shape.lanes home stands
-          (is_mail seat.setting got.history c.args.from c.lane_of.result l.shape.lanes home stands)
-          c.in-None.ensures.empty;
+      pass =
+          may_pop pool c.args.seat.now c.requires.seat c.args.from c.requires.from_is m _ c.lane_of-lane.ensures.lane
+          c.mail.ensures c.index_mut.result.now
+          c.index_mut.ensures.value;
     }
+
+pub returns-in_default-clause-seat : goal.returns-in_default-clause-seat
+returns-in_default-clause-seat g c =
+    let pool = c.args.self.now in let m = c.mail.result.now in
+    empty_seat pool c.args.seat.now c.requires.seat c.args.from c.requires.from_is m _ c.lane_of-lane.ensures.lane
+    c.mail.ensures c.index_mut.result.now
+    c.index_mut.ensures.value _ c.pop.new.pass c.in_default.ensures.pass c.in_default.ensures.none.0 refl refl refl
+
+pub returns-in_default-clause-drained : goal.returns-in_default-clause-drained
+returns-in_default-clause-drained g c =
+    let pool = c.args.self.now in let m = c.mail.result.now in
+    drained pool c.args.seat.now c.requires.seat c.args.from c.requires.from_is m _ c.lane_of-lane.ensures.lane
+    c.mail.ensures c.index_mut.result.now
+    c.index_mut.ensures.value c.in_default.ensures.none.1
+
+pub receive-letter-requires-clause-other_own : goal.receive-letter-requires-clause-other_own
+receive-letter-requires-clause-other_own g c =
+    let pool = c.args.self.now in let m = c.mail.result.now in
+    c.into_seat.ensures.table
+    ∙ (is_next pool c.args.seat.now c.requires.seat c.args.from c.requires.from_is m _ c.lane_of-lane.ensures.lane
+    c.mail.ensures c.index_mut.result.now
+    c.index_mut.ensures.value c.in-Some.posted c.pop.new.pass c.in-Some.ensures.received).table_is
+
+pub receive-letter-requires-clause-may : goal.receive-letter-requires-clause-may
+receive-letter-requires-clause-may g c =
+    let pool = c.args.self.now in let m = c.mail.result.now in
+    may_receive pool c.args.seat.now c.requires.seat c.args.from c.requires.from_is m _ c.lane_of-lane.ensures.lane
+    c.mail.ensures c.index_mut.result.now
+    c.index_mut.ensures.value c.in-Some.posted c.pop.new.pass c.in-Some.ensures.received
+    (table.view_of c.into_seat.result) (ap (λ s. s.0) c.into_seat.ensures.alone)
+
+pub returns-clause-got : goal.returns-clause-got
+returns-clause-got g c =
+    let pool = c.args.self.now in let m = c.mail.result.now in
+    noted_fetch pool c.args.seat.now c.requires.seat c.args.from c.requires.from_is m _ c.lane_of-lane.ensures.lane
+    c.mail.ensures c.index_mut.result.now
+    c.index_mut.ensures.value c.in-Some.posted c.pop.new.pass c.in-Some.ensures.received _
+    (table.view_of c.into_seat.result) c.receive-letter.result (ap (λ s. s.0) c.into_seat.ensures.alone)
+    c.receive-letter.ensures.came c.receive-letter.ensures.noted
+
+pub returns-clause-seat : goal.returns-clause-seat
+returns-clause-seat g c =
+    let pool = c.args.self.now in let m = c.mail.result.now in
+    fetched_seat pool c.args.seat.now c.requires.seat c.args.from c.requires.from_is m _ c.lane_of-lane.ensures.lane
+    c.mail.ensures c.index_mut.result.now
+    c.index_mut.ensures.value c.in-Some.posted c.pop.new.pass c.in-Some.ensures.received _
+    c.receive-letter.result.number
+    c.receive-letter.result.parcel c.receive-letter.ensures.same c.in-Some.ensures.pass
+    (noted_fetch pool c.args.seat.now c.requires.seat c.args.from c.requires.from_is m _ c.lane_of-lane.ensures.lane
+    c.mail.ensures c.index_mut.result.now
+    c.index_mut.ensures.value c.in-Some.posted c.pop.new.pass c.in-Some.ensures.received _
+    (table.view_of c.into_seat.result) c.receive-letter.result (ap (λ s. s.0) c.into_seat.ensures.alone)
+    c.receive-letter.ensures.came c.receive-letter.ensures.noted)
+    c.receive-letter.ensures.counts refl refl

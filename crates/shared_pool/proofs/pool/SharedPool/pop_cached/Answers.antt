@@ -6,23 +6,27 @@ use Rattle.pool_law.specs.declared.note.Noted.{Noted}
 use Rattle.pool_law.specs.declared.note.Object.TheVariants.{Cache}
 use Rattle.table_law.specs.Measures.{measures_of}
 use Rattle.pool_table.specs.declared.views.Layout.{Layout}
-use Rattle.pool_table.specs.Seats.{view_of}
+use Rattle.shared_pool.specs.declared.seat.PoolSeat.{PoolSeat}
+use Rattle.shared_pool.specs.SeatViews.{view_of}
 use Rattle.shared_pool.specs.Holding.{HoldsRegion}
 use Rattle.shared_pool.specs.Notes.{plain, hit}
 use Rattle.shared_pool.specs.Quotas.{quota_left}
+use Rattle.shared_pool.specs.SeatLanes.{lane_of}
 use Rattle.shared_pool.specs.Seats.{IsNoted}
 use Rattle.shared_pool.proofs.CacheHands.{popped_held, hit_own}
 use Rattle.shared_pool.proofs.CacheHomes.{next, is_cache, cache_has}
 use Rattle.shared_pool.proofs.CacheQuotas.{quota_is}
-use Rattle.shared_pool.proofs.Endings.{ends, made, stood, held_seat}
+use Rattle.shared_pool.proofs.Endings.{ends, made, stood}
 use Rattle.shared_pool.proofs.Numbers.{below}
+use Rattle.shared_pool.proofs.SeatCalls.{seat_did}
+use Rattle.shared_pool.proofs.SeatEnds.{held_seat}
 use Rattle.shared_pool.proofs.pool.SharedPool.pop_cached.Goals as goal
 
 pub pop-region-requires-clause-no_quota : goal.pop-region-requires-clause-no_quota
 pop-region-requires-clause-no_quota c =
     let got = c.in-Ok.ensures.got in let seat = c.requires.seat in let old = c.args.seat.now in
     let l = c.args.self.now.table.layout in let lane = c.lane_of.result in let class = c.args.class in
-    let at = stood l (Cache lane class) old c.claim.new.seat c.in-Ok.section got seat.setting seat.settled in
+    let at = stood l (Cache lane class) old.seat c.claim.new.seat c.in-Ok.section got seat.setting seat.settled in
     let lt = below (view_of old).own.number seat.lane lane l.shape.lanes seat.number c.lane_of.ensures.number
     seat.below in
     cache_has l.shape seat.setting lane class got.history c.in-Ok.section.home (λ q. q.quota ≡ 0) at
@@ -39,60 +43,69 @@ pub note-number-requires-clause-section : goal.note-number-requires-clause-secti
 note-number-requires-clause-section c =
     let got = c.in-Ok.ensures.got in let seat = c.requires.seat in let old = c.args.seat.now in
     let l = c.args.self.now.table.layout in let lane = c.lane_of.result in let class = c.args.class in
-    ends l (Cache lane class) old c.claim.new.seat c.in-Ok.section got seat.setting seat.settled
+    ends l (Cache lane class) old.seat c.claim.new.seat c.in-Ok.section got seat.setting seat.settled
     c.pop-region.new.section c.noted-noted.result
-    (next l lane class old c.claim.new.seat c.in-Ok.section got seat.setting seat.settled c.pop-region.new.section
+    (next l lane class old.seat c.claim.new.seat c.in-Ok.section got seat.setting seat.settled c.pop-region.new.section
     (hit c.pop-region.result) c.pop-region.ensures.same.0 c.pop-region.ensures.same.1 c.pop-region.ensures.cache
     (hit_own lane class c.pop-region.result)
     (λ m did_is. c.pop-region.ensures.stands (measures_of l.shape (Cache lane class)) seat.setting got.history m did_is
-    (stood l (Cache lane class) old c.claim.new.seat c.in-Ok.section got seat.setting seat.settled))
+    (stood l (Cache lane class) old.seat c.claim.new.seat c.in-Ok.section got seat.setting seat.settled))
     c.noted-noted.result (c.noted-noted.ensures ∙ ap plain c.popped.ensures))
 
 pub returns-clause-did : goal.returns-clause-did
 returns-clause-did c =
+    let new : PoolSeat = record c.args.seat.now { seat = c.note-number.new.seat } in
     let got = c.in-Ok.ensures.got in let seat = c.requires.seat in let old = c.args.seat.now in
     let l = c.args.self.now.table.layout in let lane = c.lane_of.result in let class = c.args.class in
     let n : c.noted-noted.result ≡ plain (hit c.pop-region.result) = c.noted-noted.ensures
     ∙ ap plain c.popped.ensures in
-    subst (λ (x : ℕ × Noted). IsNoted c.args.self.now old c.note-number.new.seat (Cache x.0 class) c.note-number.result
+    subst (λ (x : ℕ × Noted). IsNoted c.args.self.now old new (Cache x.0 class) c.note-number.result
     x.1) (λ i. (c.lane_of.ensures.lane i, n i))
     (made l (Cache lane class) old c.claim.new.seat c.in-Ok.section got seat.setting seat.settled c.args.self.now
     c.note-number.new.seat c.pop-region.new.section c.note-number.result c.noted-noted.result refl
-    (next l lane class old c.claim.new.seat c.in-Ok.section got seat.setting seat.settled c.pop-region.new.section
+    (next l lane class old.seat c.claim.new.seat c.in-Ok.section got seat.setting seat.settled c.pop-region.new.section
     (hit c.pop-region.result) c.pop-region.ensures.same.0 c.pop-region.ensures.same.1 c.pop-region.ensures.cache
     (hit_own lane class c.pop-region.result)
     (λ m did_is. c.pop-region.ensures.stands (measures_of l.shape (Cache lane class)) seat.setting got.history m did_is
-    (stood l (Cache lane class) old c.claim.new.seat c.in-Ok.section got seat.setting seat.settled))
+    (stood l (Cache lane class) old.seat c.claim.new.seat c.in-Ok.section got seat.setting seat.settled))
     c.noted-noted.result (n)) c.note-number.ensures.number c.note-number.ensures.noted)
 
 pub returns-clause-region : goal.returns-clause-region
 returns-clause-region c =
+    let new : PoolSeat = record c.args.seat.now { seat = c.note-number.new.seat } in
     let got = c.in-Ok.ensures.got in let seat = c.requires.seat in let old = c.args.seat.now in
     let l = c.args.self.now.table.layout in let lane = c.lane_of.result in let class = c.args.class in
     let v = view_of old in
     let n : c.noted-noted.result ≡ plain (hit c.pop-region.result) = c.noted-noted.ensures
     ∙ ap plain c.popped.ensures in
-    let follows = next l lane class old c.claim.new.seat c.in-Ok.section got seat.setting seat.settled
+    let follows = next l lane class old.seat c.claim.new.seat c.in-Ok.section got seat.setting seat.settled
     c.pop-region.new.section (hit c.pop-region.result) c.pop-region.ensures.same.0 c.pop-region.ensures.same.1
     c.pop-region.ensures.cache (hit_own lane class c.pop-region.result)
     (λ m did_is. c.pop-region.ensures.stands (measures_of l.shape (Cache lane class)) seat.setting got.history m did_is
-    (stood l (Cache lane class) old c.claim.new.seat c.in-Ok.section got seat.setting seat.settled))
+    (stood l (Cache lane class) old.seat c.claim.new.seat c.in-Ok.section got seat.setting seat.settled))
     c.noted-noted.result (n) in
     let seen = made l (Cache lane class) old c.claim.new.seat c.in-Ok.section got seat.setting seat.settled
     c.args.self.now c.note-number.new.seat c.pop-region.new.section c.note-number.result c.noted-noted.result refl
     follows c.note-number.ensures.number c.note-number.ensures.noted in
     let shape = subst (λ (y : Layout). IsShape y.shape) (sym c.args.self.now.same_layout) c.args.self.now.shape in
     subst (λ (k : ℕ). IfSome c.pop-region.result
-    (λ x. HoldsRegion c.args.self.now c.note-number.new.seat x × (x.id.owner ≡ k) × (x.id.class ≡ class)))
+    (λ x. HoldsRegion c.args.self.now new x × (x.id.owner ≡ k) × (x.id.class ≡ class)))
     c.lane_of.ensures.lane
-    (popped_held c.args.self.now lane class old c.claim.new.seat c.note-number.new.seat c.in-Ok.section got seat.setting
+    (popped_held c.args.self.now lane class old.seat c.claim.new.seat new c.in-Ok.section got seat.setting
     seat.settled
     (below v.own.number seat.lane lane l.shape.lanes seat.number c.lane_of.ensures.number seat.below) c.requires.class
     shape
     c.note-number.result (v.turns - 1) (noted_by v.own.number c.noted-noted.result) c.pop-region.result
     (ap (λ (x : Noted). x.did) n) follows.follows c.pop-region.ensures.here (ap (λ m. m.0) seen.seat))
 
+pub returns-clause-seat : goal.returns-clause-seat
+returns-clause-seat c =
+    seat_did c.args.self.now c.args.seat.now c.claim.new.seat c.note-number.new.seat
+    (Cache (lane_of c.args.seat.now) c.args.class) c.note-number.result _ refl c.requires.seat
+    c.claim.ensures.same c.note-number.ensures.same c.note-number.ensures.counts (returns-clause-did c)
+
 pub returns-in-Err-clause-seat : goal.returns-in-Err-clause-seat
 returns-in-Err-clause-seat c =
-    held_seat c.args.self.now (Cache c.lane_of.result c.args.class) true c.args.seat.now c.claim.new.seat c.in-Err.held
-    c.requires.seat c.claim.ensures.same c.in-Err.ensures.held
+    held_seat c.args.self.now (Cache c.lane_of.result c.args.class) true c.args.seat.now
+    (record c.args.seat.now { seat = c.claim.new.seat }) c.in-Err.held c.requires.seat c.claim.ensures.same refl refl
+    c.in-Err.ensures.held

@@ -1,60 +1,56 @@
-use Rattle.std.proofs.Common.{sym, ap, subst, refl}
-use Rattle.std.specs.Prelude.{ℕ}
-use Rattle.pool_law.specs.declared.note.Did.{Did}
-use Rattle.pool_law.specs.declared.note.Noted.{Noted}
-use Rattle.pool_law.specs.declared.note.Object.TheVariants.{Mail}
-use Rattle.pool_table.specs.declared.views.SeatView.{SeatView}
-use Rattle.pool_table.specs.Hands.{PutsDown}
-use Rattle.pool_table.specs.Seats.{view_of}
-use Rattle.shared_pool.specs.MailAnswers.{HasRoom}
-use Rattle.shared_pool.specs.Seats.{IsNoted}
-use Rattle.shared_pool.proofs.MailHomes.{is_mail, next_post}
-use Rattle.shared_pool.proofs.MailRooms.{has_room}
-use Rattle.shared_pool.proofs.Endings.{stood, ends, made}
+use Rattle.std.proofs.Common.{◌∙◌, ◌<◌, ap, get_or, arith, refl, subst, sym}
+use Rattle.shared_pool.proofs.MailSeats.{few, may_push, post_within, posted_seat, push_capacity, push_letter, push_room}
 use Rattle.shared_pool.proofs.pool.SharedPool.post.Goals as goal
 
-pub post-requires-clause-room : goal.post-requires-clause-room
-post-requires-clause-room c =
-    let seat = c.requires.seat in
-    has_room c.args.self.now.table.layout c.lane_of.result c.args.to c.args.seat.now c.claim.new.seat c.in-Ok.section
-    c.in-Ok.ensures.got seat.setting seat.settled
-    c.in-Ok.ensures.got.inside.object c.lane_of.ensures.number
-    (subst (λ (k : ℕ). HasRoom c.args.self.now.table.layout.shape k c.args.to (view_of c.args.seat.now))
-    (sym c.lane_of.ensures.lane) c.requires.room)
+pub sent-posted-requires-clause-few : goal.sent-posted-requires-clause-few
+sent-posted-requires-clause-few g c =
+    let pool = c.args.self.now in let m = c.mail-mail.result.now in
+    few pool c.args.seat.now c.requires.seat c.args.to c.requires.to m _ c.lane_of-lane.ensures.lane
+    c.mail-mail.ensures c.requires.room
 
-pub note-number-requires-clause-section : goal.note-number-requires-clause-section
-note-number-requires-clause-section c =
-    let got = c.in-Ok.ensures.got in let post = c.post in let seat = c.requires.seat in
-    ends c.args.self.now.table.layout (Mail c.lane_of.result c.args.to) c.args.seat.now c.claim.new.seat c.in-Ok.section
-    got seat.setting seat.settled post.new.section c.noted-noted.result
-    (next_post c.args.self.now.table.layout c.lane_of.result c.args.to c.args.seat.now c.claim.new.seat c.in-Ok.section
-    got seat.setting seat.settled post.new.section c.args.parcel post.ensures.same.0 post.ensures.same.1
-    (is_mail seat.setting got.history c.lane_of.result c.args.to c.args.self.now.table.layout.shape.lanes
-    c.in-Ok.section.home (stood c.args.self.now.table.layout (Mail c.lane_of.result c.args.to) c.args.seat.now
-    c.claim.new.seat c.in-Ok.section got seat.setting seat.settled))
-    post.ensures.mail post.ensures.posted c.requires.view c.lane_of.ensures.number c.noted-noted.result
-    c.noted-noted.ensures)
+pub index_mut-requires : goal.index_mut-requires
+index_mut-requires g c =
+    let pool = c.args.self.now in let old = c.args.seat.now in let m = c.mail-mail.result.now in
+    let lt = post_within pool old c.requires.seat c.args.to c.requires.to m _ c.lane_of-lane.ensures.lane
+    c.mail-mail.ensures c.requires.room in
+    let many = old.posts.ok.0 in
+    subst (λ ps. c.args.to < ps.len) (sym c.sent-posted.ensures.ends.0) (omega (arith, lt, many))
 
-pub note-number-requires-clause-hands : goal.note-number-requires-clause-hands
-note-number-requires-clause-hands c =
-    let got = c.in-Ok.ensures.got in
-    subst (λ (x : SeatView × Did). PutsDown x.0 x.1)
-    (λ i. (sym got.view i, sym (ap (λ (n : Noted). n.did) c.noted-noted.ensures) i))
-    c.requires.counts
+pub push-requires-clause-pass : goal.push-requires-clause-pass
+push-requires-clause-pass g c =
+    let pool = c.args.self.now in let m = c.mail-mail.result.now in let pass = c.index_mut.result.now in
+    may_push pool c.args.seat.now c.requires.seat c.args.to c.requires.to m _ c.lane_of-lane.ensures.lane
+    c.mail-mail.ensures c.requires.room pass
+    (c.index_mut.ensures.value ∙ ap (λ ps. get_or ps.items c.args.to pass) c.sent-posted.ensures.ends.0)
 
-pub returns-clause-did : goal.returns-clause-did
-returns-clause-did c =
-    let got = c.in-Ok.ensures.got in let post = c.post in let seat = c.requires.seat in
-    subst (λ (x : ℕ × Noted). IsNoted c.args.self.now c.args.seat.now c.note-number.new.seat (Mail x.0 c.args.to)
-    c.note-number.result x.1) (λ i. (c.lane_of.ensures.lane i, c.noted-noted.ensures i))
-    (made c.args.self.now.table.layout (Mail c.lane_of.result c.args.to) c.args.seat.now c.claim.new.seat
-    c.in-Ok.section got seat.setting seat.settled c.args.self.now c.note-number.new.seat post.new.section
-    c.note-number.result c.noted-noted.result refl
-    (next_post c.args.self.now.table.layout c.lane_of.result c.args.to c.args.seat.now c.claim.new.seat c.in-Ok.section
-    got seat.setting seat.settled post.new.section c.args.parcel post.ensures.same.0 post.ensures.same.1
-    (is_mail seat.setting got.history c.lane_of.result c.args.to c.args.self.now.table.layout.shape.lanes
-    c.in-Ok.section.home (stood c.args.self.now.table.layout (Mail c.lane_of.result c.args.to) c.args.seat.now
-    c.claim.new.seat c.in-Ok.section got seat.setting seat.settled))
-    post.ensures.mail post.ensures.posted c.requires.view c.lane_of.ensures.number c.noted-noted.result
-    c.noted-noted.ensures)
-    c.note-number.ensures.number c.note-number.ensures.noted)
+pub push-requires-clause-letter : goal.push-requires-clause-letter
+push-requires-clause-letter g c =
+    let pool = c.args.self.now in let m = c.mail-mail.result.now in let pass = c.index_mut.result.now in
+    push_letter pool c.args.seat.now c.requires.seat c.args.to c.requires.to m _ c.lane_of-lane.ensures.lane
+    c.mail-mail.ensures c.requires.room pass
+    (c.index_mut.ensures.value ∙ ap (λ ps. get_or ps.items c.args.to pass) c.sent-posted.ensures.ends.0)
+    c.sent-posted.result c.args.parcel c.sent-posted.ensures.letter.0 c.sent-posted.ensures.letter.1
+
+pub push-requires-clause-room : goal.push-requires-clause-room
+push-requires-clause-room g c =
+    let pool = c.args.self.now in let m = c.mail-mail.result.now in let pass = c.index_mut.result.now in
+    push_room pool c.args.seat.now c.requires.seat c.args.to c.requires.to m _ c.lane_of-lane.ensures.lane
+    c.mail-mail.ensures c.requires.room pass
+    (c.index_mut.ensures.value ∙ ap (λ ps. get_or ps.items c.args.to pass) c.sent-posted.ensures.ends.0)
+
+pub push-requires-clause-capacity : goal.push-requires-clause-capacity
+push-requires-clause-capacity g c =
+    let pool = c.args.self.now in let m = c.mail-mail.result.now in let pass = c.index_mut.result.now in
+    push_capacity pool c.args.seat.now c.requires.seat c.args.to c.requires.to m _ c.lane_of-lane.ensures.lane
+    c.mail-mail.ensures c.requires.room pass
+    (c.index_mut.ensures.value ∙ ap (λ ps. get_or ps.items c.args.to pass) c.sent-posted.ensures.ends.0)
+
+pub returns-clause-seat : goal.returns-clause-seat
+returns-clause-seat g c =
+    let pool = c.args.self.now in let m = c.mail-mail.result.now in let pass = c.index_mut.result.now in
+    let mid = c.sent-posted.new.seat in let sent = c.sent-posted.ensures in
+    posted_seat pool c.args.seat.now c.requires.seat c.args.to c.requires.to m _ c.lane_of-lane.ensures.lane
+    c.mail-mail.ensures c.requires.room pass
+    (c.index_mut.ensures.value ∙ ap (λ ps. get_or ps.items c.args.to pass) sent.ends.0)
+    mid _ c.sent-posted.result.letter.number c.args.parcel c.push.new.pass sent.same sent.ends sent.posted sent.counts
+    c.push.ensures.pass refl refl refl

@@ -1,5 +1,5 @@
 use Rattle.std.proofs.Common.{◌≡◌, ◌-◌, ◌<◌, sym, ap, ◌∙◌, subst, refl}
-use Rattle.std.specs.Prelude.{ℕ}
+use Rattle.std.specs.Prelude.{false, ℕ}
 use Rattle.pool_law.specs.Limits.{IsShape}
 use Rattle.pool_law.specs.Naming.{noted_by}
 use Rattle.pool_law.specs.declared.note.Did.{Did}
@@ -7,23 +7,27 @@ use Rattle.pool_law.specs.declared.note.Noted.{Noted}
 use Rattle.pool_law.specs.declared.note.Object.TheVariants.{Cache}
 use Rattle.table_law.specs.Measures.{measures_of}
 use Rattle.pool_table.specs.declared.views.Layout.{Layout}
-use Rattle.pool_table.specs.Seats.{view_of}
+use Rattle.shared_pool.specs.declared.seat.PoolSeat.{PoolSeat}
+use Rattle.shared_pool.specs.SeatViews.{view_of}
 use Rattle.shared_pool.specs.Holding.{HoldsRegion}
 use Rattle.shared_pool.specs.Notes.{plain}
 use Rattle.shared_pool.specs.Quotas.{quota_left}
+use Rattle.shared_pool.specs.SeatLanes.{lane_of}
 use Rattle.shared_pool.specs.Seats.{IsNoted}
 use Rattle.shared_pool.proofs.CacheHands.{shed_held}
 use Rattle.shared_pool.proofs.CacheHomes.{next, is_cache, cache_has}
 use Rattle.shared_pool.proofs.CacheQuotas.{quota_is}
 use Rattle.shared_pool.proofs.Endings.{ends, made, stood}
 use Rattle.shared_pool.proofs.Numbers.{below}
+use Rattle.shared_pool.proofs.SeatCalls.{seat_did}
+use Rattle.shared_pool.proofs.SeatEnds.{held_seat}
 use Rattle.shared_pool.proofs.pool.SharedPool.shed.Goals as goal
 
 pub shed-region-requires-clause-quota : goal.shed-region-requires-clause-quota
 shed-region-requires-clause-quota c =
     let got = c.in-Ok.ensures.got in let seat = c.requires.seat in let old = c.args.seat.now in
     let l = c.args.self.now.table.layout in let lane = c.lane_of.result in let class = c.args.class in
-    let at = stood l (Cache lane class) old c.claim.new.seat c.in-Ok.section got seat.setting seat.settled in
+    let at = stood l (Cache lane class) old.seat c.claim.new.seat c.in-Ok.section got seat.setting seat.settled in
     let lt = below (view_of old).own.number seat.lane lane l.shape.lanes seat.number c.lane_of.ensures.number
     seat.below in
     cache_has l.shape seat.setting lane class got.history c.in-Ok.section.home (λ q. 0 < q.quota) at
@@ -41,52 +45,66 @@ pub note-number-requires-clause-section : goal.note-number-requires-clause-secti
 note-number-requires-clause-section c =
     let got = c.in-Ok.ensures.got in let seat = c.requires.seat in let old = c.args.seat.now in
     let l = c.args.self.now.table.layout in let lane = c.lane_of.result in let class = c.args.class in
-    ends l (Cache lane class) old c.claim.new.seat c.in-Ok.section got seat.setting seat.settled
+    ends l (Cache lane class) old.seat c.claim.new.seat c.in-Ok.section got seat.setting seat.settled
     c.shed-region.new.section c.noted-noted.result
-    (next l lane class old c.claim.new.seat c.in-Ok.section got seat.setting seat.settled c.shed-region.new.section
+    (next l lane class old.seat c.claim.new.seat c.in-Ok.section got seat.setting seat.settled c.shed-region.new.section
     (Did.Shed c.shed-region.result.id) c.shed-region.ensures.same.0 c.shed-region.ensures.same.1
     c.shed-region.ensures.cache (refl)
     (λ m did_is. c.shed-region.ensures.stands (measures_of l.shape (Cache lane class)) seat.setting got.history m did_is
-    (stood l (Cache lane class) old c.claim.new.seat c.in-Ok.section got seat.setting seat.settled))
+    (stood l (Cache lane class) old.seat c.claim.new.seat c.in-Ok.section got seat.setting seat.settled))
     c.noted-noted.result (c.noted-noted.ensures))
 
 pub returns-clause-did : goal.returns-clause-did
 returns-clause-did c =
+    let new : PoolSeat = record c.args.seat.now { seat = c.note-number.new.seat } in
     let got = c.in-Ok.ensures.got in let seat = c.requires.seat in let old = c.args.seat.now in
     let l = c.args.self.now.table.layout in let lane = c.lane_of.result in let class = c.args.class in
     let n : c.noted-noted.result ≡ plain (Did.Shed c.shed-region.result.id) = c.noted-noted.ensures in
-    subst (λ (x : ℕ × Noted). IsNoted c.args.self.now old c.note-number.new.seat (Cache x.0 class) c.note-number.result
+    subst (λ (x : ℕ × Noted). IsNoted c.args.self.now old new (Cache x.0 class) c.note-number.result
     x.1) (λ i. (c.lane_of.ensures.lane i, n i))
     (made l (Cache lane class) old c.claim.new.seat c.in-Ok.section got seat.setting seat.settled c.args.self.now
     c.note-number.new.seat c.shed-region.new.section c.note-number.result c.noted-noted.result refl
-    (next l lane class old c.claim.new.seat c.in-Ok.section got seat.setting seat.settled c.shed-region.new.section
+    (next l lane class old.seat c.claim.new.seat c.in-Ok.section got seat.setting seat.settled c.shed-region.new.section
     (Did.Shed c.shed-region.result.id) c.shed-region.ensures.same.0 c.shed-region.ensures.same.1
     c.shed-region.ensures.cache (refl)
     (λ m did_is. c.shed-region.ensures.stands (measures_of l.shape (Cache lane class)) seat.setting got.history m did_is
-    (stood l (Cache lane class) old c.claim.new.seat c.in-Ok.section got seat.setting seat.settled))
+    (stood l (Cache lane class) old.seat c.claim.new.seat c.in-Ok.section got seat.setting seat.settled))
     c.noted-noted.result (n)) c.note-number.ensures.number c.note-number.ensures.noted)
 
 pub returns-clause-region : goal.returns-clause-region
 returns-clause-region c =
+    let new : PoolSeat = record c.args.seat.now { seat = c.note-number.new.seat } in
     let got = c.in-Ok.ensures.got in let seat = c.requires.seat in let old = c.args.seat.now in
     let l = c.args.self.now.table.layout in let lane = c.lane_of.result in let class = c.args.class in
     let v = view_of old in
     let n : c.noted-noted.result ≡ plain (Did.Shed c.shed-region.result.id) = c.noted-noted.ensures in
-    let follows = next l lane class old c.claim.new.seat c.in-Ok.section got seat.setting seat.settled
+    let follows = next l lane class old.seat c.claim.new.seat c.in-Ok.section got seat.setting seat.settled
     c.shed-region.new.section (Did.Shed c.shed-region.result.id) c.shed-region.ensures.same.0
     c.shed-region.ensures.same.1 c.shed-region.ensures.cache (refl)
     (λ m did_is. c.shed-region.ensures.stands (measures_of l.shape (Cache lane class)) seat.setting got.history m did_is
-    (stood l (Cache lane class) old c.claim.new.seat c.in-Ok.section got seat.setting seat.settled))
+    (stood l (Cache lane class) old.seat c.claim.new.seat c.in-Ok.section got seat.setting seat.settled))
     c.noted-noted.result (n) in
     let seen = made l (Cache lane class) old c.claim.new.seat c.in-Ok.section got seat.setting seat.settled
     c.args.self.now c.note-number.new.seat c.shed-region.new.section c.note-number.result c.noted-noted.result refl
     follows c.note-number.ensures.number c.note-number.ensures.noted in
     let shape = subst (λ (y : Layout). IsShape y.shape) (sym c.args.self.now.same_layout) c.args.self.now.shape in
-    subst (λ (k : ℕ). HoldsRegion c.args.self.now c.note-number.new.seat c.shed-region.result
+    subst (λ (k : ℕ). HoldsRegion c.args.self.now new c.shed-region.result
     × (c.shed-region.result.id.owner ≡ k) × (c.shed-region.result.id.class ≡ class)) c.lane_of.ensures.lane
-    (shed_held c.args.self.now lane class old c.claim.new.seat c.note-number.new.seat c.in-Ok.section got seat.setting
+    (shed_held c.args.self.now lane class old.seat c.claim.new.seat new c.in-Ok.section got seat.setting
     seat.settled
     (below v.own.number seat.lane lane l.shape.lanes seat.number c.lane_of.ensures.number seat.below) c.requires.class
     shape
     c.note-number.result (v.turns - 1) (noted_by v.own.number c.noted-noted.result) c.shed-region.result
     (ap (λ (x : Noted). x.did) n) follows.follows c.shed-region.ensures.here (ap (λ m. m.0) seen.seat))
+
+pub returns-clause-seat : goal.returns-clause-seat
+returns-clause-seat c =
+    seat_did c.args.self.now c.args.seat.now c.claim.new.seat c.note-number.new.seat
+    (Cache (lane_of c.args.seat.now) c.args.class) c.note-number.result _ refl c.requires.seat
+    c.claim.ensures.same c.note-number.ensures.same c.note-number.ensures.counts (returns-clause-did c)
+
+pub returns-in-Err-clause-seat : goal.returns-in-Err-clause-seat
+returns-in-Err-clause-seat c =
+    held_seat c.args.self.now (Cache c.lane_of.result c.args.class) false c.args.seat.now
+    (record c.args.seat.now { seat = c.claim.new.seat }) c.in-Err.held c.requires.seat c.claim.ensures.same refl refl
+    c.in-Err.ensures.held

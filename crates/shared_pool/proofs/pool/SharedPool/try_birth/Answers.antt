@@ -1,19 +1,22 @@
-use Rattle.std.proofs.Common.{◌≡◌, ℕ, ◌<◌, sym, subst, refl, inl, inr, arith}
+use Rattle.std.proofs.Common.{◌≡◌, ℕ, ◌<◌, sym, subst, refl, inl, inr, arith, rules}
 use Rattle.pool_law.specs.declared.id.RegionId.{RegionId}
+use Rattle.pool_law.specs.declared.note.RefDid.TheVariants.{Born}
 use Rattle.pool_table.specs.declared.views.SeatView.{SeatView}
 use Rattle.pool_table.specs.Hands.{InHand, HasRegion}
 use Rattle.pool_table.specs.Seats.{view_of}
 use Rattle.shared_pool.specs.PlaceSteps.{used}
+use Rattle.shared_pool.specs.RootNotes.{birth}
 use Rattle.shared_pool.proofs.BirthCalls.{may_leave, found_worn, may_bear_here, birth_ends, birth_hand, birth_awaited, birth_did}
+use Rattle.shared_pool.proofs.SeatCalls.{seat_did_with, seat_idled}
 use Rattle.shared_pool.proofs.pool.SharedPool.try_birth.Goals as goal
 
 pub claim_place-requires-clause-enters : goal.claim_place-requires-clause-enters
 claim_place-requires-clause-enters c =
-    inr (subst (λ (n : ℕ). InHand n (view_of c.args.seat.now)) (sym c.place-place.ensures) c.requires.handle.hand)
+    inr (subst (λ (n : ℕ). InHand n (view_of c.args.seat.now.seat)) (sym c.place-place.ensures) c.requires.handle.hand)
 
 pub unreachable-requires : goal.unreachable-requires
 unreachable-requires c =
-    c.in-Err.ensures.free (inl (subst (λ (n : ℕ). InHand n (view_of c.args.seat.now)) (sym c.place-place.ensures)
+    c.in-Err.ensures.free (inl (subst (λ (n : ℕ). InHand n (view_of c.args.seat.now.seat)) (sym c.place-place.ensures)
     c.requires.handle.hand))
 
 pub idle-requires-clause-leaves : goal.idle-requires-clause-leaves
@@ -71,7 +74,8 @@ note-number-requires-clause-hands c =
     let got = c.in-Ok.ensures.got in let id = c.args.region.id in
     subst (λ (w : SeatView). InHand c.bear-root.result.place w × ((x : RegionId) × HasRegion x w × (used id ≡ used x)))
     (sym got.view) (
-      subst (λ (n : ℕ). InHand n (view_of c.args.seat.now)) (sym c.bear-root.ensures.root.0) c.requires.handle.hand,
+      subst (λ (n : ℕ). InHand n (view_of c.args.seat.now.seat)) (sym c.bear-root.ensures.root.0)
+          c.requires.handle.hand,
       (id, record { taking = c.requires.region.hand.taking; uses = c.requires.region.hand.uses }, refl),
     )
 
@@ -117,3 +121,17 @@ returns-clause-did c =
 
 pub returns-clause-uses : goal.returns-clause-uses
 returns-clause-uses c = c.in-Ok.ensures.got.learned.uses c.args.region.id c.requires.region.hand
+
+pub returns-clause-seat : goal.returns-clause-seat
+returns-clause-seat c =
+    let root = c.birth-root.result in
+    seat_did_with c.args.self.now c.args.seat.now c.claim_place.new.seat c.note-number.new.seat c.birth-root.new.seat
+    root
+    c.note-number.result (birth root c.args.region.id c.args.watch) Born (view_of c.args.seat.now.seat).moves
+    c.requires.seat c.in-Ok.ensures.same c.note-number.ensures.same c.birth-root.ensures.same
+    c.birth-root.ensures.counts_one (returns-clause-did c)
+
+pub returns-then-is_worn-clause-seat : goal.returns-then-is_worn-clause-seat
+returns-then-is_worn-clause-seat c =
+    seat_idled c.args.self.now c.args.seat.now c.claim_place.new.seat c.idle.new.seat c.requires.seat
+    c.in-Ok.ensures.same c.idle.ensures.same (search rules)

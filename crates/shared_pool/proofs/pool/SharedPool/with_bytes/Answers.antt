@@ -1,4 +1,4 @@
-use Rattle.std.proofs.Common.{refl, ◌∙◌, ℕ, List}
+use Rattle.std.proofs.Common.{false, refl, ◌∙◌, ℕ, List}
 use Rattle.pool_law.specs.Roots.{bytes_at}
 use Rattle.pool_law.specs.declared.note.Did.{Did}
 use Rattle.pool_law.specs.declared.note.Object.TheVariants.{Root}
@@ -7,6 +7,8 @@ use Rattle.std.specs.Prelude.{length}
 use Rattle.shared_pool.specs.PlaceStanding.{home_bytes}
 use Rattle.shared_pool.specs.RootNotes.{access}
 use Rattle.shared_pool.proofs.Endings.{ends, made}
+use Rattle.shared_pool.proofs.SeatCalls.{seat_did}
+use Rattle.shared_pool.proofs.SeatEnds.{held_seat}
 use Rattle.shared_pool.proofs.PlaceHomes.{accessible, accessing, counts_root}
 use Rattle.shared_pool.proofs.pool.SharedPool.with_bytes.Goals as goal
 
@@ -14,8 +16,8 @@ pub show-answer-requires-clause-may : goal.show-answer-requires-clause-may
 show-answer-requires-clause-may g c =
     let l = c.args.self.now.table.layout in let root = c.args.root in let got = c.in-Ok.ensures.got in let seat =
     c.requires.seat in
-    accessible l root c.args.seat.now c.claim_place.new.seat c.in-Ok.section got seat.setting seat.settled
-    (counts_root l root c.args.seat.now c.claim_place.new.seat c.in-Ok.section got c.requires.counts) c.args.offset
+    accessible l root c.args.seat.now.seat c.claim_place.new.seat c.in-Ok.section got seat.setting seat.settled
+    (counts_root l root c.args.seat.now.seat c.claim_place.new.seat c.in-Ok.section got c.requires.counts) c.args.offset
     c.args.len c.requires.range
 
 pub note_shown-number-requires-clause-section : goal.note_shown-number-requires-clause-section
@@ -23,9 +25,9 @@ note_shown-number-requires-clause-section g c =
     let l = c.args.self.now.table.layout in let root = c.args.root in let got = c.in-Ok.ensures.got in let seat =
     c.requires.seat in let call = c.show-answer in
     let bytes : List ℕ = bytes_at (home_bytes call.new.section.home) c.args.offset c.args.len in
-    ends l (Root root.place) c.args.seat.now c.claim_place.new.seat c.in-Ok.section got seat.setting seat.settled
+    ends l (Root root.place) c.args.seat.now.seat c.claim_place.new.seat c.in-Ok.section got seat.setting seat.settled
     call.new.section (access root (Did.Get c.args.offset bytes))
-    (accessing l root c.args.seat.now c.claim_place.new.seat c.in-Ok.section call.new.section got seat.setting
+    (accessing l root c.args.seat.now.seat c.claim_place.new.seat c.in-Ok.section call.new.section got seat.setting
     seat.settled c.lane_of-lane.result (Did.Get c.args.offset bytes)
     (Access.Get c.lane_of-lane.result c.args.offset (length bytes)) c.requires.counts
     c.lane_of-lane.ensures.number (λ k. refl) refl refl refl refl call.ensures.same.0 call.ensures.same.1
@@ -45,10 +47,26 @@ returns-clause-did g c =
       made l (Root root.place) c.args.seat.now c.claim_place.new.seat c.in-Ok.section got seat.setting seat.settled
           c.args.self.now c.note_shown-number.new.seat call.new.section c.note_shown-number.result
           (access root (Did.Get c.args.offset bytes)) refl
-          (accessing l root c.args.seat.now c.claim_place.new.seat c.in-Ok.section call.new.section got seat.setting
+          (accessing l root c.args.seat.now.seat c.claim_place.new.seat c.in-Ok.section call.new.section got
+          seat.setting
           seat.settled c.lane_of-lane.result (Did.Get c.args.offset bytes)
           (Access.Get c.lane_of-lane.result c.args.offset (length bytes)) c.requires.counts
           c.lane_of-lane.ensures.number (λ k. refl) refl refl refl refl call.ensures.same.0
           call.ensures.same.1 call.ensures.place call.ensures.did)
           c.note_shown-number.ensures.number c.note_shown-number.ensures.noted,
     )
+
+pub returns-clause-seat : goal.returns-clause-seat
+returns-clause-seat g c =
+    let did = returns-clause-did g c in
+    seat_did c.args.self.now c.args.seat.now c.claim_place.new.seat c.note_shown-number.new.seat
+    (Root c.args.root.place)
+    c.note_shown-number.result (access c.args.root (Did.Get c.args.offset did.0)) refl c.requires.seat
+    c.in-Ok.ensures.same
+    c.note_shown-number.ensures.same c.note_shown-number.ensures.counts did.3
+
+pub returns-in-Err-clause-seat : goal.returns-in-Err-clause-seat
+returns-in-Err-clause-seat g c =
+    held_seat c.args.self.now (Root c.args.root.place) false c.args.seat.now
+    (record c.args.seat.now { seat = c.claim_place.new.seat }) c.in-Err.held c.requires.seat c.in-Err.ensures.same refl
+    refl c.in-Err.ensures.held

@@ -1,7 +1,0 @@
-use Rattle.std.proofs.Common.{◌≡◌}
-use Rattle.pool_table.specs.Seats.{view_of}
-use Rattle.shared_pool.specs.Seats.{IsPoolSeat}
-use Rattle.seat_work.proofs.hand_over.post.Given as goal
-
-abbrev pub invariant-loop : goal.invariant-loop
-invariant-loop g l = IsPoolSeat l.pool l.seat × (view_of l.seat ≡ view_of l.initial.seat)

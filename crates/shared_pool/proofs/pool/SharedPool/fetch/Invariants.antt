@@ -1,4 +1,0 @@
-use Rattle.shared_pool.proofs.pool.SharedPool.fetch.Given as goal
-
-abbrev pub ghosts-note : goal.ghosts-note
-ghosts-note a = record { note = a.noted.now }
