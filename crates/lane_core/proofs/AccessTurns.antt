@@ -24,19 +24,19 @@ use Rattle.pool_law.proofs.PatternLemmas.{same_number, same_root-refl}
 use Rattle.leak_records.specs.Records.{Sampling}
 use Rattle.pool_table.specs.declared.views.Entry.{Entry}
 use Rattle.pool_table.specs.declared.views.Entry.TheVariants.{At, Busy}
-use Rattle.pool_table.specs.Seats.{view_of, SameSeat}
+use Rattle.shared_pool.specs.SeatViews.{view_of, SameSeat}
 use Rattle.shared_pool.specs.declared.pool.SharedPool.{SharedPool}
 use Rattle.shared_pool.specs.Closing.{entry_of}
-use Rattle.shared_pool.specs.Quotas.{posts}
+use Rattle.pool_table.specs.Letters.{sent_on}
 use Rattle.shared_pool.specs.RootNotes.{access}
 use Rattle.shared_pool.specs.SeatLanes.{lane_of}
 use Rattle.shared_pool.specs.Seats.{IsPoolSeat, IsNoted, FoundBusy}
 use Rattle.seat_work.proofs.Accesses.{set_quiet, get_quiet, touch_quiet}
 use Rattle.lane_core.specs.declared.access.Reach.{Reach}
 use Rattle.lane_core.specs.declared.counts.Counted.{Counted}
-use Rattle.lane_core.specs.declared.desk.Desk.{Desk}
-use Rattle.lane_core.specs.declared.desk.Stage.TheVariants.{Ready}
-use Rattle.lane_core.specs.declared.desk.Turn.TheVariants.{Went}
+use Rattle.lane_core.specs.declared.context.Context.{Context}
+use Rattle.lane_core.specs.declared.context.Stage.TheVariants.{Ready}
+use Rattle.lane_core.specs.declared.context.Turn.TheVariants.{Went}
 use Rattle.lane_core.specs.Accesses.{IsState, reads_set, reads_get, tries_or}
 use Rattle.lane_core.specs.Readings.{before_left, ReadsOn, none_asked}
 use Rattle.seat_work.specs.Hands.{lane_in, empty_hand}
@@ -44,8 +44,8 @@ use Rattle.lane_core.specs.Budgets.{takes}
 use Rattle.lane_core.specs.Counting.{counted}
 use Rattle.lane_core.specs.Named.{bound_at, NamesAre}
 use Rattle.lane_core.specs.Sampled.{AreSampled}
-use Rattle.lane_core.specs.Desks.{IsDesk, left_for, HasTurned}
-use Rattle.lane_core.specs.DeskSteps.{HasNoted, HasReplied, MayTurn}
+use Rattle.lane_core.specs.Contexts.{IsContext, left_for, HasTurned}
+use Rattle.lane_core.specs.ContextSteps.{HasNoted, HasReplied, MayTurn}
 use Rattle.seat_work.proofs.Grown.{Grows, grows_noted, grows_busy}
 use Rattle.seat_work.proofs.HandLaws.{Carries, held_on}
 use Rattle.seat_work.proofs.HandNotes.{marked_busy}
@@ -53,7 +53,7 @@ use Rattle.lane_core.proofs.EntryCounts.{Recounts, IsStill, still}
 use Rattle.lane_core.proofs.NameLaws.{RebindsAt, rebound_same}
 use Rattle.lane_core.proofs.ReadLaws.{given_on, first_on, second_on, none_then, access_on, mark_on, note_unmarked}
 use Rattle.lane_core.proofs.StateReads.{used_view, viewed, goes}
-use Rattle.lane_core.proofs.DeskLaws.{Advances}
+use Rattle.lane_core.proofs.ContextLaws.{Advances}
 use Rattle.lane_core.proofs.Turning.{one_turn, one_turn_same, mid_names, as_start}
 
 module _ (r : RootId) (number : ℕ) (lane : Option ℕ) where
@@ -67,7 +67,7 @@ module _ (r : RootId) (number : ℕ) (lane : Option ℕ) where
     pub carries : (m : ℕ) → Carries m empty_hand empty_hand (access_entry did ∷ [])
     pub sampled : (s : Sampling) → AreSampled s (access_entry did ∷ []) s
     pub none_taken : takes (access_entry did) ≡ 0
-    pub none_sent : (m to : ℕ) → posts m to (access_entry did ∷ []) ≡ 0
+    pub none_sent : (m to : ℕ) → sent_on m to (access_entry did ∷ []) ≡ 0
 
   pub set_is : (offset : ℕ) (bytes : List ℕ) → IsAccessDid (Did.Set offset bytes)
   set_is offset bytes = record {
@@ -96,17 +96,17 @@ module _ (r : RootId) (number : ℕ) (lane : Option ℕ) where
     none_sent = (touch_quiet r number lane).unsent;
   }
 
-module _ (pool : SharedPool) (old start mid new : Desk) (d : IsDesk pool empty_hand old)
+module _ (pool : SharedPool) (old start mid new : Context) (d : IsContext pool empty_hand old)
     (low : old.asked < sweep_period) (start_is : start ≡ record old { seat = start.seat })
     (same : SameSeat old.seat start.seat) (seat : IsPoolSeat pool start.seat) where
   asked_are : start.asked ≡ old.asked
-  asked_are = ap (λ (x : Desk). x.asked) start_is
+  asked_are = ap (λ (x : Context). x.asked) start_is
 
   counts_are : start.counts ≡ old.counts
-  counts_are = ap (λ (x : Desk). x.counts) start_is
+  counts_are = ap (λ (x : Context). x.counts) start_is
 
   samplers_are : start.sampler ≡ old.sampler
-  samplers_are = ap (λ (x : Desk). x.sampler) start_is
+  samplers_are = ap (λ (x : Context). x.sampler) start_is
 
   -- an access that was made and noted is answered
   module _ (r : RootId) (lt : 0 < counted old.counts r) (number : ℕ) (did : Did)
@@ -194,7 +194,7 @@ on_access : {A : Type 0} (r : RootId) (says_so : Did → Option A) (number : ℕ
 on_access r says_so number lane did a so =
     access_on (entry_of (access_entry r number lane did)) r says_so number did refl (same_root-refl r) a so
 
-pub touch_turn : (pool : SharedPool) (name : ℕ) (old start mid new : Desk)
+pub touch_turn : (pool : SharedPool) (name : ℕ) (old start mid new : Context)
     → MayTurn pool (left_for old.composes (Command.Touch name)) old → start ≡ record old { seat = start.seat }
     → SameSeat old.seat start.seat → IsPoolSeat pool start.seat →
     (v : ViewData) → bound_at old.names name ≡ Some (Plain v) → 0 < counted old.counts v.root → (number : ℕ)
@@ -207,9 +207,9 @@ touch_turn pool name old start mid new may start_is same seat v bound lt number 
     let e : LawEntry = entry_of (access_entry v.root number lane Did.Touch) in
     let touches : Reader Answer = accesses v.root says.touch >> give (answer Reply.Ok s.names) in
     let is : IsAccessDid v.root number lane Did.Touch = touch_is v.root number lane in
-    let names_are : mid.names ≡ old.names = access_names pool old start mid new may.desk may.asked start_is same seat
+    let names_are : mid.names ≡ old.names = access_names pool old start mid new may.context may.asked start_is same seat
     v.root lt number Did.Touch is made noted in
-    access_turn pool old start mid new may.desk may.asked start_is same seat v.root lt number Did.Touch is made noted
+    access_turn pool old start mid new may.context may.asked start_is same seat v.root lt number Did.Touch is made noted
     mid.names Reply.Ok refl replied (rebound_same 1 old.names mid.names names_are) s
     (Command.Touch name) s.names
     (subst (NamesAre s.names) (sym names_are) state.names_are) (omega arith)

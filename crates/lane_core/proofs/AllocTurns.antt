@@ -14,15 +14,15 @@ use Rattle.pool_law.specs.Readers.{Log}
 use Rattle.pool_law.specs.Refusals.{first_refusal, refusals, taken, too_large as too_large_for}
 use Rattle.pool_law.proofs.PatternLemmas.{same_root-refl}
 use Rattle.lane_core.proofs.NameLaws.{rebound_same}
-use Rattle.pool_table.specs.Seats.{view_of}
+use Rattle.shared_pool.specs.SeatViews.{view_of}
 use Rattle.shared_pool.specs.declared.pool.SharedPool.{SharedPool}
 use Rattle.shared_pool.specs.Closing.{entry_of}
 use Rattle.shared_pool.specs.SeatLanes.{lane_of}
 use Rattle.lane_core.specs.declared.counts.Counted.{Counted}
-use Rattle.lane_core.specs.declared.desk.Desk.{Desk}
-use Rattle.lane_core.specs.declared.desk.Stage.TheVariants.{Ready, Allotting}
-use Rattle.lane_core.specs.declared.desk.Turn.{Turn}
-use Rattle.lane_core.specs.declared.desk.Turn.TheVariants.{Went}
+use Rattle.lane_core.specs.declared.context.Context.{Context}
+use Rattle.lane_core.specs.declared.context.Stage.TheVariants.{Ready, Allotting}
+use Rattle.lane_core.specs.declared.context.Turn.{Turn}
+use Rattle.lane_core.specs.declared.context.Turn.TheVariants.{Went}
 use Rattle.lane_core.specs.declared.access.Refusal.TheVariants.{Taken}
 use Rattle.lane_core.specs.declared.allotment.Allotting.{Allotting as AllotStage}
 use Rattle.lane_core.specs.declared.allotment.Allotting.TheVariants.{Handle as AskHandle}
@@ -35,21 +35,21 @@ use Rattle.lane_core.specs.Counting.{counted}
 use Rattle.seat_work.specs.Hands.{empty_hand}
 use Rattle.lane_core.specs.Named.{bound_at}
 use Rattle.lane_core.specs.Readings.{swept}
-use Rattle.lane_core.specs.Desks.{IsDesk, notes_of, entries_of, reads_from, left_for, HasRoomFor, HasTurned}
-use Rattle.lane_core.specs.DeskSteps.{HasReplied, CanAnswer, MayTurn}
+use Rattle.lane_core.specs.Contexts.{IsContext, notes_of, entries_of, reads_from, left_for, HasRoomFor, HasTurned}
+use Rattle.lane_core.specs.ContextSteps.{HasReplied, CanAnswer, MayTurn}
 use Rattle.lane_core.proofs.BeginTurns as begin
 use Rattle.lane_core.proofs.BeginTurns.{within_same, within_sheds}
-use Rattle.lane_core.proofs.EntryCounts.{few_counted, alone_added}
+use Rattle.lane_core.proofs.SeatCounts.{few_counted, alone_added}
 use Rattle.lane_core.proofs.StateReads.{passed, comes_first, is_free, is_taken, goes, refuses}
 use Rattle.lane_core.proofs.Turning.{noteless, refused_turn}
-use Rattle.lane_core.proofs.DeskGrown.{noted_so}
+use Rattle.lane_core.proofs.ContextGrown.{noted_so}
 use Rattle.lane_core.proofs.StageTurns.{Staged, staged_counts, staged_names}
 use Rattle.lane_core.proofs.AllotTurns.{allotted}
 use Rattle.lane_core.proofs.StageNeeds.{answers_behind}
 
--- a step of an allocation, and the desk behind it
-module _ (pool : SharedPool) (old mid : Desk) (name size class : ℕ) (stage : AllotStage)
-    (d : IsDesk pool (allotment.hand_of stage) old) (class_is : class_of (geometry_of old.shape) size ≡ Some class)
+-- a step of an allocation, and the context behind it
+module _ (pool : SharedPool) (old mid : Context) (name size class : ℕ) (stage : AllotStage)
+    (d : IsContext pool (allotment.hand_of stage) old) (class_is : class_of (geometry_of old.shape) size ≡ Some class)
     (mid_so : mid ≡ record old {
       seat = mid.seat;
       sampler = mid.sampler;
@@ -59,10 +59,10 @@ module _ (pool : SharedPool) (old mid : Desk) (name size class : ℕ) (stage : A
     }) where
   -- it can be answered
   pub allot_can : (allots : Allots) → allotment.HasAllotted pool old.seat mid.seat old.sampler mid.sampler old.notes
-      mid.notes size class stage allots → HasRoomFor old (allotment.left_of stage)
+      mid.notes size class stage allots → HasRoomFor pool old (allotment.left_of stage)
       → length old.replies.items < vec_capacity old.replies → CanAnswer mid
   allot_can allots did room replies =
-      let start : Desk = record old {
+      let start : Context = record old {
         seat = mid.seat;
         sampler = mid.sampler;
         asked =
@@ -72,11 +72,11 @@ module _ (pool : SharedPool) (old mid : Desk) (name size class : ℕ) (stage : A
       (view_of mid.seat) did.wrote.added did.written did.wrote.more did.wrote.noted did.spends start mid refl
       (noted_so start mid did.written did.log mid_so) replies
 
-  -- a root was born, and what its count asks of the desk that noted that
+  -- a root was born, and what its count asks of the context that noted that
   module _ (root : RootId) (region : RegionId)
       (did : allotment.HasAllotted pool old.seat mid.seat old.sampler mid.sampler old.notes mid.notes size class stage
       (New root region)) where
-    abbrev born_start : Desk
+    abbrev born_start : Context
     born_start = record old { seat = mid.seat; sampler = mid.sampler; asked = allotment.asks_of stage old.asked }
 
     new_staged : Staged pool (allotment.hand_of stage) empty_hand old born_start mid did.wrote.added (one_for root)
@@ -105,7 +105,7 @@ module _ (pool : SharedPool) (old mid : Desk) (name size class : ℕ) (stage : A
         other at (subst (λ (cs : List Counted). 0 < counted cs other) counts_kept some)
 
     -- it isn't counted too often for one count more
-    pub new_few : HasRoomFor old (allotment.left_of stage) → counted mid.counts root < 4294967295
+    pub new_few : HasRoomFor pool old (allotment.left_of stage) → counted mid.counts root < 4294967295
     new_few room =
         let a = few_counted old.counts (entries_of old) d.counts root in let b = length-map (notes_of old) entry_of in
         let e = room.few in
@@ -117,7 +117,8 @@ module _ (pool : SharedPool) (old mid : Desk) (name size class : ℕ) (stage : A
         (sym (staged_names pool (allotment.hand_of stage) empty_hand old born_start mid did.wrote.added
         (one_for root) new_staged)) lt
 
-module _ (pool : SharedPool) (old new : Desk) (name size : ℕ) (s : LaneState) (state : IsState s old.names old.counts)
+module _ (pool : SharedPool) (old new : Context) (name size : ℕ) (s : LaneState)
+    (state : IsState s old.names old.counts)
   where
     abbrev command : Command
     command = Command.Alloc name size
@@ -142,7 +143,7 @@ module _ (pool : SharedPool) (old new : Desk) (name size : ℕ) (s : LaneState) 
       pub too_large : MayTurn pool (left_for old.composes command) old → class_of (geometry_of old.shape) size ≡ None
           → HasReplied old new Reply.TooLarge → HasTurned pool old new s command Ready (Went Ready)
       too_large may is replied =
-          noteless pool old new may.desk may.asked old.names Reply.TooLarge refl replied
+          noteless pool old new may.context may.asked old.names Reply.TooLarge refl replied
           (rebound_same 1 old.names old.names refl) s command s.names
           state.names_are
           (refuses s old.names old.counts state old.shape (lane_of old.seat) command Reply.TooLarge

@@ -18,16 +18,16 @@ use Rattle.pool_law.specs.Names.{Plain, bind, Bound}
 use Rattle.pool_law.specs.Patterns.{New as LawNew}
 use Rattle.pool_law.specs.Readers.{Reader, ◌>>=◌, give}
 use Rattle.pool_law.specs.Views.{view_of as root_view}
-use Rattle.pool_table.specs.Seats.{view_of}
+use Rattle.shared_pool.specs.SeatViews.{view_of}
 use Rattle.shared_pool.specs.declared.pool.SharedPool.{SharedPool}
 use Rattle.shared_pool.specs.Closing.{entry_of}
 use Rattle.shared_pool.specs.SeatLanes.{lane_of}
 use Rattle.shared_pool.specs.Seats.{FoundBusy}
 use Rattle.lane_core.specs.declared.counts.Counted.{Counted}
-use Rattle.lane_core.specs.declared.desk.Desk.{Desk}
-use Rattle.lane_core.specs.declared.desk.Stage.TheVariants.{Allotting}
-use Rattle.lane_core.specs.declared.desk.Turn.{Turn}
-use Rattle.lane_core.specs.declared.desk.Turn.TheVariants.{Went, Pending}
+use Rattle.lane_core.specs.declared.context.Context.{Context}
+use Rattle.lane_core.specs.declared.context.Stage.TheVariants.{Allotting}
+use Rattle.lane_core.specs.declared.context.Turn.{Turn}
+use Rattle.lane_core.specs.declared.context.Turn.TheVariants.{Went, Pending}
 use Rattle.lane_core.specs.declared.allotment.Allotting.{Allotting as AllotStage}
 use Rattle.lane_core.specs.declared.allotment.Allotting.TheVariants.{Handle as AllotHandle, Cache as AllotCache, Arena as AllotArena, Birth as AllotBirth, Home as AllotHome}
 use Rattle.lane_core.specs.declared.allotment.Allots.{Allots}
@@ -39,12 +39,12 @@ use Rattle.lane_core.specs.Counting.{counted}
 use Rattle.seat_work.specs.Hands.{Hand, empty_hand}
 use Rattle.lane_core.specs.Named.{NamesAre}
 use Rattle.lane_core.specs.Readings.{ReadsOn, swept, renamed}
-use Rattle.lane_core.specs.Desks.{IsDesk, reads_from, HasTurned}
-use Rattle.lane_core.specs.DeskSteps.{HasNoted, Concludes, CountsMore}
+use Rattle.lane_core.specs.Contexts.{IsContext, reads_from, HasTurned}
+use Rattle.lane_core.specs.ContextSteps.{HasNoted, Concludes, CountsMore}
 use Rattle.lane_core.proofs.NameLaws.{NamesAre-bind, rebound_same, rebound_view}
 use Rattle.lane_core.proofs.ReadLaws.{then_on, given_on}
-use Rattle.lane_core.proofs.DeskLaws.{spends_at}
-use Rattle.lane_core.proofs.DeskGrown.{noted_so}
+use Rattle.lane_core.proofs.ContextLaws.{spends_at}
+use Rattle.lane_core.proofs.ContextGrown.{noted_so}
 use Rattle.lane_core.proofs.StageTurns.{Staged, none_of, some_of, staged_concludes, staged_counts, staged_grew, staged_names, staged_on, staged_seat, staged_shape, staged_still}
 
 -- the count of allocations that asked a cache never falls in one
@@ -55,8 +55,8 @@ asks_least (AllotArena h) n = omega arith
 asks_least (AllotBirth h r) n = omega arith
 asks_least (AllotHome h) n = omega arith
 
-module _ (pool : SharedPool) (old mid : Desk) (name size class : ℕ) (stage : AllotStage)
-    (d : IsDesk pool (allotment.hand_of stage) old) (class_is : class_of (geometry_of old.shape) size ≡ Some class)
+module _ (pool : SharedPool) (old mid : Context) (name size class : ℕ) (stage : AllotStage)
+    (d : IsContext pool (allotment.hand_of stage) old) (class_is : class_of (geometry_of old.shape) size ≡ Some class)
     (mid_so : mid ≡ record old {
       seat = mid.seat;
       sampler = mid.sampler;
@@ -64,7 +64,7 @@ module _ (pool : SharedPool) (old mid : Desk) (name size class : ℕ) (stage : A
       asked =
           allotment.asks_of stage old.asked;
     }) where
-  abbrev allot_start : Desk
+  abbrev allot_start : Context
   allot_start = record old { seat = mid.seat; sampler = mid.sampler; asked = allotment.asks_of stage old.asked }
 
   module _ (allots : Allots) (did : allotment.HasAllotted pool old.seat mid.seat old.sampler mid.sampler old.notes
@@ -72,7 +72,7 @@ module _ (pool : SharedPool) (old mid : Desk) (name size class : ℕ) (stage : A
     pub allotted : Staged pool (allotment.hand_of stage) (allotment.hand_after allots) old allot_start mid
         did.wrote.added (allotment.born_in allots)
     allotted = record {
-      desk = d;
+      context = d;
       start_is = refl;
       counts_are = refl;
       same = did.wrote.same;
@@ -110,7 +110,7 @@ module _ (pool : SharedPool) (old mid : Desk) (name size class : ℕ) (stage : A
 
     module _ (lt : name < length old.names) (low : old.asked + (allotment.left_of stage).asks ≤ sweep_period) where
       mid_asked_is : mid.asked ≡ allotment.asks_of stage old.asked
-      mid_asked_is = ap (λ (x : Desk). x.asked) mid_so
+      mid_asked_is = ap (λ (x : Context). x.asked) mid_so
 
       pub allot_goes : (next : AllotStage) → allotment.HasAllotted pool old.seat mid.seat old.sampler mid.sampler
           old.notes mid.notes size class stage (More next)
@@ -190,7 +190,7 @@ module _ (pool : SharedPool) (old mid : Desk) (name size class : ℕ) (stage : A
           }
 
       -- a root was born, and its name is bound
-      pub allot_new : (new : Desk) (root : RootId) (region : RegionId)
+      pub allot_new : (new : Context) (root : RootId) (region : RegionId)
           → allotment.HasAllotted pool old.seat mid.seat old.sampler mid.sampler old.notes mid.notes size class stage
           (New root region) → (cs : List Counted) → CountsMore mid.counts cs root → (turn : Turn) →
           Concludes (record mid { names = slice_set mid.names name (Some (Plain (root_view root))); counts = cs }) new
@@ -222,7 +222,7 @@ module _ (pool : SharedPool) (old mid : Desk) (name size class : ℕ) (stage : A
           (read_on (New root region) did))
           turn concludes
 
-      module _ (new : Desk) (allots : Allots) (reply : Reply) (unstopped : before_stop (reply ∷ []) ≡ 1)
+      module _ (new : Context) (allots : Allots) (reply : Reply) (unstopped : before_stop (reply ∷ []) ≡ 1)
           (empty : allotment.hand_after allots ≡ empty_hand)
           (none : (root : RootId) → allotment.born_in allots root ≡ 0)
           (left : allotment.left_after allots ≡ notes_alone 0)

@@ -6,17 +6,17 @@ use Rattle.pool_law.specs.LaneStates.{LaneState}
 use Rattle.pool_law.specs.Lanes.{Answer}
 use Rattle.pool_law.specs.Readers.{Log, Reader}
 use Rattle.pool_table.specs.declared.views.SeatView.{SeatView}
-use Rattle.pool_table.specs.Seats.{view_of}
+use Rattle.shared_pool.specs.SeatViews.{view_of}
 use Rattle.shared_pool.specs.declared.pool.SharedPool.{SharedPool}
 use Rattle.shared_pool.specs.Closing.{entry_of}
 use Rattle.shared_pool.specs.SeatLanes.{lane_of}
-use Rattle.lane_core.specs.declared.desk.Desk.{Desk}
-use Rattle.lane_core.specs.declared.desk.Stage.{Stage}
-use Rattle.lane_core.specs.declared.desk.Stage.TheVariants.{Ready}
-use Rattle.lane_core.specs.declared.desk.Turn.{Turn}
-use Rattle.lane_core.specs.declared.desk.Turn.TheVariants.{Went, Pending, Waiting}
+use Rattle.lane_core.specs.declared.context.Context.{Context}
+use Rattle.lane_core.specs.declared.context.Stage.{Stage}
+use Rattle.lane_core.specs.declared.context.Stage.TheVariants.{Ready}
+use Rattle.lane_core.specs.declared.context.Turn.{Turn}
+use Rattle.lane_core.specs.declared.context.Turn.TheVariants.{Went, Pending, Waiting}
 use Rattle.lane_core.specs.Budgets.{Left, with_sheds}
-use Rattle.lane_core.specs.Desks.{HasTurned, IsUnderway, SpendsAt, left_after, left_now, log_of, reads_from}
+use Rattle.lane_core.specs.Contexts.{HasTurned, IsUnderway, SpendsAt, left_after, left_now, log_of, reads_from}
 use Rattle.lane_core.specs.Works.{IsWithin}
 use Rattle.lane_core.proofs.StageCases.{by_kind, left_on, on_waits, on_went, waits_on, went_on}
 
@@ -40,7 +40,7 @@ within_sheds v a b w = record {
 }
 
 -- who had more left spends no more either
-pub spends_within : (old new : Desk) (less before after : Left) → IsWithin less before → SpendsAt old new less after
+pub spends_within : (old new : Context) (less before after : Left) → IsWithin less before → SpendsAt old new less after
     → SpendsAt old new before after
 spends_within old new less before after w sp = record {
   sweeps = sp.sweeps;
@@ -50,7 +50,8 @@ spends_within old new less before after w sp = record {
   sends = λ to. (let a = w.sends to in let b = sp.sends to in omega (arith, a, b));
 }
 
-module _ (pool : SharedPool) (old new : Desk) (s : LaneState) (command : Command) (at : Stage) (under : IsUnderway at)
+module _ (pool : SharedPool) (old new : Context) (s : LaneState) (command : Command) (at : Stage)
+    (under : IsUnderway at)
     (same : (log : Log) → reads_from old.shape (lane_of old.seat) s command Ready log
     ≡ reads_from old.shape (lane_of old.seat) s command at log)
     (within : IsWithin (left_now old.composes command at (view_of old.seat))

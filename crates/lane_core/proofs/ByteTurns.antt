@@ -15,7 +15,7 @@ use Rattle.pool_law.specs.Names.{Names, Bound, Plain}
 use Rattle.pool_law.specs.Readers.{Log, Reader, give}
 use Rattle.lane_core.proofs.NameLaws.{rebound_view}
 use Rattle.pool_table.specs.declared.views.Entry.TheVariants.{Busy}
-use Rattle.pool_table.specs.Seats.{view_of, SameSeat}
+use Rattle.shared_pool.specs.SeatViews.{view_of, SameSeat}
 use Rattle.shared_pool.specs.declared.pool.SharedPool.{SharedPool}
 use Rattle.shared_pool.specs.Closing.{entry_of}
 use Rattle.shared_pool.specs.RootNotes.{access}
@@ -23,22 +23,22 @@ use Rattle.shared_pool.specs.SeatLanes.{lane_of}
 use Rattle.shared_pool.specs.Seats.{IsPoolSeat, IsNoted, FoundBusy}
 use Rattle.lane_core.specs.declared.access.Access.TheVariants.{Set, Get}
 use Rattle.lane_core.specs.declared.access.Reach.{Reach}
-use Rattle.lane_core.specs.declared.desk.Desk.{Desk}
-use Rattle.lane_core.specs.declared.desk.Stage.TheVariants.{Ready}
-use Rattle.lane_core.specs.declared.desk.Turn.{Turn}
-use Rattle.lane_core.specs.declared.desk.Turn.TheVariants.{Went}
+use Rattle.lane_core.specs.declared.context.Context.{Context}
+use Rattle.lane_core.specs.declared.context.Stage.TheVariants.{Ready}
+use Rattle.lane_core.specs.declared.context.Turn.{Turn}
+use Rattle.lane_core.specs.declared.context.Turn.TheVariants.{Went}
 use Rattle.lane_core.specs.Accesses.{reads_set, reads_get, tries_or}
 use Rattle.lane_core.specs.Readings.{before_left, ReadsOn, none_asked}
 use Rattle.lane_core.specs.Counting.{counted}
 use Rattle.seat_work.specs.Hands.{empty_hand}
 use Rattle.lane_core.specs.Named.{NamesAre}
-use Rattle.lane_core.specs.Desks.{IsDesk, left_for, HasTurned}
-use Rattle.lane_core.specs.DeskSteps.{HasNoted, HasReplied, FindsBusy, AccessTurns}
-use Rattle.lane_core.proofs.DeskWaits.{waits_turn}
+use Rattle.lane_core.specs.Contexts.{IsContext, left_for, HasTurned}
+use Rattle.lane_core.specs.ContextSteps.{HasNoted, HasReplied, FindsBusy, AccessTurns}
+use Rattle.lane_core.proofs.ContextWaits.{waits_turn}
 use Rattle.lane_core.proofs.AccessTurns.{IsAccessDid, set_is, get_is, access_entry, access_turn, access_names, busy_turn, read_set, read_get, read_busy}
 
 -- the access of a reach to its root is noted, and its name is bound to what is behind it
-module _ (pool : SharedPool) (old start mid new : Desk) (d : IsDesk pool empty_hand old)
+module _ (pool : SharedPool) (old start mid new : Context) (d : IsContext pool empty_hand old)
     (low : old.asked < sweep_period) (start_is : start ≡ record old { seat = start.seat })
     (same : SameSeat old.seat start.seat) (seat : IsPoolSeat pool start.seat) (reach : Reach)
     (lt : 0 < counted old.counts reach.root) (in_names : reach.name < length old.names)
@@ -63,7 +63,7 @@ module _ (pool : SharedPool) (old start mid new : Desk) (d : IsDesk pool empty_h
       (Plain reach.after.at))))
       (sym names_are) are) notes reads
 
-module _ (pool : SharedPool) (old start mid new : Desk) (d : IsDesk pool empty_hand old)
+module _ (pool : SharedPool) (old start mid new : Context) (d : IsContext pool empty_hand old)
     (low : old.asked < sweep_period) (start_is : start ≡ record old { seat = start.seat })
     (same : SameSeat old.seat start.seat) (seat : IsPoolSeat pool start.seat) (reach : Reach)
     (lt : 0 < counted old.counts reach.root) (in_names : reach.name < length old.names) (number : ℕ) where
@@ -100,7 +100,8 @@ module _ (pool : SharedPool) (old start mid new : Desk) (d : IsDesk pool empty_h
       ∙ read_get s bound reach number lane bytes (length note.items) len log)
 
 -- another seat was at the root of an access
-module _ (pool : SharedPool) (old start new : Desk) (d : IsDesk pool empty_hand old) (low : old.asked < sweep_period)
+module _ (pool : SharedPool) (old start new : Context) (d : IsContext pool empty_hand old)
+    (low : old.asked < sweep_period)
     (start_is : start ≡ record old { seat = start.seat }) (same : SameSeat old.seat start.seat)
     (seat : IsPoolSeat pool start.seat) (reach : Reach) (view : reach.after.at.root ≡ reach.root) (held : Held)
     (turn : Turn)
@@ -117,10 +118,11 @@ module _ (pool : SharedPool) (old start new : Desk) (d : IsDesk pool empty_hand 
       (λ log. reads (before_left log (entry_of (Busy held) ∷ []))
       ∙ read_busy s reach.after.at held going (found.object ∙ ap (λ (r : RootId). Root r.place) (sym view)) log))
   found_turn false found did reads =
-      subst (λ (x : Desk × Turn). HasTurned pool old x.0 s command Ready x.1) (λ i. (sym did.0 i, sym did.1 i))
+      subst (λ (x : Context × Turn). HasTurned pool old x.0 s command Ready x.1) (λ i. (sym did.0 i, sym did.1 i))
       (waits_turn pool old start low d start_is same seat (Root reach.root.place) held found s command)
 
-module _ (pool : SharedPool) (old start new : Desk) (d : IsDesk pool empty_hand old) (low : old.asked < sweep_period)
+module _ (pool : SharedPool) (old start new : Context) (d : IsContext pool empty_hand old)
+    (low : old.asked < sweep_period)
     (start_is : start ≡ record old { seat = start.seat }) (same : SameSeat old.seat start.seat)
     (seat : IsPoolSeat pool start.seat) (reach : Reach) (view : reach.after.at.root ≡ reach.root) (held : Held)
     (turn : Turn)

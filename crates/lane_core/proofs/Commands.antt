@@ -25,16 +25,16 @@ use Rattle.pool_table.specs.declared.roots.EndToken.{EndToken}
 use Rattle.pool_table.specs.declared.views.Entry.TheVariants.{Ref}
 use Rattle.pool_table.specs.declared.views.SeatView.{SeatView}
 use Rattle.pool_table.specs.Counts.{with_ref, on_this, ref_loss, HasCount, HasToken}
-use Rattle.pool_table.specs.Seats.{view_of, SameSeat, HasView}
+use Rattle.shared_pool.specs.SeatViews.{view_of, SameSeat, HasView}
 use Rattle.shared_pool.specs.declared.pool.SharedPool.{SharedPool}
 use Rattle.shared_pool.specs.Closing.{entry_of}
 use Rattle.shared_pool.specs.RootNotes.{HoldsToken}
 use Rattle.shared_pool.specs.SeatLanes.{lane_of}
 use Rattle.shared_pool.specs.Seats.{IsPoolSeat}
 use Rattle.lane_core.specs.declared.counts.Counted.{Counted}
-use Rattle.lane_core.specs.declared.desk.Desk.{Desk}
-use Rattle.lane_core.specs.declared.desk.Stage.TheVariants.{Ready, Ending}
-use Rattle.lane_core.specs.declared.desk.Turn.TheVariants.{Went}
+use Rattle.lane_core.specs.declared.context.Context.{Context}
+use Rattle.lane_core.specs.declared.context.Stage.TheVariants.{Ready, Ending}
+use Rattle.lane_core.specs.declared.context.Turn.TheVariants.{Went}
 use Rattle.lane_core.specs.declared.retirement.Ending.TheVariants.{Root as RootEnds}
 use Rattle.lane_core.specs.Accesses.{IsState}
 use Rattle.lane_core.specs.Allotments.{left_with}
@@ -45,38 +45,39 @@ use Rattle.lane_core.specs.Counting.{counted}
 use Rattle.lane_core.specs.Named.{bound_at, NamesAre}
 use Rattle.lane_core.specs.Endings.{retired}
 use Rattle.lane_core.specs.Readings.{before_left, behind, ReadsOn, none_asked, swept, renamed}
-use Rattle.lane_core.specs.Desks.{IsDesk, notes_of, entries_of, HasRoomFor, reads_from, left_for, HasTurned}
-use Rattle.lane_core.specs.DeskSteps.{HasNoted, HasReplied, HasRetained, CountsMore, CountsLess, MayTurn}
+use Rattle.lane_core.specs.Contexts.{IsContext, notes_of, entries_of, HasRoomFor, reads_from, left_for, HasTurned}
+use Rattle.lane_core.specs.ContextSteps.{HasNoted, HasReplied, HasRetained, CountsMore, CountsLess, MayTurn}
 use Rattle.lane_core.proofs.CountLaws.{counted_within}
 use Rattle.lane_core.proofs.NameLaws.{NamesAre-bind, NamesAre-unbound, rebound_view, rebound_none}
 use Rattle.seat_work.proofs.Grown.{Grows, grows_ref}
 use Rattle.lane_core.proofs.Grown.{spends}
 use Rattle.seat_work.proofs.HandLaws.{Carries, held_on}
-use Rattle.lane_core.proofs.EntryCounts.{retained, kept, ended, last_count, has_count, few_counted, stays_counted}
+use Rattle.lane_core.proofs.EntryCounts.{retained, kept, ended}
+use Rattle.lane_core.proofs.SeatCounts.{last_count, has_count, few_counted, stays_counted}
 use Rattle.lane_core.proofs.ReadLaws.{then_on, given_on, first_on, second_on, none_then, step_on, step_off}
 use Rattle.lane_core.proofs.StateReads.{named_so, viewed, is_bound, passed, used_fresh, ranged_fresh, unranged_fresh, goes, refuses, goes_uncounted}
-use Rattle.lane_core.proofs.DeskLaws.{Advances, spends_at}
-use Rattle.lane_core.proofs.DeskGrown.{mid_grew, goes_on}
+use Rattle.lane_core.proofs.ContextLaws.{Advances, spends_at}
+use Rattle.lane_core.proofs.ContextGrown.{mid_grew, goes_on}
 use Rattle.seat_work.proofs.HandNotes.{weightless, ended_carries}
 use Rattle.lane_core.proofs.Turning.{noteless, ref_advances, one_turn, one_turn_same, mid_names}
 
 -- ---- Names.
 
 -- a name is unbound
-pub forget_turn : (pool : SharedPool) (name : ℕ) (old new : Desk) → MayTurn pool (left_for old.composes
+pub forget_turn : (pool : SharedPool) (name : ℕ) (old new : Context) → MayTurn pool (left_for old.composes
     (Command.Forget name)) old
     → name < length old.names → (b : Bound) → bound_at old.names name ≡ Some b →
     HasReplied (record old { names = slice_set old.names name None }) new Reply.Ok → (s : LaneState)
     → IsState s old.names old.counts → HasTurned pool old new s (Command.Forget name) Ready (Went Ready)
 forget_turn pool name old new may lt b is replied s state =
-    noteless pool old new may.desk may.asked (slice_set old.names name None) Reply.Ok refl replied
+    noteless pool old new may.context may.asked (slice_set old.names name None) Reply.Ok refl replied
     (rebound_none 1 old.names old.names refl name lt) s (Command.Forget name) (without name s.names)
     (NamesAre-unbound s.names old.names state.names_are name lt)
     (goes s old.names old.counts state old.shape (lane_of old.seat) (Command.Forget name)
     (passed (unbound s name) [] (is_bound s old.names old.counts state name b is)))
 
 -- a new name is bound to a view
-module _ (pool : SharedPool) (fresh : ℕ) (old new : Desk) (d : IsDesk pool empty_hand old)
+module _ (pool : SharedPool) (fresh : ℕ) (old new : Context) (d : IsContext pool empty_hand old)
     (low : old.asked < sweep_period) (lt : fresh < length old.names) (v : ViewData)
     (replied : HasReplied (record old { names = slice_set old.names fresh (Some (Plain v)) }) new Reply.Ok)
     (s : LaneState)
@@ -167,7 +168,7 @@ pub release_notes : (composes : Bool) (name : ℕ) → 6 ≤ (left_for composes 
 release_notes true name = omega arith
 release_notes false name = omega arith
 
-pub kept_turn : (pool : SharedPool) (name : ℕ) (old start mid new : Desk)
+pub kept_turn : (pool : SharedPool) (name : ℕ) (old start mid new : Context)
     → MayTurn pool (left_for old.composes (Command.Release name)) old
     → start ≡ record old { seat = start.seat; counts = start.counts } →
     SameSeat old.seat start.seat → IsPoolSeat pool start.seat → (v : ViewData) → bound_at old.names name ≡ Some
@@ -178,11 +179,11 @@ pub kept_turn : (pool : SharedPool) (name : ℕ) (old start mid new : Desk)
     HasNoted start mid (Note.Ref v.root Kept ∷ []) → HasReplied mid new Reply.Kept → (s : LaneState)
     → IsState s old.names old.counts → HasTurned pool old new s (Command.Release name) Ready (Went Ready)
 kept_turn pool name old start mid new may start_is same seat v bound lt has less noted replied s state =
-    let adv = ref_advances pool old start may.desk v.root Kept ((view_of old.seat).moves + 1) 0 same seat has
+    let adv = ref_advances pool old start may.context v.root Kept ((view_of old.seat).moves + 1) 0 same seat has
     (omega arith) refl refl refl in
-    let sampler_is : start.sampler ≡ old.sampler = ap (λ (x : Desk). x.sampler) start_is in
-    let asked_is : start.asked ≡ old.asked = ap (λ (x : Desk). x.asked) start_is in
-    one_turn_same pool old start mid new may.desk may.asked
+    let sampler_is : start.sampler ≡ old.sampler = ap (λ (x : Context). x.sampler) start_is in
+    let asked_is : start.asked ≡ old.asked = ap (λ (x : Context). x.asked) start_is in
+    one_turn_same pool old start mid new may.context may.asked
     (start_is ∙ (λ i. record old {
       seat = start.seat;
       counts = start.counts;
@@ -195,7 +196,7 @@ kept_turn pool name old start mid new may start_is same seat v bound lt has less
     (λ to. omega arith)
     (reads_kept old.shape (lane_of old.seat) s old.names old.counts state name v bound lt)
 
-pub ended_turn : (pool : SharedPool) (name : ℕ) (old start mid : Desk)
+pub ended_turn : (pool : SharedPool) (name : ℕ) (old start mid : Context)
     → MayTurn pool (left_for old.composes (Command.Release name)) old
     → start ≡ record old { seat = start.seat; counts = start.counts } →
     SameSeat old.seat start.seat → IsPoolSeat pool start.seat → (v : ViewData) → bound_at old.names name ≡ Some
@@ -209,26 +210,27 @@ ended_turn pool name old start mid may start_is same seat v bound lt token is ho
     let r : RootId = v.root in
     let after : Hand = record empty_hand { token = Some token.root } in
     let grows : Grows (view_of old.seat) (view_of start.seat) (Ref r Ended ∷ []) 0 =
-    grows_ref pool old.seat start.seat may.desk.seat seat r Ended (view_of old.seat).moves 0 has (omega arith) in
+    grows_ref pool old.seat start.seat may.context.seat seat r Ended (view_of old.seat).moves 0 has (omega arith) in
     let adv : Advances pool old.seat start.seat after (Ref r Ended ∷ []) 0 = record {
       same = same;
       seat = seat;
       grows = grows;
       held = held_on (view_of old.seat) (view_of start.seat) (Ref r Ended ∷ []) 0 empty_hand after grows
           (subst (λ (q : RootId). Carries (lane_in (view_of old.seat)) empty_hand (record empty_hand { token = Some q })
-          (Ref r Ended ∷ [])) (sym is) (ended_carries (lane_in (view_of old.seat)) r)) may.desk.held;
+          (Ref r Ended ∷ [])) (sym is) (ended_carries (lane_in (view_of old.seat)) r)) may.context.held;
     } in
-    let sampler_is : start.sampler ≡ old.sampler = ap (λ (x : Desk). x.sampler) start_is in
-    let asked_is : start.asked ≡ old.asked = ap (λ (x : Desk). x.asked) start_is in
+    let sampler_is : start.sampler ≡ old.sampler = ap (λ (x : Context). x.sampler) start_is in
+    let asked_is : start.asked ≡ old.asked = ap (λ (x : Context). x.asked) start_is in
     let from_old = start_is ∙ (λ i. record old
     { seat = start.seat; counts = start.counts; sampler = sym sampler_is i; asked = sym asked_is i }) in
-    let mid_asked : mid.asked ≡ old.asked = ap (λ (x : Desk). x.asked) noted.rest ∙ asked_is in
+    let mid_asked : mid.asked ≡ old.asked = ap (λ (x : Context). x.asked) noted.rest ∙ asked_is in
     let lane = lane_of old.seat in let before : Reader Answer =
     reads_from old.shape lane s (Command.Release name) Ready in
-    let seat_is : mid.seat ≡ start.seat = ap (λ (x : Desk). x.seat) noted.rest in
+    let seat_is : mid.seat ≡ start.seat = ap (λ (x : Context). x.seat) noted.rest in
     let uncounted : HasCount r (view_of start.seat)
     → ⊥ = seat.counts.ended r (subst (λ (q : RootId). HasToken q (view_of start.seat)) is holds.token_is) in
-    let last = last_count old.counts (view_of old.seat) (view_of start.seat) r 0 may.desk.counts may.desk.seat.alone
+    let last = last_count old.counts (view_of old.seat) (view_of start.seat) r 0 may.context.counts
+    may.context.seat.alone
     grows uncounted in
     let none : counted start.counts r ≡ 0 =
     (let a = less.counts r in let b : one_for r r
@@ -236,7 +238,7 @@ ended_turn pool name old start mid may start_is same seat v bound lt token is ho
     record {
       added = Ref r Ended ∷ [];
       grew =
-          mid_grew pool empty_hand after old start mid may.desk from_old (Ref r Ended ∷ []) 0 adv noted
+          mid_grew pool empty_hand after old start mid may.context from_old (Ref r Ended ∷ []) 0 adv noted
           (ended old.counts start.counts r lt less.counts none) less.places (sym sampler_is);
       fits = (
         subst (λ x. HoldsToken x token) (sym seat_is) holds,
@@ -253,7 +255,7 @@ ended_turn pool name old start mid may start_is same seat v bound lt token is ho
           (λ to. omega arith)))
           (let a = mid_asked in omega (arith, a));
       comes =
-          goes_on pool empty_hand after old start mid may.desk from_old (Ref r Ended ∷ []) 0 adv noted (omega arith)
+          goes_on pool empty_hand after old start mid may.context from_old (Ref r Ended ∷ []) 0 adv noted (omega arith)
           none_asked asked_is before (λ names. reads_from old.shape lane (renamed s names) (Command.Release name)
           (Ending (RootEnds token))) s.names state.names_are
           (λ log.
@@ -268,7 +270,8 @@ ended_turn pool name old start mid may start_is same seat v bound lt token is ho
 
 -- ---- A count more.
 
-module _ (pool : SharedPool) (old : Desk) (d : IsDesk pool empty_hand old) (r : RootId) (lt : 0 < counted old.counts r)
+module _ (pool : SharedPool) (old : Context) (d : IsContext pool empty_hand old) (r : RootId)
+    (lt : 0 < counted old.counts r)
   where
     pub counts_root : HasCount r (view_of old.seat)
     counts_root = has_count old.counts (view_of old.seat) d.seat.alone d.counts r lt
@@ -276,14 +279,14 @@ module _ (pool : SharedPool) (old : Desk) (d : IsDesk pool empty_hand old) (r : 
     pub counted_place : r.place < length old.counts
     counted_place = counted_within old.counts r lt
 
-    pub few_of : HasRoomFor old (left_with 1 0 0 1) → counted old.counts r < 4294967295
+    pub few_of : HasRoomFor pool old (left_with 1 0 0 1) → counted old.counts r < 4294967295
     few_of room =
         let a = few_counted old.counts (entries_of old) d.counts r in let b = length-map (notes_of old) entry_of in
         let e = room.few in
         omega (arith, a, b, e)
 
 -- of the root's place no other root is counted
-pub alone_more : (pool : SharedPool) (old start : Desk) (d : IsDesk pool empty_hand old) (r : RootId) (moves : ℕ)
+pub alone_more : (pool : SharedPool) (old start : Context) (d : IsContext pool empty_hand old) (r : RootId) (moves : ℕ)
     → IsPoolSeat pool start.seat → HasView start.seat (with_ref (view_of old.seat) r Retain moves)
     → (view_of old.seat).moves ≤ moves + 1 → 0 < counted old.counts r →
     (other : RootId) → other.place ≡ r.place → 0 < counted old.counts other → other ≡ r
@@ -299,15 +302,15 @@ alone_more pool old start d r moves seat has enough lt other at counts =
     (stays r (has_count old.counts v d.seat.alone d.counts r lt)) at
 
 -- a root was retained, noted and counted
-pub has_retained : (pool : SharedPool) (old start mid : Desk) (r : RootId) (ds : List Counted)
+pub has_retained : (pool : SharedPool) (old start mid : Context) (r : RootId) (ds : List Counted)
     → start ≡ record old { seat = start.seat } → SameSeat old.seat start.seat → IsPoolSeat pool start.seat
     → HasView start.seat (with_ref (view_of old.seat) r Retain ((view_of old.seat).moves - 1)) →
     HasNoted start mid (Note.Ref r Retain ∷ []) → CountsMore mid.counts ds r
     → HasRetained pool old (record mid { counts = ds }) r
 has_retained pool old start mid r ds start_is same seat did noted more =
-    let seat_is : mid.seat ≡ start.seat = ap (λ (x : Desk). x.seat) noted.rest in
-    let counts_are : mid.counts ≡ old.counts = ap (λ (x : Desk). x.counts) noted.rest
-    ∙ ap (λ (x : Desk). x.counts) start_is in
+    let seat_is : mid.seat ≡ start.seat = ap (λ (x : Context). x.seat) noted.rest in
+    let counts_are : mid.counts ≡ old.counts = ap (λ (x : Context). x.counts) noted.rest
+    ∙ ap (λ (x : Context). x.counts) start_is in
     record {
       same = subst (λ x. SameSeat old.seat x) (sym seat_is) same;
       seat = subst (λ x. IsPoolSeat pool x) (sym seat_is) seat;
@@ -315,19 +318,20 @@ has_retained pool old start mid r ds start_is same seat did noted more =
           subst (λ x. HasView x (with_ref (view_of old.seat) r Retain ((view_of old.seat).moves - 1))) (sym seat_is)
           did;
       noted = record {
-        log = noted.log ∙ ap (λ (x : Desk). x.notes.items ++ Note.Ref r Retain ∷ []) start_is;
+        log = noted.log ∙ ap (λ (x : Context). x.notes.items ++ Note.Ref r Retain ∷ []) start_is;
         room =
-            subst (λ (n : ℕ). n ≤ vec_capacity mid.notes) (ap (λ (x : Desk). vec_capacity x.notes) start_is) noted.room;
+            subst (λ (n : ℕ). n ≤ vec_capacity mid.notes) (ap (λ (x : Context). vec_capacity x.notes) start_is)
+            noted.room;
         rest =
-            ap (λ (x : Desk). record x { counts = ds })
-            (noted.rest ∙ ap (λ (x : Desk). record x { notes = mid.notes }) start_is)
+            ap (λ (x : Context). record x { counts = ds })
+            (noted.rest ∙ ap (λ (x : Context). record x { notes = mid.notes }) start_is)
             ∙ (λ i. record old { seat = sym seat_is i; counts = ds; notes = mid.notes });
       };
       counts = subst (λ (cs : List Counted). CountsMore cs ds r) counts_are more;
     }
 
 -- a slice that is retained
-pub slice_turn : (pool : SharedPool) (fresh name at len : ℕ) (old mid new : Desk)
+pub slice_turn : (pool : SharedPool) (fresh name at len : ℕ) (old mid new : Context)
     → MayTurn pool (left_for old.composes (Command.Slice fresh name at len true)) old → fresh < length old.names →
     (v : ViewData)
     → bound_at old.names name ≡ Some (Plain v) → bound_at old.names fresh ≡ None → 0 < counted old.counts v.root
@@ -337,14 +341,14 @@ pub slice_turn : (pool : SharedPool) (fresh name at len : ℕ) (old mid new : De
     → IsState s old.names old.counts → HasTurned pool old new s (Command.Slice fresh name at len true) Ready
     (Went Ready)
 slice_turn pool fresh name at len old mid new may in_names v bound none lt inside did replied s state =
-    let start : Desk = record old { seat = mid.seat; counts = mid.counts } in
-    let adv = ref_advances pool old start may.desk v.root Retain ((view_of old.seat).moves - 1) 1 did.same did.seat
+    let start : Context = record old { seat = mid.seat; counts = mid.counts } in
+    let adv = ref_advances pool old start may.context v.root Retain ((view_of old.seat).moves - 1) 1 did.same did.seat
     did.did (omega arith) refl refl refl in
-    let names_are : mid.names ≡ old.names = mid_names pool old start mid new may.desk may.asked refl refl
+    let names_are : mid.names ≡ old.names = mid_names pool old start mid new may.context may.asked refl refl
     (Ref v.root Retain) 1 adv did.noted in
     let w : ViewData = slice_of v at len in
     let lane = lane_of old.seat in let e = entry_of (Ref v.root Retain) in
-    one_turn pool old start mid new may.desk may.asked refl refl (Ref v.root Retain) 1 adv did.noted
+    one_turn pool old start mid new may.context may.asked refl refl (Ref v.root Retain) 1 adv did.noted
     (slice_set mid.names fresh (Some (Plain w))) Reply.Ok refl replied
     (retained old.counts mid.counts v.root lt did.counts.counts) did.counts.places refl
     (rebound_view 1 old.names mid.names names_are fresh in_names w) s

@@ -11,19 +11,19 @@ use Rattle.pool_law.specs.Names.{Bound, Composed, bind}
 use Rattle.pool_law.specs.Readers.{Log, ◌>>=◌, ◌>>◌, give, given}
 use Rattle.shared_pool.specs.declared.pool.SharedPool.{SharedPool}
 use Rattle.shared_pool.specs.SeatLanes.{lane_of}
-use Rattle.lane_core.specs.declared.desk.Desk.{Desk}
-use Rattle.lane_core.specs.declared.desk.Stage.TheVariants.{Ready}
-use Rattle.lane_core.specs.declared.desk.Turn.TheVariants.{Went}
+use Rattle.lane_core.specs.declared.context.Context.{Context}
+use Rattle.lane_core.specs.declared.context.Stage.TheVariants.{Ready}
+use Rattle.lane_core.specs.declared.context.Turn.TheVariants.{Went}
 use Rattle.lane_core.specs.Accesses.{IsState}
 use Rattle.seat_work.specs.Hands.{empty_hand}
 use Rattle.lane_core.specs.Named.{bound_at}
-use Rattle.lane_core.specs.Desks.{IsDesk, HasTurned}
-use Rattle.lane_core.specs.DeskSteps.{HasReplied, recounted}
+use Rattle.lane_core.specs.Contexts.{IsContext, HasTurned}
+use Rattle.lane_core.specs.ContextSteps.{HasReplied, recounted}
 use Rattle.lane_core.proofs.NameLaws.{NamesAre-bind, bound_within, rebound_same, rebound_count}
 use Rattle.lane_core.proofs.StateReads.{named_so, goes_composite}
 use Rattle.lane_core.proofs.Turning.{noteless}
 
-module _ (pool : SharedPool) (name : ℕ) (old new : Desk) (d : IsDesk pool empty_hand old)
+module _ (pool : SharedPool) (name : ℕ) (old new : Context) (d : IsContext pool empty_hand old)
     (low : old.asked < sweep_period) (s : LaneState) (state : IsState s old.names old.counts) (c : Composite)
     (is : bound_at old.names name ≡ Some (Composed c)) (lt : 0 < c.count) where
   abbrev with_count : ℕ → Bound

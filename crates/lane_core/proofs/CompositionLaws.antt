@@ -12,7 +12,7 @@ use Rattle.pool_law.specs.Limits.{geometry_of}
 use Rattle.pool_law.specs.Refusals.{has_no_class, is_too_long}
 use Rattle.lane_core.specs.declared.copying.Transfer.{Transfer}
 use Rattle.lane_core.specs.declared.counts.Counted.{Counted}
-use Rattle.lane_core.specs.declared.desk.Desk.{Desk}
+use Rattle.lane_core.specs.declared.context.Context.{Context}
 use Rattle.lane_core.specs.declared.work.Consolidation.{Consolidation}
 use Rattle.lane_core.specs.declared.work.Work.{Work}
 use Rattle.lane_core.specs.declared.work.Work.TheVariants.{Refused, Empty, Cross, End, Bind, Consolidate}
@@ -122,7 +122,7 @@ is_consolidation shape cs parts p joinable size class whole all copied bytes = r
       (some_counted cs parts joinable.some joinable.counts);
 }
 
-module _ (d : Desk) (name : ℕ) (parts : List Part) (count reader : ℕ)
+module _ (d : Context) (name : ℕ) (parts : List Part) (count reader : ℕ)
     (may : MayMake d name (joined parts count reader)) where
   abbrev whole : Composite
   whole = joined parts count reader

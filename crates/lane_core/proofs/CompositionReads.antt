@@ -20,7 +20,7 @@ use Rattle.pool_law.specs.Refusals.{Refusal as Refuses, first_refusal, is_too_lo
 use Rattle.lane_core.specs.declared.access.Refusal.{Refusal}
 use Rattle.lane_core.specs.declared.access.Refusal.TheVariants.{TooLarge}
 use Rattle.lane_core.specs.declared.counts.Counted.{Counted}
-use Rattle.lane_core.specs.declared.desk.Desk.{Desk}
+use Rattle.lane_core.specs.declared.context.Context.{Context}
 use Rattle.lane_core.specs.declared.work.Consolidation.{Consolidation}
 use Rattle.lane_core.specs.declared.work.Work.{Work}
 use Rattle.lane_core.specs.declared.work.Work.TheVariants.{Refused, Empty, Cross, End, Bind, Consolidate}
@@ -28,7 +28,7 @@ use Rattle.lane_core.specs.Accesses.{IsState, reply_for}
 use Rattle.lane_core.specs.Budgets.{notes_alone}
 use Rattle.lane_core.specs.Composing.{IsConsolidation}
 use Rattle.lane_core.specs.Compositions.{IsMade, joined, readable_at, readable_of, refusals_to_add, refusals_to_compose}
-use Rattle.lane_core.specs.Desks.{left_for, moves_of}
+use Rattle.lane_core.specs.Contexts.{left_for, moves_of}
 use Rattle.lane_core.specs.Named.{bound_at}
 use Rattle.lane_core.specs.Works.{IsPlanned, IsWithin}
 use Rattle.lane_core.proofs.CompositionTests.{AreShown, IsShown, clear_to_add, first_part, length-readable, one_part, shown_to_compose}
@@ -94,7 +94,7 @@ module _ (s : LaneState) (names : List (Option Bound)) (cs : List Counted) (stat
 
   -- ---- The work is what it reads.
 
-  module _ (d : Desk) (command : Command) (mine : List Refuses) (o : Option Composite)
+  module _ (d : Context) (command : Command) (mine : List Refuses) (o : Option Composite)
       (of_law : refusals d.shape s command ≡ mine ++ too_long d.shape o ∷ [])
       (alone : (lane : ℕ) (reply : Reply) (log : Log) →
       answer_by d.shape lane s command (Some reply) log ≡ Some (answer reply s.names, log)) where
@@ -195,7 +195,7 @@ module _ (s : LaneState) (names : List (Option Bound)) (cs : List Counted) (stat
 
 -- ---- The two commands.
 
-module _ (d : Desk) (s : LaneState) (state : IsState s d.names d.counts) where
+module _ (d : Context) (s : LaneState) (state : IsState s d.names d.counts) where
   module _ (fresh : ℕ) (of : List ℕ) where
     abbrev composing : List Refuses
     composing = refusals_to_compose d.names d.counts fresh of

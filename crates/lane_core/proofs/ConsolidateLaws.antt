@@ -12,15 +12,16 @@ use Rattle.pool_law.specs.Lanes.{Answer, composed, release_parts}
 use Rattle.pool_law.specs.Readers.{Log, ◌>>◌, give}
 use Rattle.pool_table.specs.declared.views.SeatView.{SeatView}
 use Rattle.composite_buf.proofs.MapLaws.{size_of_cons}
-use Rattle.lane_core.specs.declared.desk.Desk.{Desk}
+use Rattle.shared_pool.specs.declared.pool.SharedPool.{SharedPool}
+use Rattle.lane_core.specs.declared.context.Context.{Context}
 use Rattle.lane_core.specs.Budgets.{Left, Spends}
 use Rattle.lane_core.specs.Named.{IsInRoot, IsMarked}
-use Rattle.lane_core.specs.Desks.{HasRoomFor, with_parts}
+use Rattle.lane_core.specs.Contexts.{HasRoomFor, with_parts}
 
 -- who has room for what is left beside it has room for it
-pub room_beside : (d : Desk) (left : Left) (copied parts : ℕ) → HasRoomFor d (with_parts copied parts left)
-    → HasRoomFor d left
-room_beside d left copied parts room = record {
+pub room_beside : (pool : SharedPool) (d : Context) (left : Left) (copied parts : ℕ)
+    → HasRoomFor pool d (with_parts copied parts left) → HasRoomFor pool d left
+room_beside pool d left copied parts room = record {
   notes = (let a = room.notes in omega (arith, a));
   few = (let a = room.few in omega (arith, a));
   turns = (let a = room.turns in omega (arith, a));

@@ -20,7 +20,7 @@ use Rattle.pool_law.specs.Readers.{Entries, Log, Reader, ◌>>=◌, ◌>>◌, gi
 use Rattle.pool_table.specs.declared.views.Entry.{Entry}
 use Rattle.pool_table.specs.declared.views.SeatView.{SeatView}
 use Rattle.pool_table.specs.Counts.{HasCount}
-use Rattle.pool_table.specs.Seats.{view_of}
+use Rattle.shared_pool.specs.SeatViews.{view_of}
 use Rattle.composite_buf.proofs.RangeLaws.{size_of-filled}
 use Rattle.shared_pool.specs.declared.pool.SharedPool.{SharedPool}
 use Rattle.shared_pool.specs.Closing.{entry_of}
@@ -34,11 +34,11 @@ use Rattle.lane_core.specs.declared.allotment.Allotting.{Allotting as AllotStage
 use Rattle.lane_core.specs.declared.copying.Copying.TheVariants.{Get as CopyGet}
 use Rattle.lane_core.specs.declared.copying.Transfer.{Transfer}
 use Rattle.lane_core.specs.declared.counts.Counted.{Counted}
-use Rattle.lane_core.specs.declared.desk.Desk.{Desk}
-use Rattle.lane_core.specs.declared.desk.Stage.{Stage}
-use Rattle.lane_core.specs.declared.desk.Stage.TheVariants.{Consolidating, Copying, Replacing}
-use Rattle.lane_core.specs.declared.desk.Turn.{Turn}
-use Rattle.lane_core.specs.declared.desk.Turn.TheVariants.{Went, Pending}
+use Rattle.lane_core.specs.declared.context.Context.{Context}
+use Rattle.lane_core.specs.declared.context.Stage.{Stage}
+use Rattle.lane_core.specs.declared.context.Stage.TheVariants.{Consolidating, Copying, Replacing}
+use Rattle.lane_core.specs.declared.context.Turn.{Turn}
+use Rattle.lane_core.specs.declared.context.Turn.TheVariants.{Went, Pending}
 use Rattle.lane_core.specs.declared.releasing.Releasing.{Releasing}
 use Rattle.lane_core.specs.declared.work.Consolidation.{Consolidation}
 use Rattle.lane_core.specs.Allotments as allotment
@@ -50,20 +50,20 @@ use Rattle.lane_core.specs.Named.{NamesAre}
 use Rattle.lane_core.specs.Readings.{ReadsOn, renamed, swept}
 use Rattle.lane_core.specs.Releasings as releasing
 use Rattle.lane_core.specs.Releasings.{AreUncounted}
-use Rattle.lane_core.specs.Desks.{DeskGrew, GoesOn, HasTurned, IsDesk, log_of, reads_from, with_parts}
-use Rattle.lane_core.specs.DeskSteps.{Concludes, CountsMore}
+use Rattle.lane_core.specs.Contexts.{ContextGrew, GoesOn, HasTurned, IsContext, log_of, reads_from, with_parts}
+use Rattle.lane_core.specs.ContextSteps.{Concludes, CountsMore}
 use Rattle.lane_core.proofs.AllotTurns.{allotted, asks_least, read_on}
 use Rattle.lane_core.proofs.ConsolidateLaws.{beside, copied_as, less_beside, made_of, moved_marked, replaced_as}
-use Rattle.lane_core.proofs.DeskGrown.{grew, lengthened}
-use Rattle.lane_core.proofs.DeskLaws.{entries_more, reads_at, spends_at}
-use Rattle.lane_core.proofs.EntryCounts.{adds_recounted, has_count}
+use Rattle.lane_core.proofs.ContextGrown.{grew, lengthened}
+use Rattle.lane_core.proofs.ContextLaws.{entries_more, reads_at, spends_at}
+use Rattle.lane_core.proofs.SeatCounts.{adds_recounted, has_count}
 use Rattle.lane_core.proofs.NameLaws.{rebound_same}
 use Rattle.lane_core.proofs.PartTurns.{candidate_on}
 use Rattle.lane_core.proofs.ReadLaws.{given_on, then_on}
 use Rattle.lane_core.proofs.StageTurns.{none_of, some_of, staged, staged_concludes, staged_counts, staged_grew, staged_names, staged_on, staged_still}
 
-module _ (pool : SharedPool) (old mid : Desk) (p : Consolidation) (stage : AllotStage)
-    (d : IsDesk pool (allotment.hand_of stage) old) (is : IsConsolidation old.shape old.counts p)
+module _ (pool : SharedPool) (old mid : Context) (p : Consolidation) (stage : AllotStage)
+    (d : IsContext pool (allotment.hand_of stage) old) (is : IsConsolidation old.shape old.counts p)
     (may : IsCandidate old p.name p.whole.value)
     (mid_so : mid ≡ record old {
       seat = mid.seat;
@@ -71,7 +71,7 @@ module _ (pool : SharedPool) (old mid : Desk) (p : Consolidation) (stage : Allot
       notes = mid.notes;
       asked = allotment.asks_of stage old.asked;
     }) where
-  abbrev start : Desk
+  abbrev start : Context
   start = record old { seat = mid.seat; sampler = mid.sampler; asked = allotment.asks_of stage old.asked }
 
   abbrev lane : ℕ
@@ -96,16 +96,16 @@ module _ (pool : SharedPool) (old mid : Desk) (p : Consolidation) (stage : Allot
 
   candidate_still : IsCandidate mid p.name c
   candidate_still =
-      candidate_on old mid (ap (λ (x : Desk). x.names) mid_so) (ap (λ (x : Desk). x.composes) mid_so)
-      (ap (λ (x : Desk). x.replies) mid_so) p.name c may
+      candidate_on old mid (ap (λ (x : Context). x.names) mid_so) (ap (λ (x : Context). x.composes) mid_so)
+      (ap (λ (x : Context). x.replies) mid_so) p.name c may
 
   same_so : IsConsolidation mid.shape mid.counts p
   same_so =
       subst (λ (x : Shape × List Counted). IsConsolidation x.0 x.1 p)
-      (λ i. (sym (ap (λ (x : Desk). x.shape) mid_so) i, sym (ap (λ (x : Desk). x.counts) mid_so) i)) is
+      (λ i. (sym (ap (λ (x : Context). x.shape) mid_so) i, sym (ap (λ (x : Context). x.counts) mid_so) i)) is
 
   asked_is : mid.asked ≡ allotment.asks_of stage old.asked
-  asked_is = ap (λ (x : Desk). x.asked) mid_so
+  asked_is = ap (λ (x : Context). x.asked) mid_so
 
   module _ (low : old.asked + (allotment.left_of stage).asks ≤ sweep_period) (s : LaneState) (command : Command)
       (are : NamesAre s.names old.names) where
@@ -180,7 +180,7 @@ module _ (pool : SharedPool) (old mid : Desk) (p : Consolidation) (stage : Allot
         }
 
     -- it was refused
-    module _ (new : Desk) (allots : Allots) (reply : Reply) (unstopped : before_stop (reply ∷ []) ≡ 1)
+    module _ (new : Context) (allots : Allots) (reply : Reply) (unstopped : before_stop (reply ∷ []) ≡ 1)
         (empty : allotment.hand_after allots ≡ empty_hand)
         (none : (root : RootId) → allotment.born_in allots root ≡ 0)
         (left : allotment.left_after allots ≡ notes_alone 0)
@@ -222,7 +222,7 @@ module _ (pool : SharedPool) (old mid : Desk) (p : Consolidation) (stage : Allot
       abbrev asks : ℕ → ℕ
       asks = allotment.asks_of stage
 
-      abbrev made : Desk
+      abbrev made : Context
       made = record start { counts = cs; notes = mid.notes }
 
       abbrev moved : Composite
@@ -231,9 +231,9 @@ module _ (pool : SharedPool) (old mid : Desk) (p : Consolidation) (stage : Allot
       counts_more : (other : RootId) → counted cs other ≡ counted old.counts other + one_for root other
       counts_more other =
           more.counts other
-          ∙ ap (λ (xs : List Counted). counted xs other + one_for root other) (ap (λ (x : Desk). x.counts) mid_so)
+          ∙ ap (λ (xs : List Counted). counted xs other + one_for root other) (ap (λ (x : Context). x.counts) mid_so)
 
-      made_grew : DeskGrew pool empty_hand old made es
+      made_grew : ContextGrew pool empty_hand old made es
       made_grew =
           let before : Hand = allotment.hand_of stage in
           let st = allotted pool old mid p.name p.size p.class stage d is.class mid_so (New root region) did in
@@ -241,12 +241,12 @@ module _ (pool : SharedPool) (old mid : Desk) (p : Consolidation) (stage : Allot
           let spent = (view_of old.seat).moves in
           grew pool before empty_hand old start mid d refl es spent adv st.noted made refl
           (adds_recounted old.counts cs (map entry_of es) (one_for root) st.adds counts_more)
-          (more.places ∙ ap (λ (x : Desk). length x.counts) mid_so) st.sampled
+          (more.places ∙ ap (λ (x : Context). length x.counts) mid_so) st.sampled
           (let a = d.begun in let b = lengthened pool before empty_hand old start mid d refl es spent adv st.noted in
           omega (arith, a, b)) (omega arith) 0 (rebound_same 0 old.names old.names refl) (omega arith)
 
       made_counts : (other : RootId) → 0 < counted cs other → HasCount other (view_of made.seat)
-      made_counts other = has_count cs (view_of made.seat) made_grew.desk.seat.alone made_grew.desk.counts other
+      made_counts other = has_count cs (view_of made.seat) made_grew.context.seat.alone made_grew.context.counts other
 
       counted_still : (other : RootId) → 0 < counted old.counts other → HasCount other (view_of made.seat)
       counted_still other lt = let a = counts_more other in made_counts other (omega (arith, a, lt))
@@ -409,5 +409,5 @@ module _ (pool : SharedPool) (old mid : Desk) (p : Consolidation) (stage : Allot
       pub consolidate_new : (next : Stage) → IsMoved p root next
           → HasTurned pool old (record mid { counts = cs }) s command (Consolidating p stage) (Went next)
       consolidate_new next moves =
-          subst (λ (x : Desk). HasTurned pool old x s command (Consolidating p stage) (Went next))
-          (sym (ap (λ (x : Desk). record x { counts = cs }) mid_so)) (made_turn p.transfers.items refl next moves)
+          subst (λ (x : Context). HasTurned pool old x s command (Consolidating p stage) (Went next))
+          (sym (ap (λ (x : Context). record x { counts = cs }) mid_so)) (made_turn p.transfers.items refl next moves)

@@ -11,7 +11,7 @@ use Rattle.pool_law.specs.LaneStates.{LaneState}
 use Rattle.pool_law.specs.Lanes.{Answer, composed, release_parts}
 use Rattle.pool_law.specs.Readers.{Entries, Log, Reader, ◌>>=◌, ◌>>◌, give}
 use Rattle.pool_table.specs.declared.views.SeatView.{SeatView}
-use Rattle.pool_table.specs.Seats.{view_of}
+use Rattle.shared_pool.specs.SeatViews.{view_of}
 use Rattle.shared_pool.specs.declared.pool.SharedPool.{SharedPool}
 use Rattle.shared_pool.specs.Closing.{entry_of}
 use Rattle.shared_pool.specs.SeatLanes.{lane_of}
@@ -21,9 +21,9 @@ use Rattle.lane_core.specs.declared.copying.Copying.TheVariants.{Get, Set}
 use Rattle.lane_core.specs.declared.copying.Copies.{Copies}
 use Rattle.lane_core.specs.declared.copying.Copies.TheVariants.{More, Held as HeldBack, Done}
 use Rattle.lane_core.specs.declared.counts.Counted.{Counted}
-use Rattle.lane_core.specs.declared.desk.Desk.{Desk}
-use Rattle.lane_core.specs.declared.desk.Stage.TheVariants.{Copying, Replacing}
-use Rattle.lane_core.specs.declared.desk.Turn.TheVariants.{Went, Pending}
+use Rattle.lane_core.specs.declared.context.Context.{Context}
+use Rattle.lane_core.specs.declared.context.Stage.TheVariants.{Copying, Replacing}
+use Rattle.lane_core.specs.declared.context.Turn.TheVariants.{Went, Pending}
 use Rattle.lane_core.specs.declared.releasing.Releasing.{Releasing}
 use Rattle.lane_core.specs.Budgets.{Left, Spends}
 use Rattle.lane_core.specs.Composing.{IsBindable}
@@ -35,7 +35,7 @@ use Rattle.lane_core.specs.Readings.{none_asked, renamed, swept}
 use Rattle.lane_core.specs.Releasings as releasing
 use Rattle.lane_core.specs.Releasings.{AreUncounted}
 use Rattle.lane_core.specs.Wrote.{Wrote}
-use Rattle.lane_core.specs.Desks.{HasRoomFor, HasTurned, IsDesk, entries_of, log_of, reads_from, with_parts}
+use Rattle.lane_core.specs.Contexts.{HasRoomFor, HasTurned, IsContext, entries_of, log_of, reads_from, with_parts}
 use Rattle.lane_core.proofs.PartTurns.{Moved, between, bindable_on, moved_grew, moved_on, moved_read, moved_spends, moved_still}
 use Rattle.lane_core.proofs.StageTurns.{none_of, some_of}
 
@@ -48,8 +48,8 @@ no_copy_asks : (stage : CopyStage) → (copying.left_of stage).asks ≡ 0
 no_copy_asks (Get root at first later) = refl
 no_copy_asks (Set root at bytes later) = refl
 
-pub may_copy : (pool : SharedPool) (old : Desk) (stage : CopyStage) (parts : ℕ) → IsDesk pool empty_hand old
-    → HasRoomFor old (with_parts 0 parts (copying.left_of stage)) → copying.Fits (view_of old.seat) stage
+pub may_copy : (pool : SharedPool) (old : Context) (stage : CopyStage) (parts : ℕ) → IsContext pool empty_hand old
+    → HasRoomFor pool old (with_parts 0 parts (copying.left_of stage)) → copying.Fits (view_of old.seat) stage
     → copying.MayCopy pool old.seat stage
 may_copy pool old stage parts d room fits = record {
   seat_is = d.seat;
@@ -72,7 +72,7 @@ beside v w left next parts spends = record {
 abbrev all_left : Vec Part → Releasing
 all_left parts = record { ending = None; left = parts }
 
-module _ (pool : SharedPool) (old mid : Desk) (stage : CopyStage) (d : IsDesk pool empty_hand old)
+module _ (pool : SharedPool) (old mid : Context) (stage : CopyStage) (d : IsContext pool empty_hand old)
     (mid_is : mid ≡ record old { seat = mid.seat; counts = mid.counts; notes = mid.notes })
     (kept : mid.counts ≡ old.counts) where
   module _ (result : Copies)
@@ -83,7 +83,7 @@ module _ (pool : SharedPool) (old mid : Desk) (stage : CopyStage) (d : IsDesk po
 
     pub copied_so : Moved pool empty_hand empty_hand old mid wrote.added
     copied_so = record {
-      desk = d;
+      context = d;
       mid_is = mid_is;
       same = wrote.same;
       seat = wrote.seat;
@@ -124,7 +124,7 @@ module _ (pool : SharedPool) (old mid : Desk) (stage : CopyStage) (d : IsDesk po
         >>= swept lane
 
     asked_same : mid.asked ≡ old.asked
-    asked_same = ap (λ (x : Desk). x.asked) mid_is
+    asked_same = ap (λ (x : Context). x.asked) mid_is
 
     some_still : AreUncounted mid.counts parts.items → ⊥
     some_still = subst (λ (cs : List Counted). AreUncounted cs parts.items → ⊥) (sym kept) some

@@ -3,25 +3,22 @@ use Rattle.std.proofs.Common.{◌≡◌, ℕ, ◌+◌, ◌≤◌, List, [], ◌�
 use Rattle.std.specs.Prelude.{false, All, map, vec_capacity, Some}
 use Rattle.std.specs.Global.{Vec}
 use Rattle.std.proofs.lemmas.List.Elements.{All-head, All-tail, All-weaker}
-use Rattle.step_law.specs.declared.Told.{Ghosts}
 use Rattle.pool_law.specs.declared.id.Part.{Part}
 use Rattle.pool_law.specs.declared.id.RootId.{RootId}
 use Rattle.pool_law.specs.declared.note.Did.{Did}
 use Rattle.pool_law.specs.declared.note.Held.{Held}
 use Rattle.pool_law.specs.declared.note.Note.{Note}
-use Rattle.pool_law.specs.declared.note.Noted.{Noted}
 use Rattle.pool_law.specs.declared.note.Object.{Object}
 use Rattle.pool_law.specs.declared.note.Object.TheVariants.{Root}
 use Rattle.pool_law.specs.Lanes.{set_parts, get_parts}
 use Rattle.pool_law.specs.Logs.{Entry as LawEntry}
 use Rattle.pool_law.specs.Readers.{Reader, ◌>>=◌, ◌>>◌, give}
 use Rattle.pool_law.proofs.PatternLemmas.{same_root-refl}
-use Rattle.pool_table.specs.declared.table.PoolSeat.{PoolSeat}
+use Rattle.shared_pool.specs.declared.seat.PoolSeat.{PoolSeat}
 use Rattle.pool_table.specs.declared.views.SeatView.{SeatView}
 use Rattle.pool_table.specs.Counts.{HasCount}
-use Rattle.pool_table.specs.Seats.{view_of, SameSeat}
+use Rattle.shared_pool.specs.SeatViews.{view_of, SameSeat}
 use Rattle.shared_pool.specs.Closing.{entry_of}
-use Rattle.shared_pool.specs.declared.home.Home.{Home}
 use Rattle.shared_pool.specs.declared.pool.SharedPool.{SharedPool}
 use Rattle.shared_pool.specs.RootNotes.{access}
 use Rattle.shared_pool.specs.Seats.{IsPoolSeat, IsNoted, FoundBusy}
@@ -85,7 +82,7 @@ alike_again : (held : Held) (stage : Crossing) → IsAlike stage (HeldBack held 
 alike_again held (Set first later) = tt
 alike_again held (Get first later got) = tt
 
-module _ {G : Ghosts Home Noted} (pool : SharedPool) (old new : PoolSeat Home G) (is : IsPoolSeat pool new)
+module _ (pool : SharedPool) (old new : PoolSeat) (is : IsPoolSeat pool new)
     (same : SameSeat old new) where
   abbrev v : SeatView
   v = view_of old

@@ -11,7 +11,7 @@ use Rattle.pool_law.specs.LaneStates.{LaneState}
 use Rattle.pool_law.specs.Lanes.{Answer, answer}
 use Rattle.pool_law.specs.Names.{Bound, Names}
 use Rattle.pool_law.specs.Readers.{Entries, Log, Reader, ◌>>=◌, give}
-use Rattle.pool_table.specs.Seats.{view_of}
+use Rattle.shared_pool.specs.SeatViews.{view_of}
 use Rattle.shared_pool.specs.declared.pool.SharedPool.{SharedPool}
 use Rattle.shared_pool.specs.Closing.{entry_of}
 use Rattle.shared_pool.specs.SeatLanes.{lane_of}
@@ -24,10 +24,10 @@ use Rattle.lane_core.specs.declared.crossing.Crossing.TheVariants.{Set, Get}
 use Rattle.lane_core.specs.declared.crossing.Crosses.{Crosses}
 use Rattle.lane_core.specs.declared.crossing.Crosses.TheVariants.{More, Held as HeldBack, WasSet, WasGot}
 use Rattle.lane_core.specs.declared.crossing.Stretch.{Stretch}
-use Rattle.lane_core.specs.declared.desk.Desk.{Desk}
-use Rattle.lane_core.specs.declared.desk.Stage.TheVariants.{Ready, Crossing}
-use Rattle.lane_core.specs.declared.desk.Turn.{Turn}
-use Rattle.lane_core.specs.declared.desk.Turn.TheVariants.{Went, Pending}
+use Rattle.lane_core.specs.declared.context.Context.{Context}
+use Rattle.lane_core.specs.declared.context.Stage.TheVariants.{Ready, Crossing}
+use Rattle.lane_core.specs.declared.context.Turn.{Turn}
+use Rattle.lane_core.specs.declared.context.Turn.TheVariants.{Went, Pending}
 use Rattle.lane_core.specs.declared.work.Work.TheVariants.{Refused, Empty, Cross}
 use Rattle.lane_core.specs.Accesses.{reply_for}
 use Rattle.lane_core.specs.Budgets.{Left, Spends, notes_alone}
@@ -38,11 +38,11 @@ use Rattle.lane_core.specs.Logs.{HasWritten}
 use Rattle.lane_core.specs.Named.{NamesAre}
 use Rattle.lane_core.specs.Readings.{none_asked, renamed, swept}
 use Rattle.lane_core.specs.Wrote.{Wrote}
-use Rattle.lane_core.specs.Desks.{HasRoomFor, HasTurned, IsDesk, entries_of, log_of, reads_from}
-use Rattle.lane_core.specs.DeskSteps.{CanAnswer, HasMarked, HasReplied, MarksMoved, MayGoOn, MayTurn, StageTurns}
+use Rattle.lane_core.specs.Contexts.{HasRoomFor, HasTurned, IsContext, entries_of, log_of, reads_from}
+use Rattle.lane_core.specs.ContextSteps.{CanAnswer, HasMarked, HasReplied, MarksMoved, MayGoOn, MayTurn, StageTurns}
 use Rattle.lane_core.specs.Works.{IsReady, WorkTurns, left_of}
-use Rattle.lane_core.proofs.DeskLaws.{can_answer}
-use Rattle.lane_core.proofs.EntryCounts.{has_count}
+use Rattle.lane_core.proofs.ContextLaws.{can_answer}
+use Rattle.lane_core.proofs.SeatCounts.{has_count}
 use Rattle.lane_core.proofs.NameLaws.{NamesAre-changed, Rebound, rebound_marks, rebound_same}
 use Rattle.lane_core.proofs.PartTurns.{Moved, between, moved_answer, moved_can, moved_grew, moved_on, moved_read, moved_spends, moved_still}
 use Rattle.lane_core.proofs.StageTurns.{none_of, some_of}
@@ -68,8 +68,8 @@ module _ (old new : List (Option Bound)) (name : ℕ) where
       subst (NamesAre (changed (set_marks marks) name bs)) (sym (moved fit.0 fit.1))
       (NamesAre-changed bs old are name (set_marks marks) fit.0 fit.1)
 
--- a desk can be answered behind that
-pub marked_can : (mid new : Desk) (name : ℕ) (marks : Option Marks) → CanAnswer mid → HasMarked mid new name marks
+-- a context can be answered behind that
+pub marked_can : (mid new : Context) (name : ℕ) (marks : Option Marks) → CanAnswer mid → HasMarked mid new name marks
     → CanAnswer new
 marked_can mid new name marks can has =
     subst CanAnswer (sym has.rest) (record { begun = can.begun; few = can.few; room = can.room })
@@ -81,8 +81,8 @@ cross_left : (stage : CrossStage) → 1 ≤ (crossing.left_of stage).notes
 cross_left (Set first later) = omega arith
 cross_left (Get first later got) = omega arith
 
-pub may_cross : (pool : SharedPool) (old : Desk) (stage : CrossStage) → IsDesk pool empty_hand old
-    → HasRoomFor old (crossing.left_of stage) → crossing.Fits (view_of old.seat) stage
+pub may_cross : (pool : SharedPool) (old : Context) (stage : CrossStage) → IsContext pool empty_hand old
+    → HasRoomFor pool old (crossing.left_of stage) → crossing.Fits (view_of old.seat) stage
     → crossing.MayCross pool old.seat stage
 may_cross pool old stage d room fits = record {
   seat_is = d.seat;
@@ -109,7 +109,7 @@ got_reply : (stage : CrossStage) (got : Vec ℕ) → crossing.IsAlike stage (Was
 got_reply (Get first later more) got alike = refl
 got_reply (Set first later) got alike = absurd alike
 
-module _ (pool : SharedPool) (old mid : Desk) (stage : CrossStage) (d : IsDesk pool empty_hand old)
+module _ (pool : SharedPool) (old mid : Context) (stage : CrossStage) (d : IsContext pool empty_hand old)
     (mid_is : mid ≡ record old { seat = mid.seat; counts = mid.counts; notes = mid.notes })
     (kept : mid.counts ≡ old.counts) where
   module _ (result : Crosses)
@@ -120,7 +120,7 @@ module _ (pool : SharedPool) (old mid : Desk) (stage : CrossStage) (d : IsDesk p
 
     pub crossed_so : Moved pool empty_hand empty_hand old mid wrote.added
     crossed_so = record {
-      desk = d;
+      context = d;
       mid_is = mid_is;
       same = wrote.same;
       seat = wrote.seat;
@@ -139,14 +139,14 @@ module _ (pool : SharedPool) (old mid : Desk) (stage : CrossStage) (d : IsDesk p
         moved_read pool empty_hand empty_hand old mid wrote.added crossed_so (crossing.rest_of stage)
         (crossing.rest_after result) wrote.read
 
-    pub cross_can : HasRoomFor old (crossing.left_of stage) → length old.replies.items < vec_capacity old.replies
+    pub cross_can : HasRoomFor pool old (crossing.left_of stage) → length old.replies.items < vec_capacity old.replies
         → CanAnswer mid
     cross_can room replies =
         moved_can pool empty_hand empty_hand old mid wrote.added crossed_so (crossing.left_of stage)
         (crossing.left_after result) room did.spends replies
 
   names_same : mid.names ≡ old.names
-  names_same = ap (λ (x : Desk). x.names) mid_is
+  names_same = ap (λ (x : Context). x.names) mid_is
 
   module _ (name : ℕ) (marks : Option Marks) (fit : MarksFit old.names name marks) where
     -- the marks still lie in the composite behind the step
@@ -170,7 +170,7 @@ module _ (pool : SharedPool) (old mid : Desk) (stage : CrossStage) (d : IsDesk p
       crosses_at at = crossing.rest_of at >>= (λ bytes. give (crossed s name marks at bytes))
 
       asked_same : mid.asked ≡ old.asked
-      asked_same = ap (λ (x : Desk). x.asked) mid_is
+      asked_same = ap (λ (x : Context). x.asked) mid_is
 
       pub cross_goes : (next : CrossStage)
           → crossing.HasCrossed pool old.seat mid.seat old.notes mid.notes stage (More next)
@@ -220,7 +220,7 @@ module _ (pool : SharedPool) (old mid : Desk) (stage : CrossStage) (d : IsDesk p
           }
 
       -- all its bytes are set, or these were got; the marks move, and that is answered
-      module _ (spot new : Desk) (bytes : List ℕ) (reply : Reply) (unstopped : before_stop (reply ∷ []) ≡ 1)
+      module _ (spot new : Context) (bytes : List ℕ) (reply : Reply) (unstopped : before_stop (reply ∷ []) ≡ 1)
           (is : reply_of stage bytes ≡ reply) (moves : HasMarked mid spot name marks)
           (replied : HasReplied spot new reply) where
         abbrev names_now : List (Option Bound)
@@ -249,15 +249,15 @@ module _ (pool : SharedPool) (old mid : Desk) (stage : CrossStage) (d : IsDesk p
             ap (behind_cross (reply_of stage)) (crossed_read result did rest)
             ∙ (λ i. behind_cross (reply_of stage) (ends i (log_of (between old mid) rest)))
             ∙ (λ i. Some (answer (is i) bound_now, log_of (between old mid) rest)))
-            (subst (λ (x : Desk). HasReplied x new reply) moves.rest replied) low
+            (subst (λ (x : Context). HasReplied x new reply) moves.rest replied) low
 
-      pub cross_was_set : (spot new : Desk) → HasMarked mid spot name marks → HasReplied spot new Reply.Ok
+      pub cross_was_set : (spot new : Context) → HasMarked mid spot name marks → HasReplied spot new Reply.Ok
           → crossing.HasCrossed pool old.seat mid.seat old.notes mid.notes stage WasSet
           → HasTurned pool old new s command (Crossing name marks stage) (Went Ready)
       cross_was_set spot new moves replied did =
           cross_ends spot new [] Reply.Ok refl (set_reply stage did.alike) moves replied WasSet refl refl did
 
-      pub cross_was_got : (spot new : Desk) (got : Vec ℕ) → HasMarked mid spot name marks
+      pub cross_was_got : (spot new : Context) (got : Vec ℕ) → HasMarked mid spot name marks
           → HasReplied spot new (Reply.OkBytes got.items)
           → crossing.HasCrossed pool old.seat mid.seat old.notes mid.notes stage (WasGot got)
           → HasTurned pool old new s command (Crossing name marks stage) (Went Ready)
@@ -268,7 +268,7 @@ module _ (pool : SharedPool) (old mid : Desk) (stage : CrossStage) (d : IsDesk p
 -- ---- What is planned of bytes is begun.
 
 -- it is refused
-pub refused_work : (pool : SharedPool) (old new : Desk) (refusal : Refusal)
+pub refused_work : (pool : SharedPool) (old new : Context) (refusal : Refusal)
     → MayTurn pool (left_of (Refused refusal)) old → HasReplied old new (reply_for refusal)
     → WorkTurns pool old new (Refused refusal) (Went Ready)
 refused_work pool old new refusal may replied = λ s command state planned.
@@ -276,35 +276,35 @@ refused_work pool old new refusal may replied = λ s command state planned.
     (λ log. planned.read (lane_of old.seat) log)
 
 -- no byte is reached
-module _ (pool : SharedPool) (old mid : Desk) (name : ℕ) (marks : Option Marks) (reply : Reply)
+module _ (pool : SharedPool) (old mid : Context) (name : ℕ) (marks : Option Marks) (reply : Reply)
     (may : MayTurn pool (left_of (Empty name marks reply)) old) (ready : IsReady old (Empty name marks reply))
     (moves : HasMarked old mid name marks) where
   pub empty_can : CanAnswer mid
   empty_can = marked_can old mid name marks (can_answer pool (left_of (Empty name marks reply)) old may) moves
 
-  pub empty_work : (new : Desk) → HasReplied mid new reply
+  pub empty_work : (new : Context) → HasReplied mid new reply
       → WorkTurns pool old new (Empty name marks reply) (Went Ready)
   empty_work new replied = λ s command state planned.
-      noteless pool old new may.desk may.asked mid.names reply ready.1
-      (subst (λ (x : Desk). HasReplied x new reply) moves.rest replied)
+      noteless pool old new may.context may.asked mid.names reply ready.1
+      (subst (λ (x : Context). HasReplied x new reply) moves.rest replied)
       (marks_rebound old.names mid.names name 1 marks ready.0 moves.names) s command (marked name marks s.names)
       (marks_named old.names mid.names name s.names state.names_are marks ready.0 moves.names)
       (λ log. planned.read (lane_of old.seat) log)
 
 -- a range is crossed
-module _ (pool : SharedPool) (old : Desk) (name : ℕ) (marks : Option Marks) (stage : CrossStage)
+module _ (pool : SharedPool) (old : Context) (name : ℕ) (marks : Option Marks) (stage : CrossStage)
     (may : MayTurn pool (left_of (Cross name marks stage)) old) (ready : IsReady old (Cross name marks stage)) where
   -- what is counted is counted in the seat's view
   within_view : (s : Stretch) → IsReachable old.counts s → crossing.IsWithin (view_of old.seat) s
   within_view s is = record {
-    counts = has_count old.counts (view_of old.seat) may.desk.seat.alone may.desk.counts s.part.root is.counts;
+    counts = has_count old.counts (view_of old.seat) may.context.seat.alone may.context.counts s.part.root is.counts;
     inside = is.inside;
     bytes = is.bytes;
   }
 
   pub may_begin_cross : MayGoOn pool (Crossing name marks stage) old
   may_begin_cross = record {
-    desk = may.desk;
+    context = may.context;
     fits = (
       (
         All-weaker (IsReachable old.counts) (crossing.IsWithin (view_of old.seat)) within_view
@@ -318,7 +318,7 @@ module _ (pool : SharedPool) (old : Desk) (name : ℕ) (marks : Option Marks) (s
     replies = may.replies;
   }
 
-  pub cross_begun : (new : Desk) (turn : Turn) → StageTurns pool old new (Crossing name marks stage) turn
+  pub cross_begun : (new : Context) (turn : Turn) → StageTurns pool old new (Crossing name marks stage) turn
       → WorkTurns pool old new (Cross name marks stage) turn
   cross_begun new turn turns =
       stage_begun pool old (Cross name marks stage) may new (Crossing name marks stage) tt

@@ -2,7 +2,6 @@
 use Rattle.std.proofs.Common.{◌≡◌, ℕ, ◌+◌, ◌-◌, ◌*◌, ◌<◌, ◌≤◌, List, [], ◌∷◌, Bool, true, false, refl, sym, ap, ◌∙◌, subst, arith, eq-eqb}
 use Rattle.std.specs.Prelude.{◌==◌, ◌&&◌, sum_by, Option, unwrap_or}
 use Rattle.std.specs.Global.{Vec}
-use Rattle.step_law.specs.declared.Told.{Ghosts}
 use Rattle.pool_law.specs.declared.id.Region.{Region}
 use Rattle.pool_law.specs.declared.note.Did.{Did}
 use Rattle.pool_law.specs.declared.note.Held.{Held}
@@ -17,13 +16,12 @@ use Rattle.pool_law.specs.Naming.{noted_by}
 use Rattle.pool_table.specs.declared.views.Entry.{Entry}
 use Rattle.pool_table.specs.declared.views.Entry.TheVariants.{At}
 use Rattle.pool_table.specs.declared.views.SeatView.{SeatView}
-use Rattle.pool_table.specs.declared.table.PoolSeat.{PoolSeat}
+use Rattle.shared_pool.specs.declared.seat.PoolSeat.{PoolSeat}
 use Rattle.pool_table.specs.Learned.{in_own, takes_of, gives_of}
-use Rattle.pool_table.specs.Seats.{view_of, SameSeat}
-use Rattle.shared_pool.specs.declared.home.Home.{Home as HomeValue}
+use Rattle.shared_pool.specs.SeatViews.{view_of, SameSeat}
 use Rattle.shared_pool.specs.declared.pool.SharedPool.{SharedPool}
 use Rattle.shared_pool.specs.Closing.{note_of, entry_of}
-use Rattle.shared_pool.specs.Quotas.{posts}
+use Rattle.pool_table.specs.Letters.{sent_on}
 use Rattle.shared_pool.specs.Holding.{HoldsRegion}
 use Rattle.shared_pool.specs.Notes.{plain}
 use Rattle.shared_pool.specs.SeatLanes.{lane_of}
@@ -39,7 +37,8 @@ use Rattle.lane_core.specs.Budgets.{Spends, takes, out_of, all_out}
 use Rattle.lane_core.specs.Drainings.{MayDrain, HasDrained, IsNext, IsReadNext, Fits, quota_note, hand_of, closed_by, left_of, rest_of}
 use Rattle.lane_core.specs.Readings.{none_asked, behind as after_log}
 use Rattle.lane_core.specs.Sampled.{AreSampled}
-use Rattle.lane_core.proofs.EntryCounts.{IsStill, none_added, still_added}
+use Rattle.lane_core.proofs.EntryCounts.{IsStill}
+use Rattle.lane_core.proofs.SeatCounts.{none_added, still_added}
 use Rattle.seat_work.proofs.Grown.{Grows, note_at, grows_noted, grows_held, own_more}
 use Rattle.lane_core.proofs.Grown.{spends}
 use Rattle.seat_work.proofs.HandLaws.{Carries, held_on}
@@ -61,7 +60,7 @@ next_left class left (Give other more region) v is = absurd is
 next_left class left Done v is = (omega arith, refl, refl, λ to. refl)
 
 -- each stage but the last has a note left
-pub drain_left : {G : Ghosts HomeValue Noted} (pool : SharedPool) (seat : PoolSeat HomeValue G) (stage : Draining)
+pub drain_left : (pool : SharedPool) (seat : PoolSeat) (stage : Draining)
     → Fits pool seat stage → (stage ≡ Done → ⊥) → 1 ≤ (left_of stage (view_of seat)).notes
 drain_left pool seat (Ask class) fits more = omega (arith, fits)
 drain_left pool seat (Shed class left) fits more =
@@ -77,7 +76,7 @@ record IsQuota (kind : DrainKind) (lane class number quota : ℕ) (own : Option 
   takes_none : sum_by takes (e ∷ []) ≡ 0
   class_none : (c : ℕ) → sum_by (takes_of c) (e ∷ []) ≡ 0
   gives_none : (from c : ℕ) → sum_by (gives_of from c) (e ∷ []) ≡ 0
-  posts_none : (from to : ℕ) → posts from to (e ∷ []) ≡ 0
+  posts_none : (from to : ℕ) → sent_on from to (e ∷ []) ≡ 0
   carries : Carries lane (hand_of kind (Ask class)) (hand_of kind (Shed class quota)) (e ∷ [])
 
 is_quota : (kind : DrainKind) (lane class number quota : ℕ) (own : Option ℕ)
@@ -108,7 +107,7 @@ gave_own true true x y = omega arith
 gave_own true false x y = absurd (cc y)
 gave_own false b x y = absurd (cc x)
 
-module _ {G : Ghosts HomeValue Noted} (pool : SharedPool) (old new : PoolSeat HomeValue G) (is : IsPoolSeat pool new)
+module _ (pool : SharedPool) (old new : PoolSeat) (is : IsPoolSeat pool new)
     (same : SameSeat old new) (kind : DrainKind) where
   abbrev lane : ℕ
   lane = lane_of old

@@ -9,14 +9,14 @@ use Rattle.pool_law.specs.Lanes.{Answer, answer}
 use Rattle.pool_law.specs.Readers.{Reader, ◌>>◌, give}
 use Rattle.pool_table.specs.declared.views.Entry.{Entry}
 use Rattle.pool_table.specs.declared.views.SeatView.{SeatView}
-use Rattle.pool_table.specs.Seats.{view_of}
+use Rattle.shared_pool.specs.SeatViews.{view_of}
 use Rattle.shared_pool.specs.declared.pool.SharedPool.{SharedPool}
 use Rattle.shared_pool.specs.Closing.{entry_of}
 use Rattle.shared_pool.specs.SeatLanes.{lane_of}
 use Rattle.lane_core.specs.declared.counts.Counted.{Counted}
-use Rattle.lane_core.specs.declared.desk.Desk.{Desk}
-use Rattle.lane_core.specs.declared.desk.Stage.TheVariants.{Ready, Sweeping, Closing}
-use Rattle.lane_core.specs.declared.desk.Turn.TheVariants.{Went, Pending}
+use Rattle.lane_core.specs.declared.context.Context.{Context}
+use Rattle.lane_core.specs.declared.context.Stage.TheVariants.{Ready, Sweeping, Closing}
+use Rattle.lane_core.specs.declared.context.Turn.TheVariants.{Went, Pending}
 use Rattle.lane_core.specs.declared.draining.DrainKind.{DrainKind}
 use Rattle.lane_core.specs.declared.draining.DrainKind.TheVariants.{Trim, Close}
 use Rattle.lane_core.specs.declared.draining.Draining.{Draining}
@@ -29,18 +29,18 @@ use Rattle.lane_core.specs.Counting.{counted}
 use Rattle.seat_work.specs.Hands.{Hand, empty_hand}
 use Rattle.lane_core.specs.Named.{NamesAre}
 use Rattle.lane_core.specs.Readings.{ReadsOn, none_asked, renamed}
-use Rattle.lane_core.specs.Desks.{IsDesk, reads_from, DeskGrew, SpendsAt, HasTurned, HasTurnedClosing}
-use Rattle.lane_core.specs.DeskSteps.{HasNoted, HasReplied}
+use Rattle.lane_core.specs.Contexts.{IsContext, reads_from, ContextGrew, SpendsAt, HasTurned, HasTurnedClosing}
+use Rattle.lane_core.specs.ContextSteps.{HasNoted, HasReplied}
 use Rattle.lane_core.proofs.NameLaws.{rebound_same}
 use Rattle.seat_work.proofs.HandNotes.{drained_held}
 use Rattle.lane_core.proofs.ReadLaws.{then_on, given_on}
-use Rattle.lane_core.proofs.DeskGrown.{answer_reads, noted_so}
+use Rattle.lane_core.proofs.ContextGrown.{answer_reads, noted_so}
 use Rattle.lane_core.proofs.StageTurns.{Staged, none_of, some_of, staged, staged_answer, staged_grew, staged_on, staged_seat, staged_still}
 
-module _ (pool : SharedPool) (old mid : Desk) (kind : DrainKind) (stage : Draining)
-    (d : IsDesk pool (draining.hand_of kind stage) old)
+module _ (pool : SharedPool) (old mid : Context) (kind : DrainKind) (stage : Draining)
+    (d : IsContext pool (draining.hand_of kind stage) old)
     (mid_so : mid ≡ record old { seat = mid.seat; notes = mid.notes }) where
-  abbrev drain_start : Desk
+  abbrev drain_start : Context
   drain_start = record old { seat = mid.seat }
 
   module _ (drains : Drains) (did : draining.HasDrained pool old.seat mid.seat old.notes mid.notes kind stage drains)
@@ -51,7 +51,7 @@ module _ (pool : SharedPool) (old mid : Desk) (kind : DrainKind) (stage : Draini
       pub drained_so : Staged pool (draining.hand_of kind stage) (draining.hand_after kind drains) old drain_start mid
           wrote_so (λ root. 0)
       drained_so = record {
-        desk = d;
+        context = d;
         start_is = refl;
         counts_are = refl;
         same = (did.wrote old.sampler).same;
@@ -72,7 +72,7 @@ module _ (pool : SharedPool) (old mid : Desk) (kind : DrainKind) (stage : Draini
       drained_seat =
           staged_seat pool (draining.hand_of kind stage) after old drain_start mid wrote_so (λ root. 0) drained_so
 
-      drained_grew : DeskGrew pool after old mid wrote_so
+      drained_grew : ContextGrew pool after old mid wrote_so
       drained_grew =
           staged_grew pool (draining.hand_of kind stage) after old drain_start mid wrote_so (λ root. 0) drained_so
           (λ root. refl)
@@ -84,7 +84,7 @@ module _ (pool : SharedPool) (old mid : Desk) (kind : DrainKind) (stage : Draini
       drained_spends left none spent = record {
         sweeps = 0;
         notes = (let a = spent.notes in omega (arith, a));
-        asks = (let a = ap (λ (x : Desk). x.asked) mid_so in omega (arith, a, none));
+        asks = (let a = ap (λ (x : Context). x.asked) mid_so in omega (arith, a, none));
         moves = spent.moves;
         sends = spent.sends;
       }
@@ -106,14 +106,14 @@ module _ (pool : SharedPool) (old mid : Desk) (kind : DrainKind) (stage : Draini
         added = es;
         comes = (refl, some_of es did.written (did.wrote old.sampler).noted did.again);
         grew =
-            subst (λ (k : DrainKind). DeskGrew pool (draining.hand_of k next) old mid es) is
+            subst (λ (k : DrainKind). ContextGrew pool (draining.hand_of k next) old mid es) is
             (drained_grew (DrainMore next) did);
         fits = did.fits;
         spends = did.spends;
-        replies = ap (λ (x : Desk). x.replies.items) mid_so;
-        names = ap (λ (x : Desk). x.names) mid_so;
-        begun = ap (λ (x : Desk). x.begun) mid_so;
-        asked = ap (λ (x : Desk). x.asked) mid_so;
+        replies = ap (λ (x : Context). x.replies.items) mid_so;
+        names = ap (λ (x : Context). x.names) mid_so;
+        begun = ap (λ (x : Context). x.begun) mid_so;
+        asked = ap (λ (x : Context). x.asked) mid_so;
         held = tt;
         reads =
             subst (λ (k : DrainKind). ReadsOn (draining.rest_of k (lane_of old.seat) stage) (map entry_of es) none_asked
@@ -130,14 +130,14 @@ module _ (pool : SharedPool) (old mid : Desk) (kind : DrainKind) (stage : Draini
         added = es;
         comes = (did.again.0, did.again.0, none_of es ((did.wrote old.sampler).noted ∙ did.again.1));
         grew =
-            subst (λ (k : DrainKind). DeskGrew pool (draining.hand_of k next) old mid es) is
+            subst (λ (k : DrainKind). ContextGrew pool (draining.hand_of k next) old mid es) is
             (drained_grew (DrainHeld held next) did);
         fits = did.fits;
         spends = did.spends;
-        replies = ap (λ (x : Desk). x.replies.items) mid_so;
-        names = ap (λ (x : Desk). x.names) mid_so;
-        begun = ap (λ (x : Desk). x.begun) mid_so;
-        asked = ap (λ (x : Desk). x.asked) mid_so;
+        replies = ap (λ (x : Context). x.replies.items) mid_so;
+        names = ap (λ (x : Context). x.names) mid_so;
+        begun = ap (λ (x : Context). x.begun) mid_so;
+        asked = ap (λ (x : Context). x.asked) mid_so;
         held = did.again.2;
         reads =
             subst (λ (k : DrainKind). ReadsOn (draining.rest_of k (lane_of old.seat) stage) (map entry_of es) none_asked
@@ -146,8 +146,8 @@ module _ (pool : SharedPool) (old mid : Desk) (kind : DrainKind) (stage : Draini
 
 -- ---- A sweep.
 
-module _ (pool : SharedPool) (old mid : Desk) (reply : Reply) (stage : Draining)
-    (d : IsDesk pool (draining.hand_of Trim stage) old) (low : old.asked < sweep_period)
+module _ (pool : SharedPool) (old mid : Context) (reply : Reply) (stage : Draining)
+    (d : IsContext pool (draining.hand_of Trim stage) old) (low : old.asked < sweep_period)
     (unstopped : before_stop (reply ∷ []) ≡ 1) (more_is : stage ≡ AllDrained → ⊥)
     (mid_so : mid ≡ record old { seat = mid.seat; notes = mid.notes }) (s : LaneState) (command : Command)
     (are : NamesAre s.names old.names) where
@@ -155,7 +155,7 @@ module _ (pool : SharedPool) (old mid : Desk) (reply : Reply) (stage : Draining)
   sweeps_at at = draining.rest_of Trim (lane_of old.seat) at >> give (answer reply s.names)
 
   low_still : mid.asked < sweep_period
-  low_still = let a = ap (λ (x : Desk). x.asked) mid_so in omega (arith, a, low)
+  low_still = let a = ap (λ (x : Context). x.asked) mid_so in omega (arith, a, low)
 
   pub sweep_goes : (next : Draining) → (next ≡ AllDrained → ⊥)
       → draining.HasDrained pool old.seat mid.seat old.notes mid.notes Trim stage (DrainMore next)
@@ -210,15 +210,15 @@ module _ (pool : SharedPool) (old mid : Desk) (reply : Reply) (stage : Draining)
         held = did.again.2;
       }
 
-  pub sweep_done : (new : Desk) → draining.HasDrained pool old.seat mid.seat old.notes mid.notes Trim stage
+  pub sweep_done : (new : Context) → draining.HasDrained pool old.seat mid.seat old.notes mid.notes Trim stage
       (DrainMore AllDrained) → HasReplied mid new reply
       → HasTurned pool old new s command (Sweeping reply stage) (Went Ready)
   sweep_done new did replied =
-      let start : Desk = record old { seat = mid.seat } in
+      let start : Context = record old { seat = mid.seat } in
       let es = wrote_so pool old mid Trim stage d mid_so (DrainMore AllDrained) did in let was =
       drained_so pool old mid Trim stage d mid_so (DrainMore AllDrained) did in
       let st : Staged pool (draining.hand_of Trim stage) empty_hand old start mid es (λ root. 0) = record {
-        desk = was.desk;
+        context = was.context;
         start_is = was.start_is;
         counts_are = was.counts_are;
         same = was.same;
@@ -229,8 +229,8 @@ module _ (pool : SharedPool) (old mid : Desk) (reply : Reply) (stage : Draining)
         adds = was.adds;
         noted = was.noted;
       } in
-      let names_are : mid.names ≡ old.names = ap (λ (x : Desk). x.names) mid_so in let counts_are : mid.counts
-      ≡ old.counts = ap (λ (x : Desk). x.counts) mid_so in
+      let names_are : mid.names ≡ old.names = ap (λ (x : Context). x.names) mid_so in let counts_are : mid.counts
+      ≡ old.counts = ap (λ (x : Context). x.counts) mid_so in
       let spent = did.spends in
       staged_answer pool (draining.hand_of Trim stage) empty_hand old start mid es (λ root. 0) st refl new mid.names
       mid.counts reply unstopped
@@ -245,7 +245,7 @@ module _ (pool : SharedPool) (old mid : Desk) (reply : Reply) (stage : Draining)
         moves = spent.moves;
         sends = spent.sends;
       })
-      (answer_reads pool (draining.hand_of Trim stage) empty_hand old start mid st.desk st.start_is es
+      (answer_reads pool (draining.hand_of Trim stage) empty_hand old start mid st.context st.start_is es
       (view_of old.seat).moves (staged pool (draining.hand_of Trim stage) empty_hand old start mid es (λ root. 0)
       st) st.noted new mid.names mid.counts reply replied none_asked refl (sweeps_at stage) s.names
       (given_on (draining.rest_of Trim (lane_of old.seat) stage) (map entry_of es) none_asked

@@ -1,10 +1,12 @@
 -- A lane is one that its gate stopped, or a running one.
-use Rattle.std.proofs.Common.{Bool, true, false, sym, subst}
+use Rattle.std.proofs.Common.{◌≡◌, ℕ, Bool, true, false, sym, ap, subst, arith}
 use Rattle.std.specs.Prelude.{MatchBool}
+use Rattle.pool_law.specs.declared.run.Shape.{Shape}
 use Rattle.pool_law.specs.Legal.{AreCommands}
 use Rattle.shared_pool.specs.declared.pool.SharedPool.{SharedPool}
 use Rattle.lane_core.specs.declared.lane.Lane.{Lane}
-use Rattle.lane_core.specs.Desks.{IsDesk, hand_of}
+use Rattle.lane_core.specs.Contexts.{IsContext, hand_of}
+use Rattle.lane_core.specs.Played.{HasSpare}
 use Rattle.lane_core.specs.Lanes.{IsLane, IsRunningLane, IsStoppedLane}
 
 module _ (pool : SharedPool) (l : Lane) where
@@ -24,8 +26,15 @@ module _ (pool : SharedPool) (l : Lane) where
       by true is = stopped is
       by false is = running is
 
-  pub lane_desk : IsLane pool l → IsDesk pool (hand_of l.stage) l.desk
-  lane_desk lane = lane_or (IsDesk pool (hand_of l.stage) l.desk) lane (λ s. s.desk) (λ r. r.desk)
+  pub lane_context : IsLane pool l → IsContext pool (hand_of l.stage) l.context
+  lane_context lane = lane_or (IsContext pool (hand_of l.stage) l.context) lane (λ s. s.context) (λ r. r.context)
 
-  pub lane_commands : IsLane pool l → AreCommands l.desk.shape l.commands
-  lane_commands lane = lane_or (AreCommands l.desk.shape l.commands) lane (λ s. s.commands) (λ r. r.commands)
+  pub lane_commands : IsLane pool l → AreCommands l.context.shape l.commands
+  lane_commands lane = lane_or (AreCommands l.context.shape l.commands) lane (λ s. s.commands) (λ r. r.commands)
+
+  -- it keeps room for the seats of as many lanes as its pool has
+  pub lane_spare : (n : ℕ) → IsLane pool l → n ≡ pool.table.layout.shape.lanes → HasSpare n l
+  lane_spare n lane many =
+      let room = lane_or (HasSpare l.context.shape.lanes l) lane (λ s. s.spare) (λ r. r.spare) in
+      let same = ap (λ (s : Shape). s.lanes) (lane_context lane).shape in
+      omega (arith, room, same, many)

@@ -2,7 +2,6 @@
 use Rattle.std.proofs.Common.{◌≡◌, ℕ, ◌<◌, ◌≤◌, List, [], ◌∷◌, true, false, refl, sym, ap, ◌∙◌, subst, arith}
 use Rattle.std.specs.Prelude.{map}
 use Rattle.std.specs.Global.{Vec}
-use Rattle.step_law.specs.declared.Told.{Ghosts}
 use Rattle.pool_law.specs.declared.id.Region.{Region}
 use Rattle.pool_law.specs.declared.note.CacheNo.{CacheNo}
 use Rattle.pool_law.specs.declared.note.Did.{Did}
@@ -19,9 +18,8 @@ use Rattle.pool_table.specs.declared.roots.EndToken.{EndToken}
 use Rattle.pool_table.specs.declared.views.Entry.{Entry}
 use Rattle.pool_table.specs.declared.views.Entry.TheVariants.{Ref, Busy}
 use Rattle.pool_table.specs.declared.views.SeatView.{SeatView}
-use Rattle.pool_table.specs.declared.table.PoolSeat.{PoolSeat}
-use Rattle.pool_table.specs.Seats.{view_of, SameSeat}
-use Rattle.shared_pool.specs.declared.home.Home.{Home as HomeValue}
+use Rattle.shared_pool.specs.declared.seat.PoolSeat.{PoolSeat}
+use Rattle.shared_pool.specs.SeatViews.{view_of, SameSeat}
 use Rattle.shared_pool.specs.declared.pool.SharedPool.{SharedPool}
 use Rattle.shared_pool.specs.Closing.{entry_of}
 use Rattle.shared_pool.specs.Holding.{HoldsHandle, HoldsRegion}
@@ -35,7 +33,7 @@ use Rattle.lane_core.specs.declared.retirement.Ending.TheVariants.{Root as EndRo
 use Rattle.lane_core.specs.declared.retirement.Ends.TheVariants.{More, Held as HeldBack, Done}
 use Rattle.seat_work.specs.Hands.{empty_hand, IsHeld, IsRegion}
 use Rattle.lane_core.specs.Endings.{MayEnd, HasEnded, Fits, hand_of, left_of, left_after, rest_of, rest_after}
-use Rattle.lane_core.proofs.EntryCounts.{none_added, still_added, vacated_added}
+use Rattle.lane_core.proofs.SeatCounts.{none_added, still_added, vacated_added}
 use Rattle.seat_work.proofs.Grown.{Grows, note_at, grows_noted, grows_busy, grows_held, grows_with}
 use Rattle.lane_core.proofs.Grown.{spends}
 use Rattle.seat_work.proofs.HandLaws.{held_on}
@@ -54,7 +52,7 @@ end_left (AskCache region handle) = omega arith
 end_left (AskArena region handle) = omega arith
 end_left (Home handle) = omega arith
 
-module _ {G : Ghosts HomeValue Noted} (pool : SharedPool) (old new : PoolSeat HomeValue G) (is : IsPoolSeat pool new)
+module _ (pool : SharedPool) (old new : PoolSeat) (is : IsPoolSeat pool new)
     (same : SameSeat old new) where
   abbrev shape : Shape
   shape = pool.table.layout.shape

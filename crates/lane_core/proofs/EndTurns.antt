@@ -9,15 +9,15 @@ use Rattle.pool_law.specs.LaneStates.{LaneState}
 use Rattle.pool_law.specs.Lanes.{Answer, answer}
 use Rattle.pool_law.specs.Readers.{Reader, ◌>>=◌, ◌>>◌, give}
 use Rattle.pool_table.specs.declared.views.Entry.{Entry}
-use Rattle.pool_table.specs.Seats.{view_of}
+use Rattle.shared_pool.specs.SeatViews.{view_of}
 use Rattle.shared_pool.specs.declared.pool.SharedPool.{SharedPool}
 use Rattle.shared_pool.specs.Closing.{entry_of}
 use Rattle.shared_pool.specs.SeatLanes.{lane_of}
 use Rattle.shared_pool.specs.Seats.{FoundBusy}
 use Rattle.lane_core.specs.declared.counts.Counted.{Counted}
-use Rattle.lane_core.specs.declared.desk.Desk.{Desk}
-use Rattle.lane_core.specs.declared.desk.Stage.TheVariants.{Ready, Ending}
-use Rattle.lane_core.specs.declared.desk.Turn.TheVariants.{Went, Pending}
+use Rattle.lane_core.specs.declared.context.Context.{Context}
+use Rattle.lane_core.specs.declared.context.Stage.TheVariants.{Ready, Ending}
+use Rattle.lane_core.specs.declared.context.Turn.TheVariants.{Went, Pending}
 use Rattle.lane_core.specs.declared.retirement.Ending.{Ending as EndStage}
 use Rattle.lane_core.specs.declared.retirement.Ending.TheVariants.{Root as EndRoot, Cache as EndCache, Arena as EndArena, Home as EndHome}
 use Rattle.lane_core.specs.declared.retirement.Ends.{Ends}
@@ -28,12 +28,12 @@ use Rattle.lane_core.specs.Counting.{counted}
 use Rattle.seat_work.specs.Hands.{Hand, empty_hand}
 use Rattle.lane_core.specs.Named.{NamesAre}
 use Rattle.lane_core.specs.Readings.{ReadsOn, none_asked, swept, renamed}
-use Rattle.lane_core.specs.Desks.{IsDesk, reads_from, HasTurned}
-use Rattle.lane_core.specs.DeskSteps.{HasNoted, HasReplied}
+use Rattle.lane_core.specs.Contexts.{IsContext, reads_from, HasTurned}
+use Rattle.lane_core.specs.ContextSteps.{HasNoted, HasReplied}
 use Rattle.lane_core.proofs.NameLaws.{rebound_same}
 use Rattle.lane_core.proofs.ReadLaws.{then_on, given_on}
-use Rattle.lane_core.proofs.DeskLaws.{spends_at}
-use Rattle.lane_core.proofs.DeskGrown.{swept_reads, noted_so}
+use Rattle.lane_core.proofs.ContextLaws.{spends_at}
+use Rattle.lane_core.proofs.ContextGrown.{swept_reads, noted_so}
 use Rattle.lane_core.proofs.StageTurns.{Staged, none_of, some_of, staged, staged_answer, staged_counts, staged_grew, staged_names, staged_on, staged_seat, staged_still}
 
 -- it asks no cache
@@ -43,9 +43,9 @@ no_end_asks (EndCache region handle) = refl
 no_end_asks (EndArena region handle) = refl
 no_end_asks (EndHome handle) = refl
 
-module _ (pool : SharedPool) (old mid : Desk) (stage : EndStage) (d : IsDesk pool (ending.hand_of stage) old)
+module _ (pool : SharedPool) (old mid : Context) (stage : EndStage) (d : IsContext pool (ending.hand_of stage) old)
     (mid_so : mid ≡ record old { seat = mid.seat; notes = mid.notes }) where
-  abbrev end_start : Desk
+  abbrev end_start : Context
   end_start = record old { seat = mid.seat }
 
   module _ (ends : Ends) (did : ending.HasEnded pool old.seat mid.seat old.notes mid.notes stage ends) where
@@ -54,7 +54,7 @@ module _ (pool : SharedPool) (old mid : Desk) (stage : EndStage) (d : IsDesk poo
 
     pub ended_so : Staged pool (ending.hand_of stage) (ending.hand_after ends) old end_start mid added (λ root. 0)
     ended_so = record {
-      desk = d;
+      context = d;
       start_is = refl;
       counts_are = refl;
       same = (did.wrote old.sampler).same;
@@ -79,10 +79,10 @@ module _ (pool : SharedPool) (old mid : Desk) (stage : EndStage) (d : IsDesk poo
     ends_at at = ending.rest_of old.shape at >> give (answer Reply.Freed s.names)
 
     still_low : mid.asked < sweep_period
-    still_low = let a = ap (λ (x : Desk). x.asked) mid_so in omega (arith, a, low)
+    still_low = let a = ap (λ (x : Context). x.asked) mid_so in omega (arith, a, low)
 
     same_asks : mid.asked ≡ old.asked
-    same_asks = ap (λ (x : Desk). x.asked) mid_so
+    same_asks = ap (λ (x : Context). x.asked) mid_so
 
     none_left : (next : EndStage) → (ending.left_of next).asks + mid.asked ≤ (ending.left_of stage).asks + old.asked
     none_left next =
@@ -141,13 +141,13 @@ module _ (pool : SharedPool) (old mid : Desk) (stage : EndStage) (d : IsDesk poo
           held = subst (λ x. FoundBusy pool held.object false old.seat x held) (sym seat_is) did.again.2;
         }
 
-    pub end_done : (new : Desk) → ending.HasEnded pool old.seat mid.seat old.notes mid.notes stage Done
+    pub end_done : (new : Context) → ending.HasEnded pool old.seat mid.seat old.notes mid.notes stage Done
         → HasReplied mid new Reply.Freed → HasTurned pool old new s command (Ending stage) (Went Ready)
     end_done new did replied =
         let st = ended_so Done did in let es = added Done did in
         let names_are = staged_names pool (ending.hand_of stage) empty_hand old end_start mid es (λ root. 0) st in
         let counts_are = staged_counts pool (ending.hand_of stage) empty_hand old end_start mid es (λ root. 0) st in
-        let final : Desk = record old {
+        let final : Context = record old {
           seat = mid.seat;
           names = mid.names;
           counts = mid.counts;
@@ -164,7 +164,7 @@ module _ (pool : SharedPool) (old mid : Desk) (stage : EndStage) (d : IsDesk poo
         (subst (NamesAre s.names) (sym names_are) are) replied low
         (spends_at old final (ending.left_of stage) (notes_alone 0) did.spends
         (let c = no_end_asks stage in omega (arith, c)))
-        (swept_reads pool (ending.hand_of stage) empty_hand old end_start mid st.desk st.start_is es
+        (swept_reads pool (ending.hand_of stage) empty_hand old end_start mid st.context st.start_is es
         (view_of old.seat).moves (staged pool (ending.hand_of stage) empty_hand old end_start mid es (λ root. 0) st)
         st.noted new mid.names mid.counts Reply.Freed replied none_asked refl low (ends_at stage) s.names
         (given_on (ending.rest_of old.shape stage) (map entry_of es) none_asked (λ _. give (answer Reply.Freed s.names))

@@ -10,17 +10,17 @@ use Rattle.pool_law.specs.LaneLaw.{before_stop, replies_in}
 use Rattle.pool_law.specs.LaneStates.{LaneState}
 use Rattle.shared_pool.specs.declared.pool.SharedPool.{SharedPool}
 use Rattle.shared_pool.specs.SeatLanes.{lane_of}
-use Rattle.lane_core.specs.declared.desk.Desk.{Desk}
-use Rattle.lane_core.specs.declared.desk.Stage.{Stage}
-use Rattle.lane_core.specs.declared.desk.Stage.TheVariants.{Ready}
-use Rattle.lane_core.specs.declared.desk.Turn.{Turn}
-use Rattle.lane_core.specs.declared.desk.Turn.TheVariants.{Went, Pending, Waiting}
+use Rattle.lane_core.specs.declared.context.Context.{Context}
+use Rattle.lane_core.specs.declared.context.Stage.{Stage}
+use Rattle.lane_core.specs.declared.context.Stage.TheVariants.{Ready}
+use Rattle.lane_core.specs.declared.context.Turn.{Turn}
+use Rattle.lane_core.specs.declared.context.Turn.TheVariants.{Went, Pending, Waiting}
 use Rattle.lane_core.specs.declared.lane.Lane.{Lane}
-use Rattle.lane_core.specs.Desks.{next_of, HasTurned, PassesOver, reads_from}
+use Rattle.lane_core.specs.Contexts.{next_of, HasTurned, PassesOver, reads_from}
 use Rattle.lane_core.specs.Lanes.{Heeds}
 use Rattle.lane_core.proofs.LaneGrown.{lane_at}
 use Rattle.lane_core.proofs.LaneLogs.{unstopped_more}
-use Rattle.lane_core.proofs.StageCases.{by_kind, passes_held, passes_none, waits_on, went_on}
+use Rattle.lane_core.proofs.StageCases.{by_kind, passes_none, waits_on, went_on}
 use Rattle.lane_core.proofs.StoppedLogs.{stop_more}
 
 -- both tests hold, or one doesn't
@@ -34,10 +34,10 @@ first_holds false b holds is = absurd (cc holds)
 
 module _ (stops : ℕ → Bool) (l : Lane) (h : Heeds stops l) where
   abbrev rs : List Answered
-  rs = l.desk.replies.items
+  rs = l.context.replies.items
 
   -- no reply is new
-  pub heeds_still : (d : Desk) (stage : Stage) → d.replies.items ≡ l.desk.replies.items
+  pub heeds_still : (d : Context) (stage : Stage) → d.replies.items ≡ l.context.replies.items
       → Heeds stops (lane_at l d stage l.asked)
   heeds_still d stage same = record {
     passed =
@@ -53,8 +53,8 @@ module _ (stops : ℕ → Bool) (l : Lane) (h : Heeds stops l) where
   }
 
   -- the next command is passed over
-  pub heeds_stop : l.stopped ≡ true → (d : Desk) (stage : Stage) (notes : ℕ) →
-      d.replies.items ≡ l.desk.replies.items ++ record { reply = Reply.Stopped; notes = notes } ∷ []
+  pub heeds_stop : l.stopped ≡ true → (d : Context) (stage : Stage) (notes : ℕ) →
+      d.replies.items ≡ l.context.replies.items ++ record { reply = Reply.Stopped; notes = notes } ∷ []
       → Heeds stops (lane_at l d stage l.asked)
   heeds_stop over d stage notes more =
       let same : before_stop (replies_in d.replies.items) ≡ before_stop (replies_in rs) =
@@ -99,8 +99,8 @@ module _ (stops : ℕ → Bool) (l : Lane) (h : Heeds stops l) where
         at go line lt true test = at_next go line lt (leb-true l.asked line test) (leb (length rs) line) refl
 
     -- it was carried out
-    pub heeds_answer : length rs < l.asked → (d : Desk) (stage : Stage) (a : Answered) →
-        d.replies.items ≡ l.desk.replies.items ++ a ∷ [] → before_stop (a.reply ∷ []) ≡ 1
+    pub heeds_answer : length rs < l.asked → (d : Context) (stage : Stage) (a : Answered) →
+        d.replies.items ≡ l.context.replies.items ++ a ∷ [] → before_stop (a.reply ∷ []) ≡ 1
         → Heeds stops (lane_at l d stage l.asked)
     heeds_answer line_asked d stage a more is = record {
       passed = λ line lt. h.asked going line (let e = long in omega (arith, e, lt, line_asked));
@@ -119,44 +119,43 @@ module _ (stops : ℕ → Bool) (l : Lane) (h : Heeds stops l) where
             let f = length-map rs (λ (x : Answered). x.reply) in omega (arith, e, f))
 
     -- a turn of a running lane's command
-    pub turned_heeds : length rs < l.asked → (pool : SharedPool) (d : Desk) (s : LaneState) (command : Command)
-        (stage : Stage) (turn : Turn) → HasTurned pool l.desk d s command stage turn
+    pub turned_heeds : length rs < l.asked → (pool : SharedPool) (d : Context) (s : LaneState) (command : Command)
+        (stage : Stage) (turn : Turn) → HasTurned pool l.context d s command stage turn
         → Heeds stops (lane_at l d (next_of stage turn) l.asked)
     turned_heeds line pool d s command stage (Went next) =
-        by_kind (λ x. HasTurned pool l.desk d s command stage (Went x) → Heeds stops (lane_at l d x l.asked))
+        by_kind (λ x. HasTurned pool l.context d s command stage (Went x) → Heeds stops (lane_at l d x l.asked))
         (λ t. heeds_answer line d Ready t.comes.answered t.comes.replies t.comes.unstopped) (λ x t. absurd t.comes)
         (λ x u t.
-        let on = went_on (λ (state : LaneState). reads_from l.desk.shape (lane_of l.desk.seat) state command) s l.desk d
+        let on = went_on (λ (state : LaneState). reads_from l.context.shape (lane_of l.context.seat) state command) s
+        l.context d
         t.added stage x u t.comes in
         heeds_still d x on.replies) next
     turned_heeds line pool d s command stage (Pending held next) =
-        by_kind (λ x. HasTurned pool l.desk d s command stage (Pending held x) → Heeds stops (lane_at l d x l.asked))
+        by_kind (λ x. HasTurned pool l.context d s command stage (Pending held x) → Heeds stops (lane_at l d x l.asked))
         (λ t. heeds_still d Ready t.comes.1.replies) (λ x t. absurd t.comes)
         (λ x u t.
-        let on = waits_on (λ (state : LaneState). reads_from l.desk.shape (lane_of l.desk.seat) state command) s l.desk
+        let on = waits_on (λ (state : LaneState). reads_from l.context.shape (lane_of l.context.seat) state command) s
+        l.context
         d
         t.added stage held x u t.comes in
         heeds_still d x on.1.replies) next
     turned_heeds line pool d s command stage (Waiting sender) = λ t. heeds_still d stage t.comes.1.replies
 
   -- a turn that passes a command over
-  pub passed_heeds : l.stopped ≡ true → (pool : SharedPool) (d : Desk) (command : Command) (turn : Turn)
-      → PassesOver pool l.desk d command turn → Heeds stops (lane_at l d (next_of Ready turn) l.asked)
+  pub passed_heeds : l.stopped ≡ true → (pool : SharedPool) (d : Context) (command : Command) (turn : Turn)
+      → PassesOver pool l.context d command turn → Heeds stops (lane_at l d (next_of Ready turn) l.asked)
   passed_heeds over pool d command (Went next) =
-      by_kind (λ x. PassesOver pool l.desk d command (Went x) → Heeds stops (lane_at l d x l.asked))
+      by_kind (λ x. PassesOver pool l.context d command (Went x) → Heeds stops (lane_at l d x l.asked))
       (λ t. heeds_stop over d Ready t.comes.notes t.comes.replies) (λ x t. absurd t.comes)
-      (λ x u t. absurd (passes_none l.desk d t.added command x u t.comes)) next
-  passed_heeds over pool d command (Pending held next) =
-      by_kind (λ x. PassesOver pool l.desk d command (Pending held x) → Heeds stops (lane_at l d x l.asked))
-      (λ t. heeds_still d Ready t.comes.replies) (λ x t. absurd t.comes)
-      (λ x u t. absurd (passes_held l.desk d t.added command held x u t.comes)) next
+      (λ x u t. absurd (passes_none l.context d t.added command x u t.comes)) next
+  passed_heeds over pool d command (Pending held next) = λ t. absurd t.comes
   passed_heeds over pool d command (Waiting sender) = λ t. absurd t.comes
 
 -- a new lane was asked for nothing
-pub heeds_first : (stops : ℕ → Bool) (l : Lane) → l.desk.replies.items ≡ [] → l.stopped ≡ false → l.asked ≡ 0
+pub heeds_first : (stops : ℕ → Bool) (l : Lane) → l.context.replies.items ≡ [] → l.stopped ≡ false → l.asked ≡ 0
     → Heeds stops l
 heeds_first stops l none going fresh =
-    let zero : before_stop (replies_in l.desk.replies.items) ≡ 0 =
+    let zero : before_stop (replies_in l.context.replies.items) ≡ 0 =
     ap (λ (xs : List Answered). before_stop (replies_in xs)) none in
     record {
       passed = λ line lt. absurd (omega (arith, zero, lt));

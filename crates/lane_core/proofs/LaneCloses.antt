@@ -5,12 +5,12 @@ use Rattle.pool_law.specs.LaneStates.{LaneState}
 use Rattle.pool_law.specs.Names.{Names}
 use Rattle.pool_law.specs.Patterns.{closing}
 use Rattle.pool_law.specs.Readers.{Entries}
-use Rattle.pool_table.specs.Seats.{view_of}
+use Rattle.shared_pool.specs.SeatViews.{view_of}
 use Rattle.shared_pool.specs.declared.pool.SharedPool.{SharedPool}
-use Rattle.lane_core.specs.declared.desk.Desk.{Desk}
-use Rattle.lane_core.specs.declared.desk.Stage.{Stage}
-use Rattle.lane_core.specs.declared.desk.Stage.TheVariants.{Ready, Closing}
-use Rattle.lane_core.specs.declared.desk.Turn.{Turn}
+use Rattle.lane_core.specs.declared.context.Context.{Context}
+use Rattle.lane_core.specs.declared.context.Stage.{Stage}
+use Rattle.lane_core.specs.declared.context.Stage.TheVariants.{Ready, Closing}
+use Rattle.lane_core.specs.declared.context.Turn.{Turn}
 use Rattle.lane_core.specs.declared.draining.DrainKind.TheVariants.{Close}
 use Rattle.lane_core.specs.declared.draining.Draining.{Draining}
 use Rattle.lane_core.specs.declared.draining.Draining.TheVariants.{Ask}
@@ -18,7 +18,7 @@ use Rattle.lane_core.specs.declared.lane.Lane.{Lane}
 use Rattle.lane_core.specs.declared.lane.Stepped.{Stepped}
 use Rattle.lane_core.specs.Drainings as draining
 use Rattle.lane_core.specs.Readings.{ReadsOn, none_asked, behind}
-use Rattle.lane_core.specs.Desks.{IsDesk, hand_of, Fits, HasRoomFor, next_of, HasTurnedClosing}
+use Rattle.lane_core.specs.Contexts.{IsContext, hand_of, Fits, HasRoomFor, next_of, HasTurnedClosing}
 use Rattle.lane_core.specs.Lanes.{Heeds, IsRunningLane, reads_closing, IsClosing, IsBegun, SameLane, commands_left, entries_since, number_of}
 use Rattle.lane_core.specs.Steps.{HasStepped, stepped_of}
 use Rattle.lane_core.proofs.LaneGrown.{lane_at, room_to_close, room_to_begin}
@@ -44,11 +44,11 @@ module _ (pool : SharedPool) (l : Lane) (lane : IsRunningLane pool l) where
     pub close_none : commands_left l ≡ []
     close_none = lane.all_answered (subst IsClosing (sym is) tt)
 
-    pub close_desk : IsDesk pool (draining.hand_of Close stage) l.desk
-    close_desk = subst (λ (x : Stage). IsDesk pool (hand_of x) l.desk) is lane.desk
+    pub close_context : IsContext pool (draining.hand_of Close stage) l.context
+    close_context = subst (λ (x : Stage). IsContext pool (hand_of x) l.context) is lane.context
 
-    pub close_fits : draining.Fits pool l.desk.seat stage
-    close_fits = subst (λ (x : Stage). Fits pool l.desk x) is lane.fits
+    pub close_fits : draining.Fits pool l.context.seat stage
+    close_fits = subst (λ (x : Stage). Fits pool l.context x) is lane.fits
 
     pub close_had : ReadsOn (closing (number_of l)) (entries_since l) none_asked
         (draining.rest_of Close (number_of l) stage)
@@ -56,13 +56,13 @@ module _ (pool : SharedPool) (l : Lane) (lane : IsRunningLane pool l) where
         begun_at l lane.state lane.bound stage (entries_since l) is
         (subst (λ (cs : List Command). IsBegun l lane.state lane.bound cs (entries_since l)) close_none lane.begun)
 
-    pub close_room : HasRoomFor l.desk (draining.left_of stage (view_of l.desk.seat))
-    close_room = room_to_close l lane.room close_none stage is
+    pub close_room : HasRoomFor pool l.context (draining.left_of stage (view_of l.context.seat))
+    close_room = room_to_close pool l lane.room close_none stage is
 
   -- a lane whose commands are all answered
   module _ (is : l.stage ≡ Ready) (none : commands_left l ≡ []) where
-    pub first_desk : IsDesk pool (draining.hand_of Close (Ask 0)) l.desk
-    first_desk = subst (λ (x : Stage). IsDesk pool (hand_of x) l.desk) is lane.desk
+    pub first_context : IsContext pool (draining.hand_of Close (Ask 0)) l.context
+    first_context = subst (λ (x : Stage). IsContext pool (hand_of x) l.context) is lane.context
 
     pub first_had : ReadsOn (closing (number_of l)) (entries_since l) none_asked
         (draining.rest_of Close (number_of l) (Ask 0))
@@ -70,26 +70,27 @@ module _ (pool : SharedPool) (l : Lane) (lane : IsRunningLane pool l) where
         begun_first l lane.state lane.bound (entries_since l) is
         (subst (λ (cs : List Command). IsBegun l lane.state lane.bound cs (entries_since l)) none lane.begun)
 
-    pub first_room : HasRoomFor l.desk (draining.left_of (Ask 0) (view_of l.desk.seat))
-    first_room = room_to_begin l lane.room none is
+    pub first_room : HasRoomFor pool l.context (draining.left_of (Ask 0) (view_of l.context.seat))
+    first_room = room_to_begin pool l lane.room none is
 
-  module _ (d : Desk) (n : ℕ) (few_asked : n ≤ length l.commands) (stage : Draining) (turn : Turn)
-      (t : HasTurnedClosing pool l.desk d stage turn) where
+  module _ (d : Context) (n : ℕ) (few_asked : n ≤ length l.commands) (stage : Draining) (turn : Turn)
+      (t : HasTurnedClosing pool l.context d stage turn) where
     pub closing_lane : commands_left l ≡ [] → ReadsOn (closing (number_of l)) (entries_since l) none_asked
-        (draining.rest_of Close (number_of l) stage) → HasRoomFor l.desk (draining.left_of stage (view_of l.desk.seat))
+        (draining.rest_of Close (number_of l) stage)
+        → HasRoomFor pool l.context (draining.left_of stage (view_of l.context.seat))
         → IsRunningLane pool (lane_at l d (Closing t.after) n)
     closing_lane none had room =
         closed_lane pool l lane d n few_asked (draining.hand_of Close t.after) t.added t.grew t.replies t.names t.begun
-        stage t.after none had room t.grew.desk t.fits t.spends t.reads
+        stage t.after none had room t.grew.context t.fits t.spends t.reads
 
 -- a lane whose commands are all answered begins its closing
 module _ (pool : SharedPool) (l : Lane) (lane : IsRunningLane pool l) (is : l.stage ≡ Ready)
     (none : commands_left l ≡ [])
-    (d : Desk) (turn : Turn) (t : HasTurnedClosing pool l.desk d (Ask 0) turn) (new : Lane)
+    (d : Context) (turn : Turn) (t : HasTurnedClosing pool l.context d (Ask 0) turn) (new : Lane)
     (new_is : new ≡ lane_at l d (next_of Ready turn) l.asked) where
   at_closing : new ≡ lane_at l d (Closing t.after) l.asked
   at_closing =
-      new_is ∙ ap (λ (x : Stage). lane_at l d x l.asked) (closing_next pool l lane.desk d l.asked (Ask 0) turn t)
+      new_is ∙ ap (λ (x : Stage). lane_at l d x l.asked) (closing_next pool l lane.context d l.asked (Ask 0) turn t)
 
   pub closes_lane : IsRunningLane pool new
   closes_lane =
@@ -99,12 +100,12 @@ module _ (pool : SharedPool) (l : Lane) (lane : IsRunningLane pool l) (is : l.st
 
   pub closes_same : SameLane l new
   closes_same =
-      subst (λ (x : Lane). SameLane l x) (sym at_closing) (closing_same pool l lane.desk d l.asked (Ask 0) turn t)
+      subst (λ (x : Lane). SameLane l x) (sym at_closing) (closing_same pool l lane.context d l.asked (Ask 0) turn t)
 
   pub closes_so : (result : Stepped) → result ≡ stepped_of turn → HasStepped pool l new result
   closes_so result so =
       subst (λ (x : Lane × Stepped). HasStepped pool l x.0 x.1) (λ i. (sym at_closing i, sym so i))
-      (closing_so pool l lane.desk d l.asked (Ask 0) turn t)
+      (closing_so pool l lane.context d l.asked (Ask 0) turn t)
 
   pub closes_heeds : (stops : ℕ → Bool) → Heeds stops l → Heeds stops new
   closes_heeds stops h =

@@ -1,4 +1,4 @@
--- A lane behind a turn of its desk: it is a lane again.
+-- A lane behind a turn of its context: it is a lane again.
 use Rattle.std.proofs.Common.{◌≡◌, ℕ, suc, ◌<◌, ◌≤◌, List, [], ◌∷◌, ◌++◌, length, map, take, drop, refl, sym, ap, ◌∙◌, subst, arith, Some, append_assoc, append-nil, length-append}
 use Rattle.std.specs.Prelude.{sum, vec_capacity}
 use Rattle.std.proofs.lemmas.List.{map-append, length-map, take-append-drop, length-take-le}
@@ -16,13 +16,13 @@ use Rattle.pool_law.specs.Patterns.{closing}
 use Rattle.pool_law.specs.Readers.{Entries, Log, Reader}
 use Rattle.pool_law.proofs.PatternLemmas.{lane_run-push}
 use Rattle.pool_table.specs.declared.views.Entry.{Entry}
-use Rattle.pool_table.specs.Seats.{view_of}
+use Rattle.shared_pool.specs.SeatViews.{view_of}
 use Rattle.shared_pool.specs.declared.pool.SharedPool.{SharedPool}
 use Rattle.shared_pool.specs.Closing.{entry_of}
 use Rattle.shared_pool.specs.SeatLanes.{lane_of}
-use Rattle.lane_core.specs.declared.desk.Desk.{Desk}
-use Rattle.lane_core.specs.declared.desk.Stage.{Stage}
-use Rattle.lane_core.specs.declared.desk.Stage.TheVariants.{Ready, Closing}
+use Rattle.lane_core.specs.declared.context.Context.{Context}
+use Rattle.lane_core.specs.declared.context.Stage.{Stage}
+use Rattle.lane_core.specs.declared.context.Stage.TheVariants.{Ready, Closing}
 use Rattle.lane_core.specs.declared.draining.DrainKind.TheVariants.{Close}
 use Rattle.lane_core.specs.declared.draining.Draining.{Draining}
 use Rattle.lane_core.specs.declared.lane.Lane.{Lane}
@@ -31,40 +31,41 @@ use Rattle.lane_core.specs.Drainings as draining
 use Rattle.seat_work.specs.Hands.{Hand}
 use Rattle.lane_core.specs.Named.{NamesAre}
 use Rattle.lane_core.specs.Readings.{ReadsOn, none_asked, renamed}
-use Rattle.lane_core.specs.Desks.{IsDesk, notes_of, entries_of, log_of, hand_of, Fits, FitsDesk, IsUnderway, HasRoomFor, left_now, SpendsAt, reads_from, DeskGrew, IsAnswered, Waits, NameFits}
+use Rattle.lane_core.specs.Contexts.{IsContext, notes_of, entries_of, log_of, hand_of, Fits, FitsContext, IsUnderway, HasRoomFor, left_now, SpendsAt, reads_from, ContextGrew, IsAnswered, Waits, NameFits}
 use Rattle.lane_core.proofs.ReadLaws.{still_on, on_append}
 use Rattle.lane_core.specs.Lanes.{IsRunningLane, IsClosing, IsAtRest, IsResting, HasAnswered, IsBegun, commands_left, answered_entries, entries_since, number_of, left_of}
 use Rattle.lane_core.proofs.LaneLogs.{cut_more, take_whole, drop_whole, pieces_more, counts_more, step_is, unstopped_more}
 use Rattle.lane_core.proofs.LaneGrown.{lane_at, fits_still, entries_grew, begun_within, number_same, still_entries, still_since, still_left, still_room, answered_room, closed_room}
 use Rattle.lane_core.proofs.LaneRooms.{notes_grew}
 
-module _ (pool : SharedPool) (l : Lane) (lane : IsRunningLane pool l) (d : Desk) (n : ℕ)
+module _ (pool : SharedPool) (l : Lane) (lane : IsRunningLane pool l) (d : Context) (n : ℕ)
     (few_asked : n ≤ length l.commands)
-    (hand : Hand) (added : List Entry) (grew : DeskGrew pool hand l.desk d added) where
+    (hand : Hand) (added : List Entry) (grew : ContextGrew pool hand l.context d added) where
   abbrev shape : Shape
-  shape = l.desk.shape
+  shape = l.context.shape
 
   abbrev number : ℕ
   number = number_of l
 
   -- what a lane keeps at every turn
-  pub lane_with : (stage : Stage) → IsDesk pool (hand_of stage) d → Fits pool d stage → NameFits d stage
+  pub lane_with : (stage : Stage) → IsContext pool (hand_of stage) d → Fits pool d stage → NameFits d stage
       → length d.replies.items ≤ length l.commands → (s : LaneState) → HasAnswered shape number (lane_at l d stage n) s
       → (names : Names) → NamesAre names d.names →
       IsBegun (lane_at l d stage n) s names (commands_left (lane_at l d stage n)) (entries_since (lane_at l d stage n))
       → (IsClosing stage → commands_left (lane_at l d stage n) ≡ []) → (IsAtRest stage → IsResting d s names)
       → (IsUnderway stage → length d.replies.items < n)
-      → HasRoomFor d (left_of (lane_at l d stage n)) → IsRunningLane pool (lane_at l d stage n)
-  lane_with stage desk fits name few s answered names are begun all_answered rest underway room =
+      → HasRoomFor pool d (left_of (lane_at l d stage n)) → IsRunningLane pool (lane_at l d stage n)
+  lane_with stage context fits name few s answered names are begun all_answered rest underway room =
       let new : Lane = lane_at l d stage n in
       record {
         going = lane.going;
-        desk = desk;
+        context = context;
         fits = fits;
         shape = subst IsShape (sym grew.shape) lane.shape;
         commands = subst (λ (x : Shape). AreCommands x l.commands) (sym grew.shape) lane.commands;
         plain =
-            All-weaker (FitsDesk l.desk) (FitsDesk d) (fits_still l.desk d grew.name_count grew.shape grew.composes)
+            All-weaker (FitsContext l.context) (FitsContext d)
+            (fits_still l.context d grew.name_count grew.shape grew.composes)
             l.commands
             lane.plain;
         composing = grew.composes ∙ lane.composing;
@@ -72,7 +73,7 @@ module _ (pool : SharedPool) (l : Lane) (lane : IsRunningLane pool l) (d : Desk)
         state = s;
         answered =
             subst (λ (x : Shape × ℕ). HasAnswered x.0 x.1 new s)
-            (λ i. (sym grew.shape i, sym (number_same pool l lane.desk d n hand added grew) i)) answered;
+            (λ i. (sym grew.shape i, sym (number_same pool l lane.context d n hand added grew) i)) answered;
         bound = names;
         bound_are = are;
         begun = begun;
@@ -87,122 +88,136 @@ module _ (pool : SharedPool) (l : Lane) (lane : IsRunningLane pool l) (d : Desk)
       }
 
   -- how the law reads the log of the lane from a stage on
-  abbrev reads_now : Desk → LaneState → Command → Stage → Reader Answer
+  abbrev reads_now : Context → LaneState → Command → Stage → Reader Answer
   reads_now e s command stage = reads_from e.shape (lane_of e.seat) s command stage
 
   reads_same : (s : LaneState) (command : Command) (stage : Stage) (log : Log)
-      → reads_now l.desk s command stage log ≡ reads_now d s command stage log
+      → reads_now l.context s command stage log ≡ reads_now d s command stage log
   reads_same s command stage log =
-      λ i. reads_from (sym grew.shape i) (sym (number_same pool l lane.desk d n hand added grew) i) s command stage log
+      λ i. reads_from (sym grew.shape i) (sym (number_same pool l lane.context d n hand added grew) i) s command stage
+      log
 
   turn_same : (s : LaneState) (command : Command) (log : Log)
-      → turn sweep_period l.desk.shape number s command log ≡ turn sweep_period d.shape (lane_of d.seat) s command log
+      → turn sweep_period l.context.shape number s command log
+      ≡ turn sweep_period d.shape (lane_of d.seat) s command log
   turn_same s command log =
-      λ i. turn sweep_period (sym grew.shape i) (sym (number_same pool l lane.desk d n hand added grew) i) s command log
+      λ i. turn sweep_period (sym grew.shape i) (sym (number_same pool l lane.context d n hand added grew) i) s command
+      log
 
   -- ---- Where no command was answered.
 
-  module _ (replies : d.replies.items ≡ l.desk.replies.items) (begun : d.begun ≡ l.desk.begun) (stage : Stage) where
-    still_few : length d.replies.items ≤ length l.commands
-    still_few = let a = lane.few in let b = ap (λ (rs : List Answered). length rs) replies in omega (arith, a, b)
+  module _ (replies : d.replies.items ≡ l.context.replies.items) (begun : d.begun ≡ l.context.begun) (stage : Stage)
+    where
+      still_few : length d.replies.items ≤ length l.commands
+      still_few = let a = lane.few in let b = ap (λ (rs : List Answered). length rs) replies in omega (arith, a, b)
 
-    still_answered : HasAnswered shape number (lane_at l d stage n) lane.state
-    still_answered =
-        let was = lane.answered in
-        record {
-          counted = ap (λ (rs : List Answered). sum (note_counts rs)) replies ∙ was.counted ∙ sym begun;
-          run =
-              subst (λ (x : List Answered × Entries). lane_run sweep_period shape number new_lane
-              (take (length x.0) l.commands) (pieces (note_counts x.0) x.1) ≡ Some (replies_in x.0, lane.state))
-              (λ i. (sym replies i, sym (still_entries pool l lane.desk d n hand added grew replies begun stage) i))
-              was.run;
-          unstopped =
-              subst (λ (rs : List Answered). before_stop (replies_in rs) ≡ length rs) (sym replies) was.unstopped;
-          seen = was.seen ∙ sym (still_entries pool l lane.desk d n hand added grew replies begun stage);
-        }
+      still_answered : HasAnswered shape number (lane_at l d stage n) lane.state
+      still_answered =
+          let was = lane.answered in
+          record {
+            counted = ap (λ (rs : List Answered). sum (note_counts rs)) replies ∙ was.counted ∙ sym begun;
+            run =
+                subst (λ (x : List Answered × Entries). lane_run sweep_period shape number new_lane
+                (take (length x.0) l.commands) (pieces (note_counts x.0) x.1) ≡ Some (replies_in x.0, lane.state))
+                (λ i. (
+                  sym replies i,
+                  sym (still_entries pool l lane.context d n hand added grew replies begun stage)
+                      i,
+                ))
+                was.run;
+            unstopped =
+                subst (λ (rs : List Answered). before_stop (replies_in rs) ≡ length rs) (sym replies) was.unstopped;
+            seen = was.seen ∙ sym (still_entries pool l lane.context d n hand added grew replies begun stage);
+          }
 
-    -- the command that is under way goes on at this stage
-    pub still_lane : length l.desk.replies.items < n → (command : Command) (later : List Command)
-        → commands_left l ≡ command ∷ later
-        → (IsClosing l.stage → ⊥) → (IsClosing stage → ⊥) → (names : Names) → NamesAre names d.names
-        → (IsAtRest stage → IsResting d lane.state names) → IsDesk pool (hand_of stage) d → Fits pool d stage
-        → NameFits d stage →
-        SpendsAt l.desk d (left_now l.desk.composes command l.stage (view_of l.desk.seat))
-        (left_now l.desk.composes command stage (view_of d.seat)) →
-        ((rest : Entries) → reads_now l.desk (renamed lane.state lane.bound) command l.stage
-        (log_of l.desk (map entry_of added ++ rest))
-        ≡ reads_now l.desk (renamed lane.state names) command stage (log_of d rest))
-        → IsRunningLane pool (lane_at l d stage n)
-    still_lane line command later left was_open is_open names are fresh desk fits name spends reads =
-        let new : Lane = lane_at l d stage n in let s = lane.state in
-        let left_now_is : commands_left new ≡ command ∷ later =
-        (still_left pool l lane.desk d n hand added grew replies begun stage) ∙ left in
-        let had : IsBegun l s lane.bound (command ∷ later) (entries_since l) =
-        subst (λ (cs : List Command). IsBegun l s lane.bound cs (entries_since l)) left lane.begun in
-        let has : IsBegun new s names (command ∷ later) (entries_since l ++ map entry_of added) =
-        (λ rest.
-        sym (turn_same s command (log_at s ((entries_since l ++ map entry_of added) ++ rest)))
-        ∙ ap (λ (es : Entries). turn sweep_period l.desk.shape number s command (log_at s es))
-        (append_assoc (entries_since l) (map entry_of added) rest)
-        ∙ had (map entry_of added ++ rest) ∙ reads rest ∙ reads_same (renamed s names) command stage (log_of d rest)) in
-        lane_with stage desk fits name still_few s still_answered names are
-        (subst (λ (x : List Command × Entries). IsBegun new s names x.0 x.1)
-        (λ i. (sym left_now_is i, sym (still_since pool l lane.desk d n hand added grew replies begun stage) i)) has)
-        (λ closes. absurd (is_open closes)) fresh
-        (λ u. let f = ap (λ (rs : List Answered). length rs) replies in omega (arith, line, f))
-        (still_room pool l lane.desk d n hand added grew command later left lane.room was_open stage is_open left_now_is
-        spends)
+      -- the command that is under way goes on at this stage
+      pub still_lane : length l.context.replies.items < n → (command : Command) (later : List Command)
+          → commands_left l ≡ command ∷ later
+          → (IsClosing l.stage → ⊥) → (IsClosing stage → ⊥) → (names : Names) → NamesAre names d.names
+          → (IsAtRest stage → IsResting d lane.state names) → IsContext pool (hand_of stage) d → Fits pool d stage
+          → NameFits d stage →
+          SpendsAt l.context d (left_now l.context.composes command l.stage (view_of l.context.seat))
+          (left_now l.context.composes command stage (view_of d.seat)) →
+          ((rest : Entries) → reads_now l.context (renamed lane.state lane.bound) command l.stage
+          (log_of l.context (map entry_of added ++ rest))
+          ≡ reads_now l.context (renamed lane.state names) command stage (log_of d rest))
+          → IsRunningLane pool (lane_at l d stage n)
+      still_lane line command later left was_open is_open names are fresh context fits name spends reads =
+          let new : Lane = lane_at l d stage n in let s = lane.state in
+          let left_now_is : commands_left new ≡ command ∷ later =
+          (still_left pool l lane.context d n hand added grew replies begun stage) ∙ left in
+          let had : IsBegun l s lane.bound (command ∷ later) (entries_since l) =
+          subst (λ (cs : List Command). IsBegun l s lane.bound cs (entries_since l)) left lane.begun in
+          let has : IsBegun new s names (command ∷ later) (entries_since l ++ map entry_of added) =
+          (λ rest.
+          sym (turn_same s command (log_at s ((entries_since l ++ map entry_of added) ++ rest)))
+          ∙ ap (λ (es : Entries). turn sweep_period l.context.shape number s command (log_at s es))
+          (append_assoc (entries_since l) (map entry_of added) rest)
+          ∙ had (map entry_of added ++ rest) ∙ reads rest
+          ∙ reads_same (renamed s names) command stage (log_of d rest)) in
+          lane_with stage context fits name still_few s still_answered names are
+          (subst (λ (x : List Command × Entries). IsBegun new s names x.0 x.1)
+          (λ i. (sym left_now_is i, sym (still_since pool l lane.context d n hand added grew replies begun stage) i))
+          has)
+          (λ closes. absurd (is_open closes)) fresh
+          (λ u. let f = ap (λ (rs : List Answered). length rs) replies in omega (arith, line, f))
+          (still_room pool l lane.context d n hand added grew command later left lane.room was_open stage is_open
+          left_now_is
+          spends)
 
-    -- where it waits it is as it was
-    pub waiting_lane : length l.desk.replies.items < n → (command : Command) (later : List Command)
-        → commands_left l ≡ command ∷ later
-        → (IsClosing l.stage → ⊥) → (IsClosing stage → ⊥) → Waits l.desk d added → (IsAtRest stage → l.stage ≡ Ready)
-        → IsDesk pool (hand_of stage) d → Fits pool d stage → NameFits d stage →
-        SpendsAt l.desk d (left_now l.desk.composes command l.stage (view_of l.desk.seat))
-        (left_now l.desk.composes command stage (view_of d.seat)) →
-        ((log : Log) → reads_now l.desk (renamed lane.state lane.bound) command l.stage log
-        ≡ reads_now l.desk (renamed lane.state lane.bound) command stage log) → IsRunningLane pool (lane_at l d stage n)
-    waiting_lane line command later left was_open is_open waits at_rest desk fits name spends reads =
-        let same : entries_of d ≡ entries_of l.desk = (entries_grew pool l lane.desk d n hand added grew)
-        ∙ ap (λ (es : List Entry). entries_of l.desk ++ map entry_of es) waits.none
-        ∙ append-nil (entries_of l.desk) in
-        still_lane line command later left was_open is_open lane.bound
-        (subst (NamesAre lane.bound) (sym waits.names) lane.bound_are)
-        (λ rest.
-        let was = lane.rest (subst IsAtRest (sym (at_rest rest)) tt) in
-        record {
-          begun =
-              (let a = was.begun in let b = notes_grew pool hand l.desk d added grew in let c =
-              ap (λ (es : List Entry). length es) waits.none in omega (arith, a, b, c, begun));
-          names_are = was.names_are;
-          asked = was.asked ∙ sym waits.asked;
-        })
-        desk fits name spends
-        (λ rest.
-        ap (λ (es : List Entry). reads_now l.desk (renamed lane.state lane.bound) command l.stage
-        (log_of l.desk (map entry_of es ++ rest))) waits.none
-        ∙ reads (log_of l.desk rest)
-        ∙ (λ i. reads_now l.desk (renamed lane.state lane.bound) command stage
-        (record { seen = sym same i; asked = sym waits.asked i; left = rest })))
+      -- where it waits it is as it was
+      pub waiting_lane : length l.context.replies.items < n → (command : Command) (later : List Command)
+          → commands_left l ≡ command ∷ later
+          → (IsClosing l.stage → ⊥) → (IsClosing stage → ⊥) → Waits l.context d added
+          → (IsAtRest stage → l.stage ≡ Ready)
+          → IsContext pool (hand_of stage) d → Fits pool d stage → NameFits d stage →
+          SpendsAt l.context d (left_now l.context.composes command l.stage (view_of l.context.seat))
+          (left_now l.context.composes command stage (view_of d.seat)) →
+          ((log : Log) → reads_now l.context (renamed lane.state lane.bound) command l.stage log
+          ≡ reads_now l.context (renamed lane.state lane.bound) command stage log)
+          → IsRunningLane pool (lane_at l d stage n)
+      waiting_lane line command later left was_open is_open waits at_rest context fits name spends reads =
+          let same : entries_of d ≡ entries_of l.context = (entries_grew pool l lane.context d n hand added grew)
+          ∙ ap (λ (es : List Entry). entries_of l.context ++ map entry_of es) waits.none
+          ∙ append-nil (entries_of l.context) in
+          still_lane line command later left was_open is_open lane.bound
+          (subst (NamesAre lane.bound) (sym waits.names) lane.bound_are)
+          (λ rest.
+          let was = lane.rest (subst IsAtRest (sym (at_rest rest)) tt) in
+          record {
+            begun =
+                (let a = was.begun in let b = notes_grew pool hand l.context d added grew in let c =
+                ap (λ (es : List Entry). length es) waits.none in omega (arith, a, b, c, begun));
+            names_are = was.names_are;
+            asked = was.asked ∙ sym waits.asked;
+          })
+          context fits name spends
+          (λ rest.
+          ap (λ (es : List Entry). reads_now l.context (renamed lane.state lane.bound) command l.stage
+          (log_of l.context (map entry_of es ++ rest))) waits.none
+          ∙ reads (log_of l.context rest)
+          ∙ (λ i. reads_now l.context (renamed lane.state lane.bound) command stage
+          (record { seen = sym same i; asked = sym waits.asked i; left = rest })))
 
   -- ---- Where the command was answered.
 
   module _ (command : Command) (later : List Command) (left : commands_left l ≡ command ∷ later)
-      (answered : IsAnswered l.desk d added (reads_from shape number (renamed lane.state lane.bound) command l.stage))
+      (answered : IsAnswered l.context d added
+      (reads_from shape number (renamed lane.state lane.bound) command l.stage))
     where
       abbrev done : Lane
       done = lane_at l d Ready n
 
-      cut : (take (suc (length l.desk.replies.items)) l.commands
-          ≡ take (length l.desk.replies.items) l.commands ++ command ∷ [])
-          × (drop (suc (length l.desk.replies.items)) l.commands ≡ later)
-          × (length l.desk.replies.items < length l.commands)
-      cut = cut_more (length l.desk.replies.items) l.commands command later left
+      cut : (take (suc (length l.context.replies.items)) l.commands
+          ≡ take (length l.context.replies.items) l.commands ++ command ∷ [])
+          × (drop (suc (length l.context.replies.items)) l.commands ≡ later)
+          × (length l.context.replies.items < length l.commands)
+      cut = cut_more (length l.context.replies.items) l.commands command later left
 
-      one_more : length d.replies.items ≡ suc (length l.desk.replies.items)
+      one_more : length d.replies.items ≡ suc (length l.context.replies.items)
       one_more =
           let a = ap (λ (rs : List Answered). length rs) answered.replies in let b =
-          length-append l.desk.replies.items (answered.answered ∷ []) in
+          length-append l.context.replies.items (answered.answered ∷ []) in
           omega (arith, a, b)
 
       abbrev group : Entries
@@ -223,12 +238,12 @@ module _ (pool : SharedPool) (l : Lane) (lane : IsRunningLane pool l) (d : Desk)
       whole : answered_entries l ++ group ≡ entries_of d
       whole =
           sym (append_assoc (answered_entries l) (entries_since l) (map entry_of added))
-          ∙ ap (λ (es : Entries). es ++ map entry_of added) (take-append-drop l.desk.begun (entries_of l.desk))
-          ∙ sym (entries_grew pool l lane.desk d n hand added grew)
+          ∙ ap (λ (es : Entries). es ++ map entry_of added) (take-append-drop l.context.begun (entries_of l.context))
+          ∙ sym (entries_grew pool l lane.context d n hand added grew)
 
-      before_length : length (answered_entries l) ≡ l.desk.begun
+      before_length : length (answered_entries l) ≡ l.context.begun
       before_length =
-          length-take-le l.desk.begun (entries_of l.desk) (begun_within pool l lane.desk d n hand added grew)
+          length-take-le l.context.begun (entries_of l.context) (begun_within pool l lane.context d n hand added grew)
 
       group_length : answered.answered.notes ≡ length group
       group_length =
@@ -242,14 +257,15 @@ module _ (pool : SharedPool) (l : Lane) (lane : IsRunningLane pool l) (d : Desk)
       had : IsBegun l lane.state lane.bound (command ∷ later) (entries_since l)
       had = subst (λ (cs : List Command). IsBegun l lane.state lane.bound cs (entries_since l)) left lane.begun
 
-      ran : lane_run sweep_period shape number new_lane (take (length l.desk.replies.items) l.commands ++ command ∷ [])
-          (pieces (note_counts l.desk.replies.items) (answered_entries l) ++ group ∷ [])
-          ≡ Some (replies_in l.desk.replies.items ++ answered.answered.reply ∷ [], state_now)
+      ran : lane_run sweep_period shape number new_lane
+          (take (length l.context.replies.items) l.commands ++ command ∷ [])
+          (pieces (note_counts l.context.replies.items) (answered_entries l) ++ group ∷ [])
+          ≡ Some (replies_in l.context.replies.items ++ answered.answered.reply ∷ [], state_now)
       ran =
           lane_run-push sweep_period shape number new_lane lane.state state_now
-          (take (length l.desk.replies.items) l.commands)
-          (pieces (note_counts l.desk.replies.items) (answered_entries l)) command group
-          (replies_in l.desk.replies.items) answered.answered.reply lane.answered.run
+          (take (length l.context.replies.items) l.commands)
+          (pieces (note_counts l.context.replies.items) (answered_entries l)) command group
+          (replies_in l.context.replies.items) answered.answered.reply lane.answered.run
           (step_is sweep_period shape number lane.state command group (entries_of d) d.asked answered.answered.reply
           answered.bound
           (λ rest. ap (λ (es : Entries). turn sweep_period shape number lane.state command (log_at lane.state es))
@@ -257,19 +273,19 @@ module _ (pool : SharedPool) (l : Lane) (lane : IsRunningLane pool l) (d : Desk)
           ∙ answered.reads rest))
 
       done_pieces : pieces (note_counts d.replies.items) (answered_entries done)
-          ≡ pieces (note_counts l.desk.replies.items) (answered_entries l) ++ group ∷ []
+          ≡ pieces (note_counts l.context.replies.items) (answered_entries l) ++ group ∷ []
       done_pieces =
           (λ i. pieces (note_counts (answered.replies i)) (done_entries i))
-          ∙ (λ i. pieces (map-append (λ (x : Answered). x.notes) l.desk.replies.items (answered.answered ∷ []) i)
+          ∙ (λ i. pieces (map-append (λ (x : Answered). x.notes) l.context.replies.items (answered.answered ∷ []) i)
           (sym whole i))
-          ∙ pieces_more (note_counts l.desk.replies.items) answered.answered.notes (answered_entries l) group
+          ∙ pieces_more (note_counts l.context.replies.items) answered.answered.notes (answered_entries l) group
           (lane.answered.counted ∙ sym before_length) group_length
 
       done_answered : HasAnswered shape number done state_now
       done_answered = record {
         counted =
             (let a = ap (λ (rs : List Answered). sum (note_counts rs)) answered.replies in let b =
-            counts_more l.desk.replies.items answered.answered in
+            counts_more l.context.replies.items answered.answered in
             let c = lane.answered.counted in let e = answered.notes in let f = answered.begun in
             omega (arith, a, b, c, e, f));
         run =
@@ -277,17 +293,17 @@ module _ (pool : SharedPool) (l : Lane) (lane : IsRunningLane pool l) (d : Desk)
             (done_pieces i)) ∙ ran
             ∙ ap (λ rs. Some (rs, state_now))
             (sym (ap replies_in answered.replies
-            ∙ map-append (λ (x : Answered). x.reply) l.desk.replies.items (answered.answered ∷ [])));
+            ∙ map-append (λ (x : Answered). x.reply) l.context.replies.items (answered.answered ∷ [])));
         unstopped =
-            (let a = unstopped_more (replies_in l.desk.replies.items) answered.answered.reply
-            (lane.answered.unstopped ∙ sym (length-map l.desk.replies.items (λ (x : Answered). x.reply)))
+            (let a = unstopped_more (replies_in l.context.replies.items) answered.answered.reply
+            (lane.answered.unstopped ∙ sym (length-map l.context.replies.items (λ (x : Answered). x.reply)))
             answered.unstopped in
             subst (λ (rs : List Answered). before_stop (replies_in rs) ≡ length rs) (sym answered.replies)
-            (ap (λ rs. before_stop rs) (map-append (λ (x : Answered). x.reply) l.desk.replies.items
+            (ap (λ rs. before_stop rs) (map-append (λ (x : Answered). x.reply) l.context.replies.items
             (answered.answered ∷ [])) ∙ a
-            ∙ sym (ap (λ rs. length rs) (map-append (λ (x : Answered). x.reply) l.desk.replies.items
+            ∙ sym (ap (λ rs. length rs) (map-append (λ (x : Answered). x.reply) l.context.replies.items
             (answered.answered ∷ [])))
-            ∙ length-map (l.desk.replies.items ++ answered.answered ∷ []) (λ (x : Answered). x.reply)));
+            ∙ length-map (l.context.replies.items ++ answered.answered ∷ []) (λ (x : Answered). x.reply)));
         seen = sym done_entries;
       }
 
@@ -296,34 +312,34 @@ module _ (pool : SharedPool) (l : Lane) (lane : IsRunningLane pool l) (d : Desk)
       begun_ready (c ∷ cs) = λ rest. refl
 
       -- the next command is to be begun
-      pub answered_lane : (IsClosing l.stage → ⊥) → IsDesk pool (hand_of Ready) d → Fits pool d Ready
-          → SpendsAt l.desk d (left_now l.desk.composes command l.stage (view_of l.desk.seat))
+      pub answered_lane : (IsClosing l.stage → ⊥) → IsContext pool (hand_of Ready) d → Fits pool d Ready
+          → SpendsAt l.context d (left_now l.context.composes command l.stage (view_of l.context.seat))
           (with_sheds (view_of d.seat) (notes_alone 0)) → IsRunningLane pool done
-      answered_lane was_open desk fits spends =
-          lane_with Ready desk fits tt (let e = one_more in let f = cut.2 in omega (arith, e, f)) state_now
+      answered_lane was_open context fits spends =
+          lane_with Ready context fits tt (let e = one_more in let f = cut.2 in omega (arith, e, f)) state_now
           done_answered
           answered.bound answered.names
           (subst (λ (es : Entries). IsBegun done state_now answered.bound (commands_left done) es) (sym done_since)
           (begun_ready (commands_left done)))
           (λ closes. absurd closes) (λ ready. record { begun = answered.begun; names_are = refl; asked = refl })
           (λ u. absurd u)
-          (answered_room pool l lane.desk d n hand added grew command later left lane.room was_open done_left spends)
+          (answered_room pool l lane.context d n hand added grew command later left lane.room was_open done_left spends)
 
   -- ---- The closing.
 
-  module _ (replies : d.replies.items ≡ l.desk.replies.items) (names : d.names ≡ l.desk.names)
-      (begun : d.begun ≡ l.desk.begun) (stage after : Draining) (none : commands_left l ≡ []) where
+  module _ (replies : d.replies.items ≡ l.context.replies.items) (names : d.names ≡ l.context.names)
+      (begun : d.begun ≡ l.context.begun) (stage after : Draining) (none : commands_left l ≡ []) where
     -- it goes on at this stage
     pub closed_lane : ReadsOn (closing number) (entries_since l) none_asked (draining.rest_of Close number stage)
-        → HasRoomFor l.desk (draining.left_of stage (view_of l.desk.seat))
-        → IsDesk pool (draining.hand_of Close after) d → draining.Fits pool d.seat after →
-        Spends (view_of l.desk.seat) (view_of d.seat) (draining.left_of stage (view_of l.desk.seat))
+        → HasRoomFor pool l.context (draining.left_of stage (view_of l.context.seat))
+        → IsContext pool (draining.hand_of Close after) d → draining.Fits pool d.seat after →
+        Spends (view_of l.context.seat) (view_of d.seat) (draining.left_of stage (view_of l.context.seat))
         (draining.left_of after (view_of d.seat)) →
         ReadsOn (draining.rest_of Close number stage) (map entry_of added) none_asked
         (draining.rest_of Close number after) → IsRunningLane pool (lane_at l d (Closing after) n)
-    closed_lane had room desk fits spends reads =
+    closed_lane had room context fits spends reads =
         let new : Lane = lane_at l d (Closing after) n in
-        let none_now : commands_left new ≡ [] = still_left pool l lane.desk d n hand added grew replies begun
+        let none_now : commands_left new ≡ [] = still_left pool l lane.context d n hand added grew replies begun
         (Closing after) ∙ none in
         let has : ReadsOn (closing number) (entries_since l ++ map entry_of added) none_asked
         (draining.rest_of Close number after) =
@@ -331,13 +347,17 @@ module _ (pool : SharedPool) (l : Lane) (lane : IsRunningLane pool l) (d : Desk)
         (entries_since l) (map entry_of added) had reads in
         let has_now : IsBegun new lane.state lane.bound [] (entries_since l ++ map entry_of added) =
         subst (λ (k : ℕ). ReadsOn (closing k) (entries_since l ++ map entry_of added) none_asked
-        (draining.rest_of Close k after)) (sym (number_same pool l lane.desk d n hand added grew)) has in
-        lane_with (Closing after) desk fits tt (still_few replies begun (Closing after)) lane.state
+        (draining.rest_of Close k after)) (sym (number_same pool l lane.context d n hand added grew)) has in
+        lane_with (Closing after) context fits tt (still_few replies begun (Closing after)) lane.state
         (still_answered replies begun (Closing after)) lane.bound
         (subst (NamesAre lane.bound) (sym names) lane.bound_are)
         (subst (λ (x : List Command × Entries). IsBegun new lane.state lane.bound x.0 x.1)
-        (λ i. (sym none_now i, sym (still_since pool l lane.desk d n hand added grew replies begun (Closing after)) i))
+        (λ i. (
+          sym none_now i,
+          sym (still_since pool l lane.context d n hand added grew replies begun (Closing after))
+              i,
+        ))
         has_now)
         (λ closes. none_now) (λ ready. absurd ready)
         (λ u. absurd u)
-        (closed_room pool l lane.desk d n hand added grew stage after none_now room spends)
+        (closed_room pool l lane.context d n hand added grew stage after none_now room spends)

@@ -1,38 +1,35 @@
 -- What a lane has still to spend behind a turn.
-use Rattle.std.proofs.Common.{◌≡◌, ℕ, ◌+◌, ◌*◌, ◌/◌, ◌<◌, ◌≤◌, Bool, List, [], ◌∷◌, length, refl, sym, ap, ◌∙◌, subst, arith, Option, Some, length-append}
-use Rattle.std.specs.Prelude.{IfSome, slice_get, unwrap_or}
-use Rattle.std.proofs.lemmas.Option.{IfSome_then}
-use Rattle.step_law.specs.Settings.{Setting}
+use Rattle.std.proofs.Common.{◌≡◌, ℕ, ◌+◌, ◌*◌, ◌/◌, ◌<◌, ◌≤◌, Bool, List, [], ◌∷◌, length, refl, sym, ap, ◌∙◌, subst, arith, Option, length-append}
+use Rattle.std.specs.Prelude.{unwrap_or}
 use Rattle.pool_law.specs.declared.command.Command.{Command}
 use Rattle.pool_law.specs.declared.run.Shape.{Shape}
 use Rattle.pool_law.specs.Limits.{cached_classes}
 use Rattle.pool_law.specs.LaneLaw.{sweep_period}
 use Rattle.pool_table.specs.declared.views.Entry.{Entry}
 use Rattle.pool_table.specs.declared.views.SeatView.{SeatView}
-use Rattle.pool_table.specs.Seats.{view_of}
+use Rattle.shared_pool.specs.SeatViews.{view_of}
 use Rattle.shared_pool.specs.declared.pool.SharedPool.{SharedPool}
-use Rattle.shared_pool.specs.Quotas.{posts}
+use Rattle.shared_pool.specs.MailAnswers.{RoomFor}
+use Rattle.pool_table.specs.Letters.{sent_on}
 use Rattle.shared_pool.specs.SeatLanes.{lane_of}
-use Rattle.lane_core.specs.declared.desk.Desk.{Desk}
-use Rattle.lane_core.specs.declared.desk.Stage.{Stage}
-use Rattle.lane_core.specs.declared.desk.Stage.TheVariants.{Ready, Allotting, Ending, Sweeping, Closing, Crossing, Parting, Consolidating, Copying, Replacing}
+use Rattle.lane_core.specs.declared.context.Context.{Context}
+use Rattle.lane_core.specs.declared.context.Stage.{Stage}
+use Rattle.lane_core.specs.declared.context.Stage.TheVariants.{Ready, Allotting, Ending, Sweeping, Closing, Crossing, Parting, Consolidating, Copying, Replacing}
 use Rattle.lane_core.specs.Budgets.{Left, notes_alone, with_sheds}
 use Rattle.seat_work.specs.Hands.{Hand}
-use Rattle.lane_core.specs.Desks.{DeskGrew, HasRoomFor, SpendsAt, notes_of, left_at, left_now}
+use Rattle.lane_core.specs.Contexts.{ContextGrew, HasRoomFor, SpendsAt, notes_of, left_at, left_now}
 use Rattle.lane_core.specs.Lanes.{IsClosing, both, left_for_each, with_takes, left_for_rest, left_to_ask}
 
 -- ---- Room for less.
 
-pub room_most : (d : Desk) (more less : Left) → less.notes ≤ more.notes → less.moves ≤ more.moves
-    → ((to : ℕ) → less.sends to ≤ more.sends to) → HasRoomFor d more → HasRoomFor d less
-room_most d more less notes moves sends room = record {
+pub room_most : (pool : SharedPool) (d : Context) (more less : Left) → less.notes ≤ more.notes → less.moves ≤ more.moves
+    → ((to : ℕ) → less.sends to ≤ more.sends to) → HasRoomFor pool d more → HasRoomFor pool d less
+room_most pool d more less notes moves sends room = record {
   notes = (let a = room.notes in omega (arith, a, notes));
   few = (let a = room.few in omega (arith, a, notes));
   turns = (let a = room.turns in omega (arith, a, notes));
   moves = (let a = room.moves in omega (arith, a, moves));
-  mails =
-      λ to lt. IfSome_then (view_of d.seat).setting (room.mails to lt)
-      (λ setting m. (m.0, m.1, (let a = m.2 in let b = sends to in omega (arith, a, b))));
+  mails = λ to lt m. (let a = room.mails to lt m in let b = sends to in omega (arith, a, b));
 }
 
 -- what is left now is more than what the command may spend
@@ -51,14 +48,13 @@ now_more composes command (Consolidating p stage) v = (omega arith, refl, λ to.
 now_more composes command (Copying name whole parts stage) v = (omega arith, refl, λ to. refl)
 now_more composes command (Replacing name whole stage) v = (omega arith, refl, λ to. refl)
 
-pub room_front : (d : Desk) (composes : Bool) (command : Command) (stage : Stage) (v : SeatView) (more rest : Left)
-    → HasRoomFor d (both (both (left_now composes command stage v) more) rest) → HasRoomFor d
-    (left_at composes command stage v)
-room_front d composes command stage v more rest room =
+pub room_front : (pool : SharedPool) (d : Context) (composes : Bool) (command : Command) (stage : Stage) (v : SeatView)
+    (more rest : Left) → HasRoomFor pool d (both (both (left_now composes command stage v) more) rest)
+    → HasRoomFor pool d (left_at composes command stage v)
+room_front pool d composes command stage v more rest room =
     let now = now_more composes command stage v in let a = now.0 in let b = now.1 in
-    room_most d (both (both (left_now composes command stage v) more) rest) (left_at composes command stage v) (omega
-    (arith, a))
-    (omega (arith, b)) (λ to. let e = now.2 to in omega (arith, e)) room
+    room_most pool d (both (both (left_now composes command stage v) more) rest) (left_at composes command stage v)
+    (omega (arith, a)) (omega (arith, b)) (λ to. let e = now.2 to in omega (arith, e)) room
 
 -- ---- The caches that are to be asked.
 
@@ -92,8 +88,8 @@ rest_ready composes (c ∷ later) v = (omega arith, omega arith, omega arith, λ
 
 -- ---- Room behind a turn.
 
-module _ (pool : SharedPool) (hand : Hand) (old new : Desk) (added : List Entry)
-    (grew : DeskGrew pool hand old new added) where
+module _ (pool : SharedPool) (hand : Hand) (old new : Context) (added : List Entry)
+    (grew : ContextGrew pool hand old new added) where
   pub lane_same : lane_of new.seat ≡ lane_of old.seat
   lane_same = ap (λ (n : Option ℕ). unwrap_or n 0) grew.more.number
 
@@ -101,11 +97,11 @@ module _ (pool : SharedPool) (hand : Hand) (old new : Desk) (added : List Entry)
   notes_grew = ap (λ (es : List Entry). length es) grew.more.notes ∙ length-append (notes_of old) added
 
   -- what was spent is left less
-  pub has_room : (before after : Left) → HasRoomFor old before
+  pub has_room : (before after : Left) → HasRoomFor pool old before
       → after.notes + length (notes_of new) ≤ before.notes + length (notes_of old)
       → after.moves + (view_of old.seat).moves ≤ before.moves + (view_of new.seat).moves →
-      ((to : ℕ) → after.sends to + posts (lane_of new.seat) to (notes_of new) ≤ before.sends to + posts
-      (lane_of old.seat) to (notes_of old)) → HasRoomFor new after
+      ((to : ℕ) → after.sends to + sent_on (lane_of new.seat) to (notes_of new)
+      ≤ before.sends to + sent_on (lane_of old.seat) to (notes_of old)) → HasRoomFor pool new after
   has_room before after room notes moves sends =
       let more = notes_grew in
       record {
@@ -117,25 +113,16 @@ module _ (pool : SharedPool) (hand : Hand) (old new : Desk) (added : List Entry)
       }
     where
       mail : (to : ℕ) → to < old.shape.lanes →
-          IfSome (view_of new.seat).setting (λ setting.
-          (k : ℕ) × (slice_get setting.mail (lane_of new.seat * new.shape.lanes + to) ≡ Some k)
-          × (posts (lane_of new.seat) to (notes_of new) + after.sends to ≤ k))
+          RoomFor pool (lane_of new.seat) to (sent_on (lane_of new.seat) to (notes_of new) + after.sends to)
       mail to lt =
-          let kept : IfSome (view_of old.seat).setting (λ setting.
-          (k : ℕ) × (slice_get setting.mail (lane_of old.seat * old.shape.lanes + to) ≡ Some k)
-          × (posts (lane_of new.seat) to (notes_of new) + after.sends to ≤ k)) =
-          IfSome_then (view_of old.seat).setting (room.mails to lt)
-          (λ setting m. (m.0, m.1, (let a = m.2 in let b = sends to in omega (arith, a, b)))) in
-          subst (λ (x : Option Setting × ℕ). IfSome x.0
-          (λ setting. (k : ℕ) × (slice_get setting.mail (x.1 + to) ≡ Some k)
-          × (posts (lane_of new.seat) to (notes_of new) + after.sends to ≤ k)))
-          (λ i. (sym grew.more.setting i, sym lane_same i * (sym grew.shape i).lanes)) kept
+          subst (λ (k : ℕ). RoomFor pool k to (sent_on (lane_of new.seat) to (notes_of new) + after.sends to))
+          (sym lane_same) (λ m. (let a = room.mails to lt m in let b = sends to in omega (arith, a, b)))
 
   -- of which the rest is left as it was
   pub room_behind : (before after rest : Left) → SpendsAt old new before after
-      → HasRoomFor old (both (both before rest)
+      → HasRoomFor pool old (both (both before rest)
       (notes_alone (cached_classes * (1 + (old.asked + (before.asks + rest.asks)) / sweep_period)))) →
-      HasRoomFor new (both (both after rest)
+      HasRoomFor pool new (both (both after rest)
       (notes_alone (cached_classes * (1 + (new.asked + (after.asks + rest.asks)) / sweep_period))))
   room_behind before after rest sp room =
       let a = sp.notes in let b = sp.asks in let m = sp.moves in

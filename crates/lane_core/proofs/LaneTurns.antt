@@ -10,15 +10,15 @@ use Rattle.pool_law.specs.Lanes.{Answer}
 use Rattle.pool_law.specs.Names.{Names}
 use Rattle.pool_law.specs.Readers.{Reader}
 use Rattle.pool_table.specs.declared.views.SeatView.{SeatView}
-use Rattle.pool_table.specs.Seats.{view_of}
+use Rattle.shared_pool.specs.SeatViews.{view_of}
 use Rattle.shared_pool.specs.declared.pool.SharedPool.{SharedPool}
 use Rattle.shared_pool.specs.Closing.{entry_of}
 use Rattle.shared_pool.specs.SeatLanes.{lane_of}
-use Rattle.lane_core.specs.declared.desk.Desk.{Desk}
-use Rattle.lane_core.specs.declared.desk.Stage.{Stage}
-use Rattle.lane_core.specs.declared.desk.Stage.TheVariants.{Ready}
-use Rattle.lane_core.specs.declared.desk.Turn.{Turn}
-use Rattle.lane_core.specs.declared.desk.Turn.TheVariants.{Went, Pending, Waiting}
+use Rattle.lane_core.specs.declared.context.Context.{Context}
+use Rattle.lane_core.specs.declared.context.Stage.{Stage}
+use Rattle.lane_core.specs.declared.context.Stage.TheVariants.{Ready}
+use Rattle.lane_core.specs.declared.context.Turn.{Turn}
+use Rattle.lane_core.specs.declared.context.Turn.TheVariants.{Went, Pending, Waiting}
 use Rattle.lane_core.specs.declared.lane.Lane.{Lane}
 use Rattle.lane_core.specs.declared.lane.Stepped.{Stepped}
 use Rattle.lane_core.specs.declared.lane.Stepped.TheVariants.{Went as StepWent, Pending as StepPending}
@@ -27,7 +27,7 @@ use Rattle.lane_core.specs.Counting.{CountsAre}
 use Rattle.lane_core.specs.Budgets.{Left}
 use Rattle.lane_core.specs.Named.{NamesAre}
 use Rattle.lane_core.specs.Readings.{renamed}
-use Rattle.lane_core.specs.Desks.{notes_of, entries_of, hand_of, Fits, IsUnderway, HasRoomFor, SpendsAt, left_for, left_at, left_now, reads_from, next_of, HasTurned}
+use Rattle.lane_core.specs.Contexts.{notes_of, entries_of, hand_of, Fits, IsUnderway, HasRoomFor, SpendsAt, left_for, left_at, left_now, reads_from, next_of, HasTurned}
 use Rattle.lane_core.specs.Lanes.{Heeds, IsRunningLane, IsClosing, IsAtRest, IsResting, SameLane, commands_left, answered_entries, number_of}
 use Rattle.lane_core.specs.Steps.{HasStepped, ReceivesNext, stepped_of}
 use Rattle.lane_core.proofs.LaneLogs.{cut_at, take_whole, drop_whole}
@@ -36,8 +36,8 @@ use Rattle.lane_core.proofs.Heeding.{turned_heeds}
 use Rattle.lane_core.proofs.LaneKept.{answered_lane, still_lane, waiting_lane}
 use Rattle.lane_core.proofs.StageCases.{by_kind, left_on, no_closing, no_rest, same_left, waits_on, went_on}
 
-module _ (pool : SharedPool) (l : Lane) (lane : IsRunningLane pool l) (d : Desk) (n : ℕ)
-    (few_asked : n ≤ length l.commands) (line : length l.desk.replies.items < n)
+module _ (pool : SharedPool) (l : Lane) (lane : IsRunningLane pool l) (d : Context) (n : ℕ)
+    (few_asked : n ≤ length l.commands) (line : length l.context.replies.items < n)
     (command : Command) (later : List Command) (left : commands_left l ≡ command ∷ later)
     (open_yet : IsClosing l.stage → ⊥) where
   -- the law's state, with the names that are bound now
@@ -45,76 +45,77 @@ module _ (pool : SharedPool) (l : Lane) (lane : IsRunningLane pool l) (d : Desk)
   state_of = renamed lane.state lane.bound
 
   abbrev Turned : Turn → Type 0
-  Turned t = HasTurned pool l.desk d state_of command l.stage t
+  Turned t = HasTurned pool l.context d state_of command l.stage t
 
   abbrev reads_now : LaneState → Stage → Reader Answer
-  reads_now state = reads_from l.desk.shape (lane_of l.desk.seat) state command
+  reads_now state = reads_from l.context.shape (lane_of l.context.seat) state command
 
   -- it goes on at a stage of the command, or waits there
   went_lane : (x : Stage) → IsUnderway x → Turned (Went x) → IsRunningLane pool (lane_at l d x n)
   went_lane x u t =
-      let on = went_on reads_now state_of l.desk d t.added l.stage x u t.comes in
+      let on = went_on reads_now state_of l.context d t.added l.stage x u t.comes in
       let v : SeatView = view_of d.seat in
       still_lane pool l lane d n few_asked (hand_of x) t.added t.grew on.replies on.begun x line command later left
-      open_yet (no_closing x u) on.bound on.names (λ ready. absurd (no_rest x u ready)) t.grew.desk t.fits t.name
-      (subst (λ (to : Left). SpendsAt l.desk d (left_now l.desk.composes command l.stage (view_of l.desk.seat)) to)
-      (left_on l.desk.composes command l.stage x v u) t.spends) on.reads
+      open_yet (no_closing x u) on.bound on.names (λ ready. absurd (no_rest x u ready)) t.grew.context t.fits t.name
+      (subst (λ (to : Left). SpendsAt l.context d (left_now l.context.composes command l.stage (view_of l.context.seat))
+      to)
+      (left_on l.context.composes command l.stage x v u) t.spends) on.reads
 
   held_lane : (held : Held) (x : Stage) → IsUnderway x → Turned (Pending held x)
       → IsRunningLane pool (lane_at l d x n)
   held_lane held x u t =
-      let on = waits_on reads_now state_of l.desk d t.added l.stage held x u t.comes in let w = on.1 in
+      let on = waits_on reads_now state_of l.context d t.added l.stage held x u t.comes in let w = on.1 in
       waiting_lane pool l lane d n few_asked (hand_of x) t.added t.grew w.replies w.begun x line command later left
-      open_yet (no_closing x u) w (λ ready. absurd (no_rest x u ready)) t.grew.desk t.fits t.name t.spends on.0
+      open_yet (no_closing x u) w (λ ready. absurd (no_rest x u ready)) t.grew.context t.fits t.name t.spends on.0
 
   pub turned_lane : (turn : Turn) → Turned turn → IsRunningLane pool (lane_at l d (next_of l.stage turn) n)
   turned_lane (Went next) =
       by_kind (λ x. Turned (Went x) → IsRunningLane pool (lane_at l d x n))
       (λ t. answered_lane pool l lane d n few_asked (hand_of Ready) t.added t.grew command later left t.comes open_yet
-      t.grew.desk t.fits t.spends)
+      t.grew.context t.fits t.spends)
       (λ x t. absurd t.comes) went_lane next
   turned_lane (Pending held next) =
       by_kind (λ x. Turned (Pending held x) → IsRunningLane pool (lane_at l d x n))
       (λ t.
       let w = t.comes.1 in
       waiting_lane pool l lane d n few_asked (hand_of Ready) t.added t.grew w.replies w.begun Ready line command later
-      left open_yet (λ c. c) w (λ ready. t.comes.0) t.grew.desk t.fits t.name t.spends
-      (λ log. ap (λ (x : Stage). reads_from l.desk.shape (number_of l) state_of command x log) t.comes.0))
+      left open_yet (λ c. c) w (λ ready. t.comes.0) t.grew.context t.fits t.name t.spends
+      (λ log. ap (λ (x : Stage). reads_from l.context.shape (number_of l) state_of command x log) t.comes.0))
       (λ x t. absurd t.comes) (held_lane held) next
   turned_lane (Waiting sender) = λ t.
       let w = t.comes.1 in
       waiting_lane pool l lane d n few_asked (hand_of l.stage) t.added t.grew w.replies w.begun l.stage line command
-      later left open_yet open_yet w (λ ready. t.comes.0) t.grew.desk t.fits t.name t.spends (λ log. refl)
+      later left open_yet open_yet w (λ ready. t.comes.0) t.grew.context t.fits t.name t.spends (λ log. refl)
 
   -- what the step says
   pub turned_so : (turn : Turn) → Turned turn → HasStepped pool l (lane_at l d (next_of l.stage turn) n)
       (stepped_of turn)
   turned_so (Went next) =
       by_kind (λ x. Turned (Went x) → HasStepped pool l (lane_at l d x n) StepWent)
-      (λ t. replied_more pool l lane.desk d n (hand_of Ready) t.added t.grew t.comes.answered t.comes.replies Ready)
+      (λ t. replied_more pool l lane.context d n (hand_of Ready) t.added t.grew t.comes.answered t.comes.replies Ready)
       (λ x t. absurd t.comes)
       (λ x u t.
-      let on = went_on reads_now state_of l.desk d t.added l.stage x u t.comes in
-      noted_more pool l lane.desk d n (hand_of x) t.added t.grew on.some on.replies x) next
+      let on = went_on reads_now state_of l.context d t.added l.stage x u t.comes in
+      noted_more pool l lane.context d n (hand_of x) t.added t.grew on.some on.replies x) next
   turned_so (Pending held next) =
       by_kind (λ x. Turned (Pending held x) → HasStepped pool l (lane_at l d x n) (StepPending held))
       (λ t. (
-        same_log pool l lane.desk d n (hand_of Ready) t.added t.grew t.comes.1.none t.comes.1.replies Ready,
+        same_log pool l lane.context d n (hand_of Ready) t.added t.grew t.comes.1.none t.comes.1.replies Ready,
         t.held,
       ))
       (λ x t. absurd t.comes)
       (λ x u t.
-      let on = waits_on reads_now state_of l.desk d t.added l.stage held x u t.comes in
-      (same_log pool l lane.desk d n (hand_of x) t.added t.grew on.1.none on.1.replies x, t.held)) next
+      let on = waits_on reads_now state_of l.context d t.added l.stage held x u t.comes in
+      (same_log pool l lane.context d n (hand_of x) t.added t.grew on.1.none on.1.replies x, t.held)) next
   turned_so (Waiting sender) = λ t. (
-    same_log pool l lane.desk d n (hand_of l.stage) t.added t.grew t.comes.1.none t.comes.1.replies l.stage,
+    same_log pool l lane.context d n (hand_of l.stage) t.added t.grew t.comes.1.none t.comes.1.replies l.stage,
     subst (λ (cs : List Command). ReceivesNext sender cs) (sym left) t.waits.0,
     t.waits.1,
   )
 
   pub turned_same : (turn : Turn) → Turned turn → SameLane l (lane_at l d (next_of l.stage turn) n)
   turned_same turn t =
-      same_lane pool l lane.desk d n (hand_of (next_of l.stage turn)) t.added t.grew (next_of l.stage turn)
+      same_lane pool l lane.context d n (hand_of (next_of l.stage turn)) t.added t.grew (next_of l.stage turn)
 
   -- what is to be done next, where nothing was kept
   pub turned_next : (turn : Turn) → Turned turn → next_of Ready turn ≡ next_of l.stage turn
@@ -126,26 +127,26 @@ module _ (pool : SharedPool) (l : Lane) (lane : IsRunningLane pool l) (d : Desk)
 
 module _ (pool : SharedPool) (l : Lane) (lane : IsRunningLane pool l) (u : IsUnderway l.stage) where
   pub underway_left : (command : Command) × (later : List Command) × (commands_left l ≡ command ∷ later)
-  underway_left = cut_at (length l.desk.replies.items) l.commands
+  underway_left = cut_at (length l.context.replies.items) l.commands
       (let a = lane.underway u in let b = lane.asked in omega (arith, a, b))
 
-  pub underway_replies : length l.desk.replies.items < vec_capacity l.desk.replies
+  pub underway_replies : length l.context.replies.items < vec_capacity l.context.replies
   underway_replies =
       let a = lane.underway u in let b = lane.replies in let c = lane.asked in omega (arith, a, b, c)
 
-  pub underway_room : (command : Command) → HasRoomFor l.desk (left_at l.desk.composes command l.stage
-      (view_of l.desk.seat))
+  pub underway_room : (command : Command) → HasRoomFor pool l.context (left_at l.context.composes command l.stage
+      (view_of l.context.seat))
   underway_room command =
       let cut = underway_left in
-      subst (λ (x : Left). HasRoomFor l.desk x) (same_left l.desk.composes l.stage
-      (view_of l.desk.seat) u cut.0 command)
-      (front_room l lane.room cut.0 cut.1 cut.2)
+      subst (λ (x : Left). HasRoomFor pool l.context x) (same_left l.context.composes l.stage
+      (view_of l.context.seat) u cut.0 command)
+      (front_room pool l lane.room cut.0 cut.1 cut.2)
 
-  module _ (d : Desk) (turn : Turn)
-      (t : (s : LaneState) (command : Command) → NamesAre s.names l.desk.names
-      → HasTurned pool l.desk d s command l.stage turn) (new : Lane)
+  module _ (d : Context) (turn : Turn)
+      (t : (s : LaneState) (command : Command) → NamesAre s.names l.context.names
+      → HasTurned pool l.context d s command l.stage turn) (new : Lane)
       (is : new ≡ lane_at l d (next_of Ready turn) l.asked) where
-    turned : HasTurned pool l.desk d (renamed lane.state lane.bound) (underway_left).0 l.stage turn
+    turned : HasTurned pool l.context d (renamed lane.state lane.bound) (underway_left).0 l.stage turn
     turned = t (renamed lane.state lane.bound) (underway_left).0 lane.bound_are
 
     underway_is : new ≡ lane_at l d (next_of l.stage turn) l.asked
@@ -183,18 +184,18 @@ module _ (pool : SharedPool) (l : Lane) (lane : IsRunningLane pool l) (u : IsUnd
         (renamed lane.state lane.bound) (underway_left).0 l.stage turn turned)
 
 -- the command at the line of the next reply, and none where there is no such line
-pub front_is : (l : Lane) (line : ℕ) (xs : List Command) (command : Command) → line ≡ length l.desk.replies.items
+pub front_is : (l : Lane) (line : ℕ) (xs : List Command) (command : Command) → line ≡ length l.context.replies.items
     → xs ≡ l.commands → line < length xs → command ≡ get_or xs line command
     → commands_left l ≡ command ∷ drop (line + 1) l.commands
 front_is l line xs command e f lt is =
     ap (λ (k : ℕ). drop k l.commands) (sym e) ∙ ap (λ (cs : List Command). drop line cs) (sym f)
     ∙ drop_more xs line command lt ∙ (λ i. sym is i ∷ drop (line + 1) (f i))
 
-pub none_left : (l : Lane) (line : ℕ) (xs : List Command) → line ≡ length l.desk.replies.items → xs ≡ l.commands
+pub none_left : (l : Lane) (line : ℕ) (xs : List Command) → line ≡ length l.context.replies.items → xs ≡ l.commands
     → length xs ≤ line → commands_left l ≡ []
 none_left l line xs e f le =
     let a = ap (λ (cs : List Command). length cs) f in
-    drop_whole (length l.desk.replies.items) l.commands (omega (arith, a, e, le))
+    drop_whole (length l.context.replies.items) l.commands (omega (arith, a, e, le))
 
 -- a lane whose next command is to be begun
 module _ (pool : SharedPool) (l : Lane) (lane : IsRunningLane pool l) (is : l.stage ≡ Ready) (command : Command)
@@ -202,35 +203,36 @@ module _ (pool : SharedPool) (l : Lane) (lane : IsRunningLane pool l) (is : l.st
   open_still : IsClosing l.stage → ⊥
   open_still closes = absurd (subst IsClosing is closes)
 
-  at_rest : IsResting l.desk lane.state lane.bound
+  at_rest : IsResting l.context lane.state lane.bound
   at_rest = lane.rest (subst IsAtRest (sym is) tt)
 
   -- the law's state is the desk's
-  pub begin_state : IsState lane.state l.desk.names l.desk.counts
+  pub begin_state : IsState lane.state l.context.names l.context.counts
   begin_state =
-      let a = at_rest.begun in let b = length-map (notes_of l.desk) entry_of in
-      let all : answered_entries l ≡ entries_of l.desk =
-      take_whole l.desk.begun (entries_of l.desk) (omega (arith, a, b)) in
+      let a = at_rest.begun in let b = length-map (notes_of l.context) entry_of in
+      let all : answered_entries l ≡ entries_of l.context =
+      take_whole l.context.begun (entries_of l.context) (omega (arith, a, b)) in
       record {
-        names_are = subst (λ (names : Names). NamesAre names l.desk.names) at_rest.names_are lane.bound_are;
-        counts_are = subst (CountsAre l.desk.counts) (sym (lane.answered.seen ∙ all)) lane.desk.counts;
+        names_are = subst (λ (names : Names). NamesAre names l.context.names) at_rest.names_are lane.bound_are;
+        counts_are = subst (CountsAre l.context.counts) (sym (lane.answered.seen ∙ all)) lane.context.counts;
       }
 
-  pub begin_room : HasRoomFor l.desk (left_for l.desk.composes command)
+  pub begin_room : HasRoomFor pool l.context (left_for l.context.composes command)
   begin_room =
-      subst (λ (x : Stage). HasRoomFor l.desk (left_at l.desk.composes command x (view_of l.desk.seat))) is
-      (front_room l lane.room command later left)
+      subst (λ (x : Stage). HasRoomFor pool l.context (left_at l.context.composes command x (view_of l.context.seat)))
+      is
+      (front_room pool l lane.room command later left)
 
   -- no sweep is due
-  pub begin_asked : l.desk.asked < sweep_period
-  begin_asked = subst (λ (x : Stage). Fits pool l.desk x) is lane.fits
+  pub begin_asked : l.context.asked < sweep_period
+  begin_asked = subst (λ (x : Stage). Fits pool l.context x) is lane.fits
 
-  module _ (d : Desk) (n : ℕ) (few : n ≤ length l.commands) (line : length l.desk.replies.items < n) (turn : Turn)
-      (t : HasTurned pool l.desk d lane.state command Ready turn) (new : Lane)
+  module _ (d : Context) (n : ℕ) (few : n ≤ length l.commands) (line : length l.context.replies.items < n) (turn : Turn)
+      (t : HasTurned pool l.context d lane.state command Ready turn) (new : Lane)
       (new_is : new ≡ lane_at l d (next_of Ready turn) n) where
-    begun : HasTurned pool l.desk d (renamed lane.state lane.bound) command l.stage turn
+    begun : HasTurned pool l.context d (renamed lane.state lane.bound) command l.stage turn
     begun =
-        subst (λ (x : Names × Stage). HasTurned pool l.desk d (renamed lane.state x.0) command x.1 turn)
+        subst (λ (x : Names × Stage). HasTurned pool l.context d (renamed lane.state x.0) command x.1 turn)
         (λ i. (sym at_rest.names_are i, sym is i)) t
 
     at_next : new ≡ lane_at l d (next_of l.stage turn) n

@@ -1,6 +1,7 @@
 pub mod NameLaws
 pub mod CountLaws
 pub mod AccessLaws
+pub mod AccessNames
 pub mod RoomLaws
 pub mod OpenedLaws
 pub mod LogLaws
@@ -8,20 +9,22 @@ pub mod Grown
 pub mod Readings
 pub mod OneNote
 pub mod AllotSteps
+pub mod AllotBirths
 pub mod EndSteps
 pub mod Outs
 pub mod ReadLaws
 pub mod DrainSteps
 pub mod EntryCounts
+pub mod SeatCounts
 pub mod StateReads
 pub mod RefusalLists
 pub mod CompositionTests
 pub mod CompositionLaws
 pub mod CompositionReads
 pub mod Makeable
-pub mod DeskLaws
-pub mod DeskGrown
-pub mod DeskWaits
+pub mod ContextLaws
+pub mod ContextGrown
+pub mod ContextWaits
 pub mod Turning
 pub mod CompositeTurns
 pub mod Commands
@@ -44,6 +47,7 @@ pub mod CloseTurns
 pub mod EitherLane
 pub mod StoppedLogs
 pub mod Heeding
+pub mod StoppedKept
 pub mod StoppedTurns
 pub mod LaneKept
 pub mod LaneTurns
@@ -72,9 +76,9 @@ mod PlayedSeats
 mod PlayedLogs
 mod PlayedAnswers
 mod PlayedStops
-mod PlayedOrder
 mod PlayedReport
 mod PlayedBirths
+mod PlacedBirths
 mod PlayedLeaks
 mod PlayedReported
 mod PlayedRun

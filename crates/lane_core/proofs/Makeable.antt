@@ -9,19 +9,19 @@ use Rattle.pool_law.specs.Names.{Composed}
 use Rattle.pool_law.specs.Refusals.{first_refusal}
 use Rattle.composite_buf.specs.Maps.{Fits}
 use Rattle.composite_buf.proofs.MapLaws.{size_of-append}
-use Rattle.lane_core.specs.declared.desk.Desk.{Desk}
+use Rattle.lane_core.specs.declared.context.Context.{Context}
 use Rattle.lane_core.specs.Compositions.{IsPlaced, MayMake, joined, readable_at, readable_of, refusals_to_add, refusals_to_compose}
 use Rattle.lane_core.specs.Counting.{counted}
-use Rattle.lane_core.specs.Desks.{FitsDesk}
+use Rattle.lane_core.specs.Contexts.{FitsContext}
 use Rattle.lane_core.specs.Named.{AreComposites, IsInRoot, bound_at}
 use Rattle.lane_core.proofs.CompositionTests.{clear_to_add, counts-readable, length-readable, one_part, shown_to_compose}
 use Rattle.lane_core.proofs.NameLaws.{bound_within}
 
-module _ (d : Desk) where
+module _ (d : Context) where
   abbrev IsCounted : Part → Type 0
   IsCounted p = 0 < counted d.counts p.root
 
-  pub may_compose : (fresh : ℕ) (of : List ℕ) → FitsDesk d (Command.Compose fresh of)
+  pub may_compose : (fresh : ℕ) (of : List ℕ) → FitsContext d (Command.Compose fresh of)
       → None ≡ first_refusal (refusals_to_compose d.names d.counts fresh of) → (parts : List Part)
       → parts ≡ readable_of d.names of → All IsPlaced parts → MayMake d fresh (joined parts 1 0)
   may_compose fresh of fits none parts is placed =

@@ -8,7 +8,7 @@ use Rattle.pool_law.specs.Names.{Bound, Plain, Composed, Names, composite_in, lo
 use Rattle.pool_law.proofs.ListLemmas.{slice_get-set_same, slice_get-set_other, slice_set-length}
 use Rattle.lane_core.specs.declared.bound.Bound.{Bound as HeldBound}
 use Rattle.lane_core.specs.declared.composed.Marks.{Marks}
-use Rattle.lane_core.specs.declared.desk.Desk.{Desk}
+use Rattle.lane_core.specs.declared.context.Context.{Context}
 use Rattle.lane_core.specs.Composing.{changed, rebound, set_marks}
 use Rattle.lane_core.specs.Named.{bound_of, bound_at, NamesAre, AreComposites, IsFormed}
 
@@ -133,8 +133,8 @@ pub record Rebound (composes : Bool) (most up : ℕ) (old new : List (Option Bou
   pub composites : AreComposites composes most old → (name : ℕ) (c : Composite)
       → bound_at new name ≡ Some (Composed c) → IsAllowed composes (most + up) c
 
--- so the names of a desk may be bound
-abbrev pub RebindsAt : ℕ → Desk → List (Option Bound) → Type 0
+-- so the names of a context may be bound
+abbrev pub RebindsAt : ℕ → Context → List (Option Bound) → Type 0
 RebindsAt up d names = Rebound d.composes (1 + length d.replies.items) up d.names names
 
 module _ {composes : Bool} {most : ℕ} (up : ℕ) (old new : List (Option Bound)) where

@@ -1,6 +1,5 @@
 -- What a step wrote that made one note, or found another seat.
 use Rattle.std.proofs.Common.{◌≡◌, ℕ, [], ◌∷◌, Bool, true, false, refl, sym, ap, subst}
-use Rattle.step_law.specs.declared.Told.{Ghosts}
 use Rattle.pool_law.specs.declared.note.Held.{Held}
 use Rattle.pool_law.specs.declared.note.Note.{Note}
 use Rattle.pool_law.specs.declared.note.Noted.{Noted}
@@ -8,9 +7,8 @@ use Rattle.pool_law.specs.declared.note.Object.{Object}
 use Rattle.pool_law.specs.Readers.{Reader}
 use Rattle.leak_records.specs.Records.{Sampling}
 use Rattle.pool_table.specs.declared.views.Entry.TheVariants.{Busy}
-use Rattle.pool_table.specs.declared.table.PoolSeat.{PoolSeat}
-use Rattle.pool_table.specs.Seats.{SameSeat}
-use Rattle.shared_pool.specs.declared.home.Home.{Home}
+use Rattle.shared_pool.specs.declared.seat.PoolSeat.{PoolSeat}
+use Rattle.shared_pool.specs.SeatViews.{SameSeat}
 use Rattle.shared_pool.specs.declared.pool.SharedPool.{SharedPool}
 use Rattle.shared_pool.specs.Closing.{entry_of}
 use Rattle.shared_pool.specs.Seats.{IsPoolSeat, IsNoted, FoundBusy}
@@ -19,7 +17,7 @@ use Rattle.lane_core.specs.Sampled.{AreSampled}
 use Rattle.lane_core.specs.Wrote.{Wrote}
 use Rattle.seat_work.proofs.Grown.{note_at, grows_noted, grows_busy, grows_held}
 
-module _ {G : Ghosts Home Noted} (pool : SharedPool) (old new : PoolSeat Home G) (was : IsPoolSeat pool old)
+module _ (pool : SharedPool) (old new : PoolSeat) (was : IsPoolSeat pool old)
     (is : IsPoolSeat pool new) (same : SameSeat old new) where
   module _ {X : Type 0} (sampler : Sampling) (before : Reader X) (asks : ℕ → ℕ) (after : Reader X) where
     abbrev pub wrote_note : (o : Object) (number : ℕ) (n : Noted) (note : Note) → IsNoted pool old new o number n

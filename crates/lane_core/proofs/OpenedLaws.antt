@@ -4,7 +4,6 @@ use Rattle.std.specs.Prelude.{◌||◌, nat_le, nat_lt, All, sum}
 use Rattle.std.specs.List.{list_any}
 use Rattle.std.proofs.lemmas.Bool.{and_parts, leb-true}
 use Rattle.std.proofs.lemmas.List.Elements.{All-cons, All-head, All-tail}
-use Rattle.std.proofs.lemmas.Option.{IfSome_then}
 use Rattle.pool_law.specs.declared.command.Command.{Command}
 use Rattle.pool_law.specs.declared.id.RootId.{RootId}
 use Rattle.pool_law.specs.declared.run.Answered.{Answered}
@@ -20,16 +19,17 @@ use Rattle.pool_law.specs.Patterns.{closing}
 use Rattle.pool_law.specs.Readers.{Entries}
 use Rattle.pool_table.specs.declared.views.Entry.{Entry}
 use Rattle.pool_table.specs.declared.views.SeatView.{SeatView}
-use Rattle.pool_table.specs.Seats.{view_of}
+use Rattle.shared_pool.specs.SeatViews.{view_of}
 use Rattle.leak_records.specs.Records.{new_sampler}
 use Rattle.shared_pool.specs.declared.pool.SharedPool.{SharedPool}
+use Rattle.shared_pool.specs.MailAnswers.{RoomFor}
 use Rattle.shared_pool.specs.Closing.{note_of, entry_of}
-use Rattle.shared_pool.specs.Quotas.{posts}
+use Rattle.pool_table.specs.Letters.{sent_on}
 use Rattle.shared_pool.specs.SeatLanes.{lane_of}
 use Rattle.seat_work.proofs.FirstSeats.{IsHeld-empty}
 use Rattle.lane_core.specs.declared.counts.Counted.{Counted}
-use Rattle.lane_core.specs.declared.desk.Desk.{Desk}
-use Rattle.lane_core.specs.declared.desk.Stage.TheVariants.{Ready}
+use Rattle.lane_core.specs.declared.context.Context.{Context}
+use Rattle.lane_core.specs.declared.context.Stage.TheVariants.{Ready}
 use Rattle.lane_core.specs.declared.lane.Lane.{Lane}
 use Rattle.lane_core.specs.declared.lane.Parts.{Parts}
 use Rattle.lane_core.specs.Budgets.{Left, all_out}
@@ -37,7 +37,7 @@ use Rattle.seat_work.specs.Hands.{empty_hand}
 use Rattle.lane_core.specs.Sampled.{AreSampled}
 use Rattle.lane_core.specs.Named.{bound_at, NamesAre, AreViews, ChangesBelow}
 use Rattle.lane_core.specs.Counting.{counted, CountsAre}
-use Rattle.lane_core.specs.Desks.{IsDesk, entries_of, FitsDesk, HasRoomFor}
+use Rattle.lane_core.specs.Contexts.{IsContext, entries_of, FitsContext, HasRoomFor}
 use Rattle.lane_core.specs.Lanes.{left_for_each, IsRunningLane, HasAnswered, IsBegun, left_for_rest, left_to_ask, commands_left, answered_entries, both}
 use Rattle.lane_core.specs.Readings.{ReadsOn, none_asked}
 use Rattle.lane_core.specs.Opened.{AreFirst, IsFirstSeat, AreParts}
@@ -68,27 +68,27 @@ module _ (names : List (Option Bound)) (e : names ≡ replicate (length names) N
   AreViews-none name c bound = (let none = none_at name in absurd (cc (none, bound)))
 
 -- ---- The commands.
-fits_desk : (d : Desk) (earlier : List Command) (c : Command) → (composes c ≡ true → d.composes ≡ true)
-    → ChangesBelow (length d.names) c → fits_after d.shape earlier c ≡ true → FitsDesk d c
-fits_desk d earlier (Command.Alloc name size) some below fits = below
-fits_desk d earlier (Command.Set name at bytes tries) some below fits = below
-fits_desk d earlier (Command.Get name at len tries) some below fits = below
-fits_desk d earlier (Command.Write name bytes) some below fits = below
-fits_desk d earlier (Command.Read name len) some below fits = below
-fits_desk d earlier (Command.Slice fresh name at len retained) some below fits = below
-fits_desk d earlier (Command.Dup fresh name) some below fits = below
-fits_desk d earlier (Command.Retain name) some below fits = tt
-fits_desk d earlier (Command.Release name) some below fits = tt
-fits_desk d earlier (Command.Refcnt name) some below fits = tt
-fits_desk d earlier (Command.Touch name) some below fits = tt
-fits_desk d earlier (Command.Forget name) some below fits = below
-fits_desk d earlier (Command.Send name lane) some below fits = ltb-true lane d.shape.lanes fits
-fits_desk d earlier (Command.Recv fresh lane) some below fits =
+fits_context : (d : Context) (earlier : List Command) (c : Command) → (composes c ≡ true → d.composes ≡ true)
+    → ChangesBelow (length d.names) c → fits_after d.shape earlier c ≡ true → FitsContext d c
+fits_context d earlier (Command.Alloc name size) some below fits = below
+fits_context d earlier (Command.Set name at bytes tries) some below fits = below
+fits_context d earlier (Command.Get name at len tries) some below fits = below
+fits_context d earlier (Command.Write name bytes) some below fits = below
+fits_context d earlier (Command.Read name len) some below fits = below
+fits_context d earlier (Command.Slice fresh name at len retained) some below fits = below
+fits_context d earlier (Command.Dup fresh name) some below fits = below
+fits_context d earlier (Command.Retain name) some below fits = tt
+fits_context d earlier (Command.Release name) some below fits = tt
+fits_context d earlier (Command.Refcnt name) some below fits = tt
+fits_context d earlier (Command.Touch name) some below fits = tt
+fits_context d earlier (Command.Forget name) some below fits = below
+fits_context d earlier (Command.Send name lane) some below fits = ltb-true lane d.shape.lanes fits
+fits_context d earlier (Command.Recv fresh lane) some below fits =
     (below, ltb-true lane d.shape.lanes (and_parts (nat_lt lane d.shape.lanes) _ fits).0)
-fits_desk d earlier (Command.Compose fresh names) some below fits =
+fits_context d earlier (Command.Compose fresh names) some below fits =
     let parts = and_parts (nat_le 1 (length names)) (nat_le (length names) 24) fits in
     (below, some refl, leb-true 1 (length names) parts.0, leb-true (length names) 24 parts.1)
-fits_desk d earlier (Command.Add whole name) some below fits = tt
+fits_context d earlier (Command.Add whole name) some below fits = tt
 
 -- one of the commands makes a composite
 any_first : (c : Command) (cs : List Command) → composes c ≡ true → list_any composes (c ∷ cs) ≡ true
@@ -101,23 +101,24 @@ any_later c cs is = ap (λ (b : Bool). composes c || b) is ∙ or_true (composes
     or_true true = refl
     or_true false = refl
 
-all_fit_desk : (d : Desk) (earlier cs : List Command) → all_fit d.shape earlier cs ≡ true
-    → (list_any composes cs ≡ true → d.composes ≡ true) → All (ChangesBelow (length d.names)) cs → All (FitsDesk d) cs
-all_fit_desk d earlier [] fit some below = λ k e lt. absurd (omega (arith, lt))
-all_fit_desk d earlier (c ∷ cs) fit some below =
+all_fit_context : (d : Context) (earlier cs : List Command) → all_fit d.shape earlier cs ≡ true
+    → (list_any composes cs ≡ true → d.composes ≡ true) → All (ChangesBelow (length d.names)) cs
+    → All (FitsContext d) cs
+all_fit_context d earlier [] fit some below = λ k e lt. absurd (omega (arith, lt))
+all_fit_context d earlier (c ∷ cs) fit some below =
     let parts = and_parts (fits_after d.shape earlier c) (all_fit d.shape (earlier ++ c ∷ []) cs) fit in
-    All-cons (FitsDesk d) c cs
-    (fits_desk d earlier c (λ is. some (any_first c cs is)) (All-head (ChangesBelow (length d.names)) c cs below)
+    All-cons (FitsContext d) c cs
+    (fits_context d earlier c (λ is. some (any_first c cs is)) (All-head (ChangesBelow (length d.names)) c cs below)
     parts.0)
-    (all_fit_desk d (earlier ++ c ∷ []) cs parts.1 (λ is. some (any_later c cs is))
+    (all_fit_context d (earlier ++ c ∷ []) cs parts.1 (λ is. some (any_later c cs is))
     (All-tail (ChangesBelow (length d.names)) c cs below))
 
 -- a lane that is made of these parts
 abbrev made : Shape → Lane → Parts → Lane
 made shape l p =
     record l {
-      desk =
-          record l.desk {
+      context =
+          record l.context {
             shape = shape;
             classes = p.classes;
             composes = p.composes;
@@ -136,25 +137,25 @@ made shape l p =
     }
 
 module _ (pool : SharedPool) (shape : Shape) (l : Lane) (p : Parts)
-    (first : IsFirstSeat pool shape l.commands l.desk.seat)
+    (first : IsFirstSeat pool shape l.commands l.context.seat)
     (are : AreFirst shape l.commands)
-    (parts : AreParts shape (lane_of l.desk.seat) l.commands p)
+    (parts : AreParts shape (lane_of l.context.seat) l.commands p)
   where
     abbrev new : Lane
     new = made shape l p
 
-    is_desk : IsDesk pool empty_hand new.desk
-    is_desk = record {
+    is_context : IsContext pool empty_hand new.context
+    is_context = record {
       shape = first.shape_is;
       classes = parts.classes;
       short = first.short;
       seat = first.seat_is;
-      held = IsHeld-empty (view_of l.desk.seat) first.notes first.seat_is.alone;
+      held = IsHeld-empty (view_of l.context.seat) first.notes first.seat_is.alone;
       log = parts.notes.0 ∙ sym (ap (map note_of) first.notes);
-      counts = CountsAre-none p.counts parts.counts (entries_of new.desk) (ap (map entry_of) first.notes);
+      counts = CountsAre-none p.counts parts.counts (entries_of new.context) (ap (map entry_of) first.notes);
       places = parts.places;
       sampled =
-          subst (λ (es : List Entry). AreSampled (new_sampler (lane_of l.desk.seat) shape.level shape.interval) es
+          subst (λ (es : List Entry). AreSampled (new_sampler (lane_of l.context.seat) shape.level shape.interval) es
           p.sampler)
           (sym first.notes) (sym parts.sampler);
       begun = omega arith;
@@ -165,11 +166,11 @@ module _ (pool : SharedPool) (shape : Shape) (l : Lane) (p : Parts)
       };
     }
 
-    answered : HasAnswered shape (lane_of l.desk.seat) new new_lane
+    answered : HasAnswered shape (lane_of l.context.seat) new new_lane
     answered = record {
       counted = ap (λ (rs : List Answered). sum (note_counts rs)) parts.replies.0;
       run =
-          subst (λ (rs : List Answered). lane_run sweep_period shape (lane_of l.desk.seat) new_lane
+          subst (λ (rs : List Answered). lane_run sweep_period shape (lane_of l.context.seat) new_lane
           (take (length rs) l.commands) (pieces (note_counts rs) (answered_entries new))
           ≡ Some (replies_in rs, new_lane))
           (sym parts.replies.0) refl;
@@ -180,15 +181,15 @@ module _ (pool : SharedPool) (shape : Shape) (l : Lane) (p : Parts)
     commands : commands_left new ≡ l.commands
     commands = ap (λ (rs : List Answered). drop (length rs) l.commands) parts.replies.0
 
-    none_yet : entries_of new.desk ≡ []
+    none_yet : entries_of new.context ≡ []
     none_yet = ap (map entry_of) first.notes
 
-    begins : (cs : List Command) → IsBegun new new_lane [] cs (entries_of new.desk)
+    begins : (cs : List Command) → IsBegun new new_lane [] cs (entries_of new.context)
     begins [] =
-        let reads = closing (lane_of l.desk.seat) in
+        let reads = closing (lane_of l.context.seat) in
         subst (λ (es : Entries). ReadsOn reads es none_asked reads) (sym none_yet) (still_on reads)
     begins (c ∷ cs) =
-        λ rest i. turn sweep_period shape (lane_of l.desk.seat) new_lane c
+        λ rest i. turn sweep_period shape (lane_of l.context.seat) new_lane c
         (record { seen = sym none_yet i; asked = 0; left = none_yet i ++ rest })
 
     -- ---- What is left is what the bound is of.
@@ -196,7 +197,7 @@ module _ (pool : SharedPool) (shape : Shape) (l : Lane) (p : Parts)
     R = left_for_each p.composes l.commands
 
     abbrev v : SeatView
-    v = view_of l.desk.seat
+    v = view_of l.context.seat
 
     abbrev rest_for : List Command → Left
     rest_for cs = left_for_rest p.composes cs Ready v
@@ -222,7 +223,7 @@ module _ (pool : SharedPool) (shape : Shape) (l : Lane) (p : Parts)
         ap (λ (k : ℕ). cached_classes * (1 + k / sweep_period)) asked in
         omega (arith, a, none, takes, bound, asks)
 
-    room : HasRoomFor new.desk (left_for_these l.commands)
+    room : HasRoomFor pool new.context (left_for_these l.commands)
     room =
         (let no_notes = ap length first.notes in let is = left_is in let few = bound_few l.commands
         are.commands_are.few in
@@ -235,28 +236,25 @@ module _ (pool : SharedPool) (shape : Shape) (l : Lane) (p : Parts)
           few = omega (arith, no_notes, is, few);
           turns = omega (arith, is, turns);
           moves = omega (arith, moves, rest_moves);
-          mails =
-              λ to lt. IfSome_then (view_of l.desk.seat).setting (first.mails to lt)
-              (λ setting mail. (
-                mail.0,
-                mail.1,
-                (let none = ap (posts (lane_of l.desk.seat) to) first.notes in
-                    let enough : R.sends to ≤ mail.0 =
-                    subst (λ (x : Bool). (left_for_each x l.commands).sends to ≤ mail.0) (sym parts.composes) mail.2 in
-                    let rest_sends =
-                    (rest_ready p.composes l.commands v).3 to in omega (arith, none, enough, rest_sends)),
-              ));
+          mails = λ to lt m.
+              let lane = lane_of l.context.seat in
+              let none = ap (sent_on lane to) first.notes in
+              let kept : RoomFor pool lane to (R.sends to) =
+              subst (λ (x : Bool). RoomFor pool lane to ((left_for_each x l.commands).sends to)) (sym parts.composes)
+              (first.mails to lt) in
+              let enough = kept m in
+              let rest_sends = (rest_ready p.composes l.commands v).3 to in omega (arith, none, enough, rest_sends);
         })
 
     pub IsLane-first : IsRunningLane pool new
     IsLane-first = record {
       going = refl;
-      desk = is_desk;
+      context = is_context;
       fits = omega arith;
       shape = first.limits;
       commands = are.commands_are;
       composing = parts.composes;
-      plain = all_fit_desk new.desk [] l.commands are.commands_are.fit (λ is. parts.composes ∙ is)
+      plain = all_fit_context new.context [] l.commands are.commands_are.fit (λ is. parts.composes ∙ is)
           parts.below;
       few = (let none = ap length parts.replies.0 in omega (arith, none));
       state = new_lane;
@@ -274,7 +272,7 @@ module _ (pool : SharedPool) (shape : Shape) (l : Lane) (p : Parts)
           };
       underway = λ begun. absurd begun;
       names = tt;
-      room = subst (λ (cs : List Command). HasRoomFor new.desk (left_for_these cs)) (sym commands) room;
+      room = subst (λ (cs : List Command). HasRoomFor pool new.context (left_for_these cs)) (sym commands) room;
       replies = parts.replies.1;
       asked = omega arith;
       spare = parts.spare;

@@ -3,22 +3,19 @@ use Rattle.std.proofs.Common.{◌≡◌, ℕ, ◌+◌, ◌<◌, ◌≤◌, List,
 use Rattle.std.specs.Prelude.{false, map}
 use Rattle.std.proofs.lemmas.List.{map-append}
 use Rattle.std.proofs.lemmas.List.Sums.{sum_by-cons}
-use Rattle.step_law.specs.declared.Told.{Ghosts}
 use Rattle.pool_law.specs.declared.id.RootId.{RootId}
 use Rattle.pool_law.specs.declared.note.Did.{Did}
 use Rattle.pool_law.specs.declared.note.Held.{Held}
-use Rattle.pool_law.specs.declared.note.Noted.{Noted}
 use Rattle.pool_law.specs.declared.note.Object.{Object}
 use Rattle.pool_law.specs.declared.note.Object.TheVariants.{Root}
 use Rattle.pool_law.specs.Readers.{Entries}
 use Rattle.pool_law.proofs.SameLemmas.{same_root-is}
-use Rattle.pool_table.specs.declared.table.PoolSeat.{PoolSeat}
+use Rattle.shared_pool.specs.declared.seat.PoolSeat.{PoolSeat}
 use Rattle.pool_table.specs.declared.views.Entry.{Entry}
 use Rattle.pool_table.specs.declared.views.SeatView.{SeatView}
 use Rattle.pool_table.specs.Counts.{HasCount}
-use Rattle.pool_table.specs.Seats.{view_of}
+use Rattle.shared_pool.specs.SeatViews.{view_of}
 use Rattle.shared_pool.specs.Closing.{entry_of}
-use Rattle.shared_pool.specs.declared.home.Home.{Home}
 use Rattle.shared_pool.specs.declared.pool.SharedPool.{SharedPool}
 use Rattle.shared_pool.specs.RootNotes.{access}
 use Rattle.shared_pool.specs.Seats.{IsPoolSeat, IsNoted, FoundBusy}
@@ -32,10 +29,11 @@ use Rattle.lane_core.specs.declared.counts.Counted.{Counted}
 use Rattle.lane_core.specs.Budgets.{Left, notes_alone, Spends, takes}
 use Rattle.lane_core.specs.Counting.{counted, CountsAre}
 use Rattle.lane_core.proofs.AccessTurns.{IsAccessDid}
-use Rattle.lane_core.proofs.EntryCounts.{recounted, still, is_counted}
+use Rattle.lane_core.proofs.EntryCounts.{recounted, still}
+use Rattle.lane_core.proofs.SeatCounts.{is_counted}
 use Rattle.lane_core.proofs.Grown.{spends}
 
-module _ {G : Ghosts Home Noted} (pool : SharedPool) (old new : PoolSeat Home G) (was : IsPoolSeat pool old)
+module _ (pool : SharedPool) (old new : PoolSeat) (was : IsPoolSeat pool old)
     (is : IsPoolSeat pool new) where
   abbrev v : SeatView
   v = view_of old

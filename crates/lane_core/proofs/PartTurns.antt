@@ -14,7 +14,7 @@ use Rattle.pool_law.specs.Lanes.{Answer, answer}
 use Rattle.pool_law.specs.Names.{Names, Bound}
 use Rattle.pool_law.specs.Readers.{Entries, Log, Reader, ◌>>=◌}
 use Rattle.pool_table.specs.declared.views.Entry.{Entry}
-use Rattle.pool_table.specs.Seats.{view_of, SameSeat}
+use Rattle.shared_pool.specs.SeatViews.{view_of, SameSeat}
 use Rattle.shared_pool.specs.declared.pool.SharedPool.{SharedPool}
 use Rattle.shared_pool.specs.Closing.{note_of, entry_of}
 use Rattle.shared_pool.specs.SeatLanes.{lane_of}
@@ -22,11 +22,11 @@ use Rattle.shared_pool.specs.Seats.{IsPoolSeat}
 use Rattle.seat_work.specs.Growth.{HasMore}
 use Rattle.seat_work.specs.Hands.{Hand, empty_hand, IsHeld}
 use Rattle.lane_core.specs.declared.counts.Counted.{Counted}
-use Rattle.lane_core.specs.declared.desk.Desk.{Desk}
-use Rattle.lane_core.specs.declared.desk.Stage.{Stage}
-use Rattle.lane_core.specs.declared.desk.Stage.TheVariants.{Ready, Allotting, Ending, Sweeping, Closing, Crossing, Parting, Consolidating, Copying, Replacing}
-use Rattle.lane_core.specs.declared.desk.Turn.{Turn}
-use Rattle.lane_core.specs.declared.desk.Turn.TheVariants.{Went, Pending, Waiting}
+use Rattle.lane_core.specs.declared.context.Context.{Context}
+use Rattle.lane_core.specs.declared.context.Stage.{Stage}
+use Rattle.lane_core.specs.declared.context.Stage.TheVariants.{Ready, Allotting, Ending, Sweeping, Closing, Crossing, Parting, Consolidating, Copying, Replacing}
+use Rattle.lane_core.specs.declared.context.Turn.{Turn}
+use Rattle.lane_core.specs.declared.context.Turn.TheVariants.{Went, Pending, Waiting}
 use Rattle.lane_core.specs.declared.draining.Draining.TheVariants.{Ask}
 use Rattle.lane_core.specs.Drainings as draining
 use Rattle.lane_core.specs.Budgets.{Left, Spends, notes_alone, with_sheds}
@@ -37,10 +37,10 @@ use Rattle.lane_core.specs.Named.{NamesAre}
 use Rattle.lane_core.specs.Readings.{ReadsOn, none_asked, swept}
 use Rattle.lane_core.specs.Releasings.{ReadsOnWith}
 use Rattle.lane_core.specs.Sampled.{AreSampled}
-use Rattle.lane_core.specs.Desks.{IsDesk, DeskGrew, GoesOn, HasRoomFor, HasTurned, SpendsAt, Waits, entries_of, left_now, log_of, reads_from}
-use Rattle.lane_core.specs.DeskSteps.{CanAnswer, Concludes, HasNoted, HasReplied}
-use Rattle.lane_core.proofs.DeskGrown.{answered, grew, lengthened, mid_grew, noted_so}
-use Rattle.lane_core.proofs.DeskLaws.{Advances, entries_more, reads_at, spends_at}
+use Rattle.lane_core.specs.Contexts.{IsContext, ContextGrew, GoesOn, HasRoomFor, HasTurned, SpendsAt, Waits, entries_of, left_now, log_of, reads_from}
+use Rattle.lane_core.specs.ContextSteps.{CanAnswer, Concludes, HasNoted, HasReplied}
+use Rattle.lane_core.proofs.ContextGrown.{answered, grew, lengthened, mid_grew, noted_so}
+use Rattle.lane_core.proofs.ContextLaws.{Advances, entries_more, reads_at, spends_at}
 use Rattle.lane_core.proofs.EntryCounts.{Recounts, counts_append}
 use Rattle.lane_core.proofs.NameLaws.{RebindsAt, rebound_more}
 use Rattle.lane_core.proofs.ReadLaws.{sweeps_on, unswept}
@@ -64,11 +64,11 @@ recounts_between cs ds log es before behind = record {
       (holds_behind root 0 log es (behind.holds root));
 }
 
--- ---- A step, and the desk that noted it.
+-- ---- A step, and the context that noted it.
 
--- what a step of the seat did at a stage, and the desk that noted it
-pub record Moved (pool : SharedPool) (before after : Hand) (old mid : Desk) (added : List Entry) : Type 0 where
-  pub desk : IsDesk pool before old
+-- what a step of the seat did at a stage, and the context that noted it
+pub record Moved (pool : SharedPool) (before after : Hand) (old mid : Context) (added : List Entry) : Type 0 where
+  pub context : IsContext pool before old
   pub mid_is : mid ≡ record old { seat = mid.seat; counts = mid.counts; notes = mid.notes }
   pub same : SameSeat old.seat mid.seat
   pub seat : IsPoolSeat pool mid.seat
@@ -79,8 +79,8 @@ pub record Moved (pool : SharedPool) (before after : Hand) (old mid : Desk) (add
   pub held : IsHeld after (view_of mid.seat)
   pub sampled : AreSampled old.sampler added old.sampler
 
--- a composite that may be bound at a desk may be bound at another with its names
-pub candidate_on : (old mid : Desk) → mid.names ≡ old.names → mid.composes ≡ old.composes → mid.replies ≡ old.replies
+-- a composite that may be bound at a context may be bound at another with its names
+pub candidate_on : (old mid : Context) → mid.names ≡ old.names → mid.composes ≡ old.composes → mid.replies ≡ old.replies
     → (name : ℕ) (c : Composite) → IsCandidate old name c → IsCandidate mid name c
 candidate_on old mid names composes replies name c may = record {
   name_is = subst (λ (bound : List (Option Bound)). name < length bound) (sym names) may.name_is;
@@ -90,21 +90,21 @@ candidate_on old mid names composes replies name c may = record {
 }
 
 -- so it is behind a step
-pub bindable_on : (old mid : Desk) → mid ≡ record old { seat = mid.seat; counts = mid.counts; notes = mid.notes }
+pub bindable_on : (old mid : Context) → mid ≡ record old { seat = mid.seat; counts = mid.counts; notes = mid.notes }
     → (name : ℕ) (c : Composite) → IsBindable old name c → IsBindable mid name c
 bindable_on old mid mid_is name c may = (
-  candidate_on old mid (ap (λ (x : Desk). x.names) mid_is) (ap (λ (x : Desk). x.composes) mid_is)
-      (ap (λ (x : Desk). x.replies) mid_is) name c may.0,
+  candidate_on old mid (ap (λ (x : Context). x.names) mid_is) (ap (λ (x : Context). x.composes) mid_is)
+      (ap (λ (x : Context). x.replies) mid_is) name c may.0,
   may.1,
 )
 
--- the desk behind the step, and before its notes
-abbrev pub between : Desk → Desk → Desk
+-- the context behind the step, and before its notes
+abbrev pub between : Context → Context → Context
 between old mid = record old { seat = mid.seat; counts = mid.counts }
 
-module _ (pool : SharedPool) (before after : Hand) (old mid : Desk) (added : List Entry)
+module _ (pool : SharedPool) (before after : Hand) (old mid : Context) (added : List Entry)
     (m : Moved pool before after old mid added) where
-  abbrev start : Desk
+  abbrev start : Context
   start = between old mid
 
   abbrev spent : ℕ
@@ -114,7 +114,7 @@ module _ (pool : SharedPool) (before after : Hand) (old mid : Desk) (added : Lis
   advances = record {
     same = m.same;
     seat = m.seat;
-    grows = record { more = m.more; was_alone = m.desk.seat.alone; alone = m.seat.alone; moves = omega arith };
+    grows = record { more = m.more; was_alone = m.context.seat.alone; alone = m.seat.alone; moves = omega arith };
     held = m.held;
   }
 
@@ -126,38 +126,38 @@ module _ (pool : SharedPool) (before after : Hand) (old mid : Desk) (added : Lis
 
   recounts : Recounts old.counts mid.counts (map entry_of added)
   recounts =
-      recounts_between old.counts mid.counts (entries_of old) (map entry_of added) m.desk.counts
+      recounts_between old.counts mid.counts (entries_of old) (map entry_of added) m.context.counts
       (subst (CountsAre mid.counts) entries_are m.counts)
 
   pub moved_names : mid.names ≡ old.names
-  moved_names = ap (λ (x : Desk). x.names) m.mid_is
+  moved_names = ap (λ (x : Context). x.names) m.mid_is
 
   pub moved_asked : mid.asked ≡ old.asked
-  moved_asked = ap (λ (x : Desk). x.asked) m.mid_is
+  moved_asked = ap (λ (x : Context). x.asked) m.mid_is
 
-  pub moved_grew : DeskGrew pool after old mid added
+  pub moved_grew : ContextGrew pool after old mid added
   moved_grew =
-      mid_grew pool before after old start mid m.desk refl added spent advances noted recounts m.places m.sampled
+      mid_grew pool before after old start mid m.context refl added spent advances noted recounts m.places m.sampled
 
   -- and can be answered
-  pub moved_can : (left next : Left) → HasRoomFor old left → Spends (view_of old.seat) (view_of mid.seat) left next
+  pub moved_can : (left next : Left) → HasRoomFor pool old left → Spends (view_of old.seat) (view_of mid.seat) left next
       → length old.replies.items < vec_capacity old.replies → CanAnswer mid
   moved_can left next room spends replies =
-      answers_behind pool before old m.desk left next room (view_of mid.seat) added (map note_of added) m.more refl
+      answers_behind pool before old m.context left next room (view_of mid.seat) added (map note_of added) m.more refl
       spends start mid refl noted replies
 
   -- what is read over the entries
   pub moved_with : {A : Type 0} (r q : Reader A) → ReadsOnWith old.counts r (map entry_of added) q → (rest : Entries)
       → r (log_of old (map entry_of added ++ rest)) ≡ q (log_of start rest)
   moved_with r q on rest =
-      on (log_of old rest) m.desk.counts.counts
+      on (log_of old rest) m.context.counts.counts
       ∙ (λ i. q (record { seen = sym entries_are i; asked = old.asked; left = rest }))
 
   pub moved_read : {A : Type 0} (r q : Reader A) → ReadsOn r (map entry_of added) none_asked q → (rest : Entries)
       → r (log_of old (map entry_of added ++ rest)) ≡ q (log_of start rest)
   moved_read r q on rest = reads_at old start (map entry_of added) none_asked entries_are refl r q on rest
 
-  -- the log of the step's desk has its counts
+  -- the log of the step's context has its counts
   pub moved_counts : (rest : Entries) (root : RootId) → count_of root (log_of start rest).seen ≡ counted mid.counts root
   moved_counts rest root = m.counts.counts root
 
@@ -168,8 +168,8 @@ module _ (pool : SharedPool) (before after : Hand) (old mid : Desk) (added : Lis
       → GoesOn old mid added reads behind
   moved_on some reads behind bound are is = record {
     some = some;
-    replies = ap (λ (x : Desk). x.replies.items) m.mid_is;
-    begun = ap (λ (x : Desk). x.begun) m.mid_is;
+    replies = ap (λ (x : Context). x.replies.items) m.mid_is;
+    begun = ap (λ (x : Context). x.begun) m.mid_is;
     bound = bound;
     names = subst (NamesAre bound) (sym moved_names) are;
     reads = λ rest.
@@ -181,9 +181,9 @@ module _ (pool : SharedPool) (before after : Hand) (old mid : Desk) (added : Lis
   pub moved_still : added ≡ [] → Waits old mid added
   moved_still none = record {
     none = none;
-    replies = ap (λ (x : Desk). x.replies.items) m.mid_is;
+    replies = ap (λ (x : Context). x.replies.items) m.mid_is;
     names = moved_names;
-    begun = ap (λ (x : Desk). x.begun) m.mid_is;
+    begun = ap (λ (x : Context). x.begun) m.mid_is;
     asked = moved_asked;
   }
 
@@ -194,7 +194,7 @@ module _ (pool : SharedPool) (before after : Hand) (old mid : Desk) (added : Lis
       let a = moved_asked in spends_at old mid left next spends (omega (arith, a, asks))
 
   -- it is answered
-  module _ (empty : after ≡ empty_hand) (new : Desk) (names : List (Option Bound)) (reply : Reply)
+  module _ (empty : after ≡ empty_hand) (new : Context) (names : List (Option Bound)) (reply : Reply)
       (unstopped : before_stop (reply ∷ []) ≡ 1) (rebound : RebindsAt 0 old names)
       (s : LaneState) (command : Command) (stage : Stage) (bound : Names) (are : NamesAre bound names)
       (left : Left)
@@ -208,11 +208,11 @@ module _ (pool : SharedPool) (before after : Hand) (old mid : Desk) (added : Lis
     abbrev lane : ℕ
     lane = lane_of old.seat
 
-    abbrev final : Desk
+    abbrev final : Context
     final =
         record start { names = names; notes = mid.notes; replies = new.replies; begun = length mid.notes.items }
 
-    abbrev sweeping : Desk
+    abbrev sweeping : Context
     sweeping = record start { names = names; notes = mid.notes; asked = 0 }
 
     body_reads : (rest : Entries) → reads_from old.shape lane s command stage (log_of old (map entry_of added ++ rest))
@@ -224,7 +224,7 @@ module _ (pool : SharedPool) (before after : Hand) (old mid : Desk) (added : Lis
     pub moved_answer : HasReplied (record mid { names = names }) new reply → old.asked < sweep_period
         → HasTurned pool old new s command stage (Went Ready)
     moved_answer replied low =
-        answered pool before after old start mid m.desk refl added spent advances noted new names mid.counts reply
+        answered pool before after old start mid m.context refl added spent advances noted new names mid.counts reply
         replied empty recounts m.places m.sampled (rebound_more old.names names rebound) s command stage bound are
         unstopped low
         (subst (λ (x : Left). SpendsAt old final x (with_sheds (view_of mid.seat) (notes_alone 0))) (sym left_is)
@@ -237,11 +237,12 @@ module _ (pool : SharedPool) (before after : Hand) (old mid : Desk) (added : Lis
     sweep_begins some due few = record {
       added = added;
       grew =
-          subst (λ (h : Hand). DeskGrew pool h old sweeping added) empty
-          (grew pool before after old start mid m.desk refl added spent advances noted sweeping refl recounts m.places
+          subst (λ (h : Hand). ContextGrew pool h old sweeping added) empty
+          (grew pool before after old start mid m.context refl added spent advances noted sweeping refl recounts
+          m.places
           m.sampled
-          (let a = m.desk.begun in
-          let b = lengthened pool before after old start mid m.desk refl added spent advances noted in
+          (let a = m.context.begun in
+          let b = lengthened pool before after old start mid m.context refl added spent advances noted in
           omega (arith, a, b)) (omega arith) 0 rebound (omega arith));
       fits = (omega arith, omega arith, unstopped, λ is. cc is);
       name = tt;
@@ -273,8 +274,8 @@ module _ (pool : SharedPool) (before after : Hand) (old mid : Desk) (added : Lis
     moved_concludes some (Went Ready) did =
         moved_answer did.0 (let a = moved_asked in let b = did.1 in omega (arith, a, b))
     moved_concludes some (Went (Sweeping later next)) did =
-        let is : new ≡ sweeping = did.2 ∙ ap (λ (x : Desk). record x { names = names; asked = 0 }) m.mid_is in
-        subst (λ (x : Desk × Stage). HasTurned pool old x.0 s command stage (Went x.1))
+        let is : new ≡ sweeping = did.2 ∙ ap (λ (x : Context). record x { names = names; asked = 0 }) m.mid_is in
+        subst (λ (x : Context × Stage). HasTurned pool old x.0 s command stage (Went x.1))
         (λ i. (sym is i, Sweeping (sym did.0 i) (sym did.1 i)))
         (sweep_begins some (let a = moved_asked in let b = did.3 in omega (arith, a, b)) (omega arith))
     moved_concludes some (Went (Allotting other size class next)) did = absurd did

@@ -1,11 +1,10 @@
 -- The turns of the commands of a stopped lane, which are passed over.
-use Rattle.std.proofs.Common.{◌≡◌, ℕ, ◌-◌, ◌<◌, ◌≤◌, List, [], ◌∷◌, ◌++◌, false, length, map, refl, sym, ap, ◌∙◌, subst, arith, Option, length-append, append-nil}
+use Rattle.std.proofs.Common.{◌≡◌, ℕ, ◌-◌, ◌<◌, ◌≤◌, List, [], ◌∷◌, ◌++◌, length, map, refl, sym, ap, ◌∙◌, subst, arith, Option, length-append, append-nil}
 use Rattle.std.specs.Prelude.{◌==◌, IsSome, option_and_then, vec_capacity}
 use Rattle.std.proofs.lemmas.List.{length-map}
 use Rattle.std.proofs.lemmas.List.Sums.{sum_by-cons}
 use Rattle.pool_law.specs.declared.command.Command.{Command}
 use Rattle.pool_law.specs.declared.note.Did.{Did}
-use Rattle.pool_law.specs.declared.note.Held.{Held}
 use Rattle.pool_law.specs.declared.note.Note.{Note}
 use Rattle.pool_law.specs.declared.note.Object.TheVariants.{Mail}
 use Rattle.pool_law.specs.declared.run.Answered.{Answered}
@@ -16,59 +15,57 @@ use Rattle.pool_law.specs.Lanes.{not_carried_out, no_parcel}
 use Rattle.pool_law.specs.Readers.{Log, ◌>>◌, give, at_end, read_all}
 use Rattle.lane_core.proofs.NameLaws.{rebound_same}
 use Rattle.pool_table.specs.declared.views.Entry.{Entry}
-use Rattle.pool_table.specs.Seats.{view_of}
+use Rattle.shared_pool.specs.SeatViews.{view_of}
 use Rattle.shared_pool.specs.declared.pool.SharedPool.{SharedPool}
 use Rattle.shared_pool.specs.Closing.{note_of, entry_of}
-use Rattle.shared_pool.specs.Quotas.{posts}
+use Rattle.pool_table.specs.Letters.{sent_on}
 use Rattle.shared_pool.specs.SeatLanes.{lane_of}
-use Rattle.shared_pool.specs.Seats.{FoundBusy}
-use Rattle.lane_core.specs.declared.desk.Desk.{Desk}
-use Rattle.lane_core.specs.declared.desk.Stage.TheVariants.{Ready}
-use Rattle.lane_core.specs.declared.desk.Turn.TheVariants.{Went, Pending}
+use Rattle.lane_core.specs.declared.context.Context.{Context}
+use Rattle.lane_core.specs.declared.context.Stage.TheVariants.{Ready}
+use Rattle.lane_core.specs.declared.context.Turn.TheVariants.{Went}
 use Rattle.seat_work.specs.Hands.{lane_in, empty_hand}
 use Rattle.lane_core.specs.Budgets.{Left, Spends, notes_alone, takes}
 use Rattle.lane_core.specs.Sampled.{AreSampled}
-use Rattle.lane_core.specs.Desks.{IsDesk, notes_of, HasRoomFor, left_for, PassesOver}
-use Rattle.lane_core.specs.DeskSteps.{CanAnswer, HasNoted, HasReplied, HasPosted, HasNotPosted}
+use Rattle.lane_core.specs.Contexts.{IsContext, notes_of, HasRoomFor, left_for, PassesOver}
+use Rattle.lane_core.specs.ContextSteps.{CanAnswer, HasNoted, HasReplied, HasPosted}
 use Rattle.seat_work.proofs.Grown.{Grows}
 use Rattle.lane_core.proofs.Grown.{spends}
 use Rattle.lane_core.proofs.EntryCounts.{Recounts, none_recounted, still}
 use Rattle.lane_core.proofs.ReadLaws.{note_on}
-use Rattle.lane_core.proofs.DeskLaws.{Advances, advances_none, spends_at}
-use Rattle.lane_core.proofs.DeskGrown.{grew, length_is, lengthened}
-use Rattle.lane_core.proofs.DeskWaits.{still_spent, still_waits, unmoved}
+use Rattle.lane_core.proofs.ContextLaws.{Advances, spends_at}
+use Rattle.lane_core.proofs.ContextGrown.{grew, length_is, lengthened}
 use Rattle.lane_core.proofs.Turning.{grows_same}
 use Rattle.lane_core.proofs.PostTurns.{one_post, posted_entry, post_advances}
 
--- a desk with room for these notes more and a reply can answer behind them
-pub can_answer_behind : (pool : SharedPool) (left : Left) (old mid : Desk) → IsDesk pool empty_hand old
-    → HasRoomFor old left → length old.replies.items < vec_capacity old.replies → (notes : List Note)
+-- a context with room for these notes more and a reply can answer behind them
+pub can_answer_behind : (pool : SharedPool) (left : Left) (old mid : Context) → IsContext pool empty_hand old
+    → HasRoomFor pool old left → length old.replies.items < vec_capacity old.replies → (notes : List Note)
     → length notes ≤ left.notes → HasNoted (record old { seat = mid.seat }) mid notes → CanAnswer mid
 can_answer_behind pool left old mid d room replies notes some noted =
     let a = ap (λ (ns : List Note). length ns) d.log ∙ length-map (notes_of old) note_of in let b = room.few in
     let c = ap (λ (ns : List Note). length ns) noted.log in let e = length-append old.notes.items notes in
-    let g = d.begun in let h = ap (λ (x : Desk). x.begun) noted.rest in
+    let g = d.begun in let h = ap (λ (x : Context). x.begun) noted.rest in
     record {
       begun = omega (arith, a, c, e, g, h);
       few = omega (arith, a, b, c, e, some);
-      room = subst (λ (x : Desk). length x.replies.items < vec_capacity x.replies) (sym noted.rest) replies;
+      room = subst (λ (x : Context). length x.replies.items < vec_capacity x.replies) (sym noted.rest) replies;
     }
 
-module _ (pool : SharedPool) (command : Command) (old mid new : Desk) (d : IsDesk pool empty_hand old)
+module _ (pool : SharedPool) (command : Command) (old mid new : Context) (d : IsContext pool empty_hand old)
     (added : List Entry) (adv : Advances pool old.seat mid.seat empty_hand added 0)
     (noted : HasNoted (record old { seat = mid.seat }) mid (map note_of added))
     (replied : HasReplied mid new Reply.Stopped) where
-  abbrev start : Desk
+  abbrev start : Context
   start = record old { seat = mid.seat }
 
-  abbrev passed_desk : Desk
-  passed_desk =
+  abbrev passed_context : Context
+  passed_context =
       record old { seat = mid.seat; notes = mid.notes; replies = new.replies; begun = length mid.notes.items }
 
-  passed_is : new ≡ passed_desk
+  passed_is : new ≡ passed_context
   passed_is =
       replied.rest
-      ∙ ap (λ (x : Desk). record x { replies = new.replies; begun = length mid.notes.items }) noted.rest
+      ∙ ap (λ (x : Context). record x { replies = new.replies; begun = length mid.notes.items }) noted.rest
 
   -- it is answered so behind what it noted
   pub passed : Recounts old.counts old.counts (map entry_of added) → AreSampled old.sampler added old.sampler
@@ -79,32 +76,31 @@ module _ (pool : SharedPool) (command : Command) (old mid new : Desk) (d : IsDes
       let long : length mid.notes.items ≡ length (notes_of start) =
       length_is pool empty_hand empty_hand old start mid d refl added 0 adv noted in
       let more = lengthened pool empty_hand empty_hand old start mid d refl added 0 adv noted in
-      subst (λ (x : Desk). PassesOver pool old x command (Went Ready)) (sym passed_is)
+      subst (λ (x : Context). PassesOver pool old x command (Went Ready)) (sym passed_is)
       (record {
         added = added;
         grew =
-            grew pool empty_hand empty_hand old start mid d refl added 0 adv noted passed_desk refl recounts refl
+            grew pool empty_hand empty_hand old start mid d refl added 0 adv noted passed_context refl recounts refl
             sampled (omega (arith, long))
-            (subst (λ n. n ≤ vec_capacity new.replies) (ap (λ (x : Desk). vec_capacity x.replies) noted.rest)
+            (subst (λ n. n ≤ vec_capacity new.replies) (ap (λ (x : Context). vec_capacity x.replies) noted.rest)
             replied.room) 1 (rebound_same 1 old.names old.names refl)
             (let a = ap (λ (xs : List Answered). length xs) replied.replies in
-            let b = ap (λ (x : Desk). length x.replies.items) noted.rest in
+            let b = ap (λ (x : Context). length x.replies.items) noted.rest in
             let c = length-append mid.replies.items (record
             { reply = Reply.Stopped; notes = length mid.notes.items - mid.begun } ∷ []) in
             omega (arith, a, b, c));
         names = refl;
         asked = refl;
-        spends = spends_at old passed_desk (left_for old.composes command) (notes_alone 0) spent (omega arith);
+        spends = spends_at old passed_context (left_for old.composes command) (notes_alone 0) spent (omega arith);
         comes = record {
           notes = length mid.notes.items - old.begun;
           replies =
-              replied.replies ∙ ap (λ (x : Desk). x.replies.items ++ record
+              replied.replies ∙ ap (λ (x : Context). x.replies.items ++ record
               { reply = Reply.Stopped; notes = length mid.notes.items - x.begun } ∷ []) noted.rest;
           counted = (let c = d.begun in omega (arith, long, more, c));
           begun = long;
           reads = reads;
         };
-        held = tt;
       })
 
 -- a command that posts nothing notes nothing
@@ -113,7 +109,7 @@ reads_nothing : (lane : ℕ) (command : Command) → ((name to : ℕ) → comman
 reads_nothing lane (Command.Send name to) other = absurd (other name to refl)
 reads_nothing lane _ other = refl
 
-pub passed_silently : (pool : SharedPool) (command : Command) (old new : Desk) → IsDesk pool empty_hand old
+pub passed_silently : (pool : SharedPool) (command : Command) (old new : Context) → IsContext pool empty_hand old
     → ((name to : ℕ) → command ≡ Command.Send name to → ⊥) → HasReplied old new Reply.Stopped
     → PassesOver pool old new command (Went Ready)
 passed_silently pool command old new d other replied =
@@ -127,8 +123,8 @@ passed_silently pool command old new d other replied =
     (reads_nothing (lane_of old.seat) command other)
 
 -- a send posts the empty parcel
-module _ (pool : SharedPool) (name receiver : ℕ) (old mid : Desk) (d : IsDesk pool empty_hand old) where
-  pub passed_post : (new : Desk) → HasPosted pool old mid receiver no_parcel → HasReplied mid new Reply.Stopped
+module _ (pool : SharedPool) (name receiver : ℕ) (old mid : Context) (d : IsContext pool empty_hand old) where
+  pub passed_post : (new : Context) → HasPosted pool old mid receiver no_parcel → HasReplied mid new Reply.Stopped
       → PassesOver pool old new (Command.Send name receiver) (Went Ready)
   passed_post new did replied =
       let e = posted_entry pool receiver old mid d no_parcel did in
@@ -146,26 +142,10 @@ module _ (pool : SharedPool) (name receiver : ℕ) (old mid : Desk) (d : IsDesk 
       (Command.Send name receiver))
       (notes_alone 0) (omega arith) (let t = sum_by-cons takes e [] in omega (arith, t)) (omega arith)
       (λ to.
-      (let a : posts (lane_in (view_of old.seat)) to (e ∷ []) ≤ (left_for old.composes
+      (let a : sent_on (lane_in (view_of old.seat)) to (e ∷ []) ≤ (left_for old.composes
       (Command.Send name receiver)).sends to =
       one_post (lane_of old.seat == lane_in (view_of old.seat)) (receiver == to) in omega (arith, a))))
       (subst (λ (o : Option (Unit {0} × Log)). IsSome
       (option_and_then (λ (got : Unit {0} × Log). (at_end >> give got.0) got.1) o))
       (sym (note_on (entry_of e) mail (says.post no_parcel) did.number (Did.Post no_parcel) refl tt refl
       (log_at new_lane []))) refl)
-
-  -- or waits for the mail
-  pub passes_later : (held : Held) → HasNotPosted pool old mid receiver held
-      → PassesOver pool old mid (Command.Send name receiver) (Pending held Ready)
-  passes_later held did =
-      let adv = advances_none pool old.seat mid.seat empty_hand d.seat d.held did.same did.seat did.found.marked in
-      record {
-        added = [];
-        grew = unmoved pool old mid d did.rest adv;
-        names = ap (λ (x : Desk). x.names) did.rest;
-        asked = ap (λ (x : Desk). x.asked) did.rest;
-        spends = still_spent pool old mid d did.rest adv (Command.Send name receiver);
-        comes = still_waits pool old mid d did.rest adv;
-        held =
-            subst (λ o. FoundBusy pool o false old.seat mid.seat held) (sym did.found.object) did.found;
-      }

@@ -13,7 +13,7 @@ use Rattle.pool_law.specs.Readers.{Log, ◌>>=◌, ◌>>◌, give, given}
 use Rattle.lane_core.specs.declared.access.Refusal.{Refusal}
 use Rattle.lane_core.specs.declared.composed.Marks.{Marks}
 use Rattle.lane_core.specs.declared.crossing.Crossing.{Crossing}
-use Rattle.lane_core.specs.declared.desk.Desk.{Desk}
+use Rattle.lane_core.specs.declared.context.Context.{Context}
 use Rattle.lane_core.specs.declared.work.Work.TheVariants.{End, Refused}
 use Rattle.lane_core.specs.Accesses.{IsState}
 use Rattle.lane_core.specs.Composing.{changed, rebound, released}
@@ -23,7 +23,7 @@ use Rattle.lane_core.specs.Works.{reads}
 use Rattle.lane_core.proofs.PlanReads.{getting, held, makes, marks_moved, refusing, setting}
 use Rattle.lane_core.proofs.StateReads.{goes_composite, named_so}
 
-module _ (d : Desk) (composites : AreComposites d.composes (1 + length d.replies.items) d.names) (name : ℕ)
+module _ (d : Context) (composites : AreComposites d.composes (1 + length d.replies.items) d.names) (name : ℕ)
     (c : Composite) (is : bound_at d.names name ≡ Some (Composed c)) where
   -- ---- Set.
 

@@ -21,14 +21,14 @@ use Rattle.lane_core.specs.declared.composed.Marks.{Marks}
 use Rattle.lane_core.specs.declared.counts.Counted.{Counted}
 use Rattle.lane_core.specs.declared.crossing.Crossing.{Crossing}
 use Rattle.lane_core.specs.declared.crossing.Crossing.TheVariants.{Set, Get}
-use Rattle.lane_core.specs.declared.desk.Desk.{Desk}
+use Rattle.lane_core.specs.declared.context.Context.{Context}
 use Rattle.lane_core.specs.declared.work.Work.TheVariants.{Refused}
 use Rattle.lane_core.specs.Accesses.{IsState, reply_for}
 use Rattle.lane_core.specs.Budgets.{notes_alone}
 use Rattle.lane_core.specs.Composing.{MarksFit, crossed, marked, set_marks, rebound}
 use Rattle.lane_core.specs.Compositions.{counts_in}
 use Rattle.lane_core.specs.Crossings.{bytes_of, parts_of, stretches}
-use Rattle.lane_core.specs.Desks.{left_for}
+use Rattle.lane_core.specs.Contexts.{left_for}
 use Rattle.lane_core.specs.Named.{AreComposites, bound_at}
 use Rattle.lane_core.specs.Plans.{AreUsable, Gets, IsDenied, IsPlanOf, IsUsable, Sets, work_on}
 use Rattle.lane_core.specs.Works.{IsReady, IsWithin, left_of, reads}
@@ -165,9 +165,9 @@ module _ (s : LaneState) (names : List (Option Bound)) (cs : List Counted) (stat
         bound_first ∙ passed (illegal s name) (outside s name test ∷ []) (legal usable)
         ∙ passed (outside s name test) [] (outside_so true pass)
 
--- ---- The work on a composite of the desk.
+-- ---- The work on a composite of the context.
 
-module _ (d : Desk) (composites : AreComposites d.composes (1 + length d.replies.items) d.names) (name : ℕ)
+module _ (d : Context) (composites : AreComposites d.composes (1 + length d.replies.items) d.names) (name : ℕ)
     (c : Composite) (is : bound_at d.names name ≡ Some (Composed c)) where
   -- the lane makes composites, so that it has notes for their parts
   pub makes : (most less : ℕ) → (if d.composes then most else less) ≡ most

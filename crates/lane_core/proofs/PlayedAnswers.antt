@@ -13,12 +13,12 @@ use Rattle.shared_pool.specs.Closing.{entry_of}
 use Rattle.lane_core.specs.declared.draining.DrainKind.TheVariants.{Close}
 use Rattle.lane_core.specs.declared.draining.Draining.TheVariants.{Done}
 use Rattle.lane_core.specs.declared.lane.Lane.{Lane}
-use Rattle.lane_core.specs.Desks.{entries_of, notes_of}
+use Rattle.lane_core.specs.Contexts.{entries_of, notes_of}
 use Rattle.lane_core.specs.Drainings as draining
 use Rattle.lane_core.specs.Lanes.{HasPassedOver, IsClosing, entries_since, number_of}
 use Rattle.lane_core.specs.Played.{IsFinishedLane}
 use Rattle.lane_core.specs.Readings.{ReadsOn, none_asked}
-use Rattle.lane_core.proofs.EitherLane.{lane_or, lane_desk}
+use Rattle.lane_core.proofs.EitherLane.{lane_or, lane_context}
 use Rattle.lane_core.proofs.LaneCloses.{close_had}
 use Rattle.lane_core.proofs.StoppedLogs.{answered_passed}
 use Rattle.lane_core.proofs.StoppedTurns.{stopped_had}
@@ -33,22 +33,22 @@ ended o = option_map (λ got. tt) (option_and_then to_end o)
 
 module _ (pool : SharedPool) (k : ℕ) (l : Lane) (f : IsFinishedLane pool k l) where
   abbrev rs : List Answered
-  rs = l.desk.replies.items
+  rs = l.context.replies.items
 
   abbrev counts : List ℕ
   counts = note_counts rs
 
   abbrev es : Entries
-  es = entries_of l.desk
+  es = entries_of l.context
 
   abbrev number : ℕ
   number = number_of l
 
   -- its replies are the law's, up to a stop and behind it
-  pub passed-over : HasPassedOver l.desk.shape number l
+  pub passed-over : HasPassedOver l.context.shape number l
   passed-over =
-      lane_or pool l (HasPassedOver l.desk.shape number l) f.lane (λ s. s.answered)
-      (λ r. answered_passed l.desk.shape number l r.state r.few r.answered)
+      lane_or pool l (HasPassedOver l.context.shape number l) f.lane (λ s. s.answered)
+      (λ r. answered_passed l.context.shape number l r.state r.few r.answered)
 
   -- none of its commands is left
   none : drop (length rs) l.commands ≡ []
@@ -59,7 +59,7 @@ module _ (pool : SharedPool) (k : ℕ) (l : Lane) (f : IsFinishedLane pool k l) 
   all : take (length rs) l.commands ≡ l.commands
   all = take-all (length rs) l.commands none
 
-  cut : pieces counts (take l.desk.begun es) ≡ pieces counts es
+  cut : pieces counts (take l.context.begun es) ≡ pieces counts es
   cut = ap (λ n. pieces counts (take n es)) (sym passed-over.counted) ∙ pieces-within counts es
 
   -- its closing is read to its end
@@ -74,16 +74,16 @@ module _ (pool : SharedPool) (k : ℕ) (l : Lane) (f : IsFinishedLane pool k l) 
       ap ended (ap (λ (xs : Entries). closing number (log_at new_lane xs)) (sym (append-nil since))
       ∙ had (log_at new_lane []))
 
-  own_log : IsLaneLog l.desk.shape number l.commands rs es
+  own_log : IsLaneLog l.context.shape number l.commands rs es
   own_log =
       let n = before_stop (replies_in rs) in
       record {
         counted =
-            (let a = passed-over.counted in let b = (lane_desk pool l f.lane).begun in let c =
-            length-map entry_of (notes_of l.desk) in omega (arith, a, b, c));
+            (let a = passed-over.counted in let b = (lane_context pool l f.lane).begun in let c =
+            length-map entry_of (notes_of l.context) in omega (arith, a, b, c));
         last = passed-over.state;
         answered =
-            subst (λ (ps : List Entries). lane_run sweep_period l.desk.shape number new_lane (take n l.commands)
+            subst (λ (ps : List Entries). lane_run sweep_period l.context.shape number new_lane (take n l.commands)
             (take n ps) ≡ Some (take n (replies_in rs), passed-over.state)) cut passed-over.run;
         stopped =
             subst (λ (x : List Command × List Entries). stopped_run number (drop n x.0) (drop n x.1)
@@ -91,6 +91,7 @@ module _ (pool : SharedPool) (k : ℕ) (l : Lane) (f : IsFinishedLane pool k l) 
         closed = ap (closes number) (behind-is counts es ∙ ap (λ n. drop n es) passed-over.counted) ∙ closed;
       }
 
-  pub lane-log : IsLaneLog l.desk.shape k l.commands l.desk.replies.items (entries_of l.desk)
+  pub lane-log : IsLaneLog l.context.shape k l.commands l.context.replies.items (entries_of l.context)
   lane-log =
-      subst (λ n. IsLaneLog l.desk.shape n l.commands l.desk.replies.items (entries_of l.desk)) f.number_is own_log
+      subst (λ n. IsLaneLog l.context.shape n l.commands l.context.replies.items (entries_of l.context)) f.number_is
+      own_log

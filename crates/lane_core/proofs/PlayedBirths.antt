@@ -1,7 +1,6 @@
--- The births of a lane: the k-th one of its log has the watch that its sampler gives the k-th, and each stands at its
--- root's place.
-use Rattle.std.proofs.Common.{⊎_elim, inl, inr, eqb-true, ◌≡◌, ℕ, zero, suc, ◌+◌, List, [], ◌∷◌, ◌++◌, refl, sym, ap, subst, arith, Bool, true, false, Some, None, ◌∙◌}
-use Rattle.std.specs.Prelude.{◌⊎◌, ◌==◌, ◌&&◌, if◌then◌else◌, Option, map, is_some, option_and_then, nat_le, slice_get}
+-- The births of a lane: the k-th one of its log has the watch that its sampler gives the k-th.
+use Rattle.std.proofs.Common.{⊎_elim, inl, inr, ◌≡◌, ℕ, zero, suc, ◌+◌, List, [], ◌∷◌, refl, sym, ap, subst, arith, Some, ◌∙◌}
+use Rattle.std.specs.Prelude.{◌⊎◌, map, slice_get}
 use Rattle.pool_law.specs.declared.id.RootId.{RootId}
 use Rattle.pool_law.specs.declared.id.RegionId.{RegionId}
 use Rattle.pool_law.specs.declared.note.Did.{Did}
@@ -9,21 +8,12 @@ use Rattle.pool_law.specs.declared.note.Did.TheVariants.{Birth}
 use Rattle.pool_law.specs.declared.note.Note.{Note}
 use Rattle.pool_law.specs.declared.note.Noted.{Noted}
 use Rattle.pool_law.specs.declared.note.Object.{Object}
-use Rattle.pool_law.specs.declared.run.Shape.{Shape}
-use Rattle.pool_law.specs.Arenas.{arena_step, new_arena}
-use Rattle.pool_law.specs.Caches.{Cache, cache_step, lane_cache_step, new_cache, new_bin, bin_step, mail_step}
-use Rattle.pool_law.specs.Histories.{after, IsAccepted}
 use Rattle.pool_law.specs.Leaks.{births}
-use Rattle.pool_law.specs.Legal.{HistoriesHold}
-use Rattle.pool_law.specs.Limits.{cache_capacity, geometry_of}
-use Rattle.pool_law.specs.Logs.{Logs, History, dids, of_lane}
-use Rattle.pool_law.specs.Roots.{born, RootPlace, Present, new_place, place_step, place_step_by}
 use Rattle.pool_table.specs.declared.views.Entry.{Entry}
 use Rattle.pool_table.specs.declared.views.Entry.TheVariants.{At, Ref, Busy}
 use Rattle.leak_records.specs.Records.{Sampling, with_birth, watch_of}
 use Rattle.shared_pool.specs.Closing.{note_of}
 use Rattle.lane_core.specs.Sampled.{AreSampled, IsSampledBy, sampler_after}
-use Rattle.lane_core.proofs.PlayedOrder.{own-split, cut-at}
 
 -- a note is a birth, or it is none for the births and the sampler
 abbrev IsBirth : Did → Type 0
@@ -171,66 +161,3 @@ birth-of_index s last (Ref r d ∷ es) sampled nth root e =
     later s (Ref r d) es nth root (birth-of_index s last es sampled nth root e)
 birth-of_index s last (Busy h ∷ es) sampled nth root e =
     later s (Busy h) es nth root (birth-of_index s last es sampled nth root e)
-
--- ---- A birth stands at its root's place.
-
-step-some : {S : Type 0} (step : S → Did → Option S) (s : S) (first last : History) (lane : ℕ) (d : Did)
-    → is_some (after step s (dids (first ++ (lane, d) ∷ last))) ≡ true →
-    (m : S) × (is_some (step m d) ≡ true)
-step-some {S = S} step s [] last lane d ok = (s, go (step s d) ok)
-  where
-    go : (o : Option S) → is_some (option_and_then (λ t. after step t (dids last)) o) ≡ true → is_some o ≡ true
-    go None x = x
-    go (Some t) x = refl
-step-some {S = S} step s (e ∷ first) last lane d ok = go (step s e.1) (λ t. step-some step t first last lane d) ok
-  where
-    go : (o : Option S) → ((t : S) → is_some (after step t (dids (first ++ (lane, d) ∷ last))) ≡ true
-        → (m : S) × (is_some (step m d) ≡ true)) →
-        is_some (option_and_then (λ t. after step t (dids (first ++ (lane, d) ∷ last))) o) ≡ true
-        → (m : S) × (is_some (step m d) ≡ true)
-    go None f x = absurd (cc x)
-    go (Some t) f x = f t x
-
-born-there : (place : ℕ) (s : RootPlace) (o : Option Present) (root : RootId) (region : RegionId)
-    → is_some (place_step_by place s o (Birth root region)) ≡ true → root.place ≡ place
-born-there place s None root region ok =
-    go (root.place == place) ((root.generation == s.generation + 1) && nat_le root.capacity region.place.len) refl ok
-  where
-    go : (b c : Bool) → (root.place == place) ≡ b → is_some (if b && c then Some (born root region) else None) ≡ true
-        → root.place ≡ place
-    go true c e x = eqb-true root.place place e
-    go false c e x = absurd (cc x)
-born-there place s (Some p) root region ok = absurd (cc ok)
-
-no-cache_birth : (capacity : ℕ) (c : Cache) (root : RootId) (region : RegionId)
-    → is_some (cache_step capacity c (Birth root region)) ≡ true → ⊥
-no-cache_birth capacity c root region ok = cc ok
-
-accepted-birth : (shape : Shape) (o : Object) (first last : History) (lane : ℕ) (root : RootId) (region : RegionId) →
-    IsAccepted shape o (dids (first ++ (lane, Birth root region) ∷ last)) → o ≡ Object.Root root.place
-accepted-birth shape (Object.Arena number) first last lane root region ok =
-    let g = geometry_of shape in
-    let m = step-some (arena_step g number) (new_arena g shape.chunks) first last lane (Birth root region) ok in
-    let none : false ≡ true = m.1 in absurd (cc none)
-accepted-birth shape (Object.Cache owner class) first last lane root region ok =
-    let m = step-some (lane_cache_step owner class) new_cache first last lane (Birth root region) ok in
-    absurd (no-cache_birth (cache_capacity class) m.0 root region m.1)
-accepted-birth shape (Object.Bin owner) first last lane root region ok =
-    let m = step-some (bin_step owner shape.handles) (new_bin owner shape.handles) first last lane (Birth root region)
-    ok in
-    let none : false ≡ true = m.1 in absurd (cc none)
-accepted-birth shape (Object.Mail from to) first last lane root region ok =
-    let m = step-some mail_step [] first last lane (Birth root region) ok in
-    let none : false ≡ true = m.1 in absurd (cc none)
-accepted-birth shape (Object.Root place) first last lane root region ok =
-    let m = step-some (place_step place) new_place first last lane (Birth root region) ok in
-    ap Object.Root (sym (born-there place m.0 m.0.present root region m.1))
-
-pub birth-placed : (shape : Shape) (logs : Logs) → HistoriesHold shape logs
-    → (lane at k : ℕ) (o : Object) (root : RootId) (region : RegionId) →
-    slice_get (of_lane logs lane) at ≡ Some (Note.At o k (Birth root region)) → o ≡ Object.Root root.place
-birth-placed shape logs hold lane at k o root region e =
-    let c = cut-at (of_lane logs lane) at (Note.At o k (Birth root region)) e in
-    let s = own-split o logs lane c.0 c.1 k (Birth root region) shape hold c.2 in
-    accepted-birth shape o s.first s.last lane root region
-    (subst (λ h. IsAccepted shape o (dids h)) s.whole (hold.accepted o))

@@ -26,7 +26,8 @@ use Rattle.shared_pool.specs.Live.{WasWatched, IsLive, live_of, AreLiveRoots}
 use Rattle.lane_core.specs.Sampled.{AreSampled}
 use Rattle.lane_core.proofs.PlayedLists.{get-map, map-get, map-map, log-at}
 use Rattle.lane_core.proofs.PlayedReport.{In, same-leaks, index-of, get-of, pair-of, OnceEach, below-or, ascends}
-use Rattle.lane_core.proofs.PlayedBirths.{sampler_at, index-of_birth, birth-of_index, birth-placed}
+use Rattle.lane_core.proofs.PlayedBirths.{sampler_at, index-of_birth, birth-of_index}
+use Rattle.lane_core.proofs.PlacedBirths.{birth-placed}
 use Rattle.lane_core.proofs.PlayedLeaks.{lane-has, lanes-have, in-lanes, lanes-ascend}
 
 -- ---- No two leaks of one lane and serial, in another order too.

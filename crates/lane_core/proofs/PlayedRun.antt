@@ -15,25 +15,25 @@ use Rattle.pool_law.specs.Legal.{AreCommands, CountsAgree, HistoriesHold, ends_f
 use Rattle.pool_law.specs.Limits.{IsShape}
 use Rattle.pool_law.specs.Logs.{Entry, of_lane, entries_of, history_of}
 use Rattle.run_order.specs.Order.{InOneOrder}
+use Rattle.run_order.proofs.HandOver.{handed_over}
 use Rattle.leak_records.specs.declared.live.LiveRoot.{LiveRoot}
 use Rattle.leak_records.specs.Records.{Sampling, new_sampler}
 use Rattle.leak_records.specs.Reports.{IsReport}
 use Rattle.pool_table.specs.declared.views.Part.{Part}
 use Rattle.shared_pool.specs.declared.pool.SharedPool.{SharedPool}
-use Rattle.shared_pool.specs.Closing.{AreWhole, IsOrdered, logs_in, entries_in, entry_of as entry_in}
+use Rattle.shared_pool.specs.Closing.{AreWhole, logs_in, entries_in, entry_of as entry_in}
 use Rattle.shared_pool.specs.Live.{AreLiveRoots}
 use Rattle.shared_pool.proofs.LooksHeld.{looks-held}
 use Rattle.lane_core.specs.declared.lane.Lane.{Lane}
 use Rattle.lane_core.specs.Sampled.{AreSampled}
-use Rattle.lane_core.specs.Desks as desks
+use Rattle.lane_core.specs.Contexts as contexts
 use Rattle.lane_core.specs.Lanes.{number_of}
 use Rattle.lane_core.specs.Played.{AreFinished, IsFinishedLane, IsPlayed, IsRunOf, log_written}
-use Rattle.lane_core.proofs.EitherLane.{lane_desk, lane_commands}
+use Rattle.lane_core.proofs.EitherLane.{lane_context, lane_commands}
 use Rattle.lane_core.proofs.PlayedLists.{length-map, map-get, log-at, log-past}
 use Rattle.lane_core.proofs.PlayedSeats.{lane-at}
 use Rattle.lane_core.proofs.PlayedLogs.{own_part, parts_of_lanes, parts-are, parts-length, finished-at, logs-are, entries-at, replies-at}
 use Rattle.lane_core.proofs.PlayedAnswers.{lane-log}
-use Rattle.lane_core.proofs.PlayedOrder.{handed-over}
 use Rattle.lane_core.proofs.PlayedReport.{below-or}
 use Rattle.lane_core.proofs.PlayedReported.{leaks-are}
 
@@ -72,7 +72,7 @@ module _ (pool : SharedPool) (lanes : List Lane) (run : Run) (fin : AreFinished 
         (⊎_elim
         (λ (a : (l : Lane) × (slice_get lanes k ≡ Some l) × IsFinishedLane pool k l).
         subst (AreCommands shape) (sym (log-at (λ (l : Lane). l.commands) lanes k a.0 a.1))
-        (subst (λ s. AreCommands s a.0.commands) (lane_desk pool a.0 a.2.lane).shape
+        (subst (λ s. AreCommands s a.0.commands) (lane_context pool a.0 a.2.lane).shape
         (lane_commands pool a.0 a.2.lane)))
         (λ (past : length lanes ≤ k).
         subst (AreCommands shape) (sym
@@ -85,7 +85,8 @@ module _ (pool : SharedPool) (lanes : List Lane) (run : Run) (fin : AreFinished 
     own-counts root k =
         ⊎_elim
         (λ (a : (l : Lane) × (slice_get lanes k ≡ Some l) × IsFinishedLane pool k l).
-        subst (CountsHold root 0) (sym (entries-at lanes k a.0 a.1)) ((lane_desk pool a.0 a.2.lane).counts.holds root))
+        subst (CountsHold root 0) (sym (entries-at lanes k a.0 a.1))
+        ((lane_context pool a.0 a.2.lane).counts.holds root))
         (λ (past : length lanes ≤ k).
         subst (CountsHold root 0) (sym
         (log-past (entries_in parts) k
@@ -108,13 +109,13 @@ module _ (pool : SharedPool) (lanes : List Lane) (run : Run) (fin : AreFinished 
         (of_lane (entries_of (logs_of run)) k)
     answers k lt =
         let a = lane-at pool lanes fin k lt in
-        log-as shape k a.0.commands (of_lane run.trace.lanes k) a.0.desk.replies.items (replies_of run k)
-        (desks.entries_of a.0.desk) (of_lane (entries_of (logs_of run)) k)
+        log-as shape k a.0.commands (of_lane run.trace.lanes k) a.0.context.replies.items (replies_of run k)
+        (contexts.entries_of a.0.context) (of_lane (entries_of (logs_of run)) k)
         (sym (ap (λ t. of_lane t k) of.trace ∙ log-at (λ (l : Lane). l.commands) lanes k a.0 a.1))
         (sym (replies-at shape lanes run of k a.0 a.1))
         (sym (entries-at lanes k a.0 a.1) ∙ ap (λ es. of_lane es k) entries-same)
-        (subst (λ s. IsLaneLog s k a.0.commands a.0.desk.replies.items (desks.entries_of a.0.desk))
-        (lane_desk pool a.0 a.2.lane).shape
+        (subst (λ s. IsLaneLog s k a.0.commands a.0.context.replies.items (contexts.entries_of a.0.context))
+        (lane_context pool a.0 a.2.lane).shape
         (lane-log pool k a.0 a.2))
 
     sampled : (k : ℕ) (p : Part) → slice_get parts k ≡ Some p
@@ -122,12 +123,13 @@ module _ (pool : SharedPool) (lanes : List Lane) (run : Run) (fin : AreFinished 
     sampled k p e =
         let m = map-get own_part lanes k p (ap (λ ps. slice_get ps k) (sym (parts-are lanes)) ∙ e) in
         let f = finished-at pool lanes fin k m.0 m.1 in (
-          m.0.desk.sampler,
-          subst (λ q. AreSampled (new_sampler k shape.level shape.interval) q.notes m.0.desk.sampler) m.2
-              (subst (λ n. AreSampled (new_sampler n shape.level shape.interval) (own_part m.0).notes m.0.desk.sampler)
+          m.0.context.sampler,
+          subst (λ q. AreSampled (new_sampler k shape.level shape.interval) q.notes m.0.context.sampler) m.2
+              (subst (λ n. AreSampled (new_sampler n shape.level shape.interval) (own_part m.0).notes
+              m.0.context.sampler)
               f.number_is
               (subst (λ s. AreSampled (new_sampler (number_of m.0) s.level s.interval) (own_part m.0).notes
-              m.0.desk.sampler) (lane_desk pool m.0 f.lane).shape (lane_desk pool m.0 f.lane).sampled)),
+              m.0.context.sampler) (lane_context pool m.0 f.lane).shape (lane_context pool m.0 f.lane).sampled)),
         )
 
     module _ (live : List LiveRoot) (told : AreLiveRoots (parts_of_lanes lanes) live)
@@ -161,7 +163,7 @@ module _ (pool : SharedPool) (lanes : List Lane) (run : Run) (fin : AreFinished 
               ∙ ap (leaks_of shape) logs-same ∙ ap (λ s. leaks_of s (logs_of run)) (sym of.shape_is);
         };
         handed_over =
-            handed-over shape (logs_of run) (subst (HistoriesHold shape) logs-same whole.histories)
-            (subst IsOrdered logs-same whole.order);
+            handed_over shape (logs_of run) (subst (HistoriesHold shape) logs-same whole.histories)
+            (subst InOneOrder logs-same whole.one_order);
         one_order = subst InOneOrder logs-same whole.one_order;
       }

@@ -74,9 +74,9 @@ as-asked stops rs lane cs gs passed cause run line reply at = (
 
 -- a lane that has finished
 lane-heeded : (pool : SharedPool) (k : ℕ) (l : Lane) (stops : ℕ → Bool) → IsFinishedLane pool k l → Heeds stops l
-    → StopsAsAsked stops (replies_in l.desk.replies.items)
+    → StopsAsAsked stops (replies_in l.context.replies.items)
 lane-heeded pool k l stops f h =
-    let rs = l.desk.replies.items in let n = before_stop (replies_in rs) in
+    let rs = l.context.replies.items in let n = before_stop (replies_in rs) in
     let long = length-map (λ (a : Answered). a.reply) rs in
     as-asked stops (replies_in rs) (number_of l) (drop n (take (length rs) l.commands))
     (drop n (pieces (note_counts rs) (answered_entries l))) h.passed (λ lt. h.cause (omega (arith, lt, long)))

@@ -1,9 +1,8 @@
 -- The turns of the commands that post and fetch parcels.
 use Rattle.std.proofs.Common.{◌≡◌, ℕ, ◌+◌, ◌*◌, ◌<◌, ◌≤◌, List, [], ◌∷◌, Bool, true, false, length, refl, sym, ap, ◌∙◌, subst, arith, Option, Some, None}
-use Rattle.std.specs.Prelude.{◌==◌, ◌&&◌, IfSome, slice_get, slice_set, if◌then◌else◌, sum_by}
+use Rattle.std.specs.Prelude.{◌==◌, ◌&&◌, IfSome, slice_set, if◌then◌else◌, sum_by}
 use Rattle.std.proofs.lemmas.List.{length-map}
 use Rattle.std.proofs.lemmas.List.Sums.{sum_by-cons}
-use Rattle.step_law.specs.Settings.{Setting}
 use Rattle.pool_law.specs.declared.command.Command.{Command}
 use Rattle.pool_law.specs.declared.id.RootId.{RootId}
 use Rattle.pool_law.specs.declared.id.ViewData.{ViewData}
@@ -25,98 +24,78 @@ use Rattle.table_law.specs.NoteCounts.{one_if_so, view_of_root}
 use Rattle.pool_table.specs.declared.views.Entry.{Entry}
 use Rattle.pool_table.specs.declared.views.SeatView.{SeatView}
 use Rattle.pool_table.specs.Counts.{weigh, on_this, ref_gain, ref_loss, fetches, posts as posted_of, HasCount}
-use Rattle.pool_table.specs.Seats.{view_of, SameSeat}
+use Rattle.shared_pool.specs.SeatViews.{view_of, SameSeat}
 use Rattle.shared_pool.specs.declared.pool.SharedPool.{SharedPool}
 use Rattle.shared_pool.specs.Closing.{note_of, entry_of}
-use Rattle.shared_pool.specs.MailAnswers.{HasRoom}
-use Rattle.shared_pool.specs.Notes.{plain}
-use Rattle.shared_pool.specs.Quotas.{posts}
+use Rattle.shared_pool.specs.MailAnswers.{HasRoom, IsFetched, IsPosted}
 use Rattle.shared_pool.specs.SeatLanes.{lane_of}
-use Rattle.shared_pool.specs.Seats.{IsPoolSeat, IsNoted}
+use Rattle.shared_pool.specs.Seats.{IsPoolSeat}
 use Rattle.seat_work.proofs.HandNotes.{post_entry, fetch_entry, post_carries, fetch_carries}
 use Rattle.lane_core.specs.declared.access.Refusal.{Refusal}
 use Rattle.lane_core.specs.declared.counts.Counted.{Counted}
-use Rattle.lane_core.specs.declared.desk.Desk.{Desk}
-use Rattle.lane_core.specs.declared.desk.Stage.TheVariants.{Ready}
-use Rattle.lane_core.specs.declared.desk.Turn.TheVariants.{Went}
+use Rattle.lane_core.specs.declared.context.Context.{Context}
+use Rattle.lane_core.specs.declared.context.Stage.TheVariants.{Ready}
+use Rattle.lane_core.specs.declared.context.Turn.TheVariants.{Went}
 use Rattle.lane_core.specs.Accesses.{reply_for, IsState, IsRefused}
 use Rattle.seat_work.specs.Hands.{lane_in, empty_hand}
 use Rattle.lane_core.specs.Counting.{counted}
 use Rattle.lane_core.specs.Named.{bound_at, NamesAre}
 use Rattle.lane_core.specs.Readings.{before_left, behind, ReadsOn, none_asked}
-use Rattle.lane_core.specs.Desks.{IsDesk, notes_of, entries_of, HasRoomFor, left_for, HasTurned}
-use Rattle.lane_core.specs.DeskSteps.{CanAnswer, HasNoted, HasReplied, HasPosted, CountsMore, CountsLess, MayTurn, left_to_post}
+use Rattle.lane_core.specs.Contexts.{IsContext, notes_of, entries_of, HasRoomFor, left_for, HasTurned}
+use Rattle.lane_core.specs.ContextSteps.{CanAnswer, HasNoted, HasReplied, HasPosted, CountsMore, CountsLess, MayTurn, left_to_post}
 use Rattle.lane_core.proofs.NameLaws.{NamesAre-bind, RebindsAt, rebound_same, rebound_view}
-use Rattle.seat_work.proofs.Grown.{Grows, grows_noted, weigh_more}
+use Rattle.seat_work.proofs.Grown.{Grows, grows_mailed, weigh_more}
 use Rattle.seat_work.proofs.HandLaws.{held_on}
-use Rattle.lane_core.proofs.EntryCounts.{Recounts, still, posted, fetched, own_count, has_count, few_counted, stays_counted}
+use Rattle.lane_core.proofs.EntryCounts.{Recounts, still, posted, fetched}
+use Rattle.lane_core.proofs.SeatCounts.{own_count, has_count, few_counted, stays_counted}
 use Rattle.lane_core.proofs.StateReads.{used_view, refused_view, viewed, goes, refuses}
-use Rattle.lane_core.proofs.DeskLaws.{Advances, can_answer_noted}
+use Rattle.lane_core.proofs.ContextLaws.{Advances, can_answer_noted}
 use Rattle.lane_core.proofs.ReadLaws.{given_on, note_on}
 use Rattle.lane_core.proofs.Turning.{one_turn, one_turn_same, unstopped_for}
 
 -- a parcel is one post to its lane, and none to another
-pub one_post : (x y : Bool) → (if (x && y) && true then 1 else 0) + 0 ≤ (if y then 1 else 0)
+pub one_post : (x y : Bool) → 0 + one_if_so (x && y) ≤ (if y then 1 else 0)
 one_post true true = omega arith
 one_post true false = omega arith
 one_post false true = omega arith
 one_post false false = omega arith
 
-no_post : (x : Bool) → (if x && false then 1 else 0) + 0 ≤ 0
-no_post true = omega arith
-no_post false = omega arith
-
 -- the mail has room for the parcel
-pub has_room : (pool : SharedPool) (old : Desk) (d : IsDesk pool empty_hand old) (receiver : ℕ)
-    → HasRoomFor old (left_to_post receiver) → receiver < old.shape.lanes
-    → HasRoom old.shape (lane_of old.seat) receiver (view_of old.seat)
-has_room pool old d receiver room lt = from_setting (view_of old.seat).setting refl (room.mails receiver lt)
-  where
-    from_setting : (o : Option Setting) → (view_of old.seat).setting ≡ o
-        → IfSome o (λ setting. (room : ℕ)
-        × (slice_get setting.mail (lane_of old.seat * old.shape.lanes + receiver) ≡ Some room)
-        × (posts (lane_of old.seat) receiver (notes_of old) + (if receiver == receiver then 1 else 0) ≤ room))
-        → HasRoom old.shape (lane_of old.seat) receiver (view_of old.seat)
-    from_setting None is mail = absurd (cc (sym is ∙ d.seat.settled))
-    from_setting (Some setting) is mail = record {
-      room = mail.0;
-      known =
-          subst (λ (o : Option Setting). IfSome o
-          (λ t. slice_get t.mail (lane_of old.seat * old.shape.lanes + receiver) ≡ Some mail.0)) (sym is) mail.1;
-      fewer =
-          (let a = mail.2 in let n : ℕ = (if receiver == receiver then 1 else 0) in let b : n
-          ≡ 1 = ap (λ (x : Bool). if x then 1 else 0) (same_number receiver) in omega (arith, a, b));
-    }
+pub has_room : (pool : SharedPool) (old : Context) (receiver : ℕ) → HasRoomFor pool old (left_to_post receiver)
+    → receiver < old.shape.lanes → HasRoom pool (lane_of old.seat) receiver (view_of old.seat)
+has_room pool old receiver room lt = λ m.
+    let a = room.mails receiver lt m in
+    let one : (left_to_post receiver).sends receiver ≡ 1 =
+    ap (λ (x : Bool). if x then 1 else 0) (same_number receiver) in
+    omega (arith, a, one)
 
 -- what is counted is counted by the seat
-pub counted_views : (pool : SharedPool) (old : Desk) → IsDesk pool empty_hand old → (o : Option ViewData)
+pub counted_views : (pool : SharedPool) (old : Context) → IsContext pool empty_hand old → (o : Option ViewData)
     → IfSome o (λ v. 0 < counted old.counts v.root) → IfSome o (λ v. HasCount v.root (view_of old.seat))
 counted_views pool old d None lt = tt
 counted_views pool old d (Some v) lt = has_count old.counts (view_of old.seat) d.seat.alone d.counts v.root lt
 
 -- a parcel was posted and noted
-pub has_posted : (pool : SharedPool) (old start mid : Desk) → start ≡ record old { seat = start.seat }
+pub has_posted : (pool : SharedPool) (old start mid : Context) → start ≡ record old { seat = start.seat }
     → SameSeat old.seat start.seat → IsPoolSeat pool start.seat → (receiver number : ℕ) (parcel : Parcel)
-    → IsNoted pool old.seat start.seat (Mail (lane_of old.seat) receiver) number (plain (Did.Post parcel)) →
-    HasNoted start mid (Note.At (Mail (lane_of old.seat) receiver) number (Did.Post parcel) ∷ [])
+    → IsPosted old.seat start.seat receiver number parcel
+    → HasNoted start mid (Note.At (Mail (lane_of old.seat) receiver) number (Did.Post parcel) ∷ [])
     → HasPosted pool old mid receiver parcel
 has_posted pool old start mid start_is same seat receiver number parcel made noted =
-    let seat_is : mid.seat ≡ start.seat = ap (λ (x : Desk). x.seat) noted.rest in
+    let seat_is : mid.seat ≡ start.seat = ap (λ (x : Context). x.seat) noted.rest in
     record {
       number = number;
       same = subst (λ x. SameSeat old.seat x) (sym seat_is) same;
       seat = subst (λ x. IsPoolSeat pool x) (sym seat_is) seat;
-      did =
-          subst (λ x. IsNoted pool old.seat x (Mail (lane_of old.seat) receiver) number (plain (Did.Post parcel)))
-          (sym seat_is) made;
+      did = subst (λ x. IsPosted old.seat x receiver number parcel) (sym seat_is) made;
       noted =
-          subst (λ (x : Desk). HasNoted x mid
+          subst (λ (x : Context). HasNoted x mid
           (Note.At (Mail (lane_of old.seat) receiver) number (Did.Post parcel) ∷ []))
           (start_is ∙ (λ i. record old { seat = sym seat_is i })) noted;
     }
 
 -- then there is room for the reply
-pub can_answer_posted : (pool : SharedPool) (name receiver : ℕ) (old mid : Desk)
+pub can_answer_posted : (pool : SharedPool) (name receiver : ℕ) (old mid : Context)
     → MayTurn pool (left_for old.composes (Command.Send name receiver)) old → (parcel : Parcel)
     → HasPosted pool old mid receiver parcel → CanAnswer mid
 can_answer_posted pool name receiver old mid may parcel did =
@@ -127,7 +106,7 @@ can_answer_posted pool name receiver old mid may parcel did =
 -- ---- A parcel that is sent.
 
 -- what the seat noted
-module _ (pool : SharedPool) (receiver : ℕ) (old mid : Desk) (d : IsDesk pool empty_hand old) (parcel : Parcel)
+module _ (pool : SharedPool) (receiver : ℕ) (old mid : Context) (d : IsContext pool empty_hand old) (parcel : Parcel)
     (did : HasPosted pool old mid receiver parcel) where
   abbrev pub posted_entry : Entry
   posted_entry = post_entry (lane_of old.seat) receiver did.number (view_of old.seat).own.number parcel
@@ -135,8 +114,8 @@ module _ (pool : SharedPool) (receiver : ℕ) (old mid : Desk) (d : IsDesk pool 
   pub post_advances : Advances pool old.seat mid.seat empty_hand (posted_entry ∷ []) 0
   post_advances =
       let grows : Grows (view_of old.seat) (view_of mid.seat) (posted_entry ∷ []) 0 =
-      grows_noted pool old.seat mid.seat d.seat did.seat (Mail (lane_of old.seat) receiver) did.number
-      (plain (Did.Post parcel)) did.did in
+      grows_mailed pool old.seat mid.seat d.seat did.seat (lane_of old.seat) receiver did.number (Did.Post parcel)
+      did.did.noted in
       record {
         same = did.same;
         seat = did.seat;
@@ -147,11 +126,11 @@ module _ (pool : SharedPool) (receiver : ℕ) (old mid : Desk) (d : IsDesk pool 
             (lane_in (view_of old.seat))) d.held;
       }
 
-module _ (pool : SharedPool) (name receiver : ℕ) (old mid new : Desk)
+module _ (pool : SharedPool) (name receiver : ℕ) (old mid new : Context)
     (may : MayTurn pool (left_for old.composes (Command.Send name receiver)) old) (parcel : Parcel)
     (did : HasPosted pool old mid receiver parcel) where
   abbrev e : Entry
-  e = posted_entry pool receiver old mid may.desk parcel did
+  e = posted_entry pool receiver old mid may.context parcel did
 
   -- with these counts it is answered
   posted_turn : (cs : List Counted) (reply : Reply) → before_stop (reply ∷ []) ≡ 1
@@ -160,25 +139,25 @@ module _ (pool : SharedPool) (name receiver : ℕ) (old mid new : Desk)
       ReadsOn (answer_of old.shape (lane_of old.seat) s (Command.Send name receiver)) (entry_of e ∷ []) none_asked
       (give (answer reply s.names)) → HasTurned pool old new s (Command.Send name receiver) Ready (Went Ready)
   posted_turn cs reply unstopped replied recounts places s are reads =
-      let start : Desk = record old { seat = mid.seat; counts = cs } in
+      let start : Context = record old { seat = mid.seat; counts = cs } in
       let noted : HasNoted start (record mid { counts = cs }) (note_of e ∷ []) =
       record {
         log = did.noted.log;
         room = did.noted.room;
         rest =
-            ap (λ (x : Desk). record x { counts = cs }) did.noted.rest;
+            ap (λ (x : Context). record x { counts = cs }) did.noted.rest;
       } in
-      one_turn_same pool old start (record mid { counts = cs }) new may.desk may.asked refl refl e 0
-      (post_advances pool receiver old mid may.desk parcel did) noted
+      one_turn_same pool old start (record mid { counts = cs }) new may.context may.asked refl refl e 0
+      (post_advances pool receiver old mid may.context parcel did) noted
       reply unstopped replied recounts places (tt, refl) s (Command.Send name receiver) are
       (omega arith) (omega arith) (omega arith)
       (λ to. one_post (lane_of old.seat == lane_in (view_of old.seat)) (receiver == to)) reads
 
-module _ (pool : SharedPool) (name receiver : ℕ) (old mid new : Desk)
+module _ (pool : SharedPool) (name receiver : ℕ) (old mid new : Context)
     (may : MayTurn pool (left_for old.composes (Command.Send name receiver)) old) (s : LaneState)
     (state : IsState s old.names old.counts) where
   mid_counts : (parcel : Parcel) → HasPosted pool old mid receiver parcel → mid.counts ≡ old.counts
-  mid_counts parcel did = ap (λ (x : Desk). x.counts) did.noted.rest
+  mid_counts parcel did = ap (λ (x : Context). x.counts) did.noted.rest
 
   -- a view is sent
   pub send_turn : (v : ViewData) → bound_at old.names name ≡ Some (Plain v) → 0 < counted old.counts v.root
@@ -247,19 +226,19 @@ module _ (pool : SharedPool) (name receiver : ℕ) (old mid new : Desk)
 
 -- ---- A parcel that comes.
 
-module _ (pool : SharedPool) (fresh from : ℕ) (old start mid new : Desk)
+module _ (pool : SharedPool) (fresh from : ℕ) (old start mid new : Context)
     (may : MayTurn pool (left_for old.composes (Command.Recv fresh from)) old)
     (start_is : start ≡ record old { seat = start.seat })
     (same : SameSeat old.seat start.seat) (seat : IsPoolSeat pool start.seat) (number : ℕ) (parcel : Parcel)
-    (made : IsNoted pool old.seat start.seat (Mail from (lane_of old.seat)) number (plain (Did.Fetch parcel)))
+    (made : IsFetched old.seat start.seat from number parcel)
     (noted : HasNoted start mid (Note.At (Mail from (lane_of old.seat)) number (Did.Fetch parcel) ∷ [])) where
   abbrev f : Entry
   f = fetch_entry from (lane_of old.seat) number (view_of old.seat).own.number parcel
 
   fetch_grows : Grows (view_of old.seat) (view_of start.seat) (f ∷ []) 0
   fetch_grows =
-      grows_noted pool old.seat start.seat may.desk.seat seat (Mail from (lane_of old.seat)) number
-      (plain (Did.Fetch parcel)) made
+      grows_mailed pool old.seat start.seat may.context.seat seat from (lane_of old.seat) number (Did.Fetch parcel)
+      made.noted
 
   fetch_advances : Advances pool old.seat start.seat empty_hand (f ∷ []) 0
   fetch_advances =
@@ -270,7 +249,7 @@ module _ (pool : SharedPool) (fresh from : ℕ) (old start mid new : Desk)
         held =
             held_on (view_of old.seat) (view_of start.seat) (f ∷ []) 0 empty_hand empty_hand fetch_grows
             (fetch_carries from (lane_of old.seat) number (view_of old.seat).own.number parcel
-            (lane_in (view_of old.seat))) may.desk.held;
+            (lane_in (view_of old.seat))) may.context.held;
       }
 
   fetched_turn : (cs : List Counted) (names : List (Option Bound)) (reply : Reply) → before_stop (reply ∷ []) ≡ 1
@@ -280,29 +259,30 @@ module _ (pool : SharedPool) (fresh from : ℕ) (old start mid new : Desk)
       received s fresh parcel.view ≡ answer reply bound
       → HasTurned pool old new s (Command.Recv fresh from) Ready (Went Ready)
   fetched_turn cs names reply unstopped replied recounts places rebound s bound are answers =
-      let begin : Desk = record start { counts = cs } in
-      let sampler_is : start.sampler ≡ old.sampler = ap (λ (x : Desk). x.sampler) start_is in
-      let asked_is : start.asked ≡ old.asked = ap (λ (x : Desk). x.asked) start_is in
+      let begin : Context = record start { counts = cs } in
+      let sampler_is : start.sampler ≡ old.sampler = ap (λ (x : Context). x.sampler) start_is in
+      let asked_is : start.asked ≡ old.asked = ap (λ (x : Context). x.asked) start_is in
       let begin_is : begin ≡ record old
       { seat = start.seat; counts = cs; sampler = start.sampler; asked = start.asked } =
-      ap (λ (x : Desk). record x { counts = cs }) start_is
+      ap (λ (x : Context). record x { counts = cs }) start_is
       ∙ (λ i. record old { seat = start.seat; counts = cs; sampler = sym sampler_is i; asked = sym asked_is i }) in
       let mail = Mail from (lane_of old.seat) in
-      one_turn pool old begin (record mid { counts = cs }) new may.desk may.asked begin_is asked_is f 0 fetch_advances
-      (record { log = noted.log; room = noted.room; rest = ap (λ (x : Desk). record x { counts = cs }) noted.rest })
+      one_turn pool old begin (record mid { counts = cs }) new may.context may.asked begin_is asked_is f 0
+      fetch_advances
+      (record { log = noted.log; room = noted.room; rest = ap (λ (x : Context). record x { counts = cs }) noted.rest })
       names reply unstopped replied recounts places (tt, sym sampler_is) rebound s (Command.Recv fresh from) bound
       are (omega arith) (omega arith) (omega arith)
-      (λ to. no_post ((from == lane_in (view_of old.seat)) && (lane_of old.seat == to)))
+      (λ to. omega arith)
       (λ log.
       given_on (note mail says.fetch) (entry_of f ∷ []) none_asked (λ p. give (received s fresh p.view)) parcel
       (note_on (entry_of f) mail says.fetch number (Did.Fetch parcel) refl parcel refl) log
       ∙ ap (λ (a : Answer). give a (behind log (entry_of f ∷ []) none_asked)) answers)
 
   mid_names_are : mid.names ≡ old.names
-  mid_names_are = ap (λ (x : Desk). x.names) noted.rest ∙ ap (λ (x : Desk). x.names) start_is
+  mid_names_are = ap (λ (x : Context). x.names) noted.rest ∙ ap (λ (x : Context). x.names) start_is
 
   mid_counts_are : mid.counts ≡ old.counts
-  mid_counts_are = ap (λ (x : Desk). x.counts) noted.rest ∙ ap (λ (x : Desk). x.counts) start_is
+  mid_counts_are = ap (λ (x : Context). x.counts) noted.rest ∙ ap (λ (x : Context). x.counts) start_is
 
   -- an empty parcel
   pub nothing_turn : parcel.view ≡ None → HasReplied mid new Reply.Nothing → (s : LaneState)
@@ -349,7 +329,7 @@ module _ (pool : SharedPool) (fresh from : ℕ) (old start mid new : Desk)
       let u : SeatView = view_of old.seat in let w : SeatView = view_of start.seat in
       let grown : (g : Entry → ℕ) → weigh g w ≡ weigh g u + sum_by g (f ∷ []) = weigh_more u w (f ∷ []) 0 fetch_grows in
       let has : HasCount v.root w =
-      (let a = own_count old.counts u may.desk.seat.alone may.desk.counts v.root in
+      (let a = own_count old.counts u may.context.seat.alone may.context.counts v.root in
       let p = grown (on_this ref_gain v.root) in let q = grown (fetches v.root) in let l =
       grown (on_this ref_loss v.root) in let m = grown (posted_of v.root) in
       let one : fetches v.root f ≡ 1 = ap (λ (o : Option ViewData). view_of_root v.root o) some
@@ -357,7 +337,7 @@ module _ (pool : SharedPool) (fresh from : ℕ) (old start mid new : Desk)
       let s1 = sum_by-cons (fetches v.root) f [] in
       omega (arith, a, p, q, l, m, one, s1)) in
       seat.counts.one other v.root (stays_counted u w (f ∷ []) 0 fetch_grows other (omega arith) (omega arith)
-      (has_count old.counts u may.desk.seat.alone may.desk.counts other counts)) has at
+      (has_count old.counts u may.context.seat.alone may.context.counts other counts)) has at
 
   -- the root can be counted once more, the name bound, and the command answered
   pub fetched_place : (v : ViewData) → parcel.view ≡ Some v
@@ -365,8 +345,8 @@ module _ (pool : SharedPool) (fresh from : ℕ) (old start mid new : Desk)
       → v.root.place < length mid.counts
   fetched_place v some place =
       subst (λ (n : ℕ). v.root.place < n)
-      (sym (ap (λ (cs : List Counted). length cs) mid_counts_are ∙ may.desk.places
-      ∙ ap (λ (s : Shape). s.lanes * s.handles) may.desk.shape))
+      (sym (ap (λ (cs : List Counted). length cs) mid_counts_are ∙ may.context.places
+      ∙ ap (λ (s : Shape). s.lanes * s.handles) may.context.shape))
       (subst (λ (o : Option ViewData). IfSome o
       (λ w. w.root.place < pool.table.layout.shape.lanes * pool.table.layout.shape.handles)) some place)
 
@@ -377,7 +357,7 @@ module _ (pool : SharedPool) (fresh from : ℕ) (old start mid new : Desk)
 
   pub fetched_few : (root : RootId) → counted mid.counts root < 4294967295
   fetched_few root =
-      let a = few_counted old.counts (entries_of old) may.desk.counts root in let b =
+      let a = few_counted old.counts (entries_of old) may.context.counts root in let b =
       length-map (notes_of old) entry_of in let e = may.room.few in
       let g = ap (λ (cs : List Counted). counted cs root) mid_counts_are in omega (arith, a, b, e, g)
 
@@ -387,8 +367,8 @@ module _ (pool : SharedPool) (fresh from : ℕ) (old start mid new : Desk)
       (Note.At (Mail from (lane_of old.seat)) number (Did.Fetch parcel)) noted
       (start_is ∙ (λ i. record old {
         seat = start.seat;
-        counts = sym (ap (λ (x : Desk). x.counts) start_is) i;
+        counts = sym (ap (λ (x : Context). x.counts) start_is) i;
         sampler =
-            sym (ap (λ (x : Desk). x.sampler) start_is) i;
-        asked = sym (ap (λ (x : Desk). x.asked) start_is) i;
+            sym (ap (λ (x : Context). x.sampler) start_is) i;
+        asked = sym (ap (λ (x : Context). x.asked) start_is) i;
       }))

@@ -4,11 +4,9 @@ use Rattle.std.specs.Prelude.{false, ◌==◌, All, map, option_and_then}
 use Rattle.std.specs.Global.{Vec}
 use Rattle.std.proofs.lemmas.List.{append_cancel_left, map-append}
 use Rattle.std.proofs.lemmas.List.Elements.{All-head, All-tail}
-use Rattle.step_law.specs.declared.Told.{Ghosts}
 use Rattle.pool_law.specs.declared.id.Part.{Part}
 use Rattle.pool_law.specs.declared.id.RootId.{RootId}
 use Rattle.pool_law.specs.declared.note.Note.{Note}
-use Rattle.pool_law.specs.declared.note.Noted.{Noted}
 use Rattle.pool_law.specs.declared.note.RefDid.TheVariants.{Kept, Ended}
 use Rattle.pool_law.specs.declared.run.Level.TheVariants.{Disabled}
 use Rattle.pool_law.specs.declared.run.Reply.{Reply}
@@ -22,14 +20,13 @@ use Rattle.pool_law.specs.Readers.{Log, Reader, ◌>>◌, give, nothing, step}
 use Rattle.pool_law.proofs.CompositeLemmas.{release_part-gone, release_part-counted}
 use Rattle.leak_records.specs.Records.{Sampling, new_sampler}
 use Rattle.pool_table.specs.declared.roots.EndToken.{EndToken}
-use Rattle.pool_table.specs.declared.table.PoolSeat.{PoolSeat}
+use Rattle.shared_pool.specs.declared.seat.PoolSeat.{PoolSeat}
 use Rattle.pool_table.specs.declared.views.Entry.{Entry}
 use Rattle.pool_table.specs.declared.views.Entry.TheVariants.{Ref}
 use Rattle.pool_table.specs.declared.views.SeatView.{SeatView}
 use Rattle.pool_table.specs.Counts.{HasCount, HasToken, with_ref}
-use Rattle.pool_table.specs.Seats.{view_of, SameSeat, HasView}
+use Rattle.shared_pool.specs.SeatViews.{view_of, SameSeat, HasView}
 use Rattle.shared_pool.specs.Closing.{entry_of, note_of}
-use Rattle.shared_pool.specs.declared.home.Home.{Home}
 use Rattle.shared_pool.specs.declared.pool.SharedPool.{SharedPool}
 use Rattle.shared_pool.specs.RootNotes.{HoldsToken}
 use Rattle.shared_pool.specs.Seats.{IsPoolSeat}
@@ -57,7 +54,8 @@ use Rattle.lane_core.specs.Releasings.{MayRelease, HasReleased, IsTriedAgain, Is
 use Rattle.lane_core.specs.Sampled.{AreSampled}
 use Rattle.lane_core.specs.Wrote.{Wrote}
 use Rattle.lane_core.proofs.EndSteps.{end_left}
-use Rattle.lane_core.proofs.EntryCounts.{Recounts, recounted, adds_recounted, kept, ended, last_count}
+use Rattle.lane_core.proofs.EntryCounts.{Recounts, recounted, kept, ended}
+use Rattle.lane_core.proofs.SeatCounts.{adds_recounted, last_count}
 use Rattle.lane_core.proofs.Grown.{spends}
 use Rattle.lane_core.proofs.LogLaws.{wrote_none}
 use Rattle.lane_core.proofs.ReadLaws.{then_on, given_on, first_on, second_on, none_then, still_on, step_on, step_off}
@@ -160,13 +158,13 @@ any_sampler : Sampling
 any_sampler = new_sampler 0 Disabled 1
 
 -- a root's end that is under way may go on
-pub may_end : {G : Ghosts Home Noted} (pool : SharedPool) (seat : PoolSeat Home G) (cs : List Counted) (stage : Ending)
+pub may_end : (pool : SharedPool) (seat : PoolSeat) (cs : List Counted) (stage : Ending)
     (left : Vec Part) → MayRelease pool seat cs (stage_of (Some stage) left) → ending.MayEnd pool seat stage
 may_end pool seat cs stage left may =
     let some = end_left stage in
     record { seat_is = may.seat_is; turn = may.turn (omega (arith, some)); hand = may.hand; fits = may.fits }
 
-module _ {G : Ghosts Home Noted} (pool : SharedPool) (old new : PoolSeat Home G) where
+module _ (pool : SharedPool) (old new : PoolSeat) where
   abbrev shape : Shape
   shape = pool.table.layout.shape
 
@@ -357,7 +355,7 @@ module _ {G : Ghosts Home Noted} (pool : SharedPool) (old new : PoolSeat Home G)
           }
 
 -- none of the parts is counted
-pub all_passed : {G : Ghosts Home Noted} (pool : SharedPool) (seat : PoolSeat Home G) (cs : List Counted)
+pub all_passed : (pool : SharedPool) (seat : PoolSeat) (cs : List Counted)
     (left after : Vec Part) (log : Vec Note) → MayRelease pool seat cs (stage_of None left)
     → NextCounted cs left.items after.items None
     → HasReleased pool seat seat cs cs log log (stage_of None left) Done

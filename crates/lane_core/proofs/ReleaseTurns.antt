@@ -23,10 +23,10 @@ use Rattle.shared_pool.specs.Closing.{entry_of, note_of}
 use Rattle.shared_pool.specs.SeatLanes.{lane_of}
 use Rattle.seat_work.specs.Hands.{empty_hand}
 use Rattle.lane_core.specs.declared.counts.Counted.{Counted}
-use Rattle.lane_core.specs.declared.desk.Desk.{Desk}
-use Rattle.lane_core.specs.declared.desk.Stage.TheVariants.{Ready, Parting, Replacing}
-use Rattle.lane_core.specs.declared.desk.Turn.{Turn}
-use Rattle.lane_core.specs.declared.desk.Turn.TheVariants.{Went, Pending}
+use Rattle.lane_core.specs.declared.context.Context.{Context}
+use Rattle.lane_core.specs.declared.context.Stage.TheVariants.{Ready, Parting, Replacing}
+use Rattle.lane_core.specs.declared.context.Turn.{Turn}
+use Rattle.lane_core.specs.declared.context.Turn.TheVariants.{Went, Pending}
 use Rattle.lane_core.specs.declared.retirement.Ending.{Ending}
 use Rattle.lane_core.specs.declared.releasing.Releasing.{Releasing}
 use Rattle.lane_core.specs.declared.releasing.Releases.{Releases}
@@ -37,14 +37,14 @@ use Rattle.lane_core.specs.Named.{NamesAre, bound_at}
 use Rattle.lane_core.specs.Readings.{renamed, swept}
 use Rattle.lane_core.specs.Releasings as releasing
 use Rattle.lane_core.specs.Releasings.{AreUncounted, IsOver, ReadsOnWith, hand_in, rest_in}
-use Rattle.lane_core.specs.Desks.{HasRoomFor, HasTurned, IsDesk, log_of, notes_of, reads_from}
-use Rattle.lane_core.specs.DeskSteps.{CanAnswer, Concludes, HasReplied, bound_to, recounted}
+use Rattle.lane_core.specs.Contexts.{HasRoomFor, HasTurned, IsContext, log_of, notes_of, reads_from}
+use Rattle.lane_core.specs.ContextSteps.{CanAnswer, Concludes, HasReplied, bound_to, recounted}
 use Rattle.lane_core.proofs.NameLaws.{NamesAre-bind, NamesAre-changed, rebound_composite, rebound_count}
 use Rattle.lane_core.proofs.PartTurns.{Moved, between, bindable_on, moved_answer, moved_can, moved_concludes, moved_counts, moved_grew, moved_on, moved_spends, moved_still, moved_with}
 use Rattle.lane_core.proofs.StageTurns.{none_of, some_of}
 
-pub may_release : (pool : SharedPool) (old : Desk) (stage : Releasing) → IsDesk pool (releasing.hand_of stage) old
-    → HasRoomFor old (releasing.left_of stage) → releasing.Fits pool old.seat stage
+pub may_release : (pool : SharedPool) (old : Context) (stage : Releasing) → IsContext pool (releasing.hand_of stage) old
+    → HasRoomFor pool old (releasing.left_of stage) → releasing.Fits pool old.seat stage
     → releasing.MayRelease pool old.seat old.counts stage
 may_release pool old stage d room fits =
     record {
@@ -71,13 +71,13 @@ module _ (shape : Shape) (cs : List Counted) (log : Log)
       ap (λ (e : Option Ending). (rest_in shape e >> release_parts shape stage.left.items) log) over.0
       ∙ none_released stage.left.items over.1
 
-module _ (pool : SharedPool) (old mid : Desk) (stage : Releasing) (d : IsDesk pool (releasing.hand_of stage) old)
+module _ (pool : SharedPool) (old mid : Context) (stage : Releasing) (d : IsContext pool (releasing.hand_of stage) old)
     (mid_is : mid ≡ record old { seat = mid.seat; counts = mid.counts; notes = mid.notes }) where
   module _ (result : Releases)
       (did : releasing.HasReleased pool old.seat mid.seat old.counts mid.counts old.notes mid.notes stage result) where
     pub released_so : Moved pool (releasing.hand_of stage) (releasing.hand_after result) old mid did.added
     released_so = record {
-      desk = d;
+      context = d;
       mid_is = mid_is;
       same = did.same;
       seat = did.seat;
@@ -113,17 +113,17 @@ module _ (pool : SharedPool) (old mid : Desk) (stage : Releasing) (d : IsDesk po
         (did.more.notes ∙ ap (λ (es : List Entry). notes_of old ++ es) none ∙ append-nil (notes_of old))
         ∙ d.counts.counts root
 
-    pub release_can : HasRoomFor old (releasing.left_of stage) → length old.replies.items < vec_capacity old.replies
-        → CanAnswer mid
+    pub release_can : HasRoomFor pool old (releasing.left_of stage)
+        → length old.replies.items < vec_capacity old.replies → CanAnswer mid
     release_can room replies =
         moved_can pool (releasing.hand_of stage) (releasing.hand_after result) old mid did.added released_so
         (releasing.left_of stage) (releasing.left_after result) room did.spends replies
 
   names_same : mid.names ≡ old.names
-  names_same = ap (λ (x : Desk). x.names) mid_is
+  names_same = ap (λ (x : Context). x.names) mid_is
 
   asked_same : mid.asked ≡ old.asked
-  asked_same = ap (λ (x : Desk). x.asked) mid_is
+  asked_same = ap (λ (x : Context). x.asked) mid_is
 
   -- ---- A composite ends.
 
@@ -202,7 +202,7 @@ module _ (pool : SharedPool) (old mid : Desk) (stage : Releasing) (d : IsDesk po
         less : c.count - 1 ≡ 0
         less = let one = last.2 in omega (arith, one)
 
-    pub part_done : (new : Desk)
+    pub part_done : (new : Context)
         → releasing.HasReleased pool old.seat mid.seat old.counts mid.counts old.notes mid.notes stage Done
         → HasReplied (recounted mid name c 0) new Reply.Freed
         → HasTurned pool old new s command (Parting name stage) (Went Ready)
@@ -289,7 +289,7 @@ module _ (pool : SharedPool) (old mid : Desk) (stage : Releasing) (d : IsDesk po
         subst (λ (names : List (Option Bound)). NamesAre bound_names (slice_set names name (Some (Composed w))))
         (sym names_same) (NamesAre-bind s.names old.names are name (Composed w) may.0.name_is)
 
-    pub replace_bound : (new : Desk) (next : Releasing) → IsOver mid.counts next
+    pub replace_bound : (new : Context) (next : Releasing) → IsOver mid.counts next
         → releasing.HasReleased pool old.seat mid.seat old.counts mid.counts old.notes mid.notes stage (More next)
         → (turn : Turn) → Concludes (bound_to mid name w) new (Reply.OkNumber (size_of w.parts)) turn
         → HasTurned pool old new s command (Replacing name whole stage) turn

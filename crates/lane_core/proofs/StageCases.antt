@@ -7,12 +7,12 @@ use Rattle.pool_law.specs.Lanes.{Answer}
 use Rattle.pool_law.specs.Readers.{Log, Reader}
 use Rattle.pool_table.specs.declared.views.Entry.{Entry}
 use Rattle.pool_table.specs.declared.views.SeatView.{SeatView}
-use Rattle.lane_core.specs.declared.desk.Desk.{Desk}
-use Rattle.lane_core.specs.declared.desk.Stage.{Stage}
-use Rattle.lane_core.specs.declared.desk.Stage.TheVariants.{Ready, Allotting, Ending, Sweeping, Closing, Crossing, Parting, Consolidating, Copying, Replacing}
-use Rattle.lane_core.specs.declared.desk.Turn.TheVariants.{Went, Pending}
+use Rattle.lane_core.specs.declared.context.Context.{Context}
+use Rattle.lane_core.specs.declared.context.Stage.{Stage}
+use Rattle.lane_core.specs.declared.context.Stage.TheVariants.{Ready, Allotting, Ending, Sweeping, Closing, Crossing, Parting, Consolidating, Copying, Replacing}
+use Rattle.lane_core.specs.declared.context.Turn.TheVariants.{Went, Pending}
 use Rattle.lane_core.specs.declared.draining.Draining.{Draining}
-use Rattle.lane_core.specs.Desks.{IsUnderway, ComesTo, ClosesTo, GoesOn, PassesTo, Waits, left_after, left_at, left_now}
+use Rattle.lane_core.specs.Contexts.{IsUnderway, ComesTo, ClosesTo, GoesOn, PassesTo, Waits, left_after, left_at, left_now}
 use Rattle.lane_core.specs.Lanes.{IsAtRest, IsClosing}
 use Rattle.lane_core.specs.Readings.{renamed}
 
@@ -92,7 +92,7 @@ left_on composes command stage (Replacing name whole at) v u = refl
 
 -- ---- A turn that comes to such a stage.
 
-module _ (reads : LaneState → Stage → Reader Answer) (s : LaneState) (old new : Desk) (added : List Entry)
+module _ (reads : LaneState → Stage → Reader Answer) (s : LaneState) (old new : Context) (added : List Entry)
     (stage : Stage) where
   -- it goes on there, and so it is what a turn may come to
   pub went_on : (next : Stage) → IsUnderway next → ComesTo reads s old new added stage (Went next)
@@ -153,7 +153,7 @@ module _ (reads : LaneState → Stage → Reader Answer) (s : LaneState) (old ne
 
 -- ---- No turn that passes a command over, and none of the closing, comes to one.
 
-module _ (old new : Desk) (added : List Entry) (command : Command) where
+module _ (old new : Context) (added : List Entry) (command : Command) where
   pub passes_none : (next : Stage) → IsUnderway next → PassesTo old new added command (Went next) → ⊥
   passes_none Ready u t = u
   passes_none (Closing at) u t = u
@@ -165,19 +165,6 @@ module _ (old new : Desk) (added : List Entry) (command : Command) where
   passes_none (Consolidating p at) u t = t
   passes_none (Copying name whole parts at) u t = t
   passes_none (Replacing name whole at) u t = t
-
-  pub passes_held : (held : Held) (next : Stage) → IsUnderway next → PassesTo old new added command (Pending held next)
-      → ⊥
-  passes_held held Ready u t = u
-  passes_held held (Closing at) u t = u
-  passes_held held (Allotting name size class at) u t = t
-  passes_held held (Ending at) u t = t
-  passes_held held (Sweeping reply at) u t = t
-  passes_held held (Crossing name marks at) u t = t
-  passes_held held (Parting name at) u t = t
-  passes_held held (Consolidating p at) u t = t
-  passes_held held (Copying name whole parts at) u t = t
-  passes_held held (Replacing name whole at) u t = t
 
 module _ (stage after : Draining) (added : List Entry) where
   pub closes_none : (next : Stage) → IsUnderway next → ClosesTo stage (Went next) after added → ⊥

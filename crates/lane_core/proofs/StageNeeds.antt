@@ -1,4 +1,4 @@
--- What a stage needs of the desk, and that the desk can be answered behind it.
+-- What a stage needs of the context, and that the context can be answered behind it.
 use Rattle.std.proofs.Common.{◌≡◌, ℕ, ◌+◌, ◌<◌, ◌≤◌, List, [], ◌∷◌, length, map, refl, sym, ap, ◌∙◌, subst, arith, length-append}
 use Rattle.std.specs.Prelude.{vec_capacity}
 use Rattle.std.proofs.lemmas.List.{length-map}
@@ -8,11 +8,11 @@ use Rattle.leak_records.specs.Records.{Sampling, new_sampler}
 use Rattle.pool_table.specs.declared.views.Entry.{Entry}
 use Rattle.pool_table.specs.declared.views.Entry.TheVariants.{At, Ref, Busy}
 use Rattle.pool_table.specs.declared.views.SeatView.{SeatView}
-use Rattle.pool_table.specs.Seats.{view_of}
+use Rattle.shared_pool.specs.SeatViews.{view_of}
 use Rattle.shared_pool.specs.declared.pool.SharedPool.{SharedPool}
 use Rattle.shared_pool.specs.Closing.{note_of}
 use Rattle.shared_pool.specs.SeatLanes.{lane_of}
-use Rattle.lane_core.specs.declared.desk.Desk.{Desk}
+use Rattle.lane_core.specs.declared.context.Context.{Context}
 use Rattle.lane_core.specs.declared.allotment.Allotting.{Allotting as AllotStage}
 use Rattle.lane_core.specs.declared.retirement.Ending.{Ending as EndStage}
 use Rattle.lane_core.specs.declared.retirement.Ends.{Ends}
@@ -27,15 +27,15 @@ use Rattle.lane_core.specs.Budgets.{Left, Spends}
 use Rattle.seat_work.specs.Hands.{Hand}
 use Rattle.lane_core.specs.Sampled.{AreSampled, sampler_after}
 use Rattle.seat_work.specs.Growth.{HasMore}
-use Rattle.lane_core.specs.Desks.{IsDesk, notes_of, HasRoomFor}
-use Rattle.lane_core.specs.DeskSteps.{HasNoted, CanAnswer}
+use Rattle.lane_core.specs.Contexts.{IsContext, notes_of, HasRoomFor}
+use Rattle.lane_core.specs.ContextSteps.{HasNoted, CanAnswer}
 use Rattle.lane_core.proofs.AllotSteps.{allot_left}
 use Rattle.lane_core.proofs.EndSteps.{end_left}
 use Rattle.lane_core.proofs.DrainSteps.{drain_left}
-use Rattle.lane_core.proofs.DeskGrown.{noted_so}
+use Rattle.lane_core.proofs.ContextGrown.{noted_so}
 
-pub may_end : (pool : SharedPool) (old : Desk) (stage : EndStage) → IsDesk pool (ending.hand_of stage) old
-    → HasRoomFor old (ending.left_of stage) → ending.Fits pool old.seat stage → ending.MayEnd pool old.seat stage
+pub may_end : (pool : SharedPool) (old : Context) (stage : EndStage) → IsContext pool (ending.hand_of stage) old
+    → HasRoomFor pool old (ending.left_of stage) → ending.Fits pool old.seat stage → ending.MayEnd pool old.seat stage
 may_end pool old stage d room fits =
     record {
       seat_is = d.seat;
@@ -45,8 +45,8 @@ may_end pool old stage d room fits =
       fits = fits;
     }
 
-pub may_allot : (pool : SharedPool) (old : Desk) (class : ℕ) (stage : AllotStage)
-    → IsDesk pool (allotment.hand_of stage) old → HasRoomFor old (allotment.left_of stage)
+pub may_allot : (pool : SharedPool) (old : Context) (class : ℕ) (stage : AllotStage)
+    → IsContext pool (allotment.hand_of stage) old → HasRoomFor pool old (allotment.left_of stage)
     → allotment.Fits pool old.seat class stage → allotment.MayAllot pool old.seat class stage
 may_allot pool old class stage d room fits =
     record {
@@ -58,16 +58,16 @@ may_allot pool old class stage d room fits =
     }
 
 -- the log has the room that is left for its notes
-pub log_room : (pool : SharedPool) (hand : Hand) (old : Desk) (left : Left) → IsDesk pool hand old → HasRoomFor old left
-    → length old.notes.items + left.notes ≤ vec_capacity old.notes
+pub log_room : (pool : SharedPool) (hand : Hand) (old : Context) (left : Left) → IsContext pool hand old
+    → HasRoomFor pool old left → length old.notes.items + left.notes ≤ vec_capacity old.notes
 log_room pool hand old left d room =
     let a = ap (λ (ns : List Note). length ns) d.log in let b = length-map (notes_of old) note_of in let e =
     room.notes in
     omega (arith, a, b, e)
 
 -- the notes of a stage are few, and it can be answered behind them
-module _ (pool : SharedPool) (hand : Hand) (old : Desk) (d : IsDesk pool hand old) (left after : Left)
-    (room : HasRoomFor old left) (w : SeatView) (added : List Entry) (notes : List Note)
+module _ (pool : SharedPool) (hand : Hand) (old : Context) (d : IsContext pool hand old) (left after : Left)
+    (room : HasRoomFor pool old left) (w : SeatView) (added : List Entry) (notes : List Note)
     (more : HasMore (view_of old.seat) w added) (are : map note_of added ≡ notes)
     (spent : Spends (view_of old.seat) w left after) where
   added_few : length notes + after.notes ≤ left.notes
@@ -79,7 +79,7 @@ module _ (pool : SharedPool) (hand : Hand) (old : Desk) (d : IsDesk pool hand ol
   own_length : length old.notes.items ≡ length (notes_of old)
   own_length = ap (λ (ns : List Note). length ns) d.log ∙ length-map (notes_of old) note_of
 
-  pub answers_behind : (start mid : Desk) → start ≡ record old
+  pub answers_behind : (start mid : Context) → start ≡ record old
       { seat = start.seat; counts = start.counts; sampler = start.sampler; asked = start.asked }
       → HasNoted start mid notes → length old.replies.items < vec_capacity old.replies → CanAnswer mid
   answers_behind start mid start_is noted replies =
@@ -90,30 +90,30 @@ module _ (pool : SharedPool) (hand : Hand) (old : Desk) (d : IsDesk pool hand ol
         notes =
             mid.notes;
         asked = start.asked;
-      } = noted.rest ∙ ap (λ (x : Desk). record x { notes = mid.notes }) start_is in
+      } = noted.rest ∙ ap (λ (x : Context). record x { notes = mid.notes }) start_is in
       let a = own_length in let b = added_few in let c = room.few in
       let e = ap (λ (ns : List Note). length ns) noted.log in let f = length-append start.notes.items notes in
-      let g = ap (λ (x : Desk). length x.notes.items) start_is in let h = d.begun in let k =
-      ap (λ (x : Desk). x.begun) path in
+      let g = ap (λ (x : Context). length x.notes.items) start_is in let h = d.begun in let k =
+      ap (λ (x : Context). x.begun) path in
       record {
         begun = omega (arith, a, e, f, g, h, k);
         few = omega (arith, a, b, c, e, f, g);
-        room = subst (λ (x : Desk). length x.replies.items < vec_capacity x.replies) (sym path) replies;
+        room = subst (λ (x : Context). length x.replies.items < vec_capacity x.replies) (sym path) replies;
       }
 
--- a desk behind a step of the end of a root can be answered
-pub end_can : (pool : SharedPool) (old mid : Desk) (stage : EndStage) (d : IsDesk pool (ending.hand_of stage) old)
+-- a context behind a step of the end of a root can be answered
+pub end_can : (pool : SharedPool) (old mid : Context) (stage : EndStage) (d : IsContext pool (ending.hand_of stage) old)
     → mid ≡ record old { seat = mid.seat; notes = mid.notes } → (ends : Ends)
     → ending.HasEnded pool old.seat mid.seat old.notes mid.notes stage ends →
-    HasRoomFor old (ending.left_of stage) → length old.replies.items < vec_capacity old.replies → CanAnswer mid
+    HasRoomFor pool old (ending.left_of stage) → length old.replies.items < vec_capacity old.replies → CanAnswer mid
 end_can pool old mid stage d mid_so ends did room replies =
-    let start : Desk = record old { seat = mid.seat } in let wrote = did.wrote old.sampler in
+    let start : Context = record old { seat = mid.seat } in let wrote = did.wrote old.sampler in
     answers_behind pool (ending.hand_of stage) old d (ending.left_of stage) (ending.left_after ends) room
     (view_of mid.seat) wrote.added did.written wrote.more wrote.noted did.spends start mid refl
     (noted_so start mid did.written did.log mid_so) replies
 
-pub may_drain : (pool : SharedPool) (old : Desk) (kind : DrainKind) (stage : Draining)
-    → IsDesk pool (draining.hand_of kind stage) old → HasRoomFor old (draining.left_of stage (view_of old.seat))
+pub may_drain : (pool : SharedPool) (old : Context) (kind : DrainKind) (stage : Draining)
+    → IsContext pool (draining.hand_of kind stage) old → HasRoomFor pool old (draining.left_of stage (view_of old.seat))
     → draining.Fits pool old.seat stage → (stage ≡ AllDrained → ⊥) → draining.MayDrain pool old.seat kind stage
 may_drain pool old kind stage d room fits more =
     record {
@@ -125,14 +125,14 @@ may_drain pool old kind stage d room fits more =
       fits = fits;
     }
 
--- a desk behind a step of a sweep can be answered
-pub drain_can : (pool : SharedPool) (old mid : Desk) (kind : DrainKind) (stage : Draining)
-    (d : IsDesk pool (draining.hand_of kind stage) old) → mid ≡ record old { seat = mid.seat; notes = mid.notes }
+-- a context behind a step of a sweep can be answered
+pub drain_can : (pool : SharedPool) (old mid : Context) (kind : DrainKind) (stage : Draining)
+    (d : IsContext pool (draining.hand_of kind stage) old) → mid ≡ record old { seat = mid.seat; notes = mid.notes }
     → (drains : Drains) → draining.HasDrained pool old.seat mid.seat old.notes mid.notes kind stage drains →
-    HasRoomFor old (draining.left_of stage (view_of old.seat)) → length old.replies.items < vec_capacity old.replies
-    → CanAnswer mid
+    HasRoomFor pool old (draining.left_of stage (view_of old.seat))
+    → length old.replies.items < vec_capacity old.replies → CanAnswer mid
 drain_can pool old mid kind stage d mid_so drains did room replies =
-    let start : Desk = record old { seat = mid.seat } in let wrote = did.wrote old.sampler in
+    let start : Context = record old { seat = mid.seat } in let wrote = did.wrote old.sampler in
     answers_behind pool (draining.hand_of kind stage) old d (draining.left_of stage (view_of old.seat))
     (draining.left_after drains (view_of mid.seat)) room (view_of mid.seat) wrote.added did.written wrote.more
     wrote.noted did.spends start mid refl (noted_so start mid did.written did.log mid_so) replies
@@ -150,8 +150,8 @@ births_few first last (At o k n ∷ es) is =
 births_few first last (Ref r d ∷ es) is = let a = births_few first last es is in omega (arith, a)
 births_few first last (Busy h ∷ es) is = let a = births_few first last es is in omega (arith, a)
 
-pub few_births : (pool : SharedPool) (hand : Hand) (old : Desk) (left : Left) → IsDesk pool hand old
-    → HasRoomFor old left → old.sampler.births < 4294967295
+pub few_births : (pool : SharedPool) (hand : Hand) (old : Context) (left : Left) → IsContext pool hand old
+    → HasRoomFor pool old left → old.sampler.births < 4294967295
 few_births pool hand old left d room =
     let a = births_few (new_sampler (lane_of old.seat) old.shape.level old.shape.interval) old.sampler (notes_of old)
     d.sampled in let b = room.few in

@@ -11,17 +11,17 @@ use Rattle.pool_law.specs.Lanes.{Answer, answer}
 use Rattle.pool_law.specs.Names.{Names, Bound}
 use Rattle.pool_law.specs.Readers.{Entries, Log, Reader, ◌>>=◌, give}
 use Rattle.pool_table.specs.declared.views.Entry.{Entry}
-use Rattle.pool_table.specs.Seats.{view_of, SameSeat}
+use Rattle.shared_pool.specs.SeatViews.{view_of, SameSeat}
 use Rattle.shared_pool.specs.declared.pool.SharedPool.{SharedPool}
 use Rattle.shared_pool.specs.Closing.{note_of, entry_of}
 use Rattle.shared_pool.specs.SeatLanes.{lane_of}
 use Rattle.shared_pool.specs.Seats.{IsPoolSeat}
 use Rattle.lane_core.specs.declared.counts.Counted.{Counted}
-use Rattle.lane_core.specs.declared.desk.Desk.{Desk}
-use Rattle.lane_core.specs.declared.desk.Stage.{Stage}
-use Rattle.lane_core.specs.declared.desk.Stage.TheVariants.{Ready, Allotting, Ending, Sweeping, Closing, Crossing, Parting, Consolidating, Copying, Replacing}
-use Rattle.lane_core.specs.declared.desk.Turn.{Turn}
-use Rattle.lane_core.specs.declared.desk.Turn.TheVariants.{Went, Pending, Waiting}
+use Rattle.lane_core.specs.declared.context.Context.{Context}
+use Rattle.lane_core.specs.declared.context.Stage.{Stage}
+use Rattle.lane_core.specs.declared.context.Stage.TheVariants.{Ready, Allotting, Ending, Sweeping, Closing, Crossing, Parting, Consolidating, Copying, Replacing}
+use Rattle.lane_core.specs.declared.context.Turn.{Turn}
+use Rattle.lane_core.specs.declared.context.Turn.TheVariants.{Went, Pending, Waiting}
 use Rattle.lane_core.specs.declared.draining.Draining.TheVariants.{Ask}
 use Rattle.lane_core.specs.Drainings as draining
 use Rattle.lane_core.specs.Budgets.{Left, Spends, notes_alone, with_sheds}
@@ -31,13 +31,14 @@ use Rattle.lane_core.specs.Named.{NamesAre}
 use Rattle.lane_core.specs.Sampled.{AreSampled}
 use Rattle.seat_work.specs.Growth.{HasMore}
 use Rattle.lane_core.specs.Readings.{ReadsOn, swept}
-use Rattle.lane_core.specs.Desks.{IsDesk, log_of, reads_from, left_now, DeskGrew, GoesOn, Waits, SpendsAt, HasTurned}
-use Rattle.lane_core.specs.DeskSteps.{HasNoted, HasReplied, Concludes}
+use Rattle.lane_core.specs.Contexts.{IsContext, log_of, reads_from, left_now, ContextGrew, GoesOn, Waits, SpendsAt, HasTurned}
+use Rattle.lane_core.specs.ContextSteps.{HasNoted, HasReplied, Concludes}
 use Rattle.lane_core.proofs.NameLaws.{RebindsAt, rebound_more}
-use Rattle.lane_core.proofs.EntryCounts.{Recounts, adds_recounted}
+use Rattle.lane_core.proofs.EntryCounts.{Recounts}
+use Rattle.lane_core.proofs.SeatCounts.{adds_recounted}
 use Rattle.lane_core.proofs.ReadLaws.{given_on, sweeps_on}
-use Rattle.lane_core.proofs.DeskLaws.{Advances, entries_more, reads_at, spends_at}
-use Rattle.lane_core.proofs.DeskGrown.{mid_is, mid_grew, grew, goes_on, answered, swept_reads, lengthened}
+use Rattle.lane_core.proofs.ContextLaws.{Advances, entries_more, reads_at, spends_at}
+use Rattle.lane_core.proofs.ContextGrown.{mid_is, mid_grew, grew, goes_on, answered, swept_reads, lengthened}
 
 pub none_of : (es : List Entry) → map note_of es ≡ [] → es ≡ []
 none_of [] is = refl
@@ -47,10 +48,10 @@ pub some_of : (es : List Entry) (ns : List Note) → map note_of es ≡ ns → 0
 some_of es ns is lt =
     let a = length-map es note_of in let b = ap (λ (xs : List Note). length xs) is in omega (arith, a, b, lt)
 
--- what a stage wrote, and the desk that noted it
-pub record Staged (pool : SharedPool) (before after : Hand) (old start mid : Desk) (added : List Entry)
+-- what a stage wrote, and the context that noted it
+pub record Staged (pool : SharedPool) (before after : Hand) (old start mid : Context) (added : List Entry)
     (gain : RootId → ℕ) : Type 0 where
-  pub desk : IsDesk pool before old
+  pub context : IsContext pool before old
   pub start_is : start ≡ record old
       { seat = start.seat; counts = start.counts; sampler = start.sampler; asked = start.asked }
   pub counts_are : start.counts ≡ old.counts
@@ -62,32 +63,32 @@ pub record Staged (pool : SharedPool) (before after : Hand) (old start mid : Des
   pub adds : AddCounts gain (map entry_of added)
   pub noted : HasNoted start mid (map note_of added)
 
-module _ (pool : SharedPool) (before after : Hand) (old start mid : Desk) (added : List Entry) (gain : RootId → ℕ)
+module _ (pool : SharedPool) (before after : Hand) (old start mid : Context) (added : List Entry) (gain : RootId → ℕ)
     (st : Staged pool before after old start mid added gain) where
   pub staged : Advances pool old.seat start.seat after added (view_of old.seat).moves
   staged = record {
     same = st.same;
     seat = st.seat;
-    grows = record { more = st.more; was_alone = st.desk.seat.alone; alone = st.seat.alone; moves = omega arith };
+    grows = record { more = st.more; was_alone = st.context.seat.alone; alone = st.seat.alone; moves = omega arith };
     held = st.held;
   }
 
   pub staged_seat : mid.seat ≡ start.seat
-  staged_seat = ap (λ (x : Desk). x.seat) st.noted.rest
+  staged_seat = ap (λ (x : Context). x.seat) st.noted.rest
 
   pub staged_shape : mid.shape ≡ old.shape
   staged_shape =
-      ap (λ (x : Desk). x.shape) (mid_is pool before after old start mid st.desk st.start_is added
+      ap (λ (x : Context). x.shape) (mid_is pool before after old start mid st.context st.start_is added
       (view_of old.seat).moves staged st.noted)
 
   pub staged_names : mid.names ≡ old.names
   staged_names =
-      ap (λ (x : Desk). x.names) (mid_is pool before after old start mid st.desk st.start_is added
+      ap (λ (x : Context). x.names) (mid_is pool before after old start mid st.context st.start_is added
       (view_of old.seat).moves staged st.noted)
 
   pub staged_counts : mid.counts ≡ old.counts
   staged_counts =
-      ap (λ (x : Desk). x.counts) (mid_is pool before after old start mid st.desk st.start_is added
+      ap (λ (x : Context). x.counts) (mid_is pool before after old start mid st.context st.start_is added
       (view_of old.seat).moves staged st.noted) ∙ st.counts_are
 
   recounts : (cs : List Counted) → ((root : RootId) → counted cs root ≡ counted old.counts root + gain root)
@@ -95,9 +96,9 @@ module _ (pool : SharedPool) (before after : Hand) (old start mid : Desk) (added
   recounts cs is = adds_recounted old.counts cs (map entry_of added) gain st.adds is
 
   -- it goes on, where it gained nothing
-  pub staged_grew : ((root : RootId) → gain root ≡ 0) → DeskGrew pool after old mid added
+  pub staged_grew : ((root : RootId) → gain root ≡ 0) → ContextGrew pool after old mid added
   staged_grew none =
-      mid_grew pool before after old start mid st.desk st.start_is added (view_of old.seat).moves staged st.noted
+      mid_grew pool before after old start mid st.context st.start_is added (view_of old.seat).moves staged st.noted
       (recounts start.counts (λ root.
       (let a = none root in let b = ap (λ (cs : List Counted). counted cs root) st.counts_are in
       omega (arith, a, b))))
@@ -105,34 +106,34 @@ module _ (pool : SharedPool) (before after : Hand) (old start mid : Desk) (added
 
   abbrev mid_so : mid ≡ record old
       { seat = start.seat; counts = start.counts; sampler = start.sampler; notes = mid.notes; asked = start.asked }
-  mid_so = mid_is pool before after old start mid st.desk st.start_is added (view_of old.seat).moves staged st.noted
+  mid_so = mid_is pool before after old start mid st.context st.start_is added (view_of old.seat).moves staged st.noted
 
   pub staged_asked : mid.asked ≡ start.asked
-  staged_asked = ap (λ (x : Desk). x.asked) mid_so
+  staged_asked = ap (λ (x : Context). x.asked) mid_so
 
   pub staged_on : 0 < length added → (asks : ℕ → ℕ) → start.asked ≡ asks old.asked
       → (reads : Reader Answer) (behind : Names → Reader Answer) (bound : Names) → NamesAre bound old.names
       → ReadsOn reads (map entry_of added) asks (behind bound) → GoesOn old mid added reads behind
   staged_on some asks asked reads behind bound are is =
-      goes_on pool before after old start mid st.desk st.start_is added (view_of old.seat).moves staged st.noted some
+      goes_on pool before after old start mid st.context st.start_is added (view_of old.seat).moves staged st.noted some
       asks asked reads behind bound are is
 
   pub staged_still : added ≡ [] → start.asked ≡ old.asked → Waits old mid added
   staged_still none asked = record {
     none = none;
-    replies = ap (λ (x : Desk). x.replies.items) mid_so;
-    names = ap (λ (x : Desk). x.names) mid_so;
-    begun = ap (λ (x : Desk). x.begun) mid_so;
+    replies = ap (λ (x : Context). x.replies.items) mid_so;
+    names = ap (λ (x : Context). x.names) mid_so;
+    begun = ap (λ (x : Context). x.begun) mid_so;
     asked = staged_asked ∙ asked;
   }
 
   -- it is answered
-  module _ (empty : after ≡ empty_hand) (new : Desk) (names : List (Option Bound)) (cs : List Counted)
+  module _ (empty : after ≡ empty_hand) (new : Context) (names : List (Option Bound)) (cs : List Counted)
       (reply : Reply) (unstopped : before_stop (reply ∷ []) ≡ 1)
       (gained : (root : RootId) → counted cs root ≡ counted old.counts root + gain root)
       (places : length cs ≡ length old.counts) (rebound : RebindsAt 0 old names)
       (s : LaneState) (command : Command) (stage : Stage) (bound : Names) (are : NamesAre bound names) where
-    abbrev final : Desk
+    abbrev final : Context
     final =
         record old {
           seat = start.seat;
@@ -155,7 +156,8 @@ module _ (pool : SharedPool) (before after : Hand) (old start mid : Desk) (added
         ((rest : Entries) → reads_now (log_of old (map entry_of added ++ rest))
         ≡ Some (answer reply bound, log_of final rest)) → HasTurned pool old new s command stage (Went Ready)
     staged_answer replied low spent reads =
-        answered pool before after old start mid st.desk st.start_is added (view_of old.seat).moves staged st.noted new
+        answered pool before after old start mid st.context st.start_is added (view_of old.seat).moves staged st.noted
+        new
         names cs reply replied empty (recounts cs gained) places st.sampled
         (rebound_more old.names names rebound) s command stage bound are
         unstopped low spent reads
@@ -170,7 +172,7 @@ module _ (pool : SharedPool) (before after : Hand) (old start mid : Desk) (added
       abbrev lane : ℕ
       lane = lane_of old.seat
 
-      abbrev sweeping : Desk
+      abbrev sweeping : Context
       sweeping =
           record old {
             seat = start.seat;
@@ -187,10 +189,10 @@ module _ (pool : SharedPool) (before after : Hand) (old start mid : Desk) (added
       sweep_begins due = record {
         added = added;
         grew =
-            subst (λ (h : Hand). DeskGrew pool h old sweeping added) empty
-            (grew pool before after old start mid st.desk st.start_is added (view_of old.seat).moves staged st.noted
+            subst (λ (h : Hand). ContextGrew pool h old sweeping added) empty
+            (grew pool before after old start mid st.context st.start_is added (view_of old.seat).moves staged st.noted
             sweeping refl (recounts cs gained) places st.sampled
-            (let a = st.desk.begun in let b = lengthened pool before after old start mid st.desk st.start_is added
+            (let a = st.context.begun in let b = lengthened pool before after old start mid st.context st.start_is added
             (view_of old.seat).moves staged st.noted in omega (arith, a, b)) (omega arith) 0 rebound (omega arith));
         fits = (omega arith, omega arith, unstopped, λ is. cc is);
         name = tt;
@@ -220,7 +222,7 @@ module _ (pool : SharedPool) (before after : Hand) (old start mid : Desk) (added
         held = tt;
       }
         where
-          asking : Desk
+          asking : Context
           asking = record old { seat = start.seat; asked = start.asked }
 
       answer_comes : HasReplied (record mid { names = names; counts = cs }) new reply → start.asked < sweep_period
@@ -231,7 +233,7 @@ module _ (pool : SharedPool) (before after : Hand) (old start mid : Desk) (added
           (spends_at old final left (notes_alone 0) spent (let a = asked_few in omega (arith, a))))
           (λ rest.
           body_is (log_of old (map entry_of added ++ rest))
-          ∙ swept_reads pool before after old start mid st.desk st.start_is added (view_of old.seat).moves staged
+          ∙ swept_reads pool before after old start mid st.context st.start_is added (view_of old.seat).moves staged
           st.noted new names cs reply replied asks asked low body bound reads rest)
 
       pub staged_concludes : (turn : Turn) → Concludes (record mid { names = names; counts = cs }) new reply turn
@@ -239,9 +241,9 @@ module _ (pool : SharedPool) (before after : Hand) (old start mid : Desk) (added
       staged_concludes (Went Ready) did =
           answer_comes did.0 (let a = staged_asked in let b = did.1 in omega (arith, a, b))
       staged_concludes (Went (Sweeping later next)) did =
-          let is : new ≡ sweeping = did.2 ∙ ap (λ (x : Desk). record x { names = names; counts = cs; asked = 0 })
+          let is : new ≡ sweeping = did.2 ∙ ap (λ (x : Context). record x { names = names; counts = cs; asked = 0 })
           mid_so in
-          subst (λ (x : Desk × Stage). HasTurned pool old x.0 s command stage (Went x.1))
+          subst (λ (x : Context × Stage). HasTurned pool old x.0 s command stage (Went x.1))
           (λ i. (sym is i, Sweeping (sym did.0 i) (sym did.1 i)))
           (sweep_begins (let a = staged_asked in let b = did.3 in omega (arith, a, b)))
       staged_concludes (Went (Allotting other size class next)) did = absurd did

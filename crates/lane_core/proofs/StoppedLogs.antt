@@ -76,9 +76,9 @@ never_stopped lane n cs gs rs a b c =
 
 -- what a lane has answered that was stopped nowhere is the law's
 pub answered_passed : (shape : Shape) (lane : ℕ) (l : Lane) (s : LaneState)
-    → length l.desk.replies.items ≤ length l.commands → HasAnswered shape lane l s → HasPassedOver shape lane l
+    → length l.context.replies.items ≤ length l.commands → HasAnswered shape lane l s → HasPassedOver shape lane l
 answered_passed shape lane l s few was =
-    let rs = l.desk.replies.items in let n = length rs in
+    let rs = l.context.replies.items in let n = length rs in
     let ps = pieces (note_counts rs) (answered_entries l) in
     let a = length-map rs (λ (x : Answered). x.reply) in
     let b = pieces-length (note_counts rs) (answered_entries l) ∙ length-map rs (λ (x : Answered). x.notes) in

@@ -1,321 +1,36 @@
--- A lane that its gate stopped behind a turn of its desk: it is one again, and what the step says is so.
-use Rattle.std.proofs.Common.{◌≡◌, ℕ, suc, ◌<◌, ◌≤◌, List, [], ◌∷◌, ◌++◌, Bool, true, length, map, take, drop, refl, sym, ap, ◌∙◌, subst, arith, Some, length-append}
-use Rattle.std.specs.Prelude.{sum, vec_capacity}
-use Rattle.std.proofs.lemmas.List.{map-append, length-map, take-append-le, drop-append-le, length-take-le}
-use Rattle.std.proofs.lemmas.List.Elements.{All-weaker}
+-- What the steps of a lane that its gate stopped come to.
+use Rattle.std.proofs.Common.{◌≡◌, ℕ, ◌<◌, ◌≤◌, List, [], ◌∷◌, Bool, true, length, map, sym, ap, ◌∙◌, subst, arith}
 use Rattle.pool_law.specs.declared.command.Command.{Command}
-use Rattle.pool_law.specs.declared.run.Answered.{Answered}
 use Rattle.pool_law.specs.declared.run.Reply.{Reply}
-use Rattle.pool_law.specs.declared.run.Shape.{Shape}
-use Rattle.pool_law.specs.Legal.{AreCommands}
-use Rattle.pool_law.specs.Limits.{IsShape}
-use Rattle.pool_law.specs.LaneLaw.{sweep_period, lane_run, stopped_run, before_stop, pieces, note_counts, replies_in}
-use Rattle.pool_law.specs.LaneStates.{new_lane}
+use Rattle.pool_law.specs.LaneLaw.{sweep_period}
 use Rattle.pool_law.specs.Patterns.{closing}
 use Rattle.pool_law.specs.Readers.{Entries}
-use Rattle.pool_table.specs.declared.views.Entry.{Entry}
-use Rattle.pool_table.specs.Seats.{view_of}
+use Rattle.shared_pool.specs.SeatViews.{view_of}
 use Rattle.shared_pool.specs.declared.pool.SharedPool.{SharedPool}
 use Rattle.shared_pool.specs.Closing.{entry_of}
-use Rattle.lane_core.specs.declared.desk.Desk.{Desk}
-use Rattle.lane_core.specs.declared.desk.Stage.{Stage}
-use Rattle.lane_core.specs.declared.desk.Stage.TheVariants.{Ready, Closing}
-use Rattle.lane_core.specs.declared.desk.Turn.{Turn}
-use Rattle.lane_core.specs.declared.desk.Turn.TheVariants.{Went, Pending, Waiting}
+use Rattle.lane_core.specs.declared.context.Context.{Context}
+use Rattle.lane_core.specs.declared.context.Stage.{Stage}
+use Rattle.lane_core.specs.declared.context.Stage.TheVariants.{Ready, Closing}
+use Rattle.lane_core.specs.declared.context.Turn.{Turn}
+use Rattle.lane_core.specs.declared.context.Turn.TheVariants.{Went, Pending, Waiting}
 use Rattle.lane_core.specs.declared.draining.DrainKind.TheVariants.{Close}
 use Rattle.lane_core.specs.declared.draining.Draining.{Draining}
 use Rattle.lane_core.specs.declared.draining.Draining.TheVariants.{Ask}
 use Rattle.lane_core.specs.declared.lane.Lane.{Lane}
 use Rattle.lane_core.specs.declared.lane.Stepped.{Stepped}
 use Rattle.lane_core.specs.declared.lane.Stepped.TheVariants.{Went as StepWent, Pending as StepPending, Waiting as StepWaiting, Finished as StepFinished}
-use Rattle.lane_core.specs.Budgets.{notes_alone, with_sheds}
 use Rattle.lane_core.specs.Drainings as draining
 use Rattle.seat_work.specs.Hands.{Hand, empty_hand}
 use Rattle.lane_core.specs.Readings.{ReadsOn, none_asked}
-use Rattle.lane_core.specs.Desks.{IsDesk, notes_of, entries_of, hand_of, Fits, FitsDesk, IsUnderway, HasRoomFor, left_for, left_at, next_of, DeskGrew, left_now, SpendsAt, Waits, IsPassedOver, PassesOver, HasTurnedClosing}
-use Rattle.lane_core.specs.Lanes.{Heeds, IsRunningLane, IsStoppedLane, HasPassedOver, reads_closing, IsClosing, IsAtRest, SameLane, commands_left, answered_entries, entries_since, number_of, left_of}
+use Rattle.lane_core.specs.Contexts.{IsContext, hand_of, Fits, HasRoomFor, left_for, left_at, next_of, PassesOver, HasTurnedClosing}
+use Rattle.lane_core.specs.Lanes.{Heeds, IsStoppedLane, reads_closing, SameLane, commands_left, entries_since, number_of}
 use Rattle.lane_core.specs.Steps.{HasStepped, stepped_of}
-use Rattle.lane_core.proofs.ReadLaws.{still_on, on_append}
-use Rattle.lane_core.proofs.LaneLogs.{cut_more, take_whole, drop_whole, pieces-length, pieces_more, counts_more}
-use Rattle.lane_core.proofs.LaneRooms.{notes_grew}
-use Rattle.lane_core.proofs.LaneGrown.{lane_at, fits_still, entries_grew, number_same, same_lane, same_log, replied_more, still_entries, still_since, still_left, still_room, answered_room, closed_room, room_to_begin, front_room}
+use Rattle.lane_core.proofs.ReadLaws.{on_append}
+use Rattle.lane_core.proofs.LaneGrown.{lane_at, same_lane, replied_more, still_since, still_left, closed_room, room_to_begin, front_room}
 use Rattle.lane_core.proofs.CloseTurns.{closing_same, closing_so, closing_next}
 use Rattle.lane_core.proofs.Heeding.{heeds_still}
-use Rattle.lane_core.proofs.StageCases.{by_kind, passes_held, passes_none}
-use Rattle.lane_core.proofs.StoppedLogs.{stop_more, stop_within, stopped_run-push, answered_passed}
-
--- a lane that its gate stops before the next command
-pub stops_lane : (pool : SharedPool) (l : Lane) → IsRunningLane pool l → l.stage ≡ Ready → (n : ℕ)
-    → n ≤ length l.commands → IsStoppedLane pool (record l { asked = n; stopped = true })
-stops_lane pool l lane is n few =
-    let number = number_of l in
-    let begun : l.desk.begun ≡ length (notes_of l.desk) = (lane.rest (subst IsAtRest (sym is) tt)).begun in
-    let long = length-map (notes_of l.desk) entry_of in
-    let none_since : entries_since l ≡ [] = drop_whole l.desk.begun (entries_of l.desk) (omega (arith, begun, long)) in
-    record {
-      over = refl;
-      desk = lane.desk;
-      fits = lane.fits;
-      shape = lane.shape;
-      commands = lane.commands;
-      plain = lane.plain;
-      few = lane.few;
-      answered = (let was = answered_passed l.desk.shape number l lane.state lane.few lane.answered in record {
-        counted = was.counted;
-        state = was.state;
-        run = was.run;
-        stopped = was.stopped;
-      });
-      underway = λ u. absurd (subst IsUnderway is u);
-      all_answered = lane.all_answered;
-      rest = λ ready. begun;
-      since =
-          subst (λ (x : Entries × Stage). ReadsOn (closing number) x.0 none_asked (reads_closing number x.1))
-          (λ i. (sym none_since i, sym is i)) (still_on (closing number));
-      room = lane.room;
-      replies = lane.replies;
-      asked = few;
-      spare = lane.spare;
-    }
-
-module _ (pool : SharedPool) (l : Lane) (lane : IsStoppedLane pool l) (d : Desk) (n : ℕ)
-    (few_asked : n ≤ length l.commands) (hand : Hand) (added : List Entry)
-    (grew : DeskGrew pool hand l.desk d added) where
-  abbrev shape : Shape
-  shape = l.desk.shape
-
-  abbrev number : ℕ
-  number = number_of l
-
-  abbrev rs : List Answered
-  rs = l.desk.replies.items
-
-  -- what a stopped lane keeps at every turn
-  stopped_with : (stage : Stage) → IsDesk pool (hand_of stage) d → Fits pool d stage
-      → length d.replies.items ≤ length l.commands → HasPassedOver shape number (lane_at l d stage n)
-      → (IsUnderway stage → ⊥) → (IsClosing stage → commands_left (lane_at l d stage n) ≡ [])
-      → (IsAtRest stage → d.begun ≡ length (notes_of d))
-      → ReadsOn (closing number) (entries_since (lane_at l d stage n)) none_asked (reads_closing number stage)
-      → HasRoomFor d (left_of (lane_at l d stage n)) → IsStoppedLane pool (lane_at l d stage n)
-  stopped_with stage desk fits few answered underway all_answered rest reads room =
-      let new : Lane = lane_at l d stage n in
-      let same = number_same pool l lane.desk d n hand added grew in
-      record {
-        over = lane.over;
-        desk = desk;
-        fits = fits;
-        shape = subst IsShape (sym grew.shape) lane.shape;
-        commands = subst (λ (x : Shape). AreCommands x l.commands) (sym grew.shape) lane.commands;
-        plain =
-            All-weaker (FitsDesk l.desk) (FitsDesk d) (fits_still l.desk d grew.name_count grew.shape grew.composes)
-            l.commands
-            lane.plain;
-        few = few;
-        answered =
-            subst (λ (x : Shape × ℕ). HasPassedOver x.0 x.1 new) (λ i. (sym grew.shape i, sym same i)) answered;
-        underway = underway;
-        all_answered = all_answered;
-        rest = rest;
-        since =
-            subst (λ (k : ℕ). ReadsOn (closing k) (entries_since new) none_asked (reads_closing k stage)) (sym same)
-            reads;
-        room = room;
-        replies = (let a = lane.replies in let b = grew.replies_room in omega (arith, a, b));
-        asked = few_asked;
-        spare = subst (λ (x : Shape). x.lanes ≤ vec_capacity l.spare.seats) (sym grew.shape) lane.spare;
-      }
-
-  -- ---- Where no command was answered.
-
-  module _ (replies : d.replies.items ≡ l.desk.replies.items) (begun : d.begun ≡ l.desk.begun) (stage : Stage) where
-    still_few : length d.replies.items ≤ length l.commands
-    still_few = let a = lane.few in let b = ap (λ (xs : List Answered). length xs) replies in omega (arith, a, b)
-
-    still_passed : HasPassedOver shape number (lane_at l d stage n)
-    still_passed =
-        let was = lane.answered in let s = was.state in
-        let entries = still_entries pool l lane.desk d n hand added grew replies begun stage in
-        record {
-          counted = ap (λ (xs : List Answered). sum (note_counts xs)) replies ∙ was.counted ∙ sym begun;
-          state = s;
-          run =
-              subst (λ (x : List Answered × Entries). let k = before_stop (replies_in x.0) in
-              lane_run sweep_period shape number new_lane (take k l.commands) (take k (pieces (note_counts x.0) x.1))
-              ≡ Some (take k (replies_in x.0), s)) (λ i. (sym replies i, sym entries i)) was.run;
-          stopped =
-              subst (λ (x : List Answered × Entries). let k = before_stop (replies_in x.0) in
-              stopped_run number (drop k (take (length x.0) l.commands)) (drop k (pieces (note_counts x.0) x.1))
-              ≡ Some (drop k (replies_in x.0))) (λ i. (sym replies i, sym entries i)) was.stopped;
-        }
-
-  -- ---- At a command that is to be passed over.
-
-  module _ (is : l.stage ≡ Ready) where
-    -- nothing is noted that isn't a command's
-    rested : d.begun ≡ length (notes_of d) →
-        ReadsOn (closing number) (entries_since (lane_at l d Ready n)) none_asked (closing number)
-    rested begun =
-        let long = length-map (notes_of d) entry_of in
-        subst (λ (es : Entries). ReadsOn (closing number) es none_asked (closing number))
-        (sym (drop_whole d.begun (entries_of d) (omega (arith, begun, long)))) (still_on (closing number))
-
-    begun_all : l.desk.begun ≡ length (notes_of l.desk)
-    begun_all = lane.rest (subst IsAtRest (sym is) tt)
-
-    open_still : IsClosing l.stage → ⊥
-    open_still closes = subst IsClosing is closes
-
-    module _ (command : Command) (later : List Command) (left : commands_left l ≡ command ∷ later)
-        (desk : IsDesk pool empty_hand d) (fits : Fits pool d Ready) where
-      -- where it waits it is as it was
-      pub waits_on : Waits l.desk d added →
-          SpendsAt l.desk d (left_now l.desk.composes command Ready (view_of l.desk.seat))
-          (left_now l.desk.composes command Ready (view_of d.seat))
-          → IsStoppedLane pool (lane_at l d Ready n)
-      waits_on w spends =
-          let begun : d.begun ≡ length (notes_of d) =
-          (let a = begun_all in let b = notes_grew pool hand l.desk d added grew in let c =
-          ap (λ (es : List Entry). length es) w.none in let e = w.begun in omega (arith, a, b, c, e)) in
-          let left_now_is : commands_left (lane_at l d Ready n) ≡ command ∷ later =
-          still_left pool l lane.desk d n hand added grew w.replies w.begun Ready ∙ left in
-          stopped_with Ready desk fits (still_few w.replies w.begun Ready) (still_passed w.replies w.begun Ready)
-          (λ u. u) (λ closes. absurd closes) (λ ready. begun) (rested begun)
-          (still_room pool l lane.desk d n hand added grew command later left lane.room open_still Ready (λ c. c)
-          left_now_is
-          (subst (λ (x : Stage). SpendsAt l.desk d (left_now l.desk.composes command x (view_of l.desk.seat))
-          (left_now l.desk.composes command Ready (view_of d.seat))) (sym is) spends))
-
-      -- and where it is answered the law's log of a stopped lane has it more
-      module _ (p : IsPassedOver l.desk d added command) where
-        abbrev done : Lane
-        done = lane_at l d Ready n
-
-        abbrev group : Entries
-        group = map entry_of added
-
-        abbrev before : List Entries
-        before = pieces (note_counts rs) (answered_entries l)
-
-        abbrev stop : ℕ
-        stop = before_stop (replies_in rs)
-
-        cut : (take (suc (length rs)) l.commands ≡ take (length rs) l.commands ++ command ∷ [])
-            × (drop (suc (length rs)) l.commands ≡ later)
-            × (length rs < length l.commands)
-        cut = cut_more (length rs) l.commands command later left
-
-        abbrev answered : Answered
-        answered = record { reply = Reply.Stopped; notes = p.notes }
-
-        one_more : length d.replies.items ≡ suc (length rs)
-        one_more =
-            let a = ap (λ (xs : List Answered). length xs) p.replies in let b = length-append rs (answered ∷ []) in
-            omega (arith, a, b)
-
-        done_entries : answered_entries done ≡ entries_of d
-        done_entries =
-            let a = length-map (notes_of d) entry_of in let b = p.begun in
-            take_whole d.begun (entries_of d) (omega (arith, a, b))
-
-        all_before : answered_entries l ≡ entries_of l.desk
-        all_before =
-            let a = length-map (notes_of l.desk) entry_of in let b = begun_all in
-            take_whole l.desk.begun (entries_of l.desk) (omega (arith, a, b))
-
-        whole : entries_of d ≡ answered_entries l ++ group
-        whole =
-            entries_grew pool l lane.desk d n hand added grew
-            ∙ ap (λ (es : Entries). es ++ group) (sym all_before)
-
-        before_length : length (answered_entries l) ≡ l.desk.begun
-        before_length =
-            let a = ap (λ (es : Entries). length es) all_before in let b = length-map (notes_of l.desk) entry_of in
-            let c = begun_all in omega (arith, a, b, c)
-
-        group_length : p.notes ≡ length group
-        group_length =
-            let a = p.counted in let b = notes_grew pool hand l.desk d added grew in let c = begun_all in
-            let e = length-map added entry_of in omega (arith, a, b, c, e)
-
-        replies_now : replies_in d.replies.items ≡ replies_in rs ++ Reply.Stopped ∷ []
-        replies_now =
-            ap (λ (xs : List Answered). replies_in xs) p.replies
-            ∙ map-append (λ (x : Answered). x.reply) rs (answered ∷ [])
-
-        stop_now : before_stop (replies_in d.replies.items) ≡ stop
-        stop_now = ap (λ (xs : List Reply). before_stop xs) replies_now ∙ stop_more (replies_in rs)
-
-        pieces_now : pieces (note_counts d.replies.items) (answered_entries done) ≡ before ++ group ∷ []
-        pieces_now =
-            (λ i. pieces (note_counts (p.replies i)) (done_entries i))
-            ∙ (λ i. pieces (map-append (λ (x : Answered). x.notes) rs (answered ∷ []) i) (whole i))
-            ∙ pieces_more (note_counts rs) p.notes (answered_entries l) group
-            (lane.answered.counted ∙ sym before_length) group_length
-
-        stop_few : stop ≤ length rs
-        stop_few =
-            let a = stop_within (replies_in rs) in let b = length-map rs (λ (x : Answered). x.reply) in
-            omega (arith, a, b)
-
-        piece_count : length before ≡ length rs
-        piece_count =
-            pieces-length (note_counts rs) (answered_entries l) ∙ length-map rs (λ (x : Answered). x.notes)
-
-        reply_count : length (replies_in rs) ≡ length rs
-        reply_count = length-map rs (λ (x : Answered). x.reply)
-
-        ran : lane_run sweep_period shape number new_lane (take stop l.commands) (take stop (before ++ group ∷ []))
-            ≡ Some (take stop (replies_in rs ++ Reply.Stopped ∷ []), lane.answered.state)
-        ran =
-            let a = stop_few in let b = piece_count in let c = reply_count in
-            (λ i. lane_run sweep_period shape number new_lane (take stop l.commands)
-            (take-append-le stop before (group ∷ []) (omega (arith, a, b)) i))
-            ∙ lane.answered.run
-            ∙ ap (λ (xs : List Reply). Some (xs, lane.answered.state))
-            (sym (take-append-le stop (replies_in rs) (Reply.Stopped ∷ []) (omega (arith, a, c))))
-
-        passed_on : stopped_run number (drop stop (take (length d.replies.items) l.commands))
-            (drop stop (before ++ group ∷ []))
-            ≡ Some (drop stop (replies_in rs ++ Reply.Stopped ∷ []))
-        passed_on =
-            let a = stop_few in let b = piece_count in let c = reply_count in
-            let cs = take (length rs) l.commands in let e = length-take-le (length rs) l.commands lane.few in
-            let commands : drop stop (take (length d.replies.items) l.commands) ≡ drop stop cs ++ command ∷ [] =
-            ap (λ (k : ℕ). drop stop (take k l.commands)) one_more ∙ ap (λ (xs : List Command). drop stop xs) cut.0
-            ∙ drop-append-le stop cs (command ∷ []) (omega (arith, a, e)) in
-            (λ i. stopped_run number (commands i) (drop-append-le stop before (group ∷ []) (omega (arith, a, b)) i))
-            ∙ stopped_run-push number (drop stop cs) (drop stop before) command group (drop stop (replies_in rs))
-            lane.answered.stopped p.reads
-            ∙ ap (λ (xs : List Reply). Some xs)
-            (sym (drop-append-le stop (replies_in rs) (Reply.Stopped ∷ []) (omega (arith, a, c))))
-
-        done_passed : HasPassedOver shape number done
-        done_passed = record {
-          counted =
-              (let a = ap (λ (xs : List Answered). sum (note_counts xs)) p.replies in let b =
-              counts_more rs answered in let c = lane.answered.counted in let e = p.counted in let f = p.begun in
-              omega (arith, a, b, c, e, f));
-          state = lane.answered.state;
-          run =
-              subst (λ (x : ℕ × List Entries × List Reply). lane_run sweep_period shape number new_lane
-              (take x.0 l.commands) (take x.0 x.1) ≡ Some (take x.0 x.2, lane.answered.state))
-              (λ i. (sym stop_now i, sym pieces_now i, sym replies_now i)) ran;
-          stopped =
-              subst (λ (x : ℕ × List Entries × List Reply). stopped_run number
-              (drop x.0 (take (length d.replies.items) l.commands)) (drop x.0 x.1) ≡ Some (drop x.0 x.2))
-              (λ i. (sym stop_now i, sym pieces_now i, sym replies_now i)) passed_on;
-        }
-
-        pub passed_on_lane : SpendsAt l.desk d (left_now l.desk.composes command Ready (view_of l.desk.seat))
-            (with_sheds (view_of d.seat) (notes_alone 0)) → IsStoppedLane pool done
-        passed_on_lane spends =
-            let done_left : commands_left done ≡ later =
-            ap (λ (k : ℕ). drop k l.commands) one_more ∙ cut.1 in
-            stopped_with Ready desk fits (let a = one_more in let b = cut.2 in omega (arith, a, b)) done_passed
-            (λ u. u) (λ closes. absurd closes) (λ ready. p.begun) (rested p.begun)
-            (answered_room pool l lane.desk d n hand added grew command later left lane.room open_still done_left
-            (subst (λ (x : Stage). SpendsAt l.desk d (left_now l.desk.composes command x (view_of l.desk.seat))
-            (with_sheds (view_of d.seat) (notes_alone 0))) (sym is) spends))
+use Rattle.lane_core.proofs.StoppedKept.{stopped_with, still_few, still_passed, passed_on_lane}
+use Rattle.lane_core.proofs.StageCases.{by_kind, passes_none}
 
 -- ---- The closing.
 
@@ -336,18 +51,18 @@ module _ (pool : SharedPool) (l : Lane) (lane : IsStoppedLane pool l) where
       is lane.since
 
   -- it goes on
-  pub stopped_closing : (d : Desk) (n : ℕ) → n ≤ length l.commands → (stage : Draining) (turn : Turn)
-      (t : HasTurnedClosing pool l.desk d stage turn) → commands_left l ≡ [] →
+  pub stopped_closing : (d : Context) (n : ℕ) → n ≤ length l.commands → (stage : Draining) (turn : Turn)
+      (t : HasTurnedClosing pool l.context d stage turn) → commands_left l ≡ [] →
       ReadsOn (closing (number_of l)) (entries_since l) none_asked (draining.rest_of Close (number_of l) stage)
-      → HasRoomFor l.desk (draining.left_of stage (view_of l.desk.seat))
+      → HasRoomFor pool l.context (draining.left_of stage (view_of l.context.seat))
       → IsStoppedLane pool (lane_at l d (Closing t.after) n)
   stopped_closing d n few stage turn t none had room =
       let number = number_of l in let hand : Hand = draining.hand_of Close t.after in
       let x : Stage = Closing t.after in
       let none_now : commands_left (lane_at l d x n) ≡ [] =
-      still_left pool l lane.desk d n hand t.added t.grew t.replies t.begun x ∙ none in
-      let since = still_since pool l lane.desk d n hand t.added t.grew t.replies t.begun x in
-      stopped_with pool l lane d n few hand t.added t.grew x t.grew.desk t.fits
+      still_left pool l lane.context d n hand t.added t.grew t.replies t.begun x ∙ none in
+      let since = still_since pool l lane.context d n hand t.added t.grew t.replies t.begun x in
+      stopped_with pool l lane d n few hand t.added t.grew x t.grew.context t.fits
       (still_few pool l lane d n few hand t.added t.grew t.replies t.begun x)
       (still_passed pool l lane d n few hand t.added t.grew t.replies t.begun x) (λ u. u) (λ closes. none_now)
       (λ ready. absurd ready)
@@ -355,60 +70,49 @@ module _ (pool : SharedPool) (l : Lane) (lane : IsStoppedLane pool l) where
       (sym since)
       (on_append (closing number) (draining.rest_of Close number stage) (draining.rest_of Close number t.after)
       (entries_since l) (map entry_of t.added) had t.reads))
-      (closed_room pool l lane.desk d n hand t.added t.grew stage t.after none_now room t.spends)
+      (closed_room pool l lane.context d n hand t.added t.grew stage t.after none_now room t.spends)
 
 -- ---- A turn that passes a command over.
 
 module _ (pool : SharedPool) (l : Lane) (lane : IsStoppedLane pool l) (is : l.stage ≡ Ready) (command : Command)
     (later : List Command) (left : commands_left l ≡ command ∷ later) where
-  pub pass_room : HasRoomFor l.desk (left_for l.desk.composes command)
+  pub pass_room : HasRoomFor pool l.context (left_for l.context.composes command)
   pass_room =
-      subst (λ (x : Stage). HasRoomFor l.desk (left_at l.desk.composes command x (view_of l.desk.seat))) is
-      (front_room l lane.room command later left)
+      subst (λ (x : Stage). HasRoomFor pool l.context (left_at l.context.composes command x (view_of l.context.seat)))
+      is
+      (front_room pool l lane.room command later left)
 
-  module _ (d : Desk) (n : ℕ) (few : n ≤ length l.commands) where
-    still_fits : d.asked ≡ l.desk.asked → Fits pool d Ready
+  module _ (d : Context) (n : ℕ) (few : n ≤ length l.commands) where
+    still_fits : d.asked ≡ l.context.asked → Fits pool d Ready
     still_fits same =
-        let low : l.desk.asked < sweep_period = subst (λ (x : Stage). Fits pool l.desk x) is lane.fits in
+        let low : l.context.asked < sweep_period = subst (λ (x : Stage). Fits pool l.context x) is lane.fits in
         omega (arith, low, same)
 
-    pub passed_lane : (turn : Turn) → PassesOver pool l.desk d command turn
+    pub passed_lane : (turn : Turn) → PassesOver pool l.context d command turn
         → IsStoppedLane pool (lane_at l d (next_of Ready turn) n)
     passed_lane (Went next) =
-        by_kind (λ x. PassesOver pool l.desk d command (Went x) → IsStoppedLane pool (lane_at l d x n))
-        (λ t. passed_on_lane pool l lane d n few empty_hand t.added t.grew is command later left t.grew.desk
+        by_kind (λ x. PassesOver pool l.context d command (Went x) → IsStoppedLane pool (lane_at l d x n))
+        (λ t. passed_on_lane pool l lane d n few empty_hand t.added t.grew is command later left t.grew.context
         (still_fits t.asked) t.comes t.spends)
-        (λ x t. absurd t.comes) (λ x u t. absurd (passes_none l.desk d t.added command x u t.comes)) next
-    passed_lane (Pending held next) =
-        by_kind (λ x. PassesOver pool l.desk d command (Pending held x) → IsStoppedLane pool (lane_at l d x n))
-        (λ t. waits_on pool l lane d n few empty_hand t.added t.grew is command later left t.grew.desk
-        (still_fits t.asked) t.comes t.spends)
-        (λ x t. absurd t.comes) (λ x u t. absurd (passes_held l.desk d t.added command held x u t.comes)) next
+        (λ x t. absurd t.comes) (λ x u t. absurd (passes_none l.context d t.added command x u t.comes)) next
+    passed_lane (Pending held next) = λ t. absurd t.comes
     passed_lane (Waiting sender) = λ t. absurd t.comes
 
-    pub passed_so : (turn : Turn) → PassesOver pool l.desk d command turn
+    pub passed_so : (turn : Turn) → PassesOver pool l.context d command turn
         → HasStepped pool l (lane_at l d (next_of Ready turn) n) (stepped_of turn)
     passed_so (Went next) =
-        by_kind (λ x. PassesOver pool l.desk d command (Went x) → HasStepped pool l (lane_at l d x n) StepWent)
-        (λ t. replied_more pool l lane.desk d n empty_hand t.added t.grew
+        by_kind (λ x. PassesOver pool l.context d command (Went x) → HasStepped pool l (lane_at l d x n) StepWent)
+        (λ t. replied_more pool l lane.context d n empty_hand t.added t.grew
         (record { reply = Reply.Stopped; notes = t.comes.notes }) t.comes.replies Ready)
-        (λ x t. absurd t.comes) (λ x u t. absurd (passes_none l.desk d t.added command x u t.comes)) next
-    passed_so (Pending held next) =
-        by_kind
-        (λ x. PassesOver pool l.desk d command (Pending held x)
-        → HasStepped pool l (lane_at l d x n) (StepPending held))
-        (λ t. (
-          same_log pool l lane.desk d n empty_hand t.added t.grew t.comes.none t.comes.replies Ready,
-          t.held,
-        ))
-        (λ x t. absurd t.comes) (λ x u t. absurd (passes_held l.desk d t.added command held x u t.comes)) next
+        (λ x t. absurd t.comes) (λ x u t. absurd (passes_none l.context d t.added command x u t.comes)) next
+    passed_so (Pending held next) = λ t. absurd t.comes
     passed_so (Waiting sender) = λ t. absurd t.comes
 
-    pub passed_same : (turn : Turn) → PassesOver pool l.desk d command turn
+    pub passed_same : (turn : Turn) → PassesOver pool l.context d command turn
         → SameLane l (lane_at l d (next_of Ready turn) n)
-    passed_same turn t = same_lane pool l lane.desk d n empty_hand t.added t.grew (next_of Ready turn)
+    passed_same turn t = same_lane pool l lane.context d n empty_hand t.added t.grew (next_of Ready turn)
 
-    module _ (turn : Turn) (t : PassesOver pool l.desk d command turn) (new : Lane)
+    module _ (turn : Turn) (t : PassesOver pool l.context d command turn) (new : Lane)
         (new_is : new ≡ lane_at l d (next_of Ready turn) n) where
       pub passes_lane : IsStoppedLane pool new
       passes_lane = subst (λ (x : Lane). IsStoppedLane pool x) (sym new_is) (passed_lane turn t)
@@ -424,17 +128,17 @@ module _ (pool : SharedPool) (l : Lane) (lane : IsStoppedLane pool l) (is : l.st
 module _ (pool : SharedPool) (l : Lane) (lane : IsStoppedLane pool l) (is : l.stage ≡ Ready)
     (none : commands_left l ≡ [])
   where
-    pub shut_desk : IsDesk pool (draining.hand_of Close (Ask 0)) l.desk
-    shut_desk = subst (λ (x : Stage). IsDesk pool (hand_of x) l.desk) is lane.desk
+    pub shut_context : IsContext pool (draining.hand_of Close (Ask 0)) l.context
+    shut_context = subst (λ (x : Stage). IsContext pool (hand_of x) l.context) is lane.context
 
-    pub shut_room : HasRoomFor l.desk (draining.left_of (Ask 0) (view_of l.desk.seat))
-    shut_room = room_to_begin l lane.room none is
+    pub shut_room : HasRoomFor pool l.context (draining.left_of (Ask 0) (view_of l.context.seat))
+    shut_room = room_to_begin pool l lane.room none is
 
-    module _ (d : Desk) (turn : Turn) (t : HasTurnedClosing pool l.desk d (Ask 0) turn) (new : Lane)
+    module _ (d : Context) (turn : Turn) (t : HasTurnedClosing pool l.context d (Ask 0) turn) (new : Lane)
         (new_is : new ≡ lane_at l d (next_of Ready turn) l.asked) where
       shut_is : new ≡ lane_at l d (Closing t.after) l.asked
       shut_is =
-          new_is ∙ ap (λ (x : Stage). lane_at l d x l.asked) (closing_next pool l lane.desk d l.asked (Ask 0) turn t)
+          new_is ∙ ap (λ (x : Stage). lane_at l d x l.asked) (closing_next pool l lane.context d l.asked (Ask 0) turn t)
 
       pub shuts_lane : IsStoppedLane pool new
       shuts_lane =
@@ -444,12 +148,12 @@ module _ (pool : SharedPool) (l : Lane) (lane : IsStoppedLane pool l) (is : l.st
 
       pub shuts_same : SameLane l new
       shuts_same =
-          subst (λ (x : Lane). SameLane l x) (sym shut_is) (closing_same pool l lane.desk d l.asked (Ask 0) turn t)
+          subst (λ (x : Lane). SameLane l x) (sym shut_is) (closing_same pool l lane.context d l.asked (Ask 0) turn t)
 
       pub shuts_so : (result : Stepped) → result ≡ stepped_of turn → HasStepped pool l new result
       shuts_so result so =
           subst (λ (x : Lane × Stepped). HasStepped pool l x.0 x.1) (λ i. (sym shut_is i, sym so i))
-          (closing_so pool l lane.desk d l.asked (Ask 0) turn t)
+          (closing_so pool l lane.context d l.asked (Ask 0) turn t)
 
       pub shuts_heeds : (stops : ℕ → Bool) → Heeds stops l → Heeds stops new
       shuts_heeds stops h =

@@ -12,32 +12,32 @@ use Rattle.pool_law.specs.Lanes.{Answer}
 use Rattle.pool_law.specs.Names.{Composed, bind}
 use Rattle.pool_law.specs.Readers.{Log}
 use Rattle.pool_table.specs.declared.views.SeatView.{SeatView}
-use Rattle.pool_table.specs.Seats.{view_of}
+use Rattle.shared_pool.specs.SeatViews.{view_of}
 use Rattle.shared_pool.specs.declared.pool.SharedPool.{SharedPool}
 use Rattle.shared_pool.specs.SeatLanes.{lane_of}
 use Rattle.lane_core.specs.declared.allotment.Allotting.TheVariants.{Handle as AskHandle}
-use Rattle.lane_core.specs.declared.desk.Desk.{Desk}
-use Rattle.lane_core.specs.declared.desk.Stage.{Stage}
-use Rattle.lane_core.specs.declared.desk.Stage.TheVariants.{Ready, Allotting, Ending, Sweeping, Closing, Crossing, Parting, Consolidating, Copying, Replacing}
-use Rattle.lane_core.specs.declared.desk.Turn.{Turn}
-use Rattle.lane_core.specs.declared.desk.Turn.TheVariants.{Went, Pending, Waiting}
+use Rattle.lane_core.specs.declared.context.Context.{Context}
+use Rattle.lane_core.specs.declared.context.Stage.{Stage}
+use Rattle.lane_core.specs.declared.context.Stage.TheVariants.{Ready, Allotting, Ending, Sweeping, Closing, Crossing, Parting, Consolidating, Copying, Replacing}
+use Rattle.lane_core.specs.declared.context.Turn.{Turn}
+use Rattle.lane_core.specs.declared.context.Turn.TheVariants.{Went, Pending, Waiting}
 use Rattle.lane_core.specs.declared.releasing.Releasing.{Releasing}
 use Rattle.lane_core.specs.declared.work.Consolidation.{Consolidation}
 use Rattle.lane_core.specs.declared.work.Work.{Work}
 use Rattle.lane_core.specs.declared.work.Work.TheVariants.{End, Bind, Consolidate}
 use Rattle.lane_core.specs.Budgets.{notes_alone, with_sheds}
 use Rattle.lane_core.specs.Readings.{swept}
-use Rattle.lane_core.specs.Desks.{HasRoomFor, IsUnderway, left_for, left_now, reads_from}
-use Rattle.lane_core.specs.DeskSteps.{Concludes, MayGoOn, MayTurn, StageTurns, bound_to}
+use Rattle.lane_core.specs.Contexts.{HasRoomFor, IsUnderway, left_for, left_now, reads_from}
+use Rattle.lane_core.specs.ContextSteps.{Concludes, MayGoOn, MayTurn, StageTurns, bound_to}
 use Rattle.lane_core.specs.Works.{IsReady, IsWithin, WorkTurns, left_of, reads}
 use Rattle.lane_core.proofs.BeginTurns.{begun_turn, within_sheds}
 use Rattle.lane_core.proofs.NameLaws.{NamesAre-bind, rebound_composite}
 use Rattle.lane_core.proofs.Turning.{noteless}
 
 -- who has room for so many notes has room for fewer
-room_for_fewer : (d : Desk) (fewer notes : ℕ) → fewer ≤ notes → HasRoomFor d (notes_alone notes)
-    → HasRoomFor d (notes_alone fewer)
-room_for_fewer d fewer notes le room = record {
+room_for_fewer : (pool : SharedPool) (d : Context) (fewer notes : ℕ) → fewer ≤ notes
+    → HasRoomFor pool d (notes_alone notes) → HasRoomFor pool d (notes_alone fewer)
+room_for_fewer pool d fewer notes le room = record {
   notes = (let a = room.notes in omega (arith, a, le));
   few = (let a = room.few in omega (arith, a, le));
   turns = (let a = room.turns in omega (arith, a, le));
@@ -45,10 +45,10 @@ room_for_fewer d fewer notes le room = record {
   mails = room.mails;
 }
 
-module _ (pool : SharedPool) (old : Desk) (work : Work) (may : MayTurn pool (left_of work) old) where
+module _ (pool : SharedPool) (old : Context) (work : Work) (may : MayTurn pool (left_of work) old) where
   -- ---- A stage that is begun.
 
-  module _ (new : Desk) (at : Stage) (under : IsUnderway at)
+  module _ (new : Context) (at : Stage) (under : IsUnderway at)
       (same : (lane : ℕ) (s : LaneState) (command : Command) (log : Log) →
       option_and_then (λ got. swept lane got.0 got.1) (reads old.shape lane s work log)
       ≡ reads_from old.shape lane s command at log)
@@ -73,7 +73,7 @@ module _ (pool : SharedPool) (old : Desk) (work : Work) (may : MayTurn pool (lef
 
 -- ---- A composite ends.
 
-module _ (pool : SharedPool) (old : Desk) (name : ℕ) (parts : Vec Part)
+module _ (pool : SharedPool) (old : Context) (name : ℕ) (parts : Vec Part)
     (may : MayTurn pool (left_of (End name parts)) old) (ready : IsReady old (End name parts))
     (stage : Releasing) (none : stage.ending ≡ None) (left : stage.left ≡ parts) where
   abbrev all_left : Releasing
@@ -84,18 +84,18 @@ module _ (pool : SharedPool) (old : Desk) (name : ℕ) (parts : Vec Part)
 
   may_end_all : MayGoOn pool (Parting name all_left) old
   may_end_all = record {
-    desk = may.desk;
+    context = may.context;
     fits = (tt, may.asked);
     name = (ready.0, ready.1, ready.2);
     room = λ command.
-        room_for_fewer old (0 + 6 * length parts.items) (6 * length parts.items) (omega arith) may.room;
+        room_for_fewer pool old (0 + 6 * length parts.items) (6 * length parts.items) (omega arith) may.room;
     replies = may.replies;
   }
 
   pub may_part : MayGoOn pool (Parting name stage) old
   may_part = subst (λ (x : Releasing). MayGoOn pool (Parting name x) old) stage_is may_end_all
 
-  pub end_begun : (new : Desk) (turn : Turn) → StageTurns pool old new (Parting name stage) turn
+  pub end_begun : (new : Context) (turn : Turn) → StageTurns pool old new (Parting name stage) turn
       → WorkTurns pool old new (End name parts) turn
   end_begun new turn turns =
       stage_begun pool old (End name parts) may new (Parting name all_left) tt (λ lane s command log. refl)
@@ -109,18 +109,18 @@ module _ (pool : SharedPool) (old : Desk) (name : ℕ) (parts : Vec Part)
 
 -- ---- A composite is consolidated.
 
-module _ (pool : SharedPool) (old : Desk) (p : Consolidation)
+module _ (pool : SharedPool) (old : Context) (p : Consolidation)
     (may : MayTurn pool (left_of (Consolidate p)) old) (ready : IsReady old (Consolidate p)) where
   pub may_consolidate : MayGoOn pool (Consolidating p AskHandle) old
   may_consolidate = record {
-    desk = may.desk;
+    context = may.context;
     fits = (ready.1, tt, (let a = may.asked in omega (arith, a)));
     name = ready.0;
     room = λ command. may.room;
     replies = may.replies;
   }
 
-  pub consolidation_begun : (new : Desk) (turn : Turn) → StageTurns pool old new (Consolidating p AskHandle) turn
+  pub consolidation_begun : (new : Context) (turn : Turn) → StageTurns pool old new (Consolidating p AskHandle) turn
       → WorkTurns pool old new (Consolidate p) turn
   consolidation_begun new turn turns =
       stage_begun pool old (Consolidate p) may new (Consolidating p AskHandle) tt (λ lane s command log. refl)
@@ -134,7 +134,7 @@ module _ (pool : SharedPool) (old : Desk) (p : Consolidation)
 
 -- ---- A name is bound.
 
-module _ (pool : SharedPool) (old new : Desk) (name : ℕ) (whole : Box Composite)
+module _ (pool : SharedPool) (old new : Context) (name : ℕ) (whole : Box Composite)
     (may : MayTurn pool (left_of (Bind name whole)) old) (ready : IsReady old (Bind name whole)) where
   abbrev c : Composite
   c = whole.value
@@ -147,7 +147,7 @@ module _ (pool : SharedPool) (old new : Desk) (name : ℕ) (whole : Box Composit
 
   pub bind_concludes : (turn : Turn) → Concluded turn → WorkTurns pool old new (Bind name whole) turn
   bind_concludes (Went Ready) did = λ s command state planned.
-      noteless pool old new may.desk may.asked (slice_set old.names name (Some (Composed c)))
+      noteless pool old new may.context may.asked (slice_set old.names name (Some (Composed c)))
       (Reply.OkNumber (size_of c.parts)) refl did.0
       (rebound_composite 1 old.names old.names refl name ready.0.name_is c ready.0.composes
       (let a = ready.0.few in omega (arith, a)) (record { marked = ready.0.marked; parts = ready.1 })) s command

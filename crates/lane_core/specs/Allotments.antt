@@ -1,10 +1,8 @@
 -- An allocation, step by step: what is in hand at each stage, and how the law reads the rest of it.
 use Rattle.std.specs.Prelude.{◌≡◌, ℕ, ◌+◌, ◌*◌, ◌<◌, ◌≤◌, ⊤, false, List, [], length, map, Some, None, Result, Ok, Err}
 use Rattle.std.specs.Global.{Vec}
-use Rattle.step_law.specs.declared.Told.{Ghosts}
 use Rattle.pool_law.specs.declared.id.RootId.{RootId}
 use Rattle.pool_law.specs.declared.note.Note.{Note}
-use Rattle.pool_law.specs.declared.note.Noted.{Noted}
 use Rattle.pool_law.specs.declared.run.Shape.{Shape}
 use Rattle.pool_law.specs.declared.run.Reply.{Reply}
 use Rattle.pool_law.specs.Limits.{cached_classes}
@@ -12,9 +10,8 @@ use Rattle.pool_law.specs.Readers.{Reader, ◌>>=◌, give}
 use Rattle.pool_law.specs.Patterns.{New, allot, obtain, ask_arena, bear}
 use Rattle.leak_records.specs.Records.{Sampling}
 use Rattle.handle_bin.specs.Bins.{HandleValue}
-use Rattle.pool_table.specs.declared.table.PoolSeat.{PoolSeat}
-use Rattle.pool_table.specs.Seats.{view_of}
-use Rattle.shared_pool.specs.declared.home.Home.{Home as HomeValue}
+use Rattle.shared_pool.specs.declared.seat.PoolSeat.{PoolSeat}
+use Rattle.shared_pool.specs.SeatViews.{view_of}
 use Rattle.shared_pool.specs.declared.pool.SharedPool.{SharedPool}
 use Rattle.shared_pool.specs.SeatLanes.{lane_of}
 use Rattle.shared_pool.specs.Seats.{IsPoolSeat, FoundBusy}
@@ -98,59 +95,58 @@ BornWithin pool size (Born root region) =
     × (root.capacity ≡ size)
 BornWithin pool size _ = ⊤
 
-module _ {G : Ghosts HomeValue Noted} where
-  -- where another seat was there the same is to be tried again, and nothing was noted; else
-  -- something was
-  abbrev pub IsTriedAgain :
-      SharedPool → PoolSeat HomeValue G → PoolSeat HomeValue G → Allotting → Allots → List Note →
-      Type 0
-  IsTriedAgain pool old new stage (Held held again) notes =
-      (again ≡ stage) × (notes ≡ []) × FoundBusy pool held.object false old new held
-  IsTriedAgain pool old new stage _ notes = 0 < length notes
+-- where another seat was there the same is to be tried again, and nothing was noted; else
+-- something was
+abbrev pub IsTriedAgain :
+    SharedPool → PoolSeat → PoolSeat → Allotting → Allots → List Note →
+    Type 0
+IsTriedAgain pool old new stage (Held held again) notes =
+    (again ≡ stage) × (notes ≡ []) × FoundBusy pool held.object false old new held
+IsTriedAgain pool old new stage _ notes = 0 < length notes
 
-  -- a handle of the pool, of the bin of the seat's lane
-  abbrev pub IsOwnHandle : SharedPool → PoolSeat HomeValue G → HandleValue → Type 0
-  IsOwnHandle pool seat handle = IsHandle pool handle × (handle.lane ≡ lane_of seat)
+-- a handle of the pool, of the bin of the seat's lane
+abbrev pub IsOwnHandle : SharedPool → PoolSeat → HandleValue → Type 0
+IsOwnHandle pool seat handle = IsHandle pool handle × (handle.lane ≡ lane_of seat)
 
-  -- what is in hand is the pool's, and the region is of the class
-  abbrev pub Fits : SharedPool → PoolSeat HomeValue G → ℕ → Allotting → Type 0
-  Fits pool seat class Handle = ⊤
-  Fits pool seat class (Cache handle) = IsOwnHandle pool seat handle × (class < cached_classes)
-  Fits pool seat class (Arena handle) = IsOwnHandle pool seat handle
-  Fits pool seat class (Birth handle region) =
-      IsHandle pool handle × IsRegion pool seat region × (region.id.class ≡ class)
-  Fits pool seat class (Home handle) = IsOwnHandle pool seat handle
+-- what is in hand is the pool's, and the region is of the class
+abbrev pub Fits : SharedPool → PoolSeat → ℕ → Allotting → Type 0
+Fits pool seat class Handle = ⊤
+Fits pool seat class (Cache handle) = IsOwnHandle pool seat handle × (class < cached_classes)
+Fits pool seat class (Arena handle) = IsOwnHandle pool seat handle
+Fits pool seat class (Birth handle region) =
+    IsHandle pool handle × IsRegion pool seat region × (region.id.class ≡ class)
+Fits pool seat class (Home handle) = IsOwnHandle pool seat handle
 
-  abbrev pub FitsAfter : SharedPool → PoolSeat HomeValue G → ℕ → Allots → Type 0
-  FitsAfter pool seat class (More stage) = Fits pool seat class stage
-  FitsAfter pool seat class (Held held stage) = Fits pool seat class stage
-  FitsAfter pool seat class _ = ⊤
+abbrev pub FitsAfter : SharedPool → PoolSeat → ℕ → Allots → Type 0
+FitsAfter pool seat class (More stage) = Fits pool seat class stage
+FitsAfter pool seat class (Held held stage) = Fits pool seat class stage
+FitsAfter pool seat class _ = ⊤
 
-  -- a seat of the pool with a turn left, and just what the stage has in hand
-  pub record MayAllot
-      (pool : SharedPool) (seat : PoolSeat HomeValue G) (class : ℕ) (stage : Allotting) : Type 0
-    where
-      pub seat_is : IsPoolSeat pool seat
-      pub turn : 0 < (view_of seat).turns
-      pub hand : IsHeld (hand_of stage) (view_of seat)
-      pub fits : Fits pool seat class stage
+-- a seat of the pool with a turn left, and just what the stage has in hand
+pub record MayAllot
+    (pool : SharedPool) (seat : PoolSeat) (class : ℕ) (stage : Allotting) : Type 0
+  where
+    pub seat_is : IsPoolSeat pool seat
+    pub turn : 0 < (view_of seat).turns
+    pub hand : IsHeld (hand_of stage) (view_of seat)
+    pub fits : Fits pool seat class stage
 
-  -- what a step of an allocation came to, and the notes that it wrote into the log
-  pub record HasAllotted (pool : SharedPool) (old new : PoolSeat HomeValue G)
-      (first last : Sampling) (before after : Vec Note) (size class : ℕ) (stage : Allotting)
-      (result : Allots) : Type 0
-    where
-      pub written : List Note
-      pub log : HasWritten before after written
-      pub wrote :
-          let shape = pool.table.layout.shape in
-          Wrote pool old new written first last
-          (rest_of shape (lane_of old) size class stage) (asks_of stage)
-          (rest_after shape (lane_of old) size class result)
-      pub counts : AddCounts (born_in result) (map entry_of wrote.added)
-      pub place : BornWithin pool size result
-      pub hand : IsHeld (hand_after result) (view_of new)
-      pub fits : FitsAfter pool new class result
-      pub again : IsTriedAgain pool old new stage result written
-      pub spends : Spends (view_of old) (view_of new) (left_of stage) (left_after result)
-      pub asked : (n : ℕ) → (left_after result).asks + asks_of stage n ≤ (left_of stage).asks + n
+-- what a step of an allocation came to, and the notes that it wrote into the log
+pub record HasAllotted (pool : SharedPool) (old new : PoolSeat)
+    (first last : Sampling) (before after : Vec Note) (size class : ℕ) (stage : Allotting)
+    (result : Allots) : Type 0
+  where
+    pub written : List Note
+    pub log : HasWritten before after written
+    pub wrote :
+        let shape = pool.table.layout.shape in
+        Wrote pool old new written first last
+        (rest_of shape (lane_of old) size class stage) (asks_of stage)
+        (rest_after shape (lane_of old) size class result)
+    pub counts : AddCounts (born_in result) (map entry_of wrote.added)
+    pub place : BornWithin pool size result
+    pub hand : IsHeld (hand_after result) (view_of new)
+    pub fits : FitsAfter pool new class result
+    pub again : IsTriedAgain pool old new stage result written
+    pub spends : Spends (view_of old) (view_of new) (left_of stage) (left_after result)
+    pub asked : (n : ℕ) → (left_after result).asks + asks_of stage n ≤ (left_of stage).asks + n

@@ -8,7 +8,7 @@ use Rattle.pool_table.specs.declared.views.Entry.{Entry}
 use Rattle.pool_table.specs.declared.views.SeatView.{SeatView}
 use Rattle.pool_table.specs.Views.{noted_weight}
 use Rattle.pool_table.specs.Learned.{in_own, takes_of, gives_of}
-use Rattle.shared_pool.specs.Quotas.{posts}
+use Rattle.pool_table.specs.Letters.{sent_on}
 use Rattle.seat_work.specs.Hands.{lane_in}
 
 -- no lane notes more
@@ -58,5 +58,5 @@ pub record Spends (old new : SeatView) (before after : Left) : Type 0 where
   pub takes : after.takes + all_out new ≤ before.takes + all_out old
   pub moves : after.moves + old.moves ≤ before.moves + new.moves
   pub sends : (to : ℕ) →
-      after.sends to + posts (lane_in new) to new.own.notes
-      ≤ before.sends to + posts (lane_in old) to old.own.notes
+      after.sends to + sent_on (lane_in new) to new.own.notes
+      ≤ before.sends to + sent_on (lane_in old) to old.own.notes

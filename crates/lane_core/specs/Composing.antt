@@ -16,9 +16,9 @@ use Rattle.lane_core.specs.declared.crossing.Crossing.{Crossing}
 use Rattle.lane_core.specs.declared.crossing.Crossing.TheVariants.{Set, Get}
 use Rattle.lane_core.specs.declared.crossing.Stretch.{Stretch}
 use Rattle.lane_core.specs.declared.copying.Copying.TheVariants.{Get as CopyGet}
-use Rattle.lane_core.specs.declared.desk.Desk.{Desk}
-use Rattle.lane_core.specs.declared.desk.Stage.{Stage}
-use Rattle.lane_core.specs.declared.desk.Stage.TheVariants.{Copying, Replacing}
+use Rattle.lane_core.specs.declared.context.Context.{Context}
+use Rattle.lane_core.specs.declared.context.Stage.{Stage}
+use Rattle.lane_core.specs.declared.context.Stage.TheVariants.{Copying, Replacing}
 use Rattle.lane_core.specs.declared.work.Consolidation.{Consolidation}
 use Rattle.lane_core.specs.Counting.{counted}
 use Rattle.lane_core.specs.Crossings.{HasRoom, stretches}
@@ -76,15 +76,15 @@ MarksFit names name (Some marks) =
 abbrev pub HasLast : List (Option Bound) → ℕ → Type 0
 HasLast names name = (c : Composite) × (bound_at names name ≡ Some (Composed c)) × (c.count ≡ 1)
 
--- a composite that may be bound to a name of the desk once it has few enough parts
-pub record IsCandidate (d : Desk) (name : ℕ) (c : Composite) : Type 0 where
+-- a composite that may be bound to a name of the context once it has few enough parts
+pub record IsCandidate (d : Context) (name : ℕ) (c : Composite) : Type 0 where
   pub name_is : name < length d.names
   pub composes : d.composes ≡ true
   pub few : c.count ≤ 1 + length d.replies.items
   pub marked : IsMarked c
 
 -- and has them
-abbrev pub IsBindable : Desk → ℕ → Composite → Type 0
+abbrev pub IsBindable : Context → ℕ → Composite → Type 0
 IsBindable d name c = IsCandidate d name c × (length c.parts ≤ most_parts)
 
 -- a part of a root that is counted, with memory for just its bytes

@@ -10,7 +10,7 @@ use Rattle.pool_law.specs.Refusals.{Refusal, is_too_long, refusal}
 use Rattle.lane_core.specs.declared.access.Refusal.TheVariants.{TooLarge}
 use Rattle.lane_core.specs.declared.copying.Transfer.{Transfer}
 use Rattle.lane_core.specs.declared.counts.Counted.{Counted}
-use Rattle.lane_core.specs.declared.desk.Desk.{Desk}
+use Rattle.lane_core.specs.declared.context.Context.{Context}
 use Rattle.lane_core.specs.declared.work.Work.{Work}
 use Rattle.lane_core.specs.declared.work.Work.TheVariants.{Refused, Empty, Cross, End, Bind, Consolidate}
 use Rattle.lane_core.specs.Composing.{IsConsolidation}
@@ -103,8 +103,8 @@ pub record AreJoinable (cs : List Counted) (parts : List Part) : Type 0 where
   pub placed : All IsPlaced parts
   pub counts : All (λ p. 0 < counted cs p.root) parts
 
--- a composite to which a name of the desk may be bound, once it is not too long
-pub record MayMake (d : Desk) (name : ℕ) (c : Composite) : Type 0 where
+-- a composite to which a name of the context may be bound, once it is not too long
+pub record MayMake (d : Context) (name : ℕ) (c : Composite) : Type 0 where
   pub name_is : name < length d.names
   pub composes : d.composes ≡ true
   pub few : c.count ≤ 1 + length d.replies.items
@@ -112,7 +112,7 @@ pub record MayMake (d : Desk) (name : ℕ) (c : Composite) : Type 0 where
   pub reader : c.reader ≤ size_of c.parts
 
 -- the work that binds a name to a composite, unless it is too long
-abbrev pub IsMade : Desk → ℕ → Composite → Work → Type 0
+abbrev pub IsMade : Context → ℕ → Composite → Work → Type 0
 IsMade d name c (Refused refusal) =
     (refusal ≡ TooLarge) × (is_too_long d.shape (Some c) ≡ true)
 IsMade d name c (Empty other marks reply) = ⊥

@@ -2,21 +2,18 @@
 -- rest.
 use Rattle.std.specs.Prelude.{◌≡◌, ◌+◌, ◌*◌, ◌<◌, ◌≤◌, ⊤, false, List, [], ◌∷◌, length, map, All}
 use Rattle.std.specs.Global.{Vec}
-use Rattle.step_law.specs.declared.Told.{Ghosts}
 use Rattle.pool_law.specs.declared.id.Part.{Part}
 use Rattle.pool_law.specs.declared.note.Note.{Note}
-use Rattle.pool_law.specs.declared.note.Noted.{Noted}
 use Rattle.pool_law.specs.Composites.{size_of}
 use Rattle.pool_law.specs.Dids as says
 use Rattle.pool_law.specs.Lanes.{copy_parts}
 use Rattle.pool_law.specs.Readers.{Reader, ◌>>◌, nothing, access}
 use Rattle.leak_records.specs.Records.{Sampling}
 use Rattle.pool_table.specs.Counts.{HasCount}
-use Rattle.pool_table.specs.declared.table.PoolSeat.{PoolSeat}
+use Rattle.shared_pool.specs.declared.seat.PoolSeat.{PoolSeat}
 use Rattle.pool_table.specs.declared.views.SeatView.{SeatView}
-use Rattle.pool_table.specs.Seats.{view_of}
+use Rattle.shared_pool.specs.SeatViews.{view_of}
 use Rattle.shared_pool.specs.Closing.{entry_of}
-use Rattle.shared_pool.specs.declared.home.Home.{Home}
 use Rattle.shared_pool.specs.declared.pool.SharedPool.{SharedPool}
 use Rattle.shared_pool.specs.Seats.{IsPoolSeat, FoundBusy}
 use Rattle.lane_core.specs.declared.counts.Counted.{Counted}
@@ -81,35 +78,34 @@ FitsAfter v (More stage) = Fits v stage
 FitsAfter v (Held held stage) = Fits v stage
 FitsAfter v Done = ⊤
 
-module _ {G : Ghosts Home Noted} where
-  -- where another seat was there the same is to be tried again, and nothing was noted; else
-  -- something was
-  abbrev pub IsTriedAgain :
-      SharedPool → PoolSeat Home G → PoolSeat Home G → Copying → Copies → List Note → Type 0
-  IsTriedAgain pool old new stage (Held held again) notes =
-      (again ≡ stage) × (notes ≡ []) × FoundBusy pool held.object false old new held
-  IsTriedAgain pool old new stage _ notes = 0 < length notes
+-- where another seat was there the same is to be tried again, and nothing was noted; else
+-- something was
+abbrev pub IsTriedAgain :
+    SharedPool → PoolSeat → PoolSeat → Copying → Copies → List Note → Type 0
+IsTriedAgain pool old new stage (Held held again) notes =
+    (again ≡ stage) × (notes ≡ []) × FoundBusy pool held.object false old new held
+IsTriedAgain pool old new stage _ notes = 0 < length notes
 
-  -- a seat of the pool with a turn left and nothing in hand, and parts that it may copy
-  pub record MayCopy (pool : SharedPool) (seat : PoolSeat Home G) (stage : Copying) : Type 0
-    where
-      pub seat_is : IsPoolSeat pool seat
-      pub turn : 0 < (view_of seat).turns
-      pub hand : IsHeld empty_hand (view_of seat)
-      pub fits : Fits (view_of seat) stage
+-- a seat of the pool with a turn left and nothing in hand, and parts that it may copy
+pub record MayCopy (pool : SharedPool) (seat : PoolSeat) (stage : Copying) : Type 0
+  where
+    pub seat_is : IsPoolSeat pool seat
+    pub turn : 0 < (view_of seat).turns
+    pub hand : IsHeld empty_hand (view_of seat)
+    pub fits : Fits (view_of seat) stage
 
-  -- what a step of copying came to, and the note that it wrote into the log
-  pub record HasCopied (pool : SharedPool) (old new : PoolSeat Home G)
-      (before after : Vec Note) (stage : Copying) (result : Copies) : Type 0
-    where
-      pub written : List Note
-      pub log : HasWritten before after written
-      pub wrote : (sampler : Sampling) →
-          Wrote pool old new written sampler sampler
-          (rest_of stage) none_asked (rest_after result)
-      pub counts : (cs : List Counted) → CountsAre cs (map entry_of (view_of old).own.notes) →
-          CountsAre cs (map entry_of (view_of new).own.notes)
-      pub hand : IsHeld empty_hand (view_of new)
-      pub fits : FitsAfter (view_of new) result
-      pub again : IsTriedAgain pool old new stage result written
-      pub spends : Spends (view_of old) (view_of new) (left_of stage) (left_after result)
+-- what a step of copying came to, and the note that it wrote into the log
+pub record HasCopied (pool : SharedPool) (old new : PoolSeat)
+    (before after : Vec Note) (stage : Copying) (result : Copies) : Type 0
+  where
+    pub written : List Note
+    pub log : HasWritten before after written
+    pub wrote : (sampler : Sampling) →
+        Wrote pool old new written sampler sampler
+        (rest_of stage) none_asked (rest_after result)
+    pub counts : (cs : List Counted) → CountsAre cs (map entry_of (view_of old).own.notes) →
+        CountsAre cs (map entry_of (view_of new).own.notes)
+    pub hand : IsHeld empty_hand (view_of new)
+    pub fits : FitsAfter (view_of new) result
+    pub again : IsTriedAgain pool old new stage result written
+    pub spends : Spends (view_of old) (view_of new) (left_of stage) (left_after result)

@@ -2,20 +2,17 @@
 -- the rest.
 use Rattle.std.specs.Prelude.{◌≡◌, ℕ, zero, suc, ◌+◌, ◌-◌, ◌*◌, ◌<◌, ◌≤◌, ⊤, false, List, [], ◌∷◌, length, map, Option, Some}
 use Rattle.std.specs.Global.{Vec}
-use Rattle.step_law.specs.declared.Told.{Ghosts}
 use Rattle.pool_law.specs.declared.id.Region.{Region}
 use Rattle.pool_law.specs.declared.note.Did.{Did}
 use Rattle.pool_law.specs.declared.note.Note.{Note}
-use Rattle.pool_law.specs.declared.note.Noted.{Noted}
 use Rattle.pool_law.specs.Dids as says
 use Rattle.pool_law.specs.Limits.{cached_classes}
 use Rattle.pool_law.specs.Patterns.{give_back, sheds, drain}
 use Rattle.pool_law.specs.Readers.{Reader, ◌>>◌, nothing}
 use Rattle.leak_records.specs.Records.{Sampling}
-use Rattle.pool_table.specs.declared.table.PoolSeat.{PoolSeat}
+use Rattle.shared_pool.specs.declared.seat.PoolSeat.{PoolSeat}
 use Rattle.pool_table.specs.declared.views.SeatView.{SeatView}
-use Rattle.pool_table.specs.Seats.{view_of}
-use Rattle.shared_pool.specs.declared.home.Home.{Home as HomeValue}
+use Rattle.shared_pool.specs.SeatViews.{view_of}
 use Rattle.shared_pool.specs.declared.pool.SharedPool.{SharedPool}
 use Rattle.shared_pool.specs.SeatLanes.{lane_of}
 use Rattle.shared_pool.specs.Seats.{IsPoolSeat, FoundBusy}
@@ -121,58 +118,57 @@ abbrev pub IsReadNext : DrainKind → ℕ → ℕ → Draining → Type 0
 IsReadNext kind class left next =
     (lane : ℕ) → sheds_then kind lane class left (classes_from (class + 1)) ≡ rest_of kind lane next
 
-module _ {G : Ghosts HomeValue Noted} where
-  -- where another seat was there the same is to be tried again, and nothing was noted; else
-  -- something was
-  abbrev pub IsTriedAgain :
-      SharedPool → PoolSeat HomeValue G → PoolSeat HomeValue G → Draining → Drains → List Note →
-      Type 0
-  IsTriedAgain pool old new stage (Held held again) notes =
-      (again ≡ stage) × (notes ≡ []) × FoundBusy pool held.object false old new held
-  IsTriedAgain pool old new stage _ notes = 0 < length notes
+-- where another seat was there the same is to be tried again, and nothing was noted; else
+-- something was
+abbrev pub IsTriedAgain :
+    SharedPool → PoolSeat → PoolSeat → Draining → Drains → List Note →
+    Type 0
+IsTriedAgain pool old new stage (Held held again) notes =
+    (again ≡ stage) × (notes ≡ []) × FoundBusy pool held.object false old new held
+IsTriedAgain pool old new stage _ notes = 0 < length notes
 
-  -- a region of the class that the seat's lane took from its arena
-  abbrev pub IsShed : SharedPool → PoolSeat HomeValue G → ℕ → Region → Type 0
-  IsShed pool seat class r =
-      IsRegion pool seat r × (r.id.owner ≡ lane_of seat) × (r.id.class ≡ class)
+-- a region of the class that the seat's lane took from its arena
+abbrev pub IsShed : SharedPool → PoolSeat → ℕ → Region → Type 0
+IsShed pool seat class r =
+    IsRegion pool seat r × (r.id.owner ≡ lane_of seat) × (r.id.class ≡ class)
 
-  -- no more regions are to be shed than the seat took of the class and didn't give
-  abbrev pub Fits : SharedPool → PoolSeat HomeValue G → Draining → Type 0
-  Fits pool seat (Ask class) = class < cached_classes
-  Fits pool seat (Shed class left) =
-      (class < cached_classes) × (0 < left) × (left ≤ out_of class (view_of seat))
-  Fits pool seat (Give class left region) =
-      (class < cached_classes) × IsShed pool seat class region
-      × (left < out_of class (view_of seat))
-  Fits pool seat Done = ⊤
+-- no more regions are to be shed than the seat took of the class and didn't give
+abbrev pub Fits : SharedPool → PoolSeat → Draining → Type 0
+Fits pool seat (Ask class) = class < cached_classes
+Fits pool seat (Shed class left) =
+    (class < cached_classes) × (0 < left) × (left ≤ out_of class (view_of seat))
+Fits pool seat (Give class left region) =
+    (class < cached_classes) × IsShed pool seat class region
+    × (left < out_of class (view_of seat))
+Fits pool seat Done = ⊤
 
-  abbrev pub FitsAfter : SharedPool → PoolSeat HomeValue G → Drains → Type 0
-  FitsAfter pool seat (More stage) = Fits pool seat stage
-  FitsAfter pool seat (Held held stage) = Fits pool seat stage
+abbrev pub FitsAfter : SharedPool → PoolSeat → Drains → Type 0
+FitsAfter pool seat (More stage) = Fits pool seat stage
+FitsAfter pool seat (Held held stage) = Fits pool seat stage
 
-  -- a seat of the pool with a turn left, and just what the stage has in hand
-  pub record MayDrain
-      (pool : SharedPool) (seat : PoolSeat HomeValue G) (kind : DrainKind) (stage : Draining) : Type 0
-    where
-      pub seat_is : IsPoolSeat pool seat
-      pub turn : 0 < (view_of seat).turns
-      pub hand : IsHeld (hand_of kind stage) (view_of seat)
-      pub fits : Fits pool seat stage
+-- a seat of the pool with a turn left, and just what the stage has in hand
+pub record MayDrain
+    (pool : SharedPool) (seat : PoolSeat) (kind : DrainKind) (stage : Draining) : Type 0
+  where
+    pub seat_is : IsPoolSeat pool seat
+    pub turn : 0 < (view_of seat).turns
+    pub hand : IsHeld (hand_of kind stage) (view_of seat)
+    pub fits : Fits pool seat stage
 
-  -- what a step of the draining came to, and the notes that it wrote into the log
-  pub record HasDrained (pool : SharedPool) (old new : PoolSeat HomeValue G)
-      (before after : Vec Note) (kind : DrainKind) (stage : Draining) (result : Drains) : Type 0
-    where
-      pub written : List Note
-      pub log : HasWritten before after written
-      pub wrote : (sampler : Sampling) →
-          Wrote pool old new written sampler sampler
-          (rest_of kind (lane_of old) stage) none_asked (rest_after kind (lane_of old) result)
-      pub counts : (sampler : Sampling) →
-          AddCounts (λ root. 0) (map entry_of (wrote sampler).added)
-      pub hand : IsHeld (hand_after kind result) (view_of new)
-      pub fits : FitsAfter pool new result
-      pub again : IsTriedAgain pool old new stage result written
-      pub spends :
-          Spends (view_of old) (view_of new)
-          (left_of stage (view_of old)) (left_after result (view_of new))
+-- what a step of the draining came to, and the notes that it wrote into the log
+pub record HasDrained (pool : SharedPool) (old new : PoolSeat)
+    (before after : Vec Note) (kind : DrainKind) (stage : Draining) (result : Drains) : Type 0
+  where
+    pub written : List Note
+    pub log : HasWritten before after written
+    pub wrote : (sampler : Sampling) →
+        Wrote pool old new written sampler sampler
+        (rest_of kind (lane_of old) stage) none_asked (rest_after kind (lane_of old) result)
+    pub counts : (sampler : Sampling) →
+        AddCounts (λ root. 0) (map entry_of (wrote sampler).added)
+    pub hand : IsHeld (hand_after kind result) (view_of new)
+    pub fits : FitsAfter pool new result
+    pub again : IsTriedAgain pool old new stage result written
+    pub spends :
+        Spends (view_of old) (view_of new)
+        (left_of stage (view_of old)) (left_after result (view_of new))

@@ -1,9 +1,7 @@
 -- The end of a root, step by step: what is in hand at each stage, and how the law reads the rest.
 use Rattle.std.specs.Prelude.{◌≡◌, ℕ, ◌/◌, ◌<◌, ⊤, false, List, [], length, map, Some}
 use Rattle.std.specs.Global.{Vec}
-use Rattle.step_law.specs.declared.Told.{Ghosts}
 use Rattle.pool_law.specs.declared.note.Note.{Note}
-use Rattle.pool_law.specs.declared.note.Noted.{Noted}
 use Rattle.pool_law.specs.declared.note.Object.TheVariants.{Bin}
 use Rattle.pool_law.specs.declared.run.Shape.{Shape}
 use Rattle.pool_law.specs.Limits.{cached_classes}
@@ -12,9 +10,8 @@ use Rattle.pool_law.specs.Dids as says
 use Rattle.pool_law.specs.Readers.{Reader, ◌>>=◌, ◌>>◌, nothing, note, step, ending}
 use Rattle.pool_law.specs.Patterns.{put_away, give_back}
 use Rattle.leak_records.specs.Records.{Sampling}
-use Rattle.pool_table.specs.declared.table.PoolSeat.{PoolSeat}
-use Rattle.pool_table.specs.Seats.{view_of}
-use Rattle.shared_pool.specs.declared.home.Home.{Home as HomeValue}
+use Rattle.shared_pool.specs.declared.seat.PoolSeat.{PoolSeat}
+use Rattle.shared_pool.specs.SeatViews.{view_of}
 use Rattle.shared_pool.specs.declared.pool.SharedPool.{SharedPool}
 use Rattle.shared_pool.specs.RootNotes.{HoldsToken}
 use Rattle.shared_pool.specs.Seats.{IsPoolSeat, FoundBusy}
@@ -80,49 +77,48 @@ rest_after shape (More stage) = rest_of shape stage
 rest_after shape (Held held stage) = rest_of shape stage
 rest_after shape Done = nothing
 
-module _ {G : Ghosts HomeValue Noted} where
-  -- where another seat was there the same is to be tried again, and nothing was noted; else
-  -- something was
-  abbrev pub IsTriedAgain :
-      SharedPool → PoolSeat HomeValue G → PoolSeat HomeValue G → Ending → Ends → List Note → Type 0
-  IsTriedAgain pool old new stage (Held held again) notes =
-      (again ≡ stage) × (notes ≡ []) × FoundBusy pool held.object false old new held
-  IsTriedAgain pool old new stage _ notes = 0 < length notes
+-- where another seat was there the same is to be tried again, and nothing was noted; else
+-- something was
+abbrev pub IsTriedAgain :
+    SharedPool → PoolSeat → PoolSeat → Ending → Ends → List Note → Type 0
+IsTriedAgain pool old new stage (Held held again) notes =
+    (again ≡ stage) × (notes ≡ []) × FoundBusy pool held.object false old new held
+IsTriedAgain pool old new stage _ notes = 0 < length notes
 
-  -- what is in hand is the pool's
-  abbrev pub Fits : SharedPool → PoolSeat HomeValue G → Ending → Type 0
-  Fits pool seat (Root token) = HoldsToken seat token
-  Fits pool seat (Cache region handle) =
-      IsHandle pool handle × IsRegion pool seat region × (region.id.class < cached_classes)
-  Fits pool seat (Arena region handle) = IsHandle pool handle × IsRegion pool seat region
-  Fits pool seat (Home handle) = IsHandle pool handle
+-- what is in hand is the pool's
+abbrev pub Fits : SharedPool → PoolSeat → Ending → Type 0
+Fits pool seat (Root token) = HoldsToken seat token
+Fits pool seat (Cache region handle) =
+    IsHandle pool handle × IsRegion pool seat region × (region.id.class < cached_classes)
+Fits pool seat (Arena region handle) = IsHandle pool handle × IsRegion pool seat region
+Fits pool seat (Home handle) = IsHandle pool handle
 
-  abbrev pub FitsAfter : SharedPool → PoolSeat HomeValue G → Ends → Type 0
-  FitsAfter pool seat (More stage) = Fits pool seat stage
-  FitsAfter pool seat (Held held stage) = Fits pool seat stage
-  FitsAfter pool seat Done = ⊤
+abbrev pub FitsAfter : SharedPool → PoolSeat → Ends → Type 0
+FitsAfter pool seat (More stage) = Fits pool seat stage
+FitsAfter pool seat (Held held stage) = Fits pool seat stage
+FitsAfter pool seat Done = ⊤
 
-  -- a seat of the pool with a turn left, and just what the stage has in hand
-  pub record MayEnd (pool : SharedPool) (seat : PoolSeat HomeValue G) (stage : Ending) : Type 0
-    where
-      pub seat_is : IsPoolSeat pool seat
-      pub turn : 0 < (view_of seat).turns
-      pub hand : IsHeld (hand_of stage) (view_of seat)
-      pub fits : Fits pool seat stage
+-- a seat of the pool with a turn left, and just what the stage has in hand
+pub record MayEnd (pool : SharedPool) (seat : PoolSeat) (stage : Ending) : Type 0
+  where
+    pub seat_is : IsPoolSeat pool seat
+    pub turn : 0 < (view_of seat).turns
+    pub hand : IsHeld (hand_of stage) (view_of seat)
+    pub fits : Fits pool seat stage
 
-  -- what a step at the end of a root came to, and the notes that it wrote into the log
-  pub record HasEnded (pool : SharedPool) (old new : PoolSeat HomeValue G)
-      (before after : Vec Note) (stage : Ending) (result : Ends) : Type 0
-    where
-      pub written : List Note
-      pub log : HasWritten before after written
-      pub wrote : (sampler : Sampling) →
-          let shape = pool.table.layout.shape in
-          Wrote pool old new written sampler sampler
-          (rest_of shape stage) none_asked (rest_after shape result)
-      pub counts : (sampler : Sampling) →
-          AddCounts (λ root. 0) (map entry_of (wrote sampler).added)
-      pub hand : IsHeld (hand_after result) (view_of new)
-      pub fits : FitsAfter pool new result
-      pub again : IsTriedAgain pool old new stage result written
-      pub spends : Spends (view_of old) (view_of new) (left_of stage) (left_after result)
+-- what a step at the end of a root came to, and the notes that it wrote into the log
+pub record HasEnded (pool : SharedPool) (old new : PoolSeat)
+    (before after : Vec Note) (stage : Ending) (result : Ends) : Type 0
+  where
+    pub written : List Note
+    pub log : HasWritten before after written
+    pub wrote : (sampler : Sampling) →
+        let shape = pool.table.layout.shape in
+        Wrote pool old new written sampler sampler
+        (rest_of shape stage) none_asked (rest_after shape result)
+    pub counts : (sampler : Sampling) →
+        AddCounts (λ root. 0) (map entry_of (wrote sampler).added)
+    pub hand : IsHeld (hand_after result) (view_of new)
+    pub fits : FitsAfter pool new result
+    pub again : IsTriedAgain pool old new stage result written
+    pub spends : Spends (view_of old) (view_of new) (left_of stage) (left_after result)

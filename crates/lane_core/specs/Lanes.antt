@@ -14,16 +14,14 @@ use Rattle.pool_law.specs.Lanes.{turn}
 use Rattle.pool_law.specs.Names.{Names}
 use Rattle.pool_law.specs.Patterns.{closing}
 use Rattle.pool_law.specs.Readers.{Entries, Reader}
-use Rattle.pool_table.specs.declared.table.PoolSeat.{PoolSeat}
+use Rattle.shared_pool.specs.declared.seat.PoolSeat.{PoolSeat}
 use Rattle.pool_table.specs.declared.views.SeatView.{SeatView}
-use Rattle.pool_table.specs.Seats.{view_of}
-use Rattle.shared_pool.specs.contracts.told.HomeTold.TheImpl.{ghosts}
-use Rattle.shared_pool.specs.declared.home.Home.{Home}
+use Rattle.shared_pool.specs.SeatViews.{view_of}
 use Rattle.shared_pool.specs.declared.pool.SharedPool.{SharedPool}
 use Rattle.shared_pool.specs.SeatLanes.{lane_of}
-use Rattle.lane_core.specs.declared.desk.Desk.{Desk}
-use Rattle.lane_core.specs.declared.desk.Stage.{Stage}
-use Rattle.lane_core.specs.declared.desk.Stage.TheVariants.{Ready, Closing}
+use Rattle.lane_core.specs.declared.context.Context.{Context}
+use Rattle.lane_core.specs.declared.context.Stage.{Stage}
+use Rattle.lane_core.specs.declared.context.Stage.TheVariants.{Ready, Closing}
 use Rattle.lane_core.specs.declared.draining.DrainKind.TheVariants.{Close}
 use Rattle.lane_core.specs.declared.draining.Draining.TheVariants.{Done as AllClosed}
 use Rattle.lane_core.specs.declared.lane.Lane.{Lane}
@@ -32,30 +30,30 @@ use Rattle.seat_work.specs.Growth.{IsOneStep}
 use Rattle.lane_core.specs.Named.{NamesAre}
 use Rattle.lane_core.specs.Readings.{ReadsOn, none_asked, renamed}
 use Rattle.lane_core.specs.Drainings as draining
-use Rattle.lane_core.specs.Desks.{IsDesk, notes_of, entries_of, log_of, hand_of, Fits, FitsDesk, IsUnderway, NameFits, HasRoomFor, left_for, left_now, reads_from}
+use Rattle.lane_core.specs.Contexts.{IsContext, notes_of, entries_of, log_of, hand_of, Fits, FitsContext, IsUnderway, NameFits, HasRoomFor, left_for, left_now, reads_from}
 
 -- the commands that are not answered yet, that one first which is under way
 abbrev pub commands_left : Lane → List Command
-commands_left l = drop (length l.desk.replies.items) l.commands
+commands_left l = drop (length l.context.replies.items) l.commands
 
 -- the entries of the commands that are answered, and those behind them
 abbrev pub answered_entries : Lane → Entries
-answered_entries l = take l.desk.begun (entries_of l.desk)
+answered_entries l = take l.context.begun (entries_of l.context)
 
 abbrev pub entries_since : Lane → Entries
-entries_since l = drop l.desk.begun (entries_of l.desk)
+entries_since l = drop l.context.begun (entries_of l.context)
 
 -- the replies so far are the law's for the commands so far and what was noted for them, in this
 -- state of the law
 pub record HasAnswered (shape : Shape) (lane : ℕ) (l : Lane) (s : LaneState) : Type 0 where
-  pub counted : sum (note_counts l.desk.replies.items) ≡ l.desk.begun
+  pub counted : sum (note_counts l.context.replies.items) ≡ l.context.begun
   pub run :
       lane_run sweep_period shape lane new_lane
-      (take (length l.desk.replies.items) l.commands)
-      (pieces (note_counts l.desk.replies.items) (answered_entries l))
-      ≡ Some (replies_in l.desk.replies.items, s)
+      (take (length l.context.replies.items) l.commands)
+      (pieces (note_counts l.context.replies.items) (answered_entries l))
+      ≡ Some (replies_in l.context.replies.items, s)
   pub unstopped :
-      before_stop (replies_in l.desk.replies.items) ≡ length l.desk.replies.items
+      before_stop (replies_in l.context.replies.items) ≡ length l.context.replies.items
   pub seen : s.seen ≡ answered_entries l
 
 -- how the law reads the closing from a stage on
@@ -68,13 +66,13 @@ reads_closing lane _ = λ log. None
 -- where there is none of the closing
 abbrev pub IsBegun : Lane → LaneState → Names → List Command → Entries → Type 0
 IsBegun l s names [] es =
-    let lane = lane_of l.desk.seat in
+    let lane = lane_of l.context.seat in
     ReadsOn (closing lane) es none_asked (reads_closing lane l.stage)
 IsBegun l s names (command ∷ later) es =
-    let lane = lane_of l.desk.seat in
+    let lane = lane_of l.context.seat in
     (rest : Entries) →
-    turn sweep_period l.desk.shape lane s command (log_at s (es ++ rest))
-    ≡ reads_from l.desk.shape lane (renamed s names) command l.stage (log_of l.desk rest)
+    turn sweep_period l.context.shape lane s command (log_at s (es ++ rest))
+    ≡ reads_from l.context.shape lane (renamed s names) command l.stage (log_of l.context rest)
 
 -- ---- What is still to be spent.
 
@@ -117,7 +115,7 @@ left_to_ask _ asking = notes_alone (cached_classes * (1 + asking / sweep_period)
 -- on all that the lane has still to do
 abbrev pub left_of : Lane → Left
 left_of l =
-    let d = l.desk in
+    let d = l.context in
     let rest = left_for_rest d.composes (commands_left l) l.stage (view_of d.seat) in
     both rest (left_to_ask l.stage (d.asked + rest.asks))
 
@@ -134,18 +132,18 @@ IsAtRest Ready = ⊤
 IsAtRest _ = ⊥
 
 -- where no command is under way, the law's state is the desk's
-pub record IsResting (d : Desk) (s : LaneState) (names : Names) : Type 0 where
+pub record IsResting (d : Context) (s : LaneState) (names : Names) : Type 0 where
   pub begun : d.begun ≡ length (notes_of d)
   pub names_are : names ≡ s.names
   pub asked : s.asked ≡ d.asked
 
 -- the lane's number
 abbrev pub number_of : Lane → ℕ
-number_of l = lane_of l.desk.seat
+number_of l = lane_of l.context.seat
 
 -- the seat with which it works
-abbrev pub seat_of : Lane → PoolSeat Home ghosts
-seat_of l = l.desk.seat
+abbrev pub seat_of : Lane → PoolSeat
+seat_of l = l.context.seat
 
 -- its commands, in the order in which they are carried out
 abbrev pub commands_of : Lane → List Command
@@ -153,74 +151,74 @@ commands_of l = l.commands
 
 -- its replies so far
 abbrev pub replies_of : Lane → List Answered
-replies_of l = l.desk.replies.items
+replies_of l = l.context.replies.items
 
 -- what it noted so far
 abbrev pub noted_by : Lane → List Note
-noted_by l = l.desk.notes.items
+noted_by l = l.context.notes.items
 
 -- a lane of the pool that no gate stopped
 pub record IsRunningLane (pool : SharedPool) (l : Lane) : Type 0 where
   pub going : l.stopped ≡ false
-  pub desk : IsDesk pool (hand_of l.stage) l.desk
-  pub fits : Fits pool l.desk l.stage
-  pub shape : IsShape l.desk.shape
-  pub commands : AreCommands l.desk.shape l.commands
-  pub plain : All (FitsDesk l.desk) l.commands
-  pub composing : l.desk.composes ≡ list_any composes l.commands
-  pub few : length l.desk.replies.items ≤ length l.commands
+  pub context : IsContext pool (hand_of l.stage) l.context
+  pub fits : Fits pool l.context l.stage
+  pub shape : IsShape l.context.shape
+  pub commands : AreCommands l.context.shape l.commands
+  pub plain : All (FitsContext l.context) l.commands
+  pub composing : l.context.composes ≡ list_any composes l.commands
+  pub few : length l.context.replies.items ≤ length l.commands
   pub state : LaneState
-  pub answered : HasAnswered l.desk.shape (number_of l) l state
+  pub answered : HasAnswered l.context.shape (number_of l) l state
   pub bound : Names
-  pub bound_are : NamesAre bound l.desk.names
+  pub bound_are : NamesAre bound l.context.names
   pub begun : IsBegun l state bound (commands_left l) (entries_since l)
   pub all_answered : IsClosing l.stage → commands_left l ≡ []
-  pub rest : IsAtRest l.stage → IsResting l.desk state bound
-  pub underway : IsUnderway l.stage → length l.desk.replies.items < l.asked
-  pub names : NameFits l.desk l.stage
-  pub room : HasRoomFor l.desk (left_of l)
-  pub replies : length l.commands ≤ vec_capacity l.desk.replies
+  pub rest : IsAtRest l.stage → IsResting l.context state bound
+  pub underway : IsUnderway l.stage → length l.context.replies.items < l.asked
+  pub names : NameFits l.context l.stage
+  pub room : HasRoomFor pool l.context (left_of l)
+  pub replies : length l.commands ≤ vec_capacity l.context.replies
   pub asked : l.asked ≤ length l.commands
-  pub spare : l.desk.shape.lanes ≤ vec_capacity l.spare.seats
+  pub spare : l.context.shape.lanes ≤ vec_capacity l.spare.seats
 
 -- the replies so far are the law's, up to the stop for the commands up to there and behind it for
 -- those of a stopped lane
 pub record HasPassedOver (shape : Shape) (lane : ℕ) (l : Lane) : Type 0 where
-  pub counted : sum (note_counts l.desk.replies.items) ≡ l.desk.begun
+  pub counted : sum (note_counts l.context.replies.items) ≡ l.context.begun
   pub state : LaneState
   pub run :
-      let n = before_stop (replies_in l.desk.replies.items) in
+      let n = before_stop (replies_in l.context.replies.items) in
       lane_run sweep_period shape lane new_lane
       (take n l.commands)
-      (take n (pieces (note_counts l.desk.replies.items) (answered_entries l)))
-      ≡ Some (take n (replies_in l.desk.replies.items), state)
+      (take n (pieces (note_counts l.context.replies.items) (answered_entries l)))
+      ≡ Some (take n (replies_in l.context.replies.items), state)
   pub stopped :
-      let n = before_stop (replies_in l.desk.replies.items) in
+      let n = before_stop (replies_in l.context.replies.items) in
       stopped_run lane
-      (drop n (take (length l.desk.replies.items) l.commands))
-      (drop n (pieces (note_counts l.desk.replies.items) (answered_entries l)))
-      ≡ Some (drop n (replies_in l.desk.replies.items))
+      (drop n (take (length l.context.replies.items) l.commands))
+      (drop n (pieces (note_counts l.context.replies.items) (answered_entries l)))
+      ≡ Some (drop n (replies_in l.context.replies.items))
 
 -- a lane of the pool that its gate stopped: no command is under way, and its closing is the law's
 pub record IsStoppedLane (pool : SharedPool) (l : Lane) : Type 0 where
   pub over : l.stopped ≡ true
-  pub desk : IsDesk pool (hand_of l.stage) l.desk
-  pub fits : Fits pool l.desk l.stage
-  pub shape : IsShape l.desk.shape
-  pub commands : AreCommands l.desk.shape l.commands
-  pub plain : All (FitsDesk l.desk) l.commands
-  pub few : length l.desk.replies.items ≤ length l.commands
-  pub answered : HasPassedOver l.desk.shape (number_of l) l
+  pub context : IsContext pool (hand_of l.stage) l.context
+  pub fits : Fits pool l.context l.stage
+  pub shape : IsShape l.context.shape
+  pub commands : AreCommands l.context.shape l.commands
+  pub plain : All (FitsContext l.context) l.commands
+  pub few : length l.context.replies.items ≤ length l.commands
+  pub answered : HasPassedOver l.context.shape (number_of l) l
   pub underway : IsUnderway l.stage → ⊥
   pub all_answered : IsClosing l.stage → commands_left l ≡ []
-  pub rest : IsAtRest l.stage → l.desk.begun ≡ length (notes_of l.desk)
+  pub rest : IsAtRest l.stage → l.context.begun ≡ length (notes_of l.context)
   pub since :
       ReadsOn (closing (number_of l)) (entries_since l) none_asked
       (reads_closing (number_of l) l.stage)
-  pub room : HasRoomFor l.desk (left_of l)
-  pub replies : length l.commands ≤ vec_capacity l.desk.replies
+  pub room : HasRoomFor pool l.context (left_of l)
+  pub replies : length l.commands ≤ vec_capacity l.context.replies
   pub asked : l.asked ≤ length l.commands
-  pub spare : l.desk.shape.lanes ≤ vec_capacity l.spare.seats
+  pub spare : l.context.shape.lanes ≤ vec_capacity l.spare.seats
 
 -- a lane of the pool
 abbrev pub IsLane : SharedPool → Lane → Type 0
@@ -228,12 +226,12 @@ IsLane pool l = MatchBool l.stopped (IsStoppedLane pool l) (IsRunningLane pool l
 
 -- its gate, which stops it at these lines, was asked and heeded
 pub record Heeds (stops : ℕ → Bool) (l : Lane) : Type 0 where
-  pub passed : (line : ℕ) → line < before_stop (replies_in l.desk.replies.items) →
+  pub passed : (line : ℕ) → line < before_stop (replies_in l.context.replies.items) →
       stops line ≡ false
-  pub stopped : l.stopped ≡ true → stops (before_stop (replies_in l.desk.replies.items)) ≡ true
+  pub stopped : l.stopped ≡ true → stops (before_stop (replies_in l.context.replies.items)) ≡ true
   pub cause :
-      before_stop (replies_in l.desk.replies.items) < length l.desk.replies.items
-      → stops (before_stop (replies_in l.desk.replies.items)) ≡ true
+      before_stop (replies_in l.context.replies.items) < length l.context.replies.items
+      → stops (before_stop (replies_in l.context.replies.items)) ≡ true
   pub asked : l.stopped ≡ false → (line : ℕ) → line < l.asked → stops line ≡ false
 
 -- all commands are answered, and all caches are closed and shed
@@ -242,8 +240,8 @@ IsFinished l = l.stage ≡ Closing AllClosed
 
 -- nothing was added to the log
 pub record SameLog (old new : Lane) : Type 0 where
-  pub replies : new.desk.replies.items ≡ old.desk.replies.items
-  pub notes : new.desk.notes.items ≡ old.desk.notes.items
+  pub replies : new.context.replies.items ≡ old.context.replies.items
+  pub notes : new.context.notes.items ≡ old.context.notes.items
 
 -- the log grew by what one step may do: a reply or notes, at most one reply, and the notes of one
 -- step
@@ -259,5 +257,5 @@ pub record LogGrew (old new : Lane) : Type 0 where
 -- it is the same lane, with the same commands
 pub record SameLane (old new : Lane) : Type 0 where
   pub number : number_of new ≡ number_of old
-  pub shape : new.desk.shape ≡ old.desk.shape
+  pub shape : new.context.shape ≡ old.context.shape
   pub commands : new.commands ≡ old.commands

@@ -13,8 +13,8 @@ pub mod Crossings
 pub mod Copyings
 pub mod Releasings
 pub mod Composing
-pub mod Desks
-pub mod DeskSteps
+pub mod Contexts
+pub mod ContextSteps
 pub mod Works
 pub mod Plans
 pub mod Compositions

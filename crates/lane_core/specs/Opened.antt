@@ -1,19 +1,17 @@
 -- The seat and the commands of a new lane.
-use Rattle.std.specs.Prelude.{◌≡◌, ℕ, ◌+◌, ◌*◌, ◌<◌, ◌≤◌, List, [], length, replicate, All, Some, None, IfSome, slice_get, vec_capacity}
+use Rattle.std.specs.Prelude.{◌≡◌, ℕ, ◌*◌, ◌<◌, ◌≤◌, List, [], length, replicate, All, None, vec_capacity}
 use Rattle.std.specs.List.{list_any}
-use Rattle.step_law.specs.declared.Told.{Ghosts}
 use Rattle.pool_law.specs.declared.command.Command.{Command}
 use Rattle.pool_law.specs.declared.id.RootId.{RootId}
-use Rattle.pool_law.specs.declared.note.Noted.{Noted}
 use Rattle.pool_law.specs.declared.run.Shape.{Shape}
 use Rattle.pool_law.specs.Bounds.{composes, note_bound}
 use Rattle.pool_law.specs.Legal.{AreCommands}
 use Rattle.pool_law.specs.Limits.{IsShape, geometry_of}
 use Rattle.leak_records.specs.Records.{new_sampler}
-use Rattle.pool_table.specs.declared.table.PoolSeat.{PoolSeat}
-use Rattle.pool_table.specs.Seats.{view_of}
-use Rattle.shared_pool.specs.declared.home.Home.{Home}
+use Rattle.shared_pool.specs.declared.seat.PoolSeat.{PoolSeat}
+use Rattle.shared_pool.specs.SeatViews.{view_of}
 use Rattle.shared_pool.specs.declared.pool.SharedPool.{SharedPool}
+use Rattle.shared_pool.specs.MailAnswers.{RoomFor}
 use Rattle.shared_pool.specs.SeatLanes.{lane_of}
 use Rattle.shared_pool.specs.Seats.{IsPoolSeat}
 use Rattle.shared_pool.specs.Wearing.{IsShort}
@@ -22,24 +20,20 @@ use Rattle.lane_core.specs.Named.{ChangesBelow}
 use Rattle.lane_core.specs.Counting.{counted}
 use Rattle.lane_core.specs.Lanes.{left_for_all}
 
-module _ {G : Ghosts Home Noted} where
-  -- the seat of a new lane of the pool, for these commands: it has noted nothing, has turns and
-  -- moves enough, and the mails have room for what it sends
-  pub record IsFirstSeat (pool : SharedPool) (shape : Shape) (commands : List Command)
-      (seat : PoolSeat Home G) : Type 0 where
-    pub shape_is : shape ≡ pool.table.layout.shape
-    pub limits : IsShape shape
-    -- the pool's places can't wear out
-    pub short : IsShort pool.table.layout
-    pub seat_is : IsPoolSeat pool seat
-    pub notes : (view_of seat).own.notes ≡ []
-    pub turns : note_bound commands ≤ (view_of seat).turns
-    pub moves : (left_for_all commands).moves ≤ (view_of seat).moves
-    pub mails : (to : ℕ) → to < shape.lanes →
-        IfSome (view_of seat).setting (λ setting.
-        (room : ℕ)
-        × (slice_get setting.mail (lane_of seat * shape.lanes + to) ≡ Some room)
-        × ((left_for_all commands).sends to ≤ room))
+-- the seat of a new lane of the pool, for these commands: it has noted nothing, has turns and
+-- moves enough, and the mails have room for what it sends
+pub record IsFirstSeat (pool : SharedPool) (shape : Shape) (commands : List Command)
+    (seat : PoolSeat) : Type 0 where
+  pub shape_is : shape ≡ pool.table.layout.shape
+  pub limits : IsShape shape
+  -- the pool's places can't wear out
+  pub short : IsShort pool.table.layout
+  pub seat_is : IsPoolSeat pool seat
+  pub notes : (view_of seat).own.notes ≡ []
+  pub turns : note_bound commands ≤ (view_of seat).turns
+  pub moves : (left_for_all commands).moves ≤ (view_of seat).moves
+  pub mails : (to : ℕ) → to < shape.lanes →
+      RoomFor pool (lane_of seat) to ((left_for_all commands).sends to)
 
 -- the commands of a new lane
 pub record AreFirst (shape : Shape) (commands : List Command) : Type 0 where

@@ -12,7 +12,7 @@ use Rattle.lane_core.specs.declared.counts.Counted.{Counted}
 use Rattle.lane_core.specs.declared.crossing.Crossing.{Crossing}
 use Rattle.lane_core.specs.declared.crossing.Crossing.TheVariants.{Set, Get}
 use Rattle.lane_core.specs.declared.crossing.Stretch.{Stretch}
-use Rattle.lane_core.specs.declared.desk.Desk.{Desk}
+use Rattle.lane_core.specs.declared.context.Context.{Context}
 use Rattle.lane_core.specs.declared.work.Work.{Work}
 use Rattle.lane_core.specs.declared.work.Work.TheVariants.{Cross, Empty}
 use Rattle.lane_core.specs.Accesses.{IsState}
@@ -75,8 +75,8 @@ abbrev pub work_on : ℕ → Option Marks → Option Crossing → Reply → Work
 work_on name marks None reply = Empty name marks reply
 work_on name marks (Some stage) reply = Cross name marks stage
 
--- the work may be done at the desk, and is what the law reads of the command; or none is planned
-abbrev pub IsPlanOf : Desk → Command → Option Work → Type 0
+-- the work may be done at the context, and is what the law reads of the command; or none is planned
+abbrev pub IsPlanOf : Context → Command → Option Work → Type 0
 IsPlanOf d command None = IsUnplanned d.names command
 IsPlanOf d command (Some work) =
     IsReady d work

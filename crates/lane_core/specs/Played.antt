@@ -1,13 +1,6 @@
 -- A run that was played: it is legal, and what was sent is seen in order.
-use Rattle.std.specs.Prelude.{◌≡◌, ◌↔◌, ℕ, ◌+◌, ◌<◌, ◌≤◌, Bool, true, false, List, ◌∷◌, ◌++◌, length, map, HoldsAt, Some, slice_get, vec_capacity}
+use Rattle.std.specs.Prelude.{◌≡◌, ◌↔◌, ℕ, ◌+◌, ◌<◌, ◌≤◌, Bool, true, List, length, map, HoldsAt, Some, slice_get, vec_capacity}
 use Rattle.pool_law.specs.declared.command.Command.{Command}
-use Rattle.pool_law.specs.declared.id.Parcel.{Parcel}
-use Rattle.pool_law.specs.declared.note.Did.{Did}
-use Rattle.pool_law.specs.declared.note.Did.TheVariants.{Post, Fetch}
-use Rattle.pool_law.specs.declared.note.Note.{Note}
-use Rattle.pool_law.specs.declared.note.Note.TheVariants.{At}
-use Rattle.pool_law.specs.declared.note.Object.{Object}
-use Rattle.pool_law.specs.declared.note.Object.TheVariants.{Mail}
 use Rattle.pool_law.specs.declared.run.LaneLog.{LaneLog}
 use Rattle.pool_law.specs.declared.run.Reply.{Reply}
 use Rattle.pool_law.specs.declared.run.Reply.TheVariants.{Stopped}
@@ -15,38 +8,12 @@ use Rattle.pool_law.specs.declared.run.Run.{Run}
 use Rattle.pool_law.specs.declared.run.Shape.{Shape}
 use Rattle.pool_law.specs.LaneLaw.{replies_in}
 use Rattle.pool_law.specs.Legal.{IsLegal, logs_of, replies_of}
-use Rattle.pool_law.specs.Logs.{Logs, of_lane}
-use Rattle.pool_law.specs.Same.{same_object}
+use Rattle.run_order.specs.HandOver.{IsHandedOver}
 use Rattle.run_order.specs.Order.{InOneOrder}
 use Rattle.shared_pool.specs.declared.pool.SharedPool.{SharedPool}
 use Rattle.lane_core.specs.declared.lane.Lane.{Lane}
 use Rattle.lane_core.specs.declared.played.Parted.{Parted}
 use Rattle.lane_core.specs.Lanes.{IsLane, IsFinished, number_of}
-use Rattle.seat_work.specs.Growth.{how_many}
-
--- a note posts to a mail, and fetches from it
-abbrev pub is_post : Object → Note → Bool
-is_post mail (At object number (Post parcel)) = same_object object mail
-is_post mail _ = false
-
-abbrev pub is_fetch : Object → Note → Bool
-is_fetch mail (At object number (Fetch parcel)) = same_object object mail
-is_fetch mail _ = false
-
--- what a lane did before its k-th post to another has, at each object, a lower number than what
--- that lane did there after its k-th fetch from it
-abbrev pub IsHandedOver : Logs → Type 0
-IsHandedOver logs =
-    (sender receiver : ℕ) (early late before after : List Note)
-    (sent taken : ℕ) (parcel got : Parcel) →
-    let mail = Mail sender receiver in
-    of_lane logs sender ≡ early ++ At mail sent (Post parcel) ∷ late →
-    of_lane logs receiver ≡ before ++ At mail taken (Fetch got) ∷ after →
-    how_many (is_post mail) early ≡ how_many (is_fetch mail) before →
-    (object : Object) (i j m n : ℕ) (d e : Did) →
-    slice_get early i ≡ Some (At object m d) →
-    slice_get after j ≡ Some (At object n e) →
-    m < n
 
 -- a legal run, in which what was sent is seen in order, and all steps of all lanes stand in one
 -- order, in which each fits those before it
@@ -69,7 +36,7 @@ pub record AreFinished (pool : SharedPool) (lanes : List Lane) : Type 0 where
 
 -- the log that a lane wrote
 abbrev pub log_written : Lane → LaneLog
-log_written l = record { replies = l.desk.replies.items; notes = l.desk.notes.items }
+log_written l = record { replies = l.context.replies.items; notes = l.context.notes.items }
 
 -- the run is that of these lanes
 pub record IsRunOf (shape : Shape) (lanes : List Lane) (run : Run) : Type 0 where

@@ -2,14 +2,14 @@
 use Rattle.std.specs.Prelude.{length}
 use Rattle.pool_law.specs.declared.command.Command.{Command}
 use Rattle.pool_law.specs.LaneStates.{LaneState}
-use Rattle.lane_core.specs.declared.desk.Desk.{Desk}
+use Rattle.lane_core.specs.declared.context.Context.{Context}
 use Rattle.lane_core.specs.declared.lane.Prepared.{Prepared}
 use Rattle.lane_core.specs.declared.lane.Prepared.TheVariants.{Work, Access, Alone}
 use Rattle.lane_core.specs.Accesses.{BindsBelow, IsAccess, IsPrepared, IsState}
 use Rattle.lane_core.specs.Works.{IsPlanned, IsReady, IsUnplanned}
 
--- it is what the command needs at the desk
-abbrev pub IsPreparedFor : Desk → Command → Prepared → Type 0
+-- it is what the command needs at the context
+abbrev pub IsPreparedFor : Context → Command → Prepared → Type 0
 IsPreparedFor d command (Work work) =
     IsReady d work
     × ((s : LaneState) → IsState s d.names d.counts → IsPlanned d command work s)

@@ -2,21 +2,18 @@
 -- rest.
 use Rattle.std.specs.Prelude.{◌≡◌, ℕ, ◌+◌, ◌*◌, ◌<◌, ⊤, false, List, [], ◌∷◌, ◌++◌, length, map, All, Option, Some, None, IfSome}
 use Rattle.std.specs.Global.{Vec}
-use Rattle.step_law.specs.declared.Told.{Ghosts}
 use Rattle.pool_law.specs.declared.id.Part.{Part}
 use Rattle.pool_law.specs.declared.id.RootId.{RootId}
 use Rattle.pool_law.specs.declared.note.Note.{Note}
-use Rattle.pool_law.specs.declared.note.Noted.{Noted}
 use Rattle.pool_law.specs.declared.run.Shape.{Shape}
 use Rattle.pool_law.specs.Counts.{count_of}
 use Rattle.pool_law.specs.Lanes.{release_parts}
 use Rattle.pool_law.specs.Readers.{Entries, Log, Reader, ◌>>◌, nothing}
 use Rattle.leak_records.specs.Records.{Sampling}
-use Rattle.pool_table.specs.declared.table.PoolSeat.{PoolSeat}
+use Rattle.shared_pool.specs.declared.seat.PoolSeat.{PoolSeat}
 use Rattle.pool_table.specs.declared.views.Entry.{Entry}
-use Rattle.pool_table.specs.Seats.{view_of, SameSeat}
+use Rattle.shared_pool.specs.SeatViews.{view_of, SameSeat}
 use Rattle.shared_pool.specs.Closing.{entry_of, note_of}
-use Rattle.shared_pool.specs.declared.home.Home.{Home}
 use Rattle.shared_pool.specs.declared.pool.SharedPool.{SharedPool}
 use Rattle.shared_pool.specs.Seats.{IsPoolSeat, FoundBusy}
 use Rattle.lane_core.specs.declared.counts.Counted.{Counted}
@@ -104,54 +101,53 @@ IsOverAt cs stage (More next) = ⊤
 IsOverAt cs stage (Held held again) = ⊤
 IsOverAt cs stage Done = IsOver cs stage
 
-module _ {G : Ghosts Home Noted} where
-  -- what is in hand is the pool's
-  abbrev pub Fits : SharedPool → PoolSeat Home G → Releasing → Type 0
-  Fits pool seat stage = IfSome stage.ending (ending.Fits pool seat)
+-- what is in hand is the pool's
+abbrev pub Fits : SharedPool → PoolSeat → Releasing → Type 0
+Fits pool seat stage = IfSome stage.ending (ending.Fits pool seat)
 
-  abbrev pub FitsAfter : SharedPool → PoolSeat Home G → Releases → Type 0
-  FitsAfter pool seat (More stage) = Fits pool seat stage
-  FitsAfter pool seat (Held held stage) = Fits pool seat stage
-  FitsAfter pool seat Done = ⊤
+abbrev pub FitsAfter : SharedPool → PoolSeat → Releases → Type 0
+FitsAfter pool seat (More stage) = Fits pool seat stage
+FitsAfter pool seat (Held held stage) = Fits pool seat stage
+FitsAfter pool seat Done = ⊤
 
-  -- where another seat was there the same is to be tried again, and nothing was noted; where all is
-  -- done nothing was noted either; else something was
-  abbrev pub IsTriedAgain :
-      SharedPool → PoolSeat Home G → PoolSeat Home G → Releasing → Releases → List Note → Type 0
-  IsTriedAgain pool old new stage (Held held again) notes =
-      (again ≡ stage) × (notes ≡ []) × FoundBusy pool held.object false old new held
-  IsTriedAgain pool old new stage (More next) notes = 0 < length notes
-  IsTriedAgain pool old new stage Done notes = notes ≡ []
+-- where another seat was there the same is to be tried again, and nothing was noted; where all is
+-- done nothing was noted either; else something was
+abbrev pub IsTriedAgain :
+    SharedPool → PoolSeat → PoolSeat → Releasing → Releases → List Note → Type 0
+IsTriedAgain pool old new stage (Held held again) notes =
+    (again ≡ stage) × (notes ≡ []) × FoundBusy pool held.object false old new held
+IsTriedAgain pool old new stage (More next) notes = 0 < length notes
+IsTriedAgain pool old new stage Done notes = notes ≡ []
 
-  -- a seat of the pool with just what the stage has in hand, whose counts these are, and with a turn
-  -- left where something may be noted
-  pub record MayRelease (pool : SharedPool) (seat : PoolSeat Home G) (cs : List Counted)
-      (stage : Releasing) : Type 0
-    where
-      pub seat_is : IsPoolSeat pool seat
-      pub turn : 0 < (left_of stage).notes → 0 < (view_of seat).turns
-      pub hand : IsHeld (hand_of stage) (view_of seat)
-      pub fits : Fits pool seat stage
-      pub counts : CountsAre cs (map entry_of (view_of seat).own.notes)
+-- a seat of the pool with just what the stage has in hand, whose counts these are, and with a turn
+-- left where something may be noted
+pub record MayRelease (pool : SharedPool) (seat : PoolSeat) (cs : List Counted)
+    (stage : Releasing) : Type 0
+  where
+    pub seat_is : IsPoolSeat pool seat
+    pub turn : 0 < (left_of stage).notes → 0 < (view_of seat).turns
+    pub hand : IsHeld (hand_of stage) (view_of seat)
+    pub fits : Fits pool seat stage
+    pub counts : CountsAre cs (map entry_of (view_of seat).own.notes)
 
-  -- what a step of releasing came to, the notes that it wrote into the log, and the counts then
-  pub record HasReleased (pool : SharedPool) (old new : PoolSeat Home G)
-      (cs_before cs_after : List Counted) (before after : Vec Note)
-      (stage : Releasing) (result : Releases) : Type 0
-    where
-      pub added : List Entry
-      pub same : SameSeat old new
-      pub seat : IsPoolSeat pool new
-      pub more : HasMore (view_of old) (view_of new) added
-      pub log : HasWritten before after (map note_of added)
-      pub counts : CountsAre cs_after (map entry_of (view_of new).own.notes)
-      pub places : length cs_after ≡ length cs_before
-      pub sampled : (sampler : Sampling) → AreSampled sampler added sampler
-      pub read :
-          let shape = pool.table.layout.shape in
-          ReadsOnWith cs_before (rest_of shape stage) (map entry_of added) (rest_after shape result)
-      pub hand : IsHeld (hand_after result) (view_of new)
-      pub fits : FitsAfter pool new result
-      pub again : IsTriedAgain pool old new stage result (map note_of added)
-      pub over : IsOverAt cs_before stage result
-      pub spends : Spends (view_of old) (view_of new) (left_of stage) (left_after result)
+-- what a step of releasing came to, the notes that it wrote into the log, and the counts then
+pub record HasReleased (pool : SharedPool) (old new : PoolSeat)
+    (cs_before cs_after : List Counted) (before after : Vec Note)
+    (stage : Releasing) (result : Releases) : Type 0
+  where
+    pub added : List Entry
+    pub same : SameSeat old new
+    pub seat : IsPoolSeat pool new
+    pub more : HasMore (view_of old) (view_of new) added
+    pub log : HasWritten before after (map note_of added)
+    pub counts : CountsAre cs_after (map entry_of (view_of new).own.notes)
+    pub places : length cs_after ≡ length cs_before
+    pub sampled : (sampler : Sampling) → AreSampled sampler added sampler
+    pub read :
+        let shape = pool.table.layout.shape in
+        ReadsOnWith cs_before (rest_of shape stage) (map entry_of added) (rest_after shape result)
+    pub hand : IsHeld (hand_after result) (view_of new)
+    pub fits : FitsAfter pool new result
+    pub again : IsTriedAgain pool old new stage result (map note_of added)
+    pub over : IsOverAt cs_before stage result
+    pub spends : Spends (view_of old) (view_of new) (left_of stage) (left_after result)

@@ -5,12 +5,12 @@ use Rattle.shared_pool.specs.declared.pool.SharedPool.{SharedPool}
 use Rattle.shared_pool.specs.MailAnswers.{IsDrained}
 use Rattle.shared_pool.specs.Seats.{FoundBusy}
 use Rattle.lane_core.specs.declared.lane.Lane.{Lane}
-use Rattle.lane_core.specs.declared.desk.Stage.{Stage}
-use Rattle.lane_core.specs.declared.desk.Turn.{Turn}
-use Rattle.lane_core.specs.declared.desk.Turn.TheVariants.{Went as TurnWent, Pending as TurnPending, Waiting as TurnWaiting}
+use Rattle.lane_core.specs.declared.context.Stage.{Stage}
+use Rattle.lane_core.specs.declared.context.Turn.{Turn}
+use Rattle.lane_core.specs.declared.context.Turn.TheVariants.{Went as TurnWent, Pending as TurnPending, Waiting as TurnWaiting}
 use Rattle.lane_core.specs.declared.lane.Stepped.{Stepped}
 use Rattle.lane_core.specs.declared.lane.Stepped.TheVariants.{Went, Pending, Waiting, Finished}
-use Rattle.lane_core.specs.Desks.{ReceivesFrom}
+use Rattle.lane_core.specs.Contexts.{ReceivesFrom}
 use Rattle.lane_core.specs.Lanes.{IsFinished, SameLog, LogGrew, commands_left}
 
 -- the next command receives from that lane
@@ -25,10 +25,10 @@ ReceivesNext sender (command ∷ later) = ReceivesFrom command sender
 abbrev pub HasStepped : SharedPool → Lane → Lane → Stepped → Type 0
 HasStepped pool old new Went = LogGrew old new
 HasStepped pool old new (Pending held) =
-    SameLog old new × FoundBusy pool held.object false old.desk.seat new.desk.seat held
+    SameLog old new × FoundBusy pool held.object false old.context.seat new.context.seat held
 HasStepped pool old new (Waiting sender) =
     SameLog old new × ReceivesNext sender (commands_left old)
-    × IsDrained pool sender old.desk.seat
+    × IsDrained sender old.context.seat
 HasStepped pool old new Finished = IsFinished old × (new ≡ old)
 
 -- the lane at another stage

@@ -10,9 +10,9 @@ use Rattle.pool_law.specs.Names.{Bound, Composed}
 use Rattle.pool_law.specs.Patterns.{allot}
 use Rattle.pool_law.specs.Readers.{Log, Reader, ◌>>=◌, ◌>>◌, give}
 use Rattle.shared_pool.specs.declared.pool.SharedPool.{SharedPool}
-use Rattle.lane_core.specs.declared.desk.Desk.{Desk}
-use Rattle.lane_core.specs.declared.desk.Stage.TheVariants.{Ready}
-use Rattle.lane_core.specs.declared.desk.Turn.{Turn}
+use Rattle.lane_core.specs.declared.context.Context.{Context}
+use Rattle.lane_core.specs.declared.context.Stage.TheVariants.{Ready}
+use Rattle.lane_core.specs.declared.context.Turn.{Turn}
 use Rattle.lane_core.specs.declared.work.Work.{Work}
 use Rattle.lane_core.specs.declared.work.Work.TheVariants.{Refused, Empty, Cross, End, Bind, Consolidate}
 use Rattle.lane_core.specs.Accesses.{IsState, reply_for}
@@ -20,7 +20,7 @@ use Rattle.lane_core.specs.Allotments.{left_with}
 use Rattle.lane_core.specs.Budgets.{Left, notes_alone}
 use Rattle.lane_core.specs.Composing.{AreReachable, HasLast, IsBindable, IsCandidate, IsConsolidation, MarksFit, crossed, ended, marked}
 use Rattle.lane_core.specs.Crossings as crossing
-use Rattle.lane_core.specs.Desks.{HasTurned, left_for}
+use Rattle.lane_core.specs.Contexts.{HasTurned, left_for}
 use Rattle.lane_core.specs.Named.{bound_at}
 
 -- what the work may spend
@@ -41,8 +41,8 @@ pub record IsWithin (a b : Left) : Type 0 where
   pub moves : a.moves ≤ b.moves
   pub sends : (to : ℕ) → a.sends to ≤ b.sends to
 
--- the work may be done at the desk
-abbrev pub IsReady : Desk → Work → Type 0
+-- the work may be done at the context
+abbrev pub IsReady : Context → Work → Type 0
 IsReady d (Refused refusal) = ⊤
 IsReady d (Empty name marks reply) = MarksFit d.names name marks × (before_stop (reply ∷ []) ≡ 1)
 IsReady d (Cross name marks stage) = MarksFit d.names name marks × AreReachable d.counts stage
@@ -65,13 +65,13 @@ reads shape lane s (Consolidate p) =
     >>= (λ made. give (composed s p.name made))
 
 -- the work is what the law reads of the command
-pub record IsPlanned (d : Desk) (command : Command) (work : Work) (s : LaneState) : Type 0 where
+pub record IsPlanned (d : Context) (command : Command) (work : Work) (s : LaneState) : Type 0 where
   pub within : IsWithin (left_of work) (left_for d.composes command)
   pub read : (lane : ℕ) (log : Log) →
       answer_of d.shape lane s command log ≡ reads d.shape lane s work log
 
 -- a turn of any command that this work was planned for
-abbrev pub WorkTurns : SharedPool → Desk → Desk → Work → Turn → Type 0
+abbrev pub WorkTurns : SharedPool → Context → Context → Work → Turn → Type 0
 WorkTurns pool old new work turn =
     (s : LaneState) (command : Command) → IsState s old.names old.counts →
     IsPlanned old command work s → HasTurned pool old new s command Ready turn

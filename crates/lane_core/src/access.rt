@@ -1,6 +1,6 @@
 //! The accesses to a root's bytes that commands ask for.
 
-ghost use Rattle.std.specs.Prelude.{◌≡◌, ◌<◌, ◌≤◌, length, replicate, Some, None, IfOk, IfErr, IfSome, IfNone, true, false};
+ghost use Rattle.std.specs.Prelude.{◌≡◌, ◌<◌, ◌≤◌, length, Some, None, IfOk, IfErr, IfSome, IfNone, false};
 ghost use Rattle.pool_law.specs.declared.command.Command.{Command};
 ghost use Rattle.pool_law.specs.LaneStates.{LaneState};
 ghost use Rattle.pool_law.specs.Views.{in_range, can_read, can_write, after_read, after_write};

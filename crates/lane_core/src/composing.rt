@@ -8,15 +8,15 @@ ghost use Rattle.pool_law.specs.Limits.{geometry_of};
 ghost use Rattle.pool_law.specs.LaneStates.{LaneState};
 ghost use Rattle.lane_core.specs.Accesses.{IsState};
 ghost use Rattle.lane_core.specs.Compositions.{HasBytes, IsMade, IsPlaced, MayMake, joined, readable_at, readable_of};
-ghost use Rattle.lane_core.specs.Desks.{FitsDesk};
+ghost use Rattle.lane_core.specs.Contexts.{FitsContext};
 ghost use Rattle.lane_core.specs.Named.{AreComposites};
 ghost use Rattle.lane_core.specs.Works.{IsPlanned, IsReady};
 
 use crate::access::Refusal;
 use crate::bound::Bound;
 use crate::composed::{Composed, Marks};
+use crate::context::Context;
 use crate::copying::Transfer;
-use crate::desk::Desk;
 use crate::names::Names;
 use crate::refusing::{refusal_to_add, refusal_to_compose};
 use crate::work::{Consolidation, Work};
@@ -34,44 +34,49 @@ const MOST_BYTES: u64 = 65536;
 /// A new composite of the readable bytes of these names, or why there is none.
 pub(crate) fn compose(
     alloc: Global,
-    desk: &Desk,
+    context: &Context,
     fresh: u32,
     names: &[u32],
 ) -> Result<Work, AllocError>
-    requires classes { desk.now.classes ≡ geometry_of desk.now.shape }
-    requires fits { FitsDesk desk.now (Command.Compose fresh names.now) }
-    ensures ready { IfOk result (IsReady desk.now) }
+    requires classes { context.now.classes ≡ geometry_of context.now.shape }
+    requires fits { FitsContext context.now (Command.Compose fresh names.now) }
+    ensures ready { IfOk result (IsReady context.now) }
     ensures planned { IfOk result (λ work. (s : LaneState) →
-        IsState s desk.now.names desk.now.counts →
-        IsPlanned desk.now (Command.Compose fresh names.now) work s) }
+        IsState s context.now.names context.now.counts →
+        IsPlanned context.now (Command.Compose fresh names.now) work s) }
 {
-    if let Some(refusal) = refusal_to_compose(&desk.names, &desk.counts, fresh, names) {
+    if let Some(refusal) = refusal_to_compose(&context.names, &context.counts, fresh, names) {
         return Ok(Work::Refused(refusal));
     }
-    let parts = readable_parts(alloc, &desk.names, names)?;
-    made(alloc, desk, fresh, parts, 1, 0)
+    let parts = readable_parts(alloc, &context.names, names)?;
+    made(alloc, context, fresh, parts, 1, 0)
 }
 
 /// A composite with the readable bytes of a name behind it, or why there is none.
-pub(crate) fn add(alloc: Global, desk: &Desk, whole: u32, name: u32) -> Result<Work, AllocError>
-    requires composites { AreComposites desk.now.composes (1 + length desk.now.replies.items)
-        desk.now.names }
-    requires classes { desk.now.classes ≡ geometry_of desk.now.shape }
-    ensures ready { IfOk result (IsReady desk.now) }
+pub(crate) fn add(
+    alloc: Global,
+    context: &Context,
+    whole: u32,
+    name: u32,
+) -> Result<Work, AllocError>
+    requires composites { AreComposites context.now.composes (1 + length context.now.replies.items)
+        context.now.names }
+    requires classes { context.now.classes ≡ geometry_of context.now.shape }
+    ensures ready { IfOk result (IsReady context.now) }
     ensures planned { IfOk result (λ work. (s : LaneState) →
-        IsState s desk.now.names desk.now.counts →
-        IsPlanned desk.now (Command.Add whole name) work s) }
+        IsState s context.now.names context.now.counts →
+        IsPlanned context.now (Command.Add whole name) work s) }
 {
-    if let Some(refusal) = refusal_to_add(&desk.names, &desk.counts, whole, name) {
+    if let Some(refusal) = refusal_to_add(&context.names, &context.counts, whole, name) {
         return Ok(Work::Refused(refusal));
     }
-    let Some(before) = desk.names.composite(whole) else {
+    let Some(before) = context.names.composite(whole) else {
         unreachable!()
     };
     let mut parts = before.part_list(alloc)?;
-    push_readable(&desk.names, name, &mut parts);
+    push_readable(&context.names, name, &mut parts);
     let reader = before.marks().reader;
-    made(alloc, desk, whole, parts, before.count(), reader)
+    made(alloc, context, whole, parts, before.count(), reader)
 }
 
 // The readable bytes of a view, as a part.
@@ -127,15 +132,15 @@ fn total_of(parts: &[Part]) -> u64
 // parts once it is one part.
 fn made(
     alloc: Global,
-    desk: &Desk,
+    context: &Context,
     name: u32,
     parts: Vec<Part>,
     count: u32,
     reader: u32,
 ) -> Result<Work, AllocError>
-    requires classes { desk.now.classes ≡ geometry_of desk.now.shape }
-    requires may { MayMake desk.now name (joined parts.items count reader) }
-    ensures { IfOk result (IsMade desk.now name (joined parts.items count reader)) }
+    requires classes { context.now.classes ≡ geometry_of context.now.shape }
+    requires may { MayMake context.now name (joined parts.items count reader) }
+    ensures { IfOk result (IsMade context.now name (joined parts.items count reader)) }
 {
     let total = total_of(&parts);
     if total > MOST_BYTES {
@@ -150,7 +155,7 @@ fn made(
         let whole = whole_of(alloc, &PartList::of(parts), count, marks)?;
         return Ok(Work::Bind { name, whole });
     }
-    let Some(class) = desk.classes.class_of(size) else {
+    let Some(class) = context.classes.class_of(size) else {
         return Ok(Work::Refused(Refusal::TooLarge));
     };
     let parts = PartList::of(parts);

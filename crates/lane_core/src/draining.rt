@@ -5,7 +5,7 @@ ghost use Rattle.std.specs.Prelude.{◌≡◌, ◌≢◌, ◌+◌, ◌<◌, ◌�
 ghost use Rattle.pool_law.specs.Limits.{cached_classes};
 ghost use Rattle.pool_law.specs.declared.note.Object.TheVariants.{Cache};
 ghost use Rattle.pool_table.specs.Learned.{in_own, takes_of, gives_of};
-ghost use Rattle.pool_table.specs.Seats.{view_of, SameSeat};
+ghost use Rattle.shared_pool.specs.SeatViews.{view_of, SameSeat};
 ghost use Rattle.shared_pool.specs.Answers.{IfDid, IfHeld};
 ghost use Rattle.shared_pool.specs.Notes.{plain};
 ghost use Rattle.shared_pool.specs.Quotas.{quota_left, has_closed};

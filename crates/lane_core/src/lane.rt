@@ -1,9 +1,9 @@
 //! A lane, which is stepped over its pool.
 
-ghost use Rattle.std.specs.Prelude.{◌≡◌, ◌≢◌, ℕ, ◌+◌, ◌<◌, ◌≤◌, ◌&&◌, max, nat_le, Bool, [], length, IsSome, IfOk, IfErr, OnErr, Ok, vec_capacity};
+ghost use Rattle.std.specs.Prelude.{◌≡◌, ◌+◌, ◌<◌, ◌≤◌, ◌&&◌, max, nat_le, Bool, [], length, IsSome, IfOk, IfErr, OnErr, Ok, ℕ};
 ghost use Rattle.pool_law.specs.declared.run.LaneLog.{LaneLog};
 ghost use Rattle.pool_law.specs.Limits.{IsShape, geometry_of};
-ghost use Rattle.pool_table.specs.Seats.{view_of};
+ghost use Rattle.shared_pool.specs.SeatViews.{view_of};
 ghost use Rattle.shared_pool.specs.declared.pool.SharedPool.{SharedPool};
 ghost use Rattle.shared_pool.specs.SeatLanes.{lane_of};
 ghost use Rattle.lane_core.specs.declared.lane.Stepped.TheVariants.{Went, Finished};
@@ -12,35 +12,32 @@ ghost use Rattle.lane_core.specs.Opened.{IsFirstSeat, AreFirst, AreParts};
 ghost use Rattle.lane_core.specs.Steps.{HasStepped, at_stage, stepped_of};
 ghost use Rattle.pool_law.specs.LaneStates.{LaneState};
 ghost use Rattle.lane_core.specs.Accesses.{IsState};
-ghost use Rattle.lane_core.specs.Desks.{FitsDesk, left_for, next_of};
-ghost use Rattle.lane_core.specs.DeskSteps.{MayTurn, Turns};
+ghost use Rattle.lane_core.specs.Contexts.{FitsContext, left_for, next_of};
+ghost use Rattle.lane_core.specs.ContextSteps.{MayTurn, Turns};
 ghost use Rattle.lane_core.specs.Named.{AreComposites};
 ghost use Rattle.lane_core.specs.Prepared.{IsPreparedFor};
 ghost use Rattle.lane_core.specs.declared.draining.Draining.{Draining};
-ghost use Rattle.lane_core.specs.declared.desk.Stage.{Stage};
+ghost use Rattle.lane_core.specs.declared.context.Stage.{Stage};
 
 use crate::access::{Access, prepare};
-use crate::allotment::Allotting;
+use crate::context::{Context, Stage, Turn};
 use crate::counts::OwnCounts;
-use crate::desk::{Desk, Stage, Turn};
 use crate::draining::Draining;
 use crate::gate::{Gate, Pass};
 use crate::names::Names;
 use crate::notes::lane_of;
 use crate::planning::plan;
-use crate::releasing::Releasing;
-use crate::retirement::Ending;
 use crate::room::{makes_composites, name_count, note_bound};
 use crate::spare::Spare;
+use crate::spending::spend;
 use crate::work::Work;
 use leak_records::Sampler;
-use pool_law::{
-    Answered, Command, CommandList, Held, LaneLog, Note, NoteList, Region, ReplyList, Shape,
-};
+use pool_law::{Answered, Command, CommandList, Held, LaneLog, Note, NoteList, ReplyList, Shape};
 use shared_pool::{PoolSeat, SharedPool};
 use size_classes::SizeClasses;
 use std::alloc::{AllocError, Global};
 use std::mem::replace;
+use std::sync::Wait;
 
 /// What a step did.
 pub enum Stepped {
@@ -57,7 +54,7 @@ pub enum Stepped {
 /// A lane with its commands and its log. It must be spent.
 pub struct Lane {
     commands: CommandList,
-    desk: Desk,
+    context: Context,
     stage: Stage,
     /// For how many lines the gate was asked.
     asked: usize,
@@ -98,7 +95,7 @@ impl Lane {
             log,
             spare,
         } = parts;
-        let desk = Desk {
+        let context = Context {
             shape: *shape,
             classes,
             seat,
@@ -113,7 +110,7 @@ impl Lane {
         };
         Ok(Lane {
             commands,
-            desk,
+            context,
             stage: Stage::Ready,
             asked: 0,
             stopped: false,
@@ -125,8 +122,9 @@ impl Lane {
     /// reference word. The gate is asked once before each command, until it stops the lane. From
     /// then on each command is answered `Stopped`, and a `send` still posts one empty parcel, so that
     /// no lane waits for ever; nothing is fetched, and what the lane has bound and counts stays.
-    pub fn step<G: Gate>(
+    pub fn step<W: Wait, G: Gate>(
         &mut self,
+        rt: &W,
         alloc: Global,
         pool: &SharedPool,
         gate: &G,
@@ -142,18 +140,19 @@ impl Lane {
             Heeds stops self.old → Heeds stops self.new }
     {
         match replace(&mut self.stage, Stage::Ready) {
-            Stage::Ready => self.begin(alloc, pool, gate),
+            Stage::Ready => self.begin(rt, alloc, pool, gate),
             Stage::Closing(stage) => Ok(self.close(pool, stage)),
             stage => {
-                let turn = self.desk.go_on(pool, stage);
+                let turn = self.context.go_on(pool, stage);
                 Ok(self.after(turn))
             }
         }
     }
 
     // Begins the next command, or the closing.
-    fn begin<G: Gate>(
+    fn begin<W: Wait, G: Gate>(
         &mut self,
+        rt: &W,
         alloc: Global,
         pool: &SharedPool,
         gate: &G,
@@ -169,14 +168,15 @@ impl Lane {
     {
         let stopped = self.stopped;
         if stopped {
-            return Ok(self.pass_over(pool));
+            return Ok(self.pass_over(rt, pool));
         }
-        self.carry_out(alloc, pool, gate)
+        self.carry_out(rt, alloc, pool, gate)
     }
 
     // Begins the next command, unless the gate stops the lane there, or the closing.
-    fn carry_out<G: Gate>(
+    fn carry_out<W: Wait, G: Gate>(
         &mut self,
+        rt: &W,
         alloc: Global,
         pool: &SharedPool,
         gate: &G,
@@ -190,24 +190,24 @@ impl Lane {
         ensures heeds { let stops = G.stops gate.now (number_of self.old) in
             Heeds stops self.old → Heeds stops self.new }
     {
-        let line = self.desk.replies.len();
+        let line = self.context.replies.len();
         let Some(command) = self.commands.items().get(line) else {
-            let turn = self.desk.close(pool, Draining::Ask { class: 0 });
+            let turn = self.context.close(pool, Draining::Ask { class: 0 });
             return Ok(self.after(turn));
         };
-        let prepared = provide(alloc, &self.desk, command)?;
-        let number = lane_of(&self.desk.seat);
+        let prepared = provide(alloc, &self.context, command)?;
+        let number = lane_of(&self.context.seat);
         let stops = stops_at(gate, number, line, &mut self.asked);
         if stops {
             self.stopped = true;
-            return Ok(self.pass_over(pool));
+            return Ok(self.pass_over(rt, pool));
         }
-        let turn = begin_with(&mut self.desk, pool, command, prepared);
+        let turn = begin_with(rt, &mut self.context, pool, command, prepared);
         Ok(self.after(turn))
     }
 
     // Passes the next command over, or begins the closing.
-    fn pass_over(&mut self, pool: &SharedPool) -> Stepped
+    fn pass_over<W: Wait>(&mut self, rt: &W, pool: &SharedPool) -> Stepped
         requires lane { IsStoppedLane pool.now self.old }
         requires ready { self.old.stage ≡ Stage.Ready }
         ensures lane { IsStoppedLane pool.now self.new }
@@ -215,12 +215,12 @@ impl Lane {
         ensures stepped { HasStepped pool.now self.old self.new result }
         ensures heeds { (stops : ℕ → Bool) → Heeds stops self.old → Heeds stops self.new }
     {
-        let line = self.desk.replies.len();
+        let line = self.context.replies.len();
         let Some(command) = self.commands.items().get(line) else {
-            let turn = self.desk.close(pool, Draining::Ask { class: 0 });
+            let turn = self.context.close(pool, Draining::Ask { class: 0 });
             return self.after(turn);
         };
-        let turn = self.desk.pass_over(pool, command);
+        let turn = self.context.pass_over(rt, pool, command);
         self.after(turn)
     }
 
@@ -242,7 +242,7 @@ impl Lane {
                 Stepped::Finished
             }
             stage => {
-                let turn = self.desk.close(pool, stage);
+                let turn = self.context.close(pool, stage);
                 self.after(turn)
             }
         }
@@ -289,18 +289,18 @@ impl Lane {
 
     /// The same, and the room that the lane kept for the seats of all.
     pub(crate) fn into_seat(self) -> (PoolSeat, Spare)
-        ensures { result ≡ (self.desk.seat, self.spare) }
+        ensures { result ≡ (self.context.seat, self.spare) }
     {
         let Lane {
             commands: _,
-            desk,
+            context,
             stage,
             asked: _,
             stopped: _,
             spare,
         } = self;
         spend(stage);
-        (desk.into_seat(), spare)
+        (context.into_seat(), spare)
     }
 
     /// The commands and the log of a lane that has finished, and its seat.
@@ -320,14 +320,14 @@ impl Lane {
     pub(crate) fn into_parts(self) -> (CommandList, LaneLog, PoolSeat, Spare)
         requires { IsFinished self }
         ensures commands { result.0 ≡ self.commands }
-        ensures replies { result.1.replies ≡ self.desk.replies.items }
-        ensures notes { result.1.notes ≡ self.desk.notes.items }
-        ensures seat { result.2 ≡ self.desk.seat }
+        ensures replies { result.1.replies ≡ self.context.replies.items }
+        ensures notes { result.1.notes ≡ self.context.notes.items }
+        ensures seat { result.2 ≡ self.context.seat }
         ensures spare { result.3 ≡ self.spare }
     {
         let Lane {
             commands,
-            desk,
+            context,
             stage,
             asked: _,
             stopped: _,
@@ -336,7 +336,7 @@ impl Lane {
         let Stage::Closing(Draining::Done) = stage else {
             unreachable!()
         };
-        let (seat, replies, notes) = desk.into_log();
+        let (seat, replies, notes) = context.into_log();
         let log = LaneLog {
             replies: ReplyList::of(replies),
             notes: NoteList::of(notes),
@@ -357,35 +357,41 @@ enum Prepared {
 }
 
 // Takes all memory that the command needs.
-fn provide(alloc: Global, desk: &Desk, command: &Command) -> Result<Prepared, AllocError>
-    requires composites { AreComposites desk.now.composes (1 + length desk.now.replies.items)
-        desk.now.names }
-    requires classes { desk.now.classes ≡ geometry_of desk.now.shape }
-    requires fits { FitsDesk desk.now command.now }
-    ensures { IfOk result (IsPreparedFor desk.now command.now) }
+fn provide(alloc: Global, context: &Context, command: &Command) -> Result<Prepared, AllocError>
+    requires composites { AreComposites context.now.composes (1 + length context.now.replies.items)
+        context.now.names }
+    requires classes { context.now.classes ≡ geometry_of context.now.shape }
+    requires fits { FitsContext context.now command.now }
+    ensures { IfOk result (IsPreparedFor context.now command.now) }
 {
-    if let Some(work) = plan(alloc, desk, command)? {
+    if let Some(work) = plan(alloc, context, command)? {
         return Ok(Prepared::Work(work));
     }
-    match prepare(alloc, &desk.names, &desk.counts, command)? {
+    match prepare(alloc, &context.names, &context.counts, command)? {
         Some(access) => Ok(Prepared::Access(access)),
         None => Ok(Prepared::Alone),
     }
 }
 
 // Begins the command with what it needs.
-fn begin_with(desk: &mut Desk, pool: &SharedPool, command: &Command, prepared: Prepared) -> Turn
-    requires may { MayTurn pool.now (left_for desk.old.composes command.now) desk.old }
-    requires few { length desk.old.replies.items < 65536 }
-    requires fits { FitsDesk desk.old command.now }
-    requires prepared { IsPreparedFor desk.old command.now prepared }
-    requires state { (s : LaneState) × IsState s desk.old.names desk.old.counts }
-    ensures { Turns pool.now desk.old desk.new command.now result }
+fn begin_with<W: Wait>(
+    rt: &W,
+    context: &mut Context,
+    pool: &SharedPool,
+    command: &Command,
+    prepared: Prepared,
+) -> Turn
+    requires may { MayTurn pool.now (left_for context.old.composes command.now) context.old }
+    requires few { length context.old.replies.items < 65536 }
+    requires fits { FitsContext context.old command.now }
+    requires prepared { IsPreparedFor context.old command.now prepared }
+    requires state { (s : LaneState) × IsState s context.old.names context.old.counts }
+    ensures { Turns pool.now context.old context.new command.now result }
 {
     match prepared {
-        Prepared::Work(work) => desk.work(pool, work),
-        Prepared::Access(access) => desk.access(pool, access),
-        Prepared::Alone => desk.obey(pool, command),
+        Prepared::Work(work) => context.work(pool, work),
+        Prepared::Access(access) => context.access(pool, access),
+        Prepared::Alone => context.obey(rt, pool, command),
     }
 }
 
@@ -440,89 +446,4 @@ fn equipped(
         log: (replies, notes),
         spare,
     })
-}
-
-// Spends what a stage has in hand. A region's memory stays taken until the program ends.
-fn spend(stage: Stage) {
-    match stage {
-        Stage::Ready => {}
-        Stage::Allotting {
-            name: _,
-            size: _,
-            class: _,
-            stage,
-        } => spend_allotting(stage),
-        Stage::Ending(stage) => spend_ending(stage),
-        Stage::Sweeping { reply: _, stage } => spend_draining(stage),
-        Stage::Closing(stage) => spend_draining(stage),
-        Stage::Crossing {
-            name: _,
-            marks: _,
-            stage: _,
-        } => {}
-        Stage::Parting { name: _, stage } => spend_releasing(stage),
-        Stage::Consolidating { plan: _, stage } => spend_allotting(stage),
-        Stage::Copying {
-            name: _,
-            whole: _,
-            parts: _,
-            stage: _,
-        } => {}
-        Stage::Replacing {
-            name: _,
-            whole: _,
-            stage,
-        } => spend_releasing(stage),
-    }
-}
-
-fn spend_releasing(stage: Releasing) {
-    let Releasing { ending, left: _ } = stage;
-    match ending {
-        Some(stage) => spend_ending(stage),
-        None => {}
-    }
-}
-
-fn spend_draining(stage: Draining) {
-    match stage {
-        Draining::Ask { class: _ } => {}
-        Draining::Shed { class: _, left: _ } => {}
-        Draining::Give {
-            class: _,
-            left: _,
-            region,
-        } => leave(region),
-        Draining::Done => {}
-    }
-}
-
-fn spend_allotting(stage: Allotting) {
-    match stage {
-        Allotting::Handle => {}
-        Allotting::Cache(handle) | Allotting::Arena(handle) | Allotting::Home(handle) => {
-            handle.leave()
-        }
-        Allotting::Birth(handle, region) => {
-            handle.leave();
-            leave(region)
-        }
-    }
-}
-
-fn spend_ending(stage: Ending) {
-    match stage {
-        Ending::Root(token) => token.leave(),
-        Ending::Cache(region, handle) | Ending::Arena(region, handle) => {
-            handle.leave();
-            leave(region)
-        }
-        Ending::Home(handle) => handle.leave(),
-    }
-}
-
-// Leaves a region's memory as it is.
-fn leave(region: Region) {
-    let (_id, piece) = region.into_parts();
-    piece.leave();
 }

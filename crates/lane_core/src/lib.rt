@@ -3,19 +3,22 @@
 //! any worker may step over a pool.
 
 mod access;
+mod accessing;
 mod allotment;
 mod bound;
 mod composed;
 mod composing;
+mod context;
 mod copying;
+mod counting;
 mod counts;
 mod crossing;
-mod desk;
 mod draining;
 mod gate;
 mod lane;
 mod names;
 mod notes;
+mod passing;
 mod planning;
 mod played;
 mod refusing;
@@ -23,8 +26,7 @@ mod releasing;
 mod retirement;
 mod room;
 mod spare;
-#[cfg(test)]
-mod tests;
+mod spending;
 mod work;
 mod working;
 

@@ -2,7 +2,7 @@
 
 ghost use Rattle.std.specs.Prelude.{◌≡◌, ◌<◌, [], ◌∷◌, length, Some, IsSome, vec_capacity};
 ghost use Rattle.pool_law.specs.declared.note.Note.TheVariants.{At, Ref};
-ghost use Rattle.pool_table.specs.Seats.{view_of};
+ghost use Rattle.shared_pool.specs.SeatViews.{view_of};
 ghost use Rattle.shared_pool.specs.SeatLanes.{lane_of};
 ghost use Rattle.lane_core.specs.Logs.{HasWritten};
 

@@ -8,7 +8,7 @@ ghost use Rattle.pool_law.specs.Limits.{geometry_of};
 ghost use Rattle.pool_law.specs.LaneStates.{LaneState};
 ghost use Rattle.pool_law.specs.Names.{Composed as Bound, has_range};
 ghost use Rattle.lane_core.specs.Accesses.{IsState};
-ghost use Rattle.lane_core.specs.Desks.{FitsDesk};
+ghost use Rattle.lane_core.specs.Contexts.{FitsContext};
 ghost use Rattle.lane_core.specs.Named.{AreComposites};
 ghost use Rattle.lane_core.specs.Plans.{GetsAt, IsDenied, IsPlanOf, IsUsable, SetsAt, work_on};
 ghost use Rattle.lane_core.specs.Works.{IsPlanned, IsReady, IsUnplanned};
@@ -16,9 +16,9 @@ ghost use Rattle.lane_core.specs.Works.{IsPlanned, IsReady, IsUnplanned};
 use crate::access::Refusal;
 use crate::composed::{Composed, Marks};
 use crate::composing::{add, compose};
+use crate::context::Context;
 use crate::counts::OwnCounts;
 use crate::crossing::{Crossing, Stretch, next_of};
-use crate::desk::Desk;
 use crate::work::Work;
 use pool_law::{Bytes, Command, Part, Reply};
 use std::alloc::{AllocError, Global};
@@ -26,17 +26,17 @@ use std::alloc::{AllocError, Global};
 /// What the command does, if it reaches the bytes of a composite, ends one, or makes one.
 pub(crate) fn plan(
     alloc: Global,
-    desk: &Desk,
+    context: &Context,
     command: &Command,
 ) -> Result<Option<Work>, AllocError>
-    requires composites { AreComposites desk.now.composes (1 + length desk.now.replies.items)
-        desk.now.names }
-    requires classes { desk.now.classes ≡ geometry_of desk.now.shape }
-    requires fits { FitsDesk desk.now command.now }
-    ensures ready { IfOk result (λ made. IfSome made (IsReady desk.now)) }
-    ensures planned { IfOk result (λ made. IfSome made (λ work. (s : LaneState) →
-        IsState s desk.now.names desk.now.counts → IsPlanned desk.now command.now work s)) }
-    ensures other { IfOk result (λ made. IfNone made (IsUnplanned desk.now.names command.now)) }
+    requires composites { AreComposites context.now.composes (1 + length context.now.replies.items)
+        context.now.names }
+    requires classes { context.now.classes ≡ geometry_of context.now.shape }
+    requires fits { FitsContext context.now command.now }
+    ensures ready { IfOk result (λ made. IfSome made (IsReady context.now)) }
+    ensures planned { IfOk result (λ made. IfSome made (λ it. (s : LaneState) →
+        IsState s context.now.names context.now.counts → IsPlanned context.now command.now it s)) }
+    ensures other { IfOk result (λ it. IfNone it (IsUnplanned context.now.names command.now)) }
 {
     match command {
         Command::Set {
@@ -44,39 +44,39 @@ pub(crate) fn plan(
             at,
             bytes,
             tries: false,
-        } => plan_set(alloc, desk, *name, *at, bytes.items()),
+        } => plan_set(alloc, context, *name, *at, bytes.items()),
         Command::Get {
             name,
             at,
             len,
             tries: false,
-        } => plan_get(alloc, desk, *name, *at, *len),
-        Command::Write { name, bytes } => plan_write(alloc, desk, *name, bytes.items()),
-        Command::Read { name, len } => plan_read(alloc, desk, *name, *len),
-        Command::Release { name } => plan_release(alloc, desk, *name),
+        } => plan_get(alloc, context, *name, *at, *len),
+        Command::Write { name, bytes } => plan_write(alloc, context, *name, bytes.items()),
+        Command::Read { name, len } => plan_read(alloc, context, *name, *len),
+        Command::Release { name } => plan_release(alloc, context, *name),
         Command::Compose { fresh, names } => {
-            Ok(Some(compose(alloc, desk, *fresh, names.items())?))
+            Ok(Some(compose(alloc, context, *fresh, names.items())?))
         }
-        Command::Add { whole, name } => Ok(Some(add(alloc, desk, *whole, *name)?)),
+        Command::Add { whole, name } => Ok(Some(add(alloc, context, *whole, *name)?)),
         _ => Ok(None),
     }
 }
 
 fn plan_set(
     alloc: Global,
-    desk: &Desk,
+    context: &Context,
     name: u32,
     at: u32,
     bytes: &[u8],
 ) -> Result<Option<Work>, AllocError>
-    requires composites { AreComposites desk.now.composes (1 + length desk.now.replies.items)
-        desk.now.names }
-    ensures { IfOk result (IsPlanOf desk.now (Command.Set name at bytes.now false)) }
+    requires composites { AreComposites context.now.composes (1 + length context.now.replies.items)
+        context.now.names }
+    ensures { IfOk result (IsPlanOf context.now (Command.Set name at bytes.now false)) }
 {
-    let Some(whole) = desk.names.composite(name) else {
+    let Some(whole) = context.names.composite(name) else {
         return Ok(None);
     };
-    if let Some(refusal) = refusal_of(&desk.counts, whole, reaches(whole, at, bytes.len())) {
+    if let Some(refusal) = refusal_of(&context.counts, whole, reaches(whole, at, bytes.len())) {
         return Ok(Some(Work::Refused(refusal)));
     }
     let stage = set_stage(alloc, whole, at, bytes)?;
@@ -85,19 +85,19 @@ fn plan_set(
 
 fn plan_get(
     alloc: Global,
-    desk: &Desk,
+    context: &Context,
     name: u32,
     at: u32,
     len: u32,
 ) -> Result<Option<Work>, AllocError>
-    requires composites { AreComposites desk.now.composes (1 + length desk.now.replies.items)
-        desk.now.names }
-    ensures { IfOk result (IsPlanOf desk.now (Command.Get name at len false)) }
+    requires composites { AreComposites context.now.composes (1 + length context.now.replies.items)
+        context.now.names }
+    ensures { IfOk result (IsPlanOf context.now (Command.Get name at len false)) }
 {
-    let Some(whole) = desk.names.composite(name) else {
+    let Some(whole) = context.names.composite(name) else {
         return Ok(None);
     };
-    if let Some(refusal) = refusal_of(&desk.counts, whole, reaches(whole, at, len as usize)) {
+    if let Some(refusal) = refusal_of(&context.counts, whole, reaches(whole, at, len as usize)) {
         return Ok(Some(Work::Refused(refusal)));
     }
     let stage = get_stage(alloc, whole, at, len)?;
@@ -111,19 +111,19 @@ fn plan_get(
 
 fn plan_write(
     alloc: Global,
-    desk: &Desk,
+    context: &Context,
     name: u32,
     bytes: &[u8],
 ) -> Result<Option<Work>, AllocError>
-    requires composites { AreComposites desk.now.composes (1 + length desk.now.replies.items)
-        desk.now.names }
-    ensures { IfOk result (IsPlanOf desk.now (Command.Write name bytes.now)) }
+    requires composites { AreComposites context.now.composes (1 + length context.now.replies.items)
+        context.now.names }
+    ensures { IfOk result (IsPlanOf context.now (Command.Write name bytes.now)) }
 {
-    let Some(whole) = desk.names.composite(name) else {
+    let Some(whole) = context.names.composite(name) else {
         return Ok(None);
     };
     let Marks { reader, writer } = whole.marks();
-    if let Some(refusal) = refusal_of(&desk.counts, whole, reaches(whole, writer, bytes.len())) {
+    if let Some(refusal) = refusal_of(&context.counts, whole, reaches(whole, writer, bytes.len())) {
         return Ok(Some(Work::Refused(refusal)));
     }
     let stage = set_stage(alloc, whole, writer, bytes)?;
@@ -134,16 +134,21 @@ fn plan_write(
     Ok(Some(crossing(name, Some(marks), stage, Reply::Ok)))
 }
 
-fn plan_read(alloc: Global, desk: &Desk, name: u32, len: u32) -> Result<Option<Work>, AllocError>
-    requires composites { AreComposites desk.now.composes (1 + length desk.now.replies.items)
-        desk.now.names }
-    ensures { IfOk result (IsPlanOf desk.now (Command.Read name len)) }
+fn plan_read(
+    alloc: Global,
+    context: &Context,
+    name: u32,
+    len: u32,
+) -> Result<Option<Work>, AllocError>
+    requires composites { AreComposites context.now.composes (1 + length context.now.replies.items)
+        context.now.names }
+    ensures { IfOk result (IsPlanOf context.now (Command.Read name len)) }
 {
-    let Some(whole) = desk.names.composite(name) else {
+    let Some(whole) = context.names.composite(name) else {
         return Ok(None);
     };
     let Marks { reader, writer } = whole.marks();
-    if let Some(refusal) = refusal_of(&desk.counts, whole, len <= writer - reader) {
+    if let Some(refusal) = refusal_of(&context.counts, whole, len <= writer - reader) {
         return Ok(Some(Work::Refused(refusal)));
     }
     let stage = get_stage(alloc, whole, reader, len)?;
@@ -160,12 +165,12 @@ fn plan_read(alloc: Global, desk: &Desk, name: u32, len: u32) -> Result<Option<W
 }
 
 // The last release of a composite.
-fn plan_release(alloc: Global, desk: &Desk, name: u32) -> Result<Option<Work>, AllocError>
-    requires composites { AreComposites desk.now.composes (1 + length desk.now.replies.items)
-        desk.now.names }
-    ensures { IfOk result (IsPlanOf desk.now (Command.Release name)) }
+fn plan_release(alloc: Global, context: &Context, name: u32) -> Result<Option<Work>, AllocError>
+    requires composites { AreComposites context.now.composes (1 + length context.now.replies.items)
+        context.now.names }
+    ensures { IfOk result (IsPlanOf context.now (Command.Release name)) }
 {
-    let Some(whole) = desk.names.composite(name) else {
+    let Some(whole) = context.names.composite(name) else {
         return Ok(None);
     };
     if whole.count() != 1 {

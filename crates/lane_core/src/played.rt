@@ -11,6 +11,7 @@ use pool_law::{CommandList, CommandLists, LaneLog, LaneLogs, Run, Shape, Trace};
 use shared_pool::{PoolSeat, SharedPool};
 use std::alloc::{AllocError, Global};
 use std::marker::Model;
+use std::sync::Wait;
 
 /// A run that lanes played over a pool. It is legal, what a lane did before it sent a parcel
 /// stands, at each object, before what the receiver did there after it fetched it, and all steps of
@@ -56,7 +57,8 @@ impl Played {
 /// of its leaks.
 ///
 /// After want of memory the pool and the lanes are spent.
-pub fn finish(
+pub fn finish<W: Wait>(
+    rt: &W,
     alloc: Global,
     pool: SharedPool,
     shape: &Shape,
@@ -74,7 +76,7 @@ pub fn finish(
         return Err(AllocError);
     };
     let (Parted { commands, logs }, seats) = part(lanes, parted);
-    let end = match pool.close(alloc, seats) {
+    let end = match pool.close(rt, alloc, seats) {
         Ok(end) => end,
         Err((pool, seats)) => {
             pool.abandon(seats);
@@ -121,7 +123,7 @@ fn part(mut lanes: Vec<Lane>, mut parted: Parted) -> (Parted, Vec<PoolSeat>)
     ensures commands { result.0.commands.items
         ≡ parted.commands.items ++ map (λ l. l.commands) lanes.items }
     ensures logs { result.0.logs.items ≡ parted.logs.items ++ map log_written lanes.items }
-    ensures seats { result.1.items ≡ map (λ l. l.desk.seat) lanes.items }
+    ensures seats { result.1.items ≡ map (λ l. l.context.seat) lanes.items }
 {
     let (commands, log, seat, spare) = lanes.remove(0).into_parts();
     let mut seats = spare.into_seats();
@@ -171,7 +173,7 @@ fn add(seats: &mut Vec<PoolSeat>, seat: PoolSeat)
 // Spends a pool and its lanes.
 fn abandon_all(pool: SharedPool, mut lanes: Vec<Lane>)
     requires some_lane { 0 < length lanes.items }
-    requires seats { All (λ l. IsPoolSeat pool l.desk.seat) lanes.items }
+    requires seats { All (λ l. IsPoolSeat pool l.context.seat) lanes.items }
     requires spare { All (HasSpare (length lanes.items)) lanes.items }
 {
     let (seat, spare) = lanes.remove(0).into_seat();

@@ -6,7 +6,7 @@ ghost use Rattle.pool_law.specs.Bounds.{composes, may_ask, most_notes, note_boun
 ghost use Rattle.lane_core.specs.Budgets.{most_of_lane};
 ghost use Rattle.lane_core.specs.Named.{ChangesBelow};
 
-use crate::desk::SWEEP_PERIOD;
+use crate::context::SWEEP_PERIOD;
 use pool_law::Command;
 use size_classes::CACHED_CLASSES;
 

@@ -5,16 +5,16 @@ ghost use Rattle.std.specs.Prelude.{◌≡◌, Some};
 ghost use Rattle.pool_law.specs.Composites.{size_of};
 ghost use Rattle.pool_law.specs.declared.run.Reply.{Reply};
 ghost use Rattle.lane_core.specs.Composing.{IsBindable, IsMoved, MarksFit};
-ghost use Rattle.lane_core.specs.DeskSteps.{CanAnswer, Concludes, HasMarked, MayGoOn, MayTurn, StageTurns, bound_to};
+ghost use Rattle.lane_core.specs.ContextSteps.{CanAnswer, Concludes, HasMarked, MayGoOn, MayTurn, StageTurns, bound_to};
 ghost use Rattle.lane_core.specs.Works.{IsReady, WorkTurns, left_of};
-ghost use Rattle.lane_core.specs.declared.desk.Stage.{Stage};
+ghost use Rattle.lane_core.specs.declared.context.Stage.{Stage};
 
 use crate::allotment::{Allots, Allotting, allot};
 use crate::bound::Bound;
 use crate::composed::{Composed, Marks};
+use crate::context::{Context, Stage, Turn, asked_with};
 use crate::copying::{Copies, Copying, copy};
 use crate::crossing::{Crosses, Crossing, cross, next_of};
-use crate::desk::{Desk, Stage, Turn, asked_with};
 use crate::releasing::{Releases, Releasing, release, unfinished};
 use crate::work::{Consolidation, Work};
 use pool_law::{Bytes, Part, Reply, RootId};
@@ -66,7 +66,7 @@ fn copying_to(root: RootId, plan: Consolidation) -> Stage
     }
 }
 
-impl Desk {
+impl Context {
     /// Begins what was planned.
     pub(crate) fn work(&mut self, pool: &SharedPool, work: Work) -> Turn
         requires may { MayTurn pool.now (left_of work) self.old }

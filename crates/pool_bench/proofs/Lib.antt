@@ -1,2 +1,3 @@
 pub mod HeldRoots
 pub mod Runs
+pub mod MailLaws

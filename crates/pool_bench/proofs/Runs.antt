@@ -1,66 +1,45 @@
 -- The seats of all lanes, before and after they worked.
-use Rattle.std.proofs.Common.{◌≡◌, ℕ, ◌+◌, ◌*◌, ◌<◌, List, [], ◌∷◌, Option, Some, None, length, map, get_or, sym, ap, ◌∙◌, subst, arith}
-use Rattle.std.specs.Prelude.{All, IfSome, slice_get, unwrap_or}
+use Rattle.std.proofs.Common.{◌≡◌, ℕ, ◌+◌, ◌*◌, ◌<◌, List, [], ◌∷◌, Option, Some, length, map, get_or, sym, ap, ◌∙◌, subst, arith}
+use Rattle.std.specs.Prelude.{All, slice_get, unwrap_or}
 use Rattle.std.proofs.lemmas.List.{get_or-map, length-map}
-use Rattle.step_law.specs.Settings.{Setting}
-use Rattle.step_law.specs.declared.Told.{Ghosts}
-use Rattle.pool_law.specs.declared.note.Noted.{Noted}
-use Rattle.pool_table.specs.declared.table.PoolSeat.{PoolSeat}
+use Rattle.shared_pool.specs.declared.seat.PoolSeat.{PoolSeat}
 use Rattle.pool_table.specs.declared.views.Entry.{Entry}
 use Rattle.pool_table.specs.declared.views.Layout.{Layout}
-use Rattle.pool_table.specs.Seats.{view_of}
-use Rattle.shared_pool.specs.declared.home.Home.{Home}
+use Rattle.shared_pool.specs.SeatViews.{view_of}
 use Rattle.shared_pool.specs.declared.pool.SharedPool.{SharedPool}
-use Rattle.shared_pool.specs.Opening.{IsOpened, AreOpened}
-use Rattle.shared_pool.specs.Quotas.{posts}
+use Rattle.shared_pool.specs.Opening.{IsOpened, AreOpened, HasRooms}
+use Rattle.pool_table.specs.Letters.{sent_on}
 use Rattle.shared_pool.specs.SeatLanes.{lane_of}
 use Rattle.shared_pool.specs.Seated.{IsDone, AreDone}
 use Rattle.seat_work.proofs.FirstSeats.{IsHeld-empty, has_nothing, opened_works}
+use Rattle.seat_work.proofs.MailRooms.{room_at}
 use Rattle.pool_bench.specs.declared.runner.Runner.{Runner}
 use Rattle.pool_bench.specs.declared.words.Plan.{Plan}
 use Rattle.pool_bench.specs.Mails.{HasMail, IsMailFor, next_lane}
 use Rattle.pool_bench.specs.Runs.{MayRun, HaveRun, block_turns, block_moves}
 
-module _ {G : Ghosts Home Noted} (pool : SharedPool) (l : Layout) (mail : List ℕ) where
+module _ (pool : SharedPool) (l : Layout) (mail : List ℕ) where
   -- a seat that was opened may work
-  pub may_run : (blocks lane : ℕ) (s : PoolSeat Home G) → l.moves ≡ block_moves * blocks
-      → l.turns ≡ block_turns * blocks → IsOpened l mail pool lane s → MayRun pool blocks s
+  pub may_run : (blocks lane : ℕ) (s : PoolSeat) → l.moves ≡ block_moves * blocks
+      → l.turns ≡ block_turns * blocks → IsOpened l pool lane s → MayRun pool blocks s
   may_run blocks lane s moves turns opened =
-      opened_works pool l mail lane (block_turns * blocks) (block_moves * blocks) s opened (omega (arith, turns))
+      opened_works pool l lane (block_turns * blocks) (block_moves * blocks) s opened (omega (arith, turns))
       (omega (arith, moves))
 
   -- and post what the plan says
-  pub has_mail : (p : Plan) (lane : ℕ) (s : PoolSeat Home G) → lane < p.threads → IsMailFor p mail
-      → pool.table.layout.shape.lanes ≡ p.threads → IsOpened l mail pool lane s → HasMail pool p.mail s
-  has_mail p lane s lt sized lanes_are opened =
-      record {
-        room = p.mail;
-        known = from_setting (view_of s).setting opened.mail_is;
-        enough =
-            (let a = ap (λ (es : List Entry). posts (lane_of s) (next_lane lanes (lane_of s)) es) opened.notes in
-            omega (arith, a));
-      }
-    where
-      lanes : ℕ
-      lanes = pool.table.layout.shape.lanes
-
-      lane_is : lane_of s ≡ lane
-      lane_is = ap (λ (n : Option ℕ). unwrap_or n 0) opened.number
-
-      there : slice_get mail (lane_of s * lanes + next_lane lanes (lane_of s)) ≡ Some p.mail
-      there =
-          subst (λ (x : ℕ × ℕ). slice_get mail (x.0 * x.1 + next_lane x.1 x.0) ≡ Some p.mail)
-          (λ i. (sym lane_is i, sym lanes_are i)) (sized.each lane lt)
-
-      from_setting : (o : Option Setting) → IfSome o (λ t. t.mail ≡ mail)
-          → IfSome o (λ t. slice_get t.mail (lane_of s * lanes + next_lane lanes (lane_of s)) ≡ Some p.mail)
-      from_setting None is = tt
-      from_setting (Some t) is =
-          subst (λ (xs : List ℕ). slice_get xs (lane_of s * lanes + next_lane lanes (lane_of s)) ≡ Some p.mail) (sym is)
-          there
+  pub has_mail : (p : Plan) (lane : ℕ) (s : PoolSeat) → lane < p.threads → IsMailFor p mail
+      → pool.table.layout.shape.lanes ≡ p.threads → HasRooms pool mail → IsOpened l pool lane s
+      → HasMail pool p.mail s
+  has_mail p lane s lt sized lanes_are rooms opened d =
+      let lane_is : lane_of s ≡ lane = ap (λ (n : Option ℕ). unwrap_or n 0) opened.number in
+      let next : ℕ = next_lane pool.table.layout.shape.lanes (lane_of s) in
+      let at = room_at pool mail (lane_of s) next p.mail rooms
+      (subst (λ (x : ℕ × ℕ). slice_get mail (x.0 * x.1 + next_lane x.1 x.0) ≡ Some p.mail)
+      (λ i. (sym lane_is i, sym lanes_are i)) (sized.each lane lt)) d in
+      let none = ap (λ (es : List Entry). sent_on (lane_of s) next es) opened.notes in omega (arith, at, none)
 
   -- the seats that were opened have nothing in hand
-  pub opened_done : (seats : List (PoolSeat Home G)) → AreOpened l mail pool seats → pool.table.layout ≡ l
+  pub opened_done : (seats : List PoolSeat) → AreOpened l mail pool seats → pool.table.layout ≡ l
       → AreDone pool seats
   opened_done seats opened is = record {
     many = opened.many ∙ ap (λ (x : Layout). x.shape.lanes) (sym is);
@@ -90,9 +69,9 @@ module _ (pool : SharedPool) (l : Layout) (mail : List ℕ) (runners : List Runn
     many : length runners ≡ l.shape.lanes
     many = sym (length-map runners (λ (q : Runner). q.seat)) ∙ opened.many
 
-    opened_at : (k : ℕ) (d : Runner) → k < length runners → IsOpened l mail pool k (get_or runners k d).seat
+    opened_at : (k : ℕ) (d : Runner) → k < length runners → IsOpened l pool k (get_or runners k d).seat
     opened_at k d lt =
-        subst (λ s. IsOpened l mail pool k s) (sym (seat_at k d lt))
+        subst (λ s. IsOpened l pool k s) (sym (seat_at k d lt))
         (opened.each k (subst (λ (n : ℕ). k < n) many lt) d.seat)
 
     pub all_may_run : (blocks : ℕ) → l.moves ≡ block_moves * blocks
@@ -104,7 +83,7 @@ module _ (pool : SharedPool) (l : Layout) (mail : List ℕ) (runners : List Runn
         → pool.table.layout.shape.lanes ≡ p.threads → All (λ (q : Runner). HasMail pool p.mail q.seat) runners
     all_have_mail p sized lanes_are of_pool =
         λ k d lt. has_mail pool l mail p k (get_or runners k d).seat (let a = many in omega (arith, a, lanes_are, lt))
-        sized of_pool (opened_at k d lt)
+        sized of_pool opened.rooms (opened_at k d lt)
 
     -- behind their work they have nothing in hand
     pub done : (after : List Runner) → pool.table.layout ≡ l → HaveRun pool runners after

@@ -1,12 +1,10 @@
 -- The mail from each lane to the next, and how much room it has.
-use Rattle.std.specs.Prelude.{◌≡◌, ℕ, ◌+◌, ◌*◌, ◌<◌, ◌≤◌, List, length, Some, IfSome, slice_get, nat_lt, if◌then◌else◌}
-use Rattle.step_law.specs.declared.Told.{Ghosts}
-use Rattle.pool_law.specs.declared.note.Noted.{Noted}
-use Rattle.pool_table.specs.declared.table.PoolSeat.{PoolSeat}
-use Rattle.pool_table.specs.Seats.{view_of}
-use Rattle.shared_pool.specs.declared.home.Home.{Home}
+use Rattle.std.specs.Prelude.{◌≡◌, ℕ, ◌+◌, ◌*◌, ◌<◌, List, length, Some, slice_get, nat_lt, if◌then◌else◌}
+use Rattle.shared_pool.specs.declared.seat.PoolSeat.{PoolSeat}
+use Rattle.shared_pool.specs.SeatViews.{view_of}
 use Rattle.shared_pool.specs.declared.pool.SharedPool.{SharedPool}
-use Rattle.shared_pool.specs.Quotas.{posts}
+use Rattle.pool_table.specs.Letters.{sent_on}
+use Rattle.shared_pool.specs.MailAnswers.{RoomFor}
 use Rattle.shared_pool.specs.SeatLanes.{lane_of}
 use Rattle.pool_bench.specs.declared.words.Plan.{Plan}
 
@@ -21,13 +19,7 @@ pub record IsMailFor (p : Plan) (mail : List ℕ) : Type 0 where
       slice_get mail (lane * p.threads + next_lane p.threads lane) ≡ Some p.mail
 
 -- the seat's lane may post so many parcels more to the next
-pub record HasMail {G : Ghosts Home Noted}
-    (pool : SharedPool) (count : ℕ) (s : PoolSeat Home G) : Type 0 where
-  pub room : ℕ
-  pub known :
-      let lanes = pool.table.layout.shape.lanes in
-      let place = lane_of s * lanes + next_lane lanes (lane_of s) in
-      IfSome (view_of s).setting (λ t. slice_get t.mail place ≡ Some room)
-  pub enough :
-      let lanes = pool.table.layout.shape.lanes in
-      posts (lane_of s) (next_lane lanes (lane_of s)) (view_of s).own.notes + count ≤ room
+abbrev pub HasMail : SharedPool → ℕ → PoolSeat → Type 0
+HasMail pool count s =
+    let next = next_lane pool.table.layout.shape.lanes (lane_of s) in
+    RoomFor pool (lane_of s) next (sent_on (lane_of s) next (view_of s).own.notes + count)

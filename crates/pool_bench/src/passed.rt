@@ -4,11 +4,10 @@ ghost use Rattle.std.specs.Prelude.{◌≡◌, ◌<◌, IfSome};
 ghost use Rattle.pool_law.specs.Limits.{geometry_of};
 ghost use Rattle.pool_law.specs.Views as views;
 ghost use Rattle.pool_table.specs.Counts.{HasCount};
-ghost use Rattle.pool_table.specs.Seats.{view_of};
-ghost use Rattle.seat_work.specs.Changes.{no_change};
+ghost use Rattle.shared_pool.specs.SeatViews.{view_of};
 ghost use Rattle.seat_work.specs.HandOvers.{Sends};
 ghost use Rattle.seat_work.specs.Hands.{empty_hand};
-ghost use Rattle.seat_work.specs.Works.{Works, Goes, Proceeds};
+ghost use Rattle.seat_work.specs.Works.{Works, Goes};
 ghost use Rattle.pool_bench.specs.Runs.{MayRun, HasRun};
 ghost use Rattle.pool_bench.specs.Mails.{HasMail, next_lane};
 
@@ -67,9 +66,9 @@ fn send_one<W: Wait>(
 ) -> Option<u64>
     requires shape { shape.now ≡ pool.now.table.layout.shape }
     requires sizes { sizes.now ≡ geometry_of shape.now }
-    requires works { Works pool.now empty_hand 9 0 seat.old }
+    requires works { Works pool.now empty_hand 8 0 seat.old }
     requires mail { HasMail pool.now 1 seat.old }
-    ensures goes { Goes pool.now empty_hand 9 0 seat.old seat.new }
+    ensures goes { Goes pool.now empty_hand 8 0 seat.old seat.new }
     ensures sends { Sends 1 (view_of seat.old) (view_of seat.new) }
 {
     match make_one(rt, pool, sizes, size, byte, seat) {
@@ -116,11 +115,11 @@ fn post_next<W: Wait>(
     view: Option<ViewData>,
 )
     requires shape { shape.now ≡ pool.now.table.layout.shape }
-    requires works { Works pool.now empty_hand 1 0 seat.old }
+    requires works { Works pool.now empty_hand 0 0 seat.old }
     requires view { IfSome view views.IsView }
     requires counts { IfSome view (λ v. HasCount v.root (view_of seat.old)) }
     requires mail { HasMail pool.now 1 seat.old }
-    ensures goes { Goes pool.now empty_hand 1 0 seat.old seat.new }
+    ensures goes { Goes pool.now empty_hand 0 0 seat.old seat.new }
     ensures sends { Sends 1 (view_of seat.old) (view_of seat.new) }
 {
     let Some(lane) = seat.number() else {
@@ -155,8 +154,8 @@ fn whole_of(root: RootId) -> ViewData
 // The next parcel from the lane before, when it has come.
 fn fetch_next<W: Wait>(rt: &W, pool: &SharedPool, shape: &Shape, seat: &mut PoolSeat) -> Parcel
     requires shape { shape.now ≡ pool.now.table.layout.shape }
-    requires works { Works pool.now empty_hand 1 0 seat.old }
-    ensures goes { Goes pool.now empty_hand 1 0 seat.old seat.new }
+    requires works { Works pool.now empty_hand 0 0 seat.old }
+    ensures goes { Goes pool.now empty_hand 0 0 seat.old seat.new }
     ensures counts { IfSome result.view (λ w. HasCount w.root (view_of seat.new)) }
     ensures sends { Sends 0 (view_of seat.old) (view_of seat.new) }
 {

@@ -2,11 +2,11 @@ use Rattle.std.proofs.Common.{subst, arith}
 use Rattle.std.specs.Prelude.{Option}
 use Rattle.pool_law.specs.declared.note.RefDid.TheVariants.{Born}
 use Rattle.pool_law.specs.declared.report.Watch.{Watch}
-use Rattle.pool_table.specs.Seats.{view_of}
+use Rattle.shared_pool.specs.SeatViews.{view_of}
 use Rattle.shared_pool.specs.RootNotes.{birth, IsNotedWith}
 use Rattle.lane_core.specs.declared.allotment.Allotting.TheVariants.{Birth}
 use Rattle.lane_core.specs.Allotments.{hand_of}
-use Rattle.lane_core.proofs.AllotSteps.{root_born}
+use Rattle.lane_core.proofs.AllotBirths.{root_born}
 use Rattle.lane_core.proofs.LogLaws.{wrote_two, room_behind}
 use Rattle.seat_work.proofs.Holds.{holds_handle, holds_region}
 use Rattle.lane_core.proofs.allotment.bear.Goals as goal

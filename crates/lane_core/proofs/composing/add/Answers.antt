@@ -16,11 +16,11 @@ use Rattle.lane_core.proofs.composing.add.Goals as goal
 
 pub returns-in-Some-clause-planned : goal.returns-in-Some-clause-planned
 returns-in-Some-clause-planned c = λ s state.
-    refuses_to_add c.args.desk.now s state c.args.whole c.args.name c.in-Some.refusal c.in-Some.ensures
+    refuses_to_add c.args.context.now s state c.args.whole c.args.name c.in-Some.refusal c.in-Some.ensures
 
 pub made-requires-clause-may : goal.made-requires-clause-may
 made-requires-clause-may c =
-    let d = c.args.desk.now in
+    let d = c.args.context.now in
     let before : Composite = c.in-Some-composite.before.now in
     let held = c.in_ok-parts.ensures {u = tt} in
     may_add d c.requires.composites c.args.whole c.args.name c.in_default.ensures before
@@ -32,7 +32,7 @@ made-requires-clause-may c =
 
 pub returns-clause-ready : goal.returns-clause-ready
 returns-clause-ready c =
-    let d = c.args.desk.now in
+    let d = c.args.context.now in
     let before : Composite = c.in-Some-composite.before.now in
     let held = c.in_ok-parts.ensures {u = tt} in
     let parts : List Part = c.push_readable.new.parts.items in
@@ -48,7 +48,7 @@ returns-clause-ready c =
 
 pub returns-clause-planned : goal.returns-clause-planned
 returns-clause-planned c =
-    let d = c.args.desk.now in
+    let d = c.args.context.now in
     let before : Composite = c.in-Some-composite.before.now in
     let held = c.in_ok-parts.ensures {u = tt} in
     let parts : List Part = c.push_readable.new.parts.items in

@@ -13,16 +13,16 @@ use Rattle.lane_core.proofs.composing.compose.Goals as goal
 
 pub returns-in-Some-clause-planned : goal.returns-in-Some-clause-planned
 returns-in-Some-clause-planned c = λ s state.
-    refuses_to_compose c.args.desk.now s state c.args.fresh c.args.names.now c.in-Some.refusal c.in-Some.ensures
+    refuses_to_compose c.args.context.now s state c.args.fresh c.args.names.now c.in-Some.refusal c.in-Some.ensures
 
 pub made-requires-clause-may : goal.made-requires-clause-may
 made-requires-clause-may c =
-    may_compose c.args.desk.now c.args.fresh c.args.names.now c.requires.fits c.in_default.ensures
+    may_compose c.args.context.now c.args.fresh c.args.names.now c.requires.fits c.in_default.ensures
     c.in_ok-parts.parts.items (c.in_ok-parts.ensures {u = tt}).items (c.in_ok-parts.ensures {u = tt}).placed
 
 pub returns-clause-ready : goal.returns-clause-ready
 returns-clause-ready c =
-    let d = c.args.desk.now in
+    let d = c.args.context.now in
     let parts : List Part = c.in_ok-parts.parts.items in
     IfOk-weaker c.made.result (IsMade d c.args.fresh (joined parts 1 0)) (IsReady d)
     (is_ready d c.args.fresh parts 1 0
@@ -31,7 +31,7 @@ returns-clause-ready c =
 
 pub returns-clause-planned : goal.returns-clause-planned
 returns-clause-planned c =
-    let d = c.args.desk.now in
+    let d = c.args.context.now in
     let names = c.args.names.now in
     IfOk-weaker c.made.result (IsMade d c.args.fresh (joined c.in_ok-parts.parts.items 1 0))
     (λ work. (s : LaneState) → IsState s d.names d.counts → IsPlanned d (Command.Compose c.args.fresh names) work s)

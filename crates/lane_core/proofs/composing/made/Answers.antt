@@ -9,7 +9,7 @@ use Rattle.lane_core.proofs.composing.made.Goals as goal
 
 pub returns : goal.returns
 returns c =
-    let d = c.args.desk.now in
+    let d = c.args.context.now in
     let parts : List Part = c.args.parts.items in
     let whole : Composite = joined parts c.args.count c.args.reader in
     let total : c.total_of-total.result ≡ size_of parts = cc (c.total_of-total.ensures, c.deref.ensures.value) in

@@ -4,7 +4,7 @@ use Rattle.std.proofs.lemmas.List.{with_items_is}
 use Rattle.pool_law.specs.declared.note.Did.{Did}
 use Rattle.pool_law.specs.declared.note.Note.{Note}
 use Rattle.pool_law.specs.declared.note.Object.TheVariants.{Root}
-use Rattle.pool_table.specs.Seats.{view_of}
+use Rattle.shared_pool.specs.SeatViews.{view_of}
 use Rattle.lane_core.specs.declared.copying.Copying.TheVariants.{Get}
 use Rattle.lane_core.specs.declared.copying.Copies.TheVariants.{Held as HeldBack}
 use Rattle.lane_core.specs.Copyings.{HasCopied}

@@ -2,7 +2,7 @@ use Rattle.std.proofs.Common.{◌≡◌, ◌∙◌, refl}
 use Rattle.pool_law.specs.declared.note.Did.{Did}
 use Rattle.pool_law.specs.declared.note.Note.{Note}
 use Rattle.pool_law.specs.declared.note.Object.TheVariants.{Cache}
-use Rattle.pool_table.specs.Seats.{view_of}
+use Rattle.shared_pool.specs.SeatViews.{view_of}
 use Rattle.shared_pool.specs.SeatLanes.{lane_of}
 use Rattle.lane_core.specs.declared.draining.Draining.TheVariants.{Shed}
 use Rattle.lane_core.specs.Drainings.{hand_of}

@@ -1,11 +1,12 @@
 use Rattle.std.proofs.Common.{◌≡◌, ◌≤◌, Bool, true, false, arith, subst}
 use Rattle.pool_law.specs.declared.command.Command.{Command}
-use Rattle.lane_core.specs.declared.desk.Desk.{Desk}
+use Rattle.shared_pool.specs.declared.pool.SharedPool.{SharedPool}
+use Rattle.lane_core.specs.declared.context.Context.{Context}
 use Rattle.lane_core.specs.declared.lane.Prepared.{Prepared}
 use Rattle.lane_core.specs.declared.lane.Prepared.TheVariants.{Work, Access, Alone}
 use Rattle.lane_core.specs.Accesses.{IsAccess}
 use Rattle.lane_core.specs.Budgets.{notes_alone}
-use Rattle.lane_core.specs.Desks.{left_for, HasRoomFor}
+use Rattle.lane_core.specs.Contexts.{left_for, HasRoomFor}
 use Rattle.lane_core.specs.Prepared.{IsPreparedFor}
 use Rattle.lane_core.specs.Works.{left_of}
 use Rattle.lane_core.proofs.Carrying.{access_fits, may_within}
@@ -37,68 +38,68 @@ access_notes composes (Command.Recv fresh lane) is = absurd is
 access_notes composes (Command.Compose fresh names) is = absurd is
 access_notes composes (Command.Add whole name) is = absurd is
 
-access_room : (d : Desk) (command : Command) → IsAccess command → HasRoomFor d (left_for d.composes command)
-    → HasRoomFor d (notes_alone 1)
-access_room d command is room =
-    room_most d (left_for d.composes command) (notes_alone 1) (access_notes d.composes command is) (omega arith)
+access_room : (pool : SharedPool) (d : Context) (command : Command) → IsAccess command
+    → HasRoomFor pool d (left_for d.composes command) → HasRoomFor pool d (notes_alone 1)
+access_room pool d command is room =
+    room_most pool d (left_for d.composes command) (notes_alone 1) (access_notes d.composes command is) (omega arith)
     (λ to. omega arith) room
 
 -- what the command was prepared with, as an arm has it
-prepared_as : (d : Desk) (command : Command) (a b : Prepared) → a ≡ b → IsPreparedFor d command a
+prepared_as : (d : Context) (command : Command) (a b : Prepared) → a ≡ b → IsPreparedFor d command a
     → IsPreparedFor d command b
 prepared_as d command a b is = subst (λ (x : Prepared). IsPreparedFor d command x) is
 
 pub work-requires-clause-may : goal.work-requires-clause-may
-work-requires-clause-may c =
-    let d = c.args.desk.now in let command = c.args.command.now in let s = c.requires.state in
+work-requires-clause-may g c =
+    let d = c.args.context.now in let command = c.args.command.now in let s = c.requires.state in
     let p = prepared_as d command c.args.prepared (Work c.in-Work.work) c.in-Work.is c.requires.prepared in
     may_within c.args.pool.now d (left_of c.in-Work.work) (left_for d.composes command) c.requires.may
     (p.1 s.0 s.1).within
 
 pub work-requires-clause-ready : goal.work-requires-clause-ready
-work-requires-clause-ready c =
-    let d = c.args.desk.now in let command = c.args.command.now in
+work-requires-clause-ready g c =
+    let d = c.args.context.now in let command = c.args.command.now in
     (prepared_as d command c.args.prepared (Work c.in-Work.work) c.in-Work.is c.requires.prepared).0
 
 pub returns-in-Work : goal.returns-in-Work
-returns-in-Work c = λ s state.
-    let d = c.args.desk.now in let command = c.args.command.now in
+returns-in-Work g c = λ s state.
+    let d = c.args.context.now in let command = c.args.command.now in
     let p = prepared_as d command c.args.prepared (Work c.in-Work.work) c.in-Work.is c.requires.prepared in
     c.work.ensures s command state (p.1 s state)
 
 pub access-requires-clause-room : goal.access-requires-clause-room
-access-requires-clause-room c =
-    let d = c.args.desk.now in let command = c.args.command.now in
+access-requires-clause-room g c =
+    let d = c.args.context.now in let command = c.args.command.now in
     let p = prepared_as d command c.args.prepared (Access c.in-Access.access) c.in-Access.is c.requires.prepared in
-    access_room d command p.2 c.requires.may.room
+    access_room c.args.pool.now d command p.2 c.requires.may.room
 
 pub access-requires-clause-ready : goal.access-requires-clause-ready
-access-requires-clause-ready c =
-    let d = c.args.desk.now in let command = c.args.command.now in let s = c.requires.state in
+access-requires-clause-ready g c =
+    let d = c.args.context.now in let command = c.args.command.now in let s = c.requires.state in
     let p = prepared_as d command c.args.prepared (Access c.in-Access.access) c.in-Access.is c.requires.prepared in
     (p.0 s.0 s.1).ready
 
 pub access-requires-clause-name : goal.access-requires-clause-name
-access-requires-clause-name c =
-    let d = c.args.desk.now in let command = c.args.command.now in
+access-requires-clause-name g c =
+    let d = c.args.context.now in let command = c.args.command.now in
     let p = prepared_as d command c.args.prepared (Access c.in-Access.access) c.in-Access.is c.requires.prepared in
     access_fits d c.in-Access.access p.1
 
 pub returns-in-Access : goal.returns-in-Access
-returns-in-Access c = λ s state.
-    let d = c.args.desk.now in let command = c.args.command.now in
+returns-in-Access g c = λ s state.
+    let d = c.args.context.now in let command = c.args.command.now in
     let p = prepared_as d command c.args.prepared (Access c.in-Access.access) c.in-Access.is c.requires.prepared in
     c.access.ensures s command state (p.0 s state)
 
 pub obey-requires-clause-other : goal.obey-requires-clause-other
-obey-requires-clause-other c =
-    let d = c.args.desk.now in let command = c.args.command.now in
+obey-requires-clause-other g c =
+    let d = c.args.context.now in let command = c.args.command.now in
     (prepared_as d command c.args.prepared Alone c.in-Alone.is c.requires.prepared).0
 
 pub obey-requires-clause-plain : goal.obey-requires-clause-plain
-obey-requires-clause-plain c =
-    let d = c.args.desk.now in let command = c.args.command.now in
+obey-requires-clause-plain g c =
+    let d = c.args.context.now in let command = c.args.command.now in
     (prepared_as d command c.args.prepared Alone c.in-Alone.is c.requires.prepared).1
 
 pub returns-in-Alone : goal.returns-in-Alone
-returns-in-Alone c = c.obey.ensures
+returns-in-Alone g c = c.obey.ensures

@@ -9,7 +9,7 @@ use Rattle.lane_core.proofs.lane.provide.Goals as goal
 
 pub returns-in-Some : goal.returns-in-Some
 returns-in-Some c =
-    let d = c.args.desk.now in let command = c.args.command.now in let is = c.in-Some.is in
+    let d = c.args.context.now in let command = c.args.command.now in let is = c.in-Some.is in
     let planned = c.in_ok-work.ensures in (
       subst (λ (o : Option Work). IfSome o (IsReady d)) is planned.ready,
       subst (λ (o : Option Work). IfSome o (λ work. (s : LaneState) → IsState s d.names d.counts
@@ -19,13 +19,13 @@ returns-in-Some c =
 pub prepare-requires : goal.prepare-requires
 prepare-requires c = record {
   plain =
-      subst (λ (o : Option Work). IfNone o (IsUnplanned c.args.desk.now.names c.args.command.now)) c.in_default.is
+      subst (λ (o : Option Work). IfNone o (IsUnplanned c.args.context.now.names c.args.command.now)) c.in_default.is
       c.in_ok-work.ensures.other;
 }
 
 pub returns-in-Some-2 : goal.returns-in-Some-2
 returns-in-Some-2 c =
-    let d = c.args.desk.now in let command = c.args.command.now in let is = c.in-Some-2.is in
+    let d = c.args.context.now in let command = c.args.command.now in let is = c.in-Some-2.is in
     let made = c.in_ok-access.ensures in (
       subst (λ (o : Option Access). IfSome o (λ a. (s : LaneState) → IsState s d.names d.counts
           → IsPrepared d.names d.counts command a s)) is made.access,
@@ -37,6 +37,6 @@ pub returns-in-None : goal.returns-in-None
 returns-in-None c =
     let command = c.args.command.now in (
       subst (λ (o : Option Access). IfNone o (IsAccess command → ⊥)) c.in-None.is c.in_ok-access.ensures.other,
-      subst (λ (o : Option Work). IfNone o (IsUnplanned c.args.desk.now.names command)) c.in_default.is
+      subst (λ (o : Option Work). IfNone o (IsUnplanned c.args.context.now.names command)) c.in_default.is
           c.in_ok-work.ensures.other,
     )

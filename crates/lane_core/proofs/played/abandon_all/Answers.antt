@@ -9,7 +9,7 @@ abandon-requires c =
     let none : length c.loop.lanes.items ≡ 0 = omega (arith, c.loop.invariant.many) in
     record {
       seats =
-          All-moved (λ s. IsPoolSeat c.args.pool s) (λ (l : Lane). l.desk.seat) c.args.lanes.items c.loop.lanes.items
+          All-moved (λ s. IsPoolSeat c.args.pool s) (λ (l : Lane). l.context.seat) c.args.lanes.items c.loop.lanes.items
           c.loop.seats.items
           none c.loop.invariant.seats c.requires.seats;
     }

@@ -7,5 +7,5 @@ invariant-loop l =
     record {
       many : length l.lanes.items + l.counter ≡ l.count;
       seat_room : length l.seats.items + length l.lanes.items ≤ vec_capacity l.seats;
-      seats : l.seats.items ++ map (λ k. k.desk.seat) l.lanes.items ≡ map (λ k. k.desk.seat) l.fn.lanes.items;
+      seats : l.seats.items ++ map (λ k. k.context.seat) l.lanes.items ≡ map (λ k. k.context.seat) l.fn.lanes.items;
     }

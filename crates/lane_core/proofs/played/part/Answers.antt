@@ -38,14 +38,14 @@ loop-init c =
           ap (λ r. c.keep.new.parted.logs.items ++ map log_written r) is
           ∙ moved-first log_written lanes x c.into_parts-commands.result.1 c.args.parted.logs.items
           c.keep.new.parted.logs.items
-          some value (log-is c.into_parts-commands.result.1 x.desk.replies.items x.desk.notes.items
+          some value (log-is c.into_parts-commands.result.1 x.context.replies.items x.context.notes.items
           c.into_parts-commands.ensures.replies c.into_parts-commands.ensures.notes) c.keep.ensures.logs;
       seats =
-          ap (λ r. c.keep.new.seats.items ++ map (λ (k : Lane). k.desk.seat) r) is
-          ∙ moved-first (λ (k : Lane). k.desk.seat) lanes x c.into_parts-commands.result.2
+          ap (λ r. c.keep.new.seats.items ++ map (λ (k : Lane). k.context.seat) r) is
+          ∙ moved-first (λ (k : Lane). k.context.seat) lanes x c.into_parts-commands.result.2
           c.into_seats-seats.result.items c.keep.new.seats.items
           some value c.into_parts-commands.ensures.seat c.keep.ensures.seats
-          ∙ ap (λ d. d ++ map (λ (k : Lane). k.desk.seat) lanes) c.into_seats-seats.ensures.empty;
+          ∙ ap (λ d. d ++ map (λ (k : Lane). k.context.seat) lanes) c.into_seats-seats.ensures.empty;
     }
 
 pub loop-preserved : goal.loop-preserved
@@ -74,12 +74,12 @@ loop-preserved c =
       logs =
           ap (λ r. keep.new.parted.logs.items ++ map log_written r) is
           ∙ moved-first log_written lanes x parts.result.1 c.loop.parted.logs.items keep.new.parted.logs.items
-          some value (log-is parts.result.1 x.desk.replies.items x.desk.notes.items parts.ensures.replies
+          some value (log-is parts.result.1 x.context.replies.items x.context.notes.items parts.ensures.replies
           parts.ensures.notes) keep.ensures.logs
           ∙ inv.logs;
       seats =
-          ap (λ r. keep.new.seats.items ++ map (λ (k : Lane). k.desk.seat) r) is
-          ∙ moved-first (λ (k : Lane). k.desk.seat) lanes x parts.result.2 c.loop.seats.items keep.new.seats.items
+          ap (λ r. keep.new.seats.items ++ map (λ (k : Lane). k.context.seat) r) is
+          ∙ moved-first (λ (k : Lane). k.context.seat) lanes x parts.result.2 c.loop.seats.items keep.new.seats.items
           some value parts.ensures.seat keep.ensures.seats
           ∙ inv.seats;
     }

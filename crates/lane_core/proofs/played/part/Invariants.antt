@@ -15,5 +15,5 @@ invariant-loop l =
           ≡ l.fn.parted.commands.items ++ map (λ k. k.commands) l.fn.lanes.items;
       logs : l.parted.logs.items ++ map log_written l.lanes.items
           ≡ l.fn.parted.logs.items ++ map log_written l.fn.lanes.items;
-      seats : l.seats.items ++ map (λ k. k.desk.seat) l.lanes.items ≡ map (λ k. k.desk.seat) l.fn.lanes.items;
+      seats : l.seats.items ++ map (λ k. k.context.seat) l.lanes.items ≡ map (λ k. k.context.seat) l.fn.lanes.items;
     }

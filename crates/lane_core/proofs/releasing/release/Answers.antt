@@ -1,7 +1,7 @@
 use Rattle.std.proofs.Common.{◌+◌, ◌≤◌, [], ◌∷◌, length, sym, subst, arith, Option}
 use Rattle.std.specs.Prelude.{vec_capacity}
 use Rattle.pool_law.specs.declared.note.Note.{Note}
-use Rattle.pool_table.specs.Seats.{view_of}
+use Rattle.shared_pool.specs.SeatViews.{view_of}
 use Rattle.shared_pool.specs.declared.went.Release.{Release}
 use Rattle.shared_pool.specs.RootNotes.{IsReleasedAs}
 use Rattle.lane_core.specs.declared.retirement.Ending.{Ending}
@@ -9,7 +9,7 @@ use Rattle.lane_core.specs.declared.releasing.Releasing.{Releasing}
 use Rattle.lane_core.specs.declared.releasing.Releases.TheVariants.{More, Held as HeldBack, Done}
 use Rattle.lane_core.specs.Logs.{HasWritten}
 use Rattle.lane_core.specs.Releasings.{MayRelease, HasReleased, left_of}
-use Rattle.lane_core.proofs.EntryCounts.{has_count}
+use Rattle.lane_core.proofs.SeatCounts.{has_count}
 use Rattle.lane_core.proofs.ReleaseSteps.{stage_of, counted_left, may_end, end_more, end_held, end_done, part_kept, part_ended, all_passed}
 use Rattle.lane_core.proofs.releasing.release.Goals as goal
 

@@ -1,7 +1,7 @@
-use Rattle.std.proofs.Common.{List, ◌+◌, ◌*◌, ap, sym, subst, refl, arith}
+use Rattle.std.proofs.Common.{List, ◌+◌, ◌*◌, ap, sym, subst, arith}
 use Rattle.std.specs.Prelude.{vec_len}
 use Rattle.pool_law.specs.declared.id.RootId.{RootId}
-use Rattle.pool_table.specs.Seats.{view_of}
+use Rattle.shared_pool.specs.SeatViews.{view_of}
 use Rattle.seat_work.specs.Answers.{refused}
 use Rattle.seat_work.specs.Changes.{Holds}
 use Rattle.seat_work.specs.Hands.{empty_hand}

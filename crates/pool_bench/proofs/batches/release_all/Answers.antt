@@ -1,7 +1,5 @@
-use Rattle.std.proofs.Common.{◌-◌, ◌*◌, vec_len, ap, sym, subst, arith}
-use Rattle.std.specs.Global.{Vec}
-use Rattle.pool_law.specs.declared.id.RootId.{RootId}
-use Rattle.pool_table.specs.Seats.{view_of}
+use Rattle.std.proofs.Common.{◌-◌, ◌*◌, vec_len, arith}
+use Rattle.shared_pool.specs.SeatViews.{view_of}
 use Rattle.seat_work.specs.Hands.{empty_hand}
 use Rattle.seat_work.proofs.Proceeding.{works_after, goes_on}
 use Rattle.pool_bench.proofs.HeldRoots.{holds_pop, last_counts}

@@ -1,5 +1,5 @@
 use Rattle.std.proofs.Common.{arith}
-use Rattle.pool_table.specs.Seats.{view_of}
+use Rattle.shared_pool.specs.SeatViews.{view_of}
 use Rattle.pool_bench.proofs.HeldRoots.{holds_less, place_counts}
 use Rattle.pool_bench.proofs.places.empty.Goals as goal
 

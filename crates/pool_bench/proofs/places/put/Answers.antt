@@ -1,4 +1,4 @@
-use Rattle.pool_table.specs.Seats.{view_of}
+use Rattle.shared_pool.specs.SeatViews.{view_of}
 use Rattle.seat_work.specs.Changes.{once_more}
 use Rattle.seat_work.proofs.Proceeding.{changes_then}
 use Rattle.pool_bench.proofs.HeldRoots.{holds_asked, holds_push}

@@ -1,6 +1,6 @@
 use Rattle.std.proofs.Common.{List, refl, sym, subst, arith}
 use Rattle.pool_law.specs.declared.id.RootId.{RootId}
-use Rattle.pool_table.specs.Seats.{view_of}
+use Rattle.shared_pool.specs.SeatViews.{view_of}
 use Rattle.seat_work.specs.Changes.{Holds}
 use Rattle.pool_bench.proofs.places.run_places.Goals as goal
 

@@ -1,6 +1,6 @@
 use Rattle.std.proofs.Common.{◌*◌, ◌≤◌}
 use Rattle.pool_table.specs.Counts.{HasCount}
-use Rattle.pool_table.specs.Seats.{view_of}
+use Rattle.shared_pool.specs.SeatViews.{view_of}
 use Rattle.seat_work.specs.Hands.{empty_hand}
 use Rattle.seat_work.specs.Works.{Goes}
 use Rattle.pool_bench.proofs.retained.retain_often.Given as goal

@@ -1,37 +1,39 @@
 use Rattle.std.proofs.Common.{◌≡◌, ℕ, ◌+◌, ◌<◌, ◌≤◌, Bool, true, false, List, length, drop, sym, ap, ◌∙◌, arith}
 use Rattle.std.specs.Prelude.{◌&&◌, max, nat_le}
 use Rattle.pool_law.specs.declared.command.Command.{Command}
-use Rattle.lane_core.specs.Desks.{left_for}
+use Rattle.lane_core.specs.Contexts.{left_for}
 use Rattle.lane_core.specs.Lanes.{Heeds, number_of}
 use Rattle.lane_core.specs.declared.lane.Lane.{Lane}
 use Rattle.pool_law.specs.LaneLaw.{before_stop, replies_in}
 use Rattle.lane_core.proofs.LaneTurns.{front_is, none_left, begin_state, begun_lane, begun_same, begun_so, begun_heeds}
-use Rattle.lane_core.proofs.LaneCloses.{first_desk, first_room, closes_lane, closes_same, closes_so, closes_heeds}
+use Rattle.lane_core.proofs.LaneCloses.{first_context, first_room, closes_lane, closes_same, closes_so, closes_heeds}
 use Rattle.lane_core.proofs.BeginTurns.{within_same}
 use Rattle.lane_core.proofs.Carrying.{begin_may}
 use Rattle.lane_core.proofs.EitherLane.{stopped_is, running_is}
-use Rattle.lane_core.proofs.StoppedTurns.{stops_lane, stepped_anew}
+use Rattle.lane_core.proofs.StoppedKept.{stops_lane}
+use Rattle.lane_core.proofs.StoppedTurns.{stepped_anew}
 use Rattle.lane_core.proofs.Heeding.{heeds_asked}
 use Rattle.lane_core.proofs.lane.Lane.carry_out.Goals as goal
 
-pub close-turn-requires-clause-desk : goal.close-turn-requires-clause-desk
-close-turn-requires-clause-desk g c =
+pub close-turn-requires-clause-context : goal.close-turn-requires-clause-context
+close-turn-requires-clause-context g c =
     let l = c.args.self.now in
-    first_desk c.args.pool.now l c.requires.lane c.requires.ready
-    (none_left l c.len-line.result c.items.result.now (omega (arith, c.len-line.ensures, l.desk.replies.ok.0))
+    first_context c.args.pool.now l c.requires.lane c.requires.ready
+    (none_left l c.len-line.result c.items.result.now (omega (arith, c.len-line.ensures, l.context.replies.ok.0))
     c.items.ensures c.in_default.ensures.lookup.3)
 
 pub close-turn-requires-clause-room : goal.close-turn-requires-clause-room
 close-turn-requires-clause-room g c =
     let l = c.args.self.now in
     first_room c.args.pool.now l c.requires.lane c.requires.ready
-    (none_left l c.len-line.result c.items.result.now (omega (arith, c.len-line.ensures, l.desk.replies.ok.0))
+    (none_left l c.len-line.result c.items.result.now (omega (arith, c.len-line.ensures, l.context.replies.ok.0))
     c.items.ensures c.in_default.ensures.lookup.3)
 
 pub returns-in_default : goal.returns-in_default
 returns-in_default g c =
     let pool = c.args.pool.now in let l = c.args.self.now in let lane = c.requires.lane in let is = c.requires.ready in
-    let none = none_left l c.len-line.result c.items.result.now (omega (arith, c.len-line.ensures, l.desk.replies.ok.0))
+    let none = none_left l c.len-line.result c.items.result.now
+    (omega (arith, c.len-line.ensures, l.context.replies.ok.0))
     c.items.ensures c.in_default.ensures.lookup.3 in
     let d = c.close-turn.new.self in let turn = c.close-turn.result in let t = c.close-turn.ensures in
     record {
@@ -52,15 +54,15 @@ pub begin_with-turn-requires-clause-may : goal.begin_with-turn-requires-clause-m
 begin_with-turn-requires-clause-may g c =
     let l = c.args.self.now in let command = c.in-Some.command.now in
     begin_may c.args.pool.now l c.requires.lane c.requires.ready command (drop (c.len-line.result + 1) l.commands)
-    (front_is l c.len-line.result c.items.result.now command (omega (arith, c.len-line.ensures, l.desk.replies.ok.0))
+    (front_is l c.len-line.result c.items.result.now command (omega (arith, c.len-line.ensures, l.context.replies.ok.0))
     c.items.ensures c.in-Some.ensures.lookup.3.0 c.in-Some.ensures.lookup.1)
-    (left_for l.desk.composes command) (within_same (left_for l.desk.composes command))
+    (left_for l.context.composes command) (within_same (left_for l.context.composes command))
 
 pub begin_with-turn-requires-clause-few : goal.begin_with-turn-requires-clause-few
 begin_with-turn-requires-clause-few g c =
     let few = c.requires.lane.commands.few in let lt = c.in-Some.ensures.lookup.3.0 in
     let same = ap (λ (cs : List Command). length cs) c.items.ensures in
-    let line = c.len-line.ensures in let own = c.args.self.now.desk.replies.ok.0 in
+    let line = c.len-line.ensures in let own = c.args.self.now.context.replies.ok.0 in
     omega (arith, few, lt, same, line, own)
 
 pub begin_with-turn-requires-clause-state : goal.begin_with-turn-requires-clause-state
@@ -69,13 +71,13 @@ begin_with-turn-requires-clause-state g c =
       lane.state,
       begin_state c.args.pool.now l lane c.requires.ready command (drop (c.len-line.result + 1) l.commands)
           (front_is l c.len-line.result c.items.result.now command
-          (omega (arith, c.len-line.ensures, l.desk.replies.ok.0))
+          (omega (arith, c.len-line.ensures, l.context.replies.ok.0))
           c.items.ensures c.in-Some.ensures.lookup.3.0 c.in-Some.ensures.lookup.1),
     )
 
 pub stops_at-stops-requires : goal.stops_at-stops-requires
 stops_at-stops-requires g c = (
-  c.type_bounds.sync-G,
+  record { shared = c.type_bounds.sync-G.shared },
   (let few = c.requires.lane.commands.few in let lt = c.in-Some.ensures.lookup.3.0 in
       let same = ap (λ (cs : List Command). length cs) c.items.ensures in omega (arith, few, lt, same)),
 )
@@ -89,9 +91,9 @@ line_asked asked line n is = omega (arith, is)
 
 -- the gate was heeded so far, and asked for this line
 module _ (stops : ℕ → ℕ → Bool) (l : Lane) (line number n : ℕ) (stopped : Bool)
-    (line_is : line ≡ length l.desk.replies.items) (number_is : number ≡ number_of l)
+    (line_is : line ≡ length l.context.replies.items) (number_is : number ≡ number_of l)
     (asked : n ≡ max l.asked (line + 1)) (is : stopped ≡ (nat_le l.asked line && stops number line)) where
-  asked_heeds : l.stopped ≡ false → before_stop (replies_in l.desk.replies.items) ≡ length l.desk.replies.items
+  asked_heeds : l.stopped ≡ false → before_stop (replies_in l.context.replies.items) ≡ length l.context.replies.items
       → Heeds (stops (number_of l)) l → Heeds (stops (number_of l)) (record l { asked = n; stopped = stopped })
   asked_heeds going unstopped h =
       heeds_asked (stops (number_of l)) l h going unstopped n stopped
@@ -110,8 +112,8 @@ pub returns-then-stops : goal.returns-then-stops
 returns-then-stops g c =
     let pool = c.args.pool.now in let l = c.args.self.now in let lane = c.requires.lane in
     let new = c.pass_over.new.self in let n = c.stops_at-stops.new.asked in let same = c.pass_over.ensures.same in
-    let line : c.len-line.result ≡ length l.desk.replies.items =
-    omega (arith, c.len-line.ensures, l.desk.replies.ok.0) in
+    let line : c.len-line.result ≡ length l.context.replies.items =
+    omega (arith, c.len-line.ensures, l.context.replies.ok.0) in
     record {
       lane = stopped_is pool new c.pass_over.ensures.lane;
       same = record { number = same.number; shape = same.shape; commands = same.commands };
@@ -129,16 +131,17 @@ returns g c =
     let command = c.in-Some.command.now in
     let later : List Command = drop (c.len-line.result + 1) l.commands in let lt = c.in-Some.ensures.lookup.3.0 in
     let left = front_is l c.len-line.result c.items.result.now command
-    (omega (arith, c.len-line.ensures, l.desk.replies.ok.0)) c.items.ensures lt c.in-Some.ensures.lookup.1 in
+    (omega (arith, c.len-line.ensures, l.context.replies.ok.0)) c.items.ensures lt c.in-Some.ensures.lookup.1 in
     let state = begin_state pool l lane is command later left in
-    let d = c.begin_with-turn.new.desk in let turn = c.begin_with-turn.result in let n = c.stops_at-stops.new.asked in
+    let d = c.begin_with-turn.new.context in let turn = c.begin_with-turn.result in let n =
+    c.stops_at-stops.new.asked in
     let t = c.begin_with-turn.ensures lane.state state in
     let asked = c.stops_at-stops.ensures.asked in
     let few = few_asked l.asked c.len-line.result n (length l.commands) lane.asked
     (let a = ap (λ (cs : List Command). length cs) c.items.ensures in omega (arith, a, lt)) asked in
-    let line_is : c.len-line.result ≡ length l.desk.replies.items =
-    omega (arith, c.len-line.ensures, l.desk.replies.ok.0) in
-    let line : length l.desk.replies.items < n =
+    let line_is : c.len-line.result ≡ length l.context.replies.items =
+    omega (arith, c.len-line.ensures, l.context.replies.ok.0) in
+    let line : length l.context.replies.items < n =
     (let a = line_asked l.asked c.len-line.result n asked in omega (arith, a, line_is)) in
     let new = c.after-2.new.self in let new_is = c.after-2.ensures.next in
     record {

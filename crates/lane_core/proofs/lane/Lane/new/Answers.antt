@@ -1,5 +1,5 @@
 use Rattle.std.proofs.Common.{false, refl}
-use Rattle.lane_core.specs.declared.desk.Stage.TheVariants.{Ready}
+use Rattle.lane_core.specs.declared.context.Stage.TheVariants.{Ready}
 use Rattle.lane_core.proofs.Heeding.{heeds_first}
 use Rattle.lane_core.proofs.OpenedLaws.{IsLane-first}
 use Rattle.lane_core.proofs.lane.Lane.new.Goals as goal
@@ -10,7 +10,7 @@ returns-clause-lane c = λ pool first.
     IsLane-first pool c.args.shape.now
     (record {
       commands = c.args.commands;
-      desk =
+      context =
           record {
             shape = c.args.shape.now;
             classes = p.classes;
@@ -37,7 +37,7 @@ returns-clause-fresh c = λ stops.
     heeds_first stops
     (record {
       commands = c.args.commands;
-      desk =
+      context =
           record {
             shape = c.args.shape.now;
             classes = p.classes;

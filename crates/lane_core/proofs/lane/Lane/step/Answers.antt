@@ -3,19 +3,19 @@ use Rattle.std.specs.Prelude.{IfOk, OnErr}
 use Rattle.pool_law.specs.declared.command.Command.{Command}
 use Rattle.shared_pool.specs.declared.pool.SharedPool.{SharedPool}
 use Rattle.lane_core.specs.declared.lane.Lane.{Lane}
-use Rattle.pool_table.specs.Seats.{view_of}
-use Rattle.lane_core.specs.declared.desk.Stage.{Stage}
-use Rattle.lane_core.specs.declared.desk.Stage.TheVariants.{Ready, Closing}
+use Rattle.shared_pool.specs.SeatViews.{view_of}
+use Rattle.lane_core.specs.declared.context.Stage.{Stage}
+use Rattle.lane_core.specs.declared.context.Stage.TheVariants.{Ready, Closing}
 use Rattle.lane_core.specs.declared.draining.Draining.TheVariants.{Done}
 use Rattle.pool_law.specs.LaneStates.{LaneState}
 use Rattle.lane_core.specs.Named.{NamesAre}
 use Rattle.lane_core.specs.declared.lane.Stepped.{Stepped}
-use Rattle.lane_core.specs.Desks.{IsDesk, hand_of, Fits, NameFits, IsUnderway, HasTurned, HasRoomFor, left_at}
+use Rattle.lane_core.specs.Contexts.{IsContext, hand_of, Fits, NameFits, IsUnderway, HasTurned, HasRoomFor, left_at}
 use Rattle.lane_core.specs.Lanes.{Heeds, IsLane, IsRunningLane, SameLane, number_of}
 use Rattle.lane_core.specs.Steps.{HasStepped, at_stage}
 use Rattle.lane_core.proofs.StageCases.{underway}
 use Rattle.lane_core.proofs.LaneTurns.{underway_room, underway_replies, underway_lane, underway_same, underway_so, underway_heeds}
-use Rattle.lane_core.proofs.EitherLane.{running_is, lane_or, lane_desk}
+use Rattle.lane_core.proofs.EitherLane.{running_is, lane_or, lane_context}
 use Rattle.lane_core.proofs.lane.Lane.step.Goals as goal
 
 pub begin-requires : goal.begin-requires
@@ -70,30 +70,31 @@ returns-in-Closing g c =
 running : (pool : SharedPool) (l : Lane) → IsLane pool l → IsUnderway l.stage → IsRunningLane pool l
 running pool l lane u = lane_or pool l (IsRunningLane pool l) lane (λ s. absurd (s.underway u)) (λ r. r)
 
-pub go_on-turn-requires-clause-desk : goal.go_on-turn-requires-clause-desk
-go_on-turn-requires-clause-desk g c =
+pub go_on-turn-requires-clause-context : goal.go_on-turn-requires-clause-context
+go_on-turn-requires-clause-context g c =
     let l = c.args.self.now in
-    subst (λ (x : Stage). IsDesk c.args.pool.now (hand_of x) l.desk) (sym c.replace.ensures.value)
-    (lane_desk c.args.pool.now l c.requires.lane)
+    subst (λ (x : Stage). IsContext c.args.pool.now (hand_of x) l.context) (sym c.replace.ensures.value)
+    (lane_context c.args.pool.now l c.requires.lane)
 
 pub go_on-turn-requires-clause-fits : goal.go_on-turn-requires-clause-fits
 go_on-turn-requires-clause-fits g c =
     let pool = c.args.pool.now in let l = c.args.self.now in
-    subst (λ (x : Stage). Fits pool l.desk x) (sym c.replace.ensures.value)
-    (lane_or pool l (Fits pool l.desk l.stage) c.requires.lane (λ s. s.fits) (λ r. r.fits))
+    subst (λ (x : Stage). Fits pool l.context x) (sym c.replace.ensures.value)
+    (lane_or pool l (Fits pool l.context l.stage) c.requires.lane (λ s. s.fits) (λ r. r.fits))
 
 pub go_on-turn-requires-clause-name : goal.go_on-turn-requires-clause-name
 go_on-turn-requires-clause-name g c =
     let l = c.args.self.now in
     let u = underway l.stage (λ e. c.in_default.not-Ready (c.replace.ensures.value ∙ e))
     (λ x e. c.in_default.not-Closing x (c.replace.ensures.value ∙ e)) in
-    subst (λ (x : Stage). NameFits l.desk x) (sym c.replace.ensures.value)
+    subst (λ (x : Stage). NameFits l.context x) (sym c.replace.ensures.value)
     (running c.args.pool.now l c.requires.lane u).names
 
 pub go_on-turn-requires-clause-room : goal.go_on-turn-requires-clause-room
 go_on-turn-requires-clause-room g c =
-    λ command. subst (λ (x : Stage). HasRoomFor c.args.self.now.desk
-    (left_at c.args.self.now.desk.composes command x (view_of c.args.self.now.desk.seat))) (sym c.replace.ensures.value)
+    λ command. subst (λ (x : Stage). HasRoomFor c.args.pool.now c.args.self.now.context
+    (left_at c.args.self.now.context.composes command x (view_of c.args.self.now.context.seat)))
+    (sym c.replace.ensures.value)
     (let u = underway c.args.self.now.stage (λ e. c.in_default.not-Ready (c.replace.ensures.value ∙ e))
     (λ x e. c.in_default.not-Closing x (c.replace.ensures.value ∙ e)) in
     underway_room c.args.pool.now c.args.self.now (running c.args.pool.now c.args.self.now c.requires.lane u) u command)
@@ -111,8 +112,8 @@ returns-in_default g c =
     let u = underway l.stage (λ e. c.in_default.not-Ready (c.replace.ensures.value ∙ e))
     (λ x e. c.in_default.not-Closing x (c.replace.ensures.value ∙ e)) in
     let lane = running pool l c.requires.lane u in
-    let t = subst (λ (x : Stage). (s : LaneState) (command : Command) → NamesAre s.names l.desk.names
-    → HasTurned pool l.desk d s command x turn) c.replace.ensures.value c.go_on-turn.ensures in
+    let t = subst (λ (x : Stage). (s : LaneState) (command : Command) → NamesAre s.names l.context.names
+    → HasTurned pool l.context d s command x turn) c.replace.ensures.value c.go_on-turn.ensures in
     record {
       lane =
           running_is pool c.after.new.self

@@ -1,0 +1,273 @@
+use Rattle.std.proofs.Common.{◌≡◌, ℕ, List, refl, ap, ◌∙◌, subst, arith, Option, Some}
+use Rattle.std.specs.Prelude.{slice_set}
+use Rattle.pool_law.specs.declared.id.ViewData.{ViewData}
+use Rattle.pool_law.specs.declared.run.Reply.{Reply}
+use Rattle.pool_law.specs.Views.{view_of as root_view}
+use Rattle.pool_law.specs.Names.{Bound, Plain}
+use Rattle.lane_core.specs.declared.context.Context.{Context}
+use Rattle.lane_core.specs.declared.allotment.Allots.{Allots}
+use Rattle.lane_core.specs.declared.allotment.Allots.TheVariants.{NoHandle, Full}
+use Rattle.lane_core.specs.Allotments as allotment
+use Rattle.lane_core.specs.ContextSteps.{Concludes}
+use Rattle.lane_core.proofs.AllotTurns.{allot_goes, allot_waits, allot_new, allot_refused}
+use Rattle.lane_core.proofs.StageNeeds.{may_allot, few_births, log_room}
+use Rattle.lane_core.proofs.AllocTurns.{allot_can, new_place, new_alone, new_few, new_name}
+use Rattle.lane_core.proofs.context.Context.allot.Goals as goal
+
+-- the context behind a step, with the count that was kept before
+counted_so : (old : Context) (seat : _) (sampler : _) (notes : _) (m n : ℕ) → m ≡ n
+    → record old { seat = seat; sampler = sampler; notes = notes; asked = m }
+    ≡ record old { seat = seat; sampler = sampler; notes = notes; asked = n }
+counted_so old seat sampler notes m n is =
+    ap (λ (k : ℕ). record old { seat = seat; sampler = sampler; notes = notes; asked = k }) is
+
+pub asked_with-self-requires : goal.asked_with-self-requires
+asked_with-self-requires c = let a = c.requires.fits.2 in omega (arith, a)
+
+pub allot-allots-requires-clause-may : goal.allot-allots-requires-clause-may
+allot-allots-requires-clause-may c =
+    may_allot c.args.pool.now c.args.self.now c.args.class c.args.stage c.requires.context c.requires.room
+    c.requires.fits.1
+
+pub allot-allots-requires-clause-short : goal.allot-allots-requires-clause-short
+allot-allots-requires-clause-short c = c.requires.context.short
+
+pub allot-allots-requires-clause-shape : goal.allot-allots-requires-clause-shape
+allot-allots-requires-clause-shape c = c.requires.context.shape
+
+pub allot-allots-requires-clause-class : goal.allot-allots-requires-clause-class
+allot-allots-requires-clause-class c = c.requires.fits.0
+
+pub allot-allots-requires-clause-births : goal.allot-allots-requires-clause-births
+allot-allots-requires-clause-births c =
+    few_births c.args.pool.now (allotment.hand_of c.args.stage) c.args.self.now (allotment.left_of c.args.stage)
+    c.requires.context c.requires.room
+
+pub allot-allots-requires-clause-room : goal.allot-allots-requires-clause-room
+allot-allots-requires-clause-room c =
+    log_room c.args.pool.now (allotment.hand_of c.args.stage) c.args.self.now (allotment.left_of c.args.stage)
+    c.requires.context c.requires.room
+
+pub returns-in-More : goal.returns-in-More
+returns-in-More c = λ s command are.
+    let old = c.args.self.now in let pool = c.args.pool.now in let size = c.args.size in let class = c.args.class in
+    let stage = c.args.stage in let call = c.allot-allots in
+    let mid : Context = record old {
+      seat = call.new.seat;
+      sampler = call.new.sampler;
+      notes = call.new.log;
+      asked =
+          c.asked_with-self.result;
+    } in let mid_so =
+    counted_so old call.new.seat call.new.sampler call.new.log c.asked_with-self.result
+    (allotment.asks_of stage old.asked) c.asked_with-self.ensures in
+    allot_goes pool old mid c.args.name size class stage c.requires.context c.requires.fits.0 mid_so s command are
+    c.requires.name c.requires.fits.2 c.in-More.stage
+    (subst (λ (x : Allots). allotment.HasAllotted pool old.seat mid.seat old.sampler mid.sampler old.notes mid.notes
+    size class stage x) c.in-More.is call.ensures)
+
+pub returns-in-Held : goal.returns-in-Held
+returns-in-Held c = λ s command are.
+    let old = c.args.self.now in let pool = c.args.pool.now in let size = c.args.size in let class = c.args.class in
+    let stage = c.args.stage in let call = c.allot-allots in
+    let mid : Context = record old {
+      seat = call.new.seat;
+      sampler = call.new.sampler;
+      notes = call.new.log;
+      asked =
+          c.asked_with-self.result;
+    } in let mid_so =
+    counted_so old call.new.seat call.new.sampler call.new.log c.asked_with-self.result
+    (allotment.asks_of stage old.asked) c.asked_with-self.ensures in
+    allot_waits pool old mid c.args.name size class stage c.requires.context c.requires.fits.0 mid_so s command are
+    c.requires.name c.requires.fits.2 c.in-Held.held c.in-Held.stage
+    (subst (λ (x : Allots). allotment.HasAllotted pool old.seat mid.seat old.sampler mid.sampler old.notes mid.notes
+    size class stage x) c.in-Held.is call.ensures)
+
+pub add-requires-clause-place : goal.add-requires-clause-place
+add-requires-clause-place c =
+    let old = c.args.self.now in let pool = c.args.pool.now in let size = c.args.size in let class = c.args.class in
+    let stage = c.args.stage in let call = c.allot-allots in
+    let mid : Context = record old {
+      seat = call.new.seat;
+      sampler = call.new.sampler;
+      notes = call.new.log;
+      asked =
+          c.asked_with-self.result;
+    } in let mid_so =
+    counted_so old call.new.seat call.new.sampler call.new.log c.asked_with-self.result
+    (allotment.asks_of stage old.asked) c.asked_with-self.ensures in
+    let did = subst (λ (x : Allots). allotment.HasAllotted pool old.seat mid.seat old.sampler mid.sampler old.notes
+    mid.notes size class stage x) c.in-New.is call.ensures in
+    new_place pool old mid c.args.name size class stage c.requires.context c.requires.fits.0 mid_so c.in-New.root
+    c.in-New.region did
+
+pub add-requires-clause-alone : goal.add-requires-clause-alone
+add-requires-clause-alone c =
+    let old = c.args.self.now in let pool = c.args.pool.now in let size = c.args.size in let class = c.args.class in
+    let stage = c.args.stage in let call = c.allot-allots in
+    let mid : Context = record old {
+      seat = call.new.seat;
+      sampler = call.new.sampler;
+      notes = call.new.log;
+      asked =
+          c.asked_with-self.result;
+    } in let mid_so =
+    counted_so old call.new.seat call.new.sampler call.new.log c.asked_with-self.result
+    (allotment.asks_of stage old.asked) c.asked_with-self.ensures in
+    let did = subst (λ (x : Allots). allotment.HasAllotted pool old.seat mid.seat old.sampler mid.sampler old.notes
+    mid.notes size class stage x) c.in-New.is call.ensures in
+    new_alone pool old mid c.args.name size class stage c.requires.context c.requires.fits.0 mid_so c.in-New.root
+    c.in-New.region did
+
+pub add-requires-clause-few : goal.add-requires-clause-few
+add-requires-clause-few c =
+    let old = c.args.self.now in let pool = c.args.pool.now in let size = c.args.size in let class = c.args.class in
+    let stage = c.args.stage in let call = c.allot-allots in
+    let mid : Context = record old {
+      seat = call.new.seat;
+      sampler = call.new.sampler;
+      notes = call.new.log;
+      asked =
+          c.asked_with-self.result;
+    } in let mid_so =
+    counted_so old call.new.seat call.new.sampler call.new.log c.asked_with-self.result
+    (allotment.asks_of stage old.asked) c.asked_with-self.ensures in
+    let did = subst (λ (x : Allots). allotment.HasAllotted pool old.seat mid.seat old.sampler mid.sampler old.notes
+    mid.notes size class stage x) c.in-New.is call.ensures in
+    new_few pool old mid c.args.name size class stage c.requires.context c.requires.fits.0 mid_so c.in-New.root
+    c.in-New.region did c.requires.room
+
+pub bind-requires : goal.bind-requires
+bind-requires c =
+    let old = c.args.self.now in let pool = c.args.pool.now in let size = c.args.size in let class = c.args.class in
+    let stage = c.args.stage in let call = c.allot-allots in
+    let mid : Context = record old {
+      seat = call.new.seat;
+      sampler = call.new.sampler;
+      notes = call.new.log;
+      asked =
+          c.asked_with-self.result;
+    } in let mid_so =
+    counted_so old call.new.seat call.new.sampler call.new.log c.asked_with-self.result
+    (allotment.asks_of stage old.asked) c.asked_with-self.ensures in
+    let did = subst (λ (x : Allots). allotment.HasAllotted pool old.seat mid.seat old.sampler mid.sampler old.notes
+    mid.notes size class stage x) c.in-New.is call.ensures in
+    new_name pool old mid c.args.name size class stage c.requires.context c.requires.fits.0 mid_so c.in-New.root
+    c.in-New.region did c.requires.name
+
+pub conclude-requires : goal.conclude-requires
+conclude-requires c =
+    let old = c.args.self.now in let pool = c.args.pool.now in let size = c.args.size in let class = c.args.class in
+    let stage = c.args.stage in let call = c.allot-allots in
+    let mid : Context = record old {
+      seat = call.new.seat;
+      sampler = call.new.sampler;
+      notes = call.new.log;
+      asked =
+          c.asked_with-self.result;
+    } in let mid_so =
+    counted_so old call.new.seat call.new.sampler call.new.log c.asked_with-self.result
+    (allotment.asks_of stage old.asked) c.asked_with-self.ensures in
+    let can = allot_can pool old mid c.args.name size class stage c.requires.context c.requires.fits.0 mid_so
+    call.result
+    call.ensures c.requires.room c.requires.replies in
+    record { begun = can.begun; few = can.few; room = can.room }
+
+pub conclude-requires-in-NoHandle : goal.conclude-requires-in-NoHandle
+conclude-requires-in-NoHandle c =
+    let old = c.args.self.now in let pool = c.args.pool.now in let size = c.args.size in let class = c.args.class in
+    let stage = c.args.stage in let call = c.allot-allots in
+    let mid : Context = record old {
+      seat = call.new.seat;
+      sampler = call.new.sampler;
+      notes = call.new.log;
+      asked =
+          c.asked_with-self.result;
+    } in let mid_so =
+    counted_so old call.new.seat call.new.sampler call.new.log c.asked_with-self.result
+    (allotment.asks_of stage old.asked) c.asked_with-self.ensures in
+    let can = allot_can pool old mid c.args.name size class stage c.requires.context c.requires.fits.0 mid_so
+    call.result
+    call.ensures c.requires.room c.requires.replies in
+    record { begun = can.begun; few = can.few; room = can.room }
+
+pub conclude-requires-in-Full : goal.conclude-requires-in-Full
+conclude-requires-in-Full c =
+    let old = c.args.self.now in let pool = c.args.pool.now in let size = c.args.size in let class = c.args.class in
+    let stage = c.args.stage in let call = c.allot-allots in
+    let mid : Context = record old {
+      seat = call.new.seat;
+      sampler = call.new.sampler;
+      notes = call.new.log;
+      asked =
+          c.asked_with-self.result;
+    } in let mid_so =
+    counted_so old call.new.seat call.new.sampler call.new.log c.asked_with-self.result
+    (allotment.asks_of stage old.asked) c.asked_with-self.ensures in
+    let can = allot_can pool old mid c.args.name size class stage c.requires.context c.requires.fits.0 mid_so
+    call.result
+    call.ensures c.requires.room c.requires.replies in
+    record { begun = can.begun; few = can.few; room = can.room }
+
+pub returns-in-New : goal.returns-in-New
+returns-in-New c = λ s command are.
+    let old = c.args.self.now in let pool = c.args.pool.now in let size = c.args.size in let class = c.args.class in
+    let stage = c.args.stage in let call = c.allot-allots in
+    let mid : Context = record old {
+      seat = call.new.seat;
+      sampler = call.new.sampler;
+      notes = call.new.log;
+      asked =
+          c.asked_with-self.result;
+    } in let mid_so =
+    counted_so old call.new.seat call.new.sampler call.new.log c.asked_with-self.result
+    (allotment.asks_of stage old.asked) c.asked_with-self.ensures in
+    let did = subst (λ (x : Allots). allotment.HasAllotted pool old.seat mid.seat old.sampler mid.sampler old.notes
+    mid.notes size class stage x) c.in-New.is call.ensures in
+    let new = c.conclude.new.self in let cs = c.add.new.self in let root = c.in-New.root in
+    let bound : c.bind.new.self ≡ slice_set mid.names c.args.name (Some (Plain (root_view root))) = c.bind.ensures
+    ∙ ap (λ (v : ViewData). slice_set mid.names c.args.name (Some (Plain v))) c.of_root.ensures in
+    allot_new pool old mid c.args.name size class stage c.requires.context c.requires.fits.0 mid_so s command are
+    c.requires.name c.requires.fits.2 new root c.in-New.region did cs
+    (record { counts = c.add.ensures.counts; places = c.add.ensures.places }) c.conclude.result
+    (subst (λ (names : List (Option Bound)). Concludes (record mid { names = names; counts = cs }) new
+    (Reply.OkPlace c.in-New.region.place.len c.in-New.region.place) c.conclude.result) bound c.conclude.ensures)
+
+pub returns-in-NoHandle : goal.returns-in-NoHandle
+returns-in-NoHandle c = λ s command are.
+    let old = c.args.self.now in let pool = c.args.pool.now in let size = c.args.size in let class = c.args.class in
+    let stage = c.args.stage in let call = c.allot-allots in
+    let mid : Context = record old {
+      seat = call.new.seat;
+      sampler = call.new.sampler;
+      notes = call.new.log;
+      asked =
+          c.asked_with-self.result;
+    } in let mid_so =
+    counted_so old call.new.seat call.new.sampler call.new.log c.asked_with-self.result
+    (allotment.asks_of stage old.asked) c.asked_with-self.ensures in
+    let did = subst (λ (x : Allots). allotment.HasAllotted pool old.seat mid.seat old.sampler mid.sampler old.notes
+    mid.notes size class stage x) c.in-NoHandle.is call.ensures in
+    allot_refused pool old mid c.args.name size class stage c.requires.context c.requires.fits.0 mid_so s command are
+    c.requires.name c.requires.fits.2 c.conclude-in-NoHandle.new.self NoHandle Reply.Handles refl refl
+    (λ root. refl) refl (λ log some. some) refl did c.conclude-in-NoHandle.result c.conclude-in-NoHandle.ensures
+
+pub returns-in-Full : goal.returns-in-Full
+returns-in-Full c = λ s command are.
+    let old = c.args.self.now in let pool = c.args.pool.now in let size = c.args.size in let class = c.args.class in
+    let stage = c.args.stage in let call = c.allot-allots in
+    let mid : Context = record old {
+      seat = call.new.seat;
+      sampler = call.new.sampler;
+      notes = call.new.log;
+      asked =
+          c.asked_with-self.result;
+    } in let mid_so =
+    counted_so old call.new.seat call.new.sampler call.new.log c.asked_with-self.result
+    (allotment.asks_of stage old.asked) c.asked_with-self.ensures in
+    let did = subst (λ (x : Allots). allotment.HasAllotted pool old.seat mid.seat old.sampler mid.sampler old.notes
+    mid.notes size class stage x) c.in-Full.is call.ensures in
+    allot_refused pool old mid c.args.name size class stage c.requires.context c.requires.fits.0 mid_so s command are
+    c.requires.name c.requires.fits.2 c.conclude-in-Full.new.self Full Reply.Full refl refl (λ root. refl) refl
+    (λ log some. some) refl did c.conclude-in-Full.result c.conclude-in-Full.ensures
