@@ -1,8 +1,8 @@
 #![tactic(auto)]
 //! The objects of a pool as plain data, each with the steps that the law gives it.
 //!
-//! An arena with its chunks and lists, a cache, a bin, a mail and a root place: each has its first state
-//! and one step for each note, and says none where a note may not stand. It stands on `pool_law`,
+//! An arena with its chunks and lists, a cache, a bin and a root place: each has its first state and one
+//! step for each note, and says none where a note may not stand. It stands on `pool_law`,
 //! `size_classes` and `ground` alone. Of this a checker of runs takes whether an object accepts a history
 //! (`accepts`), what an arena comes to (`arena_after`), what a root place tells of its notes
 //! (`told_of_each`), the size classes and the limits of a shape.
@@ -14,7 +14,6 @@ mod chunk;
 mod elements;
 mod limits;
 mod lists;
-mod mail;
 mod objects;
 mod page_runs;
 mod place;
@@ -24,14 +23,14 @@ mod sizes;
 mod subpage_list;
 mod takings;
 mod telling;
-#[cfg(test)]
-mod tests;
 mod told;
 
 pub use arena::Arena;
+pub use cache::Cache;
 pub use limits::is_shape;
 pub use lists::same_list;
 pub use objects::{accepts, arena_after};
+pub use place::RootPlace;
 pub use sizes::Sizes;
 pub use telling::told_of_each;
 pub use told::Told;

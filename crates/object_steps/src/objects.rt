@@ -6,7 +6,6 @@ ghost use Rattle.pool_law.specs.Histories.{
   arena_after,
   cache_after,
   bin_after,
-  mail_after,
   place_after,
   accepts,
 };
@@ -15,7 +14,6 @@ ghost use Rattle.object_steps.specs.Behind.{dids_behind};
 use crate::arena::Arena;
 use crate::bin::Bin;
 use crate::cache::Cache;
-use crate::mail::Mail;
 use crate::place::RootPlace;
 use crate::sizes::Sizes;
 use pool_law::{Did, Object, Shape};
@@ -82,20 +80,6 @@ pub fn bin_after(
     Ok(Some(bin))
 }
 
-/// A mail after these notes, and none where one of them may not stand.
-pub fn mail_after(alloc: Global, dids: &[&Did]) -> Result<Option<Mail>, AllocError>
-    ensures { IfOk result (λ mail. mail ≡ mail_after (dids_behind dids.now)) }
-{
-    let mut mail = Mail::new(alloc);
-    for did in dids {
-        match mail.step(did)? {
-            Some(next) => mail = next,
-            None => return Ok(None),
-        }
-    }
-    Ok(Some(mail))
-}
-
 /// A root place after these notes, and none where one of them may not stand.
 pub fn place_after(
     alloc: Global,
@@ -114,7 +98,7 @@ pub fn place_after(
     Ok(Some(place))
 }
 
-/// Whether these notes are a history of the object.
+/// Whether these notes are a history of the object. A mail has none.
 pub fn accepts(
     alloc: Global,
     shape: &Shape,
@@ -140,10 +124,7 @@ pub fn accepts(
             let bin = bin_after(alloc, shape, *lane, dids)?;
             Ok(bin.is_some())
         }
-        Object::Mail { from: _, to: _ } => {
-            let mail = mail_after(alloc, dids)?;
-            Ok(mail.is_some())
-        }
+        Object::Mail { from: _, to: _ } => Ok(false),
         Object::Root(number) => {
             let place = place_after(alloc, *number, dids)?;
             Ok(place.is_some())

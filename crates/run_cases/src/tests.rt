@@ -3,6 +3,7 @@
 mod composites;
 mod kept;
 mod leaks;
+mod mails;
 mod small_pages;
 mod smallest;
 mod stops;

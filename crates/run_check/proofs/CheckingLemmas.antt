@@ -1,49 +1,59 @@
 -- What is asked of a run holds by what the program keeps of it.
-use Rattle.std.proofs.Common.{◌≡◌, ℕ, length, sym, subst}
-use Rattle.std.specs.Prelude.{IsTrue}
+use Rattle.std.proofs.Common.{◌≡◌, ℕ, true, List, Option, Some, Vec, length, sym, subst}
+use Rattle.std.specs.Prelude.{IsTrue, MatchOption}
+use Rattle.std.specs.declared.alloc.Global.{Global}
 use Rattle.std.specs.List.{list_all}
 use Rattle.pool_law.specs.declared.note.Object.{Object}
 use Rattle.pool_law.specs.declared.run.Shape.{Shape}
-use Rattle.pool_law.specs.Logs.{Logs, History, dids, of_lane, note_stands, IsHistory, history_of}
+use Rattle.pool_law.specs.Logs.{Logs, History, dids, of_lane, note_stands, has_history, IsHistory, history_of}
 use Rattle.pool_law.specs.Histories.{IsAccepted}
 use Rattle.pool_law.specs.Busy.{BusyHolds}
+use Rattle.pool_law.specs.declared.run.LaneLog.{LaneLog}
 use Rattle.pool_law.specs.declared.run.Run.{Run}
 use Rattle.pool_law.specs.Limits.{IsShape}
 use Rattle.pool_law.specs.Legal.{HistoriesHold, AreCommands, IsLegal, logs_of}
 use Rattle.run_check.specs.Checking.{CountsRight, NotesRight, AnswersRight}
 use Rattle.pool_law.proofs.HistoryLemmas.{history_of-is}
 use Rattle.run_check.specs.declared.histories.Histories.{Histories}
-use Rattle.run_check.specs.Storing.{history_in, AreHistories}
+use Rattle.object_steps.specs.declared.told.Told.{Told}
+use Rattle.run_check.specs.Spotting.{notes_in}
+use Rattle.run_check.specs.Storing.{history_in, IsBroken, AreHistories}
+use Rattle.run_check.specs.Entering.{AreTold}
 use Rattle.run_check.proofs.MarkLemmas.{marks-same}
 
 module _ (shape : Shape) (logs : Logs) (m : Histories) (are : AreHistories shape logs m) where
-  history-is : (object : Object) → history_of object logs ≡ history_in m object
-  history-is object = history_of-is object logs (history_in m object) (are.whole object)
+  history-is : (object : Object) → has_history object ≡ true → history_of object logs ≡ history_in m object
+  history-is object has = history_of-is object logs (history_in m object) (are.whole object has)
 
-  pub busy-on : (lane : ℕ) → BusyHolds lane (history_in m) (of_lane logs lane) →
+  pub busy-on : (lane : ℕ) → IsTrue (list_all (note_stands shape lane) (of_lane logs lane)) →
+      BusyHolds lane (history_in m) (of_lane logs lane) →
       BusyHolds lane (λ object. history_of object logs) (of_lane logs lane)
-  busy-on lane b = record {
+  busy-on lane stand b = record {
     fit = b.fit;
     marks =
-        marks-same lane (history_in m) (λ object. history_of object logs) (λ object. sym (history-is object))
-        (of_lane logs lane) b.marks;
+        marks-same shape lane (history_in m) (λ object. history_of object logs)
+        (λ object has. sym (history-is object has)) (of_lane logs lane) stand b.marks;
   }
 
-  pub busy-back : (lane : ℕ) → BusyHolds lane (λ object. history_of object logs) (of_lane logs lane) →
+  pub busy-back : (lane : ℕ) → IsTrue (list_all (note_stands shape lane) (of_lane logs lane)) →
+      BusyHolds lane (λ object. history_of object logs) (of_lane logs lane) →
       BusyHolds lane (history_in m) (of_lane logs lane)
-  busy-back lane b = record {
+  busy-back lane stand b = record {
     fit = b.fit;
     marks =
-        marks-same lane (λ object. history_of object logs) (history_in m) history-is (of_lane logs lane) b.marks;
+        marks-same shape lane (λ object. history_of object logs) (history_in m) history-is (of_lane logs lane) stand
+        b.marks;
   }
 
   pub histories-hold : ((lane : ℕ) → IsTrue (list_all (note_stands shape lane) (of_lane logs lane))) →
       HistoriesHold shape logs
   histories-hold stand = record {
-    whole = λ object.
-        subst (λ (h : History). IsHistory object logs h) (sym (history-is object)) (are.whole object);
-    accepted = λ object.
-        subst (λ (h : History). IsAccepted shape object (dids h)) (sym (history-is object)) (are.accepted object);
+    whole = λ object has.
+        subst (λ (h : History). IsHistory object logs h) (sym (history-is object has)) (are.whole object has);
+    accepted = λ object has.
+        subst (λ (h : History). IsAccepted shape object (dids h)) (sym (history-is object has))
+        (are.accepted object has);
+    mails = are.mails;
     stand = stand;
   }
 
@@ -66,3 +76,23 @@ legal-is run m shape lanes logs commands are notes answers counts = record {
 
 pub legal-counts : (run : Run) → IsLegal run → CountsRight run
 legal-counts run right = record { counts = right.counts; leaks = right.leaks }
+
+-- the histories that were found are those of the logs, and what is told by them is told of the logs
+module _ (shape : Shape) (read logs : List LaneLog) (m : Histories) (same : read ≡ logs) where
+  pub found-are : (found : Option Histories) → found ≡ Some m →
+      MatchOption found (IsBroken shape (notes_in read)) (AreHistories shape (notes_in read)) →
+      AreHistories shape (notes_in logs) m
+  found-are found is are =
+      subst (λ (ls : List LaneLog). AreHistories shape (notes_in ls) m) same
+      (subst
+      (λ (o : Option Histories). MatchOption o (IsBroken shape (notes_in read)) (AreHistories shape (notes_in read)))
+      is are)
+
+  pub told-are : (pushed told : List (Vec Told Global)) → told ≡ pushed → AreHistories shape (notes_in logs) m →
+      ((s : Shape) → AreHistories s (notes_in read) m → AreTold (notes_in read) pushed read) →
+      AreTold (notes_in logs) told logs
+  told-are pushed told is are tells =
+      subst (λ (ts : List (Vec Told Global)). AreTold (notes_in logs) ts logs) (sym is)
+      (subst
+      (λ (ls : List LaneLog). ((s : Shape) → AreHistories s (notes_in ls) m → AreTold (notes_in ls) pushed ls)) same
+      tells shape are)

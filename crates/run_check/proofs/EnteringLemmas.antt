@@ -114,11 +114,11 @@ module _ (shape : Shape) (logs : Logs) (m : Histories) (are : AreHistories shape
       let mine : StandsIn (number, did) (own (Root place) (of_lane logs noted.0)) =
       own-has place number did (of_lane logs noted.0) noted.1 noted.2 in
       let same : slice_get (numbered noted.0 1 h) mine.0 ≡ Some (number, did) =
-      ap (λ (xs : List (ℕ × Did)). slice_get xs mine.0) (sym (are.whole (Root place) noted.0)) ∙ mine.1 in
+      ap (λ (xs : List (ℕ × Did)). slice_get xs mine.0) (sym (are.whole (Root place) refl noted.0)) ∙ mine.1 in
       let there : (1 ≤ number) × (slice_get h (number - 1) ≡ Some (noted.0, did)) =
       numbered-has noted.0 1 h number did mine.0 same in
       let before : (t : RootPlace) × (after (place_step place) new_place (take (number - 1) (dids h)) ≡ Some t) =
-      after-front (place_step place) new_place (dids h) (number - 1) (are.accepted (Root place)) in
+      after-front (place_step place) new_place (dids h) (number - 1) (are.accepted (Root place) refl) in
       let found : slice_get (told_of_each place new_place (dids h)) (number - 1) ≡ Some (told_by did before.0.present) =
       told-at place new_place (dids h) (number - 1) did before.0 (get-dids h (number - 1) noted.0 did there.1)
       before.1 in
@@ -130,7 +130,7 @@ module _ (shape : Shape) (logs : Logs) (m : Histories) (are : AreHistories shape
       (place_after place (take (number - 1) (dids (history_of (Root place) logs)))) =
       ap present_in (sym before.1)
       ∙ ap (λ (g : History). present_in (place_after place (take (number - 1) (dids g))))
-      (sym (history_of-is (Root place) logs h (are.whole (Root place)))) in
+      (sym (history_of-is (Root place) logs h (are.whole (Root place) refl))) in
       ap (entry (At (Root place) number did)) (what ∙ ap (told_by did) present)
 
 -- the notes of a lane, one further

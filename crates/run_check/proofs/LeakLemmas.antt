@@ -7,7 +7,6 @@ use Rattle.run_check.specs.declared.merging.Done.{Done}
 use Rattle.std.specs.Prelude.{◌==◌, ◌&&◌, not, if◌then◌else◌}
 use Rattle.std.specs.List.{AllZip}
 use Rattle.pool_law.specs.declared.id.RootId.{RootId}
-use Rattle.pool_law.specs.declared.note.Object.{Object}
 use Rattle.pool_law.specs.declared.note.Object.TheVariants.{Arena, Cache, Bin, Mail, Root}
 use Rattle.pool_law.specs.declared.note.Note.{Note}
 use Rattle.pool_law.specs.declared.note.Note.TheVariants.{At, Ref, Busy}
@@ -46,8 +45,9 @@ module _ (shape : Shape) (logs : List LaneLog) (m : Histories) (tallies : List T
       ap (λ (s : Sums). (1 + s.retains) - s.releases)
       (totals-counted (entry_of (notes_in logs)) (entry-bare (notes_in logs)) root tallies logs sums)
 
-  history-is : (object : Object) → history_in m object ≡ history_of object (notes_in logs)
-  history-is object = sym (history_of-is object (notes_in logs) (history_in m object) (are.whole object))
+  history-is : (place : ℕ) → history_in m (Root place) ≡ history_of (Root place) (notes_in logs)
+  history-is place =
+      sym (history_of-is (Root place) (notes_in logs) (history_in m (Root place)) (are.whole (Root place) refl))
 
   one-is : (lane serial : ℕ) (root : RootId) →
       one_leak shape m tallies lane serial root
@@ -63,9 +63,9 @@ module _ (shape : Shape) (logs : List LaneLog) (m : Histories) (tallies : List T
         capacity = root.capacity;
         count = total-is root i;
         records =
-            (if keeps_records shape.level then kept_of (accesses root false (history-is (Root root.place) i)) else []);
+            (if keeps_records shape.level then kept_of (accesses root false (history-is root.place i)) else []);
         dropped =
-            (if keeps_records shape.level then dropped_of (accesses root false (history-is (Root root.place) i)) else
+            (if keeps_records shape.level then dropped_of (accesses root false (history-is root.place i)) else
             0);
       } ∷ []
       else []

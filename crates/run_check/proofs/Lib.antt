@@ -5,7 +5,8 @@ mod LaneLemmas
 mod KeyLemmas
 mod SpotLemmas
 mod MergingLemmas
-mod StoryLemmas
+mod MailLemmas
+mod ObjectHistoryLemmas
 mod StepwiseLemmas
 mod ReadingLemmas
 mod NeedingLemmas

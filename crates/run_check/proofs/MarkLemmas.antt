@@ -1,6 +1,7 @@
 -- Marks that fit, one note further.
 use Rattle.std.proofs.Common.{◌≡◌, ℕ, ◌+◌, ◌≤◌, Bool, true, false, List, [], ◌∷◌, Option, Some, refl, sym, ap, subst, arith, ◌∙◌}
 use Rattle.std.specs.Prelude.{◌↔◌, max, nat_le, if◌then◌else◌, slice_get, unwrap_or, MatchBool, IsTrue}
+use Rattle.std.specs.List.{list_all}
 use Rattle.std.proofs.lemmas.Bool.{leb-true}
 use Rattle.pool_law.specs.declared.note.Object.{Object}
 use Rattle.pool_law.specs.declared.note.Did.{Did}
@@ -8,9 +9,10 @@ use Rattle.pool_law.specs.declared.note.Held.{Held}
 use Rattle.pool_law.specs.declared.note.Note.{Note}
 use Rattle.pool_law.specs.declared.note.Note.TheVariants.{At, Ref, Busy}
 use Rattle.pool_law.specs.Same.{same_object}
-use Rattle.pool_law.specs.Logs.{History}
+use Rattle.pool_law.specs.declared.run.Shape.{Shape}
+use Rattle.pool_law.specs.Logs.{History, has_history, may_stand, note_stands}
 use Rattle.pool_law.specs.Busy.{MarksFit, IsOfAnother, MarksHold}
-use Rattle.pool_law.proofs.SameLemmas.{same_object-is}
+use Rattle.pool_law.proofs.SameLemmas.{same_object-is, and-first, and-second}
 use Rattle.run_check.specs.declared.busy.Had.{Had}
 use Rattle.run_check.specs.Marking.{none_had, least_after, FitFrom, had_note, had_mark, had_after, MayCome}
 use Rattle.run_check.proofs.KeyLemmas.{same-object-self}
@@ -57,16 +59,21 @@ fit-back object h (Busy held) ns may rest = go (same_object object held.object) 
     go false may f = f
 fit-back object h (Ref root did) ns may rest = rest
 
--- marks hold by any histories that are the same
-pub marks-same : (lane : ℕ) (f h : Object → History) → ((object : Object) → f object ≡ h object) → (ns : List Note) →
-    MarksHold lane f ns → MarksHold lane h ns
-marks-same lane f h same [] m = tt
-marks-same lane f h same (Busy held ∷ ns) m = (
-  subst (λ (g : History). IsOfAnother lane (slice_get g held.number)) (same held.object) m.0,
-  marks-same lane f h same ns m.1,
+-- marks hold by any histories that are the same, where each is at an object with a history
+pub marks-same : (shape : Shape) (lane : ℕ) (f h : Object → History) →
+    ((object : Object) → has_history object ≡ true → f object ≡ h object) → (ns : List Note) →
+    list_all (note_stands shape lane) ns ≡ true → MarksHold lane f ns → MarksHold lane h ns
+marks-same shape lane f h same [] stand m = tt
+marks-same shape lane f h same (Busy held ∷ ns) stand m = (
+  subst (λ (g : History). IsOfAnother lane (slice_get g held.number))
+      (same held.object (and-first (has_history held.object) (list_all (note_stands shape lane) ns) stand)) m.0,
+  marks-same shape lane f h same ns (and-second (has_history held.object) (list_all (note_stands shape lane) ns) stand)
+      m.1,
 )
-marks-same lane f h same (At object number did ∷ ns) m = marks-same lane f h same ns m
-marks-same lane f h same (Ref root did ∷ ns) m = marks-same lane f h same ns m
+marks-same shape lane f h same (At object number did ∷ ns) stand m =
+    marks-same shape lane f h same ns
+    (and-second (may_stand shape lane object did) (list_all (note_stands shape lane) ns) stand) m
+marks-same shape lane f h same (Ref root did ∷ ns) stand m = marks-same shape lane f h same ns stand m
 
 -- a note may come next for each object, where it may for its own
 pub note-may : (had : Object → Had) (o : Object) (number : ℕ) (did : Did) (good : Bool) →

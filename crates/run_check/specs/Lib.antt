@@ -4,6 +4,7 @@ pub mod Fitting
 pub mod Keying
 pub mod Spotting
 pub mod Merging
+pub mod Mailing
 pub mod Storing
 pub mod Marking
 pub mod Reporting

@@ -4,16 +4,18 @@ ghost use Rattle.std.specs.Prelude.{◌≡◌, ◌≤◌, ◌^◌, [], ◌∷◌
 ghost use Rattle.std.specs.Option.{option_copied};
 ghost use Rattle.pool_law.specs.declared.note.Object.{Object};
 ghost use Rattle.pool_law.specs.Limits.{geometry_of};
-ghost use Rattle.pool_law.specs.Logs.{Logs, dids, own};
-ghost use Rattle.pool_law.specs.Legal.{HistoriesHold};
+ghost use Rattle.pool_law.specs.declared.run.Shape.{Shape};
+ghost use Rattle.pool_law.specs.Logs.{Logs, dids, own, has_history};
 ghost use Rattle.object_steps.specs.Behind.{dids_behind};
 ghost use Rattle.run_check.specs.Merging.{dones_in};
 ghost use Rattle.run_check.specs.Spotting.{notes_in, AreSpots};
-ghost use Rattle.run_check.specs.Storing.{TellsOf, story_in, has_story, history_in, told_in, IsStory, IsBroken, AreStories, Keeps, Covers, AreHistories};
+ghost use Rattle.run_check.specs.Storing.{TellsOf, object_history_in, has_object_history, history_in, told_in, IsObjectHistory, IsBroken, AreStories, Keeps, Covers, AreHistories};
 
 use crate::keys::object_key;
+use crate::mails::mail_holds;
 use crate::merging::{Done, merged};
 use crate::spots::{Spots, left_at, spots_of};
+use crate::stands::has_history;
 use object_steps::{Sizes, Told, accepts, told_of_each};
 use pool_law::{Did, LaneLog, Note, Object, Shape};
 use std::alloc::{AllocError, Global};
@@ -21,7 +23,7 @@ use std::collections::BTreeMap;
 
 /// The history of an object, and of a root place what is told of each of its notes.
 #[derive(Drop)]
-pub struct Story<'a> {
+pub struct ObjectHistory<'a> {
     dones: Vec<Done<'a>>,
     told: Vec<Told>,
 }
@@ -29,7 +31,7 @@ pub struct Story<'a> {
 /// The histories of the objects that notes name.
 #[derive(Drop)]
 pub struct Histories<'a> {
-    map: BTreeMap<(u32, u32, u32), Story<'a>>,
+    map: BTreeMap<(u32, u32, u32), ObjectHistory<'a>>,
     // Of this nothing is read but an empty part.
     none: Vec<Done<'a>>,
 }
@@ -68,21 +70,43 @@ fn told_at(
     }
 }
 
-// The story of an object, and none where its history is not whole or is not accepted.
-fn story_of<'a>(
+// The history of a mail, which has no history, and none where the mail does not hold.
+fn object_history_of_mail<'a>(
+    alloc: Global,
+    lanes: &[Spots<'a>],
+    mail: &Object,
+) -> Result<Option<ObjectHistory<'a>>, AllocError>
+    requires { has_history mail.now ≡ false }
+    ensures { (shape : Shape) → (logs : Logs) → AreSpots lanes.now logs → IfOk result (λ told.
+        MatchOption told (IsBroken shape logs) (IsObjectHistory shape logs mail.now)) }
+{
+    if !mail_holds(alloc, lanes, mail)? {
+        return Ok(None);
+    }
+    Ok(Some(ObjectHistory {
+        dones: Vec::new(alloc),
+        told: Vec::new(alloc),
+    }))
+}
+
+// The history of an object, and none where its history is not whole or is not accepted, or where it is
+// a mail that does not hold.
+fn object_history_of<'a>(
     alloc: Global,
     shape: &Shape,
     sizes: &Sizes,
     lanes: &[Spots<'a>],
     object: &Object,
-) -> Result<Option<Story<'a>>, AllocError>
+) -> Result<Option<ObjectHistory<'a>>, AllocError>
     requires sizes { sizes.now ≡ geometry_of shape.now }
     requires chunks { shape.now.chunks ≤ 2 ^ 16 }
     requires handles { 1 ≤ shape.now.handles }
-    ensures { (logs : Logs) → AreSpots lanes.now logs → IfOk result (λ story.
-        MatchOption story (IsBroken shape.now logs object.now)
-        (IsStory shape.now logs object.now)) }
+    ensures { (logs : Logs) → AreSpots lanes.now logs → IfOk result (λ told.
+        MatchOption told (IsBroken shape.now logs) (IsObjectHistory shape.now logs object.now)) }
 {
+    if !has_history(object) {
+        return object_history_of_mail(alloc, lanes, object);
+    }
     let left = left_at(alloc, lanes, object)?;
     let found = merged(alloc, left)?;
     let Some(dones) = found else {
@@ -91,7 +115,7 @@ fn story_of<'a>(
     let dids = dids_of(alloc, &dones)?;
     let accepted = told_at(alloc, shape, sizes, object, &dids)?;
     match accepted {
-        Some(told) => Ok(Some(Story { dones, told })),
+        Some(told) => Ok(Some(ObjectHistory { dones, told })),
         None => Ok(None),
     }
 }
@@ -99,7 +123,7 @@ fn story_of<'a>(
 impl<'a> Histories<'a> {
     /// No history.
     fn new(alloc: Global) -> Histories<'a>
-        ensures { (object : Object) → has_story result object ≡ false }
+        ensures { (object : Object) → has_object_history result object ≡ false }
     {
         Histories {
             map: BTreeMap::new(alloc),
@@ -107,9 +131,9 @@ impl<'a> Histories<'a> {
         }
     }
 
-    // The story of an object, if it is there.
-    fn found(&self, object: &Object) -> Option<&Story<'a>>
-        ensures { option_copied result ≡ story_in self.now object.now }
+    // The history of an object, if it is there.
+    fn found(&self, object: &Object) -> Option<&ObjectHistory<'a>>
+        ensures { option_copied result ≡ object_history_in self.now object.now }
     {
         self.map.get(&object_key(object))
     }
@@ -119,8 +143,8 @@ impl<'a> Histories<'a> {
         ensures { MatchOption result (history_in self.now object.now ≡ [])
             (λ dones. dones_in dones.now ≡ history_in self.now object.now) }
     {
-        let story = self.found(object)?;
-        Some(&story.dones)
+        let object_history = self.found(object)?;
+        Some(&object_history.dones)
     }
 
     /// The history of an object.
@@ -135,8 +159,8 @@ impl<'a> Histories<'a> {
         ensures { MatchOption result (told_in self.now place ≡ [])
             (λ told. told.now ≡ told_in self.now place) }
     {
-        let story = self.found(&Object::Root(place))?;
-        Some(&story.told)
+        let object_history = self.found(&Object::Root(place))?;
+        Some(&object_history.told)
     }
 
     /// What is told of each note at a root place.
@@ -146,7 +170,7 @@ impl<'a> Histories<'a> {
         self.found_told(place).unwrap_or(&[])
     }
 
-    // Adds the story of an object, if it is not there. False where it has none.
+    // Adds the history of an object, if it is not there. False where it has none.
     fn add(
         &mut self,
         alloc: Global,
@@ -161,23 +185,23 @@ impl<'a> Histories<'a> {
         ensures { (logs : Logs) → AreSpots lanes.now logs → AreStories shape.now logs self.old
             → IfOk result (λ good. MatchBool good
             (AreStories shape.now logs self.new × Keeps self.old self.new
-            × (has_story self.new object.now ≡ true))
-            (IsBroken shape.now logs object.now)) }
+            × (has_object_history self.new object.now ≡ true))
+            (IsBroken shape.now logs)) }
     {
         let key = object_key(object);
         if self.map.contains_key(&key) {
             return Ok(true);
         }
-        match story_of(alloc, shape, sizes, lanes, object)? {
-            Some(story) => {
-                self.map.insert(key, story)?;
+        match object_history_of(alloc, shape, sizes, lanes, object)? {
+            Some(object_history) => {
+                self.map.insert(key, object_history)?;
                 Ok(true)
             }
             None => Ok(false),
         }
     }
 
-    // Adds the story of the object that a note names. False where it has none.
+    // Adds the history of the object that a note names. False where it has none.
     fn add_note(
         &mut self,
         alloc: Global,
@@ -193,7 +217,7 @@ impl<'a> Histories<'a> {
             → IfOk result (λ good. MatchBool good
             (AreStories shape.now logs self.new × Keeps self.old self.new
             × Covers self.new (note.now ∷ []))
-            (HistoriesHold shape.now logs → ⊥)) }
+            (IsBroken shape.now logs)) }
     {
         match note {
             Note::At {
@@ -209,7 +233,7 @@ impl<'a> Histories<'a> {
         }
     }
 
-    // Adds the stories of the objects that notes name. False where one of them has none.
+    // Adds the histories of the objects that notes name. False where one of them has none.
     fn add_all(
         &mut self,
         alloc: Global,
@@ -225,7 +249,7 @@ impl<'a> Histories<'a> {
             → IfOk result (λ good. MatchBool good
             (AreStories shape.now logs self.new × Keeps self.old self.new
             × Covers self.new notes.now)
-            (HistoriesHold shape.now logs → ⊥)) }
+            (IsBroken shape.now logs)) }
     {
         for note in notes {
             if !self.add_note(alloc, shape, sizes, lanes, note)? {
@@ -235,7 +259,8 @@ impl<'a> Histories<'a> {
         Ok(true)
     }
 
-    /// The histories of all objects, or none where one of them is not whole or not accepted.
+    /// The histories of all objects, or none where one of them is not whole or not accepted, or where a
+    /// mail does not hold.
     pub fn in_logs(
         alloc: Global,
         shape: &Shape,
@@ -246,7 +271,7 @@ impl<'a> Histories<'a> {
         requires chunks { shape.now.chunks ≤ 2 ^ 16 }
         requires handles { 1 ≤ shape.now.handles }
         ensures { IfOk result (λ found. MatchOption found
-            (HistoriesHold shape.now (notes_in logs.now) → ⊥)
+            (IsBroken shape.now (notes_in logs.now))
             (AreHistories shape.now (notes_in logs.now))) }
     {
         let lanes = spots_of(alloc, logs)?;

@@ -2,7 +2,8 @@
 //! Whether a run is one that the pool can make.
 //!
 //! The histories of objects are gathered from the logs of the lanes, and each object must accept its own,
-//! by the steps of `object_steps`. The counts, the marks, the chunks at the end and the leaks are then
+//! by the steps of `object_steps`. Mails have none: what is fetched must be the front of what is posted.
+//! The counts, the marks, the chunks at the end and the leaks are then
 //! asked of the logs.
 
 mod busy;
@@ -17,6 +18,7 @@ mod histories;
 mod keys;
 mod lanes;
 mod leaks;
+mod mails;
 mod merging;
 mod spots;
 mod stands;

@@ -2,7 +2,7 @@
 
 ghost use Rattle.std.specs.Prelude.{◌≡◌, ◌≤◌};
 ghost use Rattle.std.specs.List.{list_all};
-ghost use Rattle.pool_law.specs.Logs.{owns, is_sender, is_receiver, may_stand, note_stands};
+ghost use Rattle.pool_law.specs.Logs.{owns, is_sender, is_receiver, has_history, may_stand, note_stands};
 
 use pool_law::{Did, Note, Object, Shape};
 
@@ -42,6 +42,16 @@ fn is_receiver(lane: u32, object: &Object) -> bool
     }
 }
 
+/// Whether an object has a history: each but the mails.
+pub(crate) fn has_history(object: &Object) -> bool
+    ensures { result ≡ has_history object.now }
+{
+    match object {
+        Object::Mail { from: _, to: _ } => false,
+        _ => true,
+    }
+}
+
 // Whether a lane may note this at an object.
 fn may_stand(shape: &Shape, lane: u32, object: &Object, did: &Did) -> bool
     requires { 1 ≤ shape.now.arenas }
@@ -73,7 +83,7 @@ fn may_stand(shape: &Shape, lane: u32, object: &Object, did: &Did) -> bool
             bytes: _,
         }
         | Did::Touch
-        | Did::End(_) => true,
+        | Did::End(_) => has_history(object),
     }
 }
 
@@ -89,7 +99,7 @@ pub fn note_stands(shape: &Shape, lane: u32, note: &Note) -> bool
             did,
         } => may_stand(shape, lane, object, did),
         Note::Ref { root: _, did: _ } => true,
-        Note::Busy(_) => true,
+        Note::Busy(held) => has_history(&held.object),
     }
 }
 

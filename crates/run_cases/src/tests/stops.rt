@@ -83,9 +83,9 @@ fn sender(alloc: Global, case: Case) -> Result<LaneLog, AllocError> {
 fn receiver_notes(alloc: Global, case: Case) -> Result<Vec<Note>, AllocError> {
     let mut notes = Vec::new(alloc);
     match case {
-        Case::Fetches => notes.push(at(MAIL, 2, Did::Fetch(sent())))?,
-        Case::Sender => notes.push(at(MAIL, 2, Did::Fetch(Parcel { view: None })))?,
-        Case::SendsItsView => notes.push(at(MAIL, 2, Did::Fetch(sent())))?,
+        Case::Fetches => notes.push(at(MAIL, 1, Did::Fetch(sent())))?,
+        Case::Sender => notes.push(at(MAIL, 1, Did::Fetch(Parcel { view: None })))?,
+        Case::SendsItsView => notes.push(at(MAIL, 1, Did::Fetch(sent())))?,
         _ => {}
     }
     if case != Case::LeavesOpen {

@@ -72,7 +72,7 @@ fn push_second(notes: &mut Vec<Note>, run: Second, region: RegionId) -> Result<(
 
 // The notes of the second lane: it releases the root that it is sent.
 fn receiver(alloc: Global) -> Result<Vec<Note>, AllocError> {
-    let mut notes = vec![in alloc; at(MAIL, 2, Did::Fetch(sent()))]?;
+    let mut notes = vec![in alloc; at(MAIL, 1, Did::Fetch(sent()))]?;
     push_end(&mut notes, root(0), region(0, 1, 1), (2, 2, 3))?;
     push_closing(&mut notes, 1, 1, 0, &[])?;
     Ok(notes)

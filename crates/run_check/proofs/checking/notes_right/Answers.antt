@@ -1,4 +1,4 @@
-use Rattle.std.proofs.Common.{List, sym, subst, ◌∙◌}
+use Rattle.std.proofs.Common.{ℕ, List, sym, subst, ◌∙◌}
 use Rattle.std.specs.Prelude.{IsTrue}
 use Rattle.std.specs.List.{list_all}
 use Rattle.std.proofs.lemmas.Bool.{false≢true}
@@ -20,20 +20,22 @@ returns-then-not-branch c =
           absurd (false≢true (sym c.if-not-branch.true ∙ c.in_ok-all_busy.ensures.1 (λ lane.
           subst (λ (ls : List LaneLog). BusyHolds lane (history_in m) (of_lane (notes_in ls) lane))
           (sym c.items-logs.ensures)
-          (busy-back run.shape logs m c.requires.histories lane (right.busy lane))))),
+          (busy-back run.shape logs m c.requires.histories lane (right.stand lane) (right.busy lane))))),
     )
 
 pub returns : goal.returns
 returns c =
     let run = c.args.run.now in
     let logs = notes_in run.logs in
-    let m = c.args.histories.now in (
+    let m = c.args.histories.now in
+    let stand : (lane : ℕ) → IsTrue (list_all (note_stands run.shape lane) (of_lane logs lane)) =
+    λ lane.
+    subst (λ (ls : List LaneLog). IsTrue (list_all (note_stands run.shape lane) (of_lane (notes_in ls) lane)))
+    c.items-logs.ensures (c.all_stand.ensures.0 c.if-not-all_stand.false lane) in (
       λ e. record {
-        stand = λ lane.
-            subst (λ (ls : List LaneLog). IsTrue (list_all (note_stands run.shape lane) (of_lane (notes_in ls) lane)))
-            c.items-logs.ensures (c.all_stand.ensures.0 c.if-not-all_stand.false lane);
+        stand = stand;
         busy = λ lane.
-            busy-on run.shape logs m c.requires.histories lane
+            busy-on run.shape logs m c.requires.histories lane (stand lane)
             (subst (λ (ls : List LaneLog). BusyHolds lane (history_in m) (of_lane (notes_in ls) lane))
             c.items-logs.ensures
             (c.in_ok-all_busy.ensures.0 c.if-not-branch.false lane));

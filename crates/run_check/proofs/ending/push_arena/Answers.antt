@@ -9,7 +9,7 @@ use Rattle.pool_law.specs.Histories.{arena_after}
 use Rattle.pool_law.proofs.HistoryLemmas.{append-nil}
 use Rattle.object_steps.specs.Behind.{dids_behind}
 use Rattle.run_check.specs.Storing.{history_in}
-use Rattle.run_check.proofs.StoryLemmas.{ends-are}
+use Rattle.run_check.proofs.ObjectHistoryLemmas.{ends-are}
 use Rattle.run_check.proofs.ending.push_arena.Goals as goal
 
 pub returns-in-Some : goal.returns-in-Some

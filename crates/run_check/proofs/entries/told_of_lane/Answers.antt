@@ -1,6 +1,6 @@
-use Rattle.std.proofs.Common.{rules, ◌≡◌, ◌+◌, ◌<◌, List, [], ◌∷◌, ◌++◌, length, map, take, refl, sym, ap, subst, arith, ◌∙◌}
+use Rattle.std.proofs.Common.{rules, ◌≡◌, ◌+◌, ◌<◌, ◌≤◌, List, [], ◌∷◌, ◌++◌, length, map, take, refl, sym, ap, subst, arith, ◌∙◌}
 use Rattle.std.specs.Prelude.{slice_get, Some}
-use Rattle.std.proofs.lemmas.List.{take_more, length_push, length-take-le, map-append}
+use Rattle.std.proofs.lemmas.List.{take_more, take_all, length_push, length-take-le, map-append}
 use Rattle.std.proofs.lemmas.Option.{slice_get_read}
 use Rattle.pool_law.specs.declared.note.Note.{Note}
 use Rattle.pool_law.specs.Logs.{entry_of}
@@ -42,3 +42,15 @@ loop-note-preserved c =
           ∙ sym (map-append (entry_of logs) (take i notes) (note ∷ []))
           ∙ ap (map (entry_of logs)) (sym front);
     }
+
+pub returns : goal.returns
+returns c shape logs lane are is =
+    let notes = c.args.notes.now in
+    let i = c.loop-note.note-index in
+    let told = c.loop-note.told.items in
+    let past : length notes ≤ i = search rules in
+    let all : take i notes ≡ notes = take_all i notes past in (
+      subst (λ (ns : List Note). entries_in ns told ≡ map (entry_of logs) ns) all
+          (c.loop-note.invariant.entries shape logs lane are is),
+      omega (arith, past, c.loop-note.invariant.as_many, c.loop-note.auto.note-index-end),
+    )

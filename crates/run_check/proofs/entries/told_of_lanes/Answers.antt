@@ -1,5 +1,8 @@
-use Rattle.std.proofs.Common.{rules, ◌≡◌, ◌<◌, List, length, map, sym, ap, subst, ◌∙◌}
+use Rattle.std.proofs.Common.{rules, ◌≡◌, ◌<◌, ◌≤◌, List, length, map, take, sym, ap, subst, ◌∙◌}
+use Rattle.std.specs.List.{AllZip}
+use Rattle.std.proofs.lemmas.List.{take_all}
 use Rattle.pool_law.specs.declared.note.Note.{Note}
+use Rattle.pool_law.specs.declared.run.LaneLog.{LaneLog}
 use Rattle.pool_law.specs.Logs.{of_lane, entry_of}
 use Rattle.lane_reader.specs.Reading.{entries_in}
 use Rattle.run_check.specs.Spotting.{notes_in}
@@ -24,3 +27,12 @@ loop-log-preserved c shape are =
     } in
     zip-push (IsToldOf (notes_in logs)) c.loop-log.told.items c.push.new.self.items logs i told log
     (c.loop-log.invariant shape are) c.in_ok-push.ensures.items there c.log-item.is this
+
+pub returns : goal.returns
+returns c shape are =
+    let logs = c.args.logs.now in
+    let i = c.loop-log.log-index in
+    let past : length logs ≤ i = search rules in
+    let all : take i logs ≡ logs = take_all i logs past in
+    subst (λ (ls : List LaneLog). AllZip (IsToldOf (notes_in logs)) c.loop-log.told.items ls) all
+    (c.loop-log.invariant shape are)

@@ -9,7 +9,7 @@ use Rattle.object_steps.specs.declared.told.Told.{Told}
 use Rattle.object_steps.specs.Behind.{dids_behind}
 use Rattle.object_steps.specs.Telling.{told_of_each}
 use Rattle.run_check.specs.Storing.{TellsOf}
-use Rattle.run_check.proofs.StoryLemmas.{tells-root}
+use Rattle.run_check.proofs.ObjectHistoryLemmas.{tells-root}
 use Rattle.run_check.proofs.histories.told_at.Goals as goal
 
 pub returns-in-Root : goal.returns-in-Root

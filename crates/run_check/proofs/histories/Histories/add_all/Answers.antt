@@ -1,7 +1,7 @@
 use Rattle.std.proofs.Common.{rules, ◌≡◌, ◌+◌, ◌<◌, ◌≤◌, [], ◌∷◌, ◌++◌, length, take, sym, ap, ◌∙◌}
 use Rattle.std.proofs.lemmas.List.{take_more, take_all}
 use Rattle.pool_law.specs.declared.note.Note.{Note}
-use Rattle.run_check.proofs.StoryLemmas.{covers-kept, covers-push, keeps-both}
+use Rattle.run_check.proofs.ObjectHistoryLemmas.{covers-kept, covers-push, keeps-both}
 use Rattle.run_check.proofs.histories.Histories.add_all.Goals as goal
 
 pub returns-then-not-branch : goal.returns-then-not-branch

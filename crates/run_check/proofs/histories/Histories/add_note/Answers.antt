@@ -1,4 +1,4 @@
-use Rattle.run_check.proofs.StoryLemmas.{note-added}
+use Rattle.run_check.proofs.ObjectHistoryLemmas.{note-added}
 use Rattle.run_check.proofs.histories.Histories.add_note.Goals as goal
 
 pub returns-in_ok-good-in-At : goal.returns-in_ok-good-in-At

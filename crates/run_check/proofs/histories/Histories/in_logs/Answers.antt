@@ -5,12 +5,12 @@ use Rattle.pool_law.specs.Logs.{of_lane}
 use Rattle.run_check.specs.Spotting.{notes_in}
 use Rattle.run_check.specs.Storing.{Covers}
 use Rattle.run_check.proofs.LaneLemmas.{notes-at, each-notes}
-use Rattle.run_check.proofs.StoryLemmas.{covers-kept, histories-are}
+use Rattle.run_check.proofs.ObjectHistoryLemmas.{covers-kept, histories-are}
 use Rattle.run_check.proofs.histories.Histories.in_logs.Goals as goal
 
 pub loop-log-init : goal.loop-log-init
 loop-log-init c = (
-  λ object story found.
+  λ object object_history found.
       let both : false ≡ true = sym (c.new-histories.ensures object) ∙ ap is_some found in
       absurd (cc both),
   λ k below. absurd (omega (arith, below)),

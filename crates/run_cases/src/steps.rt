@@ -2,10 +2,7 @@
 
 ghost use Rattle.std.specs.Prelude.{◌≡◌};
 
-use crate::arena::Arena;
-use crate::cache::Cache;
-use crate::place::RootPlace;
-use crate::sizes::Sizes;
+use object_steps::{Arena, Cache, RootPlace, Sizes};
 use pool_law::{Did, Place, RegionId, RootId};
 use size_classes::DEFAULT_PAGE;
 use std::alloc::{AllocError, Global};

@@ -1,0 +1,17 @@
+use Rattle.std.proofs.Common.{◌<◌, length, sym, ap, ◌∙◌}
+use Rattle.run_check.specs.Mailing.{sent_among, all_passed}
+use Rattle.run_check.proofs.MailLemmas.{laned-get, laned-past}
+use Rattle.run_check.proofs.mails.sent_by.Goals as goal
+
+pub returns-then-lanes-at : goal.returns-then-lanes-at
+returns-then-lanes-at c =
+    ap all_passed c.new.ensures.items
+    ∙ ap sent_among (sym (laned-past c.args.lanes.now c.args.mail.now c.args.lane c.if-lanes-at.true))
+
+pub returns : goal.returns
+returns c =
+    let there : c.args.lane < length c.args.lanes.now = c.if-lanes-at.false in
+    c.in_ok-all.ensures
+    ∙ ap sent_among
+    (c.at.ensures
+    ∙ sym (laned-get c.args.lanes.now c.args.mail.now c.args.lane c.index-lanes-at.result there c.index-lanes-at.is))
