@@ -2,23 +2,21 @@
 use Rattle.std.proofs.Common.{◌≡◌, ◌<◌, ◌≤◌, ⊎_elim, ℕ, Bool, zero, suc, ◌+◌, ◌*◌, ◌^◌, List, [], ◌∷◌, get_or, set, length, map, Some, refl, sym, ap, ◌∙◌, subst, arith}
 use Rattle.std.specs.Prelude.{All, slice_get, unwrap_or}
 use Rattle.std.proofs.lemmas.Nat.{row_fits}
-use Rattle.std.proofs.lemmas.Option.{IfSome_then, get_or_from_slice_get, slice_get-get_or, slice_get_within}
-use Rattle.step_law.specs.declared.Told.{Ghosts}
+use Rattle.std.proofs.lemmas.Option.{get_or_from_slice_get, slice_get-get_or, slice_get_within}
 use Rattle.pool_law.specs.declared.command.Command.{Command}
-use Rattle.pool_law.specs.declared.note.Noted.{Noted}
 use Rattle.pool_law.specs.declared.run.Shape.{Shape}
 use Rattle.pool_law.specs.Bounds.{note_bound}
 use Rattle.pool_law.specs.Legal.{AreCommands}
 use Rattle.pool_law.specs.Limits.{IsShape}
 use Rattle.pool_law.specs.Logs.{of_lane}
-use Rattle.pool_table.specs.declared.table.PoolSeat.{PoolSeat}
+use Rattle.shared_pool.specs.declared.seat.PoolSeat.{PoolSeat}
 use Rattle.pool_table.specs.declared.views.Layout.{Layout}
-use Rattle.pool_table.specs.Seats.{view_of}
-use Rattle.shared_pool.specs.declared.home.Home.{Home}
+use Rattle.shared_pool.specs.SeatViews.{view_of}
 use Rattle.shared_pool.specs.declared.pool.SharedPool.{SharedPool}
-use Rattle.shared_pool.specs.Opening.{AreOpened, IsOpened}
+use Rattle.shared_pool.specs.Opening.{AreOpened, HasRooms, IsOpened}
 use Rattle.shared_pool.specs.SeatLanes.{lane_of}
 use Rattle.shared_pool.specs.Wearing.{IsShort}
+use Rattle.seat_work.proofs.MailRooms.{room_at}
 use Rattle.lane_core.specs.declared.lane.Lane.{Lane}
 use Rattle.lane_core.specs.Lanes.{Heeds, IsLane, SameLane, left_for_all, number_of}
 use Rattle.lane_core.specs.Opened.{IsFirstSeat}
@@ -106,57 +104,56 @@ short_for layout limits few =
     let all = row_fits layout.shape.lanes layout.turns 17 (2 ^ 24) (omega (arith, most)) few in
     omega (arith, all)
 
-module _ {G : Ghosts Home Noted} where
-  -- the seat of a lane of the trace, before the lane is made
-  first_seat : (trace : List (List Command)) (shape : Shape) (layout : Layout) (mail : List ℕ) (pool : SharedPool)
-      (i : ℕ) (cs : List Command) (s : PoolSeat Home G)
-      → IsShape shape → shape ≡ pool.table.layout.shape → IsShort pool.table.layout → shape.lanes ≡ length trace
-      → HasRoomFor layout cs → AreSent trace mail → slice_get trace i ≡ Some cs
-      → IsOpened layout mail pool i s → IsFirstSeat pool shape cs s
-  first_seat trace shape layout mail pool i cs s limits same short lanes room sent found o = record {
-    shape_is = same;
-    limits = limits;
-    short = short;
-    seat_is = o.seat;
-    notes = o.notes;
-    turns = subst (λ (n : ℕ). note_bound cs ≤ n) (sym o.turns) room.turns;
-    moves = subst (λ (n : ℕ). (left_for_all cs).moves ≤ n) (sym o.moves) room.moves;
-    mails = λ to below. IfSome_then (view_of s).setting o.mail_is (λ x is.
-        let number : lane_of s ≡ i = ap (λ n. unwrap_or n 0) o.number in
-        let here = slice_get_within trace i cs found in (
-          (left_for_all cs).sends to,
-          (λ j. slice_get (is j) (number j * lanes j + to))
-              ∙ sent i to here (omega (arith, below, lanes))
-              ∙ ap (λ (c : List Command). Some ((left_for_all c).sends to)) (log_found trace i cs found),
-          omega arith,
-        ));
-  }
-
-  -- all commands with their seats
-  pub ready : (trace : List (List Command)) (shape : Shape) (layout : Layout) (mail : List ℕ) (pool : SharedPool)
-      (seats : List (PoolSeat Home G))
-      → IsShape shape → shape ≡ pool.table.layout.shape → IsShort pool.table.layout → shape.lanes ≡ length trace
-      → layout.shape ≡ shape
-      → ((lane : ℕ) → AreCommands shape (of_lane trace lane))
-      → ((lane : ℕ) → lane < length trace → HasRoomFor layout (of_lane trace lane)) → AreSent trace mail
-      → AreOpened layout mail pool seats → AreReady pool shape trace seats
-  ready trace shape layout mail pool seats limits same short lanes layout_is commands room sent opened i cs s
-      found stands =
+-- the seat of a lane of the trace, before the lane is made
+first_seat : (trace : List (List Command)) (shape : Shape) (layout : Layout) (mail : List ℕ) (pool : SharedPool)
+    (i : ℕ) (cs : List Command) (s : PoolSeat)
+    → IsShape shape → shape ≡ pool.table.layout.shape → IsShort pool.table.layout → shape.lanes ≡ length trace
+    → HasRoomFor layout cs → AreSent trace mail → slice_get trace i ≡ Some cs → HasRooms pool mail
+    → IsOpened layout pool i s → IsFirstSeat pool shape cs s
+first_seat trace shape layout mail pool i cs s limits same short lanes room sent found rooms o = record {
+  shape_is = same;
+  limits = limits;
+  short = short;
+  seat_is = o.seat;
+  notes = o.notes;
+  turns = subst (λ (n : ℕ). note_bound cs ≤ n) (sym o.turns) room.turns;
+  moves = subst (λ (n : ℕ). (left_for_all cs).moves ≤ n) (sym o.moves) room.moves;
+  mails = λ to below d.
+      let number : lane_of s ≡ i = ap (λ n. unwrap_or n 0) o.number in
+      let many : pool.table.layout.shape.lanes ≡ length trace = sym (ap (λ (x : Shape). x.lanes) same) ∙ lanes in
       let here = slice_get_within trace i cs found in
-      let are = log_found trace i cs found in
-      let below : i < layout.shape.lanes =
-      subst (λ (n : ℕ). i < n) (sym lanes ∙ sym (ap (λ (x : Shape). x.lanes) layout_is)) here in
-      let o = subst (IsOpened layout mail pool i) (get_or_from_slice_get seats i s s stands) (opened.each i below s) in
-      record {
-        commands_are = record { commands_are = subst (AreCommands shape) are (commands i) };
-        seat_is = first_seat trace shape layout mail pool i cs s limits same short lanes
-            (subst (HasRoomFor layout) are (room i here)) sent found o;
-        number = ap (λ n. unwrap_or n 0) o.number;
-      }
+      let at = room_at pool mail (lane_of s) to ((left_for_all cs).sends to) rooms
+      ((λ j. slice_get mail (number j * many j + to))
+      ∙ sent i to here (omega (arith, below, lanes))
+      ∙ ap (λ (c : List Command). Some ((left_for_all c).sends to)) (log_found trace i cs found)) d in
+      omega (arith, at);
+}
 
-  -- seats that may be made lanes are of the pool
-  pub seats_are : (trace : List (List Command)) (shape : Shape) (pool : SharedPool) (seats : List (PoolSeat Home G))
-      → length seats ≡ length trace → AreReady pool shape trace seats → AllOf pool seats
-  seats_are trace shape pool seats many are i s stands =
-      let here = slice_get_within seats i s stands in
-      (are i (get_or trace i []) s (slice_get-get_or trace i [] (omega (arith, here, many))) stands).seat_is.seat_is
+-- all commands with their seats
+pub ready : (trace : List (List Command)) (shape : Shape) (layout : Layout) (mail : List ℕ) (pool : SharedPool)
+    (seats : List PoolSeat)
+    → IsShape shape → shape ≡ pool.table.layout.shape → IsShort pool.table.layout → shape.lanes ≡ length trace
+    → layout.shape ≡ shape
+    → ((lane : ℕ) → AreCommands shape (of_lane trace lane))
+    → ((lane : ℕ) → lane < length trace → HasRoomFor layout (of_lane trace lane)) → AreSent trace mail
+    → AreOpened layout mail pool seats → AreReady pool shape trace seats
+ready trace shape layout mail pool seats limits same short lanes layout_is commands room sent opened i cs s
+    found stands =
+    let here = slice_get_within trace i cs found in
+    let are = log_found trace i cs found in
+    let below : i < layout.shape.lanes =
+    subst (λ (n : ℕ). i < n) (sym lanes ∙ sym (ap (λ (x : Shape). x.lanes) layout_is)) here in
+    let o = subst (IsOpened layout pool i) (get_or_from_slice_get seats i s s stands) (opened.each i below s) in
+    record {
+      commands_are = record { commands_are = subst (AreCommands shape) are (commands i) };
+      seat_is = first_seat trace shape layout mail pool i cs s limits same short lanes
+          (subst (HasRoomFor layout) are (room i here)) sent found opened.rooms o;
+      number = ap (λ n. unwrap_or n 0) o.number;
+    }
+
+-- seats that may be made lanes are of the pool
+pub seats_are : (trace : List (List Command)) (shape : Shape) (pool : SharedPool) (seats : List PoolSeat)
+    → length seats ≡ length trace → AreReady pool shape trace seats → AllOf pool seats
+seats_are trace shape pool seats many are i s stands =
+    let here = slice_get_within seats i s stands in
+    (are i (get_or trace i []) s (slice_get-get_or trace i [] (omega (arith, here, many))) stands).seat_is.seat_is

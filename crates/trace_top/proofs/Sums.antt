@@ -9,7 +9,7 @@ use Rattle.std.proofs.lemmas.List.Recursion.{is_count_by}
 use Rattle.pool_law.specs.declared.command.Command.{Command}
 use Rattle.pool_law.specs.Bounds.{composes}
 use Rattle.pool_law.specs.Logs.{of_lane}
-use Rattle.lane_core.specs.Desks.{left_for}
+use Rattle.lane_core.specs.Contexts.{left_for}
 use Rattle.lane_core.specs.Lanes.{left_for_each, left_for_all}
 use Rattle.trace_top.specs.Needs.{is_move, is_send}
 use Rattle.trace_top.proofs.Places.{log_read}

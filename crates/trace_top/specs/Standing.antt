@@ -1,11 +1,8 @@
 -- The lanes of a trace over a pool: before they are made, and as they stand at their places.
 use Rattle.std.specs.Prelude.{◌≡◌, ℕ, Bool, List, Some, slice_get}
-use Rattle.step_law.specs.declared.Told.{Ghosts}
 use Rattle.pool_law.specs.declared.command.Command.{Command}
-use Rattle.pool_law.specs.declared.note.Noted.{Noted}
 use Rattle.pool_law.specs.declared.run.Shape.{Shape}
-use Rattle.pool_table.specs.declared.table.PoolSeat.{PoolSeat}
-use Rattle.shared_pool.specs.declared.home.Home.{Home}
+use Rattle.shared_pool.specs.declared.seat.PoolSeat.{PoolSeat}
 use Rattle.shared_pool.specs.declared.pool.SharedPool.{SharedPool}
 use Rattle.shared_pool.specs.SeatLanes.{lane_of}
 use Rattle.shared_pool.specs.Seats.{IsPoolSeat}
@@ -41,23 +38,22 @@ AreNumbered stops pool lanes =
 abbrev pub AllFinished : List Lane → Type 0
 AllFinished lanes = (i : ℕ) (l : Lane) → slice_get lanes i ≡ Some l → IsFinished l
 
-module _ {G : Ghosts Home Noted} where
-  -- these commands and this seat may be made a lane with this number
-  pub record IsReady (pool : SharedPool) (shape : Shape) (i : ℕ) (commands : List Command)
-      (seat : PoolSeat Home G) : Type 0 where
-    pub commands_are : AreFirst shape commands
-    pub seat_is : IsFirstSeat pool shape commands seat
-    pub number : lane_of seat ≡ i
+-- these commands and this seat may be made a lane with this number
+pub record IsReady (pool : SharedPool) (shape : Shape) (i : ℕ) (commands : List Command)
+    (seat : PoolSeat) : Type 0 where
+  pub commands_are : AreFirst shape commands
+  pub seat_is : IsFirstSeat pool shape commands seat
+  pub number : lane_of seat ≡ i
 
-  -- each lane's commands, with the seat of its place
-  abbrev pub AreReady :
-      SharedPool → Shape → List (List Command) → List (PoolSeat Home G) → Type 0
-  AreReady pool shape trace seats =
-      (i : ℕ) (commands : List Command) (seat : PoolSeat Home G) →
-      slice_get trace i ≡ Some commands → slice_get seats i ≡ Some seat →
-      IsReady pool shape i commands seat
+-- each lane's commands, with the seat of its place
+abbrev pub AreReady :
+    SharedPool → Shape → List (List Command) → List PoolSeat → Type 0
+AreReady pool shape trace seats =
+    (i : ℕ) (commands : List Command) (seat : PoolSeat) →
+    slice_get trace i ≡ Some commands → slice_get seats i ≡ Some seat →
+    IsReady pool shape i commands seat
 
-  -- seats of the pool
-  abbrev pub AllOf : SharedPool → List (PoolSeat Home G) → Type 0
-  AllOf pool seats =
-      (i : ℕ) (s : PoolSeat Home G) → slice_get seats i ≡ Some s → IsPoolSeat pool s
+-- seats of the pool
+abbrev pub AllOf : SharedPool → List PoolSeat → Type 0
+AllOf pool seats =
+    (i : ℕ) (s : PoolSeat) → slice_get seats i ≡ Some s → IsPoolSeat pool s

@@ -27,7 +27,7 @@ pub fn step_alone<R: Wait, G: Gate>(
     ensures finished { OnOk result (AllFinished lanes.new.items) }
 {
     for _ in rt.forever() {
-        if step_each(alloc, pool, gate, lanes)? {
+        if step_each(rt, alloc, pool, gate, lanes)? {
             return Ok(());
         }
     }
@@ -35,7 +35,8 @@ pub fn step_alone<R: Wait, G: Gate>(
 }
 
 // Steps each lane once. Answers whether all had finished.
-fn step_each<G: Gate>(
+fn step_each<R: Wait, G: Gate>(
+    rt: &R,
     alloc: Global,
     pool: &SharedPool,
     gate: &G,
@@ -50,13 +51,14 @@ fn step_each<G: Gate>(
 {
     let mut over = true;
     for i in 0..lanes.len() {
-        over = step_at(alloc, pool, gate, lanes, i)? && over;
+        over = step_at(rt, alloc, pool, gate, lanes, i)? && over;
     }
     Ok(over)
 }
 
 // Steps one lane. Answers whether it had finished.
-fn step_at<G: Gate>(
+fn step_at<R: Wait, G: Gate>(
+    rt: &R,
     alloc: Global,
     pool: &SharedPool,
     gate: &G,
@@ -74,7 +76,7 @@ fn step_at<G: Gate>(
         ((l : Lane) → slice_get lanes.new.items i ≡ Some l → IsFinished l)) }
 {
     let lane = &mut lanes[i];
-    match lane.step(alloc, pool, gate)? {
+    match lane.step(rt, alloc, pool, gate)? {
         Stepped::Finished => Ok(true),
         Stepped::Went | Stepped::Pending(_) | Stepped::Waiting { from: _ } => Ok(false),
     }

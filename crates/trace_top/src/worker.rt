@@ -139,7 +139,7 @@ fn go_on<R: Wait, G: Gate>(
     let mut moves = 0;
     for _ in rt.forever() {
         let seen = changes.read();
-        match lane.step(alloc, pool, gate) {
+        match lane.step(rt, alloc, pool, gate) {
             Ok(Stepped::Went) => {
                 moves += 1;
                 if moves == MOVES {

@@ -2,7 +2,7 @@ use Rattle.std.proofs.Common.{◌≡◌, ⊎_elim, length, Some, arith, sym, ap,
 use Rattle.std.specs.Prelude.{slice_get}
 use Rattle.std.proofs.lemmas.Grind.{common_steps}
 use Rattle.shared_pool.specs.Seats.{IsPoolSeat}
-use Rattle.lane_core.proofs.EitherLane.{lane_desk}
+use Rattle.lane_core.proofs.EitherLane.{lane_context}
 use Rattle.trace_top.proofs.Places.{pushed, pushed_before, pushed_last}
 use Rattle.trace_top.proofs.lanes.given_back.Goals as goal
 
@@ -14,7 +14,7 @@ loop-lane-preserved c =
     let were = c.in-Some.ensures.items in
     let here = inv.lanes (length left) lane (ap (λ l. slice_get l (length left)) were ∙ pushed_last left lane) in
     let mine = subst (IsPoolSeat c.args.pool.now) (sym c.abandon.ensures)
-    (lane_desk c.args.pool.now lane here).seat in
+    (lane_context c.args.pool.now lane here).seat in
     record {
       count = grind (arith, common_steps, c.in-Some.ensures.cases, c.push_reserved.ensures.len, inv.count);
       room = c.push_reserved.ensures.capacity ∙ inv.room;
