@@ -5,6 +5,3 @@
 mod words;
 
 pub use words::{WIDTH, clear, lowest_clear, lowest_set, set};
-
-#[cfg(test)]
-mod tests;

@@ -3,8 +3,6 @@
 //!
 //! A view has no bytes: it tells where in its root a range lies, or that the range leaves the view.
 
-#[cfg(test)]
-mod tests;
 pub mod view;
 
 pub use view::{RangeNo, View};

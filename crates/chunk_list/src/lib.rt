@@ -6,7 +6,5 @@
 mod list;
 pub mod lists;
 mod settle;
-#[cfg(test)]
-mod tests;
 
 pub use lists::{ChunkLists, Settled};

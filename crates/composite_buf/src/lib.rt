@@ -5,8 +5,6 @@
 //! lies.
 
 pub mod composite;
-#[cfg(test)]
-mod tests;
 
 pub use composite::{Composite, PartList, RangeList};
 pub use pool_law::Part;

@@ -16,6 +16,3 @@ mod site;
 pub use piece::{Deed, Ground, Piece};
 pub use rack::Rack;
 pub use site::Site;
-
-#[cfg(test)]
-mod tests;

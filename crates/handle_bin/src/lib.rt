@@ -4,8 +4,6 @@
 pub mod bin;
 pub mod handle;
 mod lending;
-#[cfg(test)]
-mod tests;
 mod told;
 
 pub use bin::Bin;

@@ -3,8 +3,6 @@
 
 pub mod live;
 pub mod sampler;
-#[cfg(test)]
-mod tests;
 pub mod tracker;
 
 pub use live::{LiveList, LiveRoot, report};

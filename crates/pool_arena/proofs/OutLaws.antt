@@ -14,8 +14,9 @@ use Rattle.pool_law.specs.Arenas.{Arena, chunk_at}
 use Rattle.pool_law.proofs.PatternLemmas.{same_taking-refl}
 use Rattle.arena_law.specs.Slots.{IsOne, IsSlot, IsLocated, ArenaHolds}
 use Rattle.arena_law.specs.Covered.{IsCovered}
-use Rattle.arena_law.proofs.ArenaSteps.{chunk_at-below, take-holds}
-use Rattle.arena_law.proofs.GiveSteps.{EachOf-one}
+use Rattle.arena_law.proofs.ArenaSteps.{chunk_at-below}
+use Rattle.arena_law.proofs.ElementTakes.{take-holds}
+use Rattle.arena_law.proofs.ElementGives.{EachOf-one}
 use Rattle.arena_law.proofs.ArenaLaw.{give-holds, new-holds}
 use Rattle.arena_law.proofs.TakingLaw.{take-numbers, give-numbers}
 use Rattle.arena_law.proofs.CoveredSteps.{take-covered, new-covered}

@@ -19,7 +19,7 @@ use Rattle.arena_law.specs.Orderly.{IsOrderly, has_spot, chunk_of}
 use Rattle.arena_law.proofs.SlotLemmas.{element-inside}
 use Rattle.arena_law.proofs.ChunkSteps.{size_at-pos}
 use Rattle.arena_law.proofs.ArenaSteps.{chunk_at-below}
-use Rattle.arena_law.proofs.GiveSteps.{page-of, number-of, small_given-element}
+use Rattle.arena_law.proofs.ElementGives.{page-of, number-of, small_given-element}
 use Rattle.arena_law.proofs.OrderlyParts.{roomy-of, elements-found, begins-listed}
 use Rattle.arena_law.proofs.OrderlyGives.{back_in-here, back_in-orderly}
 use Rattle.pool_chunk.specs.ChunkStates.{IsInUse}

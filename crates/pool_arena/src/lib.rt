@@ -7,8 +7,6 @@ mod arena;
 mod front;
 mod place;
 mod stock;
-#[cfg(test)]
-mod tests;
 mod told;
 
 pub use arena::Arena;

@@ -1,20 +1,21 @@
 //! What an arena has to give: its chunks in their lists, and its subpages by class.
 
-ghost use Rattle.std.specs.Prelude.{◌≡◌, ◌≢◌, ℕ, ◌+◌, ◌-◌, ◌*◌, ◌/◌, ◌^◌, ◌<◌, ◌≤◌, [], ◌∷◌, true, false, length, replicate, map, All, Option, Some, None, IfOk, IfSome, IfNone, IsSome, OnErr, slice_get, unwrap_or, position, not, is_some};
-ghost use Rattle.size_classes.specs.Sizes.{Geometry, below, of_pages, IsGeometry, page_of, chunk_pages, chunk_bytes, class_count, is_small, size_at, pages_of};
+ghost use Rattle.std.specs.Prelude.{◌≡◌, ◌+◌, ◌-◌, ◌*◌, ◌^◌, ◌<◌, ◌≤◌, [], true, false, length, map, All, Option, Some, None, IfOk, IfSome, IfNone, IsSome, position, not, is_some};
+ghost use Rattle.size_classes.specs.Sizes.{below, of_pages, IsGeometry, chunk_bytes, class_count, is_small, pages_of};
 ghost use Rattle.size_classes.specs.Pages.{NoneEmpty};
-ghost use Rattle.size_classes.specs.Elements.{is_idle, with_back};
-ghost use Rattle.pool_law.specs.Chunks.{new_chunk, usage, used_bytes, free_bytes};
+ghost use Rattle.pool_law.specs.Chunks.{usage, used_bytes, free_bytes};
 ghost use Rattle.pool_law.specs.declared.report.ListName.{ListName};
 ghost use Rattle.pool_law.specs.ChunkLists.{list_of};
-ghost use Rattle.pool_law.specs.Arenas.{new_arena, first_unused, opened, take_element, take_small, take_class, front_of, run_given, given_place, unless_gone, chunk_at};
+ghost use Rattle.pool_law.specs.Arenas.{new_arena, first_unused, opened, take_element, take_small, take_class, front_of, unless_gone, chunk_at};
 ghost use Rattle.arena_law.specs.Orderly.{IsOrderly, chunk_of};
 ghost use Rattle.chunk_list.specs.Listing.{with_lists};
 ghost use Rattle.chunk_list.specs.Settling.{settled, goes_to, IsWithin};
 ghost use Rattle.pool_arena.specs.Held.{front_for};
 ghost use Rattle.pool_arena.specs.Places.{PlaceState, with_chunk, runs_of, IsWanted};
-ghost use Rattle.pool_arena.specs.Closing.{IsAllFree, IsResting, HasNoFront};
+ghost use Rattle.pool_arena.specs.Closing.{IsAllFree, IsResting};
 ghost use Rattle.pool_arena.specs.declared.place.Wanted.{Wanted};
+
+mod gives;
 
 use crate::front::{Front, Spot};
 use crate::place::{ChunkPlace, Cut, Wanted};
@@ -108,20 +109,6 @@ impl Stock {
             self.take_small(class)
         } else {
             self.take_whole(class)
-        }
-    }
-
-    /// The place of a class in the chunk at a place comes back.
-    pub(crate) fn give(&mut self, class: u32, chunk: u32, piece: Piece)
-        requires orderly { IsOrderly self.old.geometry (arena_in self.old) }
-        requires out { IsPlaceOut self.old class chunk piece }
-        ensures { Becomes self.old
-            (λ a. given_place self.old.geometry a class chunk piece.start) self.new }
-    {
-        if self.is_small(class) {
-            self.give_element(class, chunk, piece);
-        } else {
-            self.give_run(class, chunk, piece);
         }
     }
 
@@ -277,108 +264,6 @@ impl Stock {
     {
         self.places[chunk as usize].start();
         let _list = self.lists.add(chunk, 0);
-    }
-
-    // A run of the pages of a class comes back, and its chunk settles.
-    fn give_run(&mut self, class: u32, chunk: u32, piece: Piece)
-        requires whole { is_small self.old.geometry class ≡ false }
-        requires orderly { IsOrderly self.old.geometry (arena_in self.old) }
-        requires out { IsPlaceOut self.old class chunk piece }
-        ensures { Becomes self.old
-            (λ a. given_place self.old.geometry a class chunk piece.start) self.new }
-    {
-        let page = piece.start() as u32 / self.page;
-        let place = &mut self.places[chunk as usize];
-        place.give_run(piece, page);
-        settle(place, &mut self.lists, chunk);
-    }
-
-    // An element of a class comes back. Its subpage enters its list if it was full. If it is then
-    // idle and not alone there, it gives its run back.
-    fn give_element(&mut self, class: u32, chunk: u32, piece: Piece)
-        requires small { is_small self.old.geometry class ≡ true }
-        requires orderly { IsOrderly self.old.geometry (arena_in self.old) }
-        requires out { IsPlaceOut self.old class chunk piece }
-        ensures { Becomes self.old
-            (λ a. given_place self.old.geometry a class chunk piece.start) self.new }
-    {
-        let offset = piece.start() as u32;
-        let page = self.places[chunk as usize].start_of(offset / self.page);
-        let index = (offset - self.page * page) / self.classes.size_of(class);
-        let spot = Spot { chunk, page };
-        let idle = self.element_back(class, spot, index, piece);
-        if !idle {
-            return;
-        }
-        let alone = self.fronts[class as usize].is_alone();
-        if !alone {
-            self.drop_subpage(class, spot);
-        }
-    }
-
-    // An element of a subpage comes back, and the subpage enters its list if it was full.
-    // Answers whether it is idle.
-    fn element_back(&mut self, class: u32, spot: Spot, index: u32, piece: Piece) -> bool
-        requires class { (class < class_count self.old.geometry)
-            × (is_small self.old.geometry class ≡ true) }
-        requires out { IsElementOutOf self.old class spot.chunk spot.page index piece }
-        requires some { NoneEmpty (chunk_at (arena_in self.old) spot.chunk) }
-        ensures idle { (out : IsElementOutOf self.old class spot.chunk spot.page index piece)
-            → result ≡ is_idle (with_back out.elements index) }
-        ensures back { (out : IsElementOutOf self.old class spot.chunk spot.page index piece)
-            → Becomes self.old
-            (element_back class spot.chunk spot.page index out.elements) self.new }
-    {
-        let place = &mut self.places[spot.chunk as usize];
-        let was_full = place.is_full(spot.page);
-        let idle = place.give_element(piece, spot.page, index);
-        if was_full {
-            self.fronts[class as usize].enter(spot);
-        }
-        idle
-    }
-
-    // An idle subpage leaves its list and gives its run back, and its chunk settles.
-    fn drop_subpage(&mut self, class: u32, spot: Spot)
-        requires class { class < class_count self.old.geometry }
-        requires idle { IsIdleAt self.old class spot.chunk spot.page }
-        requires some { NoneEmpty (chunk_at (arena_in self.old) spot.chunk) }
-        requires there { HasChunk self.old spot.chunk }
-        ensures { Becomes self.old
-            (subpage_given self.old.geometry class spot.chunk spot.page) self.new }
-    {
-        self.fronts[class as usize].leave(spot);
-        let place = &mut self.places[spot.chunk as usize];
-        place.drop_subpage(spot.page);
-        settle(place, &mut self.lists, spot.chunk);
-    }
-
-    // The subpages of a class that have a free element give their runs back. All are idle.
-    fn drop_front(&mut self, class: u32)
-        requires small { is_small self.old.geometry class ≡ true }
-        requires rests { IsResting self.old }
-        ensures rests { IsResting self.new }
-        ensures geometry { self.new.geometry ≡ self.old.geometry }
-        ensures none { front_of (arena_in self.new) class ≡ [] }
-        ensures others { (k : ℕ) → k ≢ class
-            → front_of (arena_in self.new) k ≡ front_of (arena_in self.old) k }
-    {
-        while let Some(spot) = self.fronts[class as usize].first() {
-            self.drop_subpage(class, spot);
-        }
-    }
-
-    // All subpages give their runs back. All are idle.
-    fn drop_idle(&mut self)
-        requires { IsResting self.old }
-        ensures rests { IsResting self.new }
-        ensures none { HasNoFront self.new }
-    {
-        for class in 0..self.classes.count() {
-            if self.is_small(class) {
-                self.drop_front(class);
-            }
-        }
     }
 
     /// Gives all memory back. Nothing is out.

@@ -2,8 +2,6 @@
 //! A bounded queue of regions, first in, first out: one lane's cache of one class.
 
 pub mod cache;
-#[cfg(test)]
-mod tests;
 mod told;
 
 pub use cache::Cache;

@@ -10,6 +10,3 @@ mod runs;
 mod store;
 
 pub use map::RunMap;
-
-#[cfg(test)]
-mod tests;

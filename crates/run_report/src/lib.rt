@@ -7,13 +7,11 @@ mod notes;
 mod replies;
 mod roots;
 mod summary;
-#[cfg(test)]
-mod tests;
 mod text;
 mod told;
 mod words;
 mod writer;
 
-pub use summary::summary_of;
+pub use summary::{summary_in, summary_of};
 pub use text::text_of;
 pub use writer::Writer;

@@ -21,6 +21,3 @@ pub const SMALL_CACHE_CAPACITY: u32 = 256;
 
 /// The regions that the cache of the last class holds: Netty's `DEFAULT_NORMAL_CACHE_SIZE`.
 pub const NORMAL_CACHE_CAPACITY: u32 = 64;
-
-#[cfg(test)]
-mod tests;

@@ -7,6 +7,3 @@
 mod subpage;
 
 pub use subpage::Subpage;
-
-#[cfg(test)]
-mod tests;

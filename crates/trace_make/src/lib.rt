@@ -4,8 +4,6 @@
 
 mod block;
 mod draws;
-#[cfg(test)]
-mod tests;
 mod trace;
 
 pub use trace::make;

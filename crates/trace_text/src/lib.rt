@@ -11,11 +11,7 @@ mod limits;
 mod names;
 mod options;
 mod reading;
-#[cfg(test)]
-mod rows;
 mod stuck;
-#[cfg(test)]
-mod tests;
 mod words;
 
 pub use forms::VIEW_LIMIT;

@@ -1,0 +1,150 @@
+//! The tables of sizes, row by row, through the public calls.
+
+ghost use Rattle.std.specs.Prelude.{◌≡◌, ◌≤◌};
+ghost use Rattle.size_classes.specs.Sizes.{of_pages, IsGeometry};
+
+use size_classes::{DEFAULT_PAGE, SizeClasses};
+use std::alloc::Global;
+use std::process::Abort;
+
+// The small classes: the size, the pages of a subpage, and how many elements it has.
+const SMALL: [(u32, u32, u32); 39] = [
+    (16, 1, 512),
+    (32, 1, 256),
+    (48, 3, 512),
+    (64, 1, 128),
+    (80, 5, 512),
+    (96, 3, 256),
+    (112, 7, 512),
+    (128, 1, 64),
+    (160, 5, 256),
+    (192, 3, 128),
+    (224, 7, 256),
+    (256, 1, 32),
+    (320, 5, 128),
+    (384, 3, 64),
+    (448, 7, 128),
+    (512, 1, 16),
+    (640, 5, 64),
+    (768, 3, 32),
+    (896, 7, 64),
+    (1024, 1, 8),
+    (1280, 5, 32),
+    (1536, 3, 16),
+    (1792, 7, 32),
+    (2048, 1, 4),
+    (2560, 5, 16),
+    (3072, 3, 8),
+    (3584, 7, 16),
+    (4096, 1, 2),
+    (5120, 5, 8),
+    (6144, 3, 4),
+    (7168, 7, 8),
+    (8192, 1, 1),
+    (10240, 5, 4),
+    (12288, 3, 2),
+    (14336, 7, 4),
+    (16384, 2, 1),
+    (20480, 5, 2),
+    (24576, 3, 1),
+    (28672, 7, 2),
+];
+
+// The page classes, in pages. Those from the fourth on are the normal classes, from class 39 on.
+const PAGES: [u32; 40] = [
+    1, 2, 3, 4, 5, 6, 7, 8, 10, 12, 14, 16, 20, 24, 28, 32, 40, 48, 56, 64, 80, 96, 112, 128, 160,
+    192, 224, 256, 320, 384, 448, 512, 640, 768, 896, 1024, 1280, 1536, 1792, 2048,
+];
+
+fn small_rows(rt: &impl Abort, classes: &SizeClasses) {
+    for class in 0..39u32 {
+        assert!(rt; class < classes.count());
+        assert!(rt; classes.is_small(class), "class {class}");
+        let size = classes.size_of(class);
+        let pages = classes.subpage_pages(class);
+        assert_eq!(rt;
+            (size, pages, 8192 * pages / size),
+            SMALL[class as usize],
+            "class {class}"
+        );
+    }
+}
+
+fn normal_rows(rt: &impl Abort, classes: &SizeClasses) {
+    let count = classes.count();
+    assert!(rt; count <= 76);
+    for class in 39..count {
+        assert!(rt; !classes.is_small(class), "class {class}");
+        let size = classes.size_of(class);
+        let pages = classes.pages_of(class);
+        assert_eq!(rt; pages, PAGES[class as usize - 36], "class {class}");
+        assert_eq!(rt; u64::from(size), 8192 * u64::from(pages), "class {class}");
+    }
+}
+
+fn page_class_rows(rt: &impl Abort, classes: &SizeClasses, order: u32, page: u32)
+    requires geometry { classes.now ≡ of_pages order page }
+    requires order { (3 ≤ order) × (order ≤ 11) }
+{
+    for index in 0..4 * order - 4 {
+        let pages = PAGES[index as usize];
+        assert!(rt; 1 <= pages && pages <= 2u32.pow(order));
+        assert_eq!(rt; classes.page_class_up(pages), index, "{pages} pages");
+        assert_eq!(rt; classes.page_class_down(pages), index, "{pages} pages");
+    }
+}
+
+// All rows of a chunk of `2^order` pages of the default size, of which the last are the chunk.
+fn rows(rt: &impl Abort, alloc: Global, order: u32)
+    requires { IsGeometry (of_pages order 8192) }
+{
+    let classes = SizeClasses::new(alloc, order, DEFAULT_PAGE).expect(rt, "ample memory");
+    assert_eq!(rt; classes.count(), 4 * order + 32);
+    small_rows(rt, &classes);
+    normal_rows(rt, &classes);
+    page_class_rows(rt, &classes, order, DEFAULT_PAGE);
+    assert_eq!(rt; classes.size_of(4 * order + 31), 8192 * 2u32.pow(order));
+}
+
+#[test]
+fn the_tables_of_three_orders(rt: HostRuntime) {
+    rows(&rt, rt.alloc(), 3);
+    rows(&rt, rt.alloc(), 9);
+    rows(&rt, rt.alloc(), 11);
+}
+
+#[test]
+fn single_calls(rt: HostRuntime) {
+    let classes = SizeClasses::new(rt.alloc(), 9, DEFAULT_PAGE).expect(&rt, "ample memory");
+    assert_eq!(rt; classes.count(), 68);
+    assert_eq!(rt; classes.class_of(0), Some(0));
+    assert_eq!(rt; classes.class_of(4096), Some(27));
+    assert_eq!(rt; classes.class_of(4097), Some(28));
+    assert_eq!(rt; classes.class_of(28673), Some(39));
+    assert_eq!(rt; classes.class_of(4194305), None);
+    assert_eq!(rt; classes.size_of(67), 4194304);
+    assert_eq!(rt; classes.page_class_up(9), 8);
+    assert_eq!(rt; classes.page_class_down(9), 7);
+}
+
+// The classes of a chunk of 4 MiB: how many are small, the pages of the last small one's subpage,
+// and the pages of the first normal one.
+fn last_small(rt: &impl Abort, classes: &SizeClasses, small: u32) {
+    assert_eq!(rt; classes.count(), 68);
+    assert_eq!(rt; classes.small_count(), small);
+    assert!(rt; 0 < small && small < classes.count());
+    assert!(rt; classes.is_small(small - 1));
+    assert_eq!(rt; classes.subpage_pages(small - 1), 7);
+    assert!(rt; !classes.is_small(small));
+    assert_eq!(rt; classes.pages_of(small), 4);
+    assert_eq!(rt; classes.class_of(4194304), Some(67));
+    assert_eq!(rt; classes.class_of(4194305), None);
+}
+
+#[test]
+fn other_pages(rt: HostRuntime) {
+    let least = SizeClasses::new(rt.alloc(), 10, 4096).expect(&rt, "ample memory");
+    last_small(&rt, &least, 35);
+    let most = SizeClasses::new(rt.alloc(), 7, 32768).expect(&rt, "ample memory");
+    last_small(&rt, &most, 47);
+}

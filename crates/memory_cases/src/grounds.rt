@@ -1,0 +1,50 @@
+//! Single calls on grounds and racks.
+ghost use Rattle.std.specs.Prelude.{◌≡◌};
+
+use ground::{Ground, Piece, Rack};
+
+fn are_zeros(bytes: &[u8]) -> bool {
+    bytes.iter().all(|byte| *byte == 0)
+}
+
+#[test]
+fn the_left_bytes_then_zeros(rt: HostRuntime) {
+    let (ground, deed) = Ground::new(rt.alloc(), 65536).expect(&rt, "ample memory");
+    let (mut left, right) = ground.split(8192);
+    assert_eq!(rt; (left.start(), left.len()), (0, 8192));
+    assert_eq!(rt; (right.start(), right.len()), (8192, 57344));
+    left.bytes_mut()[8191] = 9;
+    let whole = left.join(right);
+    assert_eq!(rt; (whole.start(), whole.len()), (0, 65536));
+    assert!(rt; are_zeros(&whole.bytes()[..8191]));
+    assert_eq!(rt; whole.bytes()[8191], 9);
+    assert!(rt; are_zeros(&whole.bytes()[8192..]));
+    whole.close(deed);
+}
+
+// Where a byte that isn't 0 stands first.
+fn place_of_a_byte(bytes: &[u8]) -> Option<usize> {
+    bytes.iter().position(|byte| *byte != 0)
+}
+
+#[test]
+fn elements_come_from_their_places(rt: HostRuntime) {
+    let (ground, deed) = Ground::new(rt.alloc(), 8192).expect(&rt, "ample memory");
+    let mut rack = Rack::of(ground, 2048);
+    let mut last = rack.pull(3);
+    let first = rack.pull(0);
+    assert!(rt; last.start() == 6144);
+    assert!(rt; first.start() == 0);
+    last.bytes_mut()[1] = 9;
+    rack.push(last);
+    rack.push(first);
+    let whole = rack.into_piece();
+    assert!(rt; whole.len() == 8192);
+    assert!(rt; place_of_a_byte(whole.bytes()) == Some(6145));
+    whole.close(deed);
+}
+
+#[test]
+fn a_piece_is_small(rt: HostRuntime) {
+    assert!(rt; std::mem::size_of::<Piece>() <= 32);
+}

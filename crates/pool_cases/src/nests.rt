@@ -1,0 +1,241 @@
+//! Nests over one root of a small pool.
+
+ghost use Rattle.std.specs.Prelude.{◌≡◌, ◌+◌, ◌≤◌, ◌∷◌, [], IfOk};
+ghost use Rattle.pool_table.specs.Counts.{gained_of, lost_of};
+ghost use Rattle.shared_pool.specs.SeatViews.{view_of};
+ghost use Rattle.shared_pool.specs.Opening.{IsOpened};
+ghost use Rattle.shared_pool.specs.Seats.{IsPoolSeat};
+ghost use Rattle.counted_view.specs.NestSeats.{CountsRoot};
+
+use counted_view::{Nest, NestEnd, NestNo};
+use pool_law::{Level, RootId, Shape};
+use pool_table::Layout;
+use shared_pool::{PoolSeat, SharedPool, Went};
+use size_classes::DEFAULT_PAGE;
+use std::alloc::{AllocError, Global};
+use std::mem::ManuallyDrop;
+use std::process::Abort;
+use std::test::Fail;
+
+// One lane with one handle, over one chunk of 65,536 bytes.
+const LAYOUT: Layout = Layout {
+    shape: Shape {
+        page: DEFAULT_PAGE,
+        order: 3,
+        arenas: 1,
+        chunks: 1,
+        handles: 1,
+        lanes: 1,
+        level: Level::Disabled,
+        interval: 128,
+    },
+    moves: 4,
+    turns: 8,
+};
+
+// A pool, the seat of its one lane, and the nest of a root.
+struct Trial {
+    pool: SharedPool,
+    seat: PoolSeat,
+    nest: Nest,
+}
+
+fn open(alloc: Global) -> Result<(SharedPool, PoolSeat), AllocError>
+    ensures layout { IfOk result (λ o. o.0.layout ≡ LAYOUT) }
+    ensures seat { IfOk result (λ o. IsOpened LAYOUT o.0 0 o.1) }
+{
+    let (pool, mut seats) = SharedPool::new(alloc, LAYOUT, &[1])?;
+    let Some(seat) = seats.pop() else {
+        unreachable!()
+    };
+    seats.destroy_empty();
+    Ok((pool, seat))
+}
+
+// Spends a pool and its seat.
+fn leave(pool: SharedPool, seat: PoolSeat) {
+    let _pool = unsafe { ManuallyDrop::new_unchecked(pool) };
+    let _seat = unsafe { ManuallyDrop::new_unchecked(seat) };
+}
+
+// A root of a new pool, which its seat counts once.
+fn born(rt: &impl Abort, pool: &SharedPool, seat: &mut PoolSeat, capacity: u32) -> RootId
+    requires layout { pool.now.layout ≡ LAYOUT }
+    requires seat { IsPoolSeat pool.now seat.old }
+    requires notes { (view_of seat.old).own.notes ≡ [] }
+    requires turns { 3 ≤ (view_of seat.old).turns }
+    requires moves { 2 ≤ (view_of seat.old).moves }
+    ensures seat { IsPoolSeat pool.now seat.new }
+    ensures counts { gained_of result (view_of seat.new) ≡ lost_of result (view_of seat.new) + 1 }
+    ensures moves { 1 ≤ (view_of seat.new).moves }
+    ensures capacity { result.capacity ≡ capacity }
+{
+    let handle = match pool.pop_handle(seat) {
+        Went::Did(_, Some(handle)) => handle,
+        Went::Did(_, None) | Went::Held(_, ()) => panic!(rt; "no handle"),
+    };
+    let region = match pool.take(seat, 39) {
+        Went::Did(_, Some(region)) => region,
+        Went::Did(_, None) | Went::Held(_, ()) => {
+            handle.leave();
+            panic!(rt; "no region")
+        }
+    };
+    assert!(rt; capacity <= region.id.place.len);
+    let (_number, root) = pool.birth(seat, handle, region, capacity, None);
+    root
+}
+
+// The nest of a new root, with room for so many slices.
+fn start(rt: &impl Abort, alloc: Global, capacity: u32, views: u32) -> Result<Trial, AllocError>
+    requires capacity { capacity ≤ 32768 }
+    requires views { (1 ≤ views) × (views ≤ 4096) }
+    ensures seat { IfOk result (λ t. IsPoolSeat t.pool t.seat) }
+    ensures counts { IfOk result (λ t. CountsRoot t.nest t.seat) }
+    ensures moves { IfOk result (λ t. 1 ≤ (view_of t.seat).moves) }
+{
+    let (pool, mut seat) = open(alloc)?;
+    let root = born(rt, &pool, &mut seat, capacity);
+    match Nest::new(alloc, root, views) {
+        Ok(nest) => Ok(Trial { pool, seat, nest }),
+        Err(e) => {
+            leave(pool, seat);
+            Err(e)
+        }
+    }
+}
+
+fn end(trial: Trial) {
+    let Trial { pool, seat, nest } = trial;
+    nest.leave();
+    leave(pool, seat);
+}
+
+// Holds a view once less: how many ended, and whether the root's count did.
+fn let_go(
+    pool: &SharedPool,
+    seat: &mut PoolSeat,
+    nest: &mut Nest,
+    v: u32,
+) -> Result<(u32, bool), NestNo>
+    requires seat { IsPoolSeat pool.now seat.old }
+    requires counts { CountsRoot nest.old seat.old }
+    ensures seat { IsPoolSeat pool.now seat.new }
+    ensures counts { CountsRoot nest.new seat.new }
+{
+    let NestEnd { ended, token } = nest.release(pool, seat, v)?;
+    match token {
+        None => Ok((ended, false)),
+        Some(token) => {
+            token.leave();
+            Ok((ended, true))
+        }
+    }
+}
+
+#[test]
+fn a_slice_of_a_slice_keeps_both(rt: HostRuntime) -> Result<(), Fail> {
+    let Trial {
+        pool,
+        mut seat,
+        mut nest,
+    } = start(&rt, rt.alloc(), 16, 4096)?;
+    assert_eq!(rt; nest.slice(&pool, &mut seat, 0, 4, 8), Ok(1));
+    assert_eq!(rt; nest.slice(&pool, &mut seat, 1, 2, 4), Ok(2));
+    assert_eq!(rt; let_go(&pool, &mut seat, &mut nest, 1), Ok((0, false)));
+    assert_eq!(rt; let_go(&pool, &mut seat, &mut nest, 0), Ok((0, false)));
+    assert_eq!(rt; nest.range(2, 0, 2), Ok((6, 2)));
+    assert_eq!(rt; nest.range(1, 0, 2), Err(NestNo::Gone));
+    assert_eq!(rt; let_go(&pool, &mut seat, &mut nest, 2), Ok((2, true)));
+    end(Trial { pool, seat, nest });
+    Ok(())
+}
+
+#[test]
+fn a_range_past_the_root_is_refused(rt: HostRuntime) -> Result<(), Fail> {
+    let Trial {
+        pool,
+        mut seat,
+        mut nest,
+    } = start(&rt, rt.alloc(), 4, 1)?;
+    assert_eq!(rt; nest.slice(&pool, &mut seat, 0, 2, 3), Err(NestNo::Range));
+    assert_eq!(rt; nest.slice(&pool, &mut seat, 7, 2, 3), Err(NestNo::Gone));
+    assert_eq!(rt; nest.slice(&pool, &mut seat, 0, 0, 1), Ok(1));
+    assert_eq!(rt; nest.slice(&pool, &mut seat, 1, 0, 1), Err(NestNo::Full));
+    assert_eq!(rt; nest.slice(&pool, &mut seat, 1, 0, 2), Err(NestNo::Range));
+    assert_eq!(rt; let_go(&pool, &mut seat, &mut nest, 1), Ok((1, false)));
+    assert_eq!(rt; nest.slice(&pool, &mut seat, 1, 0, 2), Err(NestNo::Gone));
+    assert_eq!(rt; nest.retain(&pool, &mut seat, 1), Err(NestNo::Gone));
+    assert_eq!(rt; let_go(&pool, &mut seat, &mut nest, 0), Ok((0, true)));
+    assert_eq!(rt; let_go(&pool, &mut seat, &mut nest, 0), Err(NestNo::Gone));
+    end(Trial { pool, seat, nest });
+    Ok(())
+}
+
+// A nest of 4,096 slices, each made from the one before.
+fn chain(rt: &impl Abort, alloc: Global) -> Result<Trial, AllocError>
+    ensures seat { IfOk result (λ t. IsPoolSeat t.pool t.seat) }
+    ensures counts { IfOk result (λ t. CountsRoot t.nest t.seat) }
+{
+    let Trial {
+        pool,
+        mut seat,
+        mut nest,
+    } = start(rt, alloc, 16, 4096)?;
+    assert_eq!(rt; nest.slice(&pool, &mut seat, 0, 0, 16), Ok(1));
+    for k in 1..4096u32 {
+        assert_eq!(rt; nest.slice(&pool, &mut seat, k, 0, 16), Ok(k + 1));
+    }
+    Ok(Trial { pool, seat, nest })
+}
+
+#[test]
+fn a_chain_ends_from_the_top(rt: HostRuntime) -> Result<(), Fail> {
+    let Trial {
+        pool,
+        mut seat,
+        mut nest,
+    } = chain(&rt, rt.alloc())?;
+    for k in 0..4096u32 {
+        assert_eq!(rt; let_go(&pool, &mut seat, &mut nest, k), Ok((0, false)));
+    }
+    assert_eq!(rt; let_go(&pool, &mut seat, &mut nest, 4096), Ok((4096, true)));
+    end(Trial { pool, seat, nest });
+    Ok(())
+}
+
+#[test]
+fn a_chain_ends_from_the_bottom(rt: HostRuntime) -> Result<(), Fail> {
+    let Trial {
+        pool,
+        mut seat,
+        mut nest,
+    } = chain(&rt, rt.alloc())?;
+    for k in 0..4096u32 {
+        assert_eq!(rt;
+            let_go(&pool, &mut seat, &mut nest, 4096 - k),
+            Ok((1, false))
+        );
+    }
+    assert_eq!(rt; let_go(&pool, &mut seat, &mut nest, 0), Ok((0, true)));
+    end(Trial { pool, seat, nest });
+    Ok(())
+}
+
+#[test]
+fn a_view_is_held_so_often_and_no_more(rt: HostRuntime) -> Result<(), Fail> {
+    let Trial {
+        pool,
+        mut seat,
+        mut nest,
+    } = start(&rt, rt.alloc(), 16, 1)?;
+    assert_eq!(rt; nest.slice(&pool, &mut seat, 0, 0, 16), Ok(1));
+    for _ in 1..65535u32 {
+        assert_eq!(rt; nest.retain(&pool, &mut seat, 1), Ok(()));
+    }
+    assert_eq!(rt; nest.retain(&pool, &mut seat, 1), Err(NestNo::Full));
+    assert_eq!(rt; let_go(&pool, &mut seat, &mut nest, 1), Ok((0, false)));
+    assert_eq!(rt; nest.retain(&pool, &mut seat, 1), Ok(()));
+    end(Trial { pool, seat, nest });
+    Ok(())
+}
