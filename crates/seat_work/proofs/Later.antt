@@ -1,17 +1,34 @@
 -- A seat further on, behind steps of its own.
-use Rattle.std.proofs.Common.{◌≡◌, ℕ, List, [], ◌++◌, true, refl, sym, ap, ◌∙◌, subst, arith, append_assoc, append-nil, length-append}
+use Rattle.std.proofs.Common.{◌≡◌, ℕ, zero, suc, ◌+◌, ◌≤◌, List, [], ◌∷◌, ◌++◌, Bool, true, false, length, refl, sym, ap, ◌∙◌, subst, arith, append_assoc, append-nil, length-append, Some}
+use Rattle.std.specs.Prelude.{◌&&◌, slice_get, Option, None, Result, Ok, Err, IfOk}
+use Rattle.std.specs.List.{list_all}
+use Rattle.handle_bin.specs.Bins.{HandleValue}
+use Rattle.pool_arena.specs.Standing.{taken_or_full}
+use Rattle.pool_law.specs.declared.id.Region.{Region}
+use Rattle.pool_law.specs.declared.id.RegionId.{RegionId}
+use Rattle.pool_law.specs.declared.id.RootId.{RootId}
 use Rattle.pool_law.specs.declared.note.Held.{Held}
 use Rattle.pool_law.specs.declared.note.Noted.{Noted}
 use Rattle.pool_law.specs.declared.note.Object.{Object}
+use Rattle.pool_law.specs.declared.note.RefDid.{RefDid}
+use Rattle.pool_law.specs.declared.note.RefDid.TheVariants.{Born}
 use Rattle.shared_pool.specs.declared.seat.PoolSeat.{PoolSeat}
 use Rattle.pool_table.specs.declared.views.Entry.{Entry}
+use Rattle.pool_table.specs.declared.views.Entry.TheVariants.{Ref}
 use Rattle.pool_table.specs.declared.views.SeatView.{SeatView}
+use Rattle.pool_table.specs.Counts.{with_ref}
 use Rattle.shared_pool.specs.SeatViews.{view_of, HasView, SameSeat}
 use Rattle.shared_pool.specs.declared.pool.SharedPool.{SharedPool}
+use Rattle.shared_pool.specs.declared.went.Put.{Put}
+use Rattle.shared_pool.specs.declared.went.Put.TheVariants.{Kept, Back}
+use Rattle.shared_pool.specs.CacheAnswers.{was_put}
+use Rattle.shared_pool.specs.Notes.{popped, hit}
+use Rattle.shared_pool.specs.RootNotes.{IsNotedWith}
+use Rattle.seat_work.specs.declared.allocation.AllocNo.{AllocNo}
 use Rattle.shared_pool.specs.Seats.{IsPoolSeat, IsNoted, FoundBusy}
-use Rattle.seat_work.specs.Growth.{HasGrown}
-use Rattle.seat_work.specs.Works.{IsLater}
-use Rattle.seat_work.proofs.Grown.{Grows, grows_noted, grows_busy, grows_none}
+use Rattle.seat_work.specs.Growth.{HasGrown, is_quiet, is_quiet_entry}
+use Rattle.seat_work.specs.Works.{IsLater, HasBorn}
+use Rattle.seat_work.proofs.Grown.{Grows, grows_noted, grows_busy, grows_none, grows_ref, grows_with}
 
 -- ---- Views that grow.
 
@@ -41,6 +58,37 @@ grown_by v w es spent grows = record {
   turns = grows.more.turns;
 }
 
+-- ---- Entries that are quiet.
+
+pub quiet_on : (xs ys : List Entry) → list_all is_quiet_entry xs ≡ true → list_all is_quiet_entry ys ≡ true
+    → list_all is_quiet_entry (xs ++ ys) ≡ true
+quiet_on [] ys x y = y
+quiet_on (e ∷ xs) ys x y = go (is_quiet_entry e) x (λ rest. quiet_on xs ys rest y)
+  where
+    go : (b : Bool) → (b && list_all is_quiet_entry xs) ≡ true
+        → (list_all is_quiet_entry xs ≡ true → list_all is_quiet_entry (xs ++ ys) ≡ true)
+        → (b && list_all is_quiet_entry (xs ++ ys)) ≡ true
+    go false none more = absurd (cc none)
+    go true rest more = more rest
+
+-- ---- What pops, takes and puts note.
+
+pub quiet_popped : (h : Option HandleValue) → is_quiet (popped h) ≡ true
+quiet_popped None = refl
+quiet_popped (Some h) = refl
+
+pub quiet_hit : (r : Option Region) → is_quiet (hit r) ≡ true
+quiet_hit None = refl
+quiet_hit (Some r) = refl
+
+pub quiet_taken : (class : ℕ) (r : Option Region) → is_quiet (taken_or_full class r) ≡ true
+quiet_taken class None = refl
+quiet_taken class (Some r) = refl
+
+pub quiet_put : (id : RegionId) (put : Put) → is_quiet (was_put id put) ≡ true
+quiet_put id Kept = refl
+quiet_put id (Back r why) = refl
+
 -- ---- Seats that go on.
 
 pub same_on : (old mid new : PoolSeat) → SameSeat old mid → SameSeat mid new
@@ -49,14 +97,15 @@ same_on old mid new x y = (y.0 ∙ x.0, y.1 ∙ x.1)
 
 module _ (pool : SharedPool) where
   pub later_none : (s : PoolSeat) → IsPoolSeat pool s → IsLater pool s s
-  later_none s is = record { same = (refl, refl); seat = is; added = []; grown = grown_none (view_of s) }
+  later_none s is = record { same = (refl, refl); seat = is; added = []; grown = grown_none (view_of s); quiet = refl }
 
-  pub later_on : (old mid new : PoolSeat) → IsLater pool old mid → IsLater pool mid new → IsLater pool old new
+  abbrev pub later_on : (old mid new : PoolSeat) → IsLater pool old mid → IsLater pool mid new → IsLater pool old new
   later_on old mid new x y = record {
     same = same_on old mid new x.same y.same;
     seat = y.seat;
     added = x.added ++ y.added;
     grown = grown_on (view_of old) (view_of mid) (view_of new) x.added y.added x.grown y.grown;
+    quiet = quiet_on x.added y.added x.quiet y.quiet;
   }
 
   -- what follows a seat that knows what it knew
@@ -67,20 +116,68 @@ module _ (pool : SharedPool) where
     seat = x.seat;
     added = x.added;
     grown = subst (λ (v : SeatView). HasGrown v (view_of new) x.added) view x.grown;
+    quiet = x.quiet;
   }
 
   module _ (old new : PoolSeat) (same : SameSeat old new) (was : IsPoolSeat pool old)
       (is : IsPoolSeat pool new) where
-    later_by : (es : List Entry) (spent : ℕ) → Grows (view_of old) (view_of new) es spent → IsLater pool old new
-    later_by es spent grows =
-        record { same = same; seat = is; added = es; grown = grown_by (view_of old) (view_of new) es spent grows }
+    abbrev pub later_by : (es : List Entry) (spent : ℕ) → Grows (view_of old) (view_of new) es spent
+        → list_all is_quiet_entry es ≡ true → IsLater pool old new
+    later_by es spent grows quiet = record {
+      same = same;
+      seat = is;
+      added = es;
+      grown = grown_by (view_of old) (view_of new) es spent grows;
+      quiet = quiet;
+    }
 
     -- the calls that make a note, that leave a mark, and that do nothing
-    pub later_noted : {o : Object} {number : ℕ} {n : Noted} → IsNoted pool old new o number n → IsLater pool old new
-    later_noted {o} {number} {n} noted = later_by _ 0 (grows_noted pool old new was is o number n noted)
+    pub later_noted : {o : Object} {number : ℕ} {n : Noted} → IsNoted pool old new o number n → is_quiet n.did ≡ true
+        → IsLater pool old new
+    later_noted {o} {number} {n} noted quiet =
+        later_by _ 0 (grows_noted pool old new was is o number n noted) (ap (λ b. b && true) quiet)
 
     pub later_busy : (o : Object) (held : Held) → FoundBusy pool o true old new held → IsLater pool old new
-    later_busy o held found = later_by _ 0 (grows_busy pool old new was is o held found)
+    later_busy o held found = later_by _ 0 (grows_busy pool old new was is o held found) refl
 
     pub later_has : HasView new (view_of old) → IsLater pool old new
-    later_has has = later_by [] 0 (grows_none pool old new was has)
+    later_has has = later_by [] 0 (grows_none pool old new was has) refl
+
+    -- a step on the count of a root, and one behind a note
+    pub later_ref : (r : RootId) (d : RefDid) (moves spent : ℕ) → HasView new (with_ref (view_of old) r d moves)
+        → (view_of old).moves ≤ moves + spent → IsLater pool old new
+    later_ref r d moves spent has le = later_by _ spent (grows_ref pool old new was is r d moves spent has le) refl
+
+    abbrev pub later_with : (root : RootId) (number : ℕ) (n : Noted) (step : RefDid) (moves spent : ℕ)
+        → IsNotedWith pool old new root number n step moves → (view_of old).moves ≤ moves + spent
+        → is_quiet n.did ≡ true → IsLater pool old new
+    later_with root number n step moves spent noted le quiet =
+        later_by _ spent (grows_with pool old new was is root number n step moves spent noted le)
+        (ap (λ b. b && (true && true)) quiet)
+
+    -- a birth
+    pub born_with : (root : RootId) (number : ℕ) (n : Noted) (moves : ℕ)
+        → IsNotedWith pool old new root number n Born moves → (view_of old).moves ≤ moves + 0
+        → is_quiet n.did ≡ true → HasBorn pool root old new
+    born_with root number n moves noted le quiet =
+        record { later = later_with root number n Born moves 0 noted le quiet; at = 1; born = refl }
+
+  -- behind a birth, and before one
+  pub born_on : (root : RootId) (old mid new : PoolSeat) → IsLater pool old mid → HasBorn pool root mid new
+      → HasBorn pool root old new
+  born_on root old mid new x y = record {
+    later = later_on old mid new x y.later;
+    at = length x.added + y.at;
+    born = further x.added y.later.added y.at ∙ y.born;
+  }
+    where
+      further : (xs ys : List Entry) (k : ℕ) → slice_get (xs ++ ys) (length xs + k) ≡ slice_get ys k
+      further [] ys k = let none : 0 + k ≡ k = omega arith in ap (slice_get ys) none
+      further (e ∷ xs) ys k =
+          let next : length (e ∷ xs) + k ≡ suc (length xs + k) = omega arith in
+          ap (slice_get (e ∷ (xs ++ ys))) next ∙ further xs ys k
+
+  pub if_born_on : (old mid new : PoolSeat) (r : Result RootId AllocNo) → IsLater pool old mid
+      → IfOk r (λ root. HasBorn pool root mid new) → IfOk r (λ root. HasBorn pool root old new)
+  if_born_on old mid new (Ok root) x y = born_on root old mid new x y
+  if_born_on old mid new (Err why) x y = y

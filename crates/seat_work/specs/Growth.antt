@@ -1,8 +1,11 @@
 -- What steps add to a seat's own part, and how much one step may.
 use Rattle.std.specs.Prelude.{◌≡◌, ℕ, ◌+◌, ◌≤◌, if◌then◌else◌, Bool, true, false, List, [], ◌∷◌, ◌++◌, length, map}
+use Rattle.pool_law.specs.declared.note.Did.{Did}
+use Rattle.pool_law.specs.declared.note.Did.TheVariants.{Take, Full, Give, Hit, Miss, Kept, Back, Trim, Close, Shed, Handle, NoHandle, Home, Post, Fetch, Birth, Set, Get, Touch, End}
 use Rattle.pool_law.specs.declared.note.Note.{Note}
 use Rattle.pool_law.specs.declared.note.Note.TheVariants.{At, Ref, Busy}
 use Rattle.pool_table.specs.declared.views.Entry.{Entry}
+use Rattle.pool_table.specs.declared.views.Entry.TheVariants as entries
 use Rattle.pool_table.specs.declared.views.SeatView.{SeatView}
 use Rattle.shared_pool.specs.Closing.{note_of}
 
@@ -43,3 +46,32 @@ pub record HasGrown (old new : SeatView) (added : List Entry) : Type 0 where
   pub number : new.own.number ≡ old.own.number
   pub setting : new.setting ≡ old.setting
   pub turns : old.turns ≤ new.turns + length added
+
+-- what was done neither accesses the bytes of a root nor passes a parcel
+abbrev pub is_quiet : Did → Bool
+is_quiet (Take class region) = true
+is_quiet (Full class) = true
+is_quiet (Give region) = true
+is_quiet (Hit region) = true
+is_quiet Miss = true
+is_quiet (Kept region) = true
+is_quiet (Back region why) = true
+is_quiet (Trim quota) = true
+is_quiet (Close quota) = true
+is_quiet (Shed region) = true
+is_quiet (Handle place) = true
+is_quiet NoHandle = true
+is_quiet (Home place) = true
+is_quiet (Post parcel) = false
+is_quiet (Fetch parcel) = false
+is_quiet (Birth root region) = true
+is_quiet (Set offset bytes) = false
+is_quiet (Get offset bytes) = false
+is_quiet Touch = false
+is_quiet (End root) = true
+
+-- nor does this entry
+abbrev pub is_quiet_entry : Entry → Bool
+is_quiet_entry (entries.At object number noted) = is_quiet noted.did
+is_quiet_entry (entries.Ref root did) = true
+is_quiet_entry (entries.Busy held) = true

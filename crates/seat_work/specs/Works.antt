@@ -1,12 +1,16 @@
 -- What a seat has in hand and left, and how it goes on from there.
-use Rattle.std.specs.Prelude.{◌≡◌, ℕ, ◌+◌, ◌≤◌, List}
+use Rattle.std.specs.Prelude.{◌≡◌, ℕ, ◌+◌, ◌≤◌, IsTrue, List, Some, slice_get}
+use Rattle.std.specs.List.{list_all}
+use Rattle.pool_law.specs.declared.id.RootId.{RootId}
+use Rattle.pool_law.specs.declared.note.RefDid.TheVariants.{Born}
 use Rattle.shared_pool.specs.declared.seat.PoolSeat.{PoolSeat}
 use Rattle.pool_table.specs.declared.views.Entry.{Entry}
+use Rattle.pool_table.specs.declared.views.Entry.TheVariants.{Ref}
 use Rattle.shared_pool.specs.SeatViews.{view_of, SameSeat}
 use Rattle.shared_pool.specs.declared.pool.SharedPool.{SharedPool}
 use Rattle.shared_pool.specs.Seats.{IsPoolSeat}
 use Rattle.seat_work.specs.Hands.{Hand, IsHeld}
-use Rattle.seat_work.specs.Growth.{HasGrown}
+use Rattle.seat_work.specs.Growth.{HasGrown, is_quiet_entry}
 use Rattle.seat_work.specs.Changes.{IsPaid, Change, Changes}
 use Rattle.seat_work.specs.HandOvers.{Sends}
 
@@ -37,9 +41,17 @@ pub record Proceeds
   pub changes : Changes c (view_of old) (view_of new)
   pub sends : Sends 0 (view_of old) (view_of new)
 
--- the same seat of the pool further on, behind some steps of its own
+-- the same seat of the pool further on, behind some steps of its own, of which none accessed the
+-- bytes of a root or passed a parcel
 pub record IsLater (pool : SharedPool) (old new : PoolSeat) : Type 0 where
   pub same : SameSeat old new
   pub seat : IsPoolSeat pool new
   pub added : List Entry
   pub grown : HasGrown (view_of old) (view_of new) added
+  pub quiet : IsTrue (list_all is_quiet_entry added)
+
+-- the seat went on so, and by one of these steps it bore a root
+pub record HasBorn (pool : SharedPool) (root : RootId) (old new : PoolSeat) : Type 0 where
+  pub later : IsLater pool old new
+  pub at : ℕ
+  pub born : slice_get later.added at ≡ Some (Ref root Born)

@@ -1,14 +1,14 @@
 //! How a buffer is allocated: a handle, a region from the lane's cache or from its arena, and the
 //! birth of a root. (Netty: `PooledByteBufAllocator`, `PoolThreadCache`)
 
-ghost use Rattle.std.specs.Prelude.{◌≡◌, ◌<◌, ◌≤◌, Some, IfSome, IfOk, IfErr};
+ghost use Rattle.std.specs.Prelude.{◌≡◌, ◌*◌, ◌<◌, ◌≤◌, Some, IfSome, IfOk, IfErr};
 ghost use Rattle.size_classes.specs.Sizes.{class_count, class_of, size_at};
 ghost use Rattle.pool_law.specs.Limits.{geometry_of, cached_classes};
 ghost use Rattle.pool_table.specs.Counts.{HasCount};
 ghost use Rattle.shared_pool.specs.SeatViews.{view_of};
 ghost use Rattle.seat_work.specs.Hands.{empty_hand, IsHandle, IsRegion};
 ghost use Rattle.seat_work.specs.Changes.{no_change};
-ghost use Rattle.seat_work.specs.Works.{Works, Proceeds, IsLater};
+ghost use Rattle.seat_work.specs.Works.{HasBorn, IsLater, Proceeds, Works};
 ghost use Rattle.seat_work.specs.Answers.{with_place, with_both, hand_got, hand_with, handle_told, region_told, allocated, TookHandle, IsWorn, IsWornAt};
 
 use crate::birth::bear;
@@ -32,7 +32,8 @@ pub enum AllocNo {
 }
 
 /// A new root of `size` bytes, all 0, that the seat then counts once. `class` is that of the size.
-/// A refusal leaves the seat with nothing in hand, and its counts as they were.
+/// A refusal leaves the seat with nothing in hand, and its counts as they were. On the way no bytes
+/// are accessed and no parcel is passed.
 pub fn allocate<W: Wait>(
     rt: &W,
     pool: &SharedPool,
@@ -45,6 +46,10 @@ pub fn allocate<W: Wait>(
     requires class { class_of (geometry_of pool.now.table.layout.shape) size ≡ Some class }
     ensures proceeds { Proceeds pool.now empty_hand 6 0 (allocated result) seat.old seat.new }
     ensures root { IfOk result (λ root. (root.capacity ≡ size) × HasCount root (view_of seat.new)) }
+    ensures place { let shape = pool.now.table.layout.shape in
+        IfOk result (λ root. root.place < shape.lanes * shape.handles) }
+    ensures born { IfOk result (λ root. HasBorn pool.now root seat.old seat.new) }
+    ensures later { IsLater pool.now seat.old seat.new }
     ensures worn { IfErr result (IsWorn pool.now seat.old seat.new) }
 {
     match pop_handle(rt, pool, seat) {
@@ -69,6 +74,10 @@ fn allocate_at<W: Wait>(
     requires class { class_of (geometry_of pool.now.table.layout.shape) size ≡ Some class }
     ensures proceeds { Proceeds pool.now empty_hand 5 0 (allocated result) seat.old seat.new }
     ensures root { IfOk result (λ root. (root.capacity ≡ size) × HasCount root (view_of seat.new)) }
+    ensures place { let shape = pool.now.table.layout.shape in
+        IfOk result (λ root. root.place < shape.lanes * shape.handles) }
+    ensures born { IfOk result (λ root. HasBorn pool.now root seat.old seat.new) }
+    ensures later { IsLater pool.now seat.old seat.new }
     ensures worn { IfErr result (IsWornAt pool.now handle.place seat.old seat.new) }
 {
     match find_region(rt, pool, seat, &handle, class) {
@@ -97,6 +106,10 @@ fn bear_or_return<W: Wait>(
     requires size { size ≤ size_at region.id.class }
     ensures proceeds { Proceeds pool.now empty_hand 3 0 (allocated result) seat.old seat.new }
     ensures root { IfOk result (λ root. (root.capacity ≡ size) × HasCount root (view_of seat.new)) }
+    ensures place { let shape = pool.now.table.layout.shape in
+        IfOk result (λ root. root.place < shape.lanes * shape.handles) }
+    ensures born { IfOk result (λ root. HasBorn pool.now root seat.old seat.new) }
+    ensures later { IsLater pool.now seat.old seat.new }
     ensures worn { IfErr result (IsWornAt pool.now handle.place seat.old seat.new) }
 {
     match bear(pool, seat, handle, region, size, watch) {
@@ -116,6 +129,7 @@ fn pop_handle<W: Wait>(rt: &W, pool: &SharedPool, seat: &mut PoolSeat) -> Option
     ensures proceeds { Proceeds pool.now (hand_got result) 1 0 (handle_told result)
         seat.old seat.new }
     ensures handle { IfSome result (IsHandle pool.now) }
+    ensures later { IsLater pool.now seat.old seat.new }
     ensures took { IfSome result (λ h. TookHandle pool.now h.place seat.old seat.new) }
 {
     for _ in rt.forever() {

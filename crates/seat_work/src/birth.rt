@@ -1,13 +1,13 @@
 //! The birth of a root from a handle and a region in hand.
 
-ghost use Rattle.std.specs.Prelude.{◌≡◌, ◌≤◌, IfOk, IfErr};
+ghost use Rattle.std.specs.Prelude.{◌≡◌, ◌*◌, ◌<◌, ◌≤◌, IfOk, IfErr};
 ghost use Rattle.size_classes.specs.Sizes.{size_at};
 ghost use Rattle.pool_table.specs.Counts.{HasCount};
 ghost use Rattle.shared_pool.specs.SeatViews.{view_of};
 ghost use Rattle.shared_pool.specs.Wearing.{FoundWorn};
 ghost use Rattle.seat_work.specs.Hands.{empty_hand, IsHandle, IsRegion};
 ghost use Rattle.seat_work.specs.Changes.{no_change, once_more};
-ghost use Rattle.seat_work.specs.Works.{Works, Proceeds, IsLater};
+ghost use Rattle.seat_work.specs.Works.{HasBorn, IsLater, Proceeds, Works};
 ghost use Rattle.seat_work.specs.Answers.{with_both};
 
 use handle_bin::Handle;
@@ -33,13 +33,16 @@ pub(crate) fn bear(
         Proceeds pool.now empty_hand 1 0 (once_more root) seat.old seat.new) }
     ensures root { IfOk result (λ root.
         (root.capacity ≡ capacity) × HasCount root (view_of seat.new)) }
+    ensures place { let shape = pool.now.table.layout.shape in
+        IfOk result (λ root. root.place < shape.lanes * shape.handles) }
+    ensures noted { IfOk result (λ root. HasBorn pool.now root seat.old seat.new) }
     ensures kept { IfErr result (λ worn.
         Proceeds pool.now (with_both worn.handle.place worn.region.id) 0 0 no_change
         seat.old seat.new) }
     ensures back { IfErr result (λ worn.
         IsHandle pool.now worn.handle × IsRegion pool.now seat.new worn.region) }
     ensures worn { IfErr result (λ worn. FoundWorn pool.now handle.place seat.old) }
-    ensures later { IfErr result (λ worn. IsLater pool.now seat.old seat.new) }
+    ensures later { IsLater pool.now seat.old seat.new }
 {
     match pool.try_birth(seat, handle, region, capacity, watch) {
         Ok((_number, root)) => Ok(root),

@@ -22,7 +22,8 @@ use std::sync::Wait;
 pub(crate) fn end<W: Wait>(rt: &W, pool: &SharedPool, seat: &mut PoolSeat, token: EndToken)
     requires works { Works pool.now (with_token token.root) 4 0 seat.old }
     requires token { HoldsToken seat.old token }
-    ensures { Proceeds pool.now empty_hand 4 0 no_change seat.old seat.new }
+    ensures proceeds { Proceeds pool.now empty_hand 4 0 no_change seat.old seat.new }
+    ensures later { IsLater pool.now seat.old seat.new }
 {
     let (handle, region) = retire(pool, seat, token);
     put_away(rt, pool, seat, handle, region);
@@ -37,6 +38,7 @@ fn retire(pool: &SharedPool, seat: &mut PoolSeat, token: EndToken) -> (Handle, R
         seat.old seat.new }
     ensures handle { IsHandle pool.now result.0 }
     ensures region { IsRegion pool.now seat.new result.1 }
+    ensures later { IsLater pool.now seat.old seat.new }
 {
     let Retired {
         number: _,

@@ -2,6 +2,7 @@ use Rattle.std.proofs.Common.{arith}
 use Rattle.seat_work.specs.declared.allocation.AllocNo.TheVariants.{NoHandle}
 use Rattle.seat_work.specs.Answers.{with_place, allocated, refused}
 use Rattle.seat_work.specs.Hands.{empty_hand}
+use Rattle.seat_work.proofs.Later.{if_born_on, later_on}
 use Rattle.seat_work.proofs.Proceeding.{proceeds_on, proceeds_more}
 use Rattle.seat_work.proofs.Worn.{first_worn}
 use Rattle.seat_work.proofs.allocation.allocate.Goals as goal
@@ -22,3 +23,13 @@ pub returns-in-None-clause-proceeds : goal.returns-in-None-clause-proceeds
 returns-in-None-clause-proceeds g c =
     proceeds_more c.args.pool.now (refused NoHandle) empty_hand 1 0 6 0 c.args.seat.now c.pop_handle.new.seat
     c.in-None.ensures.proceeds (omega arith) (omega arith)
+
+pub returns-in-Some-clause-later : goal.returns-in-Some-clause-later
+returns-in-Some-clause-later g c =
+    later_on c.args.pool.now c.args.seat.now c.pop_handle.new.seat c.allocate_at.new.seat c.in-Some.ensures.later
+    c.allocate_at.ensures.later
+
+pub returns-in-Some-clause-born : goal.returns-in-Some-clause-born
+returns-in-Some-clause-born g c =
+    if_born_on c.args.pool.now c.args.seat.now c.pop_handle.new.seat c.allocate_at.new.seat c.allocate_at.result
+    c.in-Some.ensures.later c.allocate_at.ensures.born

@@ -5,6 +5,7 @@ use Rattle.seat_work.specs.declared.allocation.AllocNo.TheVariants.{Full}
 use Rattle.seat_work.specs.Answers.{with_place, with_both, allocated, refused}
 use Rattle.seat_work.specs.Hands.{empty_hand}
 use Rattle.seat_work.proofs.ClassLaws.{class_inside, class_holds}
+use Rattle.seat_work.proofs.Later.{if_born_on, later_on}
 use Rattle.seat_work.proofs.Proceeding.{proceeds_on, proceeds_then}
 use Rattle.seat_work.proofs.Worn.{still_worn}
 use Rattle.seat_work.proofs.allocation.allocate_at.Goals as goal
@@ -36,3 +37,18 @@ returns-in-None-clause-proceeds g c =
     c.args.seat.now c.find_region.new.seat c.put_handle.new.seat c.in-None.ensures.proceeds
     c.put_handle.ensures.proceeds
     (omega arith) (omega arith)
+
+pub returns-in-Some-clause-later : goal.returns-in-Some-clause-later
+returns-in-Some-clause-later g c =
+    later_on c.args.pool.now c.args.seat.now c.find_region.new.seat c.bear_or_return.new.seat c.in-Some.ensures.later
+    c.bear_or_return.ensures.later
+
+pub returns-in-Some-clause-born : goal.returns-in-Some-clause-born
+returns-in-Some-clause-born g c =
+    if_born_on c.args.pool.now c.args.seat.now c.find_region.new.seat c.bear_or_return.new.seat c.bear_or_return.result
+    c.in-Some.ensures.later c.bear_or_return.ensures.born
+
+pub returns-in-None-clause-later : goal.returns-in-None-clause-later
+returns-in-None-clause-later g c =
+    later_on c.args.pool.now c.args.seat.now c.find_region.new.seat c.put_handle.new.seat c.in-None.ensures.later
+    c.put_handle.ensures.later

@@ -29,3 +29,8 @@ returns-in-Err-clause-worn g c =
       found = c.in-Err.ensures.worn;
       after = later_on pool mid c.bear.new.seat next.new.seat c.in-Err.ensures.later next.ensures.later;
     }
+
+pub returns-in-Err-clause-later : goal.returns-in-Err-clause-later
+returns-in-Err-clause-later g c =
+    later_on c.args.pool.now c.args.seat.now c.bear.new.seat c.put_away.new.seat c.in-Err.ensures.later
+    c.put_away.ensures.later

@@ -2,6 +2,7 @@ use Rattle.seat_work.specs.Answers.{hand_got, handle_told}
 use Rattle.seat_work.specs.Hands.{empty_hand}
 use Rattle.shared_pool.specs.SeatLanes.{lane_of}
 use Rattle.seat_work.proofs.Calls.{some_handle, popped_handle}
+use Rattle.seat_work.proofs.Later.{later_same, later_noted, quiet_popped}
 use Rattle.seat_work.proofs.Proceeding.{works_same, proceeds_same}
 use Rattle.seat_work.proofs.Worn.{took_handle}
 use Rattle.seat_work.proofs.allocation.pop_handle.Goals as goal
@@ -23,3 +24,10 @@ returns-in-Did-clause-took g c =
     let did = c.in-Did in let inv = c.loop.invariant in
     took_handle c.args.pool.now c.args.seat.now c.loop.seat c.pop_handle.new.seat did.handle did._number inv.2
     did.ensures.same inv.1 did.ensures.did
+
+pub returns-in-Did-clause-later : goal.returns-in-Did-clause-later
+returns-in-Did-clause-later g c =
+    let pool = c.args.pool.now in let mid = c.loop.seat in let new = c.pop_handle.new.seat in let did = c.in-Did in
+    let inv = c.loop.invariant in
+    later_same pool c.args.seat.now mid new inv.2 inv.1
+    (later_noted pool mid new did.ensures.same inv.0 did.ensures.seat did.ensures.did (quiet_popped did.handle))

@@ -2,7 +2,7 @@ use Rattle.pool_law.specs.declared.note.Object.TheVariants.{Cache}
 use Rattle.shared_pool.specs.SeatLanes.{lane_of}
 use Rattle.seat_work.specs.Answers.{with_place}
 use Rattle.seat_work.proofs.Calls.{popped_region, marked}
-use Rattle.seat_work.proofs.Later.{later_noted, later_busy}
+use Rattle.seat_work.proofs.Later.{later_noted, later_busy, quiet_hit}
 use Rattle.seat_work.proofs.allocation.pop_region.Goals as goal
 
 pub returns-in-Did-clause-proceeds : goal.returns-in-Did-clause-proceeds
@@ -21,7 +21,7 @@ pub returns-in-Did-clause-later : goal.returns-in-Did-clause-later
 returns-in-Did-clause-later c =
     let did = c.in-Did in
     later_noted c.args.pool.now c.args.seat.now c.pop_cached.new.seat did.ensures.same c.requires.works.seat
-    did.ensures.seat did.ensures.did
+    did.ensures.seat did.ensures.did (quiet_hit did.region)
 
 pub returns-in-Held-clause-later : goal.returns-in-Held-clause-later
 returns-in-Held-clause-later c =

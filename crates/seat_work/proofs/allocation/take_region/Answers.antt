@@ -2,7 +2,7 @@ use Rattle.std.proofs.Common.{◌%◌}
 use Rattle.shared_pool.specs.SeatLanes.{lane_of}
 use Rattle.seat_work.specs.Answers.{with_place, hand_with, region_told}
 use Rattle.seat_work.proofs.Calls.{taken_region, took_region}
-use Rattle.seat_work.proofs.Later.{later_same, later_noted}
+use Rattle.seat_work.proofs.Later.{later_same, later_noted, quiet_taken}
 use Rattle.seat_work.proofs.Proceeding.{works_same, proceeds_same}
 use Rattle.seat_work.proofs.allocation.take_region.Goals as goal
 
@@ -25,4 +25,5 @@ returns-in-Did-clause-later g c =
     let pool = c.args.pool.now in let mid = c.loop.seat in let new = c.take.new.seat in let did = c.in-Did in
     let inv = c.loop.invariant in
     later_same pool c.args.seat.now mid new inv.2 inv.1
-    (later_noted pool mid new did.ensures.same inv.0 did.ensures.seat did.ensures.did)
+    (later_noted pool mid new did.ensures.same inv.0 did.ensures.seat did.ensures.did
+    (quiet_taken c.args.class did.region))

@@ -5,6 +5,7 @@ use Rattle.seat_work.specs.Changes.{once_less}
 use Rattle.seat_work.specs.Hands.{empty_hand}
 use Rattle.seat_work.specs.Works.{Works}
 use Rattle.seat_work.proofs.Calls.{released_kept, released_last}
+use Rattle.seat_work.proofs.Later.{later_on, later_ref}
 use Rattle.seat_work.proofs.Proceeding.{proceeds_then, proceeds_more, works_after}
 use Rattle.seat_work.proofs.counts.release.Goals as goal
 
@@ -17,16 +18,29 @@ end-requires-clause-works g c =
     (released_last pool old new c.release.ensures.seat root 4 0 works c.requires.counts did.2).goes (omega arith)
     (omega arith))
 
-pub returns-in-Kept : goal.returns-in-Kept
-returns-in-Kept g c =
+pub returns-in-Kept-clause-proceeds : goal.returns-in-Kept-clause-proceeds
+returns-in-Kept-clause-proceeds g c =
     let pool = c.args.pool.now in let old = c.args.seat.now in let new = c.release.new.seat in let root = c.args.root in
     proceeds_more pool (once_less root false) empty_hand 0 0 4 0 old new
     (released_kept pool old new c.release.ensures.seat root 4 0 c.requires.works c.requires.counts
     c.in-Kept.ensures.did) (omega arith) (omega arith)
 
-pub returns-in-Ended : goal.returns-in-Ended
-returns-in-Ended g c =
+pub returns-in-Ended-clause-proceeds : goal.returns-in-Ended-clause-proceeds
+returns-in-Ended-clause-proceeds g c =
     let pool = c.args.pool.now in let old = c.args.seat.now in let mid = c.release.new.seat in let root = c.args.root in
     proceeds_then pool (once_less root true) (with_token root) empty_hand 0 0 4 0 4 0 old mid c.end.new.seat
     (released_last pool old mid c.release.ensures.seat root 4 0 c.requires.works c.requires.counts
-    c.in-Ended.ensures.did.2) c.end.ensures (omega arith) (omega arith)
+    c.in-Ended.ensures.did.2) c.end.ensures.proceeds (omega arith) (omega arith)
+
+pub returns-in-Kept-clause-later : goal.returns-in-Kept-clause-later
+returns-in-Kept-clause-later g c =
+    let call = c.release in
+    later_ref c.args.pool.now c.args.seat.now call.new.seat call.ensures.same c.requires.works.seat call.ensures.seat
+    c.args.root _ _ 0 c.in-Kept.ensures.did (omega arith)
+
+pub returns-in-Ended-clause-later : goal.returns-in-Ended-clause-later
+returns-in-Ended-clause-later g c =
+    let call = c.release in
+    later_on c.args.pool.now c.args.seat.now call.new.seat c.end.new.seat
+    (later_ref c.args.pool.now c.args.seat.now call.new.seat call.ensures.same c.requires.works.seat call.ensures.seat
+    c.args.root _ _ 0 c.in-Ended.ensures.did.2 (omega arith)) c.end.ensures.later

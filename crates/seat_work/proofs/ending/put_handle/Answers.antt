@@ -1,4 +1,4 @@
-use Rattle.std.proofs.Common.{sym, subst}
+use Rattle.std.proofs.Common.{refl, sym, subst}
 use Rattle.handle_bin.specs.Bins.{HandleValue}
 use Rattle.shared_pool.specs.Holding.{HoldsHandle}
 use Rattle.seat_work.specs.Answers.{with_place}
@@ -32,4 +32,4 @@ returns-in-Did-clause-later g c =
     let pool = c.args.pool.now in let mid = c.loop.seat in let new = c.put_handle.new.seat in let did = c.in-Did in
     let inv = c.loop.invariant in
     later_same pool c.args.seat.now mid new inv.3 inv.1
-    (later_noted pool mid new did.ensures.same inv.0 did.ensures.seat did.ensures.did)
+    (later_noted pool mid new did.ensures.same inv.0 did.ensures.seat did.ensures.did refl)

@@ -10,7 +10,7 @@ use Rattle.seat_work.specs.Changes.{no_change}
 use Rattle.seat_work.specs.Works.{Proceeds}
 use Rattle.seat_work.proofs.Calls.{kept_region, back_region, marked}
 use Rattle.seat_work.proofs.Holds.{holds_region}
-use Rattle.seat_work.proofs.Later.{later_noted, later_busy}
+use Rattle.seat_work.proofs.Later.{later_noted, later_busy, quiet_put}
 use Rattle.seat_work.proofs.ending.put_region.Goals as goal
 
 pub put_cached-requires-clause-region : goal.put_cached-requires-clause-region
@@ -52,13 +52,13 @@ pub returns-in-Did-default-Kept-clause-later : goal.returns-in-Did-default-Kept-
 returns-in-Did-default-Kept-clause-later c =
     let did = c.in-Did-default-Kept in
     later_noted c.args.pool.now c.args.seat.now c.put_cached.new.seat did.ensures.same c.requires.works.seat
-    did.ensures.seat did.ensures.did
+    did.ensures.seat did.ensures.did (quiet_put c.args.region.id _)
 
 pub returns-in-Did-default-Back-clause-later : goal.returns-in-Did-default-Back-clause-later
 returns-in-Did-default-Back-clause-later c =
     let did = c.in-Did-default-Back in
     later_noted c.args.pool.now c.args.seat.now c.put_cached.new.seat did.ensures.same c.requires.works.seat
-    did.ensures.seat did.ensures.did
+    did.ensures.seat did.ensures.did (quiet_put c.args.region.id _)
 
 pub returns-in-Held-clause-later : goal.returns-in-Held-clause-later
 returns-in-Held-clause-later c =
