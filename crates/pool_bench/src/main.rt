@@ -176,17 +176,7 @@ fn work_all<R: Threads + Wait + Sync>(
         {
             let mut draws = Draws::new(plan.start);
             draws.skip((lane as u64).wrapping_mul(draws_of(plan.work) * plan.blocks as u64));
-            let tally = run(
-                rt,
-                pool,
-                shape,
-                sizes,
-                plan.work,
-                plan.blocks,
-                plan.mail,
-                &mut draws,
-                runner,
-            );
+            let tally = run(rt, pool, shape, sizes, plan, &mut draws, runner);
             sum.fetch_add(tally.sum, Ordering::SeqCst);
             refused.fetch_add(tally.refused, Ordering::SeqCst);
         },

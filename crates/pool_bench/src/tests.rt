@@ -68,9 +68,10 @@ fn no_batch_is_refused(rt: HostRuntime) -> Result<(), Fail> {
     Ok(())
 }
 
+// Many times more often than a lane has moves.
 #[test]
 fn one_buffer_is_retained_often(rt: HostRuntime) -> Result<(), Fail> {
-    let plan = plan(&rt, Workload::Retained(None), 2, 999);
+    let plan = plan(&rt, Workload::Retained(None), 2, 100_000);
     let (_sum, refused) = tally(&rt, &plan)?;
     assert_eq!(rt; refused, 0);
     Ok(())

@@ -11,6 +11,10 @@ use pool_table::Layout;
 use size_classes::DEFAULT_PAGE;
 use std::alloc::{AllocError, Global};
 
+/// The moves of a lane that retains and releases one buffer, however often: a release gives back the
+/// move of its retain, so one would do.
+const RETAINED_MOVES: u32 = 16;
+
 /// What the words ask for.
 #[derive(Clone, Copy, Debug, Drop)]
 pub struct Plan {
@@ -19,6 +23,7 @@ pub struct Plan {
     pub arenas: u32,
     pub chunks: u32,
     pub handles: u32,
+    /// How many blocks each thread does.
     pub asked: u32,
     /// For how many buffers a lane has turns and moves.
     pub blocks: u32,
@@ -96,10 +101,10 @@ fn workload_of(word: &str) -> Option<Workload> {
     }
 }
 
-// How many buffers so many blocks allocate, or how many retain them.
+// For how many buffers a lane needs turns and moves to do so many blocks.
 fn buffers_of(work: Workload, blocks: u32) -> Option<u32> {
     match work {
-        Workload::Retained(_) => blocks.checked_add(1),
+        Workload::Retained(_) => Some(RETAINED_MOVES),
         Workload::Batches(_) => blocks.checked_mul(512),
         _ => Some(blocks),
     }

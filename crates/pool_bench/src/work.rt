@@ -16,6 +16,7 @@ use crate::passed::run_passed;
 use crate::places::run_places;
 use crate::retained::run_retained;
 use crate::runner::Runner;
+use crate::words::Plan;
 use pool_law::{RootId, Shape};
 use seat_work::{allocate, get, release, set};
 use shared_pool::{PoolSeat, SharedPool};
@@ -86,31 +87,36 @@ impl Tally {
     }
 }
 
-/// All blocks of a workload. A lane may post so many parcels to the next as `mail` says.
+/// All blocks of a plan's workload.
 pub fn run<W: Wait>(
     rt: &W,
     pool: &SharedPool,
     shape: &Shape,
     sizes: &SizeClasses,
-    work: Workload,
-    blocks: u32,
-    mail: u32,
+    plan: &Plan,
     draws: &mut Draws,
     runner: &mut Runner,
 ) -> Tally
     requires shape { shape.now ≡ pool.now.table.layout.shape }
     requires sizes { sizes.now ≡ geometry_of shape.now }
-    requires may { MayRun pool.now blocks runner.old.seat }
-    requires mail { HasMail pool.now mail runner.old.seat }
+    requires may { MayRun pool.now plan.now.blocks runner.old.seat }
+    requires mail { HasMail pool.now plan.now.mail runner.old.seat }
     ensures { HasRun pool.now runner.old.seat runner.new.seat }
 {
+    let Plan {
+        work,
+        asked,
+        blocks,
+        mail,
+        ..
+    } = *plan;
     let seat = &mut runner.seat;
     match work {
         Workload::Passed(_) | Workload::Counted => {
             run_passed(rt, pool, shape, sizes, work, blocks, mail, draws, seat)
         }
         Workload::Retained(size) => {
-            run_retained(rt, pool, sizes, size.unwrap_or(256), blocks, seat)
+            run_retained(rt, pool, sizes, size.unwrap_or(256), asked, blocks, seat)
         }
         Workload::Batches(size) => run_batches(rt, pool, sizes, size, blocks, runner),
         Workload::Places => run_places(rt, pool, sizes, blocks, draws, runner),

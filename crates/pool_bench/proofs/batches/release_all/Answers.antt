@@ -24,8 +24,9 @@ loop-root-preserved g c =
     let before = c.loop-root.runner.seat in let after = c.release.new.seat in let roots = c.pop.new.self in (
       omega (arith, len),
       goes_on c.args.pool.now empty_hand empty_hand (4 * (all - left)) 0 4 0 (4 * (all - vec_len roots)) 0
-          c.args.runner.now.seat before after c.loop-root.invariant.1 c.release.ensures.goes (omega (arith, len))
+          c.args.runner.now.seat before after c.loop-root.invariant.1 c.release.ensures.proceeds.goes
+          (omega (arith, len))
           (omega arith),
       holds_pop roots.items c.loop-root.runner.roots.items c.in-Some.root (c.in-Some.ensures {u = tt}).items
-          (view_of before) (view_of after) c.release.result c.release.ensures.changes c.loop-root.invariant.2,
+          (view_of before) (view_of after) c.release.result c.release.ensures.proceeds.changes c.loop-root.invariant.2,
     )

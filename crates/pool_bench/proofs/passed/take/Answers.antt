@@ -6,4 +6,4 @@ pub returns-clause-sends : goal.returns-clause-sends
 returns-clause-sends g c =
     let read = c.read_first-sum in
     sends_on 0 0 (view_of c.args.seat.now) (view_of read.new.seat) (view_of c.release.new.seat) read.ensures.sends
-    c.release.ensures.sends
+    c.release.ensures.proceeds.sends

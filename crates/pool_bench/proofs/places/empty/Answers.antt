@@ -14,4 +14,4 @@ returns-clause-holds g c =
     let roots = c.args.runner.now.roots in let out = c.swap_remove-root in
     holds_less roots.items out.new.self.items c.args.place out.result (omega (arith, roots.ok.0)) out.ensures.value
     out.ensures.items (view_of c.args.runner.now.seat) (view_of c.release.new.seat) c.release.result
-    c.release.ensures.changes c.requires.holds
+    c.release.ensures.proceeds.changes c.requires.holds
