@@ -10,7 +10,7 @@ use Rattle.pool_law.specs.Bounds.{most_notes}
 use Rattle.pool_law.specs.LaneStates.{LaneState}
 use Rattle.pool_law.specs.Lanes.{Answer, answer, answer_of, set_parts, get_parts, set_at, get_at, busy_or}
 use Rattle.pool_law.specs.Names.{Bound, Plain, bind, has_range, has_to_read, has_room, reader_of, writer_of, read_on, written_on, parts_at}
-use Rattle.pool_law.specs.Readers.{Log, Reader, ◌>>=◌, ◌>>◌, give, given, access}
+use Rattle.pool_law.specs.Readers.{Log, Reader, ◌>>=◌, ◌>>◌, give, given}
 use Rattle.pool_law.specs.Views.{root_index, in_range, can_read, can_write, after_read, after_write}
 use Rattle.lane_core.specs.declared.access.Refusal.{Refusal}
 use Rattle.lane_core.specs.declared.access.Reach.{Reach}

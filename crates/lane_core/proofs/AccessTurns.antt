@@ -18,7 +18,7 @@ use Rattle.pool_law.specs.LaneLaw.{sweep_period, before_stop}
 use Rattle.pool_law.specs.LaneStates.{LaneState}
 use Rattle.pool_law.specs.Lanes.{Answer, answer, answer_of}
 use Rattle.pool_law.specs.Names.{Names, Bound, Plain}
-use Rattle.pool_law.specs.Readers.{Reader, ◌>>=◌, ◌>>◌, give, given, busy, access as accesses}
+use Rattle.pool_law.specs.Readers.{Log, Reader, ◌>>=◌, ◌>>◌, give, given, busy, access as accesses}
 use Rattle.pool_law.proofs.SameLemmas.{same_root-is}
 use Rattle.pool_law.proofs.PatternLemmas.{same_number, same_root-refl}
 use Rattle.leak_records.specs.Records.{Sampling}
@@ -38,6 +38,7 @@ use Rattle.lane_core.specs.declared.context.Context.{Context}
 use Rattle.lane_core.specs.declared.context.Stage.TheVariants.{Ready}
 use Rattle.lane_core.specs.declared.context.Turn.TheVariants.{Went}
 use Rattle.lane_core.specs.Accesses.{IsState, reads_set, reads_get, tries_or}
+use Rattle.lane_core.specs.NextNotes.{BeginsAt}
 use Rattle.lane_core.specs.Readings.{before_left, ReadsOn, none_asked}
 use Rattle.seat_work.specs.Hands.{lane_in, empty_hand}
 use Rattle.lane_core.specs.Budgets.{takes}
@@ -49,6 +50,8 @@ use Rattle.lane_core.specs.ContextSteps.{HasNoted, HasReplied, MayTurn}
 use Rattle.seat_work.proofs.Grown.{Grows, grows_noted, grows_busy}
 use Rattle.seat_work.proofs.HandLaws.{Carries, held_on}
 use Rattle.seat_work.proofs.HandNotes.{marked_busy}
+use Rattle.lane_core.proofs.NextNotes.{access_begins, same_begins, then_begins}
+use Rattle.lane_core.proofs.Ways.{HasWay, access_way, give_way, same_way, then_way}
 use Rattle.lane_core.proofs.EntryCounts.{Recounts, IsStill, still}
 use Rattle.lane_core.proofs.NameLaws.{RebindsAt, rebound_same}
 use Rattle.lane_core.proofs.ReadLaws.{given_on, first_on, second_on, none_then, access_on, mark_on, note_unmarked}
@@ -221,6 +224,34 @@ touch_turn pool name old start mid new may start_is same seat v bound lt number 
     (before_left log (e ∷ []))) (viewed s old.names old.counts state name v bound)
     ∙ given_on (accesses v.root says.touch) (e ∷ []) none_asked (λ _. give (answer Reply.Ok s.names)) tt
     (on_access v.root says.touch number lane Did.Touch tt refl) log)
+
+module _ (name : ℕ) (old : Context) (v : ViewData) (bound : bound_at old.names name ≡ Some (Plain v))
+    (lt : 0 < counted old.counts v.root) (s : LaneState) (state : IsState s old.names old.counts) where
+  abbrev touches : Reader Answer
+  touches = accesses v.root says.touch >> give (answer Reply.Ok s.names)
+
+  touch_read : (log : Log)
+      → answer_of old.shape (lane_of old.seat) s (Command.Touch name) log ≡ touches log
+  touch_read log =
+      goes s old.names old.counts state old.shape (lane_of old.seat) (Command.Touch name)
+      (used_view s old.names old.counts state name v bound lt []) log
+      ∙ ap (λ (o : Option ViewData).
+      (given o >>= (λ view. accesses view.root says.touch >> give (answer Reply.Ok s.names))) log)
+      (viewed s old.names old.counts state name v bound)
+
+  -- it is read as a note at the root's place
+  pub touch_begins : BeginsAt (Root v.root.place) (answer_of old.shape (lane_of old.seat) s (Command.Touch name))
+  touch_begins =
+      same_begins (Root v.root.place) touches (answer_of old.shape (lane_of old.seat) s (Command.Touch name)) touch_read
+      (then_begins (Root v.root.place) (accesses v.root says.touch) (λ _. give (answer Reply.Ok s.names))
+      (access_begins says.touch v.root))
+
+  -- and there is such a note
+  pub touch_way : HasWay (answer_of old.shape (lane_of old.seat) s (Command.Touch name))
+  touch_way =
+      same_way touches (answer_of old.shape (lane_of old.seat) s (Command.Touch name)) touch_read
+      (then_way (accesses v.root says.touch) (λ _. give (answer Reply.Ok s.names))
+      (access_way v.root says.touch Did.Touch tt refl) (λ u. give_way (answer Reply.Ok s.names)))
 
 -- ---- Sets and gets.
 

@@ -38,7 +38,9 @@ use Rattle.seat_work.proofs.HandLaws.{held_on}
 use Rattle.seat_work.proofs.HandNotes.{handle_comes, handle_goes, no_handle, region_taken, arena_full, region_hit, cache_missed, marked_busy}
 use Rattle.seat_work.proofs.Holds.{is_handle, is_region}
 use Rattle.lane_core.proofs.LogLaws.{wrote_none}
+use Rattle.lane_core.proofs.NextNotes.{begins_there}
 use Rattle.lane_core.proofs.OneNote.{wrote_note, wrote_mark, wrote_nothing, found_there}
+use Rattle.lane_core.specs.NextNotes.{BeginsAt}
 use Rattle.lane_core.specs.Readings.{ReadsOn, none_asked, one_asked}
 use Rattle.lane_core.proofs.ReadLaws.{still_on}
 use Rattle.lane_core.proofs.Readings.{read_no_handle, read_handle, read_handle_uncached, read_hit, read_missed, read_busy, read_taken, read_full, read_home}
@@ -367,9 +369,9 @@ module _ (pool : SharedPool) (old new : PoolSeat) (class : ℕ)
   -- another seat was there, and the same is to be tried again
   pub found_held : (o : Object) (held : Held) (stage again : Allotting) (log : Vec Note) (sampler : Sampling) (size : ℕ)
       → IsUnasked stage → MayAllot pool old class stage → FoundBusy pool o false old new held → again ≡ stage
-      → Fits pool new class stage →
+      → Fits pool new class stage → BeginsAt o (rest_of shape lane size class stage) →
       HasAllotted pool old new sampler sampler log log size class stage (HeldBack held again)
-  found_held o held stage again log sampler size unasked may found alike fits =
+  found_held o held stage again log sampler size unasked may found alike fits begins =
       let grows : Grows v w [] 0 = grows_held pool old new may.seat_is is o held found in
       subst (λ (x : Allotting). HasAllotted pool old new sampler sampler log log size class stage (HeldBack held x))
       (sym alike)
@@ -381,7 +383,12 @@ module _ (pool : SharedPool) (old new : PoolSeat) (class : ℕ)
             (rest_of shape lane size class stage) o held found (still_at size stage unasked);
         hand = subst (λ (x : SeatView). IsHeld (hand_of stage) x) (sym (ap (λ m. m.0) found.marked)) may.hand;
         fits = fits;
-        again = (refl, refl, found_there pool old new may.seat_is is same o false held found);
+        again = (
+          refl,
+          refl,
+          found_there pool old new may.seat_is is same o false held found,
+          begins_there o held (rest_of shape lane size class stage) found.object begins,
+        );
         counts = none_added;
         place = tt;
         spends =

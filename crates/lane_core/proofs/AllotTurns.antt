@@ -8,6 +8,7 @@ use Rattle.pool_law.specs.declared.id.RootId.{RootId}
 use Rattle.pool_law.specs.declared.id.ViewData.{ViewData}
 use Rattle.pool_law.specs.declared.note.Held.{Held}
 use Rattle.pool_law.specs.declared.note.Note.{Note}
+use Rattle.pool_law.specs.declared.note.Object.{Object}
 use Rattle.pool_law.specs.declared.run.Reply.{Reply}
 use Rattle.pool_law.specs.declared.run.Shape.{Shape}
 use Rattle.pool_law.specs.Limits.{geometry_of}
@@ -38,9 +39,11 @@ use Rattle.seat_work.specs.Changes.{one_for}
 use Rattle.lane_core.specs.Counting.{counted}
 use Rattle.seat_work.specs.Hands.{Hand, empty_hand}
 use Rattle.lane_core.specs.Named.{NamesAre}
+use Rattle.lane_core.specs.NextNotes.{BeginsAt}
 use Rattle.lane_core.specs.Readings.{ReadsOn, swept, renamed}
 use Rattle.lane_core.specs.Contexts.{IsContext, reads_from, HasTurned}
 use Rattle.lane_core.specs.ContextSteps.{HasNoted, Concludes, CountsMore}
+use Rattle.lane_core.proofs.NextNotes.{then_begins}
 use Rattle.lane_core.proofs.NameLaws.{NamesAre-bind, rebound_same, rebound_view}
 use Rattle.lane_core.proofs.ReadLaws.{then_on, given_on}
 use Rattle.lane_core.proofs.ContextLaws.{spends_at}
@@ -153,6 +156,18 @@ module _ (pool : SharedPool) (old mid : Context) (name size class : ℕ) (stage 
             held = tt;
           }
 
+      -- it is read from there on as the allocation is
+      waits_at : (o : Object)
+          → BeginsAt o (allotment.rest_of pool.table.layout.shape (lane_of old.seat) size class stage)
+          → BeginsAt o (reads_at_stage stage)
+      waits_at o begins =
+          let rest = allotment.rest_of old.shape (lane_of old.seat) size class stage in
+          let made : Result LawNew Reply → Reader Answer = λ got. give (law_allotted s name got) in
+          then_begins o (rest >>= made) (swept (lane_of old.seat))
+          (then_begins o rest made
+          (subst (λ (shape : Shape). BeginsAt o (allotment.rest_of shape (lane_of old.seat) size class stage))
+          (sym d.shape) begins))
+
       pub allot_waits : (held : Held) (next : AllotStage)
           → allotment.HasAllotted pool old.seat mid.seat old.sampler mid.sampler old.notes mid.notes size class stage
           (AllotHeld held next) → HasTurned pool old mid s command (Allotting name size class stage)
@@ -186,7 +201,10 @@ module _ (pool : SharedPool) (old mid : Context) (name size class : ℕ) (stage 
                   ap (λ (at : AllotStage). (allotment.left_of at).asks) did.again.0 in omega (arith, a, b, e)),
             );
             waits = tt;
-            held = subst (λ x. FoundBusy pool held.object false old.seat x held) (sym seat_is) did.again.2;
+            held = (
+              subst (λ x. FoundBusy pool held.object false old.seat x held) (sym seat_is) did.again.2,
+              waits_at held.object did.again.3,
+            );
           }
 
       -- a root was born, and its name is bound
@@ -226,7 +244,7 @@ module _ (pool : SharedPool) (old mid : Context) (name size class : ℕ) (stage 
           (empty : allotment.hand_after allots ≡ empty_hand)
           (none : (root : RootId) → allotment.born_in allots root ≡ 0)
           (left : allotment.left_after allots ≡ notes_alone 0)
-          (some : (log : List Note) → allotment.IsTriedAgain pool old.seat mid.seat stage allots log
+          (some : (log : List Note) → allotment.IsTriedAgain pool old.seat mid.seat size class stage allots log
           → 0 < length log)
           (rest_is : allotment.rest_after old.shape (lane_of old.seat) size class allots ≡ give (Err reply))
           (did : allotment.HasAllotted pool old.seat mid.seat old.sampler mid.sampler old.notes mid.notes size class

@@ -18,6 +18,7 @@ use Rattle.lane_core.specs.declared.context.Turn.TheVariants.{Went, Pending, Wai
 use Rattle.lane_core.specs.Budgets.{Left, with_sheds}
 use Rattle.lane_core.specs.Contexts.{HasTurned, IsUnderway, SpendsAt, left_after, left_now, log_of, reads_from}
 use Rattle.lane_core.specs.Works.{IsWithin}
+use Rattle.lane_core.proofs.NextNotes.{same_begins}
 use Rattle.lane_core.proofs.StageCases.{by_kind, left_on, on_waits, on_went, waits_on, went_on}
 
 -- what is left is within what is, and so with what caches may shed
@@ -138,7 +139,7 @@ module _ (pool : SharedPool) (old new : Context) (s : LaneState) (command : Comm
         spends = begun_spends (left_now old.composes command next (view_of new.seat)) t.spends;
         comes = on_waits reads s old new t.added Ready held next u (λ log. same log ∙ on.0 log, on.1);
         waits = tt;
-        held = t.held;
+        held = (t.held.0, same_begins held.object (reads s at) (reads s Ready) same t.held.1);
       }
 
   -- the command is not at its beginning any more

@@ -12,7 +12,10 @@ use Rattle.pool_law.specs.LaneLaw.{sweep_period, before_stop}
 use Rattle.pool_law.specs.LaneStates.{LaneState}
 use Rattle.pool_law.specs.Lanes.{Answer, answer, answer_of}
 use Rattle.pool_law.specs.Names.{Names, Bound, Plain}
-use Rattle.pool_law.specs.Readers.{Log, Reader, give}
+use Rattle.pool_law.specs.Dids as says
+use Rattle.pool_law.specs.Readers.{Log, Reader, give, access as accesses}
+use Rattle.lane_core.proofs.NextNotes.{access_begins, same_begins, then_begins}
+use Rattle.lane_core.proofs.Ways.{HasWay, get_way, give_way, same_way, set_way, then_way}
 use Rattle.lane_core.proofs.NameLaws.{rebound_view}
 use Rattle.pool_table.specs.declared.views.Entry.TheVariants.{Busy}
 use Rattle.shared_pool.specs.SeatViews.{view_of, SameSeat}
@@ -28,6 +31,7 @@ use Rattle.lane_core.specs.declared.context.Stage.TheVariants.{Ready}
 use Rattle.lane_core.specs.declared.context.Turn.{Turn}
 use Rattle.lane_core.specs.declared.context.Turn.TheVariants.{Went}
 use Rattle.lane_core.specs.Accesses.{reads_set, reads_get, tries_or}
+use Rattle.lane_core.specs.NextNotes.{BeginsAt}
 use Rattle.lane_core.specs.Readings.{before_left, ReadsOn, none_asked}
 use Rattle.lane_core.specs.Counting.{counted}
 use Rattle.seat_work.specs.Hands.{empty_hand}
@@ -110,16 +114,18 @@ module _ (pool : SharedPool) (old start new : Context) (d : IsContext pool empty
   found_turn : (tries : Bool) → FoundBusy pool (Root reach.root.place) tries old.seat start.seat held
       → FindsBusy tries start new held turn →
       ((log : Log) → answer_of old.shape (lane_of old.seat) s command log ≡ tries_or tries s reach.after.at going log)
-      → HasTurned pool old new s command Ready turn
-  found_turn true found did reads =
+      → BeginsAt (Root reach.root.place) going → HasWay going → HasTurned pool old new s command Ready turn
+  found_turn true found did reads begins way =
       subst (λ (t : Turn). HasTurned pool old new s command Ready t) (sym did.3)
       (busy_turn pool old start did.0 new d low start_is same seat held (Root reach.root.place) found did.1 did.2 s
       command are notes
       (λ log. reads (before_left log (entry_of (Busy held) ∷ []))
       ∙ read_busy s reach.after.at held going (found.object ∙ ap (λ (r : RootId). Root r.place) (sym view)) log))
-  found_turn false found did reads =
+  found_turn false found did reads begins way =
       subst (λ (x : Context × Turn). HasTurned pool old x.0 s command Ready x.1) (λ i. (sym did.0 i, sym did.1 i))
-      (waits_turn pool old start low d start_is same seat (Root reach.root.place) held found s command)
+      (waits_turn pool old start low d start_is same seat (Root reach.root.place) held found s command
+      (same_begins (Root reach.root.place) going (answer_of old.shape (lane_of old.seat) s command) reads begins)
+      (same_way going (answer_of old.shape (lane_of old.seat) s command) reads way))
 
 module _ (pool : SharedPool) (old start new : Context) (d : IsContext pool empty_hand old)
     (low : old.asked < sweep_period)
@@ -133,9 +139,21 @@ module _ (pool : SharedPool) (old start new : Context) (d : IsContext pool empty
       found_turn pool old start new d low start_is same seat reach view held turn s command
       (reads_set prepared.bound reach bytes.items) state.names_are
       (prepared.noted old.composes) reach.tries found did (prepared.read old.shape (lane_of old.seat))
+      (then_begins (Root reach.root.place) (accesses reach.root (says.set reach.offset bytes.items))
+      (λ _. give (answer Reply.Ok prepared.bound))
+      (access_begins (says.set reach.offset bytes.items) reach.root))
+      (then_way (accesses reach.root (says.set reach.offset bytes.items)) (λ _. give (answer Reply.Ok prepared.bound))
+      (set_way reach.root reach.offset bytes.items) (λ u. give_way (answer Reply.Ok prepared.bound)))
 
   pub get_found : (note reply : Vec ℕ Global) → AccessTurns pool old new (Get reach note reply) turn
   get_found note reply = λ s command state prepared.
       found_turn pool old start new d low start_is same seat reach view held turn s command
       (reads_get prepared.bound reach (length note.items)) state.names_are
       (prepared.noted old.composes) reach.tries found did (prepared.read old.shape (lane_of old.seat))
+      (then_begins (Root reach.root.place) (accesses reach.root (says.get reach.offset (length note.items)))
+      (λ bytes. give (answer (Reply.OkBytes bytes) prepared.bound))
+      (access_begins (says.get reach.offset (length note.items)) reach.root))
+      (then_way (accesses reach.root (says.get reach.offset (length note.items)))
+      (λ bytes. give (answer (Reply.OkBytes bytes) prepared.bound))
+      (get_way reach.root reach.offset (length note.items))
+      (λ bytes. give_way (answer (Reply.OkBytes bytes) prepared.bound)))

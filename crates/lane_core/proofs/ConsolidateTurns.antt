@@ -47,11 +47,13 @@ use Rattle.lane_core.specs.Composing.{IsBindable, IsCandidate, IsConsolidation, 
 use Rattle.lane_core.specs.Copyings as copying
 use Rattle.lane_core.specs.Counting.{counted}
 use Rattle.lane_core.specs.Named.{NamesAre}
+use Rattle.lane_core.specs.NextNotes.{BeginsAt}
 use Rattle.lane_core.specs.Readings.{ReadsOn, renamed, swept}
 use Rattle.lane_core.specs.Releasings as releasing
 use Rattle.lane_core.specs.Releasings.{AreUncounted}
 use Rattle.lane_core.specs.Contexts.{ContextGrew, GoesOn, HasTurned, IsContext, log_of, reads_from, with_parts}
 use Rattle.lane_core.specs.ContextSteps.{Concludes, CountsMore}
+use Rattle.lane_core.proofs.NextNotes.{then_begins}
 use Rattle.lane_core.proofs.AllotTurns.{allotted, asks_least, read_on}
 use Rattle.lane_core.proofs.ConsolidateLaws.{beside, copied_as, less_beside, made_of, moved_marked, replaced_as}
 use Rattle.lane_core.proofs.ContextGrown.{grew, lengthened}
@@ -176,7 +178,14 @@ module _ (pool : SharedPool) (old mid : Context) (p : Consolidation) (stage : Al
                 omega (arith, few, b, e)),
           );
           waits = tt;
-          held = did.again.2;
+          held = (
+            did.again.2,
+            then_begins held.object (body stage) (swept lane)
+                (then_begins held.object (rest stage >>= made_by) composes
+                (then_begins held.object (rest stage) made_by
+                (subst (λ (shape : Shape). BeginsAt held.object (allotment.rest_of shape lane p.size p.class stage))
+                (sym d.shape) did.again.3))),
+          );
         }
 
     -- it was refused
@@ -184,7 +193,8 @@ module _ (pool : SharedPool) (old mid : Context) (p : Consolidation) (stage : Al
         (empty : allotment.hand_after allots ≡ empty_hand)
         (none : (root : RootId) → allotment.born_in allots root ≡ 0)
         (left : allotment.left_after allots ≡ notes_alone 0)
-        (some : (log : List Note) → allotment.IsTriedAgain pool old.seat mid.seat stage allots log → 0 < length log)
+        (some : (log : List Note) → allotment.IsTriedAgain pool old.seat mid.seat p.size p.class stage allots log
+        → 0 < length log)
         (rest_is : allotment.rest_after old.shape lane p.size p.class allots ≡ give (Err reply))
         (did : Did allots) where
       pub consolidate_refused : (turn : Turn) → Concludes mid new reply turn

@@ -6,6 +6,8 @@ use Rattle.pool_law.specs.declared.note.Held.{Held}
 use Rattle.pool_law.specs.declared.note.Object.{Object}
 use Rattle.pool_law.specs.LaneLaw.{sweep_period}
 use Rattle.pool_law.specs.LaneStates.{LaneState}
+use Rattle.pool_law.specs.Lanes.{answer_of, turn}
+use Rattle.shared_pool.specs.SeatLanes.{lane_of}
 use Rattle.shared_pool.specs.SeatViews.{view_of, SameSeat}
 use Rattle.shared_pool.specs.declared.pool.SharedPool.{SharedPool}
 use Rattle.shared_pool.specs.MailAnswers.{IsDrained}
@@ -16,8 +18,13 @@ use Rattle.lane_core.specs.declared.context.Stage.TheVariants.{Ready}
 use Rattle.lane_core.specs.declared.context.Turn.TheVariants.{Pending, Waiting}
 use Rattle.lane_core.specs.Budgets.{Left, Spends}
 use Rattle.seat_work.specs.Hands.{empty_hand}
+use Rattle.lane_core.specs.NextNotes.{BeginsAt}
+use Rattle.lane_core.specs.Readings.{swept}
 use Rattle.lane_core.specs.Contexts.{IsContext, left_for, left_now, ContextGrew, Waits, SpendsAt, ReceivesFrom, HasTurned}
 use Rattle.lane_core.specs.ContextSteps.{HasNoted}
+use Rattle.lane_core.proofs.NextNotes.{begins_there, then_begins}
+use Rattle.lane_core.proofs.StageWays.{swept_way}
+use Rattle.lane_core.proofs.Ways.{HasWay, then_way, way_read}
 use Rattle.lane_core.proofs.Grown.{spends}
 use Rattle.lane_core.proofs.EntryCounts.{Recounts, none_recounted}
 use Rattle.lane_core.proofs.NameLaws.{rebound_same}
@@ -91,16 +98,28 @@ module _ (pool : SharedPool) (old start : Context) (d : IsContext pool empty_han
         (let a = same_asked in omega (arith, a))
 
     pub pending : old.asked < sweep_period → (held : Held) → FoundBusy pool held.object false old.seat start.seat held
-        → (s : LaneState) (command : Command) → HasTurned pool old start s command Ready (Pending held Ready)
-    pending low held found s command = record {
+        → (s : LaneState) (command : Command)
+        → BeginsAt held.object (answer_of old.shape (lane_of old.seat) s command)
+        → HasWay (answer_of old.shape (lane_of old.seat) s command)
+        → HasTurned pool old start s command Ready (Pending held Ready)
+    pending low held found s command begins way = record {
       added = [];
       grew = unmoved;
       fits = (let a = same_asked in omega (arith, a, low));
       name = tt;
       spends = still_spent command;
-      comes = (refl, still_waits);
+      comes = (
+        refl,
+        still_waits,
+        way_read (turn sweep_period old.shape (lane_of old.seat) s command)
+            (then_way (answer_of old.shape (lane_of old.seat) s command) (swept (lane_of old.seat)) way
+            (swept_way (lane_of old.seat))),
+      );
       waits = tt;
-      held = found;
+      held = (
+        found,
+        then_begins held.object (answer_of old.shape (lane_of old.seat) s command) (swept (lane_of old.seat)) begins,
+      );
     }
 
     pub waiting : old.asked < sweep_period → (sender : ℕ) (s : LaneState) (command : Command)
@@ -121,8 +140,11 @@ module _ (pool : SharedPool) (old start : Context) (d : IsContext pool empty_han
 pub waits_turn : (pool : SharedPool) (old start : Context) → old.asked < sweep_period → IsContext pool empty_hand old
     → start ≡ record old { seat = start.seat } → SameSeat old.seat start.seat → IsPoolSeat pool start.seat
     → (object : Object) (held : Held) → FoundBusy pool object false old.seat start.seat held →
-    (s : LaneState) (command : Command) → HasTurned pool old start s command Ready (Pending held Ready)
-waits_turn pool old start low d start_is same seat object held found s command =
+    (s : LaneState) (command : Command) → BeginsAt object (answer_of old.shape (lane_of old.seat) s command)
+    → HasWay (answer_of old.shape (lane_of old.seat) s command)
+    → HasTurned pool old start s command Ready (Pending held Ready)
+waits_turn pool old start low d start_is same seat object held found s command begins way =
     pending pool old start d start_is
     (advances_none pool old.seat start.seat empty_hand d.seat d.held same seat found.marked) low held
     (subst (λ (o : Object). FoundBusy pool o false old.seat start.seat held) (sym found.object) found) s command
+    (begins_there object held (answer_of old.shape (lane_of old.seat) s command) found.object begins) way

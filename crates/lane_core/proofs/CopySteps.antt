@@ -35,9 +35,11 @@ use Rattle.lane_core.specs.Budgets.{notes_alone, Spends}
 use Rattle.lane_core.specs.Copyings.{MayCopy, HasCopied, IsWithin, IsTriedAgain, Fits, FitsAfter, parts_of, left_of, left_after, rest_of, rest_after}
 use Rattle.lane_core.specs.Counting.{CountsAre}
 use Rattle.lane_core.specs.Logs.{HasWritten}
+use Rattle.lane_core.specs.NextNotes.{BeginsAt}
 use Rattle.lane_core.specs.Readings.{ReadsOn, none_asked}
 use Rattle.lane_core.proofs.AccessTurns.{IsAccessDid, set_is, get_is}
 use Rattle.lane_core.proofs.LogLaws.{wrote_none}
+use Rattle.lane_core.proofs.NextNotes.{begins_there}
 use Rattle.lane_core.proofs.OneNote.{wrote_note, wrote_nothing, found_there}
 use Rattle.lane_core.proofs.PartReads.{copy_part_on, read_set_at}
 use Rattle.lane_core.proofs.PartSteps.{part_entry, hand_on, counts_on, one_spent, same_counts, same_view, none_spent}
@@ -222,8 +224,9 @@ module _ (pool : SharedPool) (old new : PoolSeat) (is : IsPoolSeat pool new)
   -- ---- Another seat was there, and the same is to be tried again.
 
   pub copy_held : (o : Object) (held : Held) (stage : Copying) (log : Vec Note) → MayCopy pool old stage
-      → FoundBusy pool o false old new held → HasCopied pool old new log log stage (HeldBack held stage)
-  copy_held o held stage log may found =
+      → FoundBusy pool o false old new held → BeginsAt o (rest_of stage)
+      → HasCopied pool old new log log stage (HeldBack held stage)
+  copy_held o held stage log may found begins =
       let view : view_of new ≡ view_of old = same_view pool old new may.seat_is is o held found in
       record {
         written = [];
@@ -234,6 +237,11 @@ module _ (pool : SharedPool) (old new : PoolSeat) (is : IsPoolSeat pool new)
         counts = λ cs. subst (λ (x : SeatView). CountsAre cs (map entry_of x.own.notes)) (sym view);
         hand = subst (λ (x : SeatView). IsHeld empty_hand x) (sym view) may.hand;
         fits = subst (λ (x : SeatView). Fits x stage) (sym view) may.fits;
-        again = (refl, refl, found_there pool old new may.seat_is is same o false held found);
+        again = (
+          refl,
+          refl,
+          found_there pool old new may.seat_is is same o false held found,
+          begins_there o held (rest_of stage) found.object begins,
+        );
         spends = none_spent pool old new may.seat_is is o held found (left_of stage);
       }

@@ -36,6 +36,7 @@ use Rattle.lane_core.specs.Releasings as releasing
 use Rattle.lane_core.specs.Releasings.{AreUncounted}
 use Rattle.lane_core.specs.Wrote.{Wrote}
 use Rattle.lane_core.specs.Contexts.{HasRoomFor, HasTurned, IsContext, entries_of, log_of, reads_from, with_parts}
+use Rattle.lane_core.proofs.NextNotes.{then_begins}
 use Rattle.lane_core.proofs.PartTurns.{Moved, between, bindable_on, moved_grew, moved_on, moved_read, moved_spends, moved_still}
 use Rattle.lane_core.proofs.StageTurns.{none_of, some_of}
 
@@ -181,7 +182,16 @@ module _ (pool : SharedPool) (old mid : Context) (stage : CopyStage) (d : IsCont
             moved_still pool empty_hand empty_hand old mid w.added m (none_of w.added (w.noted ∙ did.again.1)),
           );
           waits = tt;
-          held = did.again.2;
+          held = (
+            did.again.2,
+            then_begins held.object
+                (copying.rest_of stage >> release_parts old.shape parts.items
+                >> give (composed s name (Ok whole.value))) (swept lane)
+                (then_begins held.object (copying.rest_of stage >> release_parts old.shape parts.items)
+                (λ _. give (composed s name (Ok whole.value)))
+                (then_begins held.object (copying.rest_of stage) (λ _. release_parts old.shape parts.items)
+                did.again.3)),
+          );
         }
 
     -- all are copied, and are to be released

@@ -41,6 +41,7 @@ use Rattle.lane_core.specs.Wrote.{Wrote}
 use Rattle.lane_core.specs.Contexts.{HasRoomFor, HasTurned, IsContext, entries_of, log_of, reads_from}
 use Rattle.lane_core.specs.ContextSteps.{CanAnswer, HasMarked, HasReplied, MarksMoved, MayGoOn, MayTurn, StageTurns}
 use Rattle.lane_core.specs.Works.{IsReady, WorkTurns, left_of}
+use Rattle.lane_core.proofs.NextNotes.{then_begins}
 use Rattle.lane_core.proofs.ContextLaws.{can_answer}
 use Rattle.lane_core.proofs.SeatCounts.{has_count}
 use Rattle.lane_core.proofs.NameLaws.{NamesAre-changed, Rebound, rebound_marks, rebound_same}
@@ -216,7 +217,12 @@ module _ (pool : SharedPool) (old mid : Context) (stage : CrossStage) (d : IsCon
               moved_still pool empty_hand empty_hand old mid w.added m (none_of w.added (w.noted ∙ did.again.1)),
             );
             waits = tt;
-            held = did.again.2;
+            held = (
+              did.again.2,
+              then_begins held.object (crosses_at stage) (swept lane)
+                  (then_begins held.object (crossing.rest_of stage)
+                  (λ bytes. give (crossed s name marks stage bytes)) did.again.3),
+            );
           }
 
       -- all its bytes are set, or these were got; the marks move, and that is answered

@@ -35,6 +35,7 @@ use Rattle.lane_core.specs.declared.draining.Drains.TheVariants.{More, Held as H
 use Rattle.seat_work.specs.Hands.{lane_in, Hand, empty_hand, IsHeld}
 use Rattle.lane_core.specs.Budgets.{Spends, takes, out_of, all_out}
 use Rattle.lane_core.specs.Drainings.{MayDrain, HasDrained, IsNext, IsReadNext, Fits, quota_note, hand_of, closed_by, left_of, rest_of}
+use Rattle.lane_core.specs.NextNotes.{BeginsAt}
 use Rattle.lane_core.specs.Readings.{none_asked, behind as after_log}
 use Rattle.lane_core.specs.Sampled.{AreSampled}
 use Rattle.lane_core.proofs.EntryCounts.{IsStill}
@@ -45,6 +46,7 @@ use Rattle.seat_work.proofs.HandLaws.{Carries, held_on}
 use Rattle.seat_work.proofs.HandNotes.{region_given, cache_closed, cache_trimmed, region_shed}
 use Rattle.seat_work.proofs.Holds.{is_region, region_stays}
 use Rattle.lane_core.proofs.LogLaws.{wrote_none}
+use Rattle.lane_core.proofs.NextNotes.{begins_there}
 use Rattle.lane_core.proofs.OneNote.{wrote_note, wrote_nothing, found_there}
 use Rattle.lane_core.proofs.Outs.{all_out_now, all_out_less, out_within}
 use Rattle.lane_core.proofs.ReadLaws.{still_on}
@@ -272,9 +274,9 @@ module _ (pool : SharedPool) (old new : PoolSeat) (is : IsPoolSeat pool new)
 
   -- another seat was there, and the same is to be tried again
   pub found_held : (o : Object) (held : Held) (stage again : Draining) (log : Vec Note) → MayDrain pool old kind stage
-      → FoundBusy pool o false old new held → again ≡ stage
+      → FoundBusy pool o false old new held → again ≡ stage → BeginsAt o (rest_of kind lane stage)
       → HasDrained pool old new log log kind stage (HeldBack held again)
-  found_held o held stage again log may found alike =
+  found_held o held stage again log may found alike begins =
       let grows : Grows v w [] 0 = grows_held pool old new may.seat_is is o held found in
       let view : w ≡ v = ap (λ m. m.0) found.marked in
       subst (λ (x : Draining). HasDrained pool old new log log kind stage (HeldBack held x)) (sym alike)
@@ -286,7 +288,12 @@ module _ (pool : SharedPool) (old new : PoolSeat) (is : IsPoolSeat pool new)
             (rest_of kind lane stage) o held found (still_on (rest_of kind lane stage));
         hand = subst (λ (x : SeatView). IsHeld (hand_of kind stage) x) (sym view) may.hand;
         fits = still stage view may.fits;
-        again = (refl, refl, found_there pool old new may.seat_is is same o false held found);
+        again = (
+          refl,
+          refl,
+          found_there pool old new may.seat_is is same o false held found,
+          begins_there o held (rest_of kind lane stage) found.object begins,
+        );
         counts = λ sampler. none_added;
         spends = subst (λ (x : SeatView). Spends v w (left_of stage v) (left_of stage x)) (sym view)
             (spends v w [] 0 grows (left_of stage v) (left_of stage v) (omega arith) (omega arith) (omega arith)

@@ -28,9 +28,11 @@ use Rattle.lane_core.specs.Budgets.{Left, Spends}
 use Rattle.lane_core.specs.Counting.{counted}
 use Rattle.seat_work.specs.Hands.{Hand, empty_hand}
 use Rattle.lane_core.specs.Named.{NamesAre}
+use Rattle.lane_core.specs.NextNotes.{BeginsAt}
 use Rattle.lane_core.specs.Readings.{ReadsOn, none_asked, renamed}
 use Rattle.lane_core.specs.Contexts.{IsContext, reads_from, ContextGrew, SpendsAt, HasTurned, HasTurnedClosing}
 use Rattle.lane_core.specs.ContextSteps.{HasNoted, HasReplied}
+use Rattle.lane_core.proofs.NextNotes.{then_begins}
 use Rattle.lane_core.proofs.NameLaws.{rebound_same}
 use Rattle.seat_work.proofs.HandNotes.{drained_held}
 use Rattle.lane_core.proofs.ReadLaws.{then_on, given_on}
@@ -138,7 +140,10 @@ module _ (pool : SharedPool) (old mid : Context) (kind : DrainKind) (stage : Dra
         names = ap (λ (x : Context). x.names) mid_so;
         begun = ap (λ (x : Context). x.begun) mid_so;
         asked = ap (λ (x : Context). x.asked) mid_so;
-        held = did.again.2;
+        held = (
+          did.again.2,
+          subst (λ (k : DrainKind). BeginsAt held.object (draining.rest_of k (lane_of old.seat) stage)) is did.again.3,
+        );
         reads =
             subst (λ (k : DrainKind). ReadsOn (draining.rest_of k (lane_of old.seat) stage) (map entry_of es) none_asked
             (draining.rest_of k (lane_of old.seat) next)) is (did.wrote old.sampler).read;
@@ -207,7 +212,11 @@ module _ (pool : SharedPool) (old mid : Context) (reply : Reply) (stage : Draini
               (none_of es ((did.wrote old.sampler).noted ∙ did.again.1)) refl,
         );
         waits = tt;
-        held = did.again.2;
+        held = (
+          did.again.2,
+          then_begins held.object (draining.rest_of Trim (lane_of old.seat) stage) (λ _. give (answer reply s.names))
+              did.again.3,
+        );
       }
 
   pub sweep_done : (new : Context) → draining.HasDrained pool old.seat mid.seat old.notes mid.notes Trim stage

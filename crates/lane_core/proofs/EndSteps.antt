@@ -40,7 +40,9 @@ use Rattle.seat_work.proofs.HandLaws.{held_on}
 use Rattle.seat_work.proofs.HandNotes.{handle_goes, region_given, region_kept, region_back, marked_busy, both_come}
 use Rattle.seat_work.proofs.Holds.{is_handle, is_region, region_stays}
 use Rattle.lane_core.proofs.LogLaws.{wrote_none}
+use Rattle.lane_core.proofs.NextNotes.{begins_there}
 use Rattle.lane_core.proofs.OneNote.{wrote_note, wrote_mark, wrote_nothing, found_there}
+use Rattle.lane_core.specs.NextNotes.{BeginsAt}
 use Rattle.lane_core.specs.Readings.{behind, none_asked}
 use Rattle.lane_core.proofs.ReadLaws.{still_on}
 use Rattle.lane_core.proofs.Readings.{read_end, put_uncached, read_kept, read_back, read_away_busy, read_given, read_gone}
@@ -291,9 +293,9 @@ module _ (pool : SharedPool) (old new : PoolSeat) (is : IsPoolSeat pool new)
 
   -- another seat was there, and the same is to be tried again
   pub found_held : (o : Object) (held : Held) (stage again : Ending) (log : Vec Note) → MayEnd pool old stage
-      → FoundBusy pool o false old new held → again ≡ stage → Fits pool new stage
+      → FoundBusy pool o false old new held → again ≡ stage → Fits pool new stage → BeginsAt o (rest_of shape stage)
       → HasEnded pool old new log log stage (HeldBack held again)
-  found_held o held stage again log may found alike fits =
+  found_held o held stage again log may found alike fits begins =
       let grows : Grows v w [] 0 = grows_held pool old new may.seat_is is o held found in
       subst (λ (x : Ending). HasEnded pool old new log log stage (HeldBack held x)) (sym alike)
       (record {
@@ -304,7 +306,12 @@ module _ (pool : SharedPool) (old new : PoolSeat) (is : IsPoolSeat pool new)
             (rest_of shape stage) o held found (still_on (rest_of shape stage));
         hand = subst (λ (x : SeatView). IsHeld (hand_of stage) x) (sym (ap (λ m. m.0) found.marked)) may.hand;
         fits = fits;
-        again = (refl, refl, found_there pool old new may.seat_is is same o false held found);
+        again = (
+          refl,
+          refl,
+          found_there pool old new may.seat_is is same o false held found,
+          begins_there o held (rest_of shape stage) found.object begins,
+        );
         counts = λ sampler. none_added;
         spends =
             spends v w [] 0 grows (left_of stage) (left_of stage) (omega arith) (omega arith) (omega arith)

@@ -27,9 +27,11 @@ use Rattle.lane_core.specs.Budgets.{Spends, notes_alone}
 use Rattle.lane_core.specs.Counting.{counted}
 use Rattle.seat_work.specs.Hands.{Hand, empty_hand}
 use Rattle.lane_core.specs.Named.{NamesAre}
+use Rattle.lane_core.specs.NextNotes.{BeginsAt}
 use Rattle.lane_core.specs.Readings.{ReadsOn, none_asked, swept, renamed}
 use Rattle.lane_core.specs.Contexts.{IsContext, reads_from, HasTurned}
 use Rattle.lane_core.specs.ContextSteps.{HasNoted, HasReplied}
+use Rattle.lane_core.proofs.NextNotes.{then_begins}
 use Rattle.lane_core.proofs.NameLaws.{rebound_same}
 use Rattle.lane_core.proofs.ReadLaws.{then_on, given_on}
 use Rattle.lane_core.proofs.ContextLaws.{spends_at}
@@ -138,7 +140,13 @@ module _ (pool : SharedPool) (old mid : Context) (stage : EndStage) (d : IsConte
                 (none_of es ((did.wrote old.sampler).noted ∙ did.again.1)) refl,
           );
           waits = tt;
-          held = subst (λ x. FoundBusy pool held.object false old.seat x held) (sym seat_is) did.again.2;
+          held = (
+            subst (λ x. FoundBusy pool held.object false old.seat x held) (sym seat_is) did.again.2,
+            then_begins held.object (ends_at stage) (swept (lane_of old.seat))
+                (then_begins held.object (ending.rest_of old.shape stage) (λ _. give (answer Reply.Freed s.names))
+                (subst (λ (shape : Shape). BeginsAt held.object (ending.rest_of shape stage)) (sym d.shape)
+                did.again.3)),
+          );
         }
 
     pub end_done : (new : Context) → ending.HasEnded pool old.seat mid.seat old.notes mid.notes stage Done

@@ -13,7 +13,7 @@ use Rattle.pool_law.specs.Readers.{Entries}
 use Rattle.pool_law.specs.Logs.{Entry as LawEntry}
 use Rattle.pool_law.specs.Same.{same_root}
 use Rattle.pool_law.proofs.SameLemmas.{same_root-is}
-use Rattle.pool_table.specs.declared.views.Entry.TheVariants.{At, Ref}
+use Rattle.pool_table.specs.declared.views.Entry.TheVariants.{Ref}
 use Rattle.shared_pool.specs.Closing.{entry_of}
 use Rattle.lane_core.specs.declared.counts.Counted.{Counted}
 use Rattle.seat_work.specs.Changes.{one_for}

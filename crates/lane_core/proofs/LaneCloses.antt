@@ -105,7 +105,7 @@ module _ (pool : SharedPool) (l : Lane) (lane : IsRunningLane pool l) (is : l.st
   pub closes_so : (result : Stepped) → result ≡ stepped_of turn → HasStepped pool l new result
   closes_so result so =
       subst (λ (x : Lane × Stepped). HasStepped pool l x.0 x.1) (λ i. (sym at_closing i, sym so i))
-      (closing_so pool l lane.context d l.asked (Ask 0) turn t)
+      (closing_so pool l lane.context d l.asked (Ask 0) none (first_had pool l lane is none) turn t)
 
   pub closes_heeds : (stops : ℕ → Bool) → Heeds stops l → Heeds stops new
   closes_heeds stops h =

@@ -1,14 +1,16 @@
 -- A lane behind a turn of a command that is under way, or that begins.
-use Rattle.std.proofs.Common.{◌≡◌, ℕ, ◌+◌, ◌<◌, ◌≤◌, List, [], ◌∷◌, Bool, length, drop, get_or, refl, sym, ap, ◌∙◌, subst, arith}
-use Rattle.std.specs.Prelude.{vec_capacity}
+use Rattle.std.proofs.Common.{◌≡◌, ℕ, ◌+◌, ◌<◌, ◌≤◌, List, [], ◌∷◌, ◌++◌, Bool, length, drop, get_or, refl, sym, ap, ◌∙◌, subst, arith, Option, Some, None}
+use Rattle.std.specs.Prelude.{IsSome, vec_capacity}
 use Rattle.std.proofs.lemmas.List.{length-map, drop_more}
 use Rattle.pool_law.specs.declared.command.Command.{Command}
 use Rattle.pool_law.specs.declared.note.Held.{Held}
 use Rattle.pool_law.specs.LaneLaw.{sweep_period}
-use Rattle.pool_law.specs.LaneStates.{LaneState}
-use Rattle.pool_law.specs.Lanes.{Answer}
+use Rattle.pool_law.specs.declared.note.Object.{Object}
+use Rattle.pool_law.specs.declared.run.Reply.{Reply}
+use Rattle.pool_law.specs.LaneStates.{LaneState, log_at}
+use Rattle.pool_law.specs.Lanes.{Answer, turn}
 use Rattle.pool_law.specs.Names.{Names}
-use Rattle.pool_law.specs.Readers.{Reader}
+use Rattle.pool_law.specs.Readers.{Entries, Log, Reader}
 use Rattle.pool_table.specs.declared.views.SeatView.{SeatView}
 use Rattle.shared_pool.specs.SeatViews.{view_of}
 use Rattle.shared_pool.specs.declared.pool.SharedPool.{SharedPool}
@@ -26,15 +28,23 @@ use Rattle.lane_core.specs.Accesses.{IsState}
 use Rattle.lane_core.specs.Counting.{CountsAre}
 use Rattle.lane_core.specs.Budgets.{Left}
 use Rattle.lane_core.specs.Named.{NamesAre}
+use Rattle.lane_core.specs.NextNotes.{BeginsAt, CanBeRead}
 use Rattle.lane_core.specs.Readings.{renamed}
-use Rattle.lane_core.specs.Contexts.{notes_of, entries_of, hand_of, Fits, IsUnderway, HasRoomFor, SpendsAt, left_for, left_at, left_now, reads_from, next_of, HasTurned}
-use Rattle.lane_core.specs.Lanes.{Heeds, IsRunningLane, IsClosing, IsAtRest, IsResting, SameLane, commands_left, answered_entries, number_of}
-use Rattle.lane_core.specs.Steps.{HasStepped, ReceivesNext, stepped_of}
+use Rattle.lane_core.specs.Contexts.{notes_of, entries_of, log_of, hand_of, Fits, IsUnderway, HasRoomFor, SpendsAt, left_for, left_at, left_now, reads_from, next_of, HasTurned}
+use Rattle.lane_core.specs.Lanes.{Heeds, IsRunningLane, IsClosing, IsAtRest, IsBegun, IsResting, SameLane, commands_left, answered_entries, entries_since, number_of}
+use Rattle.lane_core.specs.Steps.{HasStepped, IsReadOn, IsStateBehind, MayFollow, NextStandsAt, ReceivesNext, stepped_of}
 use Rattle.lane_core.proofs.LaneLogs.{cut_at, take_whole, drop_whole}
 use Rattle.lane_core.proofs.LaneGrown.{lane_at, same_lane, same_log, noted_more, replied_more, front_room}
+use Rattle.lane_core.proofs.StageWays.{stage_way}
+use Rattle.lane_core.proofs.Ways.{same_way, way_read}
 use Rattle.lane_core.proofs.Heeding.{turned_heeds}
 use Rattle.lane_core.proofs.LaneKept.{answered_lane, still_lane, waiting_lane}
 use Rattle.lane_core.proofs.StageCases.{by_kind, left_on, no_closing, no_rest, same_left, waits_on, went_on}
+
+-- the state behind a run, and this one where there is none
+abbrev state_in : LaneState → Option (List Reply × LaneState) → LaneState
+state_in none None = none
+state_in none (Some ran) = ran.1
 
 module _ (pool : SharedPool) (l : Lane) (lane : IsRunningLane pool l) (d : Context) (n : ℕ)
     (few_asked : n ≤ length l.commands) (line : length l.context.replies.items < n)
@@ -87,6 +97,46 @@ module _ (pool : SharedPool) (l : Lane) (lane : IsRunningLane pool l) (d : Conte
       waiting_lane pool l lane d n few_asked (hand_of l.stage) t.added t.grew w.replies w.begun l.stage line command
       later left open_yet open_yet w (λ ready. t.comes.0) t.grew.context t.fits t.name t.spends (λ log. refl)
 
+  -- what was noted since is read up to the stage
+  begun_now : (more : Entries) → turn sweep_period l.context.shape (number_of l) lane.state command
+      (log_at lane.state (entries_since l ++ more)) ≡ reads_now state_of l.stage (log_of l.context more)
+  begun_now = subst (λ (cs : List Command). IsBegun l lane.state lane.bound cs (entries_since l)) left lane.begun
+
+  -- where the rest can be read, some entries may follow
+  some_follow : CanBeRead (reads_now state_of l.stage) → (more : Entries) × MayFollow l more
+  some_follow can =
+      let way = can (entries_of l.context) l.context.asked in (
+        way.0,
+        (
+          lane.state,
+          subst (λ (cs : List Command). IsStateBehind l lane.state cs) (sym left) lane.answered.run,
+          subst (λ (cs : List Command). IsReadOn l.context.shape (number_of l) lane.state cs
+              (entries_since l ++ way.0)) (sym left)
+              (subst (λ (x : Option (Answer × Log)). IsSome x) (sym (begun_now way.0)) way.1),
+        ),
+      )
+
+  -- the run so far has one state
+  state_same : (s : LaneState) → IsStateBehind l s (command ∷ later) → s ≡ lane.state
+  state_same s ran = ap (state_in lane.state) (sym ran ∙ lane.answered.run)
+
+  -- and where it begins as a note there, the next note stands there
+  stands_next : (o : Object) → BeginsAt o (reads_now state_of l.stage) → CanBeRead (reads_now state_of l.stage)
+      → NextStandsAt l o
+  stands_next o begins can = (
+    some_follow can,
+    λ more follow.
+        let s = follow.0 in
+        begins (log_of l.context more)
+        (subst (λ (x : Option (Answer × Log)). IsSome x)
+        (ap (λ (x : LaneState). turn sweep_period l.context.shape (number_of l) x command
+        (log_at x (entries_since l ++ more)))
+        (state_same s (subst (λ (cs : List Command). IsStateBehind l s cs) left follow.1))
+        ∙ begun_now more)
+        (subst (λ (cs : List Command). IsReadOn l.context.shape (number_of l) s cs (entries_since l ++ more)) left
+        follow.2)),
+  )
+
   -- what the step says
   pub turned_so : (turn : Turn) → Turned turn → HasStepped pool l (lane_at l d (next_of l.stage turn) n)
       (stepped_of turn)
@@ -101,12 +151,19 @@ module _ (pool : SharedPool) (l : Lane) (lane : IsRunningLane pool l) (d : Conte
       by_kind (λ x. Turned (Pending held x) → HasStepped pool l (lane_at l d x n) (StepPending held))
       (λ t. (
         same_log pool l lane.context d n (hand_of Ready) t.added t.grew t.comes.1.none t.comes.1.replies Ready,
-        t.held,
+        t.held.0,
+        stands_next held.object t.held.1 t.comes.2,
       ))
       (λ x t. absurd t.comes)
       (λ x u t.
-      let on = waits_on reads_now state_of l.context d t.added l.stage held x u t.comes in
-      (same_log pool l lane.context d n (hand_of x) t.added t.grew on.1.none on.1.replies x, t.held)) next
+      let on = waits_on reads_now state_of l.context d t.added l.stage held x u t.comes in (
+        same_log pool l lane.context d n (hand_of x) t.added t.grew on.1.none on.1.replies x,
+        t.held.0,
+        stands_next held.object t.held.1
+            (way_read (reads_now state_of l.stage)
+            (same_way (reads_now state_of x) (reads_now state_of l.stage) on.0
+            (stage_way l.context.shape (number_of l) state_of command x u))),
+      )) next
   turned_so (Waiting sender) = λ t. (
     same_log pool l lane.context d n (hand_of l.stage) t.added t.grew t.comes.1.none t.comes.1.replies l.stage,
     subst (λ (cs : List Command). ReceivesNext sender cs) (sym left) t.waits.0,

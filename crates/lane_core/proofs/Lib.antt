@@ -7,6 +7,9 @@ pub mod OpenedLaws
 pub mod LogLaws
 pub mod Grown
 pub mod Readings
+pub mod NextNotes
+pub mod Ways
+pub mod StageWays
 pub mod OneNote
 pub mod AllotSteps
 pub mod AllotBirths

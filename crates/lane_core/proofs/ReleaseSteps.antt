@@ -53,6 +53,7 @@ use Rattle.lane_core.specs.Readings.{before_left, behind, ReadsOn, none_asked}
 use Rattle.lane_core.specs.Releasings.{MayRelease, HasReleased, IsTriedAgain, IsOverAt, FitsAfter, NextCounted, hand_after, left_of, left_after, rest_of, rest_after}
 use Rattle.lane_core.specs.Sampled.{AreSampled}
 use Rattle.lane_core.specs.Wrote.{Wrote}
+use Rattle.lane_core.proofs.NextNotes.{then_begins}
 use Rattle.lane_core.proofs.EndSteps.{end_left}
 use Rattle.lane_core.proofs.EntryCounts.{Recounts, recounted, kept, ended}
 use Rattle.lane_core.proofs.SeatCounts.{adds_recounted, last_count}
@@ -249,6 +250,7 @@ module _ (pool : SharedPool) (old new : PoolSeat) where
           ap (λ (e : Ending). stage_of (Some e) left) did.again.0,
           (did.wrote any_sampler).noted ∙ did.again.1,
           did.again.2,
+          then_begins held.object (ending.rest_of shape stage) (λ _. release_parts shape left.items) did.again.3,
         ) tt (ending_spent cs stage left may log later (EndHeld held next) did)
 
     pub end_done : ending.HasEnded pool old new log later stage EndDone

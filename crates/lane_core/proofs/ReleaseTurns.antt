@@ -3,6 +3,7 @@ use Rattle.std.proofs.Common.{◌≡◌, ℕ, ◌-◌, ◌<◌, ◌≤◌, List,
 use Rattle.std.specs.Global.{Box}
 use Rattle.std.specs.Prelude.{Ok, option_and_then, slice_set, vec_capacity}
 use Rattle.std.proofs.lemmas.List.Elements.{All-head, All-tail, All-weaker}
+use Rattle.pool_law.specs.declared.note.Object.{Object}
 use Rattle.pool_law.specs.declared.command.Command.{Command}
 use Rattle.pool_law.specs.declared.id.Part.{Part}
 use Rattle.pool_law.specs.declared.id.RootId.{RootId}
@@ -34,11 +35,13 @@ use Rattle.lane_core.specs.declared.releasing.Releases.TheVariants.{More, Held a
 use Rattle.lane_core.specs.Composing.{HasLast, IsBindable, ended, released}
 use Rattle.lane_core.specs.Counting.{counted}
 use Rattle.lane_core.specs.Named.{NamesAre, bound_at}
+use Rattle.lane_core.specs.NextNotes.{BeginsAt}
 use Rattle.lane_core.specs.Readings.{renamed, swept}
 use Rattle.lane_core.specs.Releasings as releasing
 use Rattle.lane_core.specs.Releasings.{AreUncounted, IsOver, ReadsOnWith, hand_in, rest_in}
 use Rattle.lane_core.specs.Contexts.{HasRoomFor, HasTurned, IsContext, log_of, notes_of, reads_from}
 use Rattle.lane_core.specs.ContextSteps.{CanAnswer, Concludes, HasReplied, bound_to, recounted}
+use Rattle.lane_core.proofs.NextNotes.{then_begins}
 use Rattle.lane_core.proofs.NameLaws.{NamesAre-bind, NamesAre-changed, rebound_composite, rebound_count}
 use Rattle.lane_core.proofs.PartTurns.{Moved, between, bindable_on, moved_answer, moved_can, moved_concludes, moved_counts, moved_grew, moved_on, moved_spends, moved_still, moved_with}
 use Rattle.lane_core.proofs.StageTurns.{none_of, some_of}
@@ -125,6 +128,11 @@ module _ (pool : SharedPool) (old mid : Context) (stage : Releasing) (d : IsCont
   asked_same : mid.asked ≡ old.asked
   asked_same = ap (λ (x : Context). x.asked) mid_is
 
+  -- it is read so with the shape of the context
+  at_shape : (o : Object) → BeginsAt o (releasing.rest_of pool.table.layout.shape stage)
+      → BeginsAt o (releasing.rest_of old.shape stage)
+  at_shape o = subst (λ (shape : Shape). BeginsAt o (releasing.rest_of shape stage)) (sym d.shape)
+
   -- ---- A composite ends.
 
   module _ (name : ℕ) (last : HasLast old.names name) (low : old.asked < sweep_period) (s : LaneState)
@@ -189,7 +197,12 @@ module _ (pool : SharedPool) (old mid : Context) (stage : Releasing) (d : IsCont
             moved_still pool before after old mid did.added m (none_of did.added did.again.1),
           );
           waits = tt;
-          held = did.again.2;
+          held = (
+            did.again.2,
+            then_begins held.object (parts_at stage) (swept (lane_of old.seat))
+                (then_begins held.object (releasing.rest_of old.shape stage) (λ _. give (ended s name))
+                (at_shape held.object did.again.3)),
+          );
         }
 
     -- its names, once it has ended
@@ -278,7 +291,12 @@ module _ (pool : SharedPool) (old mid : Context) (stage : Releasing) (d : IsCont
             moved_still pool before after old mid did.added m none,
           );
           waits = tt;
-          held = did.again.2;
+          held = (
+            did.again.2,
+            then_begins held.object (rest_at stage) (swept (lane_of old.seat))
+                (then_begins held.object (releasing.rest_of old.shape stage) (λ _. give (composed s name (Ok w)))
+                (at_shape held.object did.again.3)),
+          );
         }
 
     abbrev bound_names : Names

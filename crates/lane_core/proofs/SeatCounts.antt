@@ -28,7 +28,7 @@ use Rattle.lane_core.specs.declared.counts.Counted.{Counted}
 use Rattle.seat_work.specs.Changes.{one_for}
 use Rattle.lane_core.specs.Counting.{counted, CountsAre, AddCounts}
 use Rattle.seat_work.proofs.Grown.{Grows, weigh_more}
-use Rattle.lane_core.proofs.EntryCounts.{counts_append, holds_append, Recounts, IsStill, unmoved, ended}
+use Rattle.lane_core.proofs.EntryCounts.{counts_append, holds_append, Recounts, IsStill, unmoved}
 
 -- ---- The counts of the log are those of the seat.
 

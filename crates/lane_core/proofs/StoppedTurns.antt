@@ -153,7 +153,7 @@ module _ (pool : SharedPool) (l : Lane) (lane : IsStoppedLane pool l) (is : l.st
       pub shuts_so : (result : Stepped) → result ≡ stepped_of turn → HasStepped pool l new result
       shuts_so result so =
           subst (λ (x : Lane × Stepped). HasStepped pool l x.0 x.1) (λ i. (sym shut_is i, sym so i))
-          (closing_so pool l lane.context d l.asked (Ask 0) turn t)
+          (closing_so pool l lane.context d l.asked (Ask 0) none (stopped_first pool l lane is) turn t)
 
       pub shuts_heeds : (stops : ℕ → Bool) → Heeds stops l → Heeds stops new
       shuts_heeds stops h =
@@ -172,7 +172,7 @@ stepped_anew pool l new n StepWent is so = record {
   one_step = so.one_step;
 }
 stepped_anew pool l new n (StepPending held) is so =
-    (record { replies = so.0.replies; notes = so.0.notes }, so.1)
+    (record { replies = so.0.replies; notes = so.0.notes }, so.1, so.2)
 stepped_anew pool l new n (StepWaiting sender) is so =
     (record { replies = so.0.replies; notes = so.0.notes }, so.1, so.2)
 stepped_anew pool l new n StepFinished is so = absurd (cc (is, so.0))

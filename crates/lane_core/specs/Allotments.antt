@@ -22,6 +22,7 @@ use Rattle.lane_core.specs.declared.allotment.Allots.TheVariants.{More, Held, Ne
 use Rattle.lane_core.specs.Logs.{HasWritten}
 use Rattle.seat_work.specs.Hands.{Hand, empty_hand, IsHeld, IsHandle, IsRegion}
 use Rattle.lane_core.specs.Budgets.{Left, notes_alone, Spends}
+use Rattle.lane_core.specs.NextNotes.{BeginsAt}
 use Rattle.lane_core.specs.Readings.{none_asked, one_asked}
 use Rattle.lane_core.specs.Wrote.{Wrote}
 use Rattle.seat_work.specs.Changes.{one_for}
@@ -95,14 +96,14 @@ BornWithin pool size (Born root region) =
     × (root.capacity ≡ size)
 BornWithin pool size _ = ⊤
 
--- where another seat was there the same is to be tried again, and nothing was noted; else
--- something was
+-- where another seat was there the same is to be tried again, nothing was noted, and the next note
+-- stands at that object; else something was
 abbrev pub IsTriedAgain :
-    SharedPool → PoolSeat → PoolSeat → Allotting → Allots → List Note →
-    Type 0
-IsTriedAgain pool old new stage (Held held again) notes =
+    SharedPool → PoolSeat → PoolSeat → ℕ → ℕ → Allotting → Allots → List Note → Type 0
+IsTriedAgain pool old new size class stage (Held held again) notes =
     (again ≡ stage) × (notes ≡ []) × FoundBusy pool held.object false old new held
-IsTriedAgain pool old new stage _ notes = 0 < length notes
+    × BeginsAt held.object (rest_of pool.table.layout.shape (lane_of old) size class stage)
+IsTriedAgain pool old new size class stage _ notes = 0 < length notes
 
 -- a handle of the pool, of the bin of the seat's lane
 abbrev pub IsOwnHandle : SharedPool → PoolSeat → HandleValue → Type 0
@@ -147,6 +148,6 @@ pub record HasAllotted (pool : SharedPool) (old new : PoolSeat)
     pub place : BornWithin pool size result
     pub hand : IsHeld (hand_after result) (view_of new)
     pub fits : FitsAfter pool new class result
-    pub again : IsTriedAgain pool old new stage result written
+    pub again : IsTriedAgain pool old new size class stage result written
     pub spends : Spends (view_of old) (view_of new) (left_of stage) (left_after result)
     pub asked : (n : ℕ) → (left_after result).asks + asks_of stage n ≤ (left_of stage).asks + n

@@ -40,6 +40,7 @@ use Rattle.lane_core.specs.Budgets.{Left, most_of_lane, notes_alone, with_sheds,
 use Rattle.seat_work.specs.Growth.{HasMore}
 use Rattle.lane_core.specs.Counting.{CountsAre}
 use Rattle.lane_core.specs.Named.{AreComposites, NamesAre}
+use Rattle.lane_core.specs.NextNotes.{BeginsAt, CanBeRead}
 use Rattle.lane_core.specs.Readings.{ReadsOn, none_asked, swept, renamed}
 use Rattle.lane_core.specs.Allotments as allotment
 use Rattle.lane_core.specs.Endings as ending
@@ -290,7 +291,8 @@ ComesTo reads s old new added stage (Went (Closing next)) = ⊥
 ComesTo reads s old new added stage (Went next) =
     GoesOn old new added (reads s stage) (λ names. reads (renamed s names) next)
 ComesTo reads s old new added stage (Pending held (Closing next)) = ⊥
-ComesTo reads s old new added stage (Pending held Ready) = (stage ≡ Ready) × Waits old new added
+ComesTo reads s old new added stage (Pending held Ready) =
+    (stage ≡ Ready) × Waits old new added × CanBeRead (reads s stage)
 ComesTo reads s old new added stage (Pending held next) =
     ((log : Log) → reads s stage log ≡ reads s next log) × Waits old new added
 ComesTo reads s old new added stage (Waiting sender) = (stage ≡ Ready) × Waits old new added
@@ -344,7 +346,10 @@ pub record HasTurned (pool : SharedPool) (old new : Context) (s : LaneState) (co
       ComesTo reads s old new added stage turn
   pub waits : IfWaiting turn (λ sender.
       ReceivesFrom command sender × IsDrained sender old.seat)
-  pub held : IfPending turn (λ held. FoundBusy pool held.object false old.seat new.seat held)
+  pub held :
+      let reads = reads_from old.shape (lane_of old.seat) s command stage in
+      IfPending turn (λ held.
+      FoundBusy pool held.object false old.seat new.seat held × BeginsAt held.object reads)
 
 -- the command of a stopped lane is answered so, and its notes are those of a command that isn't
 -- carried out
@@ -448,7 +453,10 @@ pub record HasTurnedClosing
   pub names : new.names ≡ old.names
   pub begun : new.begun ≡ old.begun
   pub asked : new.asked ≡ old.asked
-  pub held : IfPending turn (λ held. FoundBusy pool held.object false old.seat new.seat held)
+  pub held :
+      let reads = draining.rest_of Close (lane_of old.seat) stage in
+      IfPending turn (λ held.
+      FoundBusy pool held.object false old.seat new.seat held × BeginsAt held.object reads)
   pub reads :
       let reads = draining.rest_of Close (lane_of old.seat) in
       ReadsOn (reads stage) (map entry_of added) none_asked (reads after)

@@ -26,6 +26,7 @@ use Rattle.lane_core.specs.Budgets.{Left, notes_alone, Spends}
 use Rattle.lane_core.specs.Counting.{CountsAre}
 use Rattle.seat_work.specs.Hands.{empty_hand, IsHeld}
 use Rattle.lane_core.specs.Logs.{HasWritten}
+use Rattle.lane_core.specs.NextNotes.{BeginsAt}
 use Rattle.lane_core.specs.Readings.{none_asked}
 use Rattle.lane_core.specs.Wrote.{Wrote}
 
@@ -78,12 +79,13 @@ FitsAfter v (More stage) = Fits v stage
 FitsAfter v (Held held stage) = Fits v stage
 FitsAfter v Done = ⊤
 
--- where another seat was there the same is to be tried again, and nothing was noted; else
--- something was
+-- where another seat was there the same is to be tried again, nothing was noted, and the next note
+-- stands at that object; else something was
 abbrev pub IsTriedAgain :
     SharedPool → PoolSeat → PoolSeat → Copying → Copies → List Note → Type 0
 IsTriedAgain pool old new stage (Held held again) notes =
     (again ≡ stage) × (notes ≡ []) × FoundBusy pool held.object false old new held
+    × BeginsAt held.object (rest_of stage)
 IsTriedAgain pool old new stage _ notes = 0 < length notes
 
 -- a seat of the pool with a turn left and nothing in hand, and parts that it may copy

@@ -25,6 +25,7 @@ use Rattle.lane_core.specs.declared.draining.Drains.TheVariants.{More, Held}
 use Rattle.lane_core.specs.Logs.{HasWritten}
 use Rattle.seat_work.specs.Hands.{Hand, empty_hand, IsHeld, IsRegion}
 use Rattle.lane_core.specs.Budgets.{Left, notes_alone, Spends, out_of, all_out}
+use Rattle.lane_core.specs.NextNotes.{BeginsAt}
 use Rattle.lane_core.specs.Readings.{none_asked}
 use Rattle.lane_core.specs.Wrote.{Wrote}
 use Rattle.lane_core.specs.Counting.{AddCounts}
@@ -118,14 +119,14 @@ abbrev pub IsReadNext : DrainKind → ℕ → ℕ → Draining → Type 0
 IsReadNext kind class left next =
     (lane : ℕ) → sheds_then kind lane class left (classes_from (class + 1)) ≡ rest_of kind lane next
 
--- where another seat was there the same is to be tried again, and nothing was noted; else
--- something was
+-- where another seat was there the same is to be tried again, nothing was noted, and the next note
+-- stands at that object; else something was
 abbrev pub IsTriedAgain :
-    SharedPool → PoolSeat → PoolSeat → Draining → Drains → List Note →
-    Type 0
-IsTriedAgain pool old new stage (Held held again) notes =
+    SharedPool → PoolSeat → PoolSeat → DrainKind → Draining → Drains → List Note → Type 0
+IsTriedAgain pool old new kind stage (Held held again) notes =
     (again ≡ stage) × (notes ≡ []) × FoundBusy pool held.object false old new held
-IsTriedAgain pool old new stage _ notes = 0 < length notes
+    × BeginsAt held.object (rest_of kind (lane_of old) stage)
+IsTriedAgain pool old new kind stage _ notes = 0 < length notes
 
 -- a region of the class that the seat's lane took from its arena
 abbrev pub IsShed : SharedPool → PoolSeat → ℕ → Region → Type 0
@@ -168,7 +169,7 @@ pub record HasDrained (pool : SharedPool) (old new : PoolSeat)
         AddCounts (λ root. 0) (map entry_of (wrote sampler).added)
     pub hand : IsHeld (hand_after kind result) (view_of new)
     pub fits : FitsAfter pool new result
-    pub again : IsTriedAgain pool old new stage result written
+    pub again : IsTriedAgain pool old new kind stage result written
     pub spends :
         Spends (view_of old) (view_of new)
         (left_of stage (view_of old)) (left_after result (view_of new))

@@ -22,6 +22,7 @@ use Rattle.lane_core.specs.declared.retirement.Ends.TheVariants.{More, Held, Don
 use Rattle.lane_core.specs.Logs.{HasWritten}
 use Rattle.seat_work.specs.Hands.{Hand, empty_hand, IsHeld, IsHandle, IsRegion}
 use Rattle.lane_core.specs.Budgets.{Left, notes_alone, Spends}
+use Rattle.lane_core.specs.NextNotes.{BeginsAt}
 use Rattle.lane_core.specs.Readings.{none_asked}
 use Rattle.lane_core.specs.Wrote.{Wrote}
 use Rattle.lane_core.specs.Counting.{AddCounts}
@@ -77,12 +78,13 @@ rest_after shape (More stage) = rest_of shape stage
 rest_after shape (Held held stage) = rest_of shape stage
 rest_after shape Done = nothing
 
--- where another seat was there the same is to be tried again, and nothing was noted; else
--- something was
+-- where another seat was there the same is to be tried again, nothing was noted, and the next note
+-- stands at that object; else something was
 abbrev pub IsTriedAgain :
     SharedPool → PoolSeat → PoolSeat → Ending → Ends → List Note → Type 0
 IsTriedAgain pool old new stage (Held held again) notes =
     (again ≡ stage) × (notes ≡ []) × FoundBusy pool held.object false old new held
+    × BeginsAt held.object (rest_of pool.table.layout.shape stage)
 IsTriedAgain pool old new stage _ notes = 0 < length notes
 
 -- what is in hand is the pool's

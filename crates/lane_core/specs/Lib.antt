@@ -4,6 +4,7 @@ pub mod Counting
 pub mod Budgets
 pub mod Sampled
 pub mod Readings
+pub mod NextNotes
 pub mod Wrote
 pub mod Allotments
 pub mod Endings

@@ -25,6 +25,7 @@ use Rattle.lane_core.specs.Budgets.{Left, notes_alone, Spends}
 use Rattle.lane_core.specs.Counting.{CountsAre, counted}
 use Rattle.seat_work.specs.Hands.{Hand, empty_hand, IsHeld}
 use Rattle.lane_core.specs.Logs.{HasWritten}
+use Rattle.lane_core.specs.NextNotes.{BeginsAt}
 use Rattle.lane_core.specs.Readings.{before_left, behind, none_asked}
 use Rattle.lane_core.specs.Sampled.{AreSampled}
 use Rattle.seat_work.specs.Growth.{HasMore}
@@ -110,12 +111,13 @@ FitsAfter pool seat (More stage) = Fits pool seat stage
 FitsAfter pool seat (Held held stage) = Fits pool seat stage
 FitsAfter pool seat Done = ⊤
 
--- where another seat was there the same is to be tried again, and nothing was noted; where all is
--- done nothing was noted either; else something was
+-- where another seat was there the same is to be tried again, nothing was noted, and the next note
+-- stands at that object; where all is done nothing was noted either; else something was
 abbrev pub IsTriedAgain :
     SharedPool → PoolSeat → PoolSeat → Releasing → Releases → List Note → Type 0
 IsTriedAgain pool old new stage (Held held again) notes =
     (again ≡ stage) × (notes ≡ []) × FoundBusy pool held.object false old new held
+    × BeginsAt held.object (rest_of pool.table.layout.shape stage)
 IsTriedAgain pool old new stage (More next) notes = 0 < length notes
 IsTriedAgain pool old new stage Done notes = notes ≡ []
 

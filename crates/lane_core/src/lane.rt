@@ -43,7 +43,7 @@ use std::sync::Wait;
 pub enum Stepped {
     /// A reply was added, or what one section and one step on a count note, or both.
     Went,
-    /// Another seat was at what the lane needs next; it waits.
+    /// Another seat was at the object where the lane's next note stands; it waits.
     Pending(Held),
     /// No parcel from that lane is there.
     Waiting { from: u32 },

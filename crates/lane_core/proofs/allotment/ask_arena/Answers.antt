@@ -10,6 +10,7 @@ use Rattle.shared_pool.specs.Holding.{HoldsRegion}
 use Rattle.shared_pool.specs.Notes.{plain}
 use Rattle.shared_pool.specs.SeatLanes.{lane_of}
 use Rattle.shared_pool.specs.Seats.{IsNoted}
+use Rattle.lane_core.proofs.NextNotes.{then_begins, arena_begins}
 use Rattle.lane_core.specs.declared.allotment.Allotting.TheVariants.{Arena as AskArena}
 use Rattle.lane_core.proofs.AllotSteps.{arena_gave, arena_was_full, found_held, own_still}
 use Rattle.seat_work.proofs.Grown.{grows_held}
@@ -53,3 +54,4 @@ returns-in-Held c = λ sampler size.
     found_held pool old new c.args.class held.ensures.seat held.ensures.same o held.held (AskArena c.args.handle)
     (AskArena c.args.handle) c.args.log.now sampler size tt may held.ensures.held refl
     (own_still pool old new c.args.class held.ensures.seat held.ensures.same c.args.handle [] 0 grows may.fits)
+    (then_begins o _ _ (arena_begins pool.table.layout.shape (lane_of old) c.args.class))

@@ -8,6 +8,7 @@ use Rattle.shared_pool.specs.Holding.{HoldsHandle}
 use Rattle.shared_pool.specs.Notes.{plain, popped}
 use Rattle.shared_pool.specs.SeatLanes.{lane_of}
 use Rattle.shared_pool.specs.Seats.{IsNoted}
+use Rattle.lane_core.proofs.NextNotes.{allot_begins}
 use Rattle.lane_core.specs.declared.allotment.Allotting.TheVariants.{Handle}
 use Rattle.lane_core.proofs.AllotSteps.{asked_none, asked_handle, asked_handle_uncached, found_held}
 use Rattle.lane_core.proofs.allotment.ask_bin.Goals as goal
@@ -55,4 +56,4 @@ returns-in-Held c = λ sampler size class_is.
     let old = c.args.seat.now in let held = c.in-Held in
     found_held c.args.pool.now old c.pop_handle.new.seat c.args.class held.ensures.seat held.ensures.same
     (Bin (lane_of old)) held.held Handle Handle c.args.log.now sampler size tt c.requires.may held.ensures.held refl
-    tt
+    tt (allot_begins c.args.pool.now.table.layout.shape (lane_of old) size)

@@ -1,9 +1,13 @@
-use Rattle.std.proofs.Common.{◌≡◌, ◌∙◌, ap, []}
+use Rattle.std.proofs.Common.{◌≡◌, ℕ, ◌∙◌, ap, sym, subst, [], None}
 use Rattle.pool_law.specs.declared.note.Did.{Did}
 use Rattle.pool_law.specs.declared.note.Note.{Note}
 use Rattle.pool_law.specs.declared.note.Object.{Object}
 use Rattle.pool_law.specs.declared.note.Object.TheVariants.{Bin}
+use Rattle.pool_law.specs.Patterns.{bear}
+use Rattle.shared_pool.specs.SeatLanes.{lane_of}
 use Rattle.handle_bin.specs.Bins.{HandleValue}
+use Rattle.lane_core.proofs.NextNotes.{home_begins}
+use Rattle.lane_core.specs.NextNotes.{BeginsAt}
 use Rattle.lane_core.specs.declared.allotment.Allotting.TheVariants.{Home}
 use Rattle.seat_work.specs.Hands.{empty_hand}
 use Rattle.lane_core.proofs.AllotSteps.{went_home, found_held, own_still}
@@ -40,3 +44,5 @@ returns-in-Held c = λ sampler size class.
     found_held pool old new class held.ensures.seat held.ensures.same o held.held (Home handle) (Home held.handle)
     c.args.log.now sampler size tt may held.ensures.held.1 (ap (λ (h : HandleValue). Home h) held.ensures.held.0)
     (own_still pool old new class held.ensures.seat held.ensures.same handle [] 0 grows may.fits)
+    (subst (λ (l : ℕ). BeginsAt (Bin l) (bear (lane_of old) handle.place size None)) (sym may.fits.1)
+    (home_begins (lane_of old) handle.place size))

@@ -4,7 +4,9 @@ use Rattle.std.proofs.lemmas.List.{with_items_is}
 use Rattle.pool_law.specs.declared.note.Did.{Did}
 use Rattle.pool_law.specs.declared.note.Note.{Note}
 use Rattle.pool_law.specs.declared.note.Object.TheVariants.{Root}
+use Rattle.pool_law.specs.Dids as says
 use Rattle.shared_pool.specs.SeatViews.{view_of}
+use Rattle.lane_core.proofs.NextNotes.{then_begins, access_begins}
 use Rattle.lane_core.specs.declared.copying.Copying.TheVariants.{Get}
 use Rattle.lane_core.specs.declared.copying.Copies.TheVariants.{Held as HeldBack}
 use Rattle.lane_core.specs.Copyings.{HasCopied}
@@ -54,4 +56,6 @@ returns-in-Held c =
     (HeldBack held.held (Get root at (record first { got = b }) later)))
     (sym (with_own_items first.got c.read.new.out same))
     (copy_held pool old new held.ensures.seat held.ensures.same (Root first.part.root.place) held.held
-    (Get root at first later) log c.requires.may held.ensures.held.1)
+    (Get root at first later) log c.requires.may held.ensures.held.1
+    (then_begins (Root first.part.root.place) _ _
+    (access_begins (says.get first.part.offset first.part.len) first.part.root)))

@@ -2,8 +2,10 @@ use Rattle.std.proofs.Common.{ℕ, ◌+◌, List, length, sym, ap, ◌∙◌, su
 use Rattle.pool_law.specs.declared.note.Did.{Did}
 use Rattle.pool_law.specs.declared.note.Note.{Note}
 use Rattle.pool_law.specs.declared.note.Object.TheVariants.{Root}
+use Rattle.pool_law.specs.Dids as says
 use Rattle.shared_pool.specs.RootNotes.{access}
 use Rattle.shared_pool.specs.Seats.{IsNoted}
+use Rattle.lane_core.proofs.NextNotes.{then_begins, access_begins}
 use Rattle.lane_core.specs.declared.copying.Copying.TheVariants.{Set}
 use Rattle.lane_core.proofs.CopySteps.{copy_more, copy_done, copy_held}
 use Rattle.lane_core.proofs.VecLaws.{first-is, none-in, some-in}
@@ -48,3 +50,4 @@ returns-in-Held c =
     let held = c.in-Held in let root = c.args.goal.0 in
     copy_held c.args.pool.now c.args.seat.now c.write.new.seat held.ensures.seat held.ensures.same (Root root.place)
     held.held (Set root c.args.goal.1 c.args.bytes c.args.later) c.args.log.now c.requires.may held.ensures.held
+    (then_begins (Root root.place) _ _ (access_begins (says.set c.args.goal.1 c.args.bytes.items) root))

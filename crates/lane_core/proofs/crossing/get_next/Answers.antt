@@ -5,9 +5,10 @@ use Rattle.pool_law.specs.declared.note.Did.{Did}
 use Rattle.pool_law.specs.declared.note.Note.{Note}
 use Rattle.pool_law.specs.declared.note.Object.TheVariants.{Root}
 use Rattle.shared_pool.specs.SeatViews.{view_of}
+use Rattle.lane_core.proofs.NextNotes.{got_begins}
 use Rattle.lane_core.specs.declared.crossing.Crossing.TheVariants.{Get}
 use Rattle.lane_core.specs.declared.crossing.Crosses.TheVariants.{Held as HeldBack}
-use Rattle.lane_core.specs.Crossings.{HasCrossed, bytes_of}
+use Rattle.lane_core.specs.Crossings.{HasCrossed, bytes_of, parts_of}
 use Rattle.lane_core.proofs.CrossSteps.{first_counts, first_range, get_more, get_last, cross_held}
 use Rattle.lane_core.proofs.VecLaws.{with_own_items}
 use Rattle.lane_core.proofs.crossing.get_next.Goals as goal
@@ -68,4 +69,5 @@ returns-in-Held c =
     (HeldBack held.held (Get (record first { bytes = b }) later got)))
     (sym (with_own_items first.bytes c.read.new.out same))
     (cross_held pool old new held.ensures.seat held.ensures.same (Root first.part.root.place) held.held
-    (Get first later got) log c.requires.may held.ensures.held.1)
+    (Get first later got) log c.requires.may held.ensures.held.1
+    (got_begins first.part (parts_of later.items) got.items))

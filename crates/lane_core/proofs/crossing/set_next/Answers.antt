@@ -1,10 +1,12 @@
-use Rattle.std.proofs.Common.{ap, ◌∙◌, List, ℕ, length, subst}
+use Rattle.std.proofs.Common.{ap, ◌∙◌, List, ◌∷◌, ℕ, length, subst}
 use Rattle.pool_law.specs.declared.note.Did.{Did}
 use Rattle.pool_law.specs.declared.note.Note.{Note}
 use Rattle.pool_law.specs.declared.note.Object.TheVariants.{Root}
 use Rattle.shared_pool.specs.SeatViews.{view_of}
 use Rattle.shared_pool.specs.RootNotes.{access}
 use Rattle.shared_pool.specs.Seats.{IsNoted}
+use Rattle.lane_core.proofs.NextNotes.{set_begins}
+use Rattle.lane_core.specs.Crossings.{bytes_of, parts_of}
 use Rattle.lane_core.specs.declared.crossing.Crossing.TheVariants.{Set}
 use Rattle.lane_core.proofs.CrossSteps.{first_counts, first_range, set_more, set_last, cross_held}
 use Rattle.lane_core.proofs.crossing.set_next.Goals as goal
@@ -47,3 +49,4 @@ returns-in-Held c =
     cross_held c.args.pool.now c.args.seat.now c.write.new.seat held.ensures.seat held.ensures.same
     (Root c.args.first.part.root.place) held.held (Set c.args.first c.args.later) c.args.log.now c.requires.may
     held.ensures.held
+    (set_begins c.args.first.part (parts_of c.args.later.items) (bytes_of (c.args.first ∷ c.args.later.items)))

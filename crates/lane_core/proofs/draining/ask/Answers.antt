@@ -3,6 +3,7 @@ use Rattle.pool_law.specs.declared.note.Note.{Note}
 use Rattle.pool_law.specs.declared.note.Object.TheVariants.{Cache}
 use Rattle.shared_pool.specs.SeatViews.{view_of}
 use Rattle.shared_pool.specs.SeatLanes.{lane_of}
+use Rattle.lane_core.proofs.NextNotes.{drain_begins}
 use Rattle.lane_core.specs.declared.draining.Draining.TheVariants.{Ask}
 use Rattle.lane_core.specs.declared.draining.DrainKind.{DrainKind}
 use Rattle.lane_core.specs.declared.draining.DrainKind.TheVariants.{Close}
@@ -37,4 +38,4 @@ returns-in-Held c =
     let old = c.args.seat.now in let held = c.in-Held in let class = c.args.class in
     found_held c.args.pool.now old c.quota.new.seat held.ensures.seat held.ensures.same c.args.kind
     (Cache (lane_of old) class) held.held (Ask class) (Ask class) c.args.log.now c.requires.may held.ensures.held
-    refl
+    refl (drain_begins c.args.kind (lane_of old) class c.requires.may.fits)

@@ -1,6 +1,7 @@
 use Rattle.std.proofs.Common.{ap}
 use Rattle.pool_law.specs.declared.id.Region.{Region}
 use Rattle.pool_law.specs.declared.note.Object.TheVariants.{Arena}
+use Rattle.lane_core.proofs.NextNotes.{then_begins, given_begins}
 use Rattle.lane_core.specs.declared.draining.Draining.TheVariants.{Shed, Give}
 use Rattle.lane_core.specs.Drainings.{hand_of}
 use Rattle.lane_core.proofs.DrainSteps.{gave_one, found_held}
@@ -27,3 +28,4 @@ returns-in-Held c =
     (Arena c.args.region.id.place.arena) held.held (Give class left c.args.region) (Give class left held.region)
     c.args.log.now c.requires.may held.ensures.held.1
     (ap (λ (r : Region). Give class left r) held.ensures.held.0)
+    (then_begins (Arena c.args.region.id.place.arena) _ _ (given_begins c.args.region.id))

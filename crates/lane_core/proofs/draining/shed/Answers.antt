@@ -4,6 +4,7 @@ use Rattle.pool_law.specs.declared.note.Note.{Note}
 use Rattle.pool_law.specs.declared.note.Object.TheVariants.{Cache}
 use Rattle.shared_pool.specs.SeatViews.{view_of}
 use Rattle.shared_pool.specs.SeatLanes.{lane_of}
+use Rattle.lane_core.proofs.NextNotes.{then_begins, shed_begins}
 use Rattle.lane_core.specs.declared.draining.Draining.TheVariants.{Shed}
 use Rattle.lane_core.specs.Drainings.{hand_of}
 use Rattle.lane_core.proofs.DrainSteps.{shed_one, found_held}
@@ -30,3 +31,5 @@ returns-in-Held c =
     let old = c.args.seat.now in let held = c.in-Held in let stage = Shed c.args.class c.args.left in
     found_held c.args.pool.now old c.shed.new.seat held.ensures.seat held.ensures.same c.args.kind
     (Cache (lane_of old) c.args.class) held.held stage stage c.args.log.now c.requires.may held.ensures.held refl
+    (then_begins (Cache (lane_of old) c.args.class) _ _
+    (shed_begins (lane_of old) c.args.class c.args.left c.requires.may.fits.1))

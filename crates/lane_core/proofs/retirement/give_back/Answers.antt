@@ -1,4 +1,5 @@
 use Rattle.std.proofs.Common.{ap}
+use Rattle.lane_core.proofs.NextNotes.{then_begins, given_begins}
 use Rattle.lane_core.specs.declared.retirement.Ending.TheVariants.{Arena, Home}
 use Rattle.pool_law.specs.declared.id.Region.{Region}
 use Rattle.lane_core.specs.Endings.{hand_of}
@@ -28,4 +29,4 @@ returns-in-Held c =
       may.fits.0,
       region_still pool old new held.ensures.seat held.ensures.same o held.held c.args.region
           (Arena c.args.region c.args.handle) may held.ensures.held.1 may.fits.1,
-    )
+    ) (then_begins o _ _ (given_begins c.args.region.id))

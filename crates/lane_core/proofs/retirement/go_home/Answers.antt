@@ -1,8 +1,12 @@
-use Rattle.std.proofs.Common.{◌≡◌, ◌∙◌, ap}
+use Rattle.std.proofs.Common.{◌≡◌, ℕ, ◌/◌, ◌∙◌, ap, sym, subst}
 use Rattle.pool_law.specs.declared.note.Did.{Did}
 use Rattle.pool_law.specs.declared.note.Note.{Note}
 use Rattle.pool_law.specs.declared.note.Object.TheVariants.{Bin}
+use Rattle.pool_law.specs.Dids as says
 use Rattle.handle_bin.specs.Bins.{HandleValue}
+use Rattle.lane_core.proofs.NextNotes.{note_begins}
+use Rattle.lane_core.specs.Endings.{goes_home}
+use Rattle.lane_core.specs.NextNotes.{BeginsAt}
 use Rattle.lane_core.specs.declared.retirement.Ending.TheVariants.{Home}
 use Rattle.seat_work.specs.Hands.{empty_hand}
 use Rattle.lane_core.proofs.EndSteps.{gone_home, found_held}
@@ -23,7 +27,9 @@ returns-in-Did c =
 
 pub returns-in-Held : goal.returns-in-Held
 returns-in-Held c =
-    let handle = c.args.handle in let held = c.in-Held in
+    let handle = c.args.handle in let held = c.in-Held in let shape = c.args.pool.now.table.layout.shape in
     found_held c.args.pool.now c.args.seat.now c.put_handle.new.seat held.ensures.seat held.ensures.same
     (Bin handle.lane) held.held (Home handle) (Home held.handle) c.args.log.now c.requires.may held.ensures.held.1
     (ap (λ (h : HandleValue). Home h) held.ensures.held.0) c.requires.may.fits
+    (subst (λ (l : ℕ). BeginsAt (Bin l) (goes_home shape handle.place)) (sym c.requires.may.fits.lane)
+    (note_begins (says.home handle.place) (Bin (handle.place / shape.handles))))

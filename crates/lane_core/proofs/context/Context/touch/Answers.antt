@@ -14,7 +14,7 @@ use Rattle.lane_core.proofs.ContextLaws.{can_answer, can_answer_noted, note_room
 use Rattle.lane_core.proofs.ContextWaits.{waits_turn}
 use Rattle.lane_core.proofs.Turning.{refused_turn}
 use Rattle.lane_core.proofs.Commands.{counts_root}
-use Rattle.lane_core.proofs.AccessTurns.{touch_turn}
+use Rattle.lane_core.proofs.AccessTurns.{touch_turn, touch_begins, touch_way}
 use Rattle.lane_core.proofs.context.Context.touch.Goals as goal
 
 pub refuse-requires : goal.refuse-requires
@@ -73,4 +73,6 @@ returns-in-Held c = λ s state.
     record old { seat = c.touch.new.seat } in
     subst (λ (t : Turn). HasTurned pool old start s (Command.Touch c.args.name) Ready t) (sym c.waits.ensures)
     (waits_turn pool old start c.requires.asked c.requires.context refl held.ensures.same held.ensures.seat
-    (Root c.in-Ok.view.now.at.root.place) held.held held.ensures.held s (Command.Touch c.args.name))
+    (Root c.in-Ok.view.now.at.root.place) held.held held.ensures.held s (Command.Touch c.args.name)
+    (touch_begins c.args.name old c.in-Ok.view.now.at c.in-Ok.ensures.ok.0 c.in-Ok.ensures.ok.1 s state)
+    (touch_way c.args.name old c.in-Ok.view.now.at c.in-Ok.ensures.ok.0 c.in-Ok.ensures.ok.1 s state))

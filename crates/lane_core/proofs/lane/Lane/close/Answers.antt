@@ -1,12 +1,15 @@
-use Rattle.std.proofs.Common.{◌≡◌, refl, sym, ap, ◌∙◌, subst}
+use Rattle.std.proofs.Common.{◌≡◌, [], refl, sym, ap, ◌∙◌, subst}
+use Rattle.pool_law.specs.Patterns.{closing}
 use Rattle.shared_pool.specs.SeatViews.{view_of}
+use Rattle.lane_core.specs.declared.draining.DrainKind.TheVariants.{Close}
 use Rattle.lane_core.specs.declared.context.Stage.{Stage}
 use Rattle.lane_core.specs.declared.context.Stage.TheVariants.{Closing}
 use Rattle.lane_core.specs.declared.lane.Lane.{Lane}
 use Rattle.lane_core.specs.declared.lane.Stepped.{Stepped}
 use Rattle.lane_core.specs.Drainings as draining
 use Rattle.lane_core.specs.Contexts.{HasRoomFor}
-use Rattle.lane_core.specs.Lanes.{Heeds, IsLane, SameLane}
+use Rattle.lane_core.specs.Readings.{ReadsOn, none_asked}
+use Rattle.lane_core.specs.Lanes.{Heeds, IsLane, SameLane, commands_left, entries_since, number_of}
 use Rattle.lane_core.specs.Steps.{HasStepped, at_stage, stepped_of}
 use Rattle.lane_core.proofs.CloseTurns.{closing_same, closing_so, closing_next}
 use Rattle.lane_core.proofs.EitherLane.{stopped_is, running_is, lane_or, lane_context}
@@ -51,7 +54,11 @@ returns-in_default c =
       stepped =
           subst (λ (x : Stepped). HasStepped pool l c.after.new.self x) (sym c.after.ensures.stepped)
           (subst (λ (x : Lane). HasStepped pool l x (stepped_of turn)) (sym is)
-          (closing_so pool l context d n stage turn t));
+          (closing_so pool l context d n stage
+          (lane_or pool l (commands_left l ≡ []) lane (λ s. s.all_answered tt) (λ r. close_none pool l r stage refl))
+          (lane_or pool l (ReadsOn (closing (number_of l)) (entries_since l) none_asked
+          (draining.rest_of Close (number_of l) stage)) lane (λ s. stopped_had pool l s stage refl)
+          (λ r. close_had pool l r stage refl)) turn t));
       finished = λ done. absurd (c.in_default.not-Done done);
       heeds = λ stops h. subst (λ (x : Lane). Heeds stops x) (sym is)
           (heeds_still stops l h d (Closing t.after) t.replies);
