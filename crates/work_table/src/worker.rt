@@ -1,0 +1,236 @@
+//! The workers, each of which takes machines out of the table, steps them and brings them back.
+ghost use Rattle.std.specs.Prelude.{◌≡◌, ◌+◌, ◌^◌, ◌<◌, Some, Option};
+ghost use Rattle.work_table.specs.Places.{BelongsAt, IsSameRelation};
+
+use crate::event_count::EventCount;
+use crate::machine::{Machine, Stepped};
+use crate::table::{Playing, Status, Table};
+use std::alloc::AllocError;
+use std::mem::ManuallyDrop;
+use std::sync::ledger::{Ledger, Share};
+use std::sync::{Mutex, Wait};
+use std::thread;
+
+/// A machine that goes on for long counts a change after so many steps, for the machines that wait
+/// for it.
+const MOVES: u32 = 64;
+
+/// A worker that finds no machine looks again so often before it sleeps.
+const LOOKS: u32 = 16;
+
+/// A worker, whose share stands for the machine that it holds. Between its turns it holds none.
+#[derive(Drop)]
+pub struct Worker<T: Ledger> {
+    pub share: Share<T>,
+    ghost one_part: { share.parts ≡ 1 },
+    ghost none_out: { share.amount ≡ 0 },
+}
+
+/// What a turn of a worker did.
+#[derive(Clone, Copy, PartialEq, Eq, Debug)]
+enum Turn {
+    /// It stepped the machine at the place before this one.
+    Stepped(usize),
+    /// No machine could go on, when so many changes had been counted.
+    Idle(u64),
+    /// All machines have finished, or one found no memory.
+    Over,
+}
+
+/// Steps the machines of the table until all have finished or one finds no memory.
+pub fn work<E, M: Machine<E>, T: Playing<M>, R: Wait>(
+    rt: &R,
+    shared: &E,
+    table: &Mutex<ManuallyDrop<Table<M, T>>>,
+    changes: &EventCount,
+    worker: &mut Worker<T>,
+)
+    requires { IsSameRelation T.comes (M.comes shared.now) }
+{
+    let mut from = 0;
+    let mut idle = 0u32;
+    for _ in rt.forever() {
+        match take_turn(rt, shared, table, changes, from, &mut worker.share) {
+            Turn::Stepped(next) => {
+                from = next;
+                idle = 0;
+            }
+            Turn::Idle(seen) => idle = rest(rt, changes, idle, seen),
+            Turn::Over => return,
+        }
+    }
+}
+
+/// The same, and before each turn it steps `own`, which no other worker does, until that cannot go
+/// on. Where the table is over first it stands as it stands.
+pub fn work_beside<E, O: Machine<E>, M: Machine<E>, T: Playing<M>, R: Wait>(
+    rt: &R,
+    shared: &E,
+    own: &mut O,
+    table: &Mutex<ManuallyDrop<Table<M, T>>>,
+    changes: &EventCount,
+    worker: &mut Worker<T>,
+)
+    requires relation { IsSameRelation T.comes (M.comes shared.now) }
+    requires own { (first : O) × O.comes shared.now first own.old }
+    ensures { (first : O) → O.comes shared.now first own.old → O.comes shared.now first own.new }
+{
+    let mut from = 0;
+    let mut idle = 0u32;
+    let mut status = Status::Ready;
+    for _ in rt.forever() {
+        if status.can_go(changes.read()) {
+            status = go_on(rt, shared, changes, own);
+            tell(rt, table, changes, status);
+            idle = 0;
+        }
+        match take_turn(rt, shared, table, changes, from, &mut worker.share) {
+            Turn::Stepped(next) => {
+                from = next;
+                idle = 0;
+            }
+            Turn::Idle(seen) => {
+                if !status.can_go(seen) {
+                    idle = rest(rt, changes, idle, seen);
+                }
+            }
+            Turn::Over => return,
+        }
+    }
+}
+
+// Tells the other workers where a machine that is not in the table has come to its end.
+fn tell<M, T: Playing<M>, R: Wait>(
+    rt: &R,
+    table: &Mutex<ManuallyDrop<Table<M, T>>>,
+    changes: &EventCount,
+    status: Status,
+) {
+    match status {
+        Status::Ready => thread::yield_now(),
+        Status::Since(_) => {}
+        Status::Finished => {
+            changes.advance();
+        }
+        Status::Failed => {
+            table.lock(rt).fail();
+            changes.advance();
+        }
+    }
+}
+
+// A worker that found nothing to do, so often before this, when so many changes had been counted.
+fn rest<R: Wait>(rt: &R, changes: &EventCount, idle: u32, seen: u64) -> u32 {
+    if idle < LOOKS {
+        thread::yield_now();
+        return idle + 1;
+    }
+    changes.wait(rt, seen);
+    idle
+}
+
+// Takes a machine out, steps it and brings it back.
+fn take_turn<E, M: Machine<E>, T: Playing<M>, R: Wait>(
+    rt: &R,
+    shared: &E,
+    table: &Mutex<ManuallyDrop<Table<M, T>>>,
+    changes: &EventCount,
+    from: usize,
+    share: &mut Share<T>,
+) -> Turn
+    requires relation { IsSameRelation T.comes (M.comes shared.now) }
+    requires share { (share.old.parts ≡ 1) × (share.old.amount ≡ 0) }
+    ensures { (share.new.parts ≡ 1) × (share.new.amount ≡ 0) }
+{
+    let seen = changes.read();
+    let mut guard = table.lock(rt);
+    let open = &mut **guard;
+    if open.is_over() {
+        return Turn::Over;
+    }
+    let Some((at, mut machine)) = open.take(from, seen, share) else {
+        return Turn::Idle(seen);
+    };
+    drop(guard);
+    let status = go_on(rt, shared, changes, &mut machine);
+    bring_back(rt, table, at, machine, status, share);
+    match status {
+        Status::Finished | Status::Failed => {
+            changes.advance();
+        }
+        // That need not move a machine, so this one is tried again without a change.
+        Status::Ready => thread::yield_now(),
+        Status::Since(_) => {}
+    }
+    Turn::Stepped(at + 1)
+}
+
+// Steps a machine until it cannot go on.
+fn go_on<E, M: Machine<E>, R: Wait>(
+    rt: &R,
+    shared: &E,
+    changes: &EventCount,
+    machine: &mut M,
+) -> Status
+    requires { (first : M) × M.comes shared.now first machine.old }
+    ensures { (first : M) →
+        M.comes shared.now first machine.old → M.comes shared.now first machine.new }
+{
+    let mut moves = 0;
+    for _ in rt.forever() {
+        let seen = changes.read();
+        match machine.step(rt, shared) {
+            Ok(Stepped::Went) => {
+                moves += 1;
+                if moves == MOVES {
+                    changes.advance();
+                    moves = 0;
+                }
+            }
+            Ok(Stepped::Pending) => {
+                counted(changes, seen, moves > 0);
+                return Status::Ready;
+            }
+            Ok(Stepped::Waiting) => {
+                return Status::Since(counted(changes, seen, moves > 0));
+            }
+            Ok(Stepped::Finished) => return Status::Finished,
+            Err(AllocError) => return Status::Failed,
+        }
+    }
+    unreachable!()
+}
+
+// Counts the moves of a machine as a change. Answers the count up to which it knows of no move of
+// another.
+fn counted(changes: &EventCount, seen: u64, moved: bool) -> u64 {
+    if moved && changes.advance() == seen {
+        seen.wrapping_add(1)
+    } else {
+        seen
+    }
+}
+
+// Brings a machine back to its place. No other machine stands there, so this tries once; the table
+// does not know that, so it tries until the place is empty.
+fn bring_back<M, T: Playing<M>, R: Wait>(
+    rt: &R,
+    table: &Mutex<ManuallyDrop<Table<M, T>>>,
+    at: usize,
+    machine: M,
+    status: Status,
+    share: &mut Share<T>,
+)
+    requires machine { BelongsAt T.comes T.firsts at machine }
+    requires share { (share.old.parts ≡ 1) × (share.old.amount ≡ 1) }
+    ensures { (share.new.parts ≡ 1) × (share.new.amount ≡ 0) }
+{
+    let mut machine = machine;
+    for _ in rt.forever() {
+        match table.lock(rt).put(at, machine, status, share) {
+            None => return,
+            Some(back) => machine = back,
+        }
+    }
+    unreachable!()
+}
