@@ -1,6 +1,6 @@
 -- Words that are written as options are read as these, and words that are read are written so.
 use Rattle.std.proofs.Common.{◌≡◌, ℕ, ◌<◌, List, [], ◌∷◌, ◌++◌, length, refl, true, false, Bool, arith, Some, None, sym, ◌∙◌, ap, subst, cond, get_or, length-append, append_assoc}
-use Rattle.std.specs.Prelude.{Option, nat_le, if◌then◌else◌, ◌==◌, ◌||◌, map, codes, All, find, option_map, option_and_then}
+use Rattle.std.specs.Prelude.{Option, nat_le, if◌then◌else◌, ◌==◌, ◌||◌, is_some, map, codes, All, find, option_map, option_and_then}
 use Rattle.std.specs.List.{flat_map, position_or_len, before_first, after_first}
 use Rattle.std.specs.Str.{bytes_eq}
 use Rattle.std.specs.Str.Parse.{digits_value}
@@ -16,8 +16,10 @@ use Rattle.trace_top.specs.declared.asked.Given.{Given}
 use Rattle.trace_top.specs.declared.asked.Given.TheVariants as givens
 use Rattle.trace_top.specs.declared.words.RunOptions.{RunOptions}
 use Rattle.trace_text.specs.Options.{level_named, level_word, levels}
-use Rattle.trace_top.specs.Settings.{history_name, is_numeral, is_within, level_name, named, number_for, row_of, settings}
-use Rattle.trace_top.specs.Words.{given_alone, given_by, givens_in, has_sign, is_flag, is_sign, is_whole, level_given, number_given, options_given, options_of, with_given}
+use Rattle.option_words.specs.Numerals.{is_numeral}
+use Rattle.option_words.specs.Options.{given_alone, has_sign, is_sign, is_whole, with_given}
+use Rattle.trace_top.specs.Settings.{history_name, is_within, level_name, named, number_for, row_of, settings}
+use Rattle.trace_top.specs.Words.{flag_given, given_by, givens_in, level_given, number_given, options_given, options_of}
 use Rattle.trace_top.proofs.WordLaws.{inside, kept}
 use Rattle.trace_top.specs.WordForm.{HasForm, IsNumberFor, IsValued, OfHistory, OfLevel, OfNumber, Written, given_of, name_and_value, words_of}
 
@@ -55,8 +57,8 @@ no_level Generate = refl
 no_level Lanes = refl
 no_level Commands = refl
 
-not_whole : (o : Option Setting) → is_whole (name o) ≡ false
-unfolding is_whole
+not_whole : (o : Option Setting) → is_whole flag_given given_by (name o) ≡ false
+unfolding flag_given
 not_whole None = refl
 not_whole (Some Order) = refl
 not_whole (Some Arenas) = refl
@@ -68,7 +70,8 @@ not_whole (Some Generate) = refl
 not_whole (Some Lanes) = refl
 not_whole (Some Commands) = refl
 
-no_flag : (o : Option Setting) (value : List ℕ) → is_flag (joined o value) ≡ false
+no_flag : (o : Option Setting) (value : List ℕ) → flag_given (joined o value) ≡ None
+unfolding flag_given
 no_flag None value = refl
 no_flag (Some Order) value = refl
 no_flag (Some Arenas) value = refl
@@ -105,12 +108,11 @@ split_at (Some Generate) value = refl
 split_at (Some Lanes) value = refl
 split_at (Some Commands) value = refl
 
-parts : (o : Option Setting) (value : List ℕ) → given_alone (joined o value) ≡ given_by (name o) value
-unfolding given_alone
+parts : (o : Option Setting) (value : List ℕ)
+    → given_alone flag_given given_by (joined o value) ≡ given_by (name o) value
 parts o value = rw (no_flag o value) (split_at o value)
 
-sign_in : (o : Option Setting) (value : List ℕ) → is_whole (joined o value) ≡ true
-unfolding is_whole
+sign_in : (o : Option Setting) (value : List ℕ) → is_whole flag_given given_by (joined o value) ≡ true
 sign_in o value =
     let long = length-append (name o ++ codes "=") value in
     let front = length-append (name o) (codes "=") in
@@ -138,15 +140,13 @@ level_back Simple = refl
 level_back Advanced = refl
 level_back Paranoid = refl
 
-givens_one : (word : List ℕ) (rest : List (List ℕ)) → is_whole word ≡ true
-    → givens_in (word ∷ rest) ≡ with_given (given_alone word) (givens_in rest)
-unfolding givens_in
+givens_one : (word : List ℕ) (rest : List (List ℕ)) → is_whole flag_given given_by word ≡ true
+    → givens_in (word ∷ rest) ≡ with_given (given_alone flag_given given_by word) (givens_in rest)
 givens_one word [] e = rw e refl
 givens_one word (next ∷ words) e = rw e refl
 
-givens_two : (word next : List ℕ) (rest : List (List ℕ)) → is_whole word ≡ false
+givens_two : (word next : List ℕ) (rest : List (List ℕ)) → is_whole flag_given given_by word ≡ false
     → givens_in (word ∷ next ∷ rest) ≡ with_given (given_by word next) (givens_in rest)
-unfolding givens_in
 givens_two word next rest e = rw e refl
 
 valued_back : (o : Option Setting) (value : List ℕ) (in_one : Bool) (rest : List (List ℕ)) (g : Given) (gs : List Given)
@@ -158,7 +158,7 @@ valued_back o value false rest g gs here there = givens_two (name o) value rest 
 
 first_back : (w : Written) (rest : List (List ℕ)) (gs : List Given) → IsValued w → givens_in rest ≡ Some gs
     → givens_in (words_of w ++ rest) ≡ Some (given_of w ∷ gs)
-unfolding is_whole given_alone
+unfolding flag_given
 first_back (OfNumber s value in_one) rest gs valued there =
     valued_back (Some s) value in_one rest (givens.Number s (digits_value 10 value)) gs (number_back s value valued)
     there
@@ -167,7 +167,6 @@ first_back (OfLevel l in_one) rest gs valued there =
 first_back OfHistory rest gs valued there = givens_one history_name rest refl ∙ rw there refl
 
 pub read_back : (ws : List Written) → All IsValued ws → givens_in (flat_map words_of ws) ≡ Some (map given_of ws)
-unfolding givens_in
 read_back [] h = refl
 read_back (w ∷ ws) h =
     first_back w (flat_map words_of ws) (map given_of ws) (All-head IsValued w ws h)
@@ -315,29 +314,40 @@ valued_first n text in_one words rest g gs split e others =
     let here = split ∙ ap (λ (ws : List (List ℕ)). ws ++ rest) r.spelling in
     written_first r.written words rest g gs here r.valued r.giving others
 
+-- the option without a value is written by its name
+flag_back : (word : List ℕ) (g : Given) → flag_given word ≡ Some g → (word ≡ history_name) × (givens.History ≡ g)
+unfolding flag_given
+flag_back word g e =
+    elim (bytes_eq word history_name) as (λ (b : Bool). bytes_eq word history_name ≡ b
+    → (if b then Some givens.History else None) ≡ Some g → (word ≡ history_name) × (givens.History ≡ g)) [
+      | true ↦ λ is f. ((bytes_decides word history_name).0 is, same_some _ g f)
+      | false ↦ λ is f. absurd (none_some g f)
+    ] refl e
+
 -- a word that is a whole option gives it
-alone_first : (word : List ℕ) (rest : List (List ℕ)) (g : Given) (gs : List Given) → is_whole word ≡ true
-    → given_alone word ≡ Some g → Spells rest gs → Spells (word ∷ rest) (g ∷ gs)
-unfolding is_whole given_alone
+alone_first : (word : List ℕ) (rest : List (List ℕ)) (g : Given) (gs : List Given)
+    → is_whole flag_given given_by word ≡ true
+    → given_alone flag_given given_by word ≡ Some g → Spells rest gs → Spells (word ∷ rest) (g ∷ gs)
 alone_first word rest g gs whole e others =
-    elim (is_flag word) as (λ (b : Bool). is_flag word ≡ b → (b || has_sign word) ≡ true
-    → (if b then Some givens.History else given_by (before_first is_sign word) (after_first is_sign word)) ≡ Some g
+    elim (flag_given word) as (λ (o : Option Given). flag_given word ≡ o → (is_some o || has_sign word) ≡ true
+    → (if is_some o then o else given_by (before_first is_sign word) (after_first is_sign word)) ≡ Some g
     → Spells (word ∷ rest) (g ∷ gs)) [
-      | true ↦ λ flag sign f.
-          let is = (bytes_decides word history_name).0 flag in
-          written_first OfHistory (word ∷ rest) rest g gs (ap (λ (x : List ℕ). x ∷ rest) is) tt (same_some _ g f) others
-      | false ↦ λ flag sign f.
+      | Some h ↦ λ flag sign f.
+          let is = flag_back word h flag in
+          let here = ap (λ (x : List ℕ). x ∷ rest) is.0 in
+          written_first OfHistory (word ∷ rest) rest g gs here tt (is.1 ∙ same_some h g f) others
+      | None ↦ λ flag sign f.
           let split = ap (λ (x : List ℕ). x ∷ rest) (cut word sign) in
           valued_first _ _ true (word ∷ rest) rest g gs split f others
     ] refl whole e
 
 -- one word gives the first option
 one_first : (word : List ℕ) (rest : List (List ℕ)) (others : Option (List Given)) (gs : List Given)
-    → is_whole word ≡ true
-    → with_given (given_alone word) others ≡ Some gs
+    → is_whole flag_given given_by word ≡ true
+    → with_given (given_alone flag_given given_by word) others ≡ Some gs
     → ((hs : List Given) → others ≡ Some hs → Spells rest hs) → Spells (word ∷ rest) gs
 one_first word rest others gs whole e more =
-    let s = splits (given_alone word) others gs e in
+    let s = splits (given_alone flag_given given_by word) others gs e in
     subst (Spells (word ∷ rest)) s.all (alone_first word rest s.first s.rest whole s.here (more s.rest s.there))
 
 -- two words give the first option
@@ -351,17 +361,17 @@ two_first word next rest others gs e more =
     (valued_first word next false words rest s.first s.rest refl s.here (more s.rest s.there))
 
 pub spelled : (words : List (List ℕ)) (gs : List Given) → givens_in words ≡ Some gs → Spells words gs
-unfolding givens_in
 spelled [] gs e = nothing_spelled gs e
 spelled (word ∷ []) gs e =
-    elim (is_whole word) as (λ (b : Bool). is_whole word ≡ b
-    → (if b then with_given (given_alone word) (Some []) else None) ≡ Some gs → Spells (word ∷ []) gs) [
+    elim (is_whole flag_given given_by word) as (λ (b : Bool). is_whole flag_given given_by word ≡ b
+    → (if b then with_given (given_alone flag_given given_by word) (Some []) else None) ≡ Some gs
+    → Spells (word ∷ []) gs) [
       | true ↦ λ sign f. one_first word [] (Some []) gs sign f nothing_spelled
       | false ↦ λ sign f. absurd (none_some gs f)
     ] refl e
 spelled (word ∷ next ∷ words) gs e =
-    elim (is_whole word) as (λ (b : Bool). is_whole word ≡ b
-    → (if b then with_given (given_alone word) (givens_in (next ∷ words))
+    elim (is_whole flag_given given_by word) as (λ (b : Bool). is_whole flag_given given_by word ≡ b
+    → (if b then with_given (given_alone flag_given given_by word) (givens_in (next ∷ words))
     else with_given (given_by word next) (givens_in words)) ≡ Some gs
     → Spells (word ∷ next ∷ words) gs) [
       | true ↦ λ sign f.

@@ -4,7 +4,6 @@ pub mod Runs
 pub mod Tables
 pub mod Exact
 pub mod Explain
-pub mod Numerals
 pub mod PoolLaws
 pub mod WordLaws
 pub mod FormLaws

@@ -1,5 +1,5 @@
 -- Lanes that are stepped, and lanes that are made.
-use Rattle.std.proofs.Common.{◌≡◌, ◌<◌, ◌≤◌, ⊎_elim, ℕ, Bool, zero, suc, ◌+◌, ◌*◌, ◌^◌, List, [], ◌∷◌, get_or, set, length, map, Some, refl, sym, ap, ◌∙◌, subst, arith}
+use Rattle.std.proofs.Common.{◌≡◌, ◌<◌, ◌≤◌, ℕ, Bool, zero, suc, ◌+◌, ◌*◌, ◌^◌, List, [], ◌∷◌, get_or, length, map, Some, refl, sym, ap, ◌∙◌, subst, arith}
 use Rattle.std.specs.Prelude.{All, slice_get, unwrap_or}
 use Rattle.std.proofs.lemmas.Nat.{row_fits}
 use Rattle.std.proofs.lemmas.Option.{get_or_from_slice_get, slice_get-get_or, slice_get_within}
@@ -11,7 +11,6 @@ use Rattle.pool_law.specs.Limits.{IsShape}
 use Rattle.pool_law.specs.Logs.{of_lane}
 use Rattle.shared_pool.specs.declared.seat.PoolSeat.{PoolSeat}
 use Rattle.pool_table.specs.declared.views.Layout.{Layout}
-use Rattle.shared_pool.specs.SeatViews.{view_of}
 use Rattle.shared_pool.specs.declared.pool.SharedPool.{SharedPool}
 use Rattle.shared_pool.specs.Opening.{AreOpened, HasRooms, IsOpened}
 use Rattle.shared_pool.specs.SeatLanes.{lane_of}
@@ -23,16 +22,8 @@ use Rattle.lane_core.specs.Opened.{IsFirstSeat}
 use Rattle.lane_core.specs.Played.{AreFinished}
 use Rattle.trace_top.specs.Needs.{AreSent, HasRoomFor}
 use Rattle.trace_top.specs.Standing.{AllFinished, AllOf, AllRun, AreLanes, AreReady, RunsLane}
-use Rattle.trace_top.proofs.Places.{all_at, log_found, same_some, set_cases}
-
--- one of the lanes is another one of the pool
-pub lanes_set : (pool : SharedPool) (lanes : List Lane) (i : ℕ) (l : Lane) → AreLanes pool lanes → IsLane pool l
-    → AreLanes pool (set lanes i l)
-lanes_set pool lanes i l all is j x e =
-    ⊎_elim
-    (λ (h : (j ≡ i) × (l ≡ x)). subst (IsLane pool) h.1 is)
-    (λ before. all j x before)
-    (set_cases lanes i l j x e)
+use Rattle.work_table.proofs.Places.{all_at, same_some}
+use Rattle.trace_top.proofs.Places.{log_found}
 
 -- a lane that was stepped runs what it ran
 pub runs_later : (trace : List (List Command)) (stops : ℕ → ℕ → Bool) (pool : SharedPool) (i : ℕ) (old new : Lane)
@@ -47,20 +38,6 @@ runs_later trace stops pool i old new runs is same heeds = record {
       subst (λ (n : ℕ). Heeds (stops n) new) runs.number
       (heeds (subst (λ (n : ℕ). Heeds (stops n) old) (sym runs.number) runs.heeds));
 }
-
--- one of the lanes was stepped
-pub runs_set : (trace : List (List Command)) (stops : ℕ → ℕ → Bool) (pool : SharedPool) (lanes : List Lane) (i : ℕ)
-    (old new : Lane)
-    → slice_get lanes i ≡ Some old → IsLane pool new → SameLane old new
-    → (Heeds (stops (number_of old)) old → Heeds (stops (number_of old)) new)
-    → AllRun trace stops pool lanes → AllRun trace stops pool (set lanes i new)
-runs_set trace stops pool lanes i old new stood is same heeds all j x e =
-    ⊎_elim
-    (λ (h : (j ≡ i) × (new ≡ x)).
-    subst (λ (p : ℕ × Lane). RunsLane trace stops pool p.0 p.1) (λ k. (sym h.0 k, h.1 k))
-    (runs_later trace stops pool i old new (all i old stood) is same heeds))
-    (λ before. all j x before)
-    (set_cases lanes i new j x e)
 
 -- lanes that run a trace are lanes of the pool
 pub are_lanes : (trace : List (List Command)) (stops : ℕ → ℕ → Bool) (pool : SharedPool) (lanes : List Lane)

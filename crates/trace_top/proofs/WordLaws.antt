@@ -1,92 +1,33 @@
 -- What the words give and ask for, from the first word on.
-use Rattle.std.proofs.Common.{◌≡◌, ℕ, ◌<◌, ◌≤◌, List, [], ◌∷◌, length, refl, true, false, Bool, arith, Some, None, sym, ap}
-use Rattle.std.specs.Prelude.{Option, if◌then◌else◌, ◌&&◌, option_map, option_and_then}
+use Rattle.std.proofs.Common.{◌≡◌, ℕ, ◌<◌, ◌≤◌, ◌∙◌, List, [], ◌∷◌, length, refl, true, false, Bool, arith, Some, None, sym, ap}
+use Rattle.std.specs.Prelude.{Option, if◌then◌else◌, ◌&&◌, option_and_then}
 use Rattle.std.proofs.lemmas.Bool.Decides.{nat_tests}
 use Rattle.trace_top.specs.declared.settings.Setting.{Setting}
 use Rattle.trace_top.specs.declared.asked.Given.{Given}
 use Rattle.trace_top.specs.declared.asked.Asked.{Asked}
 use Rattle.trace_top.specs.Settings.{RowData, is_within, number_for, row_of}
-use Rattle.trace_top.specs.Words.{IsInRange, asked_from, asked_with, before, first_given, given_alone, given_by, givens_in, is_whole, with_given}
+use Rattle.option_words.specs.Options.{first_given}
+use Rattle.option_words.proofs.Firsts.{givens_from, no_givens, with_all}
+use Rattle.trace_top.specs.declared.words.RunOptions.{RunOptions}
+use Rattle.trace_top.specs.Pools.{is_within_memory}
+use Rattle.trace_top.specs.Words.{IsInRange, asked_by, asked_from, asked_with, flag_given, given_by, givens_in, nothing, options_for, options_given, options_of, within_memory}
 
 -- what is asked for with all words that are left
 abbrev pub asked_in : Asked → List (List ℕ) → Option Asked
 asked_in asked words = option_and_then (asked_from asked) (givens_in words)
 
--- ---- the first of the words, and the others
-
-abbrev First : Type 0
-First = Option (Given × List (List ℕ))
-
-abbrev with_all : Given → Option (List Given) → Option (List Given)
-with_all g others = option_map (λ (gs : List Given). g ∷ gs) others
-
-never : (g : Given) (rest : List (List ℕ)) (x : First) → x ≡ None → x ≡ Some (g, rest) → ⊥
-never g rest x e f = cc
-
-prepended : (x : Option Given) (others : List (List ℕ)) (g : Given) (rest : List (List ℕ))
-    → before others x ≡ Some (g, rest) → with_given x (givens_in others) ≡ with_all g (givens_in rest)
-prepended None others g rest e = absurd (never g rest None refl e)
-prepended (Some h) others g rest e =
-    let here : Given × List (List ℕ) = (h, others) in
-    let there : Given × List (List ℕ) = (g, rest) in
-    let same : here ≡ there = cc in
-    ap (λ (p : Given × List (List ℕ)). with_all p.0 (givens_in p.1)) same
-
-not_prepended : (x : Option Given) (others : List (List ℕ)) (gs : Option (List Given))
-    → before others x ≡ None → with_given x gs ≡ None
-not_prepended None others gs e = refl
-not_prepended (Some h) others gs e = absurd (never h others (Some (h, others)) e refl)
-
-pub givens_from : (words : List (List ℕ)) (g : Given) (rest : List (List ℕ))
-    → first_given words ≡ Some (g, rest) → givens_in words ≡ with_all g (givens_in rest)
-unfolding givens_in
-givens_from [] g rest e = absurd (never g rest None refl e)
-givens_from (word ∷ []) g rest e =
-    elim (is_whole word) as (λ (b : Bool). (if b then before [] (given_alone word) else None) ≡ Some (g, rest)
-    → (if b then with_given (given_alone word) (Some []) else None) ≡ with_all g (givens_in rest)) [
-      | true ↦ λ f. prepended (given_alone word) [] g rest f
-      | false ↦ λ f. absurd (never g rest None refl f)
-    ] e
-givens_from (word ∷ next ∷ words) g rest e =
-    elim (is_whole word) as (λ (b : Bool).
-    (if b then before (next ∷ words) (given_alone word) else before words (given_by word next)) ≡ Some (g, rest)
-    → (if b then with_given (given_alone word) (givens_in (next ∷ words))
-    else with_given (given_by word next) (givens_in words)) ≡ with_all g (givens_in rest)) [
-      | true ↦ λ f. prepended (given_alone word) (next ∷ words) g rest f
-      | false ↦ λ f. prepended (given_by word next) words g rest f
-    ] e
-
--- where the first words give nothing, all of them don't
-pub no_givens : (words : List (List ℕ)) → 0 < length words → first_given words ≡ None → givens_in words ≡ None
-unfolding givens_in
-no_givens [] some e = absurd (omega arith)
-no_givens (word ∷ []) some e =
-    elim (is_whole word) as (λ (b : Bool). (if b then before [] (given_alone word) else None) ≡ None
-    → (if b then with_given (given_alone word) (Some []) else None) ≡ None) [
-      | true ↦ λ f. not_prepended (given_alone word) [] (Some []) f
-      | false ↦ λ f. refl
-    ] e
-no_givens (word ∷ next ∷ words) some e =
-    elim (is_whole word) as (λ (b : Bool).
-    (if b then before (next ∷ words) (given_alone word) else before words (given_by word next)) ≡ None
-    → (if b then with_given (given_alone word) (givens_in (next ∷ words))
-    else with_given (given_by word next) (givens_in words)) ≡ None) [
-      | true ↦ λ f. not_prepended (given_alone word) (next ∷ words) (givens_in (next ∷ words)) f
-      | false ↦ λ f. not_prepended (given_by word next) words (givens_in words) f
-    ] e
-
 -- ---- one more of the words
 
 -- no word is left
 pub asked_done : (asked : Asked) (words : List (List ℕ)) → length words ≡ 0 → asked_in asked words ≡ Some asked
-unfolding givens_in
 asked_done asked [] none = refl
 asked_done asked (word ∷ words) none = absurd (omega arith)
 
 -- the first words give nothing
-pub asked_none : (asked : Asked) (words : List (List ℕ)) → 0 < length words → first_given words ≡ None
+pub asked_none : (asked : Asked) (words : List (List ℕ)) → 0 < length words
+    → first_given flag_given given_by words ≡ None
     → asked_in asked words ≡ None
-asked_none asked words some first = rw (no_givens words some first) refl
+asked_none asked words some first = rw (no_givens flag_given given_by words some first) refl
 
 asked_first : (asked : Asked) (g : Given) (gs : Option (List Given)) (o : Option Asked) → asked_with asked g ≡ o
     → option_and_then (asked_from asked) (with_all g gs) ≡ option_and_then (λ b. option_and_then (asked_from b) gs) o
@@ -96,10 +37,11 @@ asked_first asked g (Some gs) o e = ap (option_and_then (λ b. asked_from b gs))
 
 -- the first words give one more
 pub asked_next : (asked : Asked) (words : List (List ℕ)) (g : Given) (rest : List (List ℕ))
-    → first_given words ≡ Some (g, rest)
+    → first_given flag_given given_by words ≡ Some (g, rest)
     → asked_in asked words ≡ option_and_then (λ b. asked_in b rest) (asked_with asked g)
 asked_next asked words g rest first =
-    rw (givens_from words g rest first) (asked_first asked g (givens_in rest) (asked_with asked g) refl)
+    rw (givens_from flag_given given_by words g rest first)
+    (asked_first asked g (givens_in rest) (asked_with asked g) refl)
 
 -- ---- numbers in their range
 
@@ -123,3 +65,18 @@ in_range s text n e =
     let within : is_within (row_of s) n ≡ true = rw (sym h.2) h.1 in
     let both = inside (row_of s) n within in
     record { least = both.0; greatest = both.1 }
+
+-- ---- options from what is asked for
+
+given_twice : (x : Option (List Given)) (a : Asked) → Some a ≡ option_and_then (asked_from nothing) x
+    → option_and_then options_given x ≡ option_and_then within_memory (options_for a)
+given_twice None a e = absurd (some_none a (sym e))
+given_twice (Some gs) a e = ap (option_and_then (λ b. option_and_then within_memory (options_for b))) (sym e)
+
+-- what is asked for comes to these options, within their bounds
+pub options_read : (words : List (List ℕ)) (a : Asked) (o : RunOptions) → Some a ≡ asked_by words
+    → Some o ≡ options_for a → is_within_memory o.pool ≡ true → Some o ≡ options_of words
+unfolding options_of
+options_read words a o asked is within =
+    sym (given_twice (givens_in words) a asked
+    ∙ (ap (option_and_then within_memory) (sym is) ∙ ap (λ (b : Bool). if b then Some o else None) within))

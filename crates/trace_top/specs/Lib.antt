@@ -4,6 +4,5 @@ pub mod WordForm
 pub mod Pools
 pub mod Needs
 pub mod Standing
-pub mod Places
 pub mod Outcomes
 pub mod Line

@@ -1,9 +1,8 @@
 -- The options of the command line, as a table.
-use Rattle.std.specs.Prelude.{ℕ, nat_le, ◌&&◌, Bool, if◌then◌else◌, List, [], ◌∷◌, length, find, codes, Option, Some, None}
-use Rattle.std.specs.Char.{is_ascii_digit}
-use Rattle.std.specs.List.{list_all}
+use Rattle.std.specs.Prelude.{ℕ, nat_le, ◌&&◌, Bool, if◌then◌else◌, List, [], ◌∷◌, find, codes, Option, Some, None}
 use Rattle.std.specs.Str.{bytes_eq}
 use Rattle.std.specs.Str.Parse.{digits_value}
+use Rattle.option_words.specs.Numerals.{is_numeral}
 use Rattle.trace_top.specs.declared.settings.Setting.{Setting}
 use Rattle.trace_top.specs.declared.settings.Setting.TheVariants.{Order, Arenas, Chunks, Handles, Workers, Interval, Generate, Lanes, Commands}
 
@@ -48,11 +47,6 @@ settings =
 -- the option with a number that a word names
 unfoldable pub named : List ℕ → Option Setting
 named word = find (λ s. bytes_eq (row_of s).name word) settings
-
--- 1 to 20 decimal digits
-abbrev pub is_numeral : List ℕ → Bool
-is_numeral text =
-    nat_le 1 (length text) && (nat_le (length text) 20 && list_all is_ascii_digit text)
 
 -- the number is in the range of the row
 abbrev pub is_within : RowData → ℕ → Bool

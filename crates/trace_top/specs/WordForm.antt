@@ -2,13 +2,14 @@
 use Rattle.std.specs.Prelude.{⊤, ◌≡◌, ℕ, ◌≤◌, Bool, true, if◌then◌else◌, List, [], ◌∷◌, ◌++◌, map, codes, All, Some}
 use Rattle.std.specs.List.{flat_map}
 use Rattle.std.specs.Str.Parse.{digits_value}
+use Rattle.option_words.specs.Numerals.{is_numeral}
 use Rattle.pool_law.specs.declared.run.Level.{Level}
 use Rattle.trace_text.specs.Options.{level_word}
 use Rattle.trace_top.specs.declared.settings.Setting.{Setting}
 use Rattle.trace_top.specs.declared.asked.Given.{Given}
 use Rattle.trace_top.specs.declared.asked.Given.TheVariants as givens
 use Rattle.trace_top.specs.declared.words.RunOptions.{RunOptions}
-use Rattle.trace_top.specs.Settings.{history_name, is_numeral, level_name, row_of}
+use Rattle.trace_top.specs.Settings.{history_name, level_name, row_of}
 use Rattle.trace_top.specs.Words.{options_given}
 
 -- an option as it is written: a number by its text, or a level, each with whether name and value

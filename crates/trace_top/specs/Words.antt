@@ -1,8 +1,8 @@
 -- The words of the command line.
-use Rattle.std.specs.Prelude.{⊤, ℕ, ◌*◌, ◌≤◌, nat_le, nat_lt, ◌==◌, ◌||◌, ◌&&◌, Bool, true, false, not, if◌then◌else◌, List, [], ◌∷◌, length, Option, Some, None, IfSome, is_some, is_none, option_map, option_and_then}
-use Rattle.std.specs.List.{position_or_len, before_first, after_first}
+use Rattle.std.specs.Prelude.{⊤, ℕ, ◌*◌, ◌≤◌, nat_le, ◌&&◌, Bool, true, false, not, if◌then◌else◌, List, [], ◌∷◌, Option, Some, None, IfSome, is_some, is_none, option_map, option_and_then}
 use Rattle.std.specs.Option.{option_map_or}
 use Rattle.std.specs.Str.{bytes_eq}
+use Rattle.option_words.specs.Options.{givens_in as givens_by}
 use Rattle.pool_law.specs.declared.run.Options.{Options}
 use Rattle.trace_text.specs.Options.{level_named}
 use Rattle.trace_top.specs.declared.settings.Setting.{Setting}
@@ -33,41 +33,13 @@ unfoldable pub given_by : List ℕ → List ℕ → Option Given
 given_by name text =
     if bytes_eq name level_name then level_given text else number_given name text
 
--- the sign between a name and its value in one word, a `=`
-abbrev pub is_sign : ℕ → Bool
-is_sign c = c == 61
+-- what a word gives that is the option without a value
+unfoldable pub flag_given : List ℕ → Option Given
+flag_given word = if bytes_eq word history_name then Some givens.History else None
 
--- the word has a sign
-abbrev pub has_sign : List ℕ → Bool
-has_sign word = nat_lt (position_or_len is_sign word) (length word)
-
--- the word is the option without a value
-abbrev pub is_flag : List ℕ → Bool
-is_flag word = bytes_eq word history_name
-
--- the word is a whole option
-unfoldable pub is_whole : List ℕ → Bool
-is_whole word = is_flag word || has_sign word
-
--- what a word gives that is a whole option: its name stands before its first sign, its value behind
-unfoldable pub given_alone : List ℕ → Option Given
-given_alone word =
-    if is_flag word
-    then Some givens.History
-    else given_by (before_first is_sign word) (after_first is_sign word)
-
--- these, if there is something at each place
-abbrev pub with_given : Option Given → Option (List Given) → Option (List Given)
-with_given given others = option_and_then (λ g. option_map (λ gs. g ∷ gs) others) given
-
--- what the words give, in their order: an option is one word, or a name and a value
-unfoldable pub givens_in : List (List ℕ) → Option (List Given)
-givens_in [] = Some []
-givens_in (word ∷ []) = if is_whole word then with_given (given_alone word) (Some []) else None
-givens_in (word ∷ next ∷ words) =
-    if is_whole word
-    then with_given (given_alone word) (givens_in (next ∷ words))
-    else with_given (given_by word next) (givens_in words)
+-- what the words give, in their order
+abbrev pub givens_in : List (List ℕ) → Option (List Given)
+givens_in = givens_by flag_given given_by
 
 -- ---- What is asked for by these, each option at most once.
 
@@ -206,20 +178,7 @@ abbrev pub IsOrigin : Origin → Type 0
 IsOrigin Source = ⊤
 IsOrigin (Generated g) = IsGeneration g
 
--- ---- The same from word to word, for the loop that reads them.
-
--- what is given, and the words behind it
-abbrev pub before : List (List ℕ) → Option Given → Option (Given × List (List ℕ))
-before others given = option_map (λ g. (g, others)) given
-
--- what the first words give, and the words behind them
-abbrev pub first_given : List (List ℕ) → Option (Given × List (List ℕ))
-first_given [] = None
-first_given (word ∷ []) = if is_whole word then before [] (given_alone word) else None
-first_given (word ∷ next ∷ words) =
-    if is_whole word
-    then before (next ∷ words) (given_alone word)
-    else before words (given_by word next)
+-- ---- Numbers in their range.
 
 -- the number is in the option's range
 pub record IsInRange (s : Setting) (n : ℕ) : Type 0 where

@@ -3,7 +3,6 @@
 
 mod answer;
 mod asked;
-mod event_count;
 mod gates;
 mod lanes;
 mod laws;
@@ -12,12 +11,10 @@ mod needs;
 mod play;
 mod pools;
 mod reading;
+mod scene;
 mod settings;
-mod steps;
-mod table;
 mod top;
 mod words;
-mod worker;
 mod workers;
 
 pub use answer::{Outcome, Status};

@@ -1,10 +1,8 @@
 //! The options of the command line, as a table.
-ghost use Rattle.std.specs.Prelude.{◌≡◌, ◌<◌, ◌^◌, ◌&&◌, nat_lt, Some, None, if◌then◌else◌};
-ghost use Rattle.std.specs.Char.{is_ascii_digit};
-ghost use Rattle.std.specs.List.{list_all};
-ghost use Rattle.std.specs.Str.Parse.{digits_value};
-ghost use Rattle.trace_top.specs.Settings.{is_numeral, named, number_for, row_of};
+ghost use Rattle.std.specs.Prelude.{◌≡◌};
+ghost use Rattle.trace_top.specs.Settings.{named, number_for, row_of};
 
+use option_words::numeral;
 use std::marker::Model;
 
 /// An option of the command line that has a number.
@@ -145,29 +143,4 @@ pub fn named(word: &str) -> Option<Setting>
         .iter()
         .copied()
         .find(|setting| setting.row().name() == word)
-}
-
-// Whether a text is 1 to 20 decimal digits.
-fn is_numeral(text: &str) -> bool
-    ensures { result ≡ is_numeral text.now }
-{
-    !text.is_empty() && text.len() <= 20 && are_digits(text)
-}
-
-fn are_digits(text: &str) -> bool
-    ensures { result ≡ list_all is_ascii_digit text.now }
-{
-    text.bytes().all(|byte| byte.is_ascii_digit())
-}
-
-// The number of 1 to 20 decimal digits, where it is one of 64 bits.
-fn numeral(text: &str) -> Option<u64>
-    ensures { result ≡ (if is_numeral text.now && nat_lt (digits_value 10 text.now) (2 ^ 64)
-        then Some (digits_value 10 text.now) else None) }
-{
-    if is_numeral(text) {
-        text.parse().ok()
-    } else {
-        None
-    }
 }

@@ -1,12 +1,13 @@
 //! The words of the command line.
-ghost use Rattle.std.specs.Prelude.{◌≡◌, ◌<◌, true, length, map, string_bytes, IfSome, option_map};
+ghost use Rattle.std.specs.Prelude.{◌≡◌, map, string_bytes, IfSome};
 ghost use Rattle.trace_text.specs.Options.{AreOptions};
 ghost use Rattle.trace_top.specs.Pools.{AreSound};
-ghost use Rattle.trace_top.specs.Words.{AreWithin, IsOrigin, IsWithin, asked_by, first_given, given_alone, given_by, is_whole, level_given, number_given, options_of};
+ghost use Rattle.trace_top.specs.Words.{AreWithin, IsOrigin, IsWithin, asked_by, level_given, number_given, options_of};
 
 use crate::asked::{Asked, Given};
 use crate::pools::is_within_memory;
 use crate::settings::named;
+use option_words::{Form, first_given};
 use pool_law::Options;
 use trace_text::level_named;
 
@@ -41,16 +42,41 @@ pub struct RunOptions {
     pub history: bool,
 }
 
-// The option of a name with the value of a text.
-#[tactic(auto, unfolding(crate::specs::Words::given_by))]
-fn given_by(name: &str, text: &str) -> Option<Given>
-    ensures value { result ≡ given_by name.now text.now }
-    ensures within { IfSome result IsWithin }
-{
-    if name == "--level" {
-        level_given(text)
-    } else {
-        number_given(name, text)
+/// The options of this program.
+struct RunForm;
+
+impl Form for RunForm {
+    ghost use Rattle.trace_top.specs.Words.{IsWithin, flag_given, given_by};
+
+    type Given = Given;
+
+    ghost flag = { flag_given };
+
+    ghost valued = { given_by };
+
+    ghost sound = { IsWithin };
+
+    #[tactic(auto, unfolding(crate::specs::Words::flag_given))]
+    fn flag(word: &str) -> Option<Given> {
+        if word == "--history" {
+            Some(Given::History)
+        } else {
+            None
+        }
+    }
+
+    #[tactic(auto, unfolding(crate::specs::Words::flag_given))]
+    fn is_flag(word: &str) -> bool {
+        word == "--history"
+    }
+
+    #[tactic(auto, unfolding(crate::specs::Words::given_by))]
+    fn valued(name: &str, text: &str) -> Option<Given> {
+        if name == "--level" {
+            level_given(text)
+        } else {
+            number_given(name, text)
+        }
     }
 }
 
@@ -72,45 +98,6 @@ fn number_given(name: &str, text: &str) -> Option<Given>
     Some(Given::Number { setting, number })
 }
 
-// What the first words give, and the words behind them.
-fn first_given(words: &[String]) -> Option<(Given, &[String])>
-    ensures value { option_map (λ p. (p.0, map string_bytes p.1.now)) result
-        ≡ first_given (map string_bytes words.now) }
-    ensures within { IfSome result (λ p. IsWithin p.0) }
-    ensures shorter { IfSome result (λ p. length p.1.now < length words.now) }
-{
-    let (word, rest) = words.split_first()?;
-    if is_whole(word.as_str()) {
-        let given = given_alone(word.as_str())?;
-        return Some((given, rest));
-    }
-    let (text, rest) = rest.split_first()?;
-    let given = given_by(word.as_str(), text.as_str())?;
-    Some((given, rest))
-}
-
-// Whether a word is a whole option.
-#[tactic(auto, unfolding(crate::specs::Words::is_whole))]
-fn is_whole(word: &str) -> bool
-    ensures { result ≡ is_whole word.now }
-{
-    word == "--history" || word.split_once('=').is_some()
-}
-
-// What a word gives that is a whole option.
-#[tactic(auto, unfolding(crate::specs::Words::is_whole, crate::specs::Words::given_alone))]
-fn given_alone(word: &str) -> Option<Given>
-    requires { is_whole word.now ≡ true }
-    ensures value { result ≡ given_alone word.now }
-    ensures within { IfSome result IsWithin }
-{
-    if word == "--history" {
-        return Some(Given::History);
-    }
-    let (name, text) = word.split_once('=')?;
-    given_by(name, text)
-}
-
 // What the words ask for; None where they have no form, or give an option twice.
 fn asked_by(words: &[String]) -> Option<Asked>
     ensures value { result ≡ asked_by (map string_bytes words.now) }
@@ -119,7 +106,7 @@ fn asked_by(words: &[String]) -> Option<Asked>
     let mut asked = Asked::nothing();
     let mut left = words;
     while !left.is_empty() {
-        let (given, rest) = first_given(left)?;
+        let (given, rest) = first_given::<RunForm>(left)?;
         asked = asked.with(given)?;
         left = rest;
     }

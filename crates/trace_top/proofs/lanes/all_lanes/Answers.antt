@@ -5,7 +5,7 @@ use Rattle.shared_pool.specs.Seats.{IsPoolSeat}
 use Rattle.lane_core.specs.declared.lane.Lane.{Lane}
 use Rattle.shared_pool.specs.SeatLanes.{lane_of}
 use Rattle.trace_top.specs.Standing.{RunsLane}
-use Rattle.trace_top.proofs.Places.{removed, left_next, get_drop, pushed}
+use Rattle.work_table.proofs.Places.{removed, left_next, get_drop, pushed}
 use Rattle.trace_top.proofs.Runs.{are_lanes, seats_are}
 use Rattle.trace_top.proofs.lanes.all_lanes.Goals as goal
 

@@ -3,7 +3,7 @@ use Rattle.std.specs.Prelude.{slice_get}
 use Rattle.std.proofs.lemmas.Grind.{common_steps}
 use Rattle.shared_pool.specs.Seats.{IsPoolSeat}
 use Rattle.lane_core.proofs.EitherLane.{lane_context}
-use Rattle.trace_top.proofs.Places.{pushed, pushed_before, pushed_last}
+use Rattle.work_table.proofs.Places.{pushed, pushed_before, pushed_last}
 use Rattle.trace_top.proofs.lanes.given_back.Goals as goal
 
 pub loop-lane-preserved : goal.loop-lane-preserved

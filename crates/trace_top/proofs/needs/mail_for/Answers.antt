@@ -6,7 +6,8 @@ use Rattle.std.proofs.lemmas.Nat.{div-mul-add, mod-mul-add, mul-add-lt}
 use Rattle.pool_law.specs.declared.command.Command.{Command}
 use Rattle.lane_core.specs.Lanes.{left_for_all}
 use Rattle.trace_top.specs.Needs.{sent}
-use Rattle.trace_top.proofs.Places.{log_read, pushed_before, pushed_last}
+use Rattle.work_table.proofs.Places.{pushed_before, pushed_last}
+use Rattle.trace_top.proofs.Places.{log_read}
 use Rattle.trace_top.proofs.needs.mail_for.Goals as goal
 
 some_lane : (n k : ℕ) → n < k * k → 0 < k

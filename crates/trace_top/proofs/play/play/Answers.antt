@@ -14,7 +14,7 @@ use Rattle.lane_core.specs.Lanes.{Heeds, number_of}
 use Rattle.lane_core.specs.Played.{IsHeeded, IsRunOf}
 use Rattle.trace_top.specs.Needs.{AreSent, HasRoomFor}
 use Rattle.trace_top.specs.Standing.{AllFinished, AllRun, AreReady}
-use Rattle.trace_top.proofs.Places.{all_at}
+use Rattle.work_table.proofs.Places.{all_at}
 use Rattle.trace_top.proofs.Runs.{all_heed, are_finished, ready, same_commands, short_for}
 use Rattle.trace_top.proofs.Tables.{numbered}
 use Rattle.trace_top.proofs.play.play.Goals as goal

@@ -1,9 +1,0 @@
-use Rattle.std.proofs.Common.{◌≡◌}
-use Rattle.trace_top.proofs.worker.bring_back.Given as goal
-
-abbrev pub invariant-loop : goal.invariant-loop
-invariant-loop g l =
-    (goal.iterator-loop g).can_next l.iterator' × (goal.iterator-loop g).is_finite l.iterator'
-    × (l.lane ≡ l.initial.lane)
-    × (l.share.parts ≡ 1)
-    × (l.share.amount ≡ 1)
