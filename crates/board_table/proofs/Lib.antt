@@ -1,0 +1,10 @@
+pub mod Stakes
+pub mod Totals
+pub mod Changes
+pub mod CountSteps
+pub mod Claimed
+pub mod Ended
+pub mod Seatings
+pub mod Openings
+pub mod Closings
+pub mod Calls

@@ -1,0 +1,10 @@
+pub mod Names
+pub mod Views
+pub mod Sound
+pub mod Steps
+pub mod Seats
+pub mod Releases
+pub mod Homing
+pub mod Sections
+pub mod Openings
+pub mod Closed
