@@ -1,0 +1,11 @@
+pub mod HandsOnly
+pub mod EndSteps
+pub mod PartReleases
+pub mod CoreLaws
+pub mod Components
+pub mod ReleaseSteps
+pub mod Gets
+pub mod GetSteps
+pub mod ReadSteps
+pub mod Boxes
+pub mod BoardCalls
