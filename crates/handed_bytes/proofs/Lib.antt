@@ -1,0 +1,3 @@
+pub mod PlaceSpans
+pub mod HandedLaw
+pub mod PieceLaws
