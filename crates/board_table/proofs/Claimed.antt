@@ -217,8 +217,15 @@ module _ {H T : Type 0} (stands : T → ℕ → H → Type 0) (left : H → ℕ)
               is = refl;
               fits = suits x (turns_left s.views) (record { stands_for = h.2; reserved = h.3 });
               own = sum_at (λ (u : BoardView). u.turns) s.views id v at;
-              was_free =
-                  record { moment = s; sound = tells s r; seat = id; view = at; free = z; number = refl };
+              was_free = record {
+                moment = s;
+                sound = tells s r;
+                seat = id;
+                view = at;
+                free = z;
+                number = refl;
+                home_is = h.1;
+              };
             }),
             (λ e. absurd (omega (arith, even, e))),
           ),

@@ -27,7 +27,7 @@ module _ {H : Type 0} where
       pub home : StandsFor k turns section.home
       -- its own turns are some of them
       pub own : (view_of old).turns ≤ turns
-      pub was_free : WasFree (IsSound stands left o) k number (view_of old)
+      pub was_free : WasFree (IsSound stands left o) k number section.home (view_of old)
 
     -- a view is in the section of composite k, which may end: the home value stands for the composite, and
     -- has turns for all but this one

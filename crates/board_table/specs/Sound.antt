@@ -108,16 +108,17 @@ pub record WasHeld
   pub number : section.number ≡ n
 
 -- at one moment, on this board, a seat had the view v while no view was in the section of composite k,
--- after n sections
+-- after n sections, and its core was at home, as home tells
 pub record WasFree
-    {H : Type 0} (holds : State (Option H) BoardView → Type 0) (k n : ℕ) (v : BoardView) :
-    Type 0 where
+    {H : Type 0} (holds : State (Option H) BoardView → Type 0) (k n : ℕ) (home : H)
+    (v : BoardView) : Type 0 where
   pub moment : State (Option H) BoardView
   pub sound : holds moment
   pub seat : ℕ
   pub view : get_elem? moment.views seat ≡ some v
   pub free : inside_total k moment.views ≡ 0
   pub number : (total k moment.views).sections ≡ n
+  pub home_is : get_elem? moment.homes k ≡ some (some (Some home))
 
 -- at one moment, on this board, a seat had the view v while the count word of composite k was n
 pub record WasCounted

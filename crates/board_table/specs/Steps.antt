@@ -23,7 +23,7 @@ module _ {H : Type 0} where
     pub is : after ≡ (entered k number turns me.0, (k, Some home) ∷ me.1)
     pub fits : Fits home turns
     pub own : me.0.turns ≤ turns
-    pub was_free : WasFree holds k number me.0
+    pub was_free : WasFree holds k number home me.0
 
   abbrev pub claims :
       (State (Option H) BoardView → Type 0) → (H → ℕ → Type 0) → ℕ → Told H
