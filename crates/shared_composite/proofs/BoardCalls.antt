@@ -132,9 +132,11 @@ module _ (board : Board) (k : ℕ) (old new : TableSeat Home) (section : Section
       → was.seat ≡ old → InSection board pool was seat k got.number (core_of section) after
   made_section pool is then composite after same core kept view seat was e f =
       record {
+        home = section.home;
+        home_is = refl;
         was_free =
             subst (λ (s : TableSeat Home). WasFree (IsSound HomeStands home_turns (table.opening_of board.table)) k
-            got.number (table.view_of s)) (sym f) got.was_free;
+            got.number section.home (table.view_of s)) (sym f) got.was_free;
         before_is = before_is;
         after_is = after_is pool is after core kept;
         kept = kept;

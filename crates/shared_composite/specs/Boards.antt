@@ -1,5 +1,5 @@
 -- What a contract says of a board and its seats.
-use Rattle.std.specs.Prelude.{◌≡◌, ℕ, ◌+◌, ◌<◌, ◌≤◌, List, [], length, Option, Some, None, All, slice_get, filter_map}
+use Rattle.std.specs.Prelude.{◌≡◌, ℕ, ◌+◌, ◌<◌, ◌≤◌, List, [], length, Option, Some, None, All, slice_get, filter_map, box_value}
 use Rattle.pool_law.specs.declared.id.Part.{Part}
 use Rattle.pool_law.specs.declared.note.Held.{Held}
 use Rattle.shared_pool.specs.declared.pool.SharedPool.{SharedPool}
@@ -15,6 +15,7 @@ use Rattle.shared_composite.specs.declared.board.BoardSeat.{BoardSeat}
 use Rattle.shared_composite.specs.declared.busy.Busy.{Busy}
 use Rattle.shared_composite.specs.declared.busy.Busy.TheVariants as busy
 use Rattle.shared_composite.specs.declared.cores.Core.{Core}
+use Rattle.shared_composite.specs.declared.home.Home.{Home}
 use Rattle.shared_composite.specs.declared.home.Origin.{Origin}
 use Rattle.shared_composite.specs.Cores.{IsCore, IsKept, turns_of}
 use Rattle.shared_composite.specs.Homes.{CoreStands, HomeStands, home_turns}
@@ -74,14 +75,17 @@ abbrev pub IsReleasedOn : Board → Let → ℕ → BoardView → BoardView → 
 IsReleasedOn board result k v w =
     IsReleased (IsSound HomeStands home_turns (table.opening_of board.table)) result k v w
 
--- a section of composite k, which began after so many while nobody was in one: the core was at home, and
--- then further on by gets alone
+-- a section of composite k, which began after so many while nobody was in one: at that moment the core
+-- was at home as `before` tells, and then it was further on by gets alone
 pub record InSection
     (board : Board) (pool : SharedPool) (old new : BoardSeat) (k number : ℕ)
     (before after : Core) : Type 0
   where
+    pub home : Home
+    pub home_is : box_value home.core ≡ before
     pub was_free :
-        WasFree (IsSound HomeStands home_turns (table.opening_of board.table)) k number (view_of old)
+        WasFree (IsSound HomeStands home_turns (table.opening_of board.table)) k number home
+        (view_of old)
     pub before_is : IsAtHome board k before
     pub after_is : IsAtHome board k after
     pub kept : IsKept before after

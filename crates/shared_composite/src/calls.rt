@@ -56,8 +56,7 @@ impl Board {
         ensures own { IsSeatOf self.now seat.new }
         ensures joined { HasView seat.new (joined (view_of seat.old) (view_of other)) }
     {
-        let BoardSeat { seat: other } = other;
-        self.table.join(&mut seat.seat, other);
+        self.table.join(&mut seat.seat, other.into_seat());
     }
 
     /// One count less of a composite that the seat counts. The release that finds one count left ends

@@ -24,8 +24,7 @@ impl Board {
             slots,
             mut cores,
         } = self;
-        let BoardSeat { seat } = seat;
-        let slots = table.close(seat, slots);
+        let slots = table.close(seat.into_seat(), slots);
         unboxed(slots, &mut cores);
         cores
     }

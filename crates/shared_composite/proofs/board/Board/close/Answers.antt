@@ -1,6 +1,9 @@
-use Rattle.std.proofs.Common.{◌++◌, length, arith, ap, ◌∙◌}
+use Rattle.std.proofs.Common.{◌++◌, length, arith, ap, ◌∙◌, subst}
+use Rattle.board_table.specs.declared.table.BoardSeat.{BoardSeat as TableSeat}
+use Rattle.board_table.specs.Seats as table
+use Rattle.shared_composite.specs.declared.home.Home.{Home}
 use Rattle.shared_composite.specs.Homes.{cores_in}
-use Rattle.shared_composite.specs.Boards.{view_of}
+use Rattle.shared_composite.specs.Boards.{AreLeft}
 use Rattle.shared_composite.proofs.BoardCalls.{few_cores, closes_left}
 use Rattle.shared_composite.proofs.board.Board.close.Goals as goal
 
@@ -12,6 +15,7 @@ unboxed-requires c =
 
 pub returns : goal.returns
 returns c =
-    let slots = c.close-slots.result.items in
-    closes_left c.args.self (view_of c.args.seat) slots c.unboxed.new.cores.items c.close-slots.ensures
-    (c.unboxed.ensures ∙ ap (λ l. l ++ cores_in slots) c.args.self.room_for_cores.0)
+    let slots = c.close-slots.result.items in let cores = c.unboxed.new.cores.items in
+    subst (λ (s : TableSeat Home). AreLeft c.args.self (table.view_of s) cores) c.into_seat.ensures
+    (closes_left c.args.self (table.view_of c.into_seat.result) slots cores c.close-slots.ensures
+    (c.unboxed.ensures ∙ ap (λ l. l ++ cores_in slots) c.args.self.room_for_cores.0))
