@@ -1,0 +1,5 @@
+pub mod ToldLaws
+pub mod ListParts
+pub mod QuietLaws
+pub mod TakeLaws
+pub mod WorkerLaws

@@ -1,0 +1,4 @@
+pub mod Hashes
+pub mod Told
+pub mod Takes
+pub mod Standing

@@ -1,0 +1,16 @@
+#![tactic(auto)]
+//! Workers that hash frames where they lie. A worker has a seat of a pool and the end of a queue: it
+//! gets the numbers of frames and of their slices through the queue, and the slices themselves as
+//! parcels to its lane. It hashes each slice inside the pool, lets it go, and tells of each frame its
+//! number, its length and its SHA-256 digest.
+
+mod hashes;
+mod hashing;
+mod shop;
+mod turns;
+mod worker;
+
+pub use hashes::{FrameHash, HashOf};
+pub use shop::Shop;
+pub use turns::RELEASE_TURNS;
+pub use worker::{Hashing, Work, Worker};
