@@ -71,7 +71,7 @@ module _ (logs : Logs) (order : InOneOrder logs) where
       ))
 
   -- of two writes to one root behind births neither comes before the other
-  apart : (lane : ℕ) (root : RootId) (m n : ℕ) (first second : List ℕ) → WritesBehindBirths logs lane
+  pub apart : (lane : ℕ) (root : RootId) (m n : ℕ) (first second : List ℕ) → WritesBehindBirths logs lane
       → (v : Accesses logs lane root (Set m first)) (w : Accesses logs lane root (Set n second)) → v.at < w.at → ⊥
   apart lane root m n first second behind v w less =
       let a = behind.births root m first v in
@@ -80,15 +80,16 @@ module _ (logs : Logs) (order : InOneOrder logs) where
       (omega (arith, a.earlier, b.last v.at v.number m root first less v.stands))
 
   -- two writes at one place of a log are one
-  one-number : (lane : ℕ) (root : RootId) (m n : ℕ) (first second : List ℕ) (v : Accesses logs lane root (Set m first))
-      (w : Accesses logs lane root (Set n second)) → v.at ≡ w.at → v.number ≡ w.number
+  pub one-number : (lane : ℕ) (root : RootId) (m n : ℕ) (first second : List ℕ)
+      (v : Accesses logs lane root (Set m first)) (w : Accesses logs lane root (Set n second)) → v.at ≡ w.at
+      → v.number ≡ w.number
   one-number lane root m n first second v w same =
       let notes : ◌≡◌ {A = Option Note} (Some (at_root root v.number (Set m first))) (Some (at_root root w.number
       (Set n second))) =
       sym v.stands ∙ ap (slice_get (of_lane logs lane)) same ∙ w.stands in
       cc notes
 
-  pub once-is : WritesEachOnce logs
+  abbrev pub once-is : WritesEachOnce logs
   once-is lane root bytes behind write = record { write = write; only = only }
     where
       only : (other offset : ℕ) (more : List ℕ) (a : Accesses logs other root (Set offset more))
