@@ -1,0 +1,11 @@
+pub mod Necessary
+pub mod KeyLemmas
+pub mod TallyLemmas
+pub mod PlayLemmas
+pub mod GraphLemmas
+pub mod SpotLemmas
+pub mod MoveLemmas
+pub mod WaitLemmas
+pub mod FillLemmas
+pub mod StageLemmas
+pub mod LinkLemmas

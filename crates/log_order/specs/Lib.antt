@@ -1,0 +1,10 @@
+pub mod Keying
+pub mod Spots
+pub mod Precedence
+pub mod Playing
+pub mod Tallying
+pub mod Graphs
+pub mod Judging
+pub mod Staging
+pub mod Indexing
+pub mod Filling
