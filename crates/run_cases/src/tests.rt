@@ -1,6 +1,7 @@
 //! The parts of which the runs are made.
 
 mod composites;
+mod handed_over;
 mod kept;
 mod leaks;
 mod mails;
@@ -10,6 +11,7 @@ mod stops;
 mod sweeps;
 mod two_lanes;
 
+use play_check::{Played, check_played};
 use pool_law::list::{CommandList, Items};
 use pool_law::{
     Answered, Bytes, ChunkEnd, Did, LaneLog, Leak, Level, ListName, Note, Object, Place, RefDid,
@@ -206,6 +208,11 @@ fn run_of(alloc: Global, parts: Parts) -> Result<Run, AllocError> {
         chunks: Items::of(chunks),
         leaks: Items::of(parts.leaks),
     })
+}
+
+// Whether a run is legal, and its notes are in one order.
+fn is_played(alloc: Global, run: &Run) -> Result<bool, AllocError> {
+    Ok(matches!(check_played(alloc, run)?, Played::Ordered(_)))
 }
 
 // The log of a lane.

@@ -1,8 +1,8 @@
 //! A composite of two roots, which sets and gets the bytes of both and releases them at its end.
 
 use crate::tests::{
-    Birth, CACHE, ELEMENT, Parts, answered, at, log_of, placed, push_birth, push_closing, push_end,
-    region, root, run_of, shape,
+    Birth, CACHE, ELEMENT, Parts, answered, at, is_played, log_of, placed, push_birth,
+    push_closing, push_end, region, root, run_of, shape,
 };
 use pool_law::list::{Bytes, Items};
 use pool_law::{Answered, Command, Did, Note, Object, Reply, Run};
@@ -223,7 +223,7 @@ fn made(alloc: Global, change: Change) -> Result<Run, AllocError> {
 #[test]
 fn a_composite_goes_part_by_part(rt: HostRuntime) -> Result<(), Fail> {
     let alloc = rt.alloc();
-    assert!(rt; check_run(alloc, &made(alloc, Change::Nothing)?)?);
+    assert!(rt; is_played(alloc, &made(alloc, Change::Nothing)?)?);
     let changes = [
         Change::Longer,
         Change::SetBackwards,

@@ -2,8 +2,8 @@
 
 use crate::tests::two_lanes::{MAIL, sent};
 use crate::tests::{
-    Birth, CACHE, Parts, answered, at, log_of, placed, push_birth, push_closing, push_end, region,
-    root, run_of, shape,
+    Birth, CACHE, Parts, answered, at, is_played, log_of, placed, push_birth, push_closing,
+    push_end, region, root, run_of, shape,
 };
 use pool_law::list::{CommandList, Items};
 use pool_law::{Command, Did, LaneLog, Parcel, Reply, Run};
@@ -95,7 +95,9 @@ fn posts_and_fetches_are_numbered_apart(rt: HostRuntime) -> Result<(), Fail> {
         (((2, 1), (1, 2)), false, "the posts are out of order"),
     ];
     for (numbers, legal, which) in rows {
-        assert_eq!(rt; check_run(alloc, &made(alloc, numbers)?)?, legal, "{which}");
+        let run = made(alloc, numbers)?;
+        assert_eq!(rt; check_run(alloc, &run)?, legal, "{which}");
+        assert_eq!(rt; is_played(alloc, &run)?, legal, "{which}");
     }
     Ok(())
 }

@@ -1,8 +1,8 @@
 //! The run of one root in a pool whose pages have 4,096 bytes.
 
 use crate::tests::{
-    Birth, CACHE, Parts, answered, at, log_of, placed, push_birth, push_closing, push_end, region,
-    root, run_of, shape,
+    Birth, CACHE, Parts, answered, at, is_played, log_of, placed, push_birth, push_closing,
+    push_end, region, root, run_of, shape,
 };
 use pool_law::list::Items;
 use pool_law::{Answered, Command, Did, Note, Reply, Run, Shape};
@@ -76,7 +76,7 @@ fn made(alloc: Global, run: Small) -> Result<Run, AllocError> {
 #[test]
 fn a_run_in_small_pages_is_legal(rt: HostRuntime) -> Result<(), Fail> {
     let alloc = rt.alloc();
-    assert!(rt; check_run(alloc, &made(alloc, RIGHT)?)?);
+    assert!(rt; is_played(alloc, &made(alloc, RIGHT)?)?);
     Ok(())
 }
 

@@ -1,8 +1,8 @@
 //! The run of one root, from its birth to its end, in a pool of one lane.
 
 use crate::tests::{
-    Birth, CACHE, ELEMENT, Parts, answered, at, log_of, placed, push_birth, push_closing, push_end,
-    region, root, run_of, shape, word,
+    Birth, CACHE, ELEMENT, Parts, answered, at, is_played, log_of, placed, push_birth,
+    push_closing, push_end, region, root, run_of, shape, word,
 };
 use pool_law::list::{CommandList, Items};
 use pool_law::{Answered, Command, Did, Note, Object, Reply, RootId, Run};
@@ -193,7 +193,7 @@ fn changed(change: Change) -> Smallest {
 
 #[test]
 fn the_smallest_run_is_legal(rt: HostRuntime) -> Result<(), Fail> {
-    assert!(rt; is_legal(rt.alloc(), &right())?);
+    assert!(rt; is_played(rt.alloc(), &made(rt.alloc(), &right())?)?);
     Ok(())
 }
 

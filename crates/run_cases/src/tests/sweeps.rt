@@ -1,6 +1,8 @@
 //! A lane of so many allocations that it sweeps its caches.
 
-use crate::tests::{CACHE, CAPACITY, Parts, answered, at, log_of, placed, region, run_of, shape};
+use crate::tests::{
+    CACHE, CAPACITY, Parts, answered, at, is_played, log_of, placed, region, run_of, shape,
+};
 use pool_law::list::Items;
 use pool_law::{Answered, Command, Did, Note, Object, RefDid, RegionId, Reply, RootId, Run};
 use run_check::check_run;
@@ -195,7 +197,7 @@ fn made(alloc: Global, sweep: Sweep) -> Result<Run, AllocError> {
 #[test]
 fn a_lane_sweeps_behind_its_allocation_8192(rt: HostRuntime) -> Result<(), Fail> {
     let alloc = rt.alloc();
-    assert!(rt; check_run(alloc, &made(alloc, RIGHT)?)?);
+    assert!(rt; is_played(alloc, &made(alloc, RIGHT)?)?);
     let changes = [
         Sweep {
             behind: LAST_BEFORE_SWEEP - 1,

@@ -1,8 +1,8 @@
 //! A root that one lane sends to another, which releases it into the first one's cache.
 
 use crate::tests::{
-    Birth, CACHE, ELEMENT, Parts, answered, at, log_of, placed, push_birth, push_closing, push_end,
-    region, root, run_of, shape,
+    Birth, CACHE, ELEMENT, Parts, answered, at, is_played, log_of, placed, push_birth,
+    push_closing, push_end, region, root, run_of, shape,
 };
 use pool_law::list::{CommandList, Items};
 use pool_law::{
@@ -130,7 +130,12 @@ fn is_legal(alloc: Global, offset: u32, taking: u64, number: u64) -> Result<bool
 #[test]
 fn a_mark_stands_before_a_note_of_another_lane(rt: HostRuntime) -> Result<(), Fail> {
     let alloc = rt.alloc();
-    assert!(rt; is_legal(alloc, ELEMENT, 2, 1)?);
+    let right = Second {
+        offset: ELEMENT,
+        taking: 2,
+        number: 1,
+    };
+    assert!(rt; is_played(alloc, &made(alloc, right)?)?);
     assert!(rt; !is_legal(alloc, ELEMENT, 2, 0)?);
     assert!(rt; !is_legal(alloc, ELEMENT, 2, 2)?);
     Ok(())

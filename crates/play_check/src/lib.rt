@@ -1,0 +1,40 @@
+#![tactic(auto)]
+//! Whether a run is one that the pool can make, and all its notes stand in one order.
+
+ghost use Rattle.std.specs.Prelude.{IfOk};
+ghost use Rattle.play_check.specs.Judging.{Judges};
+
+use log_order::{Spot, Told, order_of_logs};
+use pool_law::Run;
+use run_check::check_run;
+use std::alloc::{AllocError, Global};
+
+/// What is said of a run.
+#[derive(Drop)]
+pub enum Played {
+    /// It isn't legal.
+    Illegal,
+    /// It is legal, and its notes are in one order: this.
+    Ordered(Vec<Spot>),
+    /// It is legal, and its notes are in no order: each of these must stand before the next, and the
+    /// last before the first.
+    Circle(Vec<Spot>),
+    /// It is legal, and no notes go in a circle, but behind these no lane can go on. So it is where a lane
+    /// looks up a count of a root that these do not leave; others, or these in another order, may.
+    Stuck(Vec<Spot>),
+}
+
+/// Whether the pool can make a run, and one thread could make its notes, one after another in one
+/// order: an order, or a circle of notes of which each must stand before the next.
+pub fn check_played(alloc: Global, run: &Run) -> Result<Played, AllocError>
+    ensures { IfOk result (λ played. Judges run.now played) }
+{
+    if !check_run(alloc, run)? {
+        return Ok(Played::Illegal);
+    }
+    match order_of_logs(alloc, run.logs.items())? {
+        Told::Ordered(order) => Ok(Played::Ordered(order)),
+        Told::Circle(circle) => Ok(Played::Circle(circle)),
+        Told::Stuck(order) => Ok(Played::Stuck(order)),
+    }
+}
