@@ -1,0 +1,179 @@
+-- A thread of a pool, once a call has changed its seat and its account.
+use Rattle.std.proofs.Common.{◌≡◌, ℕ, ◌+◌, ◌-◌, ◌^◌, ◌<◌, ◌≤◌, Bool, true, false, [], ◌∷◌, length, Some, sym, ap, ◌∙◌, subst, arith}
+use Rattle.std.specs.Prelude.{if◌then◌else◌, slice_get}
+use Rattle.pool_law.specs.declared.id.RootId.{RootId}
+use Rattle.pool_table.specs.Counts.{gained_of, lost_of, HasCount}
+use Rattle.pool_table.specs.Letters.{received_on, sent_on}
+use Rattle.shared_pool.specs.declared.pool.SharedPool.{SharedPool}
+use Rattle.shared_pool.specs.declared.seat.PoolSeat.{PoolSeat}
+use Rattle.shared_pool.specs.SeatViews.{view_of}
+use Rattle.shared_pool.specs.Seats.{IsPoolSeat}
+use Rattle.pool_law.proofs.PatternLemmas.{same_root-refl}
+use Rattle.pool_law.specs.Same.{same_root}
+use Rattle.seat_work.specs.Changes.{Change, Changes, one_for, times}
+use Rattle.seat_work.specs.Hands.{empty_hand}
+use Rattle.seat_work.specs.Works.{Works, Goes}
+use Rattle.buffer_pool.specs.declared.account.Account.{Account}
+use Rattle.buffer_pool.specs.declared.member.Member.{Member}
+use Rattle.buffer_pool.specs.Counting.{counted}
+use Rattle.buffer_pool.specs.Threads.{Does, HasChanged, IsThread}
+use Rattle.buffer_pool.proofs.Letters.{KeepsLetters}
+
+-- the account took so many turns, and counts what changed, each count for a turn at least
+pub record Spends (c : Change) (cost : ℕ) (a b : Account) : Type 0 where
+  pub lane : b.lane ≡ a.lane
+  pub turns : b.turns + cost ≡ a.turns
+  pub counts : (root : RootId) → counted b.counts root + times root c.gone ≡ counted a.counts root + times root c.got
+  pub few : (root : RootId) → times root c.got ≤ cost
+  pub places : length b.counts ≡ length a.counts
+
+-- ---- What accounts spend.
+
+one_most : (b : Bool) → (if b then 1 else 0) ≤ 1
+one_most true = omega arith
+one_most false = omega arith
+
+pub times_one : (root other : RootId) → times other (root ∷ []) ≡ one_for root other
+times_one root other = omega arith
+
+pub one_self : (root : RootId) → one_for root root ≡ 1
+one_self root = ap (λ (b : Bool). if b then 1 else 0) (same_root-refl root)
+
+module _ (c : Change) (cost : ℕ) (a b : Account) (lane : b.lane ≡ a.lane) (turns : b.turns + cost ≡ a.turns)
+    (places : length b.counts ≡ length a.counts) where
+  -- a root is counted once more
+  pub spends_more : (root : RootId) → 0 < cost → ((other : RootId) → times other c.got ≡ one_for root other)
+      → ((other : RootId) → times other c.gone ≡ 0)
+      → ((other : RootId) → counted b.counts other ≡ counted a.counts other + one_for root other) → Spends c cost a b
+  spends_more root some got gone counts = record {
+    lane = lane;
+    turns = turns;
+    counts = λ other. (let p = counts other in let q = got other in let r = gone other in omega (arith, p, q, r));
+    few = λ other. (let p = one_most (same_root root other) in let q = got other in omega (arith, p, q, some));
+    places = places;
+  }
+
+  -- it is counted once less
+  pub spends_less : (root : RootId) → ((other : RootId) → times other c.got ≡ 0)
+      → ((other : RootId) → times other c.gone ≡ one_for root other)
+      → ((other : RootId) → counted b.counts other + one_for root other ≡ counted a.counts other) → Spends c cost a b
+  spends_less root got gone counts = record {
+    lane = lane;
+    turns = turns;
+    counts = λ other. (let p = counts other in let q = got other in let r = gone other in omega (arith, p, q, r));
+    few = λ other. (let q = got other in omega (arith, q));
+    places = places;
+  }
+
+  -- all counts are as they were
+  pub spends_none : ((other : RootId) → times other c.got ≡ 0) → ((other : RootId) → times other c.gone ≡ 0)
+      → b.counts ≡ a.counts → Spends c cost a b
+  spends_none got gone same = record {
+    lane = lane;
+    turns = turns;
+    counts =
+        λ other.
+        (let p = ap (λ cs. counted cs other) same in let q = got other in let r = gone other in omega (arith, p, q, r));
+    few = λ other. (let q = got other in omega (arith, q));
+    places = places;
+  }
+
+-- ---- What threads keep.
+
+module _ (pool : SharedPool) (c : Change) (t m cost : ℕ) (old new : Member) (is : IsThread pool old)
+    (goes : Goes pool empty_hand t m old.seat new.seat) (changes : Changes c (view_of old.seat) (view_of new.seat))
+    (spends : Spends c cost old.account new.account) where
+  abbrev a : Account
+  a = old.account
+
+  abbrev b : Account
+  b = new.account
+
+  changed : HasChanged cost c old new
+  changed = record { number = spends.lane; spent = spends.turns; counts = spends.counts; notes = changes }
+
+  still_counts : (root : RootId) →
+      counted b.counts root + lost_of root (view_of new.seat) ≡ gained_of root (view_of new.seat)
+  still_counts root =
+      let p = is.counts root in let q = spends.counts root in let r = changes.counts root in omega (arith, p, q, r)
+
+  module _ (enough : t ≤ cost) (moves : b.moves ≤ (view_of new.seat).moves) where
+    thread : ((to : ℕ) → sent_on a.lane to (view_of new.seat).own.notes
+        ≤ cost + sent_on a.lane to (view_of old.seat).own.notes)
+        → ((from : ℕ) → from < pool.table.layout.shape.lanes →
+        slice_get b.received.items from ≡ Some (received_on from a.lane (view_of new.seat).own.notes))
+        → IsThread pool new
+    thread sent received = record {
+      works = record {
+        seat = goes.seat;
+        held = goes.held;
+        paid = goes.paid;
+        turns_left =
+            (let p = is.works.turns_left in let q = goes.turns_left in let r = spends.turns in
+            omega (arith, p, q, r, enough));
+        moves_left = moves;
+      };
+      number = goes.number ∙ is.number ∙ ap (λ (n : ℕ). Some n) (sym spends.lane);
+      counts = still_counts;
+      places = spends.places ∙ is.places;
+      few =
+          λ root.
+          (let p = is.few root in let q = spends.counts root in let r = spends.few root in let u = spends.turns in
+          omega (arith, p, q, r, u));
+      sent =
+          λ to.
+          subst (λ (lane : ℕ). sent_on lane to (view_of new.seat).own.notes + b.turns ≤ 2 ^ 62) (sym spends.lane)
+          (let p = is.sent to in let q = sent to in let r = spends.turns in omega (arith, p, q, r));
+      received =
+          λ from lt.
+          subst (λ (lane : ℕ). slice_get b.received.items from
+          ≡ Some (received_on from lane (view_of new.seat).own.notes)) (sym spends.lane) (received from lt);
+    }
+
+    -- whatever letters it sent and received
+    pub kept_by : ((to : ℕ) → sent_on a.lane to (view_of new.seat).own.notes
+        ≤ cost + sent_on a.lane to (view_of old.seat).own.notes)
+        → ((from : ℕ) → from < pool.table.layout.shape.lanes →
+        slice_get b.received.items from ≡ Some (received_on from a.lane (view_of new.seat).own.notes))
+        → Does pool cost c old new
+    kept_by sent received = record { changed = changed; thread = thread sent received }
+
+    -- where there were none
+    pub kept_on : KeepsLetters old.seat new.seat → b.received ≡ a.received → Does pool cost c old new
+    kept_on letters same =
+        kept_by (λ to. (let p = letters.sent a.lane to in omega (arith, p)))
+        (λ from lt.
+        ap (λ v. slice_get v.items from) same ∙ is.received from lt
+        ∙ ap (λ (n : ℕ). Some n) (sym (letters.received from a.lane)))
+
+module _ (pool : SharedPool) (m : Member) (is : IsThread pool m) where
+  -- it may work for less than it has left
+  pub may_work : (t n : ℕ) → t ≤ m.account.turns → n ≤ m.account.moves → Works pool empty_hand t n m.seat
+  may_work t n le lf = record {
+    seat = is.works.seat;
+    held = is.works.held;
+    paid = is.works.paid;
+    turns_left = (let a = is.works.turns_left in omega (arith, a, le));
+    moves_left = (let a = is.works.moves_left in omega (arith, a, lf));
+  }
+
+  -- a root is counted exactly where the account says so
+  pub has_count : (root : RootId) → 0 < counted m.account.counts root → HasCount root (view_of m.seat)
+  has_count root lt = let a = is.counts root in omega (arith, a, lt)
+
+  pub counts_it : (root : RootId) → HasCount root (view_of m.seat) → 0 < counted m.account.counts root
+  counts_it root has = let a = is.counts root in omega (arith, a, has)
+
+  -- a root that the seat counts then is the only one of its place that the account has
+  pub alone_at : (root : RootId) (c : Change) (new : PoolSeat) → IsPoolSeat pool new
+      → Changes c (view_of m.seat) (view_of new) → ((other : RootId) → times other c.gone ≡ 0)
+      → HasCount root (view_of new) → (other : RootId) → other.place ≡ root.place
+      → 0 < counted m.account.counts other → other ≡ root
+  alone_at root c new seat changes none has other at lt =
+      let still : HasCount other (view_of new) =
+      (let p = changes.counts other in let q = has_count other lt in let r = none other in omega (arith, p, q, r)) in
+      seat.counts.one other root still has at
+
+  -- it can be counted once more
+  pub few_of : (root : RootId) → counted m.account.counts root < 2 ^ 64 - 1
+  few_of root = let a = is.few root in omega (arith, a)

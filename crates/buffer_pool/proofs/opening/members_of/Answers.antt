@@ -1,0 +1,35 @@
+use Rattle.std.proofs.Common.{◌<◌, List, length, sym, subst, arith}
+use Rattle.std.specs.Prelude.{All}
+use Rattle.shared_pool.specs.declared.seat.PoolSeat.{PoolSeat}
+use Rattle.buffer_pool.specs.declared.account.Account.{Account}
+use Rattle.buffer_pool.specs.declared.member.Member.{Member}
+use Rattle.buffer_pool.specs.Opening.{ArePaired}
+use Rattle.buffer_pool.specs.Threads.{IsThread}
+use Rattle.buffer_pool.proofs.Lists.{all_pushed}
+use Rattle.buffer_pool.proofs.Opened.{paired_first, paired_rest}
+use Rattle.buffer_pool.proofs.opening.members_of.Goals as goal
+
+pub loop-made-preserved : goal.loop-made-preserved
+loop-made-preserved c =
+    let pool = c.args.pool.now in let inv = c.loop-made.invariant in let accounts = c.loop-made.accounts.items in
+    let seats = c.loop-made.seats.items in
+    let first_a = c.remove-account.ensures.items in let first_s = c.remove-seat.ensures.items in
+    let some : 0 < length seats = omega (arith, inv.left, c.loop-made-test.true) in
+    let new : Member = record {
+      seat = c.remove-seat.result;
+      account = c.remove-account.result;
+      watcher = c.new-watcher.result;
+    } in
+    record {
+      paired =
+          subst (λ (x : List Account × List PoolSeat). ArePaired pool x.0 x.1)
+          (λ i. (sym first_a i, sym first_s i)) (paired_rest pool accounts seats inv.paired);
+      left = omega arith;
+      made = omega arith;
+      room = omega arith;
+      members =
+          subst (All (IsThread pool)) (sym c.push_reserved.ensures.items)
+          (all_pushed (IsThread pool) c.loop-made.members.items new inv.members
+          (paired_first pool accounts seats inv.paired some new.account new.seat c.remove-account.ensures.value
+          c.remove-seat.ensures.value));
+    }

@@ -1,0 +1,81 @@
+use Rattle.std.proofs.Common.{◌≡◌, ℕ, ◌-◌, Option, Some, refl, sym, ap, subst, arith}
+use Rattle.std.specs.Prelude.{IfSome, slice_get}
+use Rattle.std.specs.Vec.{with_item}
+use Rattle.pool_law.specs.declared.id.Parcel.{Parcel}
+use Rattle.pool_law.specs.declared.id.ViewData.{ViewData}
+use Rattle.pool_table.specs.Counts.{HasCount}
+use Rattle.pool_table.specs.Letters.{received_on}
+use Rattle.pool_table.specs.declared.views.Letter.{Letter}
+use Rattle.shared_pool.specs.SeatViews.{view_of}
+use Rattle.seat_work.specs.Changes.{once_more}
+use Rattle.seat_work.specs.HandOvers.{fetched}
+use Rattle.seat_work.specs.Hands.{empty_hand}
+use Rattle.seat_work.specs.Works.{Proceeds}
+use Rattle.seat_work.proofs.HandedOver.{fetch_proceeds}
+use Rattle.buffer_pool.specs.declared.member.Member.{Member}
+use Rattle.buffer_pool.proofs.Keeping.{alone_at, kept_by, may_work, spends_more, times_one}
+use Rattle.buffer_pool.proofs.Passing.{lane_below, next_here, none_sent, received_now, to_here}
+use Rattle.buffer_pool.proofs.work.passing.accept.Goals as goal
+
+pub receive-number-requires-clause-seat : goal.receive-number-requires-clause-seat
+receive-number-requires-clause-seat c = c.requires.thread.works.seat
+
+pub receive-number-requires-clause-to : goal.receive-number-requires-clause-to
+receive-number-requires-clause-to c =
+    to_here c.args.pool.now c.args.member.now c.requires.thread c.args.posted.letter c.requires.may
+    c.requires.parcel.sender
+
+pub receive-number-requires-clause-next : goal.receive-number-requires-clause-next
+receive-number-requires-clause-next c =
+    next_here c.args.pool.now c.args.member.now c.requires.thread c.args.posted.letter c.requires.may
+    c.requires.parcel.sender
+
+pub receive-number-requires-clause-own : goal.receive-number-requires-clause-own
+receive-number-requires-clause-own c =
+    c.requires.own c.args.posted.letter.from _ c.requires.parcel.sender
+    (lane_below c.args.pool.now c.args.member.now c.requires.thread)
+
+pub add-requires-clause-alone : goal.add-requires-clause-alone
+add-requires-clause-alone c =
+    let pool = c.args.pool.now in let old = c.args.member.now in let call = c.receive-number in
+    let is = c.requires.thread in let root = c.in-Some.at.root in let parcel : Parcel = call.result.1 in
+    let has : HasCount root (view_of call.new.seat) =
+    subst (λ (o : Option ViewData). IfSome o (λ w. HasCount w.root (view_of call.new.seat))) c.in-Some.is
+    call.ensures.counts in
+    let came : Proceeds pool empty_hand 0 0 (once_more root) old.seat call.new.seat =
+    subst (λ (o : Option ViewData). Proceeds pool empty_hand 0 0 (fetched (Some (record { view = o }))) old.seat
+    call.new.seat) c.in-Some.is
+    (fetch_proceeds pool old.seat call.new.seat call.ensures.seat call.result.0
+    (may_work pool old is 0 0 (omega arith) (omega arith)) c.args.posted.letter.from parcel call.ensures.received) in
+    alone_at pool old is root (once_more root) call.new.seat call.ensures.seat came.changes (λ other. refl) has
+
+pub returns-clause-does : goal.returns-clause-does
+returns-clause-does c =
+    let pool = c.args.pool.now in let old = c.args.member.now in let call = c.receive-number in
+    let is = c.requires.thread in let root = c.in-Some.at.root in let parcel : Parcel = call.result.1 in
+    let number = call.result.0 in let letter = c.args.posted.letter in let may = c.requires.may in
+    let sender = c.requires.parcel.sender in let le = may.turns in
+    let came : Proceeds pool empty_hand 0 0 (once_more root) old.seat call.new.seat =
+    subst (λ (o : Option ViewData). Proceeds pool empty_hand 0 0 (fetched (Some (record { view = o }))) old.seat
+    call.new.seat) c.in-Some.is
+    (fetch_proceeds pool old.seat call.new.seat call.ensures.seat number
+    (may_work pool old is 0 0 (omega arith) (omega arith)) letter.from parcel call.ensures.received) in
+    let new : Member = record old {
+      seat = call.new.seat;
+      account =
+          record old.account {
+            turns = old.account.turns - 1;
+            counts = c.add.new.self;
+            received = with_item old.account.received c.letter-from.result.from number;
+          };
+    } in
+    kept_by pool (once_more root) 0 0 1 old new is came.goes came.changes
+    (spends_more (once_more root) 1 old.account new.account refl (omega (arith, le)) c.add.ensures.places root
+    (omega arith) (times_one root) (λ other. refl) c.add.ensures.counts) (omega arith)
+    (let a = came.goes.moves_left in let b = is.works.moves_left in omega (arith, a, b))
+    (none_sent pool old is letter may sender call.new.seat number parcel call.ensures.received)
+    (λ f lt.
+    subst (λ (k : ℕ). slice_get (with_item old.account.received k number).items f
+    ≡ Some (received_on f old.account.lane (view_of call.new.seat).own.notes))
+    (sym (ap (λ (x : Letter). x.from) c.letter-from.ensures))
+    (received_now pool old is letter may sender call.new.seat number parcel call.ensures.received f lt))

@@ -1,0 +1,62 @@
+use Rattle.std.proofs.Common.{◌-◌, ◌<◌, Some, refl, sym, ap, subst, arith, ◌∙◌}
+use Rattle.std.specs.Prelude.{IsSome}
+use Rattle.pool_law.specs.declared.id.Parcel.{Parcel}
+use Rattle.pool_table.specs.declared.views.Letter.{Letter}
+use Rattle.seat_work.specs.HandOvers.{posted}
+use Rattle.seat_work.proofs.HandedOver.{post_changes, post_goes, post_sends}
+use Rattle.buffer_pool.specs.declared.member.Member.{Member}
+use Rattle.buffer_pool.proofs.Keeping.{has_count, kept_by, may_work, spends_less, times_one}
+use Rattle.buffer_pool.proofs.Passing.{few_to, one_sent, own_to, sender_below, still_received}
+use Rattle.buffer_pool.proofs.work.passing.part.Goals as goal
+
+pub send-posted-requires-clause-seat : goal.send-posted-requires-clause-seat
+send-posted-requires-clause-seat c = c.requires.thread.works.seat
+
+pub send-posted-requires-clause-own : goal.send-posted-requires-clause-own
+send-posted-requires-clause-own c =
+    own_to c.args.pool.now c.args.member.now c.requires.thread c.args.to c.requires.own c.requires.to
+
+pub send-posted-requires-clause-few : goal.send-posted-requires-clause-few
+send-posted-requires-clause-few c = few_to c.args.pool.now c.args.member.now c.requires.thread c.args.to
+    c.requires.turns
+
+pub send-posted-requires-clause-counts : goal.send-posted-requires-clause-counts
+send-posted-requires-clause-counts c =
+    has_count c.args.pool.now c.args.member.now c.requires.thread c.args.at.root c.requires.counts
+
+pub returns-clause-does : goal.returns-clause-does
+returns-clause-does c =
+    let pool = c.args.pool.now in let old = c.args.member.now in let call = c.send-posted in let is =
+    c.requires.thread in
+    let root = c.args.at.root in let parcel : Parcel = record { view = Some c.args.at } in let le = c.requires.turns in
+    let number = call.result.letter.number in
+    let new : Member = record old {
+      seat = call.new.seat;
+      account = record old.account { turns = old.account.turns - 1; counts = c.take.new.self };
+    } in
+    let works = may_work pool old is 0 0 (omega arith) (omega arith) in
+    let counts = has_count pool old is root c.requires.counts in
+    let goes =
+    post_goes pool old.seat new.seat call.ensures.seat number works c.args.to parcel counts call.ensures.posted in
+    kept_by pool (posted parcel) 0 0 1 old new is goes
+    (post_changes pool old.seat new.seat call.ensures.seat number works c.args.to parcel counts call.ensures.posted)
+    (spends_less (posted parcel) 1 old.account new.account refl (omega (arith, le)) c.take.ensures.places root
+    (λ other. refl) (times_one root) c.take.ensures.counts) (omega arith)
+    (let a = goes.moves_left in let b = is.works.moves_left in omega (arith, a, b))
+    (one_sent pool old is new.seat c.args.to number parcel call.ensures.posted
+    (post_sends pool old.seat new.seat call.ensures.seat number works c.args.to parcel counts call.ensures.posted))
+    (λ from lt.
+    is.received from lt
+    ∙ ap (λ n. Some n)
+    (sym (still_received pool old is new.seat c.args.to number parcel call.ensures.posted from)))
+
+pub returns-clause-parcel : goal.returns-clause-parcel
+returns-clause-parcel c =
+    let letter = c.send-posted.ensures.letter in
+    record {
+      table = letter.0;
+      sender =
+          subst (λ (x : Letter). x.from < c.args.pool.now.table.layout.shape.lanes) (sym letter.1)
+          (sender_below c.args.pool.now c.args.member.now c.requires.thread);
+      buffer = subst (λ (x : Letter). IsSome x.parcel.view) (sym letter.1) refl;
+    }

@@ -1,0 +1,73 @@
+-- What a thread of a pool is, and what its calls change.
+use Rattle.std.specs.Prelude.{◌≡◌, ℕ, ◌+◌, ◌*◌, ◌^◌, ◌<◌, ◌≤◌, Bool, true, false, if◌then◌else◌, nat_lt, length, Option, Some, slice_get}
+use Rattle.pool_law.specs.declared.id.RootId.{RootId}
+use Rattle.pool_law.specs.Limits.{geometry_of}
+use Rattle.size_classes.specs.Sizes.{Geometry}
+use Rattle.pool_table.specs.Counts.{gained_of, lost_of}
+use Rattle.pool_table.specs.Letters.{received_on, sent_on}
+use Rattle.shared_pool.specs.declared.pool.SharedPool.{SharedPool}
+use Rattle.shared_pool.specs.declared.seat.PoolSeat.{PoolSeat}
+use Rattle.shared_pool.specs.MailAnswers.{HasOwnChannel}
+use Rattle.shared_pool.specs.SeatViews.{view_of}
+use Rattle.seat_work.specs.Changes.{Change, Changes, times}
+use Rattle.seat_work.specs.Hands.{empty_hand}
+use Rattle.seat_work.specs.Works.{Works}
+use Rattle.buffer_pool.specs.declared.account.Account.{Account}
+use Rattle.buffer_pool.specs.declared.member.Member.{Member}
+use Rattle.buffer_pool.specs.Counting.{counted}
+
+-- the seat is one of the pool with nothing in hand, and the account is its own: so much is left at
+-- least, each root is counted so often, and so many letters came from each thread. No count and no
+-- number of letters passes 2^62, since each takes a turn
+pub record IsKept (pool : SharedPool) (a : Account) (s : PoolSeat) : Type 0 where
+  pub works : Works pool empty_hand a.turns a.moves s
+  pub number : (view_of s).own.number ≡ Some a.lane
+  pub counts : (root : RootId) →
+      counted a.counts root + lost_of root (view_of s) ≡ gained_of root (view_of s)
+  pub places : length a.counts
+      ≡ pool.table.layout.shape.lanes * pool.table.layout.shape.handles
+  pub few : (root : RootId) → counted a.counts root + a.turns ≤ 2 ^ 62
+  pub sent : (to : ℕ) → sent_on a.lane to (view_of s).own.notes + a.turns ≤ 2 ^ 62
+  pub received : (from : ℕ) → from < pool.table.layout.shape.lanes →
+      slice_get a.received.items from
+      ≡ Some (received_on from a.lane (view_of s).own.notes)
+
+-- it is a thread of the pool
+abbrev pub IsThread : SharedPool → Member → Type 0
+IsThread pool m = IsKept pool m.account m.seat
+
+-- all letters of the pool go by channels of its user
+abbrev pub HasOwnChannels : SharedPool → Type 0
+HasOwnChannels pool =
+    let lanes = pool.table.layout.shape.lanes in
+    (from to : ℕ) → from < lanes → to < lanes → HasOwnChannel pool from to
+
+-- the same thread spent so many turns, counts these roots once more and those once less, and noted
+-- just that of counts
+pub record HasChanged (turns : ℕ) (c : Change) (old new : Member) : Type 0 where
+  pub number : new.account.lane ≡ old.account.lane
+  pub spent : new.account.turns + turns ≡ old.account.turns
+  pub counts : (root : RootId) →
+      counted new.account.counts root + times root c.gone
+      ≡ counted old.account.counts root + times root c.got
+  pub notes : Changes c (view_of old.seat) (view_of new.seat)
+
+-- it is a thread of the pool still
+pub record Does (pool : SharedPool) (turns : ℕ) (c : Change) (old new : Member) : Type 0 where
+  pub thread : IsThread pool new
+  pub changed : HasChanged turns c old new
+
+-- the moves that a release leaves: one more where it wasn't the last, as long as that is below all
+-- that a pool can have
+abbrev pub moves_after : Bool → ℕ → ℕ
+moves_after true moves = moves
+moves_after false moves = if nat_lt moves (2 ^ 30) then moves + 1 else moves
+
+-- the pool that a name stands for, with the sizes of its geometry and its number of threads, whose
+-- letters go by channels of its user
+pub record IsPoolOf
+    (name : Option SharedPool) (pool : SharedPool) (sizes : Geometry) (threads : ℕ) : Type 0 where
+  pub named : name ≡ Some pool
+  pub sizes_are : sizes ≡ geometry_of pool.table.layout.shape
+  pub threads_are : threads ≡ pool.table.layout.shape.lanes
+  pub own : HasOwnChannels pool

@@ -1,0 +1,133 @@
+//! Why a call was refused, and what is left of a pool.
+
+use crate::buffer::Buffer;
+use crate::name::PoolName;
+use crate::parcel::Parcel;
+use leak_records::LiveList;
+use pool_law::ChunkEnds;
+
+/// Why no pool was opened.
+#[derive(Clone, Copy, PartialEq, Eq, Debug, Drop)]
+pub enum OpenNo {
+    /// A measure is outside its limits.
+    Shape,
+    /// All threads together have more moves or turns than a pool can count.
+    Budget,
+    /// There was no memory.
+    Memory,
+}
+
+/// Why no buffer was allocated.
+#[derive(Clone, Copy, PartialEq, Eq, Debug, Drop)]
+pub enum AllocNo {
+    /// It is larger than a chunk.
+    TooLarge,
+    /// The thread has used up its turns.
+    Spent,
+    /// All handles of the thread are at live buffers.
+    NoHandle,
+    /// The thread's arena has no region of that size left.
+    Full,
+    /// The place of the thread's next handle has had as many buffers as it has names for. Another
+    /// call gets the next handle.
+    Worn,
+}
+
+/// Why a call on a buffer was refused. Nothing has changed then.
+#[derive(Clone, Copy, PartialEq, Eq, Debug, Drop)]
+pub enum AccessNo {
+    /// The buffer is another thread's, and came here by no parcel.
+    NotHere,
+    /// The range passes a bound of the buffer.
+    Range,
+    /// The thread has used up its turns or its moves.
+    Spent,
+}
+
+/// Why a buffer was not parted with. Nothing has changed then.
+#[derive(Clone, Copy, PartialEq, Eq, Debug, Drop)]
+pub enum PartNo {
+    /// There is no thread of that number.
+    NoThread,
+    /// The buffer is another thread's, and came here by no parcel.
+    NotHere,
+    /// The thread has used up its turns.
+    Spent,
+}
+
+/// Why a parcel was not accepted. Nothing has changed then.
+#[derive(Clone, Copy, PartialEq, Eq, Debug, Drop)]
+pub enum AcceptNo {
+    /// It is for another thread.
+    NotHere,
+    /// A parcel that the same thread made for this one before it was not accepted yet.
+    OutOfOrder,
+    /// The thread has used up its turns.
+    Spent,
+}
+
+/// Why a pool was not closed. Nothing has changed then.
+#[derive(Clone, Copy, PartialEq, Eq, Debug, Drop)]
+pub enum CloseNo {
+    /// These are not all its threads, in the order of their numbers.
+    Threads,
+    /// There was no memory.
+    Memory,
+}
+
+/// A buffer that comes back from a call that was refused.
+pub struct Back<B: PoolName> {
+    /// Why.
+    pub why: AccessNo,
+    /// The buffer as it was.
+    pub buffer: Buffer<B>,
+}
+
+impl<B: PoolName> Back<B> {
+    /// Leaves the buffer behind.
+    pub fn leave(self) {
+        let Back { why: _, buffer } = self;
+        buffer.leave();
+    }
+}
+
+/// A buffer that comes back, since no parcel was made of it.
+pub struct Unsent<B: PoolName> {
+    /// Why.
+    pub why: PartNo,
+    /// The buffer as it was.
+    pub buffer: Buffer<B>,
+}
+
+impl<B: PoolName> Unsent<B> {
+    /// Leaves the buffer behind.
+    pub fn leave(self) {
+        let Unsent { why: _, buffer } = self;
+        buffer.leave();
+    }
+}
+
+/// A parcel that comes back, since it was not accepted.
+pub struct NotAccepted<B: PoolName> {
+    /// Why.
+    pub why: AcceptNo,
+    /// The parcel as it was.
+    pub parcel: Parcel<B>,
+}
+
+impl<B: PoolName> NotAccepted<B> {
+    /// Leaves the parcel behind.
+    pub fn leave(self) {
+        let NotAccepted { why: _, parcel } = self;
+        parcel.leave();
+    }
+}
+
+/// What stands at the close of a pool.
+#[derive(Drop)]
+pub struct Closed {
+    /// The chunks that were in use, by arena.
+    pub chunks: ChunkEnds,
+    /// The watched buffers whose counts were never all released, by root place.
+    pub leaks: LiveList,
+}

@@ -1,0 +1,14 @@
+//! A thread of a pool, whatever the pool's name is.
+
+ghost use Rattle.std.specs.Prelude.{◌≡◌};
+
+use crate::account::Account;
+use crate::watcher::Watcher;
+use shared_pool::PoolSeat;
+
+/// A thread of a pool: its seat, with the notes that it made, and its account.
+pub struct Member {
+    pub(crate) seat: PoolSeat,
+    pub(crate) account: Account,
+    pub(crate) watcher: Watcher,
+}

@@ -1,0 +1,190 @@
+//! How buffers come, are counted, and end.
+
+ghost use Rattle.std.specs.Prelude.{◌≡◌, ◌+◌, ◌<◌, ◌≤◌, ◌↔◌, true, Err, IfOk, IfErr, OnErr, OnOk, MatchResult, None, Some};
+ghost use Rattle.size_classes.specs.Sizes.{chunk_bytes};
+ghost use Rattle.pool_law.specs.Limits.{geometry_of};
+ghost use Rattle.pool_law.specs.declared.note.RefDid.TheVariants.{Look};
+ghost use Rattle.pool_law.specs.Views.{in_range, slice_of};
+ghost use Rattle.pool_law.specs.Views as views;
+ghost use Rattle.pool_table.specs.Counts.{with_ref};
+ghost use Rattle.shared_pool.specs.SeatViews.{HasView, view_of};
+ghost use Rattle.seat_work.specs.Changes.{no_change, once_less, once_more};
+ghost use Rattle.seat_work.specs.Works.{HasBorn};
+ghost use Rattle.buffer_pool.specs.Answers.{alloc_told, alloc_turns, as_alloc, HasCause};
+ghost use Rattle.buffer_pool.specs.Counting.{counted};
+ghost use Rattle.buffer_pool.specs.Refusals.{call_no, part_no};
+ghost use Rattle.buffer_pool.specs.Threads.{HasChanged, moves_after};
+
+use crate::answers::{AccessNo, AllocNo, Back};
+use crate::buffer::Buffer;
+use crate::name::PoolName;
+use crate::pool::Pool;
+use crate::thread::PoolThread;
+use crate::work::allocation::allocate;
+use crate::work::counting;
+use byte_view::View;
+use std::marker::PhantomData;
+use std::sync::Wait;
+
+/// How many turns an allocation takes, and a release.
+const ALLOC_TURNS: u64 = 6;
+
+const RELEASE_TURNS: u64 = 4;
+
+impl<B: PoolName> PoolThread<B> {
+    /// A new buffer of so many bytes, all 0, of which none is written yet. The thread counts it
+    /// once. A refusal leaves its counts as they were; for want of turns, and where the buffer is
+    /// too large, nothing has changed.
+    pub fn alloc<W: Wait>(
+        &mut self,
+        rt: &W,
+        pool: &Pool<B>,
+        size: u32,
+    ) -> Result<Buffer<B>, AllocNo>
+        ensures buffer { IfOk result (λ b.
+            (b.at ≡ views.view_of b.at.root) × (b.at.root.capacity ≡ size)
+            × (b.thread ≡ self.old.account.lane)) }
+        ensures changed { IfOk result (λ b.
+            HasChanged 6 (once_more b.at.root) self.old self.new) }
+        ensures born { IfOk result (λ b.
+            HasBorn pool.now b.at.root self.old.seat self.new.seat) }
+        ensures moves { self.new.account.moves ≡ self.old.account.moves }
+        ensures too_large { (result ≡ Err AllocNo.TooLarge)
+            ↔ (chunk_bytes (geometry_of pool.now.table.layout.shape) < size) }
+        ensures refused { IfErr result (λ no.
+            HasChanged (alloc_turns no) (alloc_told no) self.old self.new) }
+        ensures cause { IfErr result (HasCause pool.now self.old self.new) }
+    {
+        let Some(class) = pool.sizes.class_of(size) else {
+            return Err(AllocNo::TooLarge);
+        };
+        if self.member.account.turns < ALLOC_TURNS {
+            return Err(AllocNo::Spent);
+        }
+        let watch = self.member.watcher.next();
+        match allocate(rt, &pool.shared, &mut self.member, size, class, watch) {
+            Ok(root) => Ok(Buffer {
+                view: View::of_root(root),
+                thread: self.member.account.lane,
+                of: PhantomData,
+            }),
+            Err(no) => Err(alloc_no(no)),
+        }
+    }
+
+    /// Gives a count back. True exactly where it was the last one of all threads and parcels: the
+    /// memory went back to the pool then. A refusal changes nothing, and hands the buffer back.
+    pub fn release<W: Wait>(
+        &mut self,
+        rt: &W,
+        pool: &Pool<B>,
+        buffer: Buffer<B>,
+    ) -> Result<bool, Back<B>>
+        ensures answers { let no = call_no self.old.account buffer.thread buffer.at.root 4 in
+            MatchResult result (λ _. no ≡ None) (λ back. no ≡ Some back.why) }
+        ensures changed { IfOk result (λ last.
+            HasChanged 4 (once_less buffer.at.root last) self.old self.new) }
+        ensures moves { IfOk result (λ last.
+            self.new.account.moves ≡ moves_after last self.old.account.moves) }
+        ensures back { IfErr result (λ back. (back.buffer ≡ buffer) × (self.new ≡ self.old)) }
+    {
+        let root = buffer.view.at.root;
+        if let Err(why) = self.member.account.may(buffer.thread, root, RELEASE_TURNS) {
+            return Err(Back { why, buffer });
+        }
+        buffer.leave();
+        Ok(counting::release(rt, &pool.shared, &mut self.member, root))
+    }
+
+    /// Another buffer on the same bytes, with a count of its own, and its reader and its writer
+    /// where this one's are. It takes a move, which the release of a buffer gives back where that
+    /// isn't the last one.
+    pub fn retain(&mut self, pool: &Pool<B>, buffer: &Buffer<B>) -> Result<Buffer<B>, AccessNo>
+        ensures answers { let b = buffer.now in
+            let no = part_no self.old.account b.thread b.at.root true 1 1 in
+            MatchResult result (λ _. no ≡ None) (λ why. no ≡ Some why) }
+        ensures buffer { IfOk result (λ b. b ≡ buffer.now) }
+        ensures changed { IfOk result (λ b.
+            HasChanged 1 (once_more b.at.root) self.old self.new) }
+        ensures moves { OnOk result (self.new.account.moves + 1 ≡ self.old.account.moves) }
+        ensures unchanged { OnErr result (self.new ≡ self.old) }
+    {
+        self.member
+            .account
+            .may_part(buffer.thread, buffer.view.at.root, true, 1)?;
+        Ok(self.count_more(pool, buffer.view.duplicate()))
+    }
+
+    /// A buffer on `len` of the bytes of this one, from `start` on, all to be read, with a count of
+    /// its own. It takes a move, as `retain` does.
+    pub fn slice(
+        &mut self,
+        pool: &Pool<B>,
+        buffer: &Buffer<B>,
+        start: u32,
+        len: u32,
+    ) -> Result<Buffer<B>, AccessNo>
+        ensures answers { let b = buffer.now in
+            let no = part_no self.old.account b.thread b.at.root (in_range b.at start len) 1 1 in
+            MatchResult result (λ _. no ≡ None) (λ why. no ≡ Some why) }
+        ensures buffer { IfOk result (λ b.
+            (b.at ≡ slice_of buffer.now.at start len) × (b.thread ≡ buffer.now.thread)) }
+        ensures changed { IfOk result (λ b.
+            HasChanged 1 (once_more b.at.root) self.old self.new) }
+        ensures moves { OnOk result (self.new.account.moves + 1 ≡ self.old.account.moves) }
+        ensures unchanged { OnErr result (self.new ≡ self.old) }
+    {
+        let sliced = buffer.view.slice(start, len);
+        self.member
+            .account
+            .may_part(buffer.thread, buffer.view.at.root, sliced.is_ok(), 1)?;
+        match sliced {
+            Ok(view) => Ok(self.count_more(pool, view)),
+            Err(_no) => Err(AccessNo::Range),
+        }
+    }
+
+    // A buffer on a view of a root that the thread counts, with a count of its own.
+    fn count_more(&mut self, pool: &Pool<B>, view: View) -> Buffer<B>
+        requires counts { 0 < counted self.old.account.counts view.at.root }
+        requires turns { 1 ≤ self.old.account.turns }
+        requires moves { 1 ≤ self.old.account.moves }
+        ensures buffer { (result.at ≡ view.at) × (result.thread ≡ self.old.account.lane) }
+        ensures changed { HasChanged 1 (once_more view.at.root) self.old self.new }
+        ensures moves { self.new.account.moves + 1 ≡ self.old.account.moves }
+    {
+        counting::retain(&pool.shared, &mut self.member, view.at.root);
+        Buffer {
+            view,
+            thread: self.member.account.lane,
+            of: PhantomData,
+        }
+    }
+
+    /// How often the buffer's bytes are counted over all threads and parcels, as one step of this
+    /// call found it.
+    pub fn refcnt(&mut self, pool: &Pool<B>, buffer: &Buffer<B>) -> Result<u32, AccessNo>
+        ensures answers { let b = buffer.now in
+            let no = call_no self.old.account b.thread b.at.root 0 in
+            MatchResult result (λ _. no ≡ None) (λ why. no ≡ Some why) }
+        ensures looked { IfOk result (λ count. let v = view_of self.old.seat in
+            HasView self.new.seat (with_ref v buffer.now.at.root (Look count) v.moves)) }
+        ensures account { self.new.account ≡ self.old.account }
+        ensures unchanged { OnErr result (self.new ≡ self.old) }
+    {
+        let root = buffer.view.at.root;
+        self.member.account.may(buffer.thread, root, 0)?;
+        Ok(counting::look(&pool.shared, &mut self.member, root))
+    }
+}
+
+// The same answer of this crate.
+fn alloc_no(no: seat_work::AllocNo) -> AllocNo
+    ensures { result ≡ as_alloc no }
+{
+    match no {
+        seat_work::AllocNo::NoHandle => AllocNo::NoHandle,
+        seat_work::AllocNo::Full => AllocNo::Full,
+        seat_work::AllocNo::Worn => AllocNo::Worn,
+    }
+}

@@ -1,0 +1,6 @@
+//! The work of a thread on its pool, by its seat and its account.
+
+pub(crate) mod access;
+pub(crate) mod allocation;
+pub(crate) mod counting;
+pub(crate) mod passing;

@@ -1,0 +1,45 @@
+//! How a thread allocates.
+
+ghost use Rattle.std.specs.Prelude.{◌≡◌, ◌<◌, ◌≤◌, Some, IfOk, IfErr};
+ghost use Rattle.size_classes.specs.Sizes.{class_of};
+ghost use Rattle.pool_law.specs.Limits.{geometry_of};
+ghost use Rattle.seat_work.specs.Answers.{allocated, IsWorn};
+ghost use Rattle.seat_work.specs.Works.{HasBorn};
+ghost use Rattle.buffer_pool.specs.Counting.{counted};
+ghost use Rattle.buffer_pool.specs.Threads.{Does, IsThread};
+
+use crate::member::Member;
+use pool_law::{RootId, Watch};
+use seat_work::AllocNo;
+use shared_pool::SharedPool;
+use std::sync::Wait;
+
+/// A new root of `size` bytes, all 0, which the thread then counts once. `class` is that of the
+/// size.
+pub(crate) fn allocate<W: Wait>(
+    rt: &W,
+    pool: &SharedPool,
+    member: &mut Member,
+    size: u32,
+    class: u32,
+    watch: Option<Watch>,
+) -> Result<RootId, AllocNo>
+    requires thread { IsThread pool.now member.old }
+    requires turns { 6 ≤ member.old.account.turns }
+    requires class { class_of (geometry_of pool.now.table.layout.shape) size ≡ Some class }
+    ensures root { IfOk result (λ root. root.capacity ≡ size) }
+    ensures counts { IfOk result (λ root. 0 < counted member.new.account.counts root) }
+    ensures does { Does pool.now 6 (allocated result) member.old member.new }
+    ensures moves { member.new.account.moves ≡ member.old.account.moves }
+    ensures born { IfOk result (λ root. HasBorn pool.now root member.old.seat member.new.seat) }
+    ensures worn { IfErr result (IsWorn pool.now member.old.seat member.new.seat) }
+{
+    member.account.turns -= 6;
+    match seat_work::allocate(rt, pool, &mut member.seat, size, class, watch) {
+        Ok(root) => {
+            member.account.counts.add(root);
+            Ok(root)
+        }
+        Err(no) => Err(no),
+    }
+}

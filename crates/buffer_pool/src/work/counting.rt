@@ -1,0 +1,71 @@
+//! How a thread counts a root once more and once less, and how often all threads count it.
+
+ghost use Rattle.std.specs.Prelude.{◌≡◌, ◌+◌, ◌<◌, ◌≤◌};
+ghost use Rattle.pool_law.specs.declared.note.RefDid.TheVariants.{Look};
+ghost use Rattle.pool_table.specs.Counts.{with_ref};
+ghost use Rattle.shared_pool.specs.SeatViews.{HasView, view_of};
+ghost use Rattle.seat_work.specs.Changes.{no_change, once_less, once_more};
+ghost use Rattle.buffer_pool.specs.Counting.{counted};
+ghost use Rattle.buffer_pool.specs.Threads.{Does, IsThread, moves_after};
+
+use crate::member::Member;
+use pool_law::RootId;
+use shared_pool::SharedPool;
+use std::sync::Wait;
+
+/// The moves of all threads of a pool together are below this.
+const MOST_MOVES: u32 = 1_073_741_824;
+
+/// The thread counts the root once more, for one of its moves.
+pub(crate) fn retain(pool: &SharedPool, member: &mut Member, root: RootId)
+    requires thread { IsThread pool.now member.old }
+    requires counts { 0 < counted member.old.account.counts root }
+    requires turns { 1 ≤ member.old.account.turns }
+    requires moves { 1 ≤ member.old.account.moves }
+    ensures does { Does pool.now 1 (once_more root) member.old member.new }
+    ensures moves { member.new.account.moves + 1 ≡ member.old.account.moves }
+{
+    member.account.turns -= 1;
+    member.account.moves -= 1;
+    seat_work::retain(pool, &mut member.seat, root);
+    member.account.counts.add(root);
+}
+
+/// The thread counts the root once less. True exactly where that was the last count of all threads
+/// and parcels.
+pub(crate) fn release<W: Wait>(rt: &W, pool: &SharedPool, member: &mut Member, root: RootId) -> bool
+    requires thread { IsThread pool.now member.old }
+    requires counts { 0 < counted member.old.account.counts root }
+    requires turns { 4 ≤ member.old.account.turns }
+    ensures does { Does pool.now 4 (once_less root result) member.old member.new }
+    ensures moves { member.new.account.moves ≡ moves_after result member.old.account.moves }
+{
+    member.account.turns -= 4;
+    let last = seat_work::release(rt, pool, &mut member.seat, root);
+    member.account.counts.take(root);
+    member.account.moves = moves_after(last, member.account.moves);
+    last
+}
+
+// The moves that a release leaves.
+fn moves_after(last: bool, moves: u32) -> u32
+    ensures { result ≡ moves_after last moves }
+{
+    if !last && moves < MOST_MOVES {
+        moves + 1
+    } else {
+        moves
+    }
+}
+
+/// The count of the root over all threads and parcels, as this one step found it.
+pub(crate) fn look(pool: &SharedPool, member: &mut Member, root: RootId) -> u32
+    requires thread { IsThread pool.now member.old }
+    requires counts { 0 < counted member.old.account.counts root }
+    ensures does { Does pool.now 0 no_change member.old member.new }
+    ensures account { member.new.account ≡ member.old.account }
+    ensures looked { let v = view_of member.old.seat in
+        HasView member.new.seat (with_ref v root (Look result) v.moves) }
+{
+    pool.look(&mut member.seat, root)
+}
