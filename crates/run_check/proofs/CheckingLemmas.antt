@@ -1,5 +1,5 @@
 -- What is asked of a run holds by what the program keeps of it.
-use Rattle.std.proofs.Common.{◌≡◌, ℕ, true, List, Option, Some, Vec, length, sym, subst}
+use Rattle.std.proofs.Common.{◌≡◌, ℕ, true, List, Option, Some, None, Vec, length, sym, subst}
 use Rattle.std.specs.Prelude.{IsTrue, MatchOption}
 use Rattle.std.specs.declared.alloc.Global.{Global}
 use Rattle.std.specs.List.{list_all}
@@ -17,7 +17,9 @@ use Rattle.pool_law.proofs.HistoryLemmas.{history_of-is}
 use Rattle.run_check.specs.declared.histories.Histories.{Histories}
 use Rattle.object_steps.specs.declared.told.Told.{Told}
 use Rattle.run_check.specs.Spotting.{notes_in}
-use Rattle.run_check.specs.Storing.{history_in, IsBroken, AreHistories}
+use Rattle.run_check.specs.Breaches.{Breaks}
+use Rattle.run_check.specs.declared.breach.Breach.{Breach}
+use Rattle.run_check.specs.Storing.{history_in, AreHistories}
 use Rattle.run_check.specs.Entering.{AreTold}
 use Rattle.run_check.proofs.MarkLemmas.{marks-same}
 
@@ -74,25 +76,19 @@ legal-is run m shape lanes logs commands are notes answers counts = record {
   leaks = counts.leaks;
 }
 
-pub legal-counts : (run : Run) → IsLegal run → CountsRight run
-legal-counts run right = record { counts = right.counts; leaks = right.leaks }
+-- where the counts are right as the rest is, the run is legal
+pub legal-found : (run : Run) (found : Option Breach) → (CountsRight run → IsLegal run) →
+    MatchOption found (CountsRight run) (Breaks run) → MatchOption found (IsLegal run) (Breaks run)
+legal-found run None legal right = legal right
+legal-found run (Some breach) legal broken = broken
 
--- the histories that were found are those of the logs, and what is told by them is told of the logs
-module _ (shape : Shape) (read logs : List LaneLog) (m : Histories) (same : read ≡ logs) where
-  pub found-are : (found : Option Histories) → found ≡ Some m →
-      MatchOption found (IsBroken shape (notes_in read)) (AreHistories shape (notes_in read)) →
-      AreHistories shape (notes_in logs) m
-  found-are found is are =
-      subst (λ (ls : List LaneLog). AreHistories shape (notes_in ls) m) same
-      (subst
-      (λ (o : Option Histories). MatchOption o (IsBroken shape (notes_in read)) (AreHistories shape (notes_in read)))
-      is are)
-
-  pub told-are : (pushed told : List (Vec Told Global)) → told ≡ pushed → AreHistories shape (notes_in logs) m →
-      ((s : Shape) → AreHistories s (notes_in read) m → AreTold (notes_in read) pushed read) →
-      AreTold (notes_in logs) told logs
-  told-are pushed told is are tells =
-      subst (λ (ts : List (Vec Told Global)). AreTold (notes_in logs) ts logs) (sym is)
-      (subst
-      (λ (ls : List LaneLog). ((s : Shape) → AreHistories s (notes_in ls) m → AreTold (notes_in ls) pushed ls)) same
-      tells shape are)
+-- what is told by the histories is told of the logs
+pub told-are : (shape : Shape) (read logs : List LaneLog) (m : Histories) → read ≡ logs →
+    (pushed told : List (Vec Told Global)) → told ≡ pushed → AreHistories shape (notes_in logs) m →
+    ((s : Shape) → AreHistories s (notes_in read) m → AreTold (notes_in read) pushed read) →
+    AreTold (notes_in logs) told logs
+told-are shape read logs m same pushed told is are tells =
+    subst (λ (ts : List (Vec Told Global)). AreTold (notes_in logs) ts logs) (sym is)
+    (subst
+    (λ (ls : List LaneLog). ((s : Shape) → AreHistories s (notes_in ls) m → AreTold (notes_in ls) pushed ls)) same
+    tells shape are)

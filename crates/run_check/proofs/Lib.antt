@@ -16,3 +16,4 @@ mod LeakLemmas
 mod TotalLemmas
 mod EnteringLemmas
 mod CheckingLemmas
+pub mod BreachLemmas

@@ -1,6 +1,6 @@
 -- The histories of objects as the program keeps them.
 use Rattle.std.proofs.Common.{◌≡◌, ℕ, Bool, true, false, List, [], ◌∷◌, ◌++◌, Option, Some, None, Vec, append_assoc, refl, sym, ap, subst, ◌∙◌}
-use Rattle.std.specs.Prelude.{if◌then◌else◌, is_some, option_map, MatchBool}
+use Rattle.std.specs.Prelude.{if◌then◌else◌, is_some, option_map, MatchOption}
 use Rattle.std.specs.BTreeMap.{get, is_at}
 use Rattle.std.specs.declared.alloc.Global.{Global}
 use Rattle.pool_law.specs.declared.note.Did.{Did}
@@ -36,25 +36,25 @@ use Rattle.run_check.proofs.MailLemmas.{no-mail, unused-holds}
 
 module _ (shape : Shape) (logs : Logs) (object : Object) (has : has_history object ≡ true) where
   pub broken-unmerged : (left : ℕ → List (ℕ × Did)) → ((lane : ℕ) → left lane ≡ own object (of_lane logs lane)) →
-      ((g : History) → AreNumbered 1 left g → ⊥) → IsBroken shape logs
+      ((g : History) → AreNumbered 1 left g → ⊥) → IsBroken shape logs object
   broken-unmerged left is never holds =
-      never (history_of object logs) (λ lane. is lane ∙ holds.whole object has lane)
+      never (history_of object logs) (λ lane. is lane ∙ holds.whole has lane)
 
   merged-whole : (left : ℕ → List (ℕ × Did)) (h : History) →
       ((lane : ℕ) → left lane ≡ own object (of_lane logs lane)) → AreNumbered 1 left h → IsHistory object logs h
   merged-whole left h is numbers lane = sym (is lane) ∙ numbers lane
 
   broken-refused : (h : History) → IsHistory object logs h → accepts shape object (dids h) ≡ false →
-      IsBroken shape logs
+      IsBroken shape logs object
   broken-refused h whole refused holds =
       let same : history_of object logs ≡ h = history_of-is object logs h whole in
       let both : false ≡ true = sym refused ∙ ap (λ (g : History). accepts shape object (dids g)) (sym same)
-      ∙ holds.accepted object has in
+      ∙ holds.accepted has in
       cc both
 
   pub object_history-broken : (left : ℕ → List (ℕ × Did)) (h : History) (ds : List Did) →
       ((lane : ℕ) → left lane ≡ own object (of_lane logs lane)) → AreNumbered 1 left h → ds ≡ dids h →
-      accepts shape object ds ≡ false → IsBroken shape logs
+      accepts shape object ds ≡ false → IsBroken shape logs object
   object_history-broken left h ds is numbers same refused =
       broken-refused h (merged-whole left h is numbers) (ap (accepts shape object) (sym same) ∙ refused)
 
@@ -85,9 +85,9 @@ mail-object_history shape logs (Mail sender receiver) object_history none held d
 }
 mail-object_history shape logs _ object_history none held dones told = absurd (cc none)
 
-pub mail-broken : (shape : Shape) (logs : Logs) (mail : Object) → (IsHeldMail logs mail → ⊥) → IsBroken shape logs
-mail-broken shape logs (Mail sender receiver) not holds = not (holds.mails sender receiver)
-mail-broken shape logs _ not holds = not tt
+pub mail-broken : (shape : Shape) (logs : Logs) (mail : Object) → (IsHeldMail logs mail → ⊥) →
+    IsBroken shape logs mail
+mail-broken shape logs mail not holds = not holds.mail
 
 -- what is told of a root place's history, where it is accepted
 pub tells-root : (shape : Shape) (place : ℕ) (ds : List Did) (told : Option (Vec Told Global)) →
@@ -217,16 +217,16 @@ covers-at m object number did has other absent = go (same_object other object) r
 
 -- a note at an object is covered where the object's history is added
 pub note-added : (shape : Shape) (logs : Logs) (object : Object) (number : ℕ) (did : Did) (note : Note)
-    (old new : Histories) (good : Bool) → note ≡ At object number did →
-    MatchBool good (AreStories shape logs new × Keeps old new × (has_object_history new object ≡ true))
+    (old new : Histories) (broken : Option Object) → note ≡ At object number did →
+    MatchOption broken (AreStories shape logs new × Keeps old new × (has_object_history new object ≡ true))
     (IsBroken shape logs) →
-    MatchBool good (AreStories shape logs new × Keeps old new × Covers new (note ∷ [])) (IsBroken shape logs)
-note-added shape logs object number did note old new true is added = (
+    MatchOption broken (AreStories shape logs new × Keeps old new × Covers new (note ∷ [])) (IsBroken shape logs)
+note-added shape logs object number did note old new None is added = (
   added.0,
   added.1,
   subst (λ (n : Note). Covers new (n ∷ [])) (sym is) (covers-at new object number did added.2),
 )
-note-added shape logs object number did note old new false is broken = broken
+note-added shape logs object number did note old new (Some at) is broken = broken
 
 pub covers-push : (m : Histories) (ns : List Note) (n : Note) → Covers m ns → Covers m (n ∷ []) →
     Covers m (ns ++ n ∷ [])

@@ -12,3 +12,4 @@ pub mod Tallying
 pub mod Entering
 pub mod Needing
 pub mod Checking
+pub mod Breaches

@@ -7,9 +7,8 @@ use Rattle.pool_law.specs.declared.note.Note.{Note}
 use Rattle.pool_law.specs.declared.note.Object.{Object}
 use Rattle.pool_law.specs.declared.note.Object.TheVariants.{Root}
 use Rattle.pool_law.specs.declared.run.Shape.{Shape}
-use Rattle.pool_law.specs.Logs.{Logs, History, dids, own, IsHistory, has_history}
+use Rattle.pool_law.specs.Logs.{Logs, History, dids, own, IsHistory, has_history, history_of}
 use Rattle.pool_law.specs.Mails.{MailsHold}
-use Rattle.pool_law.specs.Legal.{HistoriesHold}
 use Rattle.pool_law.specs.Histories.{accepts, IsAccepted}
 use Rattle.pool_law.specs.Roots.{new_place}
 use Rattle.run_check.specs.Counting.{key_cmp}
@@ -40,9 +39,16 @@ pub record IsObjectHistory (shape : Shape) (logs : Logs) (object : Object) (kept
   pub mail : IsHeldMail logs object
   pub told : kept.told.items ≡ told_of object (dids (dones_in kept.dones.items))
 
--- the logs do not give each object a whole history that it accepts, or a mail does not hold
-abbrev pub IsBroken : Shape → Logs → Type 0
-IsBroken shape logs = HistoriesHold shape logs → ⊥
+-- the logs give the object a whole history, which it accepts; a mail holds
+pub record ObjectHolds (shape : Shape) (logs : Logs) (object : Object) : Type 0 where
+  pub whole : IsTrue (has_history object) → IsHistory object logs (history_of object logs)
+  pub accepted : IsTrue (has_history object) →
+      IsAccepted shape object (dids (history_of object logs))
+  pub mail : IsHeldMail logs object
+
+-- they do not
+abbrev pub IsBroken : Shape → Logs → Object → Type 0
+IsBroken shape logs object = ObjectHolds shape logs object → ⊥
 
 -- the history of an object, if it is there
 abbrev pub object_history_in : Histories → Object → Option ObjectHistory

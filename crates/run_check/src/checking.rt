@@ -1,18 +1,22 @@
 //! Whether a run is legal.
 
-ghost use Rattle.std.specs.Prelude.{◌≡◌, ◌≤◌, ◌^◌, ◌↔◌, ℕ, length, IsTrue, IfOk};
+ghost use Rattle.std.specs.Prelude.{◌≡◌, ◌≤◌, ◌^◌, ◌↔◌, ℕ, length, IsTrue, IfOk, MatchOption};
 ghost use Rattle.pool_law.specs.Limits.{IsShape, geometry_of};
 ghost use Rattle.pool_law.specs.Logs.{of_lane};
 ghost use Rattle.pool_law.specs.Legal.{AreCommands, IsLegal, logs_of};
 ghost use Rattle.run_check.specs.Storing.{AreHistories};
 ghost use Rattle.run_check.specs.Entering.{AreTold};
+ghost use Rattle.run_check.specs.Breaches.{Breaks, HasLanes};
 ghost use Rattle.run_check.specs.Checking.{CountsRight, NotesRight, AnswersRight};
 
+use crate::breach::Breach;
 use crate::ending::{ends_of, same_ends};
 use crate::entries::told_of_lanes;
 use crate::fitting::all_are_commands;
 use crate::histories::Histories;
-use crate::lanes::{all_answer, all_busy, all_count, all_look, all_stand};
+use crate::lanes::{
+    first_astray, first_misanswered, first_miscounted, first_mislooked, first_mismarked,
+};
 use crate::leaks::{Report, is_report};
 use crate::tally::tallies_of;
 use crate::totals::{all_born, all_total};
@@ -29,31 +33,32 @@ fn has_lanes(run: &Run) -> bool
     run.trace.lanes.items().len() == lanes && run.logs.items().len() == lanes
 }
 
-// Whether the sentences on counts hold, and the live roots are reported.
-fn counts_right(
+// What of the sentences on counts isn't kept, or that the live roots are not reported.
+fn breach_of_counts(
     alloc: Global,
     run: &Run,
     histories: &Histories,
     told: &[Vec<Told>],
-) -> Result<bool, AllocError>
+) -> Result<Option<Breach>, AllocError>
     requires shape { IsShape run.now.shape }
+    requires logs { length run.now.logs ≡ run.now.shape.lanes }
     requires histories { AreHistories run.now.shape (logs_of run.now) histories.now }
     requires told { AreTold (logs_of run.now) told.now run.now.logs }
-    ensures { IfOk result (λ good. IsTrue good ↔ CountsRight run.now) }
+    ensures { IfOk result (λ found. MatchOption found (CountsRight run.now) (Breaks run.now)) }
 {
     let logs = run.logs.items();
     let tallies = tallies_of(alloc, logs)?;
-    if !all_count(alloc, logs, told)? {
-        return Ok(false);
+    if let Some(lane) = first_miscounted(alloc, logs, told)? {
+        return Ok(Some(Breach::Uses(lane)));
     }
     if !all_total(&tallies, logs)? {
-        return Ok(false);
+        return Ok(Some(Breach::Totals));
     }
     if !all_born(&tallies, logs)? {
-        return Ok(false);
+        return Ok(Some(Breach::Unborn));
     }
-    if !all_look(alloc, &tallies, logs, told)? {
-        return Ok(false);
+    if let Some(lane) = first_mislooked(alloc, &tallies, logs, told)? {
+        return Ok(Some(Breach::Looks(lane)));
     }
     let report = Report {
         shape: &run.shape,
@@ -61,52 +66,109 @@ fn counts_right(
         tallies: &tallies,
         leaks: run.leaks.items(),
     };
-    let good = is_report(alloc, &report, logs)?;
-    Ok(good)
+    if !is_report(alloc, &report, logs)? {
+        return Ok(Some(Breach::Leaks));
+    }
+    Ok(None)
 }
 
-// Whether each lane may note what it notes, marks are right, and the chunks are reported.
-fn notes_right(
+// What of the notes that each lane may make, of the marks and of the chunks isn't right.
+fn breach_of_notes(
     alloc: Global,
     run: &Run,
     sizes: &Sizes,
     histories: &Histories,
-) -> Result<bool, AllocError>
+) -> Result<Option<Breach>, AllocError>
     requires shape { IsShape run.now.shape }
     requires logs { length run.now.logs ≡ run.now.shape.lanes }
     requires sizes { sizes.now ≡ geometry_of run.now.shape }
     requires histories { AreHistories run.now.shape (logs_of run.now) histories.now }
-    ensures { IfOk result (λ good. IsTrue good ↔ NotesRight run.now) }
+    ensures { IfOk result (λ found. MatchOption found (NotesRight run.now) (Breaks run.now)) }
 {
     let logs = run.logs.items();
-    if !all_stand(&run.shape, logs) {
-        return Ok(false);
+    if let Some(lane) = first_astray(&run.shape, logs) {
+        return Ok(Some(Breach::Notes(lane)));
     }
-    if !all_busy(alloc, histories, logs)? {
-        return Ok(false);
+    if let Some(lane) = first_mismarked(alloc, histories, logs)? {
+        return Ok(Some(Breach::Marks(lane)));
     }
     let ends = ends_of(alloc, &run.shape, sizes, histories)?;
-    Ok(same_ends(run.chunks.items(), &ends))
+    if !same_ends(run.chunks.items(), &ends) {
+        return Ok(Some(Breach::Chunks));
+    }
+    Ok(None)
 }
 
-// Whether the replies and notes of each lane are those of its commands.
-fn answers_right(
+// The first lane whose replies and notes are not those of its commands.
+fn breach_of_answers(
     alloc: Global,
     run: &Run,
     sizes: &Sizes,
     told: &[Vec<Told>],
-) -> Result<bool, AllocError>
+) -> Result<Option<Breach>, AllocError>
     requires shape { IsShape run.now.shape }
     requires lanes { length run.now.trace.lanes ≡ run.now.shape.lanes }
     requires logs { length run.now.logs ≡ run.now.shape.lanes }
     requires sizes { sizes.now ≡ geometry_of run.now.shape }
     requires commands { (lane : ℕ) → AreCommands run.now.shape (of_lane run.now.trace.lanes lane) }
     requires told { AreTold (logs_of run.now) told.now run.now.logs }
-    ensures { IfOk result (λ good. IsTrue good ↔ AnswersRight run.now) }
+    ensures { IfOk result (λ found. MatchOption found (AnswersRight run.now) (Breaks run.now)) }
 {
     let lanes = run.trace.lanes.items();
-    let good = all_answer(alloc, &run.shape, sizes, lanes, run.logs.items(), told)?;
-    Ok(good)
+    let logs = run.logs.items();
+    if let Some(lane) = first_misanswered(alloc, &run.shape, sizes, lanes, logs, told)? {
+        return Ok(Some(Breach::Answers(lane)));
+    }
+    Ok(None)
+}
+
+/// What of the law of the pool a run doesn't keep, the first that is found: None exactly where the
+/// pool can make the run. Its measures and commands are looked at first, then the histories of objects
+/// in the order in which the logs name them, what each lane may note and its marks, the chunks,
+/// the replies and notes of each lane, the counts of roots, and the leaks.
+pub fn find_breach(alloc: Global, run: &Run) -> Result<Option<Breach>, AllocError>
+    ensures { IfOk result (λ found. MatchOption found (IsLegal run.now) (Breaks run.now)) }
+{
+    if !is_shape(&run.shape) {
+        return Ok(Some(Breach::Measures));
+    }
+    if !has_lanes(run) {
+        return Ok(Some(Breach::Lanes));
+    }
+    if !all_are_commands(alloc, &run.shape, run.trace.lanes.items())? {
+        return Ok(Some(Breach::Commands));
+    }
+    let sizes = Sizes::new(alloc, run.shape.order, run.shape.page)?;
+    let logs = run.logs.items();
+    let histories = match Histories::in_logs(alloc, &run.shape, &sizes, logs)? {
+        Ok(histories) => histories,
+        Err(object) => return Ok(Some(Breach::History(object))),
+    };
+    breach_of_logs(alloc, run, &sizes, &histories)
+}
+
+// The same of a run whose histories hold.
+fn breach_of_logs(
+    alloc: Global,
+    run: &Run,
+    sizes: &Sizes,
+    histories: &Histories,
+) -> Result<Option<Breach>, AllocError>
+    requires shape { IsShape run.now.shape }
+    requires lanes { HasLanes run.now }
+    requires sizes { sizes.now ≡ geometry_of run.now.shape }
+    requires commands { (lane : ℕ) → AreCommands run.now.shape (of_lane run.now.trace.lanes lane) }
+    requires histories { AreHistories run.now.shape (logs_of run.now) histories.now }
+    ensures { IfOk result (λ found. MatchOption found (IsLegal run.now) (Breaks run.now)) }
+{
+    if let Some(breach) = breach_of_notes(alloc, run, sizes, histories)? {
+        return Ok(Some(breach));
+    }
+    let told = told_of_lanes(alloc, histories, run.logs.items())?;
+    if let Some(breach) = breach_of_answers(alloc, run, sizes, &told)? {
+        return Ok(Some(breach));
+    }
+    breach_of_counts(alloc, run, histories, &told)
 }
 
 /// Whether the pool can make a run: its measures and commands are within bounds, and its logs,
@@ -114,27 +176,6 @@ fn answers_right(
 pub fn check_run(alloc: Global, run: &Run) -> Result<bool, AllocError>
     ensures { IfOk result (λ good. IsTrue good ↔ IsLegal run.now) }
 {
-    if !is_shape(&run.shape) {
-        return Ok(false);
-    }
-    if !has_lanes(run) {
-        return Ok(false);
-    }
-    if !all_are_commands(alloc, &run.shape, run.trace.lanes.items())? {
-        return Ok(false);
-    }
-    let sizes = Sizes::new(alloc, run.shape.order, run.shape.page)?;
-    let logs = run.logs.items();
-    let Some(histories) = Histories::in_logs(alloc, &run.shape, &sizes, logs)? else {
-        return Ok(false);
-    };
-    if !notes_right(alloc, run, &sizes, &histories)? {
-        return Ok(false);
-    }
-    let told = told_of_lanes(alloc, &histories, logs)?;
-    if !answers_right(alloc, run, &sizes, &told)? {
-        return Ok(false);
-    }
-    let good = counts_right(alloc, run, &histories, &told)?;
-    Ok(good)
+    let found = find_breach(alloc, run)?;
+    Ok(found.is_none())
 }

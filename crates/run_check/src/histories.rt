@@ -1,6 +1,6 @@
 //! The histories of all objects.
 
-ghost use Rattle.std.specs.Prelude.{◌≡◌, ◌≤◌, ◌^◌, [], ◌∷◌, ℕ, true, false, MatchBool, MatchOption, IfOk, OnOk};
+ghost use Rattle.std.specs.Prelude.{◌≡◌, ◌≤◌, ◌^◌, [], ◌∷◌, ℕ, true, false, MatchOption, MatchResult, IfOk};
 ghost use Rattle.std.specs.Option.{option_copied};
 ghost use Rattle.pool_law.specs.declared.note.Object.{Object};
 ghost use Rattle.pool_law.specs.Limits.{geometry_of};
@@ -78,7 +78,7 @@ fn object_history_of_mail<'a>(
 ) -> Result<Option<ObjectHistory<'a>>, AllocError>
     requires { has_history mail.now ≡ false }
     ensures { (shape : Shape) → (logs : Logs) → AreSpots lanes.now logs → IfOk result (λ told.
-        MatchOption told (IsBroken shape logs) (IsObjectHistory shape logs mail.now)) }
+        MatchOption told (IsBroken shape logs mail.now) (IsObjectHistory shape logs mail.now)) }
 {
     if !mail_holds(alloc, lanes, mail)? {
         return Ok(None);
@@ -102,7 +102,8 @@ fn object_history_of<'a>(
     requires chunks { shape.now.chunks ≤ 2 ^ 16 }
     requires handles { 1 ≤ shape.now.handles }
     ensures { (logs : Logs) → AreSpots lanes.now logs → IfOk result (λ told.
-        MatchOption told (IsBroken shape.now logs) (IsObjectHistory shape.now logs object.now)) }
+        MatchOption told (IsBroken shape.now logs object.now)
+        (IsObjectHistory shape.now logs object.now)) }
 {
     if !has_history(object) {
         return object_history_of_mail(alloc, lanes, object);
@@ -170,7 +171,7 @@ impl<'a> Histories<'a> {
         self.found_told(place).unwrap_or(&[])
     }
 
-    // Adds the history of an object, if it is not there. False where it has none.
+    // Adds the history of an object, if it is not there. Where it has none, the object comes back.
     fn add(
         &mut self,
         alloc: Global,
@@ -178,30 +179,30 @@ impl<'a> Histories<'a> {
         sizes: &Sizes,
         lanes: &[Spots<'a>],
         object: &Object,
-    ) -> Result<bool, AllocError>
+    ) -> Result<Option<Object>, AllocError>
         requires sizes { sizes.now ≡ geometry_of shape.now }
         requires chunks { shape.now.chunks ≤ 2 ^ 16 }
         requires handles { 1 ≤ shape.now.handles }
         ensures { (logs : Logs) → AreSpots lanes.now logs → AreStories shape.now logs self.old
-            → IfOk result (λ good. MatchBool good
+            → IfOk result (λ broken. MatchOption broken
             (AreStories shape.now logs self.new × Keeps self.old self.new
             × (has_object_history self.new object.now ≡ true))
             (IsBroken shape.now logs)) }
     {
         let key = object_key(object);
         if self.map.contains_key(&key) {
-            return Ok(true);
+            return Ok(None);
         }
         match object_history_of(alloc, shape, sizes, lanes, object)? {
             Some(object_history) => {
                 self.map.insert(key, object_history)?;
-                Ok(true)
+                Ok(None)
             }
-            None => Ok(false),
+            None => Ok(Some(*object)),
         }
     }
 
-    // Adds the history of the object that a note names. False where it has none.
+    // Adds the history of the object that a note names. Where it has none, the object comes back.
     fn add_note(
         &mut self,
         alloc: Global,
@@ -209,12 +210,12 @@ impl<'a> Histories<'a> {
         sizes: &Sizes,
         lanes: &[Spots<'a>],
         note: &Note,
-    ) -> Result<bool, AllocError>
+    ) -> Result<Option<Object>, AllocError>
         requires sizes { sizes.now ≡ geometry_of shape.now }
         requires chunks { shape.now.chunks ≤ 2 ^ 16 }
         requires handles { 1 ≤ shape.now.handles }
         ensures { (logs : Logs) → AreSpots lanes.now logs → AreStories shape.now logs self.old
-            → IfOk result (λ good. MatchBool good
+            → IfOk result (λ broken. MatchOption broken
             (AreStories shape.now logs self.new × Keeps self.old self.new
             × Covers self.new (note.now ∷ []))
             (IsBroken shape.now logs)) }
@@ -225,15 +226,15 @@ impl<'a> Histories<'a> {
                 number: _,
                 did: _,
             } => {
-                let good = self.add(alloc, shape, sizes, lanes, object)?;
-                Ok(good)
+                let broken = self.add(alloc, shape, sizes, lanes, object)?;
+                Ok(broken)
             }
-            Note::Ref { root: _, did: _ } => Ok(true),
-            Note::Busy(_) => Ok(true),
+            Note::Ref { root: _, did: _ } => Ok(None),
+            Note::Busy(_) => Ok(None),
         }
     }
 
-    // Adds the histories of the objects that notes name. False where one of them has none.
+    // Adds the histories of the objects that notes name. The first that has none comes back.
     fn add_all(
         &mut self,
         alloc: Global,
@@ -241,46 +242,47 @@ impl<'a> Histories<'a> {
         sizes: &Sizes,
         lanes: &[Spots<'a>],
         notes: &[Note],
-    ) -> Result<bool, AllocError>
+    ) -> Result<Option<Object>, AllocError>
         requires sizes { sizes.now ≡ geometry_of shape.now }
         requires chunks { shape.now.chunks ≤ 2 ^ 16 }
         requires handles { 1 ≤ shape.now.handles }
         ensures { (logs : Logs) → AreSpots lanes.now logs → AreStories shape.now logs self.old
-            → IfOk result (λ good. MatchBool good
+            → IfOk result (λ broken. MatchOption broken
             (AreStories shape.now logs self.new × Keeps self.old self.new
             × Covers self.new notes.now)
             (IsBroken shape.now logs)) }
     {
         for note in notes {
-            if !self.add_note(alloc, shape, sizes, lanes, note)? {
-                return Ok(false);
+            if let Some(object) = self.add_note(alloc, shape, sizes, lanes, note)? {
+                return Ok(Some(object));
             }
         }
-        Ok(true)
+        Ok(None)
     }
 
-    /// The histories of all objects, or none where one of them is not whole or not accepted, or where a
-    /// mail does not hold.
+    /// The histories of all objects, or the first object whose history is not whole or not accepted, or
+    /// mail that does not hold.
     pub fn in_logs(
         alloc: Global,
         shape: &Shape,
         sizes: &Sizes,
         logs: &'a [LaneLog],
-    ) -> Result<Option<Histories<'a>>, AllocError>
+    ) -> Result<Result<Histories<'a>, Object>, AllocError>
         requires sizes { sizes.now ≡ geometry_of shape.now }
         requires chunks { shape.now.chunks ≤ 2 ^ 16 }
         requires handles { 1 ≤ shape.now.handles }
-        ensures { IfOk result (λ found. MatchOption found
-            (IsBroken shape.now (notes_in logs.now))
-            (AreHistories shape.now (notes_in logs.now))) }
+        ensures { IfOk result (λ found. MatchResult found
+            (AreHistories shape.now (notes_in logs.now))
+            (IsBroken shape.now (notes_in logs.now))) }
     {
         let lanes = spots_of(alloc, logs)?;
         let mut histories = Histories::new(alloc);
         for log in logs {
-            if !histories.add_all(alloc, shape, sizes, &lanes, log.notes.items())? {
-                return Ok(None);
+            let notes = log.notes.items();
+            if let Some(object) = histories.add_all(alloc, shape, sizes, &lanes, notes)? {
+                return Ok(Err(object));
             }
         }
-        Ok(Some(histories))
+        Ok(Ok(histories))
     }
 }

@@ -1,6 +1,6 @@
 //! What the law asks of the log of each lane.
 
-ghost use Rattle.std.specs.Prelude.{◌≡◌, ◌<◌, ◌≤◌, ◌^◌, ◌↔◌, ℕ, length, IsTrue, IfOk};
+ghost use Rattle.std.specs.Prelude.{◌≡◌, ◌<◌, ◌≤◌, ◌^◌, ℕ, length, IsTrue, IfOk, MatchOption};
 ghost use Rattle.std.specs.List.{AllZip, list_all};
 ghost use Rattle.pool_law.specs.declared.id.RootId.{RootId};
 ghost use Rattle.pool_law.specs.Limits.{geometry_of};
@@ -38,82 +38,105 @@ fn log_at<'a>(logs: &'a [LaneLog], told: &'a [Vec<Told>], lane: usize) -> Log<'a
     }
 }
 
-/// Whether each lane may note what it notes.
-pub fn all_stand(shape: &Shape, logs: &[LaneLog]) -> bool
+/// The first lane that notes what it may not note, if there is one.
+pub fn first_astray(shape: &Shape, logs: &[LaneLog]) -> Option<u32>
     requires arenas { 1 ≤ shape.now.arenas }
     requires few { length logs.now ≤ 2 ^ 16 }
-    ensures { IsTrue result ↔ ((lane : ℕ)
-        → IsTrue (list_all (note_stands shape.now lane) (of_lane (notes_in logs.now) lane))) }
+    ensures { MatchOption result
+        ((lane : ℕ)
+        → IsTrue (list_all (note_stands shape.now lane) (of_lane (notes_in logs.now) lane)))
+        (λ lane.
+        IsTrue (list_all (note_stands shape.now lane) (of_lane (notes_in logs.now) lane)) → ⊥) }
 {
     for lane in 0..logs.len() {
         if !notes_stand(shape, lane as u32, logs[lane].notes.items()) {
-            return false;
+            return Some(lane as u32);
         }
     }
-    true
+    None
 }
 
-/// Whether the busy marks of each lane are right.
-pub fn all_busy(alloc: Global, histories: &Histories, logs: &[LaneLog]) -> Result<bool, AllocError>
-    ensures { IfOk result (λ good. IsTrue good ↔ ((lane : ℕ)
-        → BusyHolds lane (history_in histories.now) (of_lane (notes_in logs.now) lane))) }
+/// The first lane whose busy marks are not right, if there is one.
+pub fn first_mismarked(
+    alloc: Global,
+    histories: &Histories,
+    logs: &[LaneLog],
+) -> Result<Option<u32>, AllocError>
+    requires few { length logs.now ≤ 2 ^ 16 }
+    ensures { IfOk result (λ found. MatchOption found
+        ((lane : ℕ) → BusyHolds lane (history_in histories.now) (of_lane (notes_in logs.now) lane))
+        (λ lane.
+        BusyHolds lane (history_in histories.now) (of_lane (notes_in logs.now) lane) → ⊥)) }
 {
     for lane in 0..logs.len() {
         let notes = logs[lane].notes.items();
         if !all_fit(alloc, notes)? {
-            return Ok(false);
+            return Ok(Some(lane as u32));
         }
         if !marks_hold(histories, lane, notes) {
-            return Ok(false);
+            return Ok(Some(lane as u32));
         }
     }
-    Ok(true)
+    Ok(None)
 }
 
-/// Whether each lane uses roots only while it counts them.
-pub fn all_count(alloc: Global, logs: &[LaneLog], told: &[Vec<Told>]) -> Result<bool, AllocError>
-    requires { AreTold (notes_in logs.now) told.now logs.now }
-    ensures { IfOk result (λ good. IsTrue good ↔ ((lane : ℕ) → (root : RootId)
-        → CountsHold root 0 (of_lane (entries_of (notes_in logs.now)) lane))) }
+/// The first lane that uses a root which it doesn't count, if there is one.
+pub fn first_miscounted(
+    alloc: Global,
+    logs: &[LaneLog],
+    told: &[Vec<Told>],
+) -> Result<Option<u32>, AllocError>
+    requires few { length logs.now ≤ 2 ^ 16 }
+    requires told { AreTold (notes_in logs.now) told.now logs.now }
+    ensures { IfOk result (λ found. MatchOption found
+        ((lane : ℕ) → (root : RootId)
+        → CountsHold root 0 (of_lane (entries_of (notes_in logs.now)) lane))
+        (λ lane. ((root : RootId)
+        → CountsHold root 0 (of_lane (entries_of (notes_in logs.now)) lane)) → ⊥)) }
 {
     for lane in 0..logs.len() {
         if !counts_hold(alloc, &log_at(logs, told, lane))? {
-            return Ok(false);
+            return Ok(Some(lane as u32));
         }
     }
-    Ok(true)
+    Ok(None)
 }
 
-/// Whether each lane looks up what it may.
-pub fn all_look(
+/// The first lane that looks up a count which can't be, if there is one.
+pub fn first_mislooked(
     alloc: Global,
     tallies: &[Tally],
     logs: &[LaneLog],
     told: &[Vec<Told>],
-) -> Result<bool, AllocError>
+) -> Result<Option<u32>, AllocError>
+    requires few { length logs.now ≤ 2 ^ 16 }
     requires told { AreTold (notes_in logs.now) told.now logs.now }
     requires tallies { AllZip IsTally tallies.now logs.now }
-    ensures { IfOk result (λ good. IsTrue good ↔ ((lane : ℕ) → (root : RootId)
+    ensures { IfOk result (λ found. MatchOption found
+        ((lane : ℕ) → (root : RootId)
         → LooksHold root (others_retains root lane 0 (entries_of (notes_in logs.now))) 0 0 0
-        (of_lane (entries_of (notes_in logs.now)) lane))) }
+        (of_lane (entries_of (notes_in logs.now)) lane))
+        (λ lane. ((root : RootId)
+        → LooksHold root (others_retains root lane 0 (entries_of (notes_in logs.now))) 0 0 0
+        (of_lane (entries_of (notes_in logs.now)) lane)) → ⊥)) }
 {
     for lane in 0..logs.len() {
         if !looks_hold(alloc, tallies, lane, &log_at(logs, told, lane))? {
-            return Ok(false);
+            return Ok(Some(lane as u32));
         }
     }
-    Ok(true)
+    Ok(None)
 }
 
-/// Whether the replies and notes of each lane are those of its commands.
-pub fn all_answer(
+/// The first lane whose replies and notes are not those of its commands, if there is one.
+pub fn first_misanswered(
     alloc: Global,
     shape: &Shape,
     sizes: &Sizes,
     lanes: &[CommandList],
     logs: &[LaneLog],
     told: &[Vec<Told>],
-) -> Result<bool, AllocError>
+) -> Result<Option<u32>, AllocError>
     requires arenas { 1 ≤ shape.now.arenas }
     requires handles { 1 ≤ shape.now.handles }
     requires few { length logs.now ≤ 2 ^ 16 }
@@ -121,9 +144,13 @@ pub fn all_answer(
     requires sizes { sizes.now ≡ geometry_of shape.now }
     requires commands { (lane : ℕ) → AreCommands shape.now (of_lane lanes.now lane) }
     requires told { AreTold (notes_in logs.now) told.now logs.now }
-    ensures { IfOk result (λ good. IsTrue good ↔ ((lane : ℕ) → lane < length logs.now
+    ensures { IfOk result (λ found. MatchOption found
+        ((lane : ℕ) → lane < length logs.now
         → IsLaneLog shape.now lane (of_lane lanes.now lane) (of_lane (replies_in logs.now) lane)
-        (of_lane (entries_of (notes_in logs.now)) lane))) }
+        (of_lane (entries_of (notes_in logs.now)) lane))
+        (λ lane. (lane < length logs.now)
+        × (IsLaneLog shape.now lane (of_lane lanes.now lane) (of_lane (replies_in logs.now) lane)
+        (of_lane (entries_of (notes_in logs.now)) lane) → ⊥))) }
 {
     for lane in 0..logs.len() {
         let log = log_at(logs, told, lane);
@@ -131,8 +158,8 @@ pub fn all_answer(
         let replies = logs[lane].replies.items();
         let classes = sizes.classes();
         if !is_lane_log(alloc, shape, classes, lane as u32, commands, replies, &log)? {
-            return Ok(false);
+            return Ok(Some(lane as u32));
         }
     }
-    Ok(true)
+    Ok(None)
 }

@@ -6,6 +6,7 @@
 //! The counts, the marks, the chunks at the end and the leaks are then
 //! asked of the logs.
 
+mod breach;
 mod busy;
 mod checking;
 mod counting;
@@ -25,4 +26,5 @@ mod stands;
 mod tally;
 mod totals;
 
-pub use checking::check_run;
+pub use breach::Breach;
+pub use checking::{check_run, find_breach};

@@ -16,10 +16,10 @@ loop-log-init c = (
   λ k below. absurd (omega (arith, below)),
 )
 
-pub returns-then-not-branch : goal.returns-then-not-branch
-returns-then-not-branch c =
-    rw c.if-not-branch.true at
-    (c.in_ok-add_all.ensures (notes_in c.args.logs.now) (rw c.deref.ensures.value c.in_ok-lanes.ensures)
+pub returns-in-Some : goal.returns-in-Some
+returns-in-Some c =
+    rw c.in-Some.is at
+    (c.in_ok-object.ensures (notes_in c.args.logs.now) (rw c.deref.ensures.value c.in_ok-lanes.ensures)
     c.loop-log.invariant.0)
 
 pub loop-log-preserved : goal.loop-log-preserved
@@ -28,10 +28,10 @@ loop-log-preserved c =
     let i = c.loop-log.log-index in
     let old = c.loop-log.histories in
     let new = c.add_all.new.self in
-    let here : of_lane logs i ≡ c.items.result.now =
-    notes-at c.args.logs.now i c.log-item.result (search rules) c.log-item.is ∙ sym c.items.ensures in
-    let more = rw c.if-not-branch.false at
-    (c.in_ok-add_all.ensures logs (rw c.deref.ensures.value c.in_ok-lanes.ensures) c.loop-log.invariant.0) in (
+    let here : of_lane logs i ≡ c.items-notes.result.now =
+    notes-at c.args.logs.now i c.log-item.result (search rules) c.log-item.is ∙ sym c.items-notes.ensures in
+    let more = rw c.in_default.is at
+    (c.in_ok-object.ensures logs (rw c.deref.ensures.value c.in_ok-lanes.ensures) c.loop-log.invariant.0) in (
       more.0,
       below_more (λ (k : ℕ). Covers new (of_lane logs k)) i
           (λ k below. covers-kept old new (of_lane logs k) more.1 (c.loop-log.invariant.1 k below))

@@ -3,7 +3,7 @@ use Rattle.pool_law.specs.Logs.{of_lane}
 use Rattle.pool_law.specs.Busy.{BusyHolds}
 use Rattle.run_check.specs.Spotting.{notes_in}
 use Rattle.run_check.specs.Storing.{history_in}
-use Rattle.run_check.proofs.lanes.all_busy.Given as goal
+use Rattle.run_check.proofs.lanes.first_mismarked.Given as goal
 
 abbrev pub invariant-loop-lane : goal.invariant-loop-lane
 invariant-loop-lane l =

@@ -1,4 +1,4 @@
-use Rattle.std.proofs.Common.{rules, ◌≡◌, ℕ, ◌<◌, ◌≤◌, List, length, get_or, refl, sym, ap, subst, below_more, arith, ◌∙◌}
+use Rattle.std.proofs.Common.{rules, ◌≡◌, ℕ, ◌<◌, ◌≤◌, List, length, get_or, sym, ap, subst, below_more, arith, ◌∙◌}
 use Rattle.std.proofs.lemmas.Bool.{false≢true}
 use Rattle.pool_law.specs.declared.command.Command.{Command}
 use Rattle.pool_law.specs.declared.run.Answered.{Answered}
@@ -9,7 +9,7 @@ use Rattle.pool_law.specs.Legal.{AreCommands}
 use Rattle.run_check.specs.Spotting.{notes_in}
 use Rattle.run_check.specs.Spotting.{replies_in}
 use Rattle.run_check.proofs.LaneLemmas.{lane-at, replies-get}
-use Rattle.run_check.proofs.lanes.all_answer.Goals as goal
+use Rattle.run_check.proofs.lanes.first_misanswered.Goals as goal
 
 -- the law of the same commands, replies and entries
 same-log : (shape : Shape) (lane : ℕ) (cs ds : List Command) (rs qs : List Answered) (es fs : List Entry) →
@@ -45,10 +45,10 @@ returns-then-not-branch c =
     ∙ sym c.items-commands.ensures in
     let replies : of_lane (replies_in logs) lane ≡ c.items-replies.result.now =
     replies-get logs lane c.index-logs-lane.result there ∙ sym c.items-replies.ensures in (
-      λ e. absurd (cc e),
-      λ all.
-          absurd (false≢true (sym c.if-not-branch.true ∙ c.in_ok-is_lane_log.ensures.1
-          (same-log _ _ _ _ _ _ _ _ commands replies (sym c.log_at-log.ensures.entries) (all lane there)))),
+      there,
+      λ right.
+          false≢true (sym c.if-not-branch.true ∙ c.in_ok-is_lane_log.ensures.1
+          (same-log _ _ _ _ _ _ _ _ commands replies (sym c.log_at-log.ensures.entries) right)),
     )
 
 pub loop-lane-preserved : goal.loop-lane-preserved
@@ -75,4 +75,4 @@ loop-lane-preserved c =
 pub returns : goal.returns
 returns c =
     let past : length c.args.logs.now ≤ c.loop-lane.lane = search rules in
-    (λ _ lane there. c.loop-lane.invariant lane (omega (arith, there, past)), λ _. refl)
+    λ lane there. c.loop-lane.invariant lane (omega (arith, there, past))

@@ -6,19 +6,17 @@ use Rattle.pool_law.specs.declared.note.Note.{Note}
 use Rattle.pool_law.specs.Logs.{of_lane, note_stands}
 use Rattle.run_check.specs.Spotting.{notes_in}
 use Rattle.run_check.proofs.LaneLemmas.{notes-get, each-notes}
-use Rattle.run_check.proofs.lanes.all_stand.Goals as goal
+use Rattle.run_check.proofs.lanes.first_astray.Goals as goal
 
 pub returns-then-not-notes_stand : goal.returns-then-not-notes_stand
 returns-then-not-notes_stand c =
     let logs = c.args.logs.now in
     let lane = c.loop-lane.lane in
     let here : of_lane (notes_in logs) lane ≡ c.items.result.now =
-    notes-get logs lane c.index-logs-lane.result (search rules) ∙ sym c.items.ensures in (
-      λ e. absurd (cc e),
-      λ all.
-          absurd (false≢true (sym c.if-not-notes_stand.true ∙ c.notes_stand.ensures
-          ∙ ap (list_all (note_stands c.args.shape.now lane)) (sym here) ∙ all lane)),
-    )
+    notes-get logs lane c.index-logs-lane.result (search rules) ∙ sym c.items.ensures in
+    λ stand.
+    false≢true (sym c.if-not-notes_stand.true ∙ c.notes_stand.ensures
+    ∙ ap (list_all (note_stands c.args.shape.now lane)) (sym here) ∙ stand)
 
 pub loop-lane-preserved : goal.loop-lane-preserved
 loop-lane-preserved c =
@@ -32,9 +30,6 @@ loop-lane-preserved c =
     (ap (list_all (note_stands c.args.shape.now lane)) here ∙ sym c.notes_stand.ensures ∙ c.if-not-notes_stand.false)
 
 pub returns : goal.returns
-returns c = (
-  λ _.
-      each-notes (λ k (ns : List Note). IsTrue (list_all (note_stands c.args.shape.now k) ns)) c.args.logs.now
-      c.loop-lane.lane c.loop-lane.invariant (search rules) (λ k. refl),
-  λ _. refl,
-)
+returns c =
+    each-notes (λ k (ns : List Note). IsTrue (list_all (note_stands c.args.shape.now k) ns)) c.args.logs.now
+    c.loop-lane.lane c.loop-lane.invariant (search rules) (λ k. refl)
