@@ -6,14 +6,14 @@ ghost use Rattle.play_check.specs.Judging.{Judges};
 
 use log_order::{Spot, Told, order_of_logs};
 use pool_law::Run;
-use run_check::check_run;
+use run_check::{Breach, find_breach};
 use std::alloc::{AllocError, Global};
 
 /// What is said of a run.
 #[derive(Drop)]
 pub enum Played {
-    /// It isn't legal.
-    Illegal,
+    /// It isn't legal: it doesn't keep this part of the law.
+    Illegal(Breach),
     /// It is legal, and its notes are in one order: this.
     Ordered(Vec<Spot>),
     /// It is legal, and its notes are in no order: each of these must stand before the next, and the
@@ -25,12 +25,13 @@ pub enum Played {
 }
 
 /// Whether the pool can make a run, and one thread could make its notes, one after another in one
-/// order: an order, or a circle of notes of which each must stand before the next.
+/// order: an order, or a circle of notes of which each must stand before the next. Of a run that the
+/// pool can't make, the first part of the law that it doesn't keep.
 pub fn check_played(alloc: Global, run: &Run) -> Result<Played, AllocError>
     ensures { IfOk result (λ played. Judges run.now played) }
 {
-    if !check_run(alloc, run)? {
-        return Ok(Played::Illegal);
+    if let Some(breach) = find_breach(alloc, run)? {
+        return Ok(Played::Illegal(breach));
     }
     match order_of_logs(alloc, run.logs.items())? {
         Told::Ordered(order) => Ok(Played::Ordered(order)),
