@@ -16,8 +16,6 @@ mod reading;
 mod replies;
 mod run;
 mod steps;
-#[cfg(test)]
-mod tests;
 mod text;
 mod views;
 

@@ -34,8 +34,6 @@ mod places;
 mod retained;
 mod runner;
 mod runners;
-#[cfg(test)]
-mod tests;
 mod words;
 mod work;
 

@@ -10,23 +10,6 @@ use std::io::{ErrorKind, Write};
 use std::process::ExitCode;
 use trace_top::{OpenGate, Outcome, Status, StdSink, StdSource, line_of, run};
 
-#[cfg(test)]
-mod composites;
-#[cfg(test)]
-mod consolidations;
-#[cfg(test)]
-mod generated;
-#[cfg(test)]
-mod rows;
-#[cfg(test)]
-mod sweeps;
-#[cfg(test)]
-mod tests;
-#[cfg(test)]
-mod versions;
-#[cfg(test)]
-mod workers;
-
 fn main(rt: HostRuntime) -> ExitCode {
     let outcome = match words(&rt) {
         Err(status) => without_run(status),

@@ -1,5 +1,5 @@
-//! Hostile runs of the top call: broken texts, ends that fail, lanes that are stopped, traces at
-//! the limits.
+//! Runs of the top call that need code: ends that fail, lanes that a gate stops or holds up; and runs
+//! of each kind, judged.
 //!
 //! A crate with tests is proved twice, once with them; these stand over `trace_top` as it is built, so
 //! that it isn't proved again for them.

@@ -2,9 +2,10 @@
 
 mod ends;
 mod gates;
+mod judged;
+mod meeting;
 mod model;
 mod stops;
-mod texts;
 mod traces;
 
 use run_check::check_run;

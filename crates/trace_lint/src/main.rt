@@ -16,15 +16,11 @@ mod line;
 mod lint;
 mod options;
 mod place;
-#[cfg(test)]
-mod rows;
 mod run;
 mod scan;
 mod shape;
 mod stuck;
 mod syntax;
-#[cfg(test)]
-mod tests;
 
 use run::{Status, run as lint_all};
 
