@@ -5,7 +5,8 @@ use std::test::Fail;
 use trace_top::{OpenGate, SafeSink, SafeSource, run};
 
 /// Words, and a trace, with ` => ` between them.
-const KINDS: &str = r#"--level paranoid => [[["alloc","a",3],["write","a","010203"],["alloc","b",5],["compose","c","a","b"],["get","c",2,2],["forget","c"]]]
+const KINDS: &str =
+    r#"--level paranoid => [[["alloc","a",3],["write","a","010203"],["alloc","b",5],["compose","c","a","b"],["get","c",2,2],["forget","c"]]]
 --history => [[["alloc","a",4],["compose","c","a","a","a"],["retain","c"],["release","c"],["retain","a"],["release","c"],["get","c",0,1]]]
 --handles 2 => [[["alloc","a",4],["compose","c","a","a","a","a","a","a","a","a","a","a","a","a","a","a","a","a","a"],["get","c",60,8],["add","c","a"],["release","c"]]]
 --workers 2 => [[["alloc","a",4],["retain","a"],["compose","c","a","a"],["send","a",1],["get","c",0,1],["release","c"]],[["recv","x",0],["release","x"],["touch","x"]]]
