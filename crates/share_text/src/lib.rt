@@ -16,6 +16,6 @@ pub use inputs::{
     BYTE_LIMIT, COMPOSITE_LIMIT, Composites, Input, InputNo, PART_LIMIT, Parts, READ_LIMIT,
     READER_LIMIT, Readers, Reads,
 };
-pub use lines::{Seen, SeenList, text_of, write_end_lines, write_read_line};
+pub use lines::{Seen, SeenList, text_with, write_end_lines, write_read_line};
 pub use reading::read_input;
-pub use seeing::{seen_in, write_text};
+pub use seeing::{seen_in, text_of};

@@ -22,7 +22,7 @@ pub type SeenList = Items<Seen>;
 /// The text of what each reader saw, where so many parts of each composite were released: a line for
 /// each read, reader by reader, one for each composite, and the last, which says that nothing is
 /// live.
-pub fn text_of(alloc: Global, seen: &[SeenList], released: &[u32]) -> Result<Bytes, AllocError>
+pub fn text_with(alloc: Global, seen: &[SeenList], released: &[u32]) -> Result<Bytes, AllocError>
     ensures { IfOk result (λ text. text ≡ text_with seen.now released.now) }
 {
     let mut writer = Writer::new(alloc);

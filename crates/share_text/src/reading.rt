@@ -49,8 +49,7 @@ pub fn read_input(alloc: Global, text: &[u8]) -> Result<Input, InputNo>
 // What a JSON value asks for.
 #[tactic(auto, unfolding(crate::specs::Inputs::input_in))]
 fn input_from(alloc: Global, value: &Value) -> Result<Input, RowNo>
-    ensures reading { IsGiven result (input_in (view value.now)) }
-    ensures within { IfOk result IsInput }
+    ensures { IsGiven result (input_in (view value.now)) }
 {
     if !has_keys_of(&KEYS, value) {
         return Err(RowNo::Form);

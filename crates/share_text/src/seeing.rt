@@ -5,18 +5,18 @@ ghost use Rattle.share_text.specs.Inputs.{IsInput, part_limit};
 ghost use Rattle.share_text.specs.Lines.{seen_in, seen_of, text_of};
 
 use crate::inputs::{Input, Parts};
-use crate::lines::{Seen, SeenList, text_of};
+use crate::lines::{Seen, SeenList, text_with};
 use pool_law::Bytes;
 use std::alloc::{AllocError, Global};
 
 /// The text of an input: what each reader sees, and that each part of each composite is released.
-pub fn write_text(alloc: Global, input: &Input) -> Result<Bytes, AllocError>
+pub fn text_of(alloc: Global, input: &Input) -> Result<Bytes, AllocError>
     requires { IsInput input.now }
     ensures { IfOk result (λ text. text ≡ text_of input.now) }
 {
     let seen = seen_in(alloc, input)?;
     let parts = part_counts(alloc, input.composites.items())?;
-    text_of(alloc, &seen, &parts)
+    text_with(alloc, &seen, &parts)
 }
 
 /// What each reader of an input sees, in the order of its reads: the bytes of the parts of the

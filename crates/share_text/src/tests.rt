@@ -1,5 +1,5 @@
 //! Inputs and their texts, and texts that are refused.
-use crate::{InputNo, read_input, write_text};
+use crate::{InputNo, read_input, text_of};
 use std::alloc::{AllocError, Global};
 use std::process::Abort;
 use std::test::Fail;
@@ -67,7 +67,7 @@ fn writes_what_readers_see(rt: HostRuntime) -> Result<(), Fail> {
     for (input, text) in ROWS {
         match read_input(rt.alloc(), input.as_bytes()) {
             Ok(input) => {
-                let written = write_text(rt.alloc(), &input)?;
+                let written = text_of(rt.alloc(), &input)?;
                 assert_eq!(rt; written.items(), text.as_bytes());
             }
             Err(no) => assert_eq!(rt; no, InputNo::Memory, "at {input}"),

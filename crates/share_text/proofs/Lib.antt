@@ -1,0 +1,2 @@
+pub mod EachSteps
+pub mod InputFits

@@ -1,0 +1,16 @@
+use Rattle.std.proofs.Common.{rules}
+use Rattle.share_text.proofs.EachSteps.{all_behind, value_taken, value_refused}
+use Rattle.share_text.proofs.reading.each_part.Goals as goal
+
+pub loop-row-init : goal.loop-row-init
+loop-row-init c = all_behind _
+
+pub returns-in_err-part : goal.returns-in_err-part
+returns-in_err-part c =
+    value_refused c.in_err-part.field-0.0 _ _ _ _ _ _ _ c.loop-row-test.true c.row-item.is c.loop-row.invariant
+    c.in_err-part.ensures c.from_residual.ensures.1
+
+pub loop-row-preserved : goal.loop-row-preserved
+loop-row-preserved c =
+    value_taken _ _ _ _ _ _ _ _ c.loop-row-test.true c.row-item.is c.loop-row.invariant c.in_ok-part.ensures
+    (search rules)
