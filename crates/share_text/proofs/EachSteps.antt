@@ -21,11 +21,6 @@ one_before : {A : Type 0} (front : List A) (a : A) (read : Option (List A))
 one_before front a None = refl
 one_before front a (Some rest) = rw (append_assoc) refl
 
--- all of them, behind none
-pub all_behind : {A : Type 0} (read : Option (List A)) → read ≡ behind [] read
-all_behind None = refl
-all_behind (Some rest) = refl
-
 -- one more value
 pub value_taken : {A : Type 0} (read : Data → Option A) (front new : List A) (a : A) (i : ℕ) (values : List Value)
     (value : Value) (all : Option (List A)) → i < length values → value ≡ get_or values i value

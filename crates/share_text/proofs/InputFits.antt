@@ -8,7 +8,7 @@ use Rattle.trace_text.specs.Items.{◌>>=◌, only_if, array_in, bytes_in, numbe
 use Rattle.trace_text.specs.Options.{has_keys_of}
 use Rattle.trace_text.proofs.FormSteps.{through, through_if}
 use Rattle.share_text.specs.declared.inputs.Input.{Input}
-use Rattle.share_text.specs.Inputs.{IsFew, IsInput, byte_limit, composite_in, composite_limit, composites_in, each_of, few_in, input_in, input_keys, part_in, part_limit, read_count, read_in, read_limit, reader_limit, readers_in, reads_in}
+use Rattle.share_text.specs.Inputs.{IsFew, IsInput, byte_limit, composite_in, composite_limit, composites_in, each_of, few_in, input_in, is_few, input_keys, part_in, part_limit, read_count, read_in, read_limit, reader_limit, readers_in, reads_in}
 
 -- what passes a test
 only_so : {A : Type 0} (test : A → Bool) (Q : A → Type 0) (a : A) → (test a ≡ true → Q a) → IfSome (only_if test a) Q
@@ -23,12 +23,14 @@ weaker P Q (Some a) so known = so a known
 
 -- ---- Arrays.
 
-few : {A : Type 0} (most : ℕ) (xs : List A) → (nat_le 1 (length xs) && nat_le (length xs) most) ≡ true → IsFew most xs
+few : {A : Type 0} (most : ℕ) (xs : List A) → is_few most xs ≡ true → IsFew most xs
 few most xs h = search (rules, tests)
 
 few_fits : (most : ℕ) (d : Data) → IfSome (few_in most d) (IsFew most)
 unfolding few_in
-few_fits most d = through (IsFew most) (array_in d) _ (λ ds. only_so _ (IsFew most) ds (few most ds))
+few_fits most d =
+    through (IsFew most) (array_in d) (only_if (is_few most)) (λ (ds : List Data).
+    only_so (is_few {A = Data} most) (IsFew most) ds (few most ds))
 
 -- as many as there were values, each of which has what a reading gives
 abbrev Fits : {A : Type 0} → (A → Type 0) → List Data → List A → Type 0
@@ -61,9 +63,16 @@ few_each most read Q fits d =
 abbrev PartFits : List ℕ → Type 0
 PartFits part = length part ≤ byte_limit
 
+abbrev is_small : List ℕ → Bool
+is_small part = nat_le (length part) byte_limit
+
+small : (part : List ℕ) → is_small part ≡ true → PartFits part
+small part h = search (rules, tests)
+
 part_fits : (d : Data) → IfSome (part_in d) PartFits
 unfolding part_in
-part_fits d = through PartFits (bytes_in d) _ (λ part. only_so _ PartFits part (λ h. search (rules, tests)))
+part_fits d =
+    through PartFits (bytes_in d) (only_if is_small) (λ part. only_so is_small PartFits part (small part))
 
 abbrev CompositeFits : List (List ℕ) → Type 0
 CompositeFits = FewFit part_limit PartFits
@@ -84,28 +93,39 @@ composites_fit d = few_each composite_limit composite_in CompositeFits composite
 abbrev ReadFits : ℕ → ℕ → Type 0
 ReadFits count k = k < count
 
+below : (count k : ℕ) → nat_lt k count ≡ true → ReadFits count k
+below count k h = search (rules, tests)
+
 read_fits : (count : ℕ) (d : Data) → IfSome (read_in count d) (ReadFits count)
 unfolding read_in
 read_fits count d =
-    through (ReadFits count) (number_in d) _ (λ k. only_so _ (ReadFits count) k (λ h. search (rules, tests)))
+    through (ReadFits count) (number_in d) (only_if (λ k. nat_lt k count)) (λ k.
+    only_so (λ n. nat_lt n count) (ReadFits count) k (below count k))
 
 reads_fit : (count : ℕ) (d : Data) → IfSome (reads_in count d) (All (ReadFits count))
 unfolding reads_in
 reads_fit count d =
-    through (All (ReadFits count)) (array_in d) _ (λ ds.
-    weaker (Fits (ReadFits count) ds) (All (ReadFits count)) _ (λ ks known. known.1)
+    through (All (ReadFits count)) (array_in d) (each_of (read_in count)) (λ ds.
+    weaker (Fits (ReadFits count) ds) (All (ReadFits count)) (each_of (read_in count) ds) (λ ks known. known.1)
     (each_fits (read_in count) (ReadFits count) (read_fits count) ds))
 
 abbrev ReadersFit : ℕ → List (List ℕ) → Type 0
 ReadersFit count readers =
     FewFit reader_limit (All (ReadFits count)) readers × (read_count readers ≤ read_limit)
 
+abbrev are_few_reads : List (List ℕ) → Bool
+are_few_reads readers = nat_le (read_count readers) read_limit
+
+few_reads : (readers : List (List ℕ)) → are_few_reads readers ≡ true → read_count readers ≤ read_limit
+few_reads readers h = search (rules, tests)
+
 readers_fit : (count : ℕ) (d : Data) → IfSome (readers_in count d) (ReadersFit count)
 unfolding readers_in
 readers_fit count d =
-    through_if (FewFit reader_limit (All (ReadFits count))) (ReadersFit count) _ _
+    through_if (FewFit reader_limit (All (ReadFits count))) (ReadersFit count)
+    (few_in reader_limit d >>= each_of (reads_in count)) (only_if are_few_reads)
     (few_each reader_limit (reads_in count) (All (ReadFits count)) (reads_fit count) d)
-    (λ readers known. only_so _ (ReadersFit count) readers (λ h. (known, search (rules, tests))))
+    (λ readers known. only_so are_few_reads (ReadersFit count) readers (λ h. (known, few_reads readers h)))
 
 -- ---- Inputs.
 

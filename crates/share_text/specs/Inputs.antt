@@ -1,5 +1,5 @@
 -- Which texts ask for something, and for what: composites and readers, as a JSON object.
-use Rattle.std.specs.Prelude.{◌≡◌, ℕ, ◌<◌, ◌≤◌, ◌&&◌, nat_le, nat_lt, if◌then◌else◌, List, [], ◌∷◌, length, codes, Option, Some, None, Result, Ok, Err, All}
+use Rattle.std.specs.Prelude.{◌≡◌, ℕ, ◌<◌, ◌≤◌, ◌&&◌, nat_le, nat_lt, Bool, if◌then◌else◌, List, [], ◌∷◌, length, codes, Option, Some, None, Result, Ok, Err, All}
 use Rattle.std.specs.List.{sum_by}
 use Rattle.std.specs.Result.{result_ok}
 use Rattle.serde_json.specs.Data.{Data}
@@ -31,10 +31,13 @@ read_limit = 4096
 
 -- ---- Arrays.
 
--- the items of an array that has at least one, and at most so many
+-- whether there is at least one, and at most so many
+abbrev pub is_few : {A : Type 0} → ℕ → List A → Bool
+is_few most xs = nat_le 1 (length xs) && nat_le (length xs) most
+
+-- the items of an array of at least one, and at most so many
 unfoldable pub few_in : ℕ → Data → Option (List Data)
-few_in most d =
-    array_in d >>= only_if (λ ds. nat_le 1 (length ds) && nat_le (length ds) most)
+few_in most d = array_in d >>= only_if (is_few most)
 
 -- what is read of each value, where something is read of all of them
 abbrev pub each_of : {A : Type 0} → (Data → Option A) → List Data → Option (List A)

@@ -1,9 +1,6 @@
 use Rattle.std.proofs.Common.{rules}
-use Rattle.share_text.proofs.EachSteps.{all_behind, value_taken, value_refused}
+use Rattle.share_text.proofs.EachSteps.{value_taken, value_refused}
 use Rattle.share_text.proofs.reading.each_composite.Goals as goal
-
-pub loop-row-init : goal.loop-row-init
-loop-row-init c = all_behind _
 
 pub returns-in_err-composite : goal.returns-in_err-composite
 returns-in_err-composite c =

@@ -1,9 +1,6 @@
 use Rattle.std.proofs.Common.{rules}
-use Rattle.share_text.proofs.EachSteps.{all_behind, value_taken, value_refused}
+use Rattle.share_text.proofs.EachSteps.{value_taken, value_refused}
 use Rattle.share_text.proofs.reading.each_part.Goals as goal
-
-pub loop-row-init : goal.loop-row-init
-loop-row-init c = all_behind _
 
 pub returns-in_err-part : goal.returns-in_err-part
 returns-in_err-part c =

@@ -1,6 +1,6 @@
-use Rattle.std.proofs.Common.{◌≡◌, take}
+use Rattle.std.proofs.Common.{◌≡◌, ◌++◌, drop}
 use Rattle.std.specs.List.{concat}
 use Rattle.share_text.proofs.seeing.bytes_of.Given as goal
 
 abbrev pub invariant-loop-part : goal.invariant-loop-part
-invariant-loop-part l = l.bytes.items ≡ concat (take l.part-index l.parts)
+invariant-loop-part l = concat l.parts ≡ l.bytes.items ++ concat (drop l.part-index l.parts)
