@@ -1,0 +1,226 @@
+//! The lines of notes.
+
+use crate::known::{Born, Known};
+use crate::lines::words_behind;
+use crate::objects::{at_bin, busy, object_of, ref_did};
+use crate::words::Words;
+use crate::{LineNo, TextNo};
+use pool_law::{CacheNo, Did, Note, Object, Parcel, RegionId, ViewData};
+use std::alloc::Global;
+
+/// The notes of a text, as they are made one after another.
+#[derive(Drop)]
+pub struct Notes {
+    alloc: Global,
+    known: Known,
+    // How many arenas there are.
+    arenas: u32,
+    // The root that ended last: the region that it leaves is put away next.
+    ended: Option<Born>,
+}
+
+impl Notes {
+    /// What all note lines tell of roots and regions; of the notes themselves there are none yet.
+    pub fn told_by(
+        alloc: Global,
+        arenas: u32,
+        lines: &[&str],
+        from: usize,
+        to: usize,
+    ) -> Result<Notes, TextNo> {
+        let mut known = Known::new(alloc)?;
+        for at in from..to {
+            known.learn(&mut words_behind(lines, at)?)?;
+        }
+        Ok(Notes {
+            alloc,
+            known,
+            arenas,
+            ended: None,
+        })
+    }
+
+    /// The lane of a note line, and the note.
+    pub fn note(&mut self, words: &mut Words) -> Result<(u32, Note), TextNo> {
+        let _note = words.next();
+        let lane = words.small()?;
+        let word = words.next();
+        let note = if word == "ref" {
+            self.reference(words)?
+        } else if word == "busy" {
+            busy(words)?
+        } else {
+            self.step(words, lane, word)?
+        };
+        Ok((lane, note))
+    }
+
+    // A step on the count of a root.
+    fn reference(&self, words: &mut Words) -> Result<Note, TextNo> {
+        let key = words.pair('.')?;
+        let born = self.known.born(words, key)?;
+        Ok(Note::Ref {
+            root: born.root,
+            did: ref_did(words)?,
+        })
+    }
+
+    // A step at the object that begins with this word.
+    fn step(&mut self, words: &mut Words, lane: u32, word: &str) -> Result<Note, TextNo> {
+        let object = object_of(words, word)?;
+        let number = words.number()?;
+        let did = match object {
+            Object::Arena(arena) => self.at_arena(words, lane, arena)?,
+            Object::Cache { lane: owner, .. } => self.at_cache(words, owner)?,
+            Object::Bin(_) => at_bin(words)?,
+            Object::Mail { .. } => self.at_mail(words)?,
+            Object::Root(place) => self.at_root(words, place)?,
+        };
+        Ok(Note::At {
+            object,
+            number,
+            did,
+        })
+    }
+
+    fn at_arena(&self, words: &mut Words, lane: u32, arena: u32) -> Result<Did, TextNo> {
+        let word = words.next();
+        if word == "take" {
+            let region = self.known.region_taken(words, lane, arena)?;
+            Ok(Did::Take {
+                class: region.class,
+                region,
+            })
+        } else if word == "full" {
+            Ok(Did::Full {
+                class: words.small()?,
+            })
+        } else if word == "give" {
+            let _spot = words.pair('+')?;
+            let taking = words.number()?;
+            Ok(Did::Give(self.known.region_used(words, (arena, taking))?))
+        } else {
+            Err(words.refused(LineNo::Form))
+        }
+    }
+
+    // A lane's cache has regions of the arena that the lane takes from.
+    fn at_cache(&mut self, words: &mut Words, owner: u32) -> Result<Did, TextNo> {
+        if self.arenas == 0 {
+            return Err(words.refused(LineNo::Region));
+        }
+        let arena = owner % self.arenas;
+        let word = words.next();
+        if word == "miss" {
+            Ok(Did::Miss)
+        } else if word == "trim" {
+            Ok(Did::Trim(words.small()?))
+        } else if word == "close" {
+            Ok(Did::Close(words.small()?))
+        } else if word == "hit" {
+            let taking = words.number()?;
+            Ok(Did::Hit(self.known.region_hit(words, (arena, taking))?))
+        } else if word == "kept" {
+            Ok(Did::Kept(self.region_ended(words, arena)?))
+        } else if word == "back" {
+            self.back(words, arena)
+        } else if word == "shed" {
+            let taking = words.number()?;
+            Ok(Did::Shed(self.known.region_used(words, (arena, taking))?))
+        } else {
+            Err(words.refused(LineNo::Form))
+        }
+    }
+
+    // A region that isn't kept has been used for the last time.
+    fn back(&self, words: &mut Words, arena: u32) -> Result<Did, TextNo> {
+        let word = words.next();
+        let no = if word == "full" {
+            CacheNo::Full
+        } else if word == "closed" {
+            CacheNo::Closed
+        } else {
+            return Err(words.refused(LineNo::Form));
+        };
+        let taking = words.number()?;
+        let region = self.known.region_used(words, (arena, taking))?;
+        Ok(Did::Back { region, no })
+    }
+
+    // The region of the root that ended last, by its taking.
+    fn region_ended(&self, words: &mut Words, arena: u32) -> Result<RegionId, TextNo> {
+        let key = (arena, words.number()?);
+        match self.ended {
+            Some(ended) => self.known.region(words, key, ended.uses),
+            None => self.known.region_used(words, key),
+        }
+    }
+
+    fn at_mail(&self, words: &mut Words) -> Result<Did, TextNo> {
+        let word = words.next();
+        if word == "post" {
+            Ok(Did::Post(self.parcel(words)?))
+        } else if word == "fetch" {
+            Ok(Did::Fetch(self.parcel(words)?))
+        } else {
+            Err(words.refused(LineNo::Form))
+        }
+    }
+
+    fn parcel(&self, words: &mut Words) -> Result<Parcel, TextNo> {
+        let mut rest = *words;
+        if rest.next() == "empty" {
+            return Ok(Parcel { view: None });
+        }
+        let key = words.pair('.')?;
+        let born = self.known.born(words, key)?;
+        let (offset, len) = words.pair('+')?;
+        let reader = words.small()?;
+        let writer = words.small()?;
+        Ok(Parcel {
+            view: Some(ViewData {
+                root: born.root,
+                offset,
+                len,
+                reader,
+                writer,
+            }),
+        })
+    }
+
+    fn at_root(&mut self, words: &mut Words, place: u32) -> Result<Did, TextNo> {
+        let word = words.next();
+        if word == "set" {
+            Ok(Did::Set {
+                offset: words.small()?,
+                bytes: words.bytes(self.alloc)?,
+            })
+        } else if word == "get" {
+            Ok(Did::Get {
+                offset: words.small()?,
+                bytes: words.bytes(self.alloc)?,
+            })
+        } else if word == "touch" {
+            Ok(Did::Touch)
+        } else if word == "birth" {
+            self.birth(words, place)
+        } else if word == "end" {
+            let generation = words.small()?;
+            let born = self.known.born(words, (place, generation))?;
+            self.ended = Some(born);
+            Ok(Did::End(born.root))
+        } else {
+            Err(words.refused(LineNo::Form))
+        }
+    }
+
+    fn birth(&self, words: &mut Words, place: u32) -> Result<Did, TextNo> {
+        let generation = words.small()?;
+        let born = self.known.born(words, (place, generation))?;
+        let region = self.known.region(words, born.taking, born.uses)?;
+        Ok(Did::Birth {
+            root: born.root,
+            region,
+        })
+    }
+}

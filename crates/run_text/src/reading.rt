@@ -1,0 +1,156 @@
+//! From a text to its run.
+
+ghost use Rattle.std.specs.Prelude.{◌≡◌, length, map, IsTrue, IfOk};
+ghost use Rattle.run_text.specs.Reads.{Reads};
+
+use crate::cutting::answered_by;
+use crate::ends::{chunks_of, leaks_of};
+use crate::lines::{end_of, lines_of, number_behind, words_behind};
+use crate::notes::Notes;
+use crate::replies::replies_of;
+use crate::{LineNo, TextNo};
+use pool_law::{
+    ChunkEnds, CommandList, LaneLog, LaneLogs, LeakList, Note, NoteList, Reply, Run, Shape, Trace,
+};
+use run_report::text_of;
+use std::alloc::{AllocError, Global};
+
+/// What a text tells of a run of known trace and shape.
+#[derive(Drop)]
+struct Told {
+    logs: LaneLogs,
+    chunks: ChunkEnds,
+    leaks: LeakList,
+}
+
+/// The run of this trace and shape that has this text, with its history, as `poolrun` prints it.
+///
+/// What the text leaves out is derived, so that a legal run with this text is found. Where the pool can't
+/// have made this text, what is derived may be anything: whether the run is legal is to be asked of
+/// `run_check`. A line that is refused is the first that can't be understood, or in which the text of the
+/// run that was derived differs. `Memory` comes only for want of memory; nothing is proved of the other refusals'
+/// causes. Takes time linear in the length of the text.
+pub fn read_run(alloc: Global, trace: Trace, shape: Shape, text: &str) -> Result<Run, TextNo>
+    ensures { IfOk result (λ run. Reads trace shape text.now run) }
+{
+    let Told {
+        logs,
+        chunks,
+        leaks,
+    } = told_by(alloc, trace.lanes.items(), &shape, text)?;
+    let run = Run {
+        trace,
+        shape,
+        logs,
+        chunks,
+        leaks,
+    };
+    if !answers_all(run.trace.lanes.items(), run.logs.items()) {
+        return Err(refused(0));
+    }
+    let shown = text_of(alloc, &run, true)?;
+    if shown.items() != text.as_bytes() {
+        return Err(refused(lines_shared(shown.items(), text.as_bytes())));
+    }
+    Ok(run)
+}
+
+// The refusal of the line behind so many.
+fn refused(count: usize) -> TextNo {
+    TextNo::Line {
+        number: number_behind(count),
+        why: LineNo::Form,
+    }
+}
+
+// What a text tells.
+fn told_by(
+    alloc: Global,
+    lanes: &[CommandList],
+    shape: &Shape,
+    text: &str,
+) -> Result<Told, TextNo> {
+    let lines = lines_of(alloc, text)?;
+    let (replies, from) = replies_of(alloc, lanes, &lines)?;
+    let to = end_of(&lines, from, "note ");
+    let notes = notes_of(alloc, lanes.len(), shape.arenas, &lines, from, to)?;
+    let logs = logs_of(alloc, lanes, replies, notes)?;
+    let end = end_of(&lines, to, "chunk ");
+    Ok(Told {
+        logs,
+        chunks: chunks_of(alloc, &lines, to, end)?,
+        leaks: leaks_of(alloc, &lines, end)?,
+    })
+}
+
+// The notes of the lanes, from the lines from one to another.
+fn notes_of(
+    alloc: Global,
+    lanes: usize,
+    arenas: u32,
+    lines: &[&str],
+    from: usize,
+    to: usize,
+) -> Result<Vec<Vec<Note>>, TextNo> {
+    let mut all = Vec::new(alloc);
+    for _ in 0..lanes {
+        all.push(Vec::new(alloc)).map_err(AllocError::from)?;
+    }
+    let mut notes = Notes::told_by(alloc, arenas, lines, from, to)?;
+    for at in from..to {
+        let mut words = words_behind(lines, at)?;
+        let (lane, note) = notes.note(&mut words)?;
+        match all.get_mut(lane as usize) {
+            Some(log) => log.push(note).map_err(AllocError::from)?,
+            None => return Err(words.refused(LineNo::Form)),
+        }
+    }
+    Ok(all)
+}
+
+// The logs of the lanes.
+fn logs_of(
+    alloc: Global,
+    lanes: &[CommandList],
+    replies: Vec<Vec<Reply>>,
+    notes: Vec<Vec<Note>>,
+) -> Result<LaneLogs, AllocError> {
+    let mut logs = Vec::new(alloc);
+    for (replies, notes) in replies.into_iter().zip(notes) {
+        if let Some(commands) = lanes.get(logs.len()) {
+            let replies = answered_by(alloc, commands.items(), replies, &notes)?;
+            let notes = NoteList::of(notes);
+            logs.push(LaneLog { replies, notes })?;
+        }
+    }
+    Ok(LaneLogs::of(logs))
+}
+
+// Whether each lane has a log, and each command a reply.
+fn answers_all(lanes: &[CommandList], logs: &[LaneLog]) -> bool
+    ensures { IsTrue result → map (λ log. length log.replies) logs.now ≡ map length lanes.now }
+{
+    if lanes.len() != logs.len() {
+        return false;
+    }
+    for at in 0..lanes.len() {
+        if lanes[at].items().len() != logs[at].replies.items().len() {
+            return false;
+        }
+    }
+    true
+}
+
+// How many lines stand before the first in which two texts differ.
+fn lines_shared(a: &[u8], b: &[u8]) -> usize {
+    let mut count = 0usize;
+    for (x, y) in a.iter().zip(b) {
+        if *x != *y {
+            break;
+        }
+        if *x == b'\n' {
+            count = count.saturating_add(1);
+        }
+    }
+    count
+}
