@@ -1,0 +1,120 @@
+//! A text as the manual tells it, line by line, and what is refused of it.
+
+use pool_law::{Level, Run, Shape, Trace};
+use run_report::text_of;
+use run_text::{LineNo, TextNo, read_run};
+use size_classes::DEFAULT_PAGE;
+use std::alloc::{AllocError, Global};
+use std::process::Abort;
+use std::test::Fail;
+use trace_text::read_trace;
+
+const SHAPE: Shape = Shape {
+    page: DEFAULT_PAGE,
+    order: 9,
+    arenas: 2,
+    chunks: 4,
+    handles: 1024,
+    lanes: 1,
+    level: Level::Simple,
+    interval: 128,
+};
+
+const TRACE: &str =
+    r#"[[["alloc","a",24],["set","a",0,"68656c6c6f"],["get","a",0,5],["release","a"]]]"#;
+
+// Of the text all but the closing of the caches from the third on, and what stands behind it.
+const HEAD: &str = "0.0 alloc ok 32 0.0+0\n\
+    0.1 set ok\n\
+    0.2 get ok 68656c6c6f\n\
+    0.3 release freed\n\
+    note 0 bin 0 1 handle 0\n\
+    note 0 cache 0 1 1 miss\n\
+    note 0 arena 0 1 take 1 0+0 1\n\
+    note 0 root 0 1 birth 1 0.0+0 1 1 24\n\
+    note 0 ref 0.1 born\n\
+    note 0 root 0 2 set 0 68656c6c6f\n\
+    note 0 root 0 3 get 0 68656c6c6f\n\
+    note 0 ref 0.1 ended\n\
+    note 0 root 0 4 end 1\n\
+    note 0 ref 0.1 vacated\n\
+    note 0 cache 0 1 2 kept 1\n\
+    note 0 bin 0 2 home 0\n\
+    note 0 cache 0 0 1 close 0\n\
+    note 0 cache 0 1 3 close 1\n\
+    note 0 cache 0 1 4 shed 1\n\
+    note 0 arena 0 2 give 0+0 1\n";
+
+const TAIL: &str = "chunk 0.0 qInit used 8192 free 4186112\nend roots 1 live 0 leaks 0\n";
+
+// The text of the run.
+fn whole(alloc: Global) -> Result<String, AllocError> {
+    let mut text = String::from_str(alloc, HEAD)?;
+    for class in 2..40 {
+        write!(text, "note 0 cache 0 {class} 1 close 0\n")?;
+    }
+    text.push_str(TAIL)?;
+    Ok(text)
+}
+
+fn trace(alloc: Global) -> Result<Trace, Fail> {
+    Ok(read_trace(alloc, TRACE.as_bytes())?.trace)
+}
+
+#[test]
+fn a_text_is_read_back(rt: HostRuntime) -> Result<(), Fail> {
+    let alloc = rt.alloc();
+    let text = whole(alloc)?;
+    match read_run(alloc, trace(alloc)?, SHAPE, text.as_str()) {
+        Ok(run) => {
+            let shown = text_of(alloc, &run, true)?;
+            assert_eq!(rt; shown.items(), text.as_bytes());
+            check_counts(&rt, &run);
+        }
+        Err(no) => panic!(rt; "it is refused: {no:?}"),
+    }
+    Ok(())
+}
+
+// How many notes each command made: an allocation five, an access one, the end of a root five.
+fn check_counts(rt: &impl Abort, run: &Run) {
+    let log = run.logs.items().first();
+    assert!(rt; log.is_some());
+    if let Some(log) = log {
+        let wanted = [5, 1, 1, 5];
+        assert_eq!(rt; log.replies.items().len(), 4);
+        for (answered, count) in log.replies.items().iter().zip(wanted) {
+            assert_eq!(rt; answered.notes, count);
+        }
+    }
+}
+
+// What is put for the first of another, the line that is refused then, and why.
+const REFUSED: [(&str, &str, u32, LineNo); 14] = [
+    ("0.2 get ok 6865", "0.2 get good 6865", 3, LineNo::Form),
+    ("0.2 get", "0.2 read", 3, LineNo::Form),
+    ("ok 32 0.0", "ok 032 0.0", 1, LineNo::Form),
+    ("note 0 bin 0 1", "note 1 bin 0 1", 5, LineNo::Form),
+    ("bin 0 1 handle", "arena 0 1 handle", 5, LineNo::Form),
+    ("1 take 1 0+0 1", "1 take 76 0+0 1", 7, LineNo::Region),
+    ("ref 0.1 born", "ref 0.2 born", 9, LineNo::Root),
+    ("set 0 68656c6c6f", "set 0 68656C6C6F", 10, LineNo::Form),
+    ("get 0 68656c6c6f\n", "get 0 68656c6c6\n", 11, LineNo::Form),
+    ("root 0 4 end 1", "root 1 4 end 1", 13, LineNo::Root),
+    ("kept 1", "kept 2", 15, LineNo::Region),
+    ("home 0\n", "home 0 \n", 16, LineNo::Form),
+    ("free 4186112\n", "free 4186112\r\n", 59, LineNo::Form),
+    ("leaks 0\n", "leaks 0", 60, LineNo::Form),
+];
+
+#[test]
+fn a_line_is_refused(rt: HostRuntime) -> Result<(), Fail> {
+    let alloc = rt.alloc();
+    let text = whole(alloc)?;
+    for (old, new, number, why) in REFUSED {
+        let other = text.as_str().replacen(alloc, old, new, 1)?;
+        let found = read_run(alloc, trace(alloc)?, SHAPE, other.as_str()).err();
+        assert_eq!(rt; found, Some(TextNo::Line { number, why }), "at {new}");
+    }
+    Ok(())
+}
