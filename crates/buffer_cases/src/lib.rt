@@ -8,3 +8,5 @@
 mod measures;
 #[cfg(test)]
 mod rounds;
+#[cfg(test)]
+mod tries;

@@ -1,17 +1,26 @@
--- A thread that accessed the bytes of a root.
-use Rattle.std.proofs.Common.{ℕ, ◌-◌, ◌≤◌, refl, arith}
+-- A thread that accessed the bytes of a root, or found another at it.
+use Rattle.std.proofs.Common.{◌≡◌, ℕ, ◌-◌, ◌<◌, ◌≤◌, false, refl, ap, ◌∙◌, subst, arith}
 use Rattle.pool_law.specs.declared.id.RootId.{RootId}
+use Rattle.pool_law.specs.declared.note.Did.{Did}
+use Rattle.pool_law.specs.declared.note.Held.{Held}
 use Rattle.pool_law.specs.declared.note.Noted.{Noted}
 use Rattle.pool_law.specs.declared.note.Object.TheVariants.{Root}
+use Rattle.pool_table.specs.declared.views.SeatView.{SeatView}
 use Rattle.shared_pool.specs.declared.pool.SharedPool.{SharedPool}
 use Rattle.shared_pool.specs.declared.seat.PoolSeat.{PoolSeat}
-use Rattle.shared_pool.specs.Seats.{IsNoted}
-use Rattle.seat_work.specs.Changes.{no_change}
+use Rattle.shared_pool.specs.RootNotes.{access}
+use Rattle.shared_pool.specs.SeatViews.{view_of}
+use Rattle.shared_pool.specs.Seats.{FoundBusy, IsNoted, IsPoolSeat}
+use Rattle.seat_work.specs.Changes.{Changes, no_change}
 use Rattle.seat_work.specs.Hands.{empty_hand}
 use Rattle.seat_work.specs.Works.{Proceeds}
+use Rattle.seat_work.proofs.Accesses.{IsQuiet, accessed, noted_same}
+use Rattle.buffer_pool.specs.declared.account.Account.{Account}
 use Rattle.buffer_pool.specs.declared.member.Member.{Member}
+use Rattle.buffer_pool.specs.Counting.{counted}
 use Rattle.buffer_pool.specs.Threads.{Does, IsThread}
-use Rattle.buffer_pool.proofs.Keeping.{kept_on, spends_none}
+use Rattle.buffer_pool.specs.Tries.{HasAccessed, StaysOut}
+use Rattle.buffer_pool.proofs.Keeping.{has_count, kept_on, may_work, spends_none, still_thread}
 use Rattle.buffer_pool.proofs.Letters.{noted_letters}
 
 -- the thread with another seat, after so many turns
@@ -19,13 +28,83 @@ abbrev pub after_turns : ℕ → Member → PoolSeat → Member
 after_turns turns m seat =
     record m { seat = seat; account = record m.account { turns = m.account.turns - turns } }
 
-pub accessed_once : (pool : SharedPool) (old : Member) (new : PoolSeat) → IsThread pool old → 1 ≤ old.account.turns
-    → Proceeds pool empty_hand 1 0 no_change old.seat new → (root : RootId) (number : ℕ) (n : Noted)
-    → IsNoted pool old.seat new (Root root.place) number n → Does pool 1 no_change old (after_turns 1 old new)
-accessed_once pool old new is le did root number n noted =
-    let after = after_turns 1 old new in
-    kept_on pool no_change 1 0 1 old after is did.goes did.changes
-    (spends_none no_change 1 old.account after.account refl (omega (arith, le)) refl (λ other. refl) (λ other. refl)
-    refl)
-    (omega arith) (let a = did.goes.moves_left in let b = is.works.moves_left in omega (arith, a, b))
-    (noted_letters pool old.seat new root number n noted) refl
+-- the thread as it was, but for what its seat knows beyond its view
+pub record Waits (pool : SharedPool) (old mid : Member) : Type 0 where
+  pub thread : IsThread pool mid
+  pub view : view_of mid.seat ≡ view_of old.seat
+  pub rest : mid ≡ record old { seat = mid.seat }
+
+module _ (pool : SharedPool) (old : Member) (is : IsThread pool old) (le : 1 ≤ old.account.turns) where
+  accessed_once : (new : PoolSeat) → Proceeds pool empty_hand 1 0 no_change old.seat new → (root : RootId)
+      (number : ℕ) (n : Noted) → IsNoted pool old.seat new (Root root.place) number n
+      → Does pool 1 no_change old (after_turns 1 old new)
+  accessed_once new did root number n noted =
+      let after = after_turns 1 old new in
+      kept_on pool no_change 1 0 1 old after is did.goes did.changes
+      (spends_none no_change 1 old.account after.account refl (omega (arith, le)) refl (λ other. refl)
+      (λ other. refl) refl)
+      (omega arith) (let a = did.goes.moves_left in let b = is.works.moves_left in omega (arith, a, b))
+      (noted_letters pool old.seat new root number n noted) refl
+
+  pub has_accessed : (root : RootId) (new : PoolSeat) (number : ℕ) (did : Did) → 0 < counted old.account.counts root
+      → IsPoolSeat pool new → IsQuiet root number (view_of old.seat).own.number did
+      → IsNoted pool old.seat new (Root root.place) number (access root did)
+      → HasAccessed pool root did old (after_turns 1 old new)
+  has_accessed root new number did counts seat quiet noted =
+      let it = accessed pool old.seat old.seat new root number did is.works.seat refl seat
+      (may_work pool old is 1 0 le (omega arith)) (has_count pool old is root counts) quiet noted in
+      record {
+        does = accessed_once new it.proceeds root number _ noted;
+        moves = refl;
+        number = number;
+        noted = noted;
+      }
+
+pub waits_first : (pool : SharedPool) (old : Member) → IsThread pool old → Waits pool old old
+waits_first pool old is = record { thread = is; view = refl; rest = refl }
+
+-- so its account is as it was
+pub same_account : (pool : SharedPool) (old mid : Member) → Waits pool old mid → mid.account ≡ old.account
+same_account pool old mid waits = ap (λ (m : Member). m.account) waits.rest
+
+module _ (pool : SharedPool) (root : RootId) (old : Member) where
+  -- another was at the root
+  pub stays_out : (new : PoolSeat) (held : Held) → IsThread pool old → IsPoolSeat pool new
+      → FoundBusy pool (Root root.place) false old.seat new held → StaysOut pool root old (record old { seat = new })
+  stays_out new held is seat found = record {
+    thread = still_thread pool old is new seat (ap (λ m. m.0) found.marked);
+    other = record { held = held; found = found; rest = refl };
+  }
+
+  pub waits_on : (mid new : Member) → Waits pool old mid → StaysOut pool root mid new → Waits pool old new
+  waits_on mid new waits out = record {
+    thread = out.thread;
+    view = ap (λ m. m.0) out.other.found.marked ∙ waits.view;
+    rest = out.other.rest ∙ ap (λ (m : Member). record m { seat = new.seat }) waits.rest;
+  }
+
+  -- an access of a thread that waited is one from before
+  pub accessed_after : (mid new : Member) (did : Did) → Waits pool old mid → HasAccessed pool root did mid new
+      → HasAccessed pool root did old new
+  accessed_after mid new did waits it =
+      let same = same_account pool old mid waits in
+      let changed = it.does.changed in
+      record {
+        does = record {
+          thread = it.does.thread;
+          changed = record {
+            number = changed.number ∙ ap (λ (a : Account). a.lane) same;
+            spent = changed.spent ∙ ap (λ (a : Account). a.turns) same;
+            counts =
+                λ r.
+                (let p = changed.counts r in let q = ap (λ (a : Account). counted a.counts r) same in
+                omega (arith, p, q));
+            notes = subst (λ (v : SeatView). Changes no_change v (view_of new.seat)) waits.view changed.notes;
+          };
+        };
+        moves = it.moves ∙ ap (λ (a : Account). a.moves) same;
+        number = it.number;
+        noted =
+            noted_same pool old.seat mid.seat new.seat it.number (λ v. Root root.place) (access root did) waits.view
+            it.noted;
+      }

@@ -4,6 +4,7 @@ use Rattle.std.specs.Prelude.{if◌then◌else◌, slice_get}
 use Rattle.pool_law.specs.declared.id.RootId.{RootId}
 use Rattle.pool_table.specs.Counts.{gained_of, lost_of, HasCount}
 use Rattle.pool_table.specs.Letters.{received_on, sent_on}
+use Rattle.pool_table.specs.declared.views.SeatView.{SeatView}
 use Rattle.shared_pool.specs.declared.pool.SharedPool.{SharedPool}
 use Rattle.shared_pool.specs.declared.seat.PoolSeat.{PoolSeat}
 use Rattle.shared_pool.specs.SeatViews.{view_of}
@@ -13,6 +14,7 @@ use Rattle.pool_law.specs.Same.{same_root}
 use Rattle.seat_work.specs.Changes.{Change, Changes, one_for, times}
 use Rattle.seat_work.specs.Hands.{empty_hand}
 use Rattle.seat_work.specs.Works.{Works, Goes}
+use Rattle.seat_work.proofs.Proceeding.{works_same}
 use Rattle.buffer_pool.specs.declared.account.Account.{Account}
 use Rattle.buffer_pool.specs.declared.member.Member.{Member}
 use Rattle.buffer_pool.specs.Counting.{counted}
@@ -147,6 +149,28 @@ module _ (pool : SharedPool) (c : Change) (t m cost : ℕ) (old new : Member) (i
         ∙ ap (λ (n : ℕ). Some n) (sym (letters.received from a.lane)))
 
 module _ (pool : SharedPool) (m : Member) (is : IsThread pool m) where
+  -- it is a thread still where its seat knows what it knew
+  pub still_thread : (mid : PoolSeat) → IsPoolSeat pool mid → view_of mid ≡ view_of m.seat
+      → IsThread pool (record m { seat = mid })
+  still_thread mid seat same = record {
+    works = works_same pool empty_hand m.account.turns m.account.moves m.seat mid seat same is.works;
+    number = ap (λ (v : SeatView). v.own.number) same ∙ is.number;
+    counts =
+        λ root.
+        subst (λ (v : SeatView). counted m.account.counts root + lost_of root v ≡ gained_of root v) (sym same)
+        (is.counts root);
+    places = is.places;
+    few = is.few;
+    sent =
+        λ to.
+        subst (λ (v : SeatView). sent_on m.account.lane to v.own.notes + m.account.turns ≤ 2 ^ 62) (sym same)
+        (is.sent to);
+    received =
+        λ from lt.
+        is.received from lt
+        ∙ ap (λ (v : SeatView). Some (received_on from m.account.lane v.own.notes)) (sym same);
+  }
+
   -- it may work for less than it has left
   pub may_work : (t n : ℕ) → t ≤ m.account.turns → n ≤ m.account.moves → Works pool empty_hand t n m.seat
   may_work t n le lf = record {

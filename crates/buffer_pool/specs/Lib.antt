@@ -2,6 +2,7 @@ pub mod Counting
 pub mod Windows
 pub mod Threads
 pub mod Refusals
+pub mod Tries
 pub mod Answers
 pub mod Configs
 pub mod Opening

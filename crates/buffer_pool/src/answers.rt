@@ -44,6 +44,26 @@ pub enum AccessNo {
     Spent,
 }
 
+/// Why a call that never waits did not do its work.
+#[derive(Clone, Copy, PartialEq, Eq, Debug, Drop)]
+pub enum TryNo {
+    /// Another thread was just then at what the call needs. Made again, it may do its work.
+    Busy,
+    /// It was refused, as the call that waits would have been.
+    Refused(AccessNo),
+}
+
+impl From<AccessNo> for TryNo {
+    ghost use Rattle.std.specs.Prelude.{◌≡◌};
+    ghost use Rattle.buffer_pool.specs.declared.answers.TryNo.TheVariants.{Refused};
+
+    ghost from_gives = { λ why no. no ≡ Refused why };
+
+    fn from(why: AccessNo) -> TryNo {
+        TryNo::Refused(why)
+    }
+}
+
 /// Why a buffer was not parted with. Nothing has changed then.
 #[derive(Clone, Copy, PartialEq, Eq, Debug, Drop)]
 pub enum PartNo {

@@ -21,7 +21,7 @@ mod watcher;
 mod work;
 
 pub use answers::{
-    AcceptNo, AccessNo, AllocNo, Back, CloseNo, Closed, NotAccepted, OpenNo, PartNo, Unsent,
+    AcceptNo, AccessNo, AllocNo, Back, CloseNo, Closed, NotAccepted, OpenNo, PartNo, TryNo, Unsent,
 };
 pub use buffer::Buffer;
 pub use closing::NotClosed;

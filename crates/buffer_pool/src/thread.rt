@@ -9,6 +9,7 @@ use std::marker::{Model, PhantomData};
 mod buffers;
 mod bytes;
 mod parcels;
+mod tries;
 
 /// A thread of a pool: only with it, and with the pool, are buffers used. It may go to any thread
 /// of the program, and must be given to the close. A contract sees its seat, with the notes that it

@@ -1,7 +1,7 @@
 //! How the bytes of buffers are accessed. Each access that is not refused is one note, and takes a
 //! turn. A refusal changes nothing.
 
-ghost use Rattle.std.specs.Prelude.{◌≡◌, ℕ, ◌<◌, ◌≤◌, true, List, length, IfOk, IfErr, OnOk, OnErr, MatchResult, None, Some};
+ghost use Rattle.std.specs.Prelude.{◌≡◌, ℕ, ◌+◌, ◌<◌, ◌≤◌, true, List, length, IfOk, IfErr, OnOk, OnErr, MatchResult, None, Some};
 ghost use Rattle.std.specs.Fn.{FnOnceReturnsAt};
 ghost use Rattle.pool_law.specs.declared.note.Did.{Did};
 ghost use Rattle.pool_law.specs.declared.note.Object.TheVariants.{Root};
@@ -9,6 +9,7 @@ ghost use Rattle.pool_law.specs.Views.{after_read, after_write, can_read, can_wr
 ghost use Rattle.shared_pool.specs.RootNotes.{access};
 ghost use Rattle.shared_pool.specs.Seats.{IsNoted};
 ghost use Rattle.seat_work.specs.Changes.{no_change};
+ghost use Rattle.buffer_pool.specs.Counting.{counted};
 ghost use Rattle.buffer_pool.specs.Refusals.{call_no, part_no};
 ghost use Rattle.buffer_pool.specs.Threads.{HasChanged};
 
@@ -22,6 +23,28 @@ use crate::work::access;
 use std::sync::Wait;
 
 impl<B: PoolName> PoolThread<B> {
+    // Where in its root `len` bytes of a buffer lie, from `start` on, if they may be accessed.
+    pub(crate) fn may_access(
+        &self,
+        buffer: &Buffer<B>,
+        start: u32,
+        len: usize,
+    ) -> Result<u32, AccessNo>
+        ensures answers { let b = buffer.now in
+            let no = part_no self.now.account b.thread b.at.root (in_range b.at start len) 1 0 in
+            MatchResult result (λ _. no ≡ None) (λ why. no ≡ Some why) }
+        ensures offset { IfOk result (λ offset. (offset ≡ root_index buffer.now.at start)
+            × (offset + len ≤ buffer.now.at.root.capacity)) }
+        ensures may { OnOk result ((0 < counted self.now.account.counts buffer.now.at.root)
+            × (1 ≤ self.now.account.turns)) }
+    {
+        let offset = offset_of(&buffer.view, start, len);
+        self.member
+            .account
+            .may_part(buffer.thread, buffer.view.at.root, offset.is_some(), 0)?;
+        offset.ok_or(AccessNo::Range)
+    }
+
     /// Lays bytes over those of a buffer, from `start` on.
     pub fn set<W: Wait>(
         &mut self,
@@ -42,14 +65,8 @@ impl<B: PoolName> PoolThread<B> {
             (access b.at.root (Did.Set (root_index b.at start) bytes.now))) }
         ensures unchanged { OnErr result (self.new ≡ self.old) }
     {
+        let offset = self.may_access(buffer, start, bytes.len())?;
         let root = buffer.view.at.root;
-        let offset = offset_of(&buffer.view, start, bytes.len());
-        self.member
-            .account
-            .may_part(buffer.thread, root, offset.is_some(), 0)?;
-        let Some(offset) = offset else {
-            return Err(AccessNo::Range);
-        };
         access::set(rt, &pool.shared, &mut self.member, root, offset, bytes);
         Ok(())
     }
@@ -75,14 +92,8 @@ impl<B: PoolName> PoolThread<B> {
         ensures len { length out.new ≡ length out.old }
         ensures unchanged { OnErr result ((self.new ≡ self.old) × (out.new ≡ out.old)) }
     {
+        let offset = self.may_access(buffer, start, out.len())?;
         let root = buffer.view.at.root;
-        let offset = offset_of(&buffer.view, start, out.len());
-        self.member
-            .account
-            .may_part(buffer.thread, root, offset.is_some(), 0)?;
-        let Some(offset) = offset else {
-            return Err(AccessNo::Range);
-        };
         access::get(rt, &pool.shared, &mut self.member, root, offset, out);
         Ok(())
     }
@@ -172,14 +183,8 @@ impl<B: PoolName> PoolThread<B> {
             (access b.at.root (Did.Get (root_index b.at start) bytes))) }
         ensures unchanged { OnErr result (self.new ≡ self.old) }
     {
+        let offset = self.may_access(buffer, start, len as usize)?;
         let root = buffer.view.at.root;
-        let offset = offset_of(&buffer.view, start, len as usize);
-        self.member
-            .account
-            .may_part(buffer.thread, root, offset.is_some(), 0)?;
-        let Some(offset) = offset else {
-            return Err(AccessNo::Range);
-        };
         Ok(access::with_bytes(rt, &pool.shared, &mut self.member, root, offset, len, f))
     }
 

@@ -1,6 +1,8 @@
-//! How a thread accesses the bytes of a root. Each access is one note at the root's place.
+//! How a thread accesses the bytes of a root. Each access is one note at the root's place. A try
+//! makes one step, and did nothing where another thread was there; the others make it until it is
+//! done.
 
-ghost use Rattle.std.specs.Prelude.{◌≡◌, ℕ, ◌+◌, ◌<◌, ◌≤◌, List, length};
+ghost use Rattle.std.specs.Prelude.{◌≡◌, ℕ, ◌+◌, ◌<◌, ◌≤◌, List, length, IfErr, IfOk, MatchBool};
 ghost use Rattle.std.specs.Fn.{FnOnceReturnsAt};
 ghost use Rattle.pool_law.specs.declared.note.Did.{Did};
 ghost use Rattle.pool_law.specs.declared.note.Object.TheVariants.{Root};
@@ -9,11 +11,37 @@ ghost use Rattle.shared_pool.specs.Seats.{IsNoted};
 ghost use Rattle.seat_work.specs.Changes.{no_change};
 ghost use Rattle.buffer_pool.specs.Counting.{counted};
 ghost use Rattle.buffer_pool.specs.Threads.{Does, IsThread};
+ghost use Rattle.buffer_pool.specs.Tries.{HasAccessed, StaysOut};
 
 use crate::member::Member;
 use pool_law::RootId;
 use shared_pool::{SharedPool, Went};
 use std::sync::Wait;
+
+/// Bytes are laid over those of the root, from an offset on, or it is false.
+pub(crate) fn try_set(
+    pool: &SharedPool,
+    member: &mut Member,
+    root: RootId,
+    offset: u32,
+    bytes: &[u8],
+) -> bool
+    requires thread { IsThread pool.now member.old }
+    requires counts { 0 < counted member.old.account.counts root }
+    requires turns { 1 ≤ member.old.account.turns }
+    requires range { offset + length bytes.now ≤ root.capacity }
+    ensures { MatchBool result
+        (HasAccessed pool.now root (Did.Set offset bytes.now) member.old member.new)
+        (StaysOut pool.now root member.old member.new) }
+{
+    match pool.write(&mut member.seat, root, offset, bytes, false) {
+        Went::Did(_number, ()) => {
+            member.account.turns -= 1;
+            true
+        }
+        Went::Held(_held, ()) => false,
+    }
+}
 
 /// Bytes are laid over those of the root, from an offset on.
 pub(crate) fn set<W: Wait>(
@@ -33,8 +61,38 @@ pub(crate) fn set<W: Wait>(
     ensures noted { (number : ℕ) × IsNoted pool.now member.old.seat member.new.seat
         (Root root.place) number (access root (Did.Set offset bytes.now)) }
 {
-    member.account.turns -= 1;
-    seat_work::set(rt, pool, &mut member.seat, root, offset, bytes);
+    for _ in rt.forever() {
+        if try_set(pool, member, root, offset, bytes) {
+            return;
+        }
+    }
+    unreachable!()
+}
+
+/// Bytes of the root are copied out, from an offset on, or it is false.
+pub(crate) fn try_get(
+    pool: &SharedPool,
+    member: &mut Member,
+    root: RootId,
+    offset: u32,
+    out: &mut [u8],
+) -> bool
+    requires thread { IsThread pool.now member.old }
+    requires counts { 0 < counted member.old.account.counts root }
+    requires turns { 1 ≤ member.old.account.turns }
+    requires range { offset + length out.old ≤ root.capacity }
+    ensures tried { MatchBool result
+        (HasAccessed pool.now root (Did.Get offset out.new) member.old member.new)
+        (StaysOut pool.now root member.old member.new × (out.new ≡ out.old)) }
+    ensures len { length out.new ≡ length out.old }
+{
+    match pool.read(&mut member.seat, root, offset, out, false) {
+        Went::Did(_number, ()) => {
+            member.account.turns -= 1;
+            true
+        }
+        Went::Held(_held, ()) => false,
+    }
 }
 
 /// Bytes of the root are copied out, from an offset on.
@@ -56,8 +114,42 @@ pub(crate) fn get<W: Wait>(
     ensures noted { (number : ℕ) × IsNoted pool.now member.old.seat member.new.seat
         (Root root.place) number (access root (Did.Get offset out.new)) }
 {
-    member.account.turns -= 1;
-    seat_work::get(rt, pool, &mut member.seat, root, offset, out);
+    for _ in rt.forever() {
+        if try_get(pool, member, root, offset, out) {
+            return;
+        }
+    }
+    unreachable!()
+}
+
+/// `f` is called once with bytes of the root, from an offset on, and none are copied, or it comes
+/// back. It is noted as a get of all of them.
+pub(crate) fn try_with_bytes<R, F: FnOnce(&[u8]) -> R>(
+    pool: &SharedPool,
+    member: &mut Member,
+    root: RootId,
+    offset: u32,
+    len: u32,
+    f: F,
+) -> Result<R, F>
+    requires thread { IsThread pool.now member.old }
+    requires counts { 0 < counted member.old.account.counts root }
+    requires turns { 1 ≤ member.old.account.turns }
+    requires range { offset + len ≤ root.capacity }
+    requires callable { F.IsAlwaysCallable f }
+    ensures shown { IfOk result (λ answer. (bytes : List ℕ) × (length bytes ≡ len)
+        × FnOnceReturnsAt F.FnOnce f bytes answer
+        × HasAccessed pool.now root (Did.Get offset bytes) member.old member.new) }
+    ensures back { IfErr result (λ back. (back ≡ f)
+        × StaysOut pool.now root member.old member.new) }
+{
+    match pool.with_bytes(&mut member.seat, root, offset, len, f) {
+        Went::Did(_number, answer) => {
+            member.account.turns -= 1;
+            Ok(answer)
+        }
+        Went::Held(_held, back) => Err(back),
+    }
 }
 
 /// `f` is called once with bytes of the root, from an offset on, and none are copied. It is noted
@@ -83,8 +175,32 @@ pub(crate) fn with_bytes<W: Wait, R, F: FnOnce(&[u8]) -> R>(
         × IsNoted pool.now member.old.seat member.new.seat (Root root.place) number
         (access root (Did.Get offset bytes)) }
 {
-    member.account.turns -= 1;
-    seat_work::with_bytes(rt, pool, &mut member.seat, root, offset, len, f)
+    let mut f = f;
+    for _ in rt.forever() {
+        match try_with_bytes(pool, member, root, offset, len, f) {
+            Ok(answer) => return answer,
+            Err(back) => f = back,
+        }
+    }
+    unreachable!()
+}
+
+/// It is noted that the root was touched, or it is false.
+pub(crate) fn try_touch(pool: &SharedPool, member: &mut Member, root: RootId) -> bool
+    requires thread { IsThread pool.now member.old }
+    requires counts { 0 < counted member.old.account.counts root }
+    requires turns { 1 ≤ member.old.account.turns }
+    ensures { MatchBool result
+        (HasAccessed pool.now root Did.Touch member.old member.new)
+        (StaysOut pool.now root member.old member.new) }
+{
+    match pool.touch(&mut member.seat, root) {
+        Went::Did(_number, ()) => {
+            member.account.turns -= 1;
+            true
+        }
+        Went::Held(_held, ()) => false,
+    }
 }
 
 /// It is noted that the root was touched.
@@ -97,11 +213,9 @@ pub(crate) fn touch<W: Wait>(rt: &W, pool: &SharedPool, member: &mut Member, roo
     ensures noted { (number : ℕ) × IsNoted pool.now member.old.seat member.new.seat
         (Root root.place) number (access root Did.Touch) }
 {
-    member.account.turns -= 1;
     for _ in rt.forever() {
-        match pool.touch(&mut member.seat, root) {
-            Went::Did(_number, ()) => return,
-            Went::Held(_held, ()) => (),
+        if try_touch(pool, member, root) {
+            return;
         }
     }
     unreachable!()

@@ -1,18 +1,45 @@
-use Rattle.std.proofs.Common.{arith}
-use Rattle.buffer_pool.proofs.Accessing.{accessed_once}
-use Rattle.buffer_pool.proofs.Keeping.{has_count, may_work}
+use Rattle.std.proofs.Common.{◌≡◌, ◌<◌, ◌≤◌, Bool, refl, sym, subst, ◌∙◌}
+use Rattle.std.specs.Prelude.{MatchBool}
+use Rattle.pool_law.specs.declared.note.Did.{Did}
+use Rattle.buffer_pool.specs.declared.account.Account.{Account}
+use Rattle.buffer_pool.specs.Counting.{counted}
+use Rattle.buffer_pool.specs.Tries.{HasAccessed, StaysOut}
+use Rattle.buffer_pool.proofs.Accessing.{accessed_after, same_account, waits_first, waits_on}
 use Rattle.buffer_pool.proofs.work.access.get.Goals as goal
 
-pub get-requires-clause-works : goal.get-requires-clause-works
-get-requires-clause-works g c =
-    may_work c.args.pool.now c.args.member.now c.requires.thread 1 0 c.requires.turns (omega arith)
+pub try_get-requires-clause-counts : goal.try_get-requires-clause-counts
+try_get-requires-clause-counts g c =
+    subst (λ (a : Account). 0 < counted a.counts c.args.root)
+    (sym (same_account c.args.pool.now c.args.member.now c.loop.member c.loop.invariant.0)) c.requires.counts
 
-pub get-requires-clause-counts : goal.get-requires-clause-counts
-get-requires-clause-counts g c =
-    has_count c.args.pool.now c.args.member.now c.requires.thread c.args.root c.requires.counts
+pub try_get-requires-clause-turns : goal.try_get-requires-clause-turns
+try_get-requires-clause-turns g c =
+    subst (λ (a : Account). 1 ≤ a.turns)
+    (sym (same_account c.args.pool.now c.args.member.now c.loop.member c.loop.invariant.0)) c.requires.turns
 
-pub returns-clause-does : goal.returns-clause-does
-returns-clause-does g c =
-    let call = c.get in let noted = call.ensures.noted in
-    accessed_once c.args.pool.now c.args.member.now call.new.seat c.requires.thread c.requires.turns
-    call.ensures.proceeds c.args.root noted.0 _ noted.1
+pub returns-then-try_get : goal.returns-then-try_get
+returns-then-try_get g c =
+    let pool = c.args.pool.now in let root = c.args.root in let mid = c.loop.member in
+    let new = c.try_get.new.member in let out = c.try_get.new.out in let did = Did.Get c.args.offset out in
+    let it = subst (λ (b : Bool). MatchBool b (HasAccessed pool root did mid new)
+    (StaysOut pool root mid new × (out ≡ c.loop.out))) c.if-try_get.true c.try_get.ensures.tried in
+    let all = accessed_after pool root c.args.member.now mid new did c.loop.invariant.0 it in
+    record {
+      does = all.does;
+      moves = all.moves;
+      len = c.try_get.ensures.len ∙ c.loop.invariant.1;
+      noted = (all.number, all.noted);
+    }
+
+pub loop-init : goal.loop-init
+loop-init g c = (waits_first c.args.pool.now c.args.member.now c.requires.thread, refl)
+
+pub loop-preserved : goal.loop-preserved
+loop-preserved g c =
+    let pool = c.args.pool.now in let root = c.args.root in let mid = c.loop.member in
+    let new = c.try_get.new.member in let out = c.try_get.new.out in let did = Did.Get c.args.offset out in
+    let busy = subst (λ (b : Bool). MatchBool b (HasAccessed pool root did mid new)
+    (StaysOut pool root mid new × (out ≡ c.loop.out))) c.if-try_get.false c.try_get.ensures.tried in (
+      waits_on pool root c.args.member.now mid new c.loop.invariant.0 busy.0,
+      c.try_get.ensures.len ∙ c.loop.invariant.1,
+    )

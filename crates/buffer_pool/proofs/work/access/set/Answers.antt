@@ -1,18 +1,38 @@
-use Rattle.std.proofs.Common.{arith}
-use Rattle.buffer_pool.proofs.Accessing.{accessed_once}
-use Rattle.buffer_pool.proofs.Keeping.{has_count, may_work}
+use Rattle.std.proofs.Common.{◌<◌, ◌≤◌, Bool, sym, subst}
+use Rattle.std.specs.Prelude.{MatchBool}
+use Rattle.pool_law.specs.declared.note.Did.{Did}
+use Rattle.buffer_pool.specs.declared.account.Account.{Account}
+use Rattle.buffer_pool.specs.Counting.{counted}
+use Rattle.buffer_pool.specs.Tries.{HasAccessed, StaysOut}
+use Rattle.buffer_pool.proofs.Accessing.{accessed_after, same_account, waits_first, waits_on}
 use Rattle.buffer_pool.proofs.work.access.set.Goals as goal
 
-pub set-requires-clause-works : goal.set-requires-clause-works
-set-requires-clause-works g c =
-    may_work c.args.pool.now c.args.member.now c.requires.thread 1 0 c.requires.turns (omega arith)
+pub try_set-requires-clause-counts : goal.try_set-requires-clause-counts
+try_set-requires-clause-counts g c =
+    subst (λ (a : Account). 0 < counted a.counts c.args.root)
+    (sym (same_account c.args.pool.now c.args.member.now c.loop.member c.loop.invariant)) c.requires.counts
 
-pub set-requires-clause-counts : goal.set-requires-clause-counts
-set-requires-clause-counts g c =
-    has_count c.args.pool.now c.args.member.now c.requires.thread c.args.root c.requires.counts
+pub try_set-requires-clause-turns : goal.try_set-requires-clause-turns
+try_set-requires-clause-turns g c =
+    subst (λ (a : Account). 1 ≤ a.turns)
+    (sym (same_account c.args.pool.now c.args.member.now c.loop.member c.loop.invariant)) c.requires.turns
 
-pub returns-clause-does : goal.returns-clause-does
-returns-clause-does g c =
-    let call = c.set in let noted = call.ensures.noted in
-    accessed_once c.args.pool.now c.args.member.now call.new.seat c.requires.thread c.requires.turns
-    call.ensures.proceeds c.args.root noted.0 _ noted.1
+pub returns-then-try_set : goal.returns-then-try_set
+returns-then-try_set g c =
+    let pool = c.args.pool.now in let root = c.args.root in let mid = c.loop.member in
+    let new = c.try_set.new.member in let did = (Did.Set c.args.offset c.args.bytes.now) in
+    let it = subst (λ (b : Bool). MatchBool b (HasAccessed pool root did mid new) (StaysOut pool root mid new))
+    c.if-try_set.true c.try_set.ensures in
+    let all = accessed_after pool root c.args.member.now mid new did c.loop.invariant it in
+    record { does = all.does; moves = all.moves; noted = (all.number, all.noted) }
+
+pub loop-init : goal.loop-init
+loop-init g c = waits_first c.args.pool.now c.args.member.now c.requires.thread
+
+pub loop-preserved : goal.loop-preserved
+loop-preserved g c =
+    let pool = c.args.pool.now in let root = c.args.root in let mid = c.loop.member in
+    let new = c.try_set.new.member in let did = (Did.Set c.args.offset c.args.bytes.now) in
+    waits_on pool root c.args.member.now mid new c.loop.invariant
+    (subst (λ (b : Bool). MatchBool b (HasAccessed pool root did mid new) (StaysOut pool root mid new))
+    c.if-try_set.false c.try_set.ensures)

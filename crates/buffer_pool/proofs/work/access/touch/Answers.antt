@@ -1,24 +1,38 @@
-use Rattle.std.proofs.Common.{sym, ap, subst, arith}
+use Rattle.std.proofs.Common.{◌<◌, ◌≤◌, Bool, sym, subst}
+use Rattle.std.specs.Prelude.{MatchBool}
 use Rattle.pool_law.specs.declared.note.Did.{Did}
-use Rattle.seat_work.specs.Changes.{no_change}
-use Rattle.seat_work.proofs.Accesses.{accessed, touch_quiet}
-use Rattle.shared_pool.specs.SeatViews.{view_of}
-use Rattle.buffer_pool.specs.declared.member.Member.{Member}
-use Rattle.buffer_pool.specs.Threads.{Does}
-use Rattle.buffer_pool.proofs.Accessing.{accessed_once}
-use Rattle.buffer_pool.proofs.Keeping.{has_count, may_work}
+use Rattle.buffer_pool.specs.declared.account.Account.{Account}
+use Rattle.buffer_pool.specs.Counting.{counted}
+use Rattle.buffer_pool.specs.Tries.{HasAccessed, StaysOut}
+use Rattle.buffer_pool.proofs.Accessing.{accessed_after, same_account, waits_first, waits_on}
 use Rattle.buffer_pool.proofs.work.access.touch.Goals as goal
 
-pub returns-in-Did-clause-does : goal.returns-in-Did-clause-does
-returns-in-Did-clause-does g c =
-    let pool = c.args.pool.now in let old = c.args.member.now in let root = c.args.root in
-    let inv = c.loop.invariant in let did = c.in-Did in let mid = c.loop.member.seat in let new = c.touch.new.seat in
-    let is = c.requires.thread in let le = c.requires.turns in
-    let it = accessed pool old.seat mid new root did._number Did.Touch inv.seat inv.view did.ensures.seat
-    (may_work pool old is 1 0 le (omega arith)) (has_count pool old is root c.requires.counts)
-    (touch_quiet root did._number (view_of mid).own.number) did.ensures.did in
-    subst (λ (m : Member). Does pool 1 no_change old (record m { seat = new })) (sym inv.rest)
-    (accessed_once pool old new is le it.proceeds root did._number _ it.noted)
+pub try_touch-requires-clause-counts : goal.try_touch-requires-clause-counts
+try_touch-requires-clause-counts g c =
+    subst (λ (a : Account). 0 < counted a.counts c.args.root)
+    (sym (same_account c.args.pool.now c.args.member.now c.loop.member c.loop.invariant)) c.requires.counts
 
-pub returns-in-Did-clause-moves : goal.returns-in-Did-clause-moves
-returns-in-Did-clause-moves g c = ap (λ (m : Member). m.account.moves) c.loop.invariant.rest
+pub try_touch-requires-clause-turns : goal.try_touch-requires-clause-turns
+try_touch-requires-clause-turns g c =
+    subst (λ (a : Account). 1 ≤ a.turns)
+    (sym (same_account c.args.pool.now c.args.member.now c.loop.member c.loop.invariant)) c.requires.turns
+
+pub returns-then-try_touch : goal.returns-then-try_touch
+returns-then-try_touch g c =
+    let pool = c.args.pool.now in let root = c.args.root in let mid = c.loop.member in
+    let new = c.try_touch.new.member in let did = Did.Touch in
+    let it = subst (λ (b : Bool). MatchBool b (HasAccessed pool root did mid new) (StaysOut pool root mid new))
+    c.if-try_touch.true c.try_touch.ensures in
+    let all = accessed_after pool root c.args.member.now mid new did c.loop.invariant it in
+    record { does = all.does; moves = all.moves; noted = (all.number, all.noted) }
+
+pub loop-init : goal.loop-init
+loop-init g c = waits_first c.args.pool.now c.args.member.now c.requires.thread
+
+pub loop-preserved : goal.loop-preserved
+loop-preserved g c =
+    let pool = c.args.pool.now in let root = c.args.root in let mid = c.loop.member in
+    let new = c.try_touch.new.member in let did = Did.Touch in
+    waits_on pool root c.args.member.now mid new c.loop.invariant
+    (subst (λ (b : Bool). MatchBool b (HasAccessed pool root did mid new) (StaysOut pool root mid new))
+    c.if-try_touch.false c.try_touch.ensures)

@@ -1,18 +1,48 @@
-use Rattle.std.proofs.Common.{arith}
-use Rattle.buffer_pool.proofs.Accessing.{accessed_once}
-use Rattle.buffer_pool.proofs.Keeping.{has_count, may_work}
+use Rattle.std.proofs.Common.{◌<◌, ◌≤◌, ◌∙◌, refl, sym, subst}
+use Rattle.std.specs.Fn.{FnOnceReturnsAt}
+use Rattle.pool_law.specs.declared.note.Did.{Did}
+use Rattle.buffer_pool.specs.declared.account.Account.{Account}
+use Rattle.buffer_pool.specs.Counting.{counted}
+use Rattle.buffer_pool.proofs.Accessing.{accessed_after, same_account, waits_first, waits_on}
 use Rattle.buffer_pool.proofs.work.access.with_bytes.Goals as goal
 
-pub with_bytes-requires-clause-works : goal.with_bytes-requires-clause-works
-with_bytes-requires-clause-works g c =
-    may_work c.args.pool.now c.args.member.now c.requires.thread 1 0 c.requires.turns (omega arith)
+pub try_with_bytes-requires-clause-counts : goal.try_with_bytes-requires-clause-counts
+try_with_bytes-requires-clause-counts g c =
+    subst (λ (a : Account). 0 < counted a.counts c.args.root)
+    (sym (same_account c.args.pool.now c.args.member.now c.loop.member c.loop.invariant.0)) c.requires.counts
 
-pub with_bytes-requires-clause-counts : goal.with_bytes-requires-clause-counts
-with_bytes-requires-clause-counts g c =
-    has_count c.args.pool.now c.args.member.now c.requires.thread c.args.root c.requires.counts
+pub try_with_bytes-requires-clause-turns : goal.try_with_bytes-requires-clause-turns
+try_with_bytes-requires-clause-turns g c =
+    subst (λ (a : Account). 1 ≤ a.turns)
+    (sym (same_account c.args.pool.now c.args.member.now c.loop.member c.loop.invariant.0)) c.requires.turns
 
-pub returns-clause-does : goal.returns-clause-does
-returns-clause-does g c =
-    let call = c.with_bytes in let noted = call.ensures.shown in
-    accessed_once c.args.pool.now c.args.member.now call.new.seat c.requires.thread c.requires.turns
-    call.ensures.proceeds c.args.root noted.1 _ noted.4
+pub try_with_bytes-requires-clause-callable : goal.try_with_bytes-requires-clause-callable
+try_with_bytes-requires-clause-callable g c =
+    subst (λ f. denote.Param.Always.always_once g.F.FnOnce f) (sym c.loop.invariant.1) c.requires.callable
+
+pub returns-in-Ok : goal.returns-in-Ok
+returns-in-Ok g c =
+    let pool = c.args.pool.now in let root = c.args.root in let mid = c.loop.member in
+    let new = c.try_with_bytes.new.member in let shown = c.in-Ok.ensures {u = tt} in
+    let all = accessed_after pool root c.args.member.now mid new (Did.Get c.args.offset shown.0)
+    c.loop.invariant.0 shown.3 in
+    record {
+      does = all.does;
+      moves = all.moves;
+      shown = (
+        shown.0,
+        all.number,
+        shown.1,
+        subst (λ f. FnOnceReturnsAt g.F.FnOnce f shown.0 c.in-Ok.answer) c.loop.invariant.1 shown.2,
+        all.noted,
+      );
+    }
+
+pub loop-init : goal.loop-init
+loop-init g c = (waits_first c.args.pool.now c.args.member.now c.requires.thread, refl)
+
+pub loop-preserved : goal.loop-preserved
+loop-preserved g c =
+    let pool = c.args.pool.now in let root = c.args.root in let mid = c.loop.member in
+    let new = c.try_with_bytes.new.member in let back = c.in-Err.ensures {u = tt} in
+    (waits_on pool root c.args.member.now mid new c.loop.invariant.0 back.1, back.0 ∙ c.loop.invariant.1)

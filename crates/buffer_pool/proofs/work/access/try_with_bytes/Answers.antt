@@ -1,0 +1,30 @@
+use Rattle.pool_law.specs.declared.note.Did.{Did}
+use Rattle.shared_pool.specs.SeatViews.{view_of}
+use Rattle.seat_work.proofs.Accesses.{get_quiet}
+use Rattle.buffer_pool.proofs.Accessing.{has_accessed, stays_out}
+use Rattle.buffer_pool.proofs.Keeping.{has_count}
+use Rattle.buffer_pool.proofs.work.access.try_with_bytes.Goals as goal
+
+pub with_bytes-requires-clause-counts : goal.with_bytes-requires-clause-counts
+with_bytes-requires-clause-counts g c =
+    has_count c.args.pool.now c.args.member.now c.requires.thread c.args.root c.requires.counts
+
+pub returns-in-Did-clause-shown : goal.returns-in-Did-clause-shown
+returns-in-Did-clause-shown g c =
+    let did = c.in-Did.ensures {u = tt} in let number = c.in-Did._number in let a = c.args in
+    let old = a.member.now in let bytes = did.did.0 in (
+      bytes,
+      did.did.1,
+      did.did.2,
+      has_accessed a.pool.now old c.requires.thread c.requires.turns a.root c.with_bytes.new.seat number
+          (Did.Get a.offset bytes) c.requires.counts did.seat
+          (get_quiet a.root number (view_of old.seat).own.number a.offset bytes) did.did.3,
+    )
+
+pub returns-in-Held-clause-back : goal.returns-in-Held-clause-back
+returns-in-Held-clause-back g c =
+    let held = c.in-Held.ensures {u = tt} in (
+      held.held.0,
+      stays_out c.args.pool.now c.args.root c.args.member.now c.with_bytes.new.seat c.in-Held._held
+          c.requires.thread held.seat held.held.1,
+    )
