@@ -96,32 +96,33 @@ fn run_of(alloc: Global, logs: Vec<LaneLog>) -> Run {
 #[test]
 fn nothing_but_the_end(rt: HostRuntime) -> Result<(), Fail> {
     let alloc = rt.alloc();
-    let mut logs = Vec::new(alloc);
-    logs.push(noted(alloc, Vec::new(alloc)))?;
-    let text = text_of(alloc, &run_of(alloc, logs), false)?;
+    let log = noted(alloc, Vec::new(alloc));
+    let text = text_of(alloc, &run_of(alloc, vec![in alloc; log]?), false)?;
     assert_eq!(rt; from_utf8(text.items()), Ok("end roots 0 live 0 leaks 0\n"));
     Ok(())
 }
 
-fn arena_and_cache_notes(notes: &mut Vec<Note>) -> Result<(), AllocError> {
+fn arena_and_cache_notes(alloc: Global) -> Result<Vec<Note>, AllocError> {
     let arena = Object::Arena(1);
     let class = 1;
     let region = REGION;
-    notes.push(at(arena, 1, Did::Take { class, region }))?;
-    notes.push(at(arena, 2, Did::Full { class: 39 }))?;
-    notes.push(at(arena, 3, Did::Give(region)))?;
     let cache = Object::Cache { lane: 0, class };
-    notes.push(at(cache, 1, Did::Hit(region)))?;
-    notes.push(at(cache, 2, Did::Miss))?;
-    notes.push(at(cache, 3, Did::Kept(region)))?;
     let full = CacheNo::Full;
-    notes.push(at(cache, 4, Did::Back { region, no: full }))?;
     let closed = CacheNo::Closed;
-    notes.push(at(cache, 5, Did::Back { region, no: closed }))?;
-    notes.push(at(cache, 6, Did::Trim(6)))?;
-    notes.push(at(cache, 7, Did::Close(2)))?;
-    notes.push(at(cache, 8, Did::Shed(region)))?;
-    Ok(())
+    let notes = vec![in alloc;
+        at(arena, 1, Did::Take { class, region }),
+        at(arena, 2, Did::Full { class: 39 }),
+        at(arena, 3, Did::Give(region)),
+        at(cache, 1, Did::Hit(region)),
+        at(cache, 2, Did::Miss),
+        at(cache, 3, Did::Kept(region)),
+        at(cache, 4, Did::Back { region, no: full }),
+        at(cache, 5, Did::Back { region, no: closed }),
+        at(cache, 6, Did::Trim(6)),
+        at(cache, 7, Did::Close(2)),
+        at(cache, 8, Did::Shed(region)),
+    ]?;
+    Ok(notes)
 }
 
 const ARENA_AND_CACHE: &str = "note 0 arena 1 1 take 1 2+8192 7\n\
@@ -140,39 +141,42 @@ const ARENA_AND_CACHE: &str = "note 0 arena 1 1 take 1 2+8192 7\n\
 #[test]
 fn notes_of_arenas_and_caches(rt: HostRuntime) -> Result<(), Fail> {
     let alloc = rt.alloc();
-    let mut notes = Vec::new(alloc);
-    arena_and_cache_notes(&mut notes)?;
-    let mut logs = Vec::new(alloc);
-    logs.push(noted(alloc, notes))?;
-    let text = text_of(alloc, &run_of(alloc, logs), true)?;
+    let notes = arena_and_cache_notes(alloc)?;
+    let text = text_of(
+        alloc,
+        &run_of(alloc, vec![in alloc; noted(alloc, notes)]?),
+        true,
+    )?;
     assert_eq!(rt; from_utf8(text.items()), Ok(ARENA_AND_CACHE));
     Ok(())
 }
 
-fn bin_and_root_notes(alloc: Global, notes: &mut Vec<Note>) -> Result<(), AllocError> {
+fn bin_and_root_notes(alloc: Global) -> Result<Vec<Note>, AllocError> {
     let bin = Object::Bin(0);
-    notes.push(at(bin, 1, Did::Handle(5)))?;
-    notes.push(at(bin, 2, Did::NoHandle))?;
-    notes.push(at(bin, 3, Did::Home(5)))?;
     let place = Object::Root(5);
     let birth = Did::Birth {
         root: ROOT,
         region: REGION,
     };
-    notes.push(at(place, 1, birth))?;
     let set = Did::Set {
         offset: 4,
         bytes: bytes(alloc, &[0, 255, 154])?,
     };
-    notes.push(at(place, 2, set))?;
     let get = Did::Get {
         offset: 24,
         bytes: bytes(alloc, &[])?,
     };
-    notes.push(at(place, 3, get))?;
-    notes.push(at(place, 4, Did::Touch))?;
-    notes.push(at(place, 5, Did::End(ROOT)))?;
-    Ok(())
+    let notes = vec![in alloc;
+        at(bin, 1, Did::Handle(5)),
+        at(bin, 2, Did::NoHandle),
+        at(bin, 3, Did::Home(5)),
+        at(place, 1, birth),
+        at(place, 2, set),
+        at(place, 3, get),
+        at(place, 4, Did::Touch),
+        at(place, 5, Did::End(ROOT)),
+    ]?;
+    Ok(notes)
 }
 
 const BIN_AND_ROOT: &str = "note 0 bin 0 1 handle 5\n\
@@ -188,35 +192,38 @@ const BIN_AND_ROOT: &str = "note 0 bin 0 1 handle 5\n\
 #[test]
 fn notes_of_bins_and_roots(rt: HostRuntime) -> Result<(), Fail> {
     let alloc = rt.alloc();
-    let mut notes = Vec::new(alloc);
-    bin_and_root_notes(alloc, &mut notes)?;
-    let mut logs = Vec::new(alloc);
-    logs.push(noted(alloc, notes))?;
-    let text = text_of(alloc, &run_of(alloc, logs), true)?;
+    let notes = bin_and_root_notes(alloc)?;
+    let text = text_of(
+        alloc,
+        &run_of(alloc, vec![in alloc; noted(alloc, notes)]?),
+        true,
+    )?;
     assert_eq!(rt; from_utf8(text.items()), Ok(BIN_AND_ROOT));
     Ok(())
 }
 
-fn mail_and_reference_notes(notes: &mut Vec<Note>) -> Result<(), AllocError> {
+fn mail_and_reference_notes(alloc: Global) -> Result<Vec<Note>, AllocError> {
     let mail = Object::Mail { from: 1, to: 0 };
-    notes.push(at(mail, 1, Did::Post(PARCEL)))?;
-    notes.push(at(mail, 2, Did::Post(NOTHING)))?;
-    notes.push(reference(RefDid::Born))?;
-    notes.push(reference(RefDid::Retain))?;
-    notes.push(reference(RefDid::Look(2)))?;
-    notes.push(reference(RefDid::Kept))?;
-    notes.push(reference(RefDid::Ended))?;
-    notes.push(reference(RefDid::Vacated))?;
     let object = Object::Cache { lane: 1, class: 39 };
-    notes.push(Note::Busy(Held { object, number: 9 }))?;
-    Ok(())
+    let notes = vec![in alloc;
+        at(mail, 1, Did::Post(PARCEL)),
+        at(mail, 2, Did::Post(NOTHING)),
+        reference(RefDid::Born),
+        reference(RefDid::Retain),
+        reference(RefDid::Look(2)),
+        reference(RefDid::Kept),
+        reference(RefDid::Ended),
+        reference(RefDid::Vacated),
+        Note::Busy(Held { object, number: 9 }),
+    ]?;
+    Ok(notes)
 }
 
-fn fetch_notes(notes: &mut Vec<Note>) -> Result<(), AllocError> {
+fn fetch_notes(alloc: Global) -> Result<Vec<Note>, AllocError> {
     let mail = Object::Mail { from: 1, to: 0 };
-    notes.push(at(mail, 1, Did::Fetch(PARCEL)))?;
-    notes.push(at(mail, 2, Did::Fetch(NOTHING)))?;
-    Ok(())
+    let fetched = at(mail, 1, Did::Fetch(PARCEL));
+    let notes = vec![in alloc; fetched, at(mail, 2, Did::Fetch(NOTHING))]?;
+    Ok(notes)
 }
 
 const MAIL_AND_REFERENCE: &str = "note 0 mail 1 0 1 fetch 5.2 4+16 1 8\n\
@@ -235,13 +242,9 @@ const MAIL_AND_REFERENCE: &str = "note 0 mail 1 0 1 fetch 5.2 4+16 1 8\n\
 #[test]
 fn notes_of_mails_and_reference_words(rt: HostRuntime) -> Result<(), Fail> {
     let alloc = rt.alloc();
-    let mut first = Vec::new(alloc);
-    fetch_notes(&mut first)?;
-    let mut second = Vec::new(alloc);
-    mail_and_reference_notes(&mut second)?;
-    let mut logs = Vec::new(alloc);
-    logs.push(noted(alloc, first))?;
-    logs.push(noted(alloc, second))?;
+    let first = fetch_notes(alloc)?;
+    let second = mail_and_reference_notes(alloc)?;
+    let logs = vec![in alloc; noted(alloc, first), noted(alloc, second)]?;
     let run = run_of(alloc, logs);
     let text = text_of(alloc, &run, true)?;
     assert_eq!(rt; from_utf8(text.items()), Ok(MAIL_AND_REFERENCE));
@@ -254,129 +257,125 @@ fn answered(reply: Reply) -> Answered {
     Answered { reply, notes: 0 }
 }
 
-// The replies of the first lane, each beside a command.
-fn first_replies(
-    alloc: Global,
-    commands: &mut Vec<Command>,
-    replies: &mut Vec<Answered>,
-) -> Result<(), AllocError> {
-    let name = 0;
+// The commands of the first lane.
+fn first_commands(alloc: Global) -> Result<Vec<Command>, AllocError> {
+    let (name, fresh) = (0, 1);
     let (at, len) = (0, 1);
-    let fresh = 1;
-    commands.push(Command::Alloc { name, size: 24 })?;
+    let set = bytes(alloc, &[7])?;
+    let again = bytes(alloc, &[7])?;
+    let none = bytes(alloc, &[])?;
+    let commands = vec![in alloc;
+        Command::Alloc { name, size: 24 },
+        Command::Set {
+            name,
+            at,
+            bytes: set,
+            tries: false,
+        },
+        Command::Set {
+            name,
+            at,
+            bytes: again,
+            tries: true,
+        },
+        Command::Get {
+            name,
+            at,
+            len,
+            tries: false,
+        },
+        Command::Get {
+            name,
+            at,
+            len,
+            tries: true,
+        },
+        Command::Write { name, bytes: none },
+        Command::Read { name, len },
+        Command::Slice {
+            fresh,
+            name,
+            at,
+            len,
+            retained: false,
+        },
+        Command::Slice {
+            fresh,
+            name,
+            at,
+            len,
+            retained: true,
+        },
+        Command::Dup { fresh, name },
+    ]?;
+    Ok(commands)
+}
+
+// What they are answered.
+fn first_replies(alloc: Global) -> Result<Vec<Answered>, AllocError> {
+    let got = bytes(alloc, &[10, 176])?;
+    let nothing = bytes(alloc, &[])?;
     let size = 32;
-    replies.push(answered(Reply::OkPlace { size, place: PLACE }))?;
-    let tries = false;
-    let set = bytes(alloc, &[7])?;
-    commands.push(Command::Set {
-        name,
-        at,
-        bytes: set,
-        tries,
-    })?;
-    replies.push(answered(Reply::Ok))?;
-    let set = bytes(alloc, &[7])?;
-    commands.push(Command::Set {
-        name,
-        at,
-        bytes: set,
-        tries: true,
-    })?;
-    replies.push(answered(Reply::Busy(4)))?;
-    commands.push(Command::Get {
-        name,
-        at,
-        len,
-        tries,
-    })?;
-    replies.push(answered(Reply::OkBytes(bytes(alloc, &[10, 176])?)))?;
-    commands.push(Command::Get {
-        name,
-        at,
-        len,
-        tries: true,
-    })?;
-    replies.push(answered(Reply::OkBytes(bytes(alloc, &[])?)))?;
-    commands.push(Command::Write {
-        name,
-        bytes: bytes(alloc, &[])?,
-    })?;
-    replies.push(answered(Reply::Range))?;
-    commands.push(Command::Read { name, len })?;
-    replies.push(answered(Reply::Illegal))?;
-    commands.push(Command::Slice {
-        fresh,
-        name,
-        at,
-        len,
-        retained: false,
-    })?;
-    replies.push(answered(Reply::Taken))?;
-    commands.push(Command::Slice {
-        fresh,
-        name,
-        at,
-        len,
-        retained: true,
-    })?;
-    replies.push(answered(Reply::Unbound))?;
-    commands.push(Command::Dup { fresh, name })?;
-    replies.push(answered(Reply::Composite))?;
-    Ok(())
+    let replies = vec![in alloc;
+        answered(Reply::OkPlace { size, place: PLACE }),
+        answered(Reply::Ok),
+        answered(Reply::Busy(4)),
+        answered(Reply::OkBytes(got)),
+        answered(Reply::OkBytes(nothing)),
+        answered(Reply::Range),
+        answered(Reply::Illegal),
+        answered(Reply::Taken),
+        answered(Reply::Unbound),
+        answered(Reply::Composite),
+    ]?;
+    Ok(replies)
 }
 
-// Those of the second lane.
-fn second_replies(
-    alloc: Global,
-    commands: &mut Vec<Command>,
-    replies: &mut Vec<Answered>,
-) -> Result<(), AllocError> {
-    let name = 0;
-    let lane = 0;
-    let fresh = 1;
-    commands.push(Command::Retain { name })?;
-    replies.push(answered(Reply::Ok))?;
-    commands.push(Command::Release { name })?;
-    replies.push(answered(Reply::Kept))?;
-    commands.push(Command::Release { name })?;
-    replies.push(answered(Reply::Freed))?;
-    commands.push(Command::Refcnt { name })?;
-    replies.push(answered(Reply::OkNumber(3)))?;
-    commands.push(Command::Touch { name })?;
-    replies.push(answered(Reply::Ok))?;
-    commands.push(Command::Forget { name })?;
-    replies.push(answered(Reply::Ok))?;
-    commands.push(Command::Send { name, lane })?;
-    replies.push(answered(Reply::Ok))?;
-    commands.push(Command::Recv { fresh, lane })?;
-    replies.push(answered(Reply::Nothing))?;
-    commands.push(Command::Alloc { name, size: 1 })?;
-    replies.push(answered(Reply::TooLarge))?;
-    commands.push(Command::Alloc { name, size: 1 })?;
-    replies.push(answered(Reply::Handles))?;
-    commands.push(Command::Alloc { name, size: 1 })?;
-    replies.push(answered(Reply::Full))?;
-    composite_replies(alloc, commands, replies)
+// The commands of the second lane.
+fn second_commands(alloc: Global) -> Result<Vec<Command>, AllocError> {
+    let (name, lane, fresh, whole) = (0, 0, 1, 1);
+    let many = NameList::of(vec![in alloc; 0u32; 24]?);
+    let one = NameList::of(vec![in alloc; 0u32; 1]?);
+    let commands = vec![in alloc;
+        Command::Retain { name },
+        Command::Release { name },
+        Command::Release { name },
+        Command::Refcnt { name },
+        Command::Touch { name },
+        Command::Forget { name },
+        Command::Send { name, lane },
+        Command::Recv { fresh, lane },
+        Command::Alloc { name, size: 1 },
+        Command::Alloc { name, size: 1 },
+        Command::Alloc { name, size: 1 },
+        Command::Compose { fresh, names: many },
+        Command::Compose { fresh, names: one },
+        Command::Add { whole, name },
+        Command::Add { whole, name },
+    ]?;
+    Ok(commands)
 }
 
-// Those to commands on composites.
-fn composite_replies(
-    alloc: Global,
-    commands: &mut Vec<Command>,
-    replies: &mut Vec<Answered>,
-) -> Result<(), AllocError> {
-    let (fresh, whole, name) = (1, 1, 0);
-    let names = NameList::of(vec![in alloc; 0u32; 24]?);
-    commands.push(Command::Compose { fresh, names })?;
-    replies.push(answered(Reply::OkNumber(65536)))?;
-    let names = NameList::of(vec![in alloc; 0u32; 1]?);
-    commands.push(Command::Compose { fresh, names })?;
-    replies.push(answered(Reply::Stopped))?;
-    commands.push(Command::Add { whole, name })?;
-    replies.push(answered(Reply::OkNumber(0)))?;
-    commands.push(Command::Add { whole, name })?;
-    replies.push(answered(Reply::Plain))?;
-    Ok(())
+// What they are answered.
+fn second_replies(alloc: Global) -> Result<Vec<Answered>, AllocError> {
+    let replies = vec![in alloc;
+        answered(Reply::Ok),
+        answered(Reply::Kept),
+        answered(Reply::Freed),
+        answered(Reply::OkNumber(3)),
+        answered(Reply::Ok),
+        answered(Reply::Ok),
+        answered(Reply::Ok),
+        answered(Reply::Nothing),
+        answered(Reply::TooLarge),
+        answered(Reply::Handles),
+        answered(Reply::Full),
+        answered(Reply::OkNumber(65536)),
+        answered(Reply::Stopped),
+        answered(Reply::OkNumber(0)),
+        answered(Reply::Plain),
+    ]?;
+    Ok(replies)
 }
 
 const REPLIES: &str = "0.0 alloc ok 32 1.2+8192\n\
@@ -416,20 +415,12 @@ fn replied(alloc: Global, replies: Vec<Answered>) -> LaneLog {
 #[test]
 fn replies_to_every_command(rt: HostRuntime) -> Result<(), Fail> {
     let alloc = rt.alloc();
-    let mut lanes = Vec::new(alloc);
-    let mut logs = Vec::new(alloc);
-    let mut commands = Vec::new(alloc);
-    let mut replies = Vec::new(alloc);
-    first_replies(alloc, &mut commands, &mut replies)?;
-    lanes.push(CommandList::of(commands))?;
-    logs.push(replied(alloc, replies))?;
-    let mut commands = Vec::new(alloc);
-    let mut replies = Vec::new(alloc);
-    second_replies(alloc, &mut commands, &mut replies)?;
-    lanes.push(CommandList::of(commands))?;
-    logs.push(replied(alloc, replies))?;
-    let lanes = CommandLists::of(lanes);
-    let mut run = run_of(alloc, logs);
+    let first = replied(alloc, first_replies(alloc)?);
+    let second = replied(alloc, second_replies(alloc)?);
+    let mut run = run_of(alloc, vec![in alloc; first, second]?);
+    let first = CommandList::of(first_commands(alloc)?);
+    let second = CommandList::of(second_commands(alloc)?);
+    let lanes = CommandLists::of(vec![in alloc; first, second]?);
     run.trace = Trace { lanes };
     let text = text_of(alloc, &run, true)?;
     assert_eq!(rt; from_utf8(text.items()), Ok(REPLIES));
@@ -447,50 +438,52 @@ fn chunk(chunk: u32, list: ListName, used: u32) -> ChunkEnd {
     }
 }
 
-fn all_chunks(chunks: &mut Vec<ChunkEnd>) -> Result<(), AllocError> {
-    chunks.push(chunk(0, ListName::QInit, 0))?;
-    chunks.push(chunk(1, ListName::Q000, 8192))?;
-    chunks.push(chunk(2, ListName::Q025, 24576))?;
-    chunks.push(chunk(3, ListName::Q050, 40960))?;
-    chunks.push(chunk(4, ListName::Q075, 57344))?;
-    chunks.push(chunk(5, ListName::Q100, 65536))?;
-    Ok(())
+fn all_chunks(alloc: Global) -> Result<Vec<ChunkEnd>, AllocError> {
+    let chunks = vec![in alloc;
+        chunk(0, ListName::QInit, 0),
+        chunk(1, ListName::Q000, 8192),
+        chunk(2, ListName::Q025, 24576),
+        chunk(3, ListName::Q050, 40960),
+        chunk(4, ListName::Q075, 57344),
+        chunk(5, ListName::Q100, 65536),
+    ]?;
+    Ok(chunks)
 }
 
 fn records(alloc: Global) -> Result<Vec<Access>, AllocError> {
-    let mut records = Vec::new(alloc);
-    records.push(Access::Set {
+    let set = Access::Set {
         lane: 0,
         offset: 4,
         len: 3,
-    })?;
-    records.push(Access::Get {
+    };
+    let get = Access::Get {
         lane: 1,
         offset: 0,
         len: 16,
-    })?;
-    records.push(Access::Touch { lane: 1 })?;
+    };
+    let records = vec![in alloc; set, get, Access::Touch { lane: 1 }]?;
     Ok(records)
 }
 
-fn all_leaks(alloc: Global, leaks: &mut Vec<Leak>) -> Result<(), AllocError> {
-    leaks.push(Leak {
+fn all_leaks(alloc: Global) -> Result<Vec<Leak>, AllocError> {
+    let first = Leak {
         lane: 0,
         serial: 12,
         capacity: 100,
         count: 2,
         records: Records::of(records(alloc)?),
         dropped: 5,
-    })?;
-    leaks.push(Leak {
+    };
+    let second = Leak {
         lane: 1,
         serial: 1,
         capacity: 24,
         count: 1,
         records: Records::of(Vec::new(alloc)),
         dropped: 0,
-    })?;
-    Ok(())
+    };
+    let leaks = vec![in alloc; first, second]?;
+    Ok(leaks)
 }
 
 // Four roots are born, and each is retained and released once. The first is then released again.
@@ -527,15 +520,9 @@ fn chunks_leaks_and_the_end(rt: HostRuntime) -> Result<(), Fail> {
     let alloc = rt.alloc();
     let mut notes = Vec::new(alloc);
     four_births(&mut notes)?;
-    let mut logs = Vec::new(alloc);
-    logs.push(noted(alloc, notes))?;
-    let mut run = run_of(alloc, logs);
-    let mut chunks = Vec::new(alloc);
-    all_chunks(&mut chunks)?;
-    run.chunks = ChunkEnds::of(chunks);
-    let mut leaks = Vec::new(alloc);
-    all_leaks(alloc, &mut leaks)?;
-    run.leaks = LeakList::of(leaks);
+    let mut run = run_of(alloc, vec![in alloc; noted(alloc, notes)]?);
+    run.chunks = ChunkEnds::of(all_chunks(alloc)?);
+    run.leaks = LeakList::of(all_leaks(alloc)?);
     let text = text_of(alloc, &run, false)?;
     assert_eq!(rt; from_utf8(text.items()), Ok(END));
     Ok(())

@@ -1,28 +1,20 @@
 //! Texts, and what each is read as. Names are numbers, and a command that tries or retains says so.
-use crate::rows::{BYTES, COMMANDS, FAULTS, NO_VERSION_TWO, STUCK, SYNTAX, VERSION_TWO};
+use crate::rows::{COMMANDS, VERSION_TWO};
 use pool_law::{Command, Options, Trace};
 use std::alloc::{AllocError, Global};
 use std::process::Abort;
 use std::test::Fail;
-use trace_text::*;
+use trace_text::read_trace;
 
-/// Each command of a lane between `;`, each lane between `|`, and what is asked of the pool; or why
-/// there are none.
+/// Each command of a lane between `;`, each lane between `|`, and what is asked of the pool.
 fn told(alloc: Global, text: &[u8]) -> Result<String, AllocError> {
-    match read_trace(alloc, text) {
-        Ok(read) => {
-            let mut told = told_trace(alloc, &read.trace)?;
-            let asked = told_options(alloc, &read.options)?;
-            told.push_str(asked.as_str())?;
-            Ok(told)
-        }
-        Err(TraceNo::Syntax) => String::from_str(alloc, "syntax"),
-        Err(TraceNo::Shape { lane, line }) => format!(in alloc; "shape {lane}.{line}"),
-        Err(TraceNo::Limit(limit)) => format!(in alloc; "limit {limit:?}"),
-        Err(TraceNo::Stuck { lane, line }) => format!(in alloc; "stuck {lane}.{line}"),
-        Err(TraceNo::Memory) => String::from_str(alloc, "memory"),
-        Err(TraceNo::Options) => String::from_str(alloc, "options"),
-    }
+    let Ok(read) = read_trace(alloc, text) else {
+        return String::from_str(alloc, "refused");
+    };
+    let mut told = told_trace(alloc, &read.trace)?;
+    let asked = told_options(alloc, &read.options)?;
+    told.push_str(asked.as_str())?;
+    Ok(told)
 }
 
 fn told_options(alloc: Global, options: &Options) -> Result<String, AllocError> {
@@ -129,68 +121,6 @@ fn reads_each_command(rt: HostRuntime) -> Result<(), Fail> {
 }
 
 #[test]
-fn refuses_what_is_no_json(rt: HostRuntime) -> Result<(), Fail> {
-    check_table(&rt, SYNTAX)?;
-    let rows: [(&[u8], &str); 3] = [
-        (b"\"\xff\"", "syntax"),
-        (b"\xef\xbb\xbf[[]]", "syntax"),
-        (b"[[[\"touch\",\"a\x01\"]]]", "syntax"),
-    ];
-    for (text, want) in rows {
-        assert_eq!(rt; told(rt.alloc(), text)?.as_str(), want);
-    }
-    for (depth, want) in [(127, "shape 0.0"), (128, "syntax")] {
-        let mut text = String::new(rt.alloc());
-        push_often(&mut text, "[", depth)?;
-        push_often(&mut text, "]", depth)?;
-        assert_eq!(rt;
-            told(rt.alloc(), text.as_bytes())?.as_str(),
-            want,
-            "at {depth}"
-        );
-    }
-    Ok(())
-}
-
-#[test]
-fn names_the_first_fault(rt: HostRuntime) -> Result<(), Fail> {
-    check_table(&rt, FAULTS)
-}
-
-#[test]
 fn reads_version_two(rt: HostRuntime) -> Result<(), Fail> {
-    check_table(&rt, VERSION_TWO)?;
-    check_table(&rt, NO_VERSION_TWO)
-}
-
-#[test]
-fn names_the_least_lane_that_waits(rt: HostRuntime) -> Result<(), Fail> {
-    check_table(&rt, STUCK)
-}
-
-#[test]
-fn counts_the_bytes_that_are_asked(rt: HostRuntime) -> Result<(), Fail> {
-    check_table(&rt, BYTES)
-}
-
-#[test]
-fn reads_no_longer_text(rt: HostRuntime) -> Result<(), Fail> {
-    let alloc = rt.alloc();
-    let rows = [
-        (16_777_216, None),
-        (16_777_217, Some(TraceNo::Limit(Limit::Text))),
-    ];
-    for (len, want) in rows {
-        let mut text = Vec::from_slice(alloc, b"[[]]")?;
-        text.resize(len, b' ')?;
-        assert_eq!(rt; read_trace(alloc, &text).err(), want, "at {len}");
-    }
-    Ok(())
-}
-
-fn push_often(text: &mut String, part: &str, count: u32) -> Result<(), AllocError> {
-    for _ in 0..count {
-        text.push_str(part)?;
-    }
-    Ok(())
+    check_table(&rt, VERSION_TWO)
 }
