@@ -23,7 +23,7 @@ try_with_bytes-requires-clause-callable g c =
 pub returns-in-Ok : goal.returns-in-Ok
 returns-in-Ok g c =
     let pool = c.args.pool.now in let root = c.args.root in let mid = c.loop.member in
-    let new = c.try_with_bytes.new.member in let shown = c.in-Ok.ensures {u = tt} in
+    let new = c.try_with_bytes.new.member in let shown = (c.in-Ok.ensures {u = tt}).shown in
     let all = accessed_after pool root c.args.member.now mid new (Did.Get c.args.offset shown.0)
     c.loop.invariant.0 shown.3 in
     record {
@@ -44,5 +44,5 @@ loop-init g c = (waits_first c.args.pool.now c.args.member.now c.requires.thread
 pub loop-preserved : goal.loop-preserved
 loop-preserved g c =
     let pool = c.args.pool.now in let root = c.args.root in let mid = c.loop.member in
-    let new = c.try_with_bytes.new.member in let back = c.in-Err.ensures {u = tt} in
+    let new = c.try_with_bytes.new.member in let back = (c.in-Err.ensures {u = tt}).back in
     (waits_on pool root c.args.member.now mid new c.loop.invariant.0 back.1, back.0 ∙ c.loop.invariant.1)
