@@ -22,7 +22,10 @@ pub use gates::OpenGate;
 pub use lane_core::{Gate, Pass};
 pub use laws::words_have_their_form;
 pub use line::line_of;
+pub use pools::shape;
+pub use reading::read_for;
 pub use text_ends::{
     Failed, ListSink, ListSource, SafeSink, SafeSource, Sink, Source, StdSink, StdSource,
 };
 pub use top::run;
+pub use words::{Generation, Origin, RunOptions, read_words};
