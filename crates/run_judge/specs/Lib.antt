@@ -1,0 +1,4 @@
+pub mod Cases
+pub mod Steps
+pub mod Told
+pub mod Outcomes
