@@ -1,4 +1,5 @@
-"""The rows of trace_lint, nest_run and pool_bench, which run where these programs are built, as the gate leaves them."""
+"""The rows of trace_lint, nest_run, run_judge and pool_bench, which run where these programs are built, as the gate leaves them."""
+import json
 import os
 import resource
 
@@ -51,6 +52,67 @@ def try_nests(nest):
     try_ends("nest_run", nest, call, b'{"capacity":4194304,"calls":[]}', 5_000_000)
 
 
+UNREAD = 8
+# Of an example the places that are changed in its text with history, and what run_judge says of that: its status, and its lines with
+# "; " between them. Where nothing else is said, it is legal.
+JUDGED = [
+    ("smallest", {}, "0 legal"),
+    ("hand_over", {}, "0 legal"),
+    (
+        "hand_over",
+        {
+            "1.1 get ok 0a0b": "1.1 get ok 0000",
+            "root 0 2 set 0 0a0b": "root 0 3 set 0 0a0b",
+            "root 0 3 get 0 0a0b": "root 0 2 get 0 0000",
+        },
+        "1 not legal: each of these notes must stand before the next, the last before the first"
+        "; lane 0 after 6 notes; lane 1 after 0 notes; lane 1 after 1 notes; lane 0 after 5 notes",
+    ),
+    (
+        "smallest",
+        {"get ok 68656c6c6f": "get ok 68656c6c70", "get 0 68656c6c6f": "get 0 68656c6c70"},
+        "1 not legal: root 0: its notes have not each number once, or it does not accept them in this order",
+    ),
+    (
+        "hand_over",
+        {"fetch 0.1 0+4 0 0": "fetch 0.1 0+3 0 0"},
+        "1 not legal: mail 0 1: its posts are not numbered from 1, or what is fetched is not what was posted",
+    ),
+    (
+        "smallest",
+        {"get ok 68656c6c6f": "get ok 68656c6c70"},
+        "1 not legal: lane 0: its replies and notes are not those of its commands",
+    ),
+    (
+        "smallest",
+        {"used 8192 free 4186112": "used 0 free 4194304"},
+        "1 not legal: the chunk lines are not what the arenas have at the end",
+    ),
+    ("smallest", {"0.1 set ok": "0.1 set good"}, "8 refused text line 2: no run of this trace has such a line here"),
+]
+
+
+def case_of(poolrun, name, changes):
+    """What is asked of run_judge: an example and its text with history, changed so."""
+    with open(f"{HERE}/{name}.json", encoding="utf-8") as it:
+        trace = it.read()
+    text = run(poolrun, ["--history"], trace.encode())[1]
+    for old, new in changes.items():
+        assert text.count(old) == 1, old
+        text = text.replace(old, new)
+    return json.dumps({"words": ["--history"], "trace": trace, "text": text}).encode()
+
+
+def try_judge(judge, poolrun):
+    for name, changes, want in JUDGED:
+        status, text, said = run(judge, [], case_of(poolrun, name, changes))
+        lines = "; ".join((text + said).splitlines())
+        expect(f"run_judge < {name} {changes}", said=(f"{status} {lines}", want), error=(said != "", status == UNREAD))
+    for text in (b"", b"[]", b'{"words":[],"trace":"[[]]"}', b'{"words":["--generate","1"],"trace":"[[]]","text":""}'):
+        expect(f"run_judge < {text}", ran=(run(judge, [], text), (REFUSED, "", "refused input\n")))
+    try_ends("run_judge", judge, case_of(poolrun, "smallest", {}), b" " * TEXT_LIMIT, TEXT_LIMIT)
+
+
 # Words of pool_bench, and the sum of what was read, if it is determined. No block is refused.
 BENCHES = [
     ("checked 4 2000 1 1", 0),
@@ -77,8 +139,14 @@ def try_benches(bench):
         expect(f"pool_bench {words}", status=(status, WHOLE), error=(said, ""), lines=(found, want))
 
 
-def try_programs():
-    for name, part in (("trace_lint", try_lint), ("nest_run", try_nests), ("pool_bench", try_benches)):
+def try_programs(poolrun):
+    parts = {
+        "trace_lint": try_lint,
+        "nest_run": try_nests,
+        "run_judge": lambda judge: try_judge(judge, poolrun),
+        "pool_bench": try_benches,
+    }
+    for name, part in parts.items():
         program = f"{CRATES}/{name}/out/{name}"
         if os.access(program, os.X_OK):
             part(program)
