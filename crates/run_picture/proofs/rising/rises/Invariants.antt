@@ -1,0 +1,5 @@
+use Rattle.std.proofs.Common.{ℕ, suc, ◌<◌, get_or}
+use Rattle.run_picture.proofs.rising.rises.Given as goal
+
+abbrev pub invariant-loop-at : goal.invariant-loop-at
+invariant-loop-at l = (k : ℕ) → suc k < l.at → get_or l.numbers k 0 < get_or l.numbers (suc k) 0
