@@ -68,17 +68,14 @@ fn the_whole_chunk_is_taken_once(rt: HostRuntime) {
     let mut arena = new_arena(&rt, rt.alloc(), 3, 1);
     let region = take(&rt, &mut arena, 43);
     let place = region.id.place;
-    assert_eq!(rt;
-        (place.arena, place.chunk, place.offset, place.len),
-        (0, 0, 0, 65536)
-    );
-    assert_eq!(rt; region.id.taking, 1);
+    assert!(rt; place.arena == 0 && place.chunk == 0 && place.offset == 0 && place.len == 65536);
+    assert!(rt; region.id.taking == 1);
     leave(region);
     let second = arena.take(0, 0);
     let None = second else {
         panic!(rt; "an arena that is not full");
     };
-    assert_eq!(rt; arena.takings(), 1);
+    assert!(rt; arena.takings() == 1);
     arena.leave();
 }
 
@@ -99,11 +96,11 @@ fn try_edge(rt: &impl Abort, alloc: Global, edge: Edge)
     requires normal { edge.classes.1 < class_count (of_pages 9 edge.page) }
 {
     let mut arena = arena_of(rt, alloc, edge.page, 9, 4);
-    assert_eq!(rt; arena.chunk_now(1), None);
+    assert!(rt; arena.chunk_now(1) == None);
     let a = take(rt, &mut arena, edge.classes.0);
     let b = take(rt, &mut arena, edge.classes.1);
-    assert_eq!(rt; (a.id.place.offset, a.id.place.len), edge.small);
-    assert_eq!(rt; (b.id.place.offset, b.id.place.len), edge.normal);
+    assert!(rt; (a.id.place.offset, a.id.place.len) == edge.small);
+    assert!(rt; (b.id.place.offset, b.id.place.len) == edge.normal);
     arena.give(b);
     arena.give(a);
     let end = ChunkEnd {
@@ -113,7 +110,7 @@ fn try_edge(rt: &impl Abort, alloc: Global, edge: Edge)
         used: edge.end.0,
         free: edge.end.1,
     };
-    assert_eq!(rt; arena.chunk_now(0), Some(end));
+    assert!(rt; arena.chunk_now(0) == Some(end));
     arena.close();
 }
 
@@ -157,10 +154,10 @@ fn the_last_small_class_of_the_greatest_page(rt: HostRuntime) {
 fn a_whole_chunk_is_destroyed(rt: HostRuntime) {
     let mut arena = new_arena(&rt, rt.alloc(), 9, 4);
     let a = take(&rt, &mut arena, 67);
-    assert_eq!(rt; (a.id.place.offset, a.id.place.len), (0, 4194304));
-    assert_eq!(rt; list_now(&arena, 0), Some(ListName::Q100));
+    assert!(rt; a.id.place.offset == 0 && a.id.place.len == 4194304);
+    assert!(rt; list_now(&arena, 0) == Some(ListName::Q100));
     arena.give(a);
-    assert_eq!(rt; list_now(&arena, 0), None);
+    assert!(rt; list_now(&arena, 0) == None);
     arena.close();
 }
 
@@ -170,13 +167,13 @@ fn runs_that_meet_are_merged(rt: HostRuntime) {
     let a = take(&rt, &mut arena, 40);
     let b = take(&rt, &mut arena, 40);
     let c = take(&rt, &mut arena, 40);
-    assert_eq!(rt; a.id.place.offset, 0);
-    assert_eq!(rt; b.id.place.offset, 40960);
-    assert_eq!(rt; c.id.place.offset, 81920);
+    assert!(rt; a.id.place.offset == 0);
+    assert!(rt; b.id.place.offset == 40960);
+    assert!(rt; c.id.place.offset == 81920);
     arena.give(a);
     arena.give(b);
     let d = take(&rt, &mut arena, 44);
-    assert_eq!(rt; (d.id.place.offset, d.id.place.len), (0, 81920));
+    assert!(rt; d.id.place.offset == 0 && d.id.place.len == 81920);
     let end = ChunkEnd {
         arena: 0,
         chunk: 0,
@@ -184,7 +181,7 @@ fn runs_that_meet_are_merged(rt: HostRuntime) {
         used: 122880,
         free: 8192,
     };
-    assert_eq!(rt; arena.chunk_now(0), Some(end));
+    assert!(rt; arena.chunk_now(0) == Some(end));
     leave(c);
     leave(d);
     arena.leave();
@@ -196,11 +193,11 @@ fn an_idle_subpage_stays_while_it_is_alone(rt: HostRuntime) {
     let a = take(&rt, &mut arena, 38);
     let b = take(&rt, &mut arena, 38);
     let c = take(&rt, &mut arena, 38);
-    assert_eq!(rt; (b.id.place.offset, c.id.place.offset), (28672, 57344));
+    assert!(rt; b.id.place.offset == 28672 && c.id.place.offset == 57344);
     arena.give(a);
     arena.give(c);
     let d = take(&rt, &mut arena, 42);
-    assert_eq!(rt; d.id.place.offset, 57344);
+    assert!(rt; d.id.place.offset == 57344);
     arena.give(b);
     arena.give(d);
     let end = ChunkEnd {
@@ -210,7 +207,7 @@ fn an_idle_subpage_stays_while_it_is_alone(rt: HostRuntime) {
         used: 57344,
         free: 73728,
     };
-    assert_eq!(rt; arena.chunk_now(0), Some(end));
+    assert!(rt; arena.chunk_now(0) == Some(end));
     arena.close();
 }
 

@@ -59,14 +59,11 @@ const PAGES: [u32; 40] = [
 fn small_rows(rt: &impl Abort, classes: &SizeClasses) {
     for class in 0..39u32 {
         assert!(rt; class < classes.count());
-        assert!(rt; classes.is_small(class), "class {class}");
+        assert!(rt; classes.is_small(class));
         let size = classes.size_of(class);
         let pages = classes.subpage_pages(class);
-        assert_eq!(rt;
-            (size, pages, 8192 * pages / size),
-            SMALL[class as usize],
-            "class {class}"
-        );
+        let found = (size, pages, 8192 * pages / size);
+        assert!(rt; found == SMALL[class as usize], "class {class}");
     }
 }
 
@@ -74,11 +71,11 @@ fn normal_rows(rt: &impl Abort, classes: &SizeClasses) {
     let count = classes.count();
     assert!(rt; count <= 76);
     for class in 39..count {
-        assert!(rt; !classes.is_small(class), "class {class}");
-        let size = classes.size_of(class);
+        assert!(rt; !classes.is_small(class));
         let pages = classes.pages_of(class);
-        assert_eq!(rt; pages, PAGES[class as usize - 36], "class {class}");
-        assert_eq!(rt; u64::from(size), 8192 * u64::from(pages), "class {class}");
+        let size = 8192 * u64::from(pages);
+        assert!(rt; u64::from(classes.size_of(class)) == size, "class {class}");
+        assert!(rt; pages == PAGES[class as usize - 36]);
     }
 }
 
@@ -89,8 +86,8 @@ fn page_class_rows(rt: &impl Abort, classes: &SizeClasses, order: u32, page: u32
     for index in 0..4 * order - 4 {
         let pages = PAGES[index as usize];
         assert!(rt; 1 <= pages && pages <= 2u32.pow(order));
-        assert_eq!(rt; classes.page_class_up(pages), index, "{pages} pages");
-        assert_eq!(rt; classes.page_class_down(pages), index, "{pages} pages");
+        let (up, down) = (classes.page_class_up(pages), classes.page_class_down(pages));
+        assert!(rt; up == index && down == index, "{pages} pages");
     }
 }
 
@@ -99,11 +96,11 @@ fn rows(rt: &impl Abort, alloc: Global, order: u32)
     requires { IsGeometry (of_pages order 8192) }
 {
     let classes = SizeClasses::new(alloc, order, DEFAULT_PAGE).expect(rt, "ample memory");
-    assert_eq!(rt; classes.count(), 4 * order + 32);
+    assert!(rt; classes.count() == 4 * order + 32);
     small_rows(rt, &classes);
     normal_rows(rt, &classes);
     page_class_rows(rt, &classes, order, DEFAULT_PAGE);
-    assert_eq!(rt; classes.size_of(4 * order + 31), 8192 * 2u32.pow(order));
+    assert!(rt; classes.size_of(4 * order + 31) == 8192 * 2u32.pow(order));
 }
 
 #[test]
@@ -116,29 +113,29 @@ fn the_tables_of_three_orders(rt: HostRuntime) {
 #[test]
 fn single_calls(rt: HostRuntime) {
     let classes = SizeClasses::new(rt.alloc(), 9, DEFAULT_PAGE).expect(&rt, "ample memory");
-    assert_eq!(rt; classes.count(), 68);
-    assert_eq!(rt; classes.class_of(0), Some(0));
-    assert_eq!(rt; classes.class_of(4096), Some(27));
-    assert_eq!(rt; classes.class_of(4097), Some(28));
-    assert_eq!(rt; classes.class_of(28673), Some(39));
-    assert_eq!(rt; classes.class_of(4194305), None);
-    assert_eq!(rt; classes.size_of(67), 4194304);
-    assert_eq!(rt; classes.page_class_up(9), 8);
-    assert_eq!(rt; classes.page_class_down(9), 7);
+    assert!(rt; classes.count() == 68);
+    assert!(rt; classes.class_of(0) == Some(0));
+    assert!(rt; classes.class_of(4096) == Some(27));
+    assert!(rt; classes.class_of(4097) == Some(28));
+    assert!(rt; classes.class_of(28673) == Some(39));
+    assert!(rt; classes.class_of(4194305) == None);
+    assert!(rt; classes.size_of(67) == 4194304);
+    assert!(rt; classes.page_class_up(9) == 8);
+    assert!(rt; classes.page_class_down(9) == 7);
 }
 
 // The classes of a chunk of 4 MiB: how many are small, the pages of the last small one's subpage,
 // and the pages of the first normal one.
 fn last_small(rt: &impl Abort, classes: &SizeClasses, small: u32) {
-    assert_eq!(rt; classes.count(), 68);
-    assert_eq!(rt; classes.small_count(), small);
+    assert!(rt; classes.count() == 68);
+    assert!(rt; classes.small_count() == small);
     assert!(rt; 0 < small && small < classes.count());
     assert!(rt; classes.is_small(small - 1));
-    assert_eq!(rt; classes.subpage_pages(small - 1), 7);
+    assert!(rt; classes.subpage_pages(small - 1) == 7);
     assert!(rt; !classes.is_small(small));
-    assert_eq!(rt; classes.pages_of(small), 4);
-    assert_eq!(rt; classes.class_of(4194304), Some(67));
-    assert_eq!(rt; classes.class_of(4194305), None);
+    assert!(rt; classes.pages_of(small) == 4);
+    assert!(rt; classes.class_of(4194304) == Some(67));
+    assert!(rt; classes.class_of(4194305) == None);
 }
 
 #[test]

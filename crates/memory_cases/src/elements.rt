@@ -13,7 +13,7 @@ fn taken(rt: &impl Abort, subpage: &mut Subpage, i: u32) -> Piece
 {
     match subpage.take() {
         Some((piece, at)) => {
-            assert_eq!(rt; at, i);
+            assert!(rt; at == i);
             piece
         }
         None => panic!(rt; "element {i} is not handed out"),
@@ -56,7 +56,7 @@ fn the_last_given_comes_first_and_then_the_lowest(rt: HostRuntime) {
 fn an_idle_subpage_is_a_run_again(rt: HostRuntime) {
     let (ground, deed) = Ground::new(rt.alloc(), 8192).expect(&rt, "ample memory");
     let run = Subpage::of(ground, 2048).into_run();
-    assert_eq!(rt; (run.start(), run.len()), (0, 8192));
+    assert!(rt; run.start() == 0 && run.len() == 8192);
     run.close(deed);
 }
 

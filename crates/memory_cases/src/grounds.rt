@@ -11,13 +11,13 @@ fn are_zeros(bytes: &[u8]) -> bool {
 fn the_left_bytes_then_zeros(rt: HostRuntime) {
     let (ground, deed) = Ground::new(rt.alloc(), 65536).expect(&rt, "ample memory");
     let (mut left, right) = ground.split(8192);
-    assert_eq!(rt; (left.start(), left.len()), (0, 8192));
-    assert_eq!(rt; (right.start(), right.len()), (8192, 57344));
+    assert!(rt; left.start() == 0 && left.len() == 8192);
+    assert!(rt; right.start() == 8192 && right.len() == 57344);
     left.bytes_mut()[8191] = 9;
     let whole = left.join(right);
-    assert_eq!(rt; (whole.start(), whole.len()), (0, 65536));
+    assert!(rt; whole.start() == 0 && whole.len() == 65536);
     assert!(rt; are_zeros(&whole.bytes()[..8191]));
-    assert_eq!(rt; whole.bytes()[8191], 9);
+    assert!(rt; whole.bytes()[8191] == 9);
     assert!(rt; are_zeros(&whole.bytes()[8192..]));
     whole.close(deed);
 }

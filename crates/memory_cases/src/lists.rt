@@ -10,11 +10,11 @@ use std::test::*;
 #[test]
 fn a_chunk_goes_through_the_lists(rt: HostRuntime) -> Result<(), Fail> {
     let mut lists = ChunkLists::new(rt.alloc(), 2)?;
-    assert_eq!(rt; lists.list_of(0), None);
-    assert_eq!(rt; lists.add(0, 25), ListName::Q000);
-    assert_eq!(rt; lists.moved(0, 100), Settled::At(ListName::Q100));
-    assert_eq!(rt; lists.moved(0, 0), Settled::Destroyed);
-    assert_eq!(rt; lists.list_of(0), None);
+    assert!(rt; lists.list_of(0) == None);
+    assert!(rt; lists.add(0, 25) == ListName::Q000);
+    assert!(rt; lists.moved(0, 100) == Settled::At(ListName::Q100));
+    assert!(rt; lists.moved(0, 0) == Settled::Destroyed);
+    assert!(rt; lists.list_of(0) == None);
     Ok(())
 }
 
@@ -39,7 +39,7 @@ fn nth(lists: &ChunkLists, k: u32) -> Option<u32> {
 fn chunks_are_asked_from_the_middle_list_on(rt: HostRuntime) -> Result<(), Fail> {
     let mut lists = ChunkLists::new(rt.alloc(), 7)?;
     lists.add(4, 100);
-    assert_eq!(rt; lists.moved(4, 80), Settled::At(ListName::Q075));
+    assert!(rt; lists.moved(4, 80) == Settled::At(ListName::Q075));
     add(&rt, &mut lists, 0, 10);
     add(&rt, &mut lists, 1, 25);
     add(&rt, &mut lists, 2, 50);
