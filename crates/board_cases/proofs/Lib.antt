@@ -1,0 +1,4 @@
+pub mod Views
+pub mod BoardSeats
+pub mod Texts
+pub mod Going

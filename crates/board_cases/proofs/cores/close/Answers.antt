@@ -1,0 +1,16 @@
+use Rattle.std.proofs.Common.{[], ◌∷◌, ◌++◌, ap, ◌∙◌, sym, subst}
+use Rattle.shared_pool.specs.Seated.{AreDone}
+use Rattle.board_cases.proofs.Texts.{both_over}
+use Rattle.board_cases.proofs.cores.close.Goals as goal
+
+pub close-requires : goal.close-requires
+close-requires g c =
+    let pool = c.args.pool in let a = c.args.first in let b = c.args.second in let q = c.requires in
+    let items = c.push_reserved-2.ensures.items ∙ ap (λ xs. xs ++ b ∷ [])
+    (c.push_reserved.ensures.items ∙ ap (λ xs. xs ++ a ∷ []) q.spare.0) in
+    record {
+      seats =
+          subst (λ xs. AreDone pool xs) (sym items)
+          (both_over pool a b (ap (λ l. l.shape.lanes) (pool.same_layout ∙ q.layout)) q.seats.0 q.seats.1
+          c.is_of.ensures c.is_of-2.ensures);
+    }
