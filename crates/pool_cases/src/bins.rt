@@ -28,10 +28,10 @@ fn handles_come_in_ascending_order(rt: HostRuntime) -> Result<(), Fail> {
     let third = pop_place(&mut bin);
     let fourth = pop_place(&mut bin);
     bin.leave();
-    assert_eq!(rt; first, Some(6));
-    assert_eq!(rt; second, Some(7));
-    assert_eq!(rt; third, Some(8));
-    assert_eq!(rt; fourth, None);
+    assert!(rt; first == Some(6));
+    assert!(rt; second == Some(7));
+    assert!(rt; third == Some(8));
+    assert!(rt; fourth == None);
     Ok(())
 }
 
@@ -45,9 +45,9 @@ fn a_handle_goes_back_behind_the_others(rt: HostRuntime) -> Result<(), Fail> {
     let second = pop_place(&mut bin);
     let third = pop_place(&mut bin);
     bin.leave();
-    assert_eq!(rt; first, Some(7));
-    assert_eq!(rt; second, Some(8));
-    assert_eq!(rt; third, Some(6));
+    assert!(rt; first == Some(7));
+    assert!(rt; second == Some(8));
+    assert!(rt; third == Some(6));
     Ok(())
 }
 
@@ -68,7 +68,7 @@ fn a_handle_keeps_its_tracker(rt: HostRuntime) -> Result<(), Fail> {
     let kept = handle.tracker().kept(0);
     bin.put(handle);
     bin.leave();
-    assert_eq!(rt; lane, 1);
+    assert!(rt; lane == 1);
     assert_eq!(rt; kept, Some(Access::Touch { lane: 3 }));
     Ok(())
 }

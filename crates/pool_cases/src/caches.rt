@@ -66,18 +66,12 @@ fn pop(cache: &mut Cache) -> Option<u64>
 fn a_cache_of_one(rt: HostRuntime) {
     let alloc = rt.alloc();
     let mut cache = crosses(Cache::new(alloc, 1).expect(&rt, "ample memory"));
-    assert_eq!(rt; put(&mut cache, region_of(&rt, alloc, 1)), None);
-    assert_eq!(rt;
-        put(&mut cache, region_of(&rt, alloc, 2)),
-        Some(CacheNo::Full)
-    );
+    assert!(rt; put(&mut cache, region_of(&rt, alloc, 1)) == None);
+    assert!(rt; put(&mut cache, region_of(&rt, alloc, 2)) == Some(CacheNo::Full));
     let quota = cache.close();
-    assert_eq!(rt; quota, 1);
-    assert_eq!(rt;
-        put(&mut cache, region_of(&rt, alloc, 3)),
-        Some(CacheNo::Closed)
-    );
-    assert_eq!(rt; taking_of(cache.shed()), 1);
+    assert!(rt; quota == 1);
+    assert!(rt; put(&mut cache, region_of(&rt, alloc, 3)) == Some(CacheNo::Closed));
+    assert!(rt; taking_of(cache.shed()) == 1);
     cache.leave();
 }
 
@@ -85,11 +79,11 @@ fn a_cache_of_one(rt: HostRuntime) {
 fn the_first_in_is_the_first_out(rt: HostRuntime) {
     let alloc = rt.alloc();
     let mut cache = Cache::new(alloc, 2).expect(&rt, "ample memory");
-    assert_eq!(rt; put(&mut cache, region_of(&rt, alloc, 1)), None);
-    assert_eq!(rt; put(&mut cache, region_of(&rt, alloc, 2)), None);
-    assert_eq!(rt; pop(&mut cache), Some(1));
-    assert_eq!(rt; pop(&mut cache), Some(2));
-    assert_eq!(rt; pop(&mut cache), None);
+    assert!(rt; put(&mut cache, region_of(&rt, alloc, 1)) == None);
+    assert!(rt; put(&mut cache, region_of(&rt, alloc, 2)) == None);
+    assert!(rt; pop(&mut cache) == Some(1));
+    assert!(rt; pop(&mut cache) == Some(2));
+    assert!(rt; pop(&mut cache) == None);
     cache.leave();
 }
 
@@ -97,15 +91,15 @@ fn the_first_in_is_the_first_out(rt: HostRuntime) {
 fn a_trim_sheds_what_was_not_served(rt: HostRuntime) {
     let alloc = rt.alloc();
     let mut cache = Cache::new(alloc, 4).expect(&rt, "ample memory");
-    assert_eq!(rt; put(&mut cache, region_of(&rt, alloc, 1)), None);
-    assert_eq!(rt; put(&mut cache, region_of(&rt, alloc, 2)), None);
-    assert_eq!(rt; put(&mut cache, region_of(&rt, alloc, 3)), None);
-    assert_eq!(rt; pop(&mut cache), Some(1));
+    assert!(rt; put(&mut cache, region_of(&rt, alloc, 1)) == None);
+    assert!(rt; put(&mut cache, region_of(&rt, alloc, 2)) == None);
+    assert!(rt; put(&mut cache, region_of(&rt, alloc, 3)) == None);
+    assert!(rt; pop(&mut cache) == Some(1));
     let quota = cache.trim();
-    assert_eq!(rt; quota, 2);
-    assert_eq!(rt; taking_of(cache.shed()), 2);
-    assert_eq!(rt; taking_of(cache.shed()), 3);
+    assert!(rt; quota == 2);
+    assert!(rt; taking_of(cache.shed()) == 2);
+    assert!(rt; taking_of(cache.shed()) == 3);
     let none = cache.trim();
-    assert_eq!(rt; none, 0);
+    assert!(rt; none == 0);
     cache.leave();
 }

@@ -33,17 +33,14 @@ fn three_parts(alloc: Global) -> Result<Composite, AllocError>
 #[test]
 fn three_parts_and_one_of_them_empty(rt: HostRuntime) -> Result<(), Fail> {
     let composite = three_parts(rt.alloc())?;
-    assert_eq!(rt; composite.len(), 7);
-    assert_eq!(rt; composite.parts(), 3);
-    assert_eq!(rt; composite.part(2), part_of(2, 20, 4));
-    assert_eq!(rt; composite.locate(2), (0, 2));
-    assert_eq!(rt; composite.locate(3), (2, 0));
-    assert_eq!(rt; composite.locate(6), (2, 3));
+    assert!(rt; composite.len() == 7);
+    assert!(rt; composite.parts() == 3);
+    assert!(rt; composite.part(2) == part_of(2, 20, 4));
+    assert!(rt; composite.locate(2) == (0, 2));
+    assert!(rt; composite.locate(3) == (2, 0));
+    assert!(rt; composite.locate(6) == (2, 3));
     let ranges = composite.ranges(rt.alloc(), 2, 3)?;
-    assert_eq!(rt;
-        ranges.items(),
-        [part_of(0, 7, 1), part_of(2, 20, 2)].as_slice()
-    );
+    assert!(rt; ranges.items() == [part_of(0, 7, 1), part_of(2, 20, 2)].as_slice());
     Ok(())
 }
 
@@ -52,13 +49,13 @@ fn three_parts_and_one_of_them_empty(rt: HostRuntime) -> Result<(), Fail> {
 fn one_more_part_and_then_one_for_all(rt: HostRuntime) -> Result<(), Fail> {
     let mut composite = three_parts(rt.alloc())?;
     composite.add(part_of(3, 1, 2));
-    assert_eq!(rt; composite.locate(8), (3, 1));
+    assert!(rt; composite.locate(8) == (3, 1));
     composite.consolidated(part_of(4, 0, 9));
-    assert_eq!(rt; composite.parts(), 1);
-    assert_eq!(rt; composite.locate(8), (0, 8));
+    assert!(rt; composite.parts() == 1);
+    assert!(rt; composite.locate(8) == (0, 8));
     let ranges = composite.ranges(rt.alloc(), 7, 2)?;
-    assert_eq!(rt; ranges.items(), [part_of(4, 7, 2)].as_slice());
+    assert!(rt; ranges.items() == [part_of(4, 7, 2)].as_slice());
     let none = composite.ranges(rt.alloc(), 9, 0)?;
-    assert_eq!(rt; none.items().len(), 0);
+    assert!(rt; none.items().len() == 0);
     Ok(())
 }

@@ -39,10 +39,10 @@ fn the_last_four_are_kept(rt: HostRuntime) -> Result<(), Fail> {
     let mut tracker = crosses(Tracker::new(rt.alloc())?);
     tracker.start(watch(true));
     add_touches(&mut tracker, 5);
-    assert_eq!(rt; tracker.kept(0), touch(1));
-    assert_eq!(rt; tracker.kept(3), touch(4));
-    assert_eq!(rt; tracker.kept(4), None);
-    assert_eq!(rt; tracker.dropped(), 1);
+    assert!(rt; tracker.kept(0) == touch(1));
+    assert!(rt; tracker.kept(3) == touch(4));
+    assert!(rt; tracker.kept(4) == None);
+    assert!(rt; tracker.dropped() == 1);
     Ok(())
 }
 
@@ -52,13 +52,13 @@ fn the_last_four_of_twelve_are_kept(rt: HostRuntime) -> Result<(), Fail> {
     let mut tracker = Tracker::new(rt.alloc())?;
     tracker.start(watch(true));
     add_touches(&mut tracker, 12);
-    assert_eq!(rt; tracker.kept(0), touch(8));
-    assert_eq!(rt; tracker.kept(3), touch(11));
-    assert_eq!(rt; tracker.dropped(), 8);
+    assert!(rt; tracker.kept(0) == touch(8));
+    assert!(rt; tracker.kept(3) == touch(11));
+    assert!(rt; tracker.dropped() == 8);
     tracker.start(watch(false));
     add_touches(&mut tracker, 1);
-    assert_eq!(rt; tracker.kept(0), None);
-    assert_eq!(rt; tracker.dropped(), 0);
+    assert!(rt; tracker.kept(0) == None);
+    assert!(rt; tracker.dropped() == 0);
     Ok(())
 }
 
@@ -76,8 +76,8 @@ fn sampled_by_three(level: Level) -> [bool; 4] {
 fn levels_sample_none_or_by_interval_or_all(rt: HostRuntime) {
     let by_interval = [true, false, false, true];
     assert_eq!(rt; sampled_by_three(Level::Disabled), [false; 4]);
-    assert_eq!(rt; sampled_by_three(Level::Simple), by_interval);
-    assert_eq!(rt; sampled_by_three(Level::Advanced), by_interval);
+    assert!(rt; sampled_by_three(Level::Simple) == by_interval);
+    assert!(rt; sampled_by_three(Level::Advanced) == by_interval);
     assert_eq!(rt; sampled_by_three(Level::Paranoid), [true; 4]);
 }
 
@@ -85,13 +85,13 @@ fn levels_sample_none_or_by_interval_or_all(rt: HostRuntime) {
 fn a_watch_has_its_lane_and_serial(rt: HostRuntime) {
     let mut sampler = crosses(Sampler::new(2, Level::Advanced, 2));
     let _first = sampler.next();
-    assert_eq!(rt; sampler.next(), None);
+    assert!(rt; sampler.next() == None);
     let third = Watch {
         lane: 2,
         serial: 3,
         keeps: true,
     };
-    assert_eq!(rt; sampler.next(), Some(third));
+    assert!(rt; sampler.next() == Some(third));
 }
 
 // A live root with one touch by its own lane.
@@ -122,12 +122,12 @@ fn leaks_are_in_order_of_lane_and_then_serial(rt: HostRuntime) -> Result<(), Fai
     roots.push(live(alloc, 0, 9)?)?;
     let leaks = report(alloc, &LiveList::of(roots))?;
     let order = [(0, 9), (0, 10), (1, 1)];
-    assert_eq!(rt; leaks.items().len(), order.len());
+    assert!(rt; leaks.items().len() == order.len());
     for (leak, (lane, serial)) in leaks.items().iter().zip(order) {
-        assert_eq!(rt; (leak.lane, leak.serial), (lane, serial));
-        assert_eq!(rt; (leak.capacity, leak.count, leak.dropped), (100, 2, 7));
+        assert!(rt; leak.lane == lane && leak.serial == serial);
+        assert!(rt; leak.capacity == 100 && leak.count == 2 && leak.dropped == 7);
         let touch = Access::Touch { lane };
-        assert_eq!(rt; leak.records.items().first(), Some(&touch));
+        assert!(rt; leak.records.items().first() == Some(&touch));
     }
     Ok(())
 }

@@ -166,9 +166,9 @@ fn live_once<R: Abort + Wait>(
 {
     let root = made(rt, pool, sizes, seat, size);
     assert!(rt; size >= 4 && at <= size - 4);
-    assert_eq!(rt; bytes_at(rt, pool, seat, root, at), ([0, 0, 0, 0], true));
+    assert!(rt; bytes_at(rt, pool, seat, root, at) == ([0, 0, 0, 0], true));
     set(rt, pool, seat, root, at, &[1, 2, 3, 4]);
-    assert_eq!(rt; bytes_at(rt, pool, seat, root, at), ([1, 2, 3, 4], true));
+    assert!(rt; bytes_at(rt, pool, seat, root, at) == ([1, 2, 3, 4], true));
     assert!(rt; release(rt, pool, seat, root));
 }
 
@@ -185,7 +185,7 @@ fn buffers_keep_what_is_written(rt: HostRuntime) -> Result<(), Fail> {
         let (size, at) = ROWS[row];
         live_once(&rt, &pool, &sizes, &mut first, size, at);
     }
-    assert_eq!(rt; close(&rt, rt.alloc(), pool, first, second, spare)?, 1);
+    assert!(rt; close(&rt, rt.alloc(), pool, first, second, spare)? == 1);
     Ok(())
 }
 
@@ -211,7 +211,7 @@ fn the_last_release_ends_a_buffer(rt: HostRuntime) -> Result<(), Fail> {
     } = open(rt.alloc())?;
     let root = made(&rt, &pool, &sizes, &mut first, 24);
     counted_twice(&rt, &pool, &mut first, root);
-    assert_eq!(rt; close(&rt, rt.alloc(), pool, first, second, spare)?, 1);
+    assert!(rt; close(&rt, rt.alloc(), pool, first, second, spare)? == 1);
     Ok(())
 }
 
@@ -224,7 +224,7 @@ fn received<R: Abort + Wait>(rt: &R, pool: &SharedPool, seat: &mut PoolSeat, roo
     let Some(Parcel { view: Some(view) }) = fetch(rt, pool, seat, 0) else {
         panic!(rt; "nothing came")
     };
-    assert_eq!(rt; view.root, root);
+    assert!(rt; view.root == root);
     assert!(rt; release(rt, pool, seat, view.root));
 }
 
@@ -238,7 +238,7 @@ fn a_buffer_goes_to_another_lane(rt: HostRuntime) -> Result<(), Fail> {
         sizes,
     } = open(rt.alloc())?;
     let root = made(&rt, &pool, &sizes, &mut first, 24);
-    assert_eq!(rt; fetch(&rt, &pool, &mut second, 0), None);
+    assert!(rt; fetch(&rt, &pool, &mut second, 0) == None);
     let view = ViewData {
         root,
         offset: 0,
@@ -248,6 +248,6 @@ fn a_buffer_goes_to_another_lane(rt: HostRuntime) -> Result<(), Fail> {
     };
     post(&rt, &pool, &mut first, 1, Parcel { view: Some(view) });
     received(&rt, &pool, &mut second, root);
-    assert_eq!(rt; close(&rt, rt.alloc(), pool, first, second, spare)?, 1);
+    assert!(rt; close(&rt, rt.alloc(), pool, first, second, spare)? == 1);
     Ok(())
 }

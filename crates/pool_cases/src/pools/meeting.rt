@@ -99,7 +99,7 @@ fn fetched(rt: &(impl Abort + Wait), pool: &SharedPool, seat: &mut PoolSeat) -> 
 {
     match pool.fetch(rt, seat, 0) {
         Fetched::Got(number, Parcel { view: Some(view) }) => {
-            assert_eq!(rt; number, 1);
+            assert!(rt; number == 1);
             view.root
         },
         Fetched::Got(_, Parcel { view: None }) => panic!(rt; "no view"),

@@ -22,7 +22,7 @@ fn counted_again(rt: &impl Abort, pool: &SharedPool, seat: &mut PoolSeat, root: 
     ensures counts { HasCount root (view_of seat.new) }
 {
     pool.retain(seat, root);
-    assert_eq!(rt; pool.look(seat, root), 2);
+    assert!(rt; pool.look(seat, root) == 2);
     match pool.release(seat, root) {
         Release::Kept => (),
         Release::Ended(token) => {

@@ -39,7 +39,7 @@ pub(super) fn stock(rt: &impl Abort, pool: &SharedPool, seat: &mut PoolSeat) -> 
         }
         Went::Did(_, None) | Went::Held(_, ()) => panic!(rt; "no handle"),
     };
-    assert_eq!(rt; handle.place(), 0);
+    assert!(rt; handle.place() == 0);
     match pool.pop_cached(seat, 39) {
         Went::Did(1, None) => (),
         Went::Did(_, Some(region)) => {
@@ -57,9 +57,9 @@ pub(super) fn stock(rt: &impl Abort, pool: &SharedPool, seat: &mut PoolSeat) -> 
         Went::Did(_, None) | Went::Held(_, ()) => panic!(rt; "no region"),
     };
     let place = region.id.place;
-    assert_eq!(rt; (place.arena, place.chunk, place.offset), (0, 0, 0));
-    assert_eq!(rt; (region.id.taking, region.id.uses), (1, 0));
-    assert_eq!(rt; place.len, 32768);
+    assert!(rt; place.arena == 0 && place.chunk == 0 && place.offset == 0);
+    assert!(rt; region.id.taking == 1 && region.id.uses == 0);
+    assert!(rt; place.len == 32768);
     (handle, region)
 }
 
@@ -100,7 +100,7 @@ fn ended(rt: &impl Abort, pool: &SharedPool, seat: &mut PoolSeat, root: RootId) 
     ensures token { HoldsToken seat.new result }
 {
     pool.retain(seat, root);
-    assert_eq!(rt; pool.look(seat, root), 2);
+    assert!(rt; pool.look(seat, root) == 2);
     match pool.release(seat, root) {
         Release::Kept => (),
         Release::Ended(token) => {
@@ -165,7 +165,7 @@ fn given_back(rt: &impl Abort, pool: &SharedPool, seat: &mut PoolSeat)
         }
         Went::Did(_, None) | Went::Held(_, ()) => panic!(rt; "not cached"),
     };
-    assert_eq!(rt; (region.id.taking, region.id.uses), (1, 1));
+    assert!(rt; region.id.taking == 1 && region.id.uses == 1);
     match pool.give(seat, region) {
         Went::Did(number, ()) => assert_eq!(rt; number, 2),
         Went::Held(_, region) => {
@@ -180,7 +180,7 @@ fn a_region_is_used_twice(rt: HostRuntime) -> Result<(), Fail> {
     let Opened { pool, mut seat } = open(rt.alloc())?;
     let (handle, region) = stock(&rt, &pool, &mut seat);
     let (number, root) = pool.birth(&mut seat, handle, region, 32768, None);
-    assert_eq!(rt; (number, root.generation), (1, 1));
+    assert!(rt; number == 1 && root.generation == 1);
     touched(&rt, &pool, &mut seat, root);
     let token = ended(&rt, &pool, &mut seat, root);
     let Retired {
@@ -188,7 +188,7 @@ fn a_region_is_used_twice(rt: HostRuntime) -> Result<(), Fail> {
         region,
         handle,
     } = pool.retire(&mut seat, token);
-    assert_eq!(rt; (number, region.id.uses), (5, 1));
+    assert!(rt; number == 5 && region.id.uses == 1);
     come_home(&rt, &pool, &mut seat, region, handle);
     given_back(&rt, &pool, &mut seat);
     leave(Opened { pool, seat });

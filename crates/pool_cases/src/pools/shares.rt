@@ -86,7 +86,7 @@ fn counted_twice(rt: &impl Abort, pool: &SharedPool, seat: &mut PoolSeat, root: 
 {
     pool.retain(seat, root);
     pool.retain(seat, root);
-    assert_eq!(rt; pool.look(seat, root), 3);
+    assert!(rt; pool.look(seat, root) == 3);
     kept(rt, pool.release(seat, root));
     kept(rt, pool.release(seat, root));
 }
@@ -111,7 +111,7 @@ fn lent(
     ensures counts { HasCount root (view_of first.new) }
 {
     let share = crosses(pool.share(second, 1));
-    assert_eq!(rt; share.moves(), 1);
+    assert!(rt; share.moves() == 1);
     pool.accept(first, share);
     counted_twice(rt, pool, first, root);
     let share = pool.share(first, 1);
