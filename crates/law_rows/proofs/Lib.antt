@@ -5,5 +5,6 @@ mod RootTests
 mod CountsComputed
 mod MarksComputed
 mod LegalComputed
+mod Happened
 mod OrderedSteps
 pub mod MailRows

@@ -29,4 +29,5 @@ pub mod StopRuns
 pub mod OddRuns
 pub mod DisorderedRuns
 pub mod LifeRows
+pub mod GrowthPlays
 pub mod OrderedRuns

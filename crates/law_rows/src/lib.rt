@@ -12,6 +12,7 @@ pub mod composite_runs;
 pub mod composites;
 pub mod counts;
 pub mod elements;
+pub mod growth;
 pub mod homes;
 pub mod lane_runs;
 pub mod leaks;

@@ -1,7 +1,7 @@
 //! The life of a region: its taking, and all that is done with it after that.
 
 ghost use Rattle.pool_law.specs.Legal.{logs_of};
-ghost use Rattle.pool_law.specs.Lives.{Got, LivesOn, InOrder, dids_of};
+ghost use Rattle.pool_law.specs.Lives.{Got, LivesOn, InOrder, moves_of};
 ghost use Rattle.pool_law.specs.Apart.{Before, EndsBefore};
 ghost use Rattle.law_rows.specs.Notes.{least_region};
 ghost use Rattle.law_rows.specs.RootRuns.{one_handle, first_root, second_root};
@@ -11,21 +11,22 @@ ghost use Rattle.law_rows.specs.LifeRows.{twice_taken, twice_used, once_taken, o
 
 /// Two roots use one region: the first ends, the cache keeps it, and the second hits it there.
 pub fn region_used_twice()
-    ensures lives { LivesOn Got (least_region 0) (dids_of twice_used) }
+    ensures lives { LivesOn Got (least_region 0) (moves_of twice_used) }
     ensures order { InOrder (logs_of one_handle) twice_taken twice_used }
-    ensures apart { EndsBefore (logs_of one_handle) first_root second_root }
+    ensures apart { EndsBefore (logs_of one_handle)
+        first_root (least_region 1) second_root (least_region 2) }
 {}
 
 /// A region without a cache is given back at once, and its bytes are taken again after that.
 pub fn region_given_at_once()
-    ensures lives { LivesOn Got (five_region 1 0) (dids_of once_used) }
+    ensures lives { LivesOn Got (five_region 1 0) (moves_of once_used) }
     ensures order { InOrder (logs_of merging) once_taken once_used }
     ensures before { Before (logs_of merging) (five_region 1 1) (ten_region 1) }
-    ensures apart { EndsBefore (logs_of merging) (five 1) ten }
+    ensures apart { EndsBefore (logs_of merging) (five 1) (five_region 1 1) ten (ten_region 1) }
 {}
 
 /// A region that another lane releases comes back by its owner's cache.
 pub fn region_handed_over()
-    ensures lives { LivesOn Got (least_region 0) (dids_of handed_used) }
+    ensures lives { LivesOn Got (least_region 0) (moves_of handed_used) }
     ensures order { InOrder (logs_of hand_over) handed_taken handed_used }
 {}

@@ -1,42 +1,67 @@
 -- When events happen: their places in the one order.
-use Rattle.std.proofs.Common.{inl, inr, ◌≡◌, ℕ, ◌≤◌, Bool, true, List, [], ◌∷◌, take, sym, ap, subst, arith, Some, ◌∙◌}
-use Rattle.std.specs.Prelude.{◌<◌, ◌⊎◌}
+use Rattle.std.proofs.Common.{⊎_elim, inl, inr, ◌≡◌, ℕ, ◌≤◌, Bool, true, false, List, [], ◌∷◌, take, refl, sym, ap, subst, arith, Some, ◌∙◌, eqb-true, eq-eqb}
+use Rattle.std.specs.Prelude.{◌<◌, ◌⊎◌, ◌==◌, slice_get}
 use Rattle.pool_law.specs.declared.id.RootId.{RootId}
 use Rattle.pool_law.specs.declared.id.RegionId.{RegionId}
 use Rattle.pool_law.specs.declared.note.Object.{Object}
 use Rattle.pool_law.specs.declared.note.Did.TheVariants.{Birth, End}
 use Rattle.pool_law.specs.declared.note.RefDid.{RefDid}
 use Rattle.pool_law.specs.declared.note.Note.{Note}
-use Rattle.pool_law.specs.declared.note.Note.TheVariants.{At, Ref}
+use Rattle.pool_law.specs.declared.note.Note.TheVariants.{At, Ref, Busy}
 use Rattle.pool_law.specs.declared.run.Run.{Run}
 use Rattle.pool_law.specs.Logs.{Logs, has_history}
-use Rattle.pool_law.specs.Counts.{is_birth, ends_root}
+use Rattle.pool_law.specs.Counts.{ends_root}
 use Rattle.pool_law.specs.Legal.{IsLegal, logs_of}
-use Rattle.pool_law.specs.Lives.{StandsAt, IsUse, Event, Stands, InOneLog, AtOneObject}
+use Rattle.pool_law.specs.Lives.{StandsAt, Event, Stands, InOneLog, AtOneObject}
+use Rattle.run_laws.proofs.BirthLives.{IsUse}
 use Rattle.pool_law.specs.Apart.{Leads}
 use Rattle.pool_law.proofs.SameLemmas.{same_root-is}
 use Rattle.pool_law.proofs.PatternLemmas.{same_root-refl}
 use Rattle.run_laws.specs.OneLog.{HasEnded, StandInOneLog}
-use Rattle.run_laws.proofs.PagedHistories.{paged}
+use Rattle.run_laws.proofs.PagedHistories.{HistoriesPaged, paged}
 use Rattle.run_laws.proofs.HandTotals.{note-placed}
 use Rattle.run_laws.proofs.OverlapLaw.{Reaches}
-use Rattle.run_laws.proofs.RunLaws.{acts-of, roots-in_one_log}
+use Rattle.run_laws.proofs.HandPairs.{compare, same-some}
+use Rattle.pool_law.specs.Lives.{IsUse as AnyUse}
+use Rattle.run_laws.proofs.AllUses.{born, born-at}
+use Rattle.run_laws.proofs.RunLaws.{acts-of, parts-of, roots-in_one_log}
 use Rattle.run_order.specs.Order.{made, InOneOrder}
 use Rattle.run_order.proofs.Fronts.{made-found, found-made}
 use Rattle.run_order.proofs.Positions.{place, there, noted, later-in_log, later-at_object}
-use Rattle.order_laws.specs.Moments.{is_end}
+use Rattle.pool_law.specs.Same.{same_object, same_root}
+use Rattle.pool_law.specs.Logs.{dids, history_of, of_lane}
+use Rattle.pool_law.specs.declared.note.Did.{Did}
+use Rattle.pool_law.proofs.PatternLemmas.{both_true, same_object-refl}
+use Rattle.pool_law.proofs.SameLemmas.{and-first, and-second, same_object-is}
+use Rattle.run_laws.specs.OneLog.{IsBirth}
+use Rattle.run_laws.proofs.Numbered.{in-history, rises-in_log}
+use Rattle.order_laws.specs.Moments.{is_noted}
 
-pub birth-is : (root : RootId) (n : Note) → is_birth root n ≡ true
-    → (object : Object) × (number : ℕ) × (region : RegionId) × (n ≡ At object number (Birth root region))
-birth-is root (At object number (Birth r region)) e =
-    (object, number, region, ap (λ z. At object number (Birth z region)) (same_root-is r root e))
-birth-is root _ e = absurd (cc e)
+-- the root's end is noted at its place
+abbrev pub is_end : RootId → Note → Bool
+is_end root (At object number (End r)) = same_root r root
+is_end root _ = false
 
 pub end-is : (root : RootId) (n : Note) → is_end root n ≡ true
     → (object : Object) × (number : ℕ) × (n ≡ At object number (End root))
 end-is root (At object number (End r)) e =
     (object, number, ap (λ z. At object number (End z)) (same_root-is r root e))
 end-is root _ e = absurd (cc e)
+
+-- the note with a number at an object
+pub noted-itself : (object : Object) (number : ℕ) (d : Did) → is_noted object number (At object number d) ≡ true
+noted-itself object number d =
+    both_true (same_object object object) (number == number) (same_object-refl object) (eq-eqb number number refl)
+
+pub noted-is : (object : Object) (number : ℕ) (n : Note) → is_noted object number n ≡ true
+    → (d : Did) × (n ≡ At object number d)
+noted-is object number (At other k d) e = (
+  d,
+  λ i. At (sym (same_object-is object other (and-first (same_object object other) (k == number) e)) i)
+      (eqb-true k number (and-second (same_object object other) (k == number) e) i) d,
+)
+noted-is object number (Ref root d) e = absurd (cc e)
+noted-is object number (Busy held) e = absurd (cc e)
 
 module _ (logs : Logs) (o : InOneOrder logs) where
   -- when an event happens
@@ -94,11 +119,73 @@ module _ (run : Run) (legal : IsLegal run) (o : InOneOrder (logs_of run)) where
   abbrev pub born_when : {root : RootId} {region : RegionId} → IsUse logs root region → ℕ
   born_when u = place logs o u.lane u.at
 
+  abbrev as-birth : (root : RootId) (a : RegionId) → IsUse logs root a → IsBirth logs root a
+  as-birth root a u = record { lane = u.lane; at = u.at; number = u.number; stands = u.birth }
+
+  -- a number at an object is that of one note
+  pub noted-once : (object : Object) → has_history object ≡ true → (lane at other bt number : ℕ) (d e : Did)
+      → StandsAt logs lane at (At object number d) → StandsAt logs other bt (At object number e)
+      → place logs o lane at ≡ place logs o other bt
+  noted-once object has lane at other bt number d e s t =
+      let i = in-history object logs (history_of object logs) (holds.whole object has) lane at number d s in
+      let j = in-history object logs (history_of object logs) (holds.whole object has) other bt number e t in
+      let index : i.0 ≡ j.0 = omega (arith, i.1, j.1) in
+      let both : ◌≡◌ {A = ℕ × Did} (lane, d) (other, e) =
+      same-some (lane, d) (other, e) (sym i.2 ∙ ap (slice_get (history_of object logs)) index ∙ j.2) in
+      let lanes : lane ≡ other = ap (λ (p : ℕ × Did). p.0) both in
+      let dids_are : d ≡ e = ap (λ (p : ℕ × Did). p.1) both in
+      let here : StandsAt logs lane bt (At object number d) =
+      ap (λ l. slice_get (of_lane logs l) bt) lanes ∙ t ∙ ap (λ x. Some (At object number x)) (sym dids_are) in
+      ⊎_elim
+      (λ less. absurd (omega (
+        arith,
+        rises-in_log object logs (history_of object logs) (holds.whole object has) lane at bt
+            number number d d s here less,
+      )))
+      (⊎_elim
+      (λ same. λ k. place logs o (lanes k) (same k))
+      (λ more. absurd (omega (
+        arith,
+        rises-in_log object logs (history_of object logs) (holds.whole object has) lane bt at
+            number number d d here s more,
+      ))))
+      (compare at bt)
+    where
+      holds : HistoriesPaged run.shape logs
+      holds = paged run legal
+
+  -- what a front has of a place stands there
+  pub noted-when : (place_no number : ℕ) (lane at k : ℕ) (d : Did)
+      → StandsAt logs lane at (At (Object.Root place_no) number d)
+      → 0 < made (is_noted (Object.Root place_no) number) (take k o.steps) → place logs o lane at < k
+  noted-when place_no number lane at k d s more =
+      let f = made-stands logs o (is_noted (Object.Root place_no) number) k more in
+      let n = noted-is (Object.Root place_no) number f.2 f.4 in
+      omega (
+        arith,
+        f.5,
+        noted-once (Object.Root place_no) refl lane at f.0 f.1 number d n.0 s (f.3 ∙ ap Some n.1),
+      )
+
+  -- a use is a birth, and in a front that has its beginning it is before the front's end
+  pub was-born : (root : RootId) (r : RegionId) → AnyUse logs root r → IsUse logs root r
+  was-born root r u =
+      born run.shape logs (paged run legal) (acts-of run legal) (parts-of run legal) legal.counts root r u
+
+  pub use-when : (root : RootId) (r : RegionId) (u : AnyUse logs root r) (k : ℕ)
+      → 0 < made (is_noted (Object.Root root.place) u.number) (take k o.steps) → born_when (was-born root r u) < k
+  unfolding was-born
+  use-when root r u k more =
+      let p = born-at run.shape logs (paged run legal) (acts-of run legal) (parts-of run legal) legal.counts root r u in
+      let same : born_when (was-born root r u) ≡ place logs o u.lane u.at = (λ i. place logs o (p.0 i) (p.1 i)) in
+      omega (arith, same, noted-when root.place u.number u.lane u.at k u.did u.stands more)
+
   -- a root is born once
   pub born-same : (root : RootId) (a b : RegionId) (u : IsUse logs root a) (v : IsUse logs root b)
       → born_when u ≡ born_when v
   born-same root a b u v =
-      let once = (notes.born root a u).birth_once a b u v in λ i. place logs o (once.0 i) (once.1 i)
+      let once = (notes.born root a (as-birth root a u)).birth_once a b (as-birth root a u) (as-birth root b v) in
+      λ i. place logs o (once.0 i) (once.1 i)
 
   -- so two births at two moments are of two roots
   pub born-apart : (root other : RootId) (a b : RegionId) (u : IsUse logs root a) (v : IsUse logs other b)
@@ -112,27 +199,6 @@ module _ (run : Run) (legal : IsLegal run) (o : InOneOrder (logs_of run)) where
         birth = v.birth ∙ ap (λ z. Some (At (Object.Root z.place) v.number (Birth z b))) (sym same);
       } in
       omega (arith, less, born-same root a b u moved)
-
-  -- a front in which a root is born has its birth
-  pub birth-found : (root : RootId) (k : ℕ) → 0 < made (is_birth root) (take k o.steps)
-      → (region : RegionId) × (u : IsUse logs root region) × (born_when u < k)
-  birth-found root k more =
-      let f = made-stands logs o (is_birth root) k more in
-      let b = birth-is root f.2 f.4 in (
-        b.2,
-        record {
-          lane = f.0;
-          at = f.1;
-          number = b.1;
-          birth = birth-stands root b.2 f.0 f.1 b.1 b.0 (f.3 ∙ ap Some b.3);
-        },
-        f.5,
-      )
-
-  pub birth-before : (root : RootId) (region : RegionId) (u : IsUse logs root region) (k : ℕ)
-      → 0 < made (is_birth root) (take k o.steps) → born_when u < k
-  birth-before root region u k more =
-      let f = birth-found root k more in omega (arith, f.2, born-same root region f.0 u f.1)
 
   -- the release that ends a root stands before its end
   pub ended-first : (root : RootId) (f : Event) (k : ℕ) → Stands logs f → f.did ≡ End root → when logs o f ≤ k

@@ -6,7 +6,8 @@ use Rattle.pool_law.specs.declared.id.RegionId.{RegionId}
 use Rattle.pool_law.specs.declared.note.Did.{Did}
 use Rattle.pool_law.specs.declared.note.Did.TheVariants.{Give, Hit, Kept, Shed, Birth, End}
 use Rattle.pool_law.specs.Logs.{Logs}
-use Rattle.pool_law.specs.Lives.{Event, Stands, Where, Got, Used, Freed, Cached, Dropped, LivesOn, InOrder, IsAmong, dids_of}
+use Rattle.pool_law.specs.Lives.{Event, Stands, Where, Got, Used, Freed, Cached, Dropped, IsAmong}
+use Rattle.run_laws.proofs.BirthLives.{LivesOn, InOrder, dids_of}
 use Rattle.run_laws.proofs.OverlapLaw.{Reaches, first-stands, among-after}
 
 -- a region returns

@@ -5,27 +5,28 @@ use Rattle.pool_law.specs.declared.id.RootId.{RootId}
 use Rattle.pool_law.specs.declared.id.RegionId.{RegionId}
 use Rattle.pool_law.specs.declared.note.Object.{Object}
 use Rattle.pool_law.specs.declared.note.Did.{Did}
-use Rattle.pool_law.specs.declared.note.Did.TheVariants.{Take, Give, Kept, Birth, End}
+use Rattle.pool_law.specs.declared.note.Did.TheVariants.{Take, Give, Kept, Birth, Grow, End}
 use Rattle.pool_law.specs.declared.note.Note.{Note}
 use Rattle.pool_law.specs.declared.note.Note.TheVariants.{At}
 use Rattle.pool_law.specs.declared.run.Run.{Run}
 use Rattle.pool_law.specs.Places.{Overlap}
 use Rattle.pool_law.specs.Same.{same_taking}
 use Rattle.pool_law.specs.Logs.{Logs}
-use Rattle.pool_law.specs.Counts.{is_birth}
 use Rattle.pool_law.specs.Legal.{IsLegal, logs_of}
-use Rattle.pool_law.specs.Lives.{IsUse, with_uses, Event, Stands, Got, Moves, IsAmong, Life}
+use Rattle.pool_law.specs.Lives.{with_uses, Event, Stands, Got, IsAmong}
+use Rattle.run_laws.proofs.BirthLives.{IsUse, Moves, Life}
 use Rattle.pool_law.specs.Apart.{Before}
 use Rattle.pool_law.proofs.SameLemmas.{same_region-is}
 use Rattle.pool_law.proofs.PatternLemmas.{same_region-refl, same_taking-refl}
 use Rattle.run_laws.proofs.EventKinds.{the, the_birth}
 use Rattle.run_laws.proofs.OverlapLaw.{Reaches, among-after, no-take}
-use Rattle.run_laws.proofs.RunLaws.{regions-live, regions-apart}
+use Rattle.run_laws.proofs.LogEntries.{no-growth}
+use Rattle.run_laws.proofs.RunLaws.{acts-of, births-live, births-apart}
 use Rattle.run_order.specs.Order.{Step, made, InOneOrder}
 use Rattle.run_order.proofs.Fronts.{get-behind, front-is}
 use Rattle.run_order.proofs.Positions.{noted}
-use Rattle.order_laws.specs.Moments.{is_return, ReturnsAfterEnd, FindsReturned}
-use Rattle.order_laws.proofs.Events.{when, one-later, reaches-later, stands-made, made-stands, birth-stands, born_when, born-apart, birth-before, ended-first}
+use Rattle.order_laws.specs.Moments.{is_noted, is_return, ReturnsAfterEnd, FindsReturned}
+use Rattle.order_laws.proofs.Events.{when, one-later, reaches-later, stands-made, made-stands, was-born, use-when, birth-stands, born_when, born-apart, ended-first}
 use Rattle.order_laws.proofs.LifeWalk.{IsReturn, ReturnThen, returns-or, give-last}
 
 pub return-is : (region : RegionId) (n : Note) → is_return region n ≡ true
@@ -57,7 +58,7 @@ module _ (run : Run) (legal : IsLegal run) (o : InOneOrder (logs_of run)) where
   logs = logs_of run
 
   life-of : (root : RootId) (r : RegionId) → IsUse logs root r → Life logs (with_uses r 0)
-  life-of root r u = regions-live run legal (the_birth u) r u.birth (same_taking-refl r)
+  life-of root r u = births-live run legal (the_birth u) r u.birth (same_taking-refl r)
 
   -- what moves a taking comes behind its Take
   later-of : (r : RegionId) (l : Life logs (with_uses r 0)) (f : Event) → Stands logs f
@@ -89,7 +90,8 @@ module _ (run : Run) (legal : IsLegal run) (o : InOneOrder (logs_of run)) where
 
   -- a region that has returned has the end of its root before it
   pub after_end-at : (k : ℕ) → ReturnsAfterEnd logs (take k o.steps)
-  after_end-at k root region u more =
+  after_end-at k root region used more =
+      let u = was-born run legal o root region used in
       let f = made-stands logs o (is_return region) k more in
       let e = return-is region f.2 f.4 in
       let event : Event = record { object = e.0; did = e.2; lane = f.0; at = f.1; number = e.1 } in
@@ -100,8 +102,8 @@ module _ (run : Run) (legal : IsLegal run) (o : InOneOrder (logs_of run)) where
       (λ sooner. let less : region.uses < region.uses = sooner.fewer region e.4 in absurd (omega (arith, less)))
       (λ t. let first : when logs o t.end < when logs o t.back = reaches-later logs o t.end t.back t.stands
       t.back_stands t.ends in
-      ended-first run legal o root t.end k t.stands t.is
-      (omega (arith, first, no-later region event root t stands, f.5))))
+      inl (ended-first run legal o root t.end k t.stands t.is
+      (omega (arith, first, no-later region event root t stands, f.5)))))
       (returns-or logs Got (with_uses region 0) l.take l.later (the_birth u) event root region l.lives l.order
       (births-later region l root region u (same_taking-refl region)) (returns-later region l event stands e.4) refl
       (return-end region e.2 root e.4))
@@ -165,7 +167,7 @@ module _ (run : Run) (legal : IsLegal run) (o : InOneOrder (logs_of run)) where
       0 < made (is_return a) (take (born_when run legal o v) o.steps)
   back-first root other a b u v over less =
       ⊎_elim alike (⊎_elim given (λ before. absurd (later before)))
-      (regions-apart run legal root other a b u v (born-apart run legal o root other a b u v less) over)
+      (births-apart run legal root other a b u v (born-apart run legal o root other a b u v less) over)
     where
       alike : IsTrue (same_taking a b) → 0 < made (is_return a) (take (born_when run legal o v) o.steps)
       alike same =
@@ -202,9 +204,10 @@ module _ (run : Run) (legal : IsLegal run) (o : InOneOrder (logs_of run)) where
   pub finds-returned : (before after : List Step) (x : Step) (n : Note) → o.steps ≡ before ++ x ∷ after → x.note ≡ n
       → FindsReturned logs before n
   finds-returned before after x (At object number (Birth other b)) is note =
-      λ root a u more over.
+      λ root a used more over.
+      let u = was-born run legal o root a used in
       let r = noted logs o (length before) x at in
-      let born : IsUse logs other b =
+      let mine : IsUse logs other b =
       record {
         lane = x.lane;
         at = r.0;
@@ -212,14 +215,17 @@ module _ (run : Run) (legal : IsLegal run) (o : InOneOrder (logs_of run)) where
         birth = birth-stands run legal o other b x.lane r.0 number object (r.1 ∙ ap Some note);
       } in
       let first : born_when run legal o u < length before =
-      birth-before run legal o root a u (length before)
-      (subst (λ xs. 0 < made (is_birth root) xs) (sym front) more) in
+      use-when run legal o root a used (length before)
+      (subst (λ xs. 0 < made (is_noted (Object.Root root.place) used.number) xs) (sym front) more) in
       subst (λ xs. 0 < made (is_return a) xs) (ap (λ k. take k o.steps) r.2 ∙ front)
-      (back-first root other a b u born over (omega (arith, r.2, first)))
+      (back-first root other a b u mine over (omega (arith, r.2, first)))
     where
       at : slice_get o.steps (length before) ≡ Some x
       at = ap (λ xs. slice_get xs (length before)) is ∙ get-behind before x after
 
       front : take (length before) o.steps ≡ before
       front = ap (take (length before)) is ∙ front-is before (x ∷ after)
+  finds-returned before after x (At object number (Grow c b)) is note =
+      let r = noted logs o (length before) x (ap (λ xs. slice_get xs (length before)) is ∙ get-behind before x after) in
+      absurd (no-growth logs (acts-of run legal) x.lane r.0 number object c b (r.1 ∙ ap Some note))
   finds-returned before after x n is note = tt

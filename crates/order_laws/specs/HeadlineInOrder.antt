@@ -12,11 +12,11 @@ pub record HeadlineInOrder (run : Run) : Type 0 where
   pub headline : Headline run
   -- all steps of all lanes stand in one order
   pub order : InOneOrder (logs_of run)
-  -- after each front of them regions of roots in use lie apart, a root lives exactly while it is
-  -- counted, and what has returned returned after its root's end
+  -- after each front of them regions in use lie apart, a root lives exactly while it is counted, and
+  -- what has returned returned after its root's end or growth
   pub moments : (before after : List Step) → order.steps ≡ before ++ after →
       Moment (logs_of run) before
-  -- a region returns before another root is born on its bytes
+  -- a region returns before another root is born on its bytes, or grows into them
   pub reuses : (before after : List Step) (x : Step) → order.steps ≡ before ++ x ∷ after →
       FindsReturned (logs_of run) before x.note
   -- each read gives what was last written before it

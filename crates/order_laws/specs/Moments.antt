@@ -1,25 +1,27 @@
 -- What is so at each moment of a run in one order: after each front of its steps.
-use Rattle.std.specs.Prelude.{◌≡◌, ◌≢◌, ℕ, ◌+◌, ◌<◌, Bool, false, if◌then◌else◌, List, [], ◌∷◌, ◌++◌, length, get_or}
+use Rattle.std.specs.Prelude.{◌≡◌, ◌⊎◌, ℕ, ◌+◌, ◌<◌, ◌==◌, ◌&&◌, Bool, false, if◌then◌else◌, List, [], ◌∷◌, ◌++◌, length, get_or}
 use Rattle.pool_law.specs.declared.id.RootId.{RootId}
 use Rattle.pool_law.specs.declared.id.RegionId.{RegionId}
 use Rattle.pool_law.specs.declared.note.Object.{Object}
 use Rattle.pool_law.specs.declared.note.Object.TheVariants.{Root}
 use Rattle.pool_law.specs.declared.note.Did.{Did}
-use Rattle.pool_law.specs.declared.note.Did.TheVariants.{Birth, End, Give, Kept, Get}
+use Rattle.pool_law.specs.declared.note.Did.TheVariants.{Birth, Grow, Give, Kept, Get}
 use Rattle.pool_law.specs.declared.note.Note.{Note}
 use Rattle.pool_law.specs.declared.note.Note.TheVariants.{At}
 use Rattle.pool_law.specs.Places.{Overlap}
-use Rattle.pool_law.specs.Same.{same_object, same_root, same_region}
+use Rattle.pool_law.specs.Same.{same_object, same_region}
 use Rattle.pool_law.specs.Logs.{Logs}
-use Rattle.pool_law.specs.Lives.{IsUse}
-use Rattle.pool_law.specs.Counts.{is_birth, is_born, ends_root}
+use Rattle.pool_law.specs.Lives.{IsUse, UseEnds, GrowsOut}
+use Rattle.pool_law.specs.Apart.{IsOneUse}
+use Rattle.pool_law.specs.Counts.{is_born, ends_root}
 use Rattle.run_laws.specs.Reads.{last_written, earlier_at}
 use Rattle.run_order.specs.Order.{Step, Leave, made}
 
--- the root's end is noted at its place
-abbrev pub is_end : RootId → Note → Bool
-is_end root (At object number (End r)) = same_root r root
-is_end root _ = false
+-- the note with this number at the object
+abbrev pub is_noted : Object → ℕ → Note → Bool
+is_noted object number (At other n did) = same_object object other && (n == number)
+is_noted object number (Note.Ref root did) = false
+is_noted object number (Note.Busy held) = false
 
 -- the region returns: its owner's cache keeps it, or its arena gets it
 abbrev pub is_return : RegionId → Note → Bool
@@ -38,21 +40,23 @@ abbrev pub dids_at : Object → List Step → List Did
 dids_at object [] = []
 dids_at object (x ∷ xs) = did_at object x.note ++ dids_at object xs
 
--- after these steps the root is in use: it was born, with this region, and has not ended
+-- after these steps the root uses the region: it was born with it or grew into it, and has not ended
+-- in it or grown out of it
 pub record IsInUse (logs : Logs) (before : List Step) (root : RootId) (region : RegionId) : Type 0
   where
     pub use_is : IsUse logs root region
-    pub born : 0 < made (is_birth root) before
-    pub lasts : made (is_end root) before ≡ 0
+    pub begun : 0 < made (is_noted (Root root.place) use_is.number) before
+    pub lasts : (end : UseEnds logs root region) →
+        made (is_noted (Root root.place) end.number) before ≡ 0
 
--- regions of roots in use have no byte in common
+-- regions in use have no byte in common
 abbrev pub RegionsApart : Logs → List Step → Type 0
 RegionsApart logs before =
     (first second : RootId) (a b : RegionId) →
     IsInUse logs before first a → IsInUse logs before second b →
-    first ≢ second → Overlap a.place b.place → ⊥
+    (IsOneUse first a second b → ⊥) → Overlap a.place b.place → ⊥
 
--- a root that somebody counts, or a parcel in the mail holds, is in use
+-- a root that somebody counts, or a parcel in the mail holds, uses a region
 abbrev pub CountedIsInUse : Logs → List Step → Type 0
 CountedIsInUse logs before =
     (root : RootId) (n : ℕ) → 0 < n → Leave before root n →
@@ -65,11 +69,19 @@ pub record LivesWhileCounted (before : List Step) (root : RootId) : Type 0 where
       (n : ℕ) × (0 < n) × Leave before root n
   pub ended : 0 < made (ends_root root) before → Leave before root 0
 
--- a region returns only after the release that ended its root's count
+-- these steps have the growth of the root out of the region
+abbrev pub HasGrownOut : Logs → List Step → RootId → RegionId → Type 0
+HasGrownOut logs before root region =
+    (growth : GrowsOut logs root region) ×
+    (0 < made (is_noted (Root root.place) growth.number) before)
+
+-- a region returns only after the release that ended its root's count, or after the root's growth out
+-- of it
 abbrev pub ReturnsAfterEnd : Logs → List Step → Type 0
 ReturnsAfterEnd logs before =
     (root : RootId) (region : RegionId) → IsUse logs root region →
-    0 < made (is_return region) before → 0 < made (ends_root root) before
+    0 < made (is_return region) before →
+    (0 < made (ends_root root) before) ⊎ HasGrownOut logs before root region
 
 -- what holds after these steps
 pub record Moment (logs : Logs) (before : List Step) : Type 0 where
@@ -78,11 +90,17 @@ pub record Moment (logs : Logs) (before : List Step) : Type 0 where
   pub lives : (root : RootId) → LivesWhileCounted before root
   pub after_end : ReturnsAfterEnd logs before
 
--- where a root is born, the region of each root that was born on any of its bytes has returned
-abbrev pub FindsReturned : Logs → List Step → Note → Type 0
-FindsReturned logs before (At object number (Birth other b)) =
-    (root : RootId) (a : RegionId) → IsUse logs root a → 0 < made (is_birth root) before →
+-- each region that was used before on any bytes of this one has returned
+abbrev pub HaveReturned : Logs → List Step → RegionId → Type 0
+HaveReturned logs before b =
+    (root : RootId) (a : RegionId) (first : IsUse logs root a) →
+    0 < made (is_noted (Root root.place) first.number) before →
     Overlap a.place b.place → 0 < made (is_return a) before
+
+-- so it is where a root is born, and where one grows
+abbrev pub FindsReturned : Logs → List Step → Note → Type 0
+FindsReturned logs before (At object number (Birth other b)) = HaveReturned logs before b
+FindsReturned logs before (At object number (Grow capacity b)) = HaveReturned logs before b
 FindsReturned logs before _ = Unit {0}
 
 -- a note gets the bytes that were last written to its root's place before it, whichever lane wrote

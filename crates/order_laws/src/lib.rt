@@ -12,10 +12,10 @@ ghost use Rattle.order_laws.specs.Accepted.{FrontsAccepted};
 ghost use Rattle.order_laws.specs.HeadlineInOrder.{HeadlineInOrder};
 ghost use Rattle.order_laws.specs.Shares.{FrontsAreShared};
 
-/// The headline at each moment. In a legal run whose steps stand in one order: regions of roots in
-/// use have no byte in common; a root is in use while anybody counts it, parcels in the mail
-/// included; each read gives what was last written before it, whichever lane wrote; a region
-/// returns after the release that ended its root, and before another root is born on its bytes.
+/// The headline at each moment. In a legal run whose steps stand in one order: regions in use have no
+/// byte in common; a root uses one while anybody counts it, parcels in the mail included; each read
+/// gives what was last written before it, whichever lane wrote; a region returns after the release
+/// that ended its root or the growth that replaced it, and before its bytes are used again.
 pub fn headline_in_order()
     ensures moments { (run : Run) → IsLegal run → InOneOrder (logs_of run) → HeadlineInOrder run }
 {}

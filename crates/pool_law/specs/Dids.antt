@@ -5,7 +5,7 @@ use Rattle.pool_law.specs.declared.id.RootId.{RootId}
 use Rattle.pool_law.specs.declared.id.RegionId.{RegionId}
 use Rattle.pool_law.specs.declared.id.Parcel.{Parcel}
 use Rattle.pool_law.specs.declared.note.Did.{Did}
-use Rattle.pool_law.specs.declared.note.Did.TheVariants.{Take, Full, Give, Hit, Miss, Kept, Back, Trim, Close, Shed, Handle, NoHandle, Home, Post, Fetch, Birth, Set, Get, Touch, End}
+use Rattle.pool_law.specs.declared.note.Did.TheVariants.{Take, Full, Give, Hit, Miss, Kept, Back, Trim, Close, Shed, Handle, NoHandle, Home, Post, Fetch, Birth, Set, Get, Touch, Room, Extend, Grow, End}
 use Rattle.pool_law.specs.declared.note.RefDid.{RefDid}
 use Rattle.pool_law.specs.declared.note.RefDid.TheVariants.{Born, Retain, Ended, Vacated, Look}
 use Rattle.pool_law.specs.Same.{same_root, same_region, same_parcel, same_bytes}
@@ -119,6 +119,21 @@ get offset len _ = None
 abbrev pub touch : Did → Option (Unit {0})
 touch Touch = Some tt
 touch _ = None
+
+-- the capacity that is found where so much is asked
+abbrev pub room : ℕ → Did → Option ℕ
+room asked (Room other capacity) = if_so (asked == other) capacity
+room asked _ = None
+
+-- the root is extended to so much in its region
+abbrev pub extend : ℕ → Did → Option (Unit {0})
+extend size (Extend other) = check (size == other)
+extend size _ = None
+
+-- the root grows to so much into this region
+abbrev pub grow : ℕ → RegionId → Did → Option (Unit {0})
+grow size region (Grow other with) = check ((size == other) && same_region region with)
+grow size region _ = None
 
 -- this root ends
 abbrev pub end : RootId → Did → Option (Unit {0})

@@ -2,7 +2,7 @@
 use Rattle.std.specs.Prelude.{ℕ}
 use Rattle.pool_law.specs.declared.id.Parcel.{Parcel}
 use Rattle.pool_law.specs.declared.note.Did.{Did}
-use Rattle.pool_law.specs.declared.note.Did.TheVariants.{Take, Full, Give, Hit, Miss, Kept, Back, Trim, Close, Shed, Handle, NoHandle, Home, Post, Fetch, Birth, Set, Get, Touch, End}
+use Rattle.pool_law.specs.declared.note.Did.TheVariants.{Take, Full, Give, Hit, Miss, Kept, Back, Trim, Close, Shed, Handle, NoHandle, Home, Post, Fetch, Birth, Set, Get, Touch, Room, Extend, Grow, End}
 
 -- the lanes that may make a note
 pub data Noter : Type 0 where
@@ -33,6 +33,9 @@ noter_of (Birth root region) = Anyone
 noter_of (Set offset bytes) = Anyone
 noter_of (Get offset bytes) = Anyone
 noter_of Touch = Anyone
+noter_of (Room asked capacity) = Anyone
+noter_of (Extend size) = Anyone
+noter_of (Grow capacity region) = Anyone
 noter_of (End root) = Anyone
 
 -- what a note of an object's history carries beside what was done
@@ -40,6 +43,7 @@ pub data Beside : Type 0 where
   Nothing : Beside
   ItsRoot : Beside  -- the root that is present
   ItsRegion : Beside  -- the region that it takes out
+  ItsRootAndRegion : Beside  -- the root that is present, and the region that it leaves
   ItsWatch : Beside  -- the watch of a new root
 
 -- what a note carries
@@ -63,6 +67,9 @@ beside (Birth root region) = ItsWatch
 beside (Set offset bytes) = ItsRoot
 beside (Get offset bytes) = ItsRoot
 beside Touch = ItsRoot
+beside (Room asked capacity) = ItsRoot
+beside (Extend size) = ItsRoot
+beside (Grow capacity region) = ItsRootAndRegion
 beside (End root) = ItsRegion
 
 -- what a note does with a parcel
@@ -92,4 +99,7 @@ passing (Birth root region) = Stays
 passing (Set offset bytes) = Stays
 passing (Get offset bytes) = Stays
 passing Touch = Stays
+passing (Room asked capacity) = Stays
+passing (Extend size) = Stays
+passing (Grow capacity region) = Stays
 passing (End root) = Stays

@@ -1,5 +1,5 @@
 -- Which roots are live at the end, and what is reported of them.
-use Rattle.std.specs.Prelude.{ℕ, ◌+◌, ◌-◌, ◌%◌, Bool, true, false, ◌==◌, not, ◌&&◌, if◌then◌else◌, List, [], ◌∷◌, ◌++◌, length, drop}
+use Rattle.std.specs.Prelude.{ℕ, ◌+◌, ◌-◌, ◌%◌, Bool, true, false, ◌==◌, not, ◌&&◌, if◌then◌else◌, List, [], ◌∷◌, ◌++◌, length, drop, Option, Some, None}
 use Rattle.pool_law.specs.declared.id.RootId.{RootId}
 use Rattle.pool_law.specs.declared.note.Object.TheVariants.{Root}
 use Rattle.pool_law.specs.declared.note.Did.TheVariants.{Birth, Set, Get, Touch, End}
@@ -10,7 +10,9 @@ use Rattle.pool_law.specs.declared.report.Leak.{Leak}
 use Rattle.pool_law.specs.declared.run.Level.{Level}
 use Rattle.pool_law.specs.declared.run.Shape.{Shape}
 use Rattle.pool_law.specs.Same.{same_root}
-use Rattle.pool_law.specs.Logs.{Logs, History, history_of, entries_of}
+use Rattle.pool_law.specs.Logs.{Logs, History, dids, history_of, present_in, entries_of}
+use Rattle.pool_law.specs.Roots.{Present}
+use Rattle.pool_law.specs.Histories.{place_after}
 use Rattle.pool_law.specs.Counts.{total_of}
 
 -- the roots born in a log, in order
@@ -59,13 +61,23 @@ kept_of all = drop (length all - 4) all
 abbrev pub dropped_of : List Access → ℕ
 dropped_of all = length all - 4
 
+-- the capacity that a root has at the end
+abbrev pub capacity_in : RootId → Option Present → ℕ
+capacity_in root None = root.capacity
+capacity_in root (Some p) = length p.bytes
+
+-- the capacity of a root at the end of the logs
+abbrev pub capacity_at_end : RootId → Logs → ℕ
+capacity_at_end root logs =
+    capacity_in root (present_in (place_after root.place (dids (history_of (Root root.place) logs))))
+
 -- the report of one live root
 abbrev pub leak_of : Level → Logs → ℕ → ℕ → RootId → Leak
 leak_of level logs lane serial root =
     record {
       lane = lane;
       serial = serial;
-      capacity = root.capacity;
+      capacity = capacity_at_end root logs;
       count = total_of root (entries_of logs);
       records = (if keeps_records level then kept_of (accesses_to root logs) else []);
       dropped = (if keeps_records level then dropped_of (accesses_to root logs) else 0);

@@ -12,6 +12,7 @@ pub mod Kinds
 pub mod Logs
 pub mod Mails
 pub mod Counts
+pub mod Capacities
 pub mod Views
 pub mod Composites
 pub mod Dids

@@ -1,26 +1,19 @@
 -- What follows of a legal run: the life of each region.
-use Rattle.std.specs.Prelude.{◌≡◌, ◌⊎◌, ℕ, ◌<◌, List, [], ◌∷◌, map, IsTrue, Some, slice_get}
+use Rattle.std.specs.Prelude.{◌≡◌, ◌⊎◌, ℕ, ◌<◌, List, [], ◌∷◌, ◌++◌, map, IsTrue, Option, Some, None, slice_get}
 use Rattle.pool_law.specs.declared.id.RootId.{RootId}
 use Rattle.pool_law.specs.declared.id.RegionId.{RegionId}
 use Rattle.pool_law.specs.declared.note.Object.{Object}
 use Rattle.pool_law.specs.declared.note.Did.{Did}
-use Rattle.pool_law.specs.declared.note.Did.TheVariants.{Take, Full, Give, Hit, Miss, Kept, Back, Trim, Close, Shed, Handle, NoHandle, Home, Post, Fetch, Birth, Set, Get, Touch, End}
+use Rattle.pool_law.specs.declared.note.Did.TheVariants.{Take, Full, Give, Hit, Miss, Kept, Back, Trim, Close, Shed, Handle, NoHandle, Home, Post, Fetch, Birth, Set, Get, Touch, Room, Extend, Grow, End}
 use Rattle.pool_law.specs.declared.note.Note.{Note}
 use Rattle.pool_law.specs.Same.{same_taking}
-use Rattle.pool_law.specs.Logs.{Logs, of_lane, has_history}
+use Rattle.pool_law.specs.Roots.{Present}
+use Rattle.pool_law.specs.Logs.{Logs, of_lane, has_history, present_before}
 use Rattle.pool_law.specs.Patterns.{one_more}
 
 -- a note stands in a lane's log at this place
 abbrev pub StandsAt : Logs → ℕ → ℕ → Note → Type 0
 StandsAt logs lane at note = slice_get (of_lane logs lane) at ≡ Some note
-
--- a root is born with this region, which names the root's taking and counts its uses
-pub record IsUse (logs : Logs) (root : RootId) (region : RegionId) : Type 0 where
-  pub lane : ℕ
-  pub at : ℕ
-  pub number : ℕ
-  pub birth : StandsAt logs lane at
-      (Note.At (Object.Root root.place) number (Did.Birth root region))
 
 -- something is done to an object, in this lane's log at this place, with this number
 pub record Done (logs : Logs) (object : Object) (did : Did) : Type 0 where
@@ -40,6 +33,109 @@ arena_of region = Object.Arena region.place.arena
 -- the region with so many uses
 abbrev pub with_uses : RegionId → ℕ → RegionId
 with_uses region uses = record region { uses = uses }
+
+-- one of these
+abbrev pub IsAmong : {X : Type 0} → X → List X → Type 0
+IsAmong x [] = ⊥
+IsAmong x (y ∷ ys) = (x ≡ y) ⊎ IsAmong x ys
+
+-- ---- What moves a region.
+
+-- what happens to a region
+pub data Move : Type 0 where
+  Takes : (class : ℕ) (region : RegionId) → Move  -- its arena gives it out
+  Gives : (region : RegionId) → Move  -- its arena gets it back
+  Keeps : (region : RegionId) → Move  -- its cache gets it
+  Hits : (region : RegionId) → Move  -- its cache gives it out
+  Sheds : (region : RegionId) → Move  -- its cache sheds it
+  Begins : (root : RootId) (region : RegionId) → Move  -- a root begins to use it
+  Leaves : (root : RootId) (region : RegionId) → Move  -- a root uses it no more
+
+-- the region
+abbrev pub region_of : Move → RegionId
+region_of (Takes class region) = region
+region_of (Gives region) = region
+region_of (Keeps region) = region
+region_of (Hits region) = region
+region_of (Sheds region) = region
+region_of (Begins root region) = region
+region_of (Leaves root region) = region
+
+-- the root that is present leaves its region
+abbrev pub leaves : Option Present → List Move
+leaves None = []
+leaves (Some p) = Leaves p.root p.region ∷ []
+
+-- and goes on in another
+abbrev pub grows_into : Option Present → RegionId → List Move
+grows_into None region = []
+grows_into (Some p) region = Begins p.root region ∷ []
+
+-- what a note moves, by what is present at its place as it comes: a root that is born begins a use of
+-- a region, one that ends leaves its region, and one that grows does both
+abbrev pub moves_by : Option Present → Did → List Move
+moves_by present (Take class region) = Takes class region ∷ []
+moves_by present (Full class) = []
+moves_by present (Give region) = Gives region ∷ []
+moves_by present (Hit region) = Hits region ∷ []
+moves_by present Miss = []
+moves_by present (Kept region) = Keeps region ∷ []
+moves_by present (Back region why) = []
+moves_by present (Trim quota) = []
+moves_by present (Close quota) = []
+moves_by present (Shed region) = Sheds region ∷ []
+moves_by present (Handle place) = []
+moves_by present NoHandle = []
+moves_by present (Home place) = []
+moves_by present (Post parcel) = []
+moves_by present (Fetch parcel) = []
+moves_by present (Birth root region) = Begins root region ∷ []
+moves_by present (Set offset bytes) = []
+moves_by present (Get offset bytes) = []
+moves_by present Touch = []
+moves_by present (Room asked capacity) = []
+moves_by present (Extend size) = []
+moves_by present (Grow capacity region) = leaves present ++ grows_into present region
+moves_by present (End root) = leaves present
+
+-- what is present at an object as the note with this number comes
+abbrev pub present_at : Logs → Object → ℕ → Option Present
+present_at logs (Object.Root place) number = present_before logs place number
+present_at logs (Object.Arena number') number = None
+present_at logs (Object.Cache lane class) number = None
+present_at logs (Object.Bin lane) number = None
+present_at logs (Object.Mail from to) number = None
+
+-- a note at the root's place moves a region: in this lane's log at this place, with this number
+pub record MovedBy (logs : Logs) (root : RootId) (move : Move) : Type 0 where
+  pub lane : ℕ
+  pub at : ℕ
+  pub number : ℕ
+  pub did : Did
+  pub stands : StandsAt logs lane at (Note.At (Object.Root root.place) number did)
+  pub moves : IsAmong move (moves_by (present_before logs root.place number) did)
+
+-- a root uses a region, which names the taking and counts its uses: it is born with it, or grows
+-- into it
+abbrev pub IsUse : Logs → RootId → RegionId → Type 0
+IsUse logs root region = MovedBy logs root (Begins root region)
+
+-- the use ends: the root ends in the region, or grows out of it
+abbrev pub UseEnds : Logs → RootId → RegionId → Type 0
+UseEnds logs root region = MovedBy logs root (Leaves root region)
+
+-- the root grows out of the region
+pub record GrowsOut (logs : Logs) (root : RootId) (region : RegionId) : Type 0 where
+  pub lane : ℕ
+  pub at : ℕ
+  pub number : ℕ
+  pub capacity : ℕ
+  pub next : RegionId
+  pub stands : StandsAt logs lane at
+      (Note.At (Object.Root root.place) number (Grow capacity next))
+  pub moves : IsAmong (Leaves root region) (leaves (present_before logs root.place number))
+
+-- ---- The life of a taking.
 
 -- something was done to an object: by this lane, at this place of its log, with this number
 pub record Event : Type 0 where
@@ -62,95 +158,85 @@ abbrev pub AtOneObject : Event → Event → Type 0
 AtOneObject e f =
     (e.object ≡ f.object) × ((e.number < f.number) × IsTrue (has_history e.object))
 
+-- an event, and what it does to a region: a growth does two things, each to a region of its own
+pub record Happening : Type 0 where
+  pub event : Event
+  pub move : Move
+
+-- the event stands in the logs and does this
+pub record Happens (logs : Logs) (t : Happening) : Type 0 where
+  pub stands : Stands logs t.event
+  pub moves : IsAmong t.move
+      (moves_by (present_at logs t.event.object t.event.number) t.event.did)
+
 -- where a region is
 pub data Where : Type 0 where
   Got : Where  -- with a lane that got it from its arena or from a cache
   Used : (root : RootId) → Where  -- with a root
-  Freed : Where  -- with the lane that ended its root
+  Freed : Where  -- with the lane whose note ended its use
   Cached : Where  -- in a cache
   Dropped : Where  -- with the lane that closed its cache
 
--- all that is done from then on with a region that is there, in order: a root is born with one that
--- was got, and one use more; the root of one that is used never ends, or ends; one that was freed
--- is given, and no more, or is kept; one that is cached is hit, and so got, or is shed and given
-abbrev pub LivesOn : Where → RegionId → List Did → Type 0
-LivesOn Got r (Birth root x ∷ ds) = (x ≡ one_more r) × LivesOn (Used root) x ds
+-- all that happens from then on to a region that is there, in order: a root begins to use one that was
+-- got, and it has one use more; or it goes back unused. The use lasts, or ends. One that is not used
+-- goes back to the arena, and no more, or into a cache; there it is hit, and so got, or is shed and
+-- given. So a use follows the Take or the use before by way of one cache or many times of it
+abbrev pub LivesOn : Where → RegionId → List Move → Type 0
+LivesOn Got r (Begins root x ∷ ms) = (x ≡ one_more r) × LivesOn (Used root) x ms
+LivesOn Got r (Gives x ∷ []) = x ≡ r
+LivesOn Got r (Keeps x ∷ ms) = (x ≡ r) × LivesOn Cached r ms
 LivesOn (Used root) r [] = Unit {0}
-LivesOn (Used root) r (End x ∷ ds) = (x ≡ root) × LivesOn Freed r ds
-LivesOn Freed r (Give x ∷ []) = x ≡ r
-LivesOn Freed r (Kept x ∷ ds) = (x ≡ r) × LivesOn Cached r ds
-LivesOn Cached r (Hit x ∷ ds) = (x ≡ r) × LivesOn Got r ds
-LivesOn Cached r (Shed x ∷ ds) = (x ≡ r) × LivesOn Dropped r ds
-LivesOn Dropped r (Give x ∷ []) = x ≡ r
+LivesOn (Used root) r (Leaves q x ∷ ms) = (q ≡ root) × ((x ≡ r) × LivesOn Freed r ms)
+LivesOn Freed r (Gives x ∷ []) = x ≡ r
+LivesOn Freed r (Keeps x ∷ ms) = (x ≡ r) × LivesOn Cached r ms
+LivesOn Cached r (Hits x ∷ ms) = (x ≡ r) × LivesOn Got r ms
+LivesOn Cached r (Sheds x ∷ ms) = (x ≡ r) × LivesOn Dropped r ms
+LivesOn Dropped r (Gives x ∷ []) = x ≡ r
 LivesOn _ r _ = ⊥
 
 -- one event of a region follows another: at the same place or cache where the region lies there,
 -- else in the same log
-abbrev pub Follows : Did → Event → Event → Type 0
-Follows (Birth root region) e f = AtOneObject e f
-Follows (Kept region) e f = AtOneObject e f
-Follows _ e f = InOneLog e f
+abbrev pub Follows : Move → Event → Event → Type 0
+Follows (Takes class region) e f = InOneLog e f
+Follows (Gives region) e f = InOneLog e f
+Follows (Keeps region) e f = AtOneObject e f
+Follows (Hits region) e f = InOneLog e f
+Follows (Sheds region) e f = InOneLog e f
+Follows (Begins root region) e f = AtOneObject e f
+Follows (Leaves root region) e f = InOneLog e f
 
--- what moves a region is done at the region's arena, at its owner's cache of its class, or at the
--- place of its root
-abbrev pub IsDoneAt : Object → Did → Type 0
-IsDoneAt object (Take class region) = object ≡ arena_of region
-IsDoneAt object (Birth root region) = object ≡ Object.Root root.place
-IsDoneAt object (End root) = object ≡ Object.Root root.place
-IsDoneAt object (Give region) = object ≡ arena_of region
-IsDoneAt object (Kept region) = object ≡ cache_of region
-IsDoneAt object (Hit region) = object ≡ cache_of region
-IsDoneAt object (Shed region) = object ≡ cache_of region
-IsDoneAt object _ = ⊥
+-- what happens to a region is done at the region's arena, at its owner's cache of its class, or at
+-- the place of its root
+abbrev pub IsDoneAt : Object → Move → Type 0
+IsDoneAt object (Takes class region) = object ≡ arena_of region
+IsDoneAt object (Gives region) = object ≡ arena_of region
+IsDoneAt object (Keeps region) = object ≡ cache_of region
+IsDoneAt object (Hits region) = object ≡ cache_of region
+IsDoneAt object (Sheds region) = object ≡ cache_of region
+IsDoneAt object (Begins root region) = object ≡ Object.Root root.place
+IsDoneAt object (Leaves root region) = object ≡ Object.Root root.place
 
--- these events stand in the logs, each after the one before it
-abbrev pub InOrder : Logs → Event → List Event → Type 0
-InOrder logs e [] = Stands logs e
-InOrder logs e (f ∷ fs) = Stands logs e × (Follows e.did e f × InOrder logs f fs)
+-- these stand in the logs, each after the one before it
+abbrev pub InOrder : Logs → Happening → List Happening → Type 0
+InOrder logs t [] = Happens logs t
+InOrder logs t (u ∷ us) =
+    Happens logs t × (Follows t.move t.event u.event × InOrder logs u us)
 
--- what is done moves the taking: it names it, or ends a root that was born with it
-abbrev pub Moves : Logs → RegionId → Did → Type 0
-Moves logs taking (Take class x) = IsTrue (same_taking taking x)
-Moves logs taking (Birth root x) = IsTrue (same_taking taking x)
-Moves logs taking (End root) = (x : RegionId) × IsUse logs root x × IsTrue (same_taking taking x)
-Moves logs taking (Give x) = IsTrue (same_taking taking x)
-Moves logs taking (Kept x) = IsTrue (same_taking taking x)
-Moves logs taking (Hit x) = IsTrue (same_taking taking x)
-Moves logs taking (Shed x) = IsTrue (same_taking taking x)
-Moves logs taking (Full class) = ⊥
-Moves logs taking Miss = ⊥
-Moves logs taking (Back x why) = ⊥
-Moves logs taking (Trim quota) = ⊥
-Moves logs taking (Close quota) = ⊥
-Moves logs taking (Handle place) = ⊥
-Moves logs taking NoHandle = ⊥
-Moves logs taking (Home place) = ⊥
-Moves logs taking (Post parcel) = ⊥
-Moves logs taking (Fetch parcel) = ⊥
-Moves logs taking (Set offset bytes) = ⊥
-Moves logs taking (Get offset bytes) = ⊥
-Moves logs taking Touch = ⊥
+abbrev pub moves_of : List Happening → List Move
+moves_of ts = map (λ t. t.move) ts
 
--- an event is one of these
-abbrev pub IsAmong : Event → List Event → Type 0
-IsAmong e [] = ⊥
-IsAmong e (f ∷ fs) = (e ≡ f) ⊎ IsAmong e fs
-
-abbrev pub dids_of : List Event → List Did
-dids_of es = map (λ e. e.did) es
-
--- the life of a taking: its Take, and all that moves it after that, in order, each where it belongs
+-- the life of a taking: its Take, and all that happens to it after that, in order, each where it
+-- belongs
 pub record Life (logs : Logs) (taking : RegionId) : Type 0 where
-  pub take : Event
-  pub later : List Event
-  pub taken : take.did ≡ Did.Take taking.class taking
-  pub lives : LivesOn Got taking (dids_of later)
+  pub take : Happening
+  pub later : List Happening
+  pub taken : take.move ≡ Takes taking.class taking
+  pub lives : LivesOn Got taking (moves_of later)
   pub order : InOrder logs take later
-  pub places : (e : Event) → IsAmong e (take ∷ later) → IsDoneAt e.object e.did
-  pub all : (e : Event) → Stands logs e → Moves logs taking e.did → IsAmong e (take ∷ later)
+  pub places : (t : Happening) → IsAmong t (take ∷ later) → IsDoneAt t.event.object t.move
+  pub all : (t : Happening) → Happens logs t → IsTrue (same_taking taking (region_of t.move)) →
+      IsAmong t (take ∷ later)
 
--- whatever moves a region belongs to the life of its taking, which begins with no uses
+-- whatever happens to a region belongs to the life of its taking, which begins with no uses
 abbrev pub RegionsLive : Logs → Type 0
-RegionsLive logs =
-    (e : Event) (region : RegionId) → Stands logs e → Moves logs region e.did →
-    Life logs (with_uses region 0)
+RegionsLive logs = (t : Happening) → Happens logs t → Life logs (with_uses (region_of t.move) 0)

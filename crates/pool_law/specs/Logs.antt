@@ -9,7 +9,7 @@ use Rattle.pool_law.specs.declared.note.Note.{Note}
 use Rattle.pool_law.specs.declared.note.Note.TheVariants.{At, Ref, Busy}
 use Rattle.pool_law.specs.declared.run.Shape.{Shape}
 use Rattle.pool_law.specs.Same.{same_object}
-use Rattle.pool_law.specs.Kinds.{Noter, Anyone, Owner, Taker, Sender, Receiver, noter_of, Beside, ItsRoot, ItsRegion, ItsWatch, Nothing, beside}
+use Rattle.pool_law.specs.Kinds.{Noter, Anyone, Owner, Taker, Sender, Receiver, noter_of, Beside, ItsRoot, ItsRegion, ItsRootAndRegion, ItsWatch, Nothing, beside}
 use Rattle.pool_law.specs.Roots.{RootPlace, Present}
 use Rattle.pool_law.specs.Arenas.{or_else}
 use Rattle.pool_law.specs.Histories.{place_after}
@@ -145,10 +145,18 @@ abbrev pub present_before : Logs → ℕ → ℕ → Option Present
 present_before logs place number =
     present_in (place_after place (take (number - 1) (dids (history_of (Root place) logs))))
 
+-- the root that is present at a root place as the note with this number comes, and its region
+abbrev pub root_before : Logs → ℕ → ℕ → Option RootId
+root_before logs place number = option_map (λ p. p.root) (present_before logs place number)
+
+abbrev pub region_before : Logs → ℕ → ℕ → Option RegionId
+region_before logs place number = option_map (λ p. p.region) (present_before logs place number)
+
 -- the root of what is present, where that is what a note carries
 abbrev pub root_beside : Beside → Option Present → Option RootId
 root_beside ItsRoot p = option_map (λ q. q.root) p
 root_beside ItsRegion p = None
+root_beside ItsRootAndRegion p = option_map (λ q. q.root) p
 root_beside ItsWatch p = None
 root_beside Nothing p = None
 
@@ -156,6 +164,7 @@ root_beside Nothing p = None
 abbrev pub region_beside : Beside → Option Present → Option RegionId
 region_beside ItsRoot p = None
 region_beside ItsRegion p = option_map (λ q. q.region) p
+region_beside ItsRootAndRegion p = option_map (λ q. q.region) p
 region_beside ItsWatch p = None
 region_beside Nothing p = None
 

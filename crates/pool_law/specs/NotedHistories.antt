@@ -6,7 +6,7 @@ use Rattle.pool_law.specs.declared.note.Did.{Did}
 use Rattle.pool_law.specs.declared.note.Note.{Note}
 use Rattle.pool_law.specs.declared.report.Watch.{Watch}
 use Rattle.pool_law.specs.declared.run.Shape.{Shape}
-use Rattle.pool_law.specs.Kinds.{Noter, Anyone, Owner, Taker, Sender, Receiver, noter_of, Beside, ItsRoot, ItsRegion, ItsWatch, Nothing, beside}
+use Rattle.pool_law.specs.Kinds.{Noter, Anyone, Owner, Taker, Sender, Receiver, noter_of, Beside, ItsRoot, ItsRegion, ItsRootAndRegion, ItsWatch, Nothing, beside}
 use Rattle.pool_law.specs.Histories.{IsAccepted, place_after}
 use Rattle.pool_law.specs.Logs.{Entry, may_stand, present_in, root_for, region_for}
 
@@ -19,6 +19,7 @@ abbrev pub IsWatchBeside : Beside → Option Watch → Type 0
 IsWatchBeside ItsWatch watch = Unit {0}
 IsWatchBeside ItsRoot watch = watch ≡ None
 IsWatchBeside ItsRegion watch = watch ≡ None
+IsWatchBeside ItsRootAndRegion watch = watch ≡ None
 IsWatchBeside Nothing watch = watch ≡ None
 
 -- only a birth carries a watch

@@ -9,8 +9,9 @@ use Rattle.pool_law.specs.declared.note.Did.{Did}
 use Rattle.pool_law.specs.declared.run.Shape.{Shape}
 use Rattle.pool_law.specs.declared.run.Reply.{Reply}
 use Rattle.pool_law.specs.Limits.{geometry_of, has_cache, cached_classes}
+use Rattle.pool_law.specs.Options.{check}
 use Rattle.pool_law.specs.Dids as says
-use Rattle.pool_law.specs.Readers.{Reader, ◌>>=◌, ◌>>◌, ◌or◌, give, nothing, given, unless_there, found, not_found, note, step, busy, ending, ask, asks, asks_anew}
+use Rattle.pool_law.specs.Readers.{Reader, ◌>>=◌, ◌>>◌, ◌or◌, give, nothing, given, unless_there, found, not_found, note, step, busy, access, growth, ending, ask, asks, asks_anew}
 
 -- ---- A region is obtained.
 
@@ -103,6 +104,41 @@ abbrev pub release : Shape → RootId → Reader Reply
 release shape root =
     step root says.count_kept >> give Reply.Kept
     or end_of shape root >> give Reply.Freed
+
+-- ---- A root grows.
+
+-- the capacity of a root once so much was asked: what is found, or what its region lets it have
+abbrev pub found_room : RootId → ℕ → Reader ℕ
+found_room root size = access root (says.extend size) >> give size or access root (says.room size)
+
+-- what a growth comes to: the capacity, and the region that is left over
+pub record Grown : Type 0 where
+  pub capacity : ℕ
+  pub spare : RegionId
+
+-- the root leaves its region for this one, or meanwhile has so much without it
+abbrev pub grown : RootId → ℕ → RegionId → Reader Grown
+grown root size region =
+    growth root size (one_more region) >>= (λ old. give (record { capacity = size; spare = old }))
+    or found_room root size >>= (λ k. give (record { capacity = k; spare = region }))
+
+-- a root that its region doesn't hold has so much at last; a region is put away
+abbrev pub grow_with : RootId → ℕ → Option RegionId → Reader (Result ℕ Reply)
+grow_with root size None = give (Err Reply.Full)
+grow_with root size (Some region) = do
+  g ← grown root size region
+  given (check (nat_le size g.capacity))
+  put_away g.spare
+  give (Ok g.capacity)
+
+-- a root has a capacity of so much at least, or the refusal that the notes say
+abbrev pub regrow : Shape → ℕ → RootId → ℕ → Reader (Result ℕ Reply)
+regrow shape lane root size = do
+  capacity ← found_room root size
+  class ← given (class_of (geometry_of shape) size)
+  if nat_le size capacity
+      then give (Ok capacity)
+      else obtain shape lane class >>= grow_with root size
 
 -- ---- Caches are swept, and closed.
 

@@ -120,6 +120,14 @@ access root says =
     then option_and_then says (done_at (Root root.place) e.note)
     else None)
 
+-- the growth of the root to so much into this region, and the region that it leaves
+abbrev pub growth : RootId → ℕ → RegionId → Reader RegionId
+growth root size region =
+    next (λ e. if root_is root e.root
+    then option_and_then (λ _. e.region)
+    (option_and_then (say.grow size region) (done_at (Root root.place) e.note))
+    else None)
+
 -- the end of the root, and the region that it takes out
 abbrev pub ending : RootId → Reader RegionId
 ending root =

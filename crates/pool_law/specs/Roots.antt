@@ -1,9 +1,9 @@
 -- A root place: which root is there, and its bytes.
-use Rattle.std.specs.Prelude.{ℕ, ◌+◌, Bool, ◌==◌, ◌&&◌, nat_le, List, ◌++◌, length, take, drop, replicate, Option, Some, None}
+use Rattle.std.specs.Prelude.{ℕ, ◌+◌, ◌-◌, Bool, ◌==◌, ◌&&◌, ◌||◌, nat_lt, nat_le, List, ◌++◌, length, take, drop, replicate, Option, Some, None}
 use Rattle.pool_law.specs.declared.id.RootId.{RootId}
 use Rattle.pool_law.specs.declared.id.RegionId.{RegionId}
 use Rattle.pool_law.specs.declared.note.Did.{Did}
-use Rattle.pool_law.specs.declared.note.Did.TheVariants.{Birth, Set, Get, Touch, End}
+use Rattle.pool_law.specs.declared.note.Did.TheVariants.{Birth, Set, Get, Touch, Room, Extend, Grow, End}
 use Rattle.pool_law.specs.Same.{same_root, same_bytes}
 use Rattle.pool_law.specs.Caches.{if_so}
 
@@ -53,6 +53,10 @@ vacant_step place s _ = None
 abbrev pub with_bytes : RootPlace → Present → List ℕ → RootPlace
 with_bytes s p bytes = record s { present = Some (record p { bytes = bytes }) }
 
+-- bytes, and zeros behind them up to a size
+abbrev pub zeros_to : ℕ → List ℕ → List ℕ
+zeros_to size bytes = bytes ++ replicate (size - length bytes) 0
+
 -- what a note makes of a place where a root is present
 abbrev pub present_step : RootPlace → Present → Did → Option RootPlace
 present_step s p (Set offset bytes) =
@@ -64,6 +68,16 @@ present_step s p (Get offset bytes) =
     && same_bytes bytes (bytes_at p.bytes offset (length bytes)))
     s
 present_step s p Touch = Some s
+present_step s p (Room asked capacity) =
+    if_so
+    ((capacity == length p.bytes) && (nat_le asked capacity || nat_lt p.region.place.len asked))
+    s
+present_step s p (Extend size) =
+    if_so (nat_lt (length p.bytes) size && nat_le size p.region.place.len)
+    (with_bytes s p (zeros_to size p.bytes))
+present_step s p (Grow capacity region) =
+    if_so (nat_lt p.region.place.len capacity && nat_le capacity region.place.len)
+    (with_bytes s (record p { region = region }) (zeros_to capacity p.bytes))
 present_step s p (End root) = if_so (same_root root p.root) (record s { present = None })
 present_step s p _ = None
 

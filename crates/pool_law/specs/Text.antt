@@ -173,6 +173,15 @@ did_words (Did.Birth root region) =
 did_words (Did.Set offset bytes) = codes "set" ∷ decimal offset ∷ shown_bytes bytes ∷ []
 did_words (Did.Get offset bytes) = codes "get" ∷ decimal offset ∷ shown_bytes bytes ∷ []
 did_words Did.Touch = codes "touch" ∷ []
+did_words (Did.Room asked capacity) = codes "room" ∷ decimal asked ∷ decimal capacity ∷ []
+did_words (Did.Extend size) = codes "extend" ∷ decimal size ∷ []
+did_words (Did.Grow capacity region) =
+    codes "grow"
+    ∷ shown_place region.place
+    ∷ decimal region.taking
+    ∷ decimal region.uses
+    ∷ decimal capacity
+    ∷ []
 did_words (Did.End root) = codes "end" ∷ decimal root.generation ∷ []
 
 -- the words of a step on a reference word

@@ -16,7 +16,8 @@ use Rattle.pool_law.specs.Histories.{after, arena_after}
 use Rattle.pool_law.specs.Logs.{Logs, dids, of_lane, has_history, history_of}
 use Rattle.run_laws.proofs.PagedHistories.{HistoriesPaged}
 use Rattle.pool_law.specs.Lives.{Done, arena_of, with_uses}
-use Rattle.pool_law.specs.Apart.{Before, LieApart}
+use Rattle.pool_law.specs.Apart.{Before}
+use Rattle.run_laws.proofs.BirthLives.{LieApart}
 use Rattle.arena_law.specs.Returns.{gives}
 use Rattle.pool_law.proofs.SameLemmas.{same_region-is}
 use Rattle.pool_law.proofs.PatternLemmas.{same_taking-refl, both_true}

@@ -17,7 +17,8 @@ use Rattle.pool_law.specs.Histories.{cache_after}
 use Rattle.pool_law.specs.Logs.{Logs, dids, of_lane, has_history, history_of, entry_of, entries_of}
 use Rattle.pool_law.specs.Legal.{CountsAgree}
 use Rattle.run_laws.proofs.PagedHistories.{HistoriesPaged}
-use Rattle.pool_law.specs.Lives.{IsUse, Done}
+use Rattle.pool_law.specs.Lives.{Done}
+use Rattle.run_laws.proofs.BirthLives.{IsUse}
 use Rattle.run_laws.specs.Conserved.{total_in}
 use Rattle.run_laws.specs.CacheCounts.{one_of, total_by}
 use Rattle.pool_law.specs.Counts.{count_in, count_over, ends_root, is_birth, is_born, TotalHolds}

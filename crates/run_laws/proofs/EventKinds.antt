@@ -9,7 +9,8 @@ use Rattle.pool_law.specs.declared.note.Did.TheVariants.{Take, Give, Hit, Kept, 
 use Rattle.pool_law.specs.declared.note.Note.{Note}
 use Rattle.pool_law.specs.declared.note.Note.TheVariants.{At}
 use Rattle.pool_law.specs.Logs.{Logs, of_lane}
-use Rattle.pool_law.specs.Lives.{StandsAt, IsUse, Done, with_uses, Event, Stands, Moves}
+use Rattle.pool_law.specs.Lives.{StandsAt, Done, with_uses, Event, Stands}
+use Rattle.run_laws.proofs.BirthLives.{IsUse, Moves}
 use Rattle.run_laws.proofs.Sums.{sum_over, over-place}
 use Rattle.run_laws.proofs.LifeLaw.{same_taking-uses}
 use Rattle.run_laws.proofs.ReturnsLaw.{one-note}

@@ -5,7 +5,7 @@ use Rattle.pool_law.specs.declared.id.RegionId.{RegionId}
 use Rattle.pool_law.specs.declared.command.Command.{Command}
 use Rattle.pool_law.specs.declared.note.Object.{Object}
 use Rattle.pool_law.specs.declared.note.Did.{Did}
-use Rattle.pool_law.specs.declared.note.Did.TheVariants.{Take, Give, Hit, Kept, Shed, Birth, End}
+use Rattle.pool_law.specs.declared.note.Did.TheVariants.{Take, Give, Hit, Kept, Shed, Birth, Grow, End}
 use Rattle.pool_law.specs.declared.note.Note.{Note}
 use Rattle.pool_law.specs.declared.note.Note.TheVariants.{At, Ref, Busy}
 use Rattle.pool_law.specs.declared.run.Shape.{Shape}
@@ -35,6 +35,7 @@ quiet-hand P h t (At o k (Hit r)) quiet = absurd quiet
 quiet-hand P h t (At o k (Kept r)) quiet = absurd quiet
 quiet-hand P h t (At o k (Shed r)) quiet = absurd quiet
 quiet-hand P h t (At o k (Birth root r)) quiet = absurd quiet
+quiet-hand P h t (At o k (Grow c r)) quiet = absurd quiet
 quiet-hand P h t (At o k (End root)) quiet = absurd quiet
 quiet-hand P h t (At o k _) quiet = refl
 quiet-hand P h t (Ref root d) quiet = refl

@@ -3,7 +3,7 @@ use Rattle.std.proofs.Common.{⊎_elim, inl, inr, ◌≡◌, ℕ, zero, suc, [],
 use Rattle.std.specs.Prelude.{◌⊎◌, ◌<◌, if◌then◌else◌, Option, slice_get}
 use Rattle.pool_law.specs.declared.id.RegionId.{RegionId}
 use Rattle.pool_law.specs.declared.note.Did.{Did}
-use Rattle.pool_law.specs.declared.note.Did.TheVariants.{Take, Give, Hit, Kept, Shed, Birth, End}
+use Rattle.pool_law.specs.declared.note.Did.TheVariants.{Take, Give, Hit, Kept, Shed, Birth, Grow, End}
 use Rattle.pool_law.specs.Same.{same_region}
 use Rattle.pool_law.specs.Logs.{Entry}
 use Rattle.pool_law.specs.Readers.{Entries}
@@ -73,34 +73,46 @@ from-empty None (Some (End root)) k e = absurd (cc e)
 from-empty t (Some (Birth root x)) k e = absurd (cc e)
 from-empty t (Some (Kept x)) k e = absurd (cc e)
 from-empty t (Some (Give x)) k e = absurd (cc e)
+from-empty t (Some (Grow c x)) k e = absurd (cc e)
 from-empty t (Some _) k e = inl (refl, sym (cc e))
 
 pub emptied : (test : Bool) (k : Hand) → (if test then Some None else None) ≡ Some k → (test ≡ true) × (k ≡ None)
 emptied true k e = (refl, sym (cc e))
 emptied false k e = absurd (cc e)
 
+-- what was done is no growth, and so for each of these notes
+abbrev pub NotGrowth : Option Did → Type 0
+NotGrowth d = (c : ℕ) (x : RegionId) → d ≡ Some (Grow c x) → ⊥
+
+abbrev pub NoGrowths : Entries → Type 0
+NoGrowths es = (i : ℕ) (e : Entry) → slice_get es i ≡ Some e → NotGrowth (did_of e.note)
+
+no-later : (e : Entry) (es : Entries) → NoGrowths (e ∷ es) → NoGrowths es
+no-later e es none i x is = none (suc i) x is
+
 pub from-full : (from : Source) (y : RegionId) (t : Option RegionId) (d : Option Did) (k : Hand)
-    → hand_if (Some (from, y)) t d ≡ Some k → FromFull from y d k
-from-full from y t None k e = inl (refl, sym (cc e))
-from-full from y t (Some (Take c x)) k e = absurd (cc e)
-from-full from y t (Some (Hit x)) k e = absurd (cc e)
-from-full from y t (Some (Shed x)) k e = absurd (cc e)
-from-full from y (Some z) (Some (End root)) k e = absurd (cc e)
-from-full from y None (Some (End root)) k e = absurd (cc e)
-from-full Got y t (Some (Birth root x)) k e =
+    → NotGrowth d → hand_if (Some (from, y)) t d ≡ Some k → FromFull from y d k
+from-full from y t None k none e = inl (refl, sym (cc e))
+from-full from y t (Some (Take c x)) k none e = absurd (cc e)
+from-full from y t (Some (Hit x)) k none e = absurd (cc e)
+from-full from y t (Some (Shed x)) k none e = absurd (cc e)
+from-full from y (Some z) (Some (End root)) k none e = absurd (cc e)
+from-full from y None (Some (End root)) k none e = absurd (cc e)
+from-full Got y t (Some (Birth root x)) k none e =
     let r = emptied (same_region x (one_more y)) k e in inr (Birth root x, refl, same_region-is x (one_more y) r.0, r.1)
-from-full Ended y t (Some (Birth root x)) k e = absurd (cc e)
-from-full Dropped y t (Some (Birth root x)) k e = absurd (cc e)
-from-full Got y t (Some (Kept x)) k e = absurd (cc e)
-from-full Ended y t (Some (Kept x)) k e =
+from-full Ended y t (Some (Birth root x)) k none e = absurd (cc e)
+from-full Dropped y t (Some (Birth root x)) k none e = absurd (cc e)
+from-full Got y t (Some (Kept x)) k none e = absurd (cc e)
+from-full Ended y t (Some (Kept x)) k none e =
     let r = emptied (same_region y x) k e in inr (Kept x, refl, sym (same_region-is y x r.0), r.1)
-from-full Dropped y t (Some (Kept x)) k e = absurd (cc e)
-from-full Got y t (Some (Give x)) k e = absurd (cc e)
-from-full Ended y t (Some (Give x)) k e =
+from-full Dropped y t (Some (Kept x)) k none e = absurd (cc e)
+from-full Got y t (Some (Give x)) k none e = absurd (cc e)
+from-full Ended y t (Some (Give x)) k none e =
     let r = emptied (same_region y x) k e in inr (Give x, refl, sym (same_region-is y x r.0), r.1)
-from-full Dropped y t (Some (Give x)) k e =
+from-full Dropped y t (Some (Give x)) k none e =
     let r = emptied (same_region y x) k e in inr (Give x, refl, sym (same_region-is y x r.0), r.1)
-from-full from y t (Some _) k e = inl (refl, sym (cc e))
+from-full from y t (Some (Grow c x)) k none e = absurd (none c x refl)
+from-full from y t (Some _) k none e = inl (refl, sym (cc e))
 
 -- a note that comes into the hand at one place, and the next that moves a region, which puts it down
 abbrev pub StillBetween : Entries → ℕ → ℕ → Type 0
@@ -132,14 +144,15 @@ pub record Next (es : Entries) (from : Source) (y : RegionId) : Type 0 where
   pub out : Out es at from y
   pub still : (m : ℕ) (e : Entry) → m < at → slice_get es m ≡ Some e → moving (did_of e.note) ≡ false
 
-pub next-out : (es : Entries) (from : Source) (y : RegionId) → hand_after (Some (from, y)) es ≡ Some None
-    → Next es from y
-next-out [] from y h = absurd (cc h)
-next-out (e ∷ es) from y h =
+pub next-out : (es : Entries) (from : Source) (y : RegionId) → NoGrowths es
+    → hand_after (Some (from, y)) es ≡ Some None → Next es from y
+next-out [] from y none h = absurd (cc h)
+next-out (e ∷ es) from y none h =
     let s = bind-some (hand_step (Some (from, y)) e) (λ k. hand_after k es) None h in
     ⊎_elim
     (λ quiet.
-    let r : Next es from y = next-out es from y (ap (λ k. hand_after k es) (sym quiet.1) ∙ s.2) in
+    let r : Next es from y = next-out es from y (no-later e es none)
+    (ap (λ k. hand_after k es) (sym quiet.1) ∙ s.2) in
     record {
       at = suc r.at;
       out =
@@ -151,7 +164,7 @@ next-out (e ∷ es) from y h =
       out = record { entry = e; there = refl; did = moved.0; is = moved.1; empties = moved.2 };
       still = λ m x less. absurd (omega (arith, less));
     })
-    (from-full from y e.region (did_of e.note) s.0 s.1)
+    (from-full from y e.region (did_of e.note) s.0 (none 0 e refl) s.1)
   where
     below : (m : ℕ) (x : Entry) → moving (did_of e.note) ≡ false → (r : Next es from y) → m < suc r.at
         → slice_get (e ∷ es) m ≡ Some x → moving (did_of x.note) ≡ false
@@ -234,10 +247,10 @@ pub record Onward (es : Entries) (j : ℕ) : Type 0 where
   pub region : RegionId
   pub pair : Pair es j to from region
 
-pub pair-from : (es : Entries) (h : Hand) (j : ℕ) (x : Entry) (d : Did) → hand_after h es ≡ Some None
+pub pair-from : (es : Entries) (h : Hand) (j : ℕ) (x : Entry) (d : Did) → NoGrowths es → hand_after h es ≡ Some None
     → slice_get es j ≡ Some x → did_of x.note ≡ Some d → IsIn d → Onward es j
-pair-from [] h j x d run is did kind = absurd (cc is)
-pair-from (e ∷ es) h zero x d run is did kind =
+pair-from [] h j x d none run is did kind = absurd (cc is)
+pair-from (e ∷ es) h zero x d none run is did kind =
     let s = bind-some (hand_step h e) (λ k. hand_after k es) None run in
     let same : e ≡ x = cc is in
     go h (did_of e.note) (ap (λ y. did_of y.note) same ∙ did) s.0 s.1 s.2
@@ -251,7 +264,7 @@ pair-from (e ∷ es) h zero x d run is did kind =
         (λ quiet. absurd (no-both (moving o) (ap moving o_is ∙ in-moves d kind) quiet.0))
         (λ filled.
         let did_is : filled.0 ≡ d = same-some filled.0 d (sym filled.1 ∙ o_is) in
-        let r : Next es filled.2 filled.3 = next-out es filled.2 filled.3
+        let r : Next es filled.2 filled.3 = next-out es filled.2 filled.3 (no-later e es none)
         (ap (λ k. hand_after k es) (sym filled.5) ∙ rest) in
         record {
           to = suc r.at;
@@ -266,10 +279,11 @@ pair-from (e ∷ es) h zero x d run is did kind =
         (λ quiet. absurd (no-both (moving o) (ap moving o_is ∙ in-moves d kind) quiet.0))
         (λ moved. absurd (in-not_out held.0 held.1 d kind
         (subst (Empties held.0 held.1) (same-some moved.0 d (sym moved.1 ∙ o_is)) moved.2)))
-        (from-full held.0 held.1 e.region o k step)
-pair-from (e ∷ es) h (suc j) x d run is did kind =
+        (from-full held.0 held.1 e.region o k
+        (λ c x g. subst IsIn (same-some d (Grow c x) (sym o_is ∙ g)) kind) step)
+pair-from (e ∷ es) h (suc j) x d none run is did kind =
     let s = bind-some (hand_step h e) (λ k. hand_after k es) None run in
-    let r : Onward es j = pair-from es s.0 j x d s.2 is did kind in
+    let r : Onward es j = pair-from es s.0 j x d (no-later e es none) s.2 is did kind in
     record { to = suc r.to; from = r.from; region = r.region; pair = later-pair e es j r.to r.from r.region r.pair }
 
 -- each note that puts a region down: it was in the hand at first, or came in by a note before
@@ -286,10 +300,10 @@ pub record AtFirst (es : Entries) (h : Hand) (k : ℕ) : Type 0 where
   pub out : Out es k from region
   pub still : (m : ℕ) (e : Entry) → m < k → slice_get es m ≡ Some e → moving (did_of e.note) ≡ false
 
-pub pair-to : (es : Entries) (h : Hand) (k : ℕ) (x : Entry) (d : Did) → hand_after h es ≡ Some None
+pub pair-to : (es : Entries) (h : Hand) (k : ℕ) (x : Entry) (d : Did) → NoGrowths es → hand_after h es ≡ Some None
     → slice_get es k ≡ Some x → did_of x.note ≡ Some d → IsOut d → AtFirst es h k ⊎ Before es k
-pair-to [] h k x d run is did kind = absurd (cc is)
-pair-to (e ∷ es) h zero x d run is did kind =
+pair-to [] h k x d none run is did kind = absurd (cc is)
+pair-to (e ∷ es) h zero x d none run is did kind =
     let s = bind-some (hand_step h e) (λ k. hand_after k es) None run in
     let same : e ≡ x = cc is in
     let here : did_of e.note ≡ Some d = ap (λ y. did_of y.note) same ∙ did in
@@ -315,8 +329,8 @@ pair-to (e ∷ es) h zero x d run is did kind =
           still =
               λ m y less. absurd (omega (arith, less));
         }))
-        (from-full held.0 held.1 e.region (did_of e.note) k step)
-pair-to (e ∷ es) h (suc k) x d run is did kind =
+        (from-full held.0 held.1 e.region (did_of e.note) k (none 0 e refl) step)
+pair-to (e ∷ es) h (suc k) x d none run is did kind =
     let s = bind-some (hand_step h e) (λ k. hand_after k es) None run in
     ⊎_elim
     (λ first. go h s.0 s.1 first)
@@ -327,7 +341,7 @@ pair-to (e ∷ es) h (suc k) x d run is did kind =
       pair =
           later-pair e es before.at k before.from before.region before.pair;
     }))
-    (pair-to es s.0 k x d s.2 is did kind)
+    (pair-to es s.0 k x d (no-later e es none) s.2 is did kind)
   where
     below : moving (did_of e.note) ≡ false → (l : Hand) → (f : AtFirst es l k) → (m : ℕ) (y : Entry) → m < suc k
         → slice_get (e ∷ es) m ≡ Some y → moving (did_of y.note) ≡ false
@@ -366,7 +380,7 @@ pair-to (e ∷ es) h (suc k) x d run is did kind =
           still = below quiet.0 l f;
         }))
         (λ moved. let none : ◌≡◌ {A = Hand} None (Some (f.from, f.region)) = sym moved.3 ∙ f.held in absurd (cc none))
-        (from-full held.0 held.1 e.region (did_of e.note) l step)
+        (from-full held.0 held.1 e.region (did_of e.note) l (none 0 e refl) step)
 
 -- a note comes into the hand for one note that puts it down
 pub one-out : (es : Entries) (j k l : ℕ) (from of : Source) (y z : RegionId) → Pair es j k from y → Pair es j l of z

@@ -3,7 +3,7 @@ use Rattle.std.proofs.Common.{eqb-true, eq-eqb, ne_eqb, ◌≡◌, ℕ, ◌+◌,
 use Rattle.std.specs.Prelude.{◌==◌, ◌&&◌, Option}
 use Rattle.pool_law.specs.declared.id.RegionId.{RegionId}
 use Rattle.pool_law.specs.declared.note.Did.{Did}
-use Rattle.pool_law.specs.declared.note.Did.TheVariants.{Take, Give, Hit, Kept, Shed, Birth, End}
+use Rattle.pool_law.specs.declared.note.Did.TheVariants.{Take, Give, Hit, Kept, Shed, Birth, Grow, End}
 use Rattle.pool_law.specs.Same.{same_taking, same_region}
 use Rattle.run_laws.specs.CacheCounts.{one_of}
 use Rattle.pool_law.specs.Readers.{Entries}
@@ -73,6 +73,23 @@ step-balanced r (Some (Got, y)) k t (Birth root x) e =
     (λ _ is. absurd (cc is)) e
 step-balanced r (Some (Ended, y)) k t (Birth root x) e = absurd (cc e)
 step-balanced r (Some (Dropped, y)) k t (Birth root x) e = absurd (cc e)
+step-balanced r None k t (Grow c x) e = absurd (cc e)
+step-balanced r (Some (Got, y)) k None (Grow c x) e =
+    cond_both {A = Option Hand} (same_region x (one_more y)) None None
+    (λ z. z ≡ Some k → Balanced r (Some (Got, y)) k None (Grow c x))
+    (λ _ is. absurd (cc is)) (λ _ is. absurd (cc is)) e
+step-balanced r (Some (Got, y)) k (Some o) (Grow c x) e =
+    cond_both (same_region x (one_more y)) (Some (Some (Ended, o))) None
+    (λ z. z ≡ Some k → Balanced r (Some (Got, y)) k (Some o) (Grow c x))
+    (λ test is.
+    let held : Some (Ended, o) ≡ k = cc is in
+    let x_is : x ≡ one_more y = same_region-is x (one_more y) test in
+    let count : one_of (same_region (one_more r) x)
+    ≡ one_of (same_region r y) = ap (λ v. one_of (same_region (one_more r) v)) x_is ∙ ap one_of (more-same r y) in
+    subst (λ v. Balanced r (Some (Got, y)) v (Some o) (Grow c x)) held (omega (arith, count), omega arith))
+    (λ _ is. absurd (cc is)) e
+step-balanced r (Some (Ended, y)) k t (Grow c x) e = absurd (cc e)
+step-balanced r (Some (Dropped, y)) k t (Grow c x) e = absurd (cc e)
 step-balanced r None k t (Kept x) e = absurd (cc e)
 step-balanced r (Some (Got, y)) k t (Kept x) e = absurd (cc e)
 step-balanced r (Some (Ended, y)) k t (Kept x) e =

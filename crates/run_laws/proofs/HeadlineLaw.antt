@@ -14,17 +14,19 @@ use Rattle.pool_law.specs.Logs.{Logs, of_lane, entry_of, entries_of}
 use Rattle.pool_law.specs.Legal.{CountsAgree, IsLegal, logs_of}
 use Rattle.run_laws.proofs.PagedHistories.{HistoriesPaged, paged}
 use Rattle.pool_law.specs.Leaks.{births, is_live, is_sampled, leak_of}
-use Rattle.pool_law.specs.Lives.{IsUse}
+use Rattle.pool_law.specs.Lives.{IsUse, UseEnds, Leaves, IsAmong, moves_by, present_at}
 use Rattle.pool_law.specs.Apart.{EndsBefore, NeverOverlap}
 use Rattle.run_laws.specs.Conserved.{total_in}
 use Rattle.run_laws.specs.OneLog.{Counted, StandInOneLog}
 use Rattle.run_laws.specs.Reported.{NeverFreed, IsLeak, ListsLeaks}
-use Rattle.run_laws.specs.Headline.{LiveLieApart, LiveIsNeverFreed, Headline}
+use Rattle.run_laws.specs.Headline.{LiveLieApart, LiveUseLasts, LiveIsNeverFreed, Headline}
 use Rattle.run_laws.proofs.LogEntries.{LanesAct}
 use Rattle.run_laws.proofs.LogParts.{Parts}
-use Rattle.run_laws.proofs.HandTotals.{note-placed}
+use Rattle.run_laws.proofs.Uses.{is-use}
+use Rattle.run_laws.proofs.AllLives.{is-done_at}
+use Rattle.run_laws.proofs.AllUses.{born, use-ended}
 use Rattle.run_laws.proofs.LifeLaw.{birth-use}
-use Rattle.run_laws.proofs.EndLaw.{dead-ended, ended-dead}
+use Rattle.run_laws.proofs.EndLaw.{dead-ended, ended-dead, use-region}
 use Rattle.run_laws.proofs.OneLogLaw.{stand-in_one_log}
 use Rattle.run_laws.proofs.LeakLaw.{birth-there, Listed, leaks-only, leaks-all, leaks-order}
 use Rattle.run_laws.proofs.ReadLaw.{reads-give_written}
@@ -50,43 +52,58 @@ module _ (shape : Shape) (logs : Logs) (holds : HistoriesPaged shape logs) (acts
   -- a release ended the count of a root exactly where its total is 0
   pub freed-dead : (root : RootId) (r : RegionId) → IsUse logs root r → Counted logs root RefDid.Ended
       → total_in logs root ≡ 0
-  freed-dead root r u c = ended-dead shape logs holds acts parts counts root r u (notes.ended root c).end
+  freed-dead root r u c =
+      ended-dead shape logs holds acts parts counts root r (born shape logs holds acts parts counts root r u)
+      (notes.ended root c).end
 
   pub dead-freed : (root : RootId) (r : RegionId) → IsUse logs root r → total_in logs root ≡ 0
       → Counted logs root RefDid.Ended
-  dead-freed root r u dead = (notes.end root (dead-ended shape logs holds acts parts counts root r u dead)).ended
+  dead-freed root r u dead =
+      (notes.end root (dead-ended shape logs holds acts parts counts root r
+      (born shape logs holds acts parts counts root r u) dead)).ended
 
   pub live-never_freed : LiveIsNeverFreed logs
   live-never_freed root r u = (λ live c. live (freed-dead root r u c), λ never dead. never (dead-freed root r u dead))
 
-  -- a root that ended before another was born was freed
-  pub ends-freed : (first second : RootId) → EndsBefore logs first second → Counted logs first RefDid.Ended
-  ends-freed first second before =
-      let is : slice_get (of_lane logs before.end.lane) before.end.at
-      ≡ Some (At before.end.object before.end.number (End first)) =
-      before.ended.0 ∙ ap (λ d. Some (At before.end.object before.end.number d)) before.ended.1 in
+  -- what ended before another use began ended
+  pub before-ends : (first second : RootId) (a b : RegionId) → EndsBefore logs first a second b → UseEnds logs first a
+  before-ends first second a b before =
       let here : before.end.object ≡ Object.Root first.place =
-      note-placed shape logs holds acts before.end.lane before.end.at before.end.number before.end.object
-      (End first) is in
-      (notes.end first (record {
+      is-done_at shape logs holds acts parts counts (record { event = before.end; move = Leaves first a })
+      before.ended in
+      record {
         lane = before.end.lane;
         at = before.end.at;
         number = before.end.number;
-        stands = is
-            ∙ ap (λ o. Some (At o before.end.number (End first))) here;
-      })).ended
+        did = before.end.did;
+        stands = before.ended.stands ∙ ap (λ o. Some (At o before.end.number before.end.did)) here;
+        moves = subst (λ o. IsAmong (Leaves first a) (moves_by (present_at logs o before.end.number) before.end.did))
+            here before.ended.moves;
+      }
 
   pub live-lie_apart : NeverOverlap logs → LiveLieApart logs
   live-lie_apart never first second a b u v alive living differ over =
-      ⊎_elim (λ before. alive (ends-freed first second before)) (λ before. living (ends-freed second first before))
+      ⊎_elim (λ before. alive (before-ends first second a b before))
+      (λ before. living (before-ends second first b a before))
       (never first second a b u v differ over)
+
+  pub live-lasts : LiveUseLasts logs
+  live-lasts root r u never =
+      record {
+        region = r;
+        used = u;
+        lasts = λ ends. never (notes.end root (use-ended shape logs holds acts parts counts root r ends).0).ended;
+        one =
+            λ other v last. use-region shape logs holds acts parts counts root other r
+            (born shape logs holds acts parts counts root other v) (born shape logs holds acts parts counts root r u);
+      }
 
   -- a root that is born in a log is used
   pub birth-used : (lane n : ℕ) (root : RootId) → slice_get (births (of_lane logs lane)) n ≡ Some root
       → (r : RegionId) × IsUse logs root r
   birth-used lane n root e =
       let f = birth-there (of_lane logs lane) n root e in
-      (f.3, birth-use shape logs holds acts lane f.0 f.2 f.1 root f.3 f.4)
+      (f.3, is-use logs root f.3 (birth-use shape logs holds acts lane f.0 f.2 f.1 root f.3 f.4))
 
   pub live-is : (lane n : ℕ) (root : RootId) → slice_get (births (of_lane logs lane)) n ≡ Some root
       → is_live logs root ≡ true → NeverFreed logs root
@@ -169,6 +186,8 @@ headline-holds run legal =
       live_apart =
           live-lie_apart run.shape (logs_of run) (paged run legal) (acts-of run legal) (parts-of run legal) legal.counts
           (roots-never_overlap run legal);
+      live_lasts =
+          live-lasts run.shape (logs_of run) (paged run legal) (acts-of run legal) (parts-of run legal) legal.counts;
       reads = reads-give_written run legal;
       returns = regions-return run legal;
       live =

@@ -1,3 +1,4 @@
+pub mod BirthLives
 pub mod CacheLaw
 pub mod PlaceLaw
 pub mod Sums
@@ -10,6 +11,7 @@ pub mod CommandActs
 pub mod LaneActs
 pub mod HandLaw
 pub mod LogEntries
+pub mod Uses
 pub mod CountSums
 pub mod HandSums
 pub mod RegroupLaw
@@ -44,6 +46,9 @@ pub mod LifeEvents
 pub mod OverlapLaw
 pub mod LifeUses
 pub mod LifeChain
+pub mod AllLives
+pub mod AllUses
+pub mod UseReturns
 pub mod PagedHistories
 pub mod MailParcels
 pub mod ParcelLaw
@@ -51,4 +56,6 @@ pub mod PostLaw
 pub mod RunLaws
 pub mod HeadlineLaw
 pub mod Forged
+pub mod ForgedOverlap
+pub mod ForgedGrowths
 pub mod ForgedRuns

@@ -10,7 +10,8 @@ use Rattle.pool_law.specs.Logs.{Logs, dids, of_lane, history_of, entry_of, entri
 use Rattle.pool_law.specs.Legal.{CountsAgree}
 use Rattle.run_laws.proofs.PagedHistories.{HistoriesPaged}
 use Rattle.pool_law.specs.Patterns.{one_more}
-use Rattle.pool_law.specs.Lives.{Done, cache_of, arena_of, with_uses, Event, Stands, Got, Follows, IsDoneAt, IsAmong, Life, RegionsLive}
+use Rattle.pool_law.specs.Lives.{Done, cache_of, arena_of, with_uses, Event, Stands, Got, IsAmong}
+use Rattle.run_laws.proofs.BirthLives.{Follows, IsDoneAt, Life, RegionsLive}
 use Rattle.run_laws.specs.CacheCounts.{one_of}
 use Rattle.run_laws.specs.HandCounts.{got_by}
 use Rattle.pool_law.proofs.PatternLemmas.{same_region-refl}

@@ -14,7 +14,8 @@ use Rattle.pool_law.specs.Logs.{Logs, dids, of_lane, history_of, entry_of, entri
 use Rattle.pool_law.specs.Legal.{CountsAgree}
 use Rattle.run_laws.proofs.PagedHistories.{HistoriesPaged}
 use Rattle.pool_law.specs.Patterns.{one_more}
-use Rattle.pool_law.specs.Lives.{IsUse, Done, cache_of, arena_of, Event, Stands}
+use Rattle.pool_law.specs.Lives.{Done, cache_of, arena_of, Event, Stands}
+use Rattle.run_laws.proofs.BirthLives.{IsUse}
 use Rattle.run_laws.specs.CacheCounts.{one_of}
 use Rattle.run_laws.specs.Hands.{Source}
 use Rattle.run_laws.specs.Hands as hand
@@ -33,7 +34,7 @@ use Rattle.run_laws.proofs.HandPairs.{IsIn, Empties}
 use Rattle.run_laws.proofs.HandNotes.{Held, held-from}
 use Rattle.run_laws.proofs.Totals.{dids-at, dids-there, note_tally, born_by, hits_in, sheds_in, keeps_in, gives_in, births_in, hits, sheds_of}
 use Rattle.run_laws.proofs.HandTotals.{note-placed, removes-less, takes-most, takes-unused, ends-born, got-total, kept-total, shed-total, given-total, drops}
-use Rattle.run_laws.proofs.LifeLaw.{use-counts, hits-less, keeps-less, born-most, unused-none}
+use Rattle.run_laws.proofs.LifeLaw.{place-still, use-counts, hits-less, keeps-less, born-most, unused-none}
 use Rattle.run_laws.proofs.LifeOrder.{kept-first, given-born, given-most}
 use Rattle.run_laws.proofs.ApartLaw.{done-at}
 use Rattle.run_laws.proofs.EndLaw.{one, end_weight, birth_weight, ends-most, births-most}
@@ -54,7 +55,8 @@ module _ (shape : Shape) (logs : Logs) (holds : HistoriesPaged shape logs) (acts
       let ok : (t : RootPlace) × (place_after root.place (dids (history_of (Object.Root root.place) logs)) ≡ Some t) =
       is-some (place_after root.place (dids (history_of (Object.Root root.place) logs)))
       (holds.accepted (Object.Root root.place) refl) in
-      let b = end-born root.place (dids (history_of (Object.Root root.place) logs)) ok.0 at.0 root ok.1
+      let b = end-born root.place (dids (history_of (Object.Root root.place) logs)) ok.0 at.0 root
+      (place-still shape logs holds acts root.place) ok.1
       (dids-at (history_of (Object.Root root.place) logs) at.0 d.lane (End root) at.2) in
       let l : (lane : ℕ) × (slice_get (history_of (Object.Root root.place) logs) b.2
       ≡ Some (lane, Birth root b.1.region)) = dids-there (history_of (Object.Root root.place) logs) b.2

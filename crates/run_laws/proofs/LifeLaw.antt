@@ -4,7 +4,7 @@ use Rattle.std.specs.Prelude.{◌<◌, ◌==◌, ◌-◌, option_map, slice_get}
 use Rattle.pool_law.specs.declared.id.RootId.{RootId}
 use Rattle.pool_law.specs.declared.id.RegionId.{RegionId}
 use Rattle.pool_law.specs.declared.note.Object.{Object}
-use Rattle.pool_law.specs.declared.note.Did.TheVariants.{Birth, End}
+use Rattle.pool_law.specs.declared.note.Did.TheVariants.{Birth, Grow, End}
 use Rattle.pool_law.specs.declared.note.Note.{Note}
 use Rattle.pool_law.specs.declared.note.Note.TheVariants.{At, Ref, Busy}
 use Rattle.pool_law.specs.declared.run.Shape.{Shape}
@@ -13,7 +13,8 @@ use Rattle.pool_law.specs.Roots.{RootPlace, Present}
 use Rattle.pool_law.specs.Histories.{place_after}
 use Rattle.pool_law.specs.Logs.{Logs, History, dids, of_lane, history_of, entry_of, present_in, present_before}
 use Rattle.run_laws.proofs.PagedHistories.{HistoriesPaged}
-use Rattle.pool_law.specs.Lives.{IsUse, Done, with_uses}
+use Rattle.pool_law.specs.Lives.{Done, with_uses}
+use Rattle.run_laws.proofs.BirthLives.{IsUse}
 use Rattle.run_laws.specs.CacheCounts.{one_of}
 use Rattle.pool_law.specs.Patterns.{one_more}
 use Rattle.run_laws.specs.Hands.{Got}
@@ -21,10 +22,10 @@ use Rattle.pool_law.proofs.SameLemmas.{same_region-is}
 use Rattle.pool_law.proofs.PatternLemmas.{same_region-refl, both_true}
 use Rattle.run_laws.proofs.Sums.{over-at, over-one, over-found}
 use Rattle.run_laws.proofs.Numbered.{in-history, in-log}
-use Rattle.run_laws.proofs.Placed.{is-some, end-born, one-of-true}
+use Rattle.run_laws.proofs.Placed.{NoGrowth, is-some, end-born, one-of-true}
 use Rattle.run_laws.proofs.Totals.{dids-at, dids-there, note_tally, born_by, takes_in, hits_in, keeps_in, gives_in, births_in, ends_in}
 use Rattle.run_laws.proofs.HandTotals.{note-placed, births-next, put-down, drops, removes-less, takes-most, takes-unused, ends-born}
-use Rattle.run_laws.proofs.LogEntries.{LanesAct}
+use Rattle.run_laws.proofs.LogEntries.{LanesAct, no-growth}
 use Rattle.run_laws.proofs.Together.{FilledAt, note-together}
 
 pub same-as : (r y : RegionId) → with_uses r (r.uses + 1) ≡ one_more y → y ≡ r
@@ -74,19 +75,32 @@ module _ (shape : Shape) (logs : Logs) (holds : HistoriesPaged shape logs) (acts
             (same_region-refl r),
       )
 
-  born-note : (n : Note) (r : RegionId) → 1 ≤ note_tally logs (born_by r) n
-      → (o : Object) × (k : ℕ) × (root : RootId) × (n ≡ At o k (Birth root r))
-  born-note (At o k (Birth root x)) r h =
+  born-note : (lane i : ℕ) (n : Note) (r : RegionId) → slice_get (of_lane logs lane) i ≡ Some n
+      → 1 ≤ note_tally logs (born_by r) n →
+      (o : Object) × (k : ℕ) × (root : RootId) × (n ≡ At o k (Birth root r))
+  born-note lane i (At o k (Birth root x)) r is h =
       (o, k, root, ap (λ y. At o k (Birth root y)) (sym (same_region-is r x (one-of-true (same_region r x) h))))
-  born-note (At o k _) r h = absurd (omega arith)
-  born-note (Ref root did) r h = absurd (omega arith)
-  born-note (Busy held) r h = absurd (omega arith)
+  born-note lane i (At o k (Grow c x)) r is h = absurd (no-growth logs acts lane i k o c x is)
+  born-note lane i (At o k _) r is h = absurd (omega arith)
+  born-note lane i (Ref root did) r is h = absurd (omega arith)
+  born-note lane i (Busy held) r is h = absurd (omega arith)
+
+  -- no root grows at a place
+  pub place-still : (place : ℕ) → NoGrowth (dids (history_of (Object.Root place) logs))
+  place-still place j c x is =
+      let l : (lane : ℕ) × (slice_get (history_of (Object.Root place) logs) j ≡ Some (lane, Grow c x)) =
+      dids-there (history_of (Object.Root place) logs) j (Grow c x) is in
+      let n : (i : ℕ) × (slice_get (of_lane logs l.0) i ≡ Some (At (Object.Root place) (1 + j) (Grow c x))) =
+      in-log (Object.Root place) logs (history_of (Object.Root place) logs) (holds.whole (Object.Root place) refl) l.0 j
+      (Grow c x) l.1 in
+      no-growth logs acts l.0 n.0 (1 + j) (Object.Root place) c x n.1
 
   pub use-found : (r : RegionId) → 1 ≤ births_in logs r → (root : RootId) × IsUse logs root r
   use-found r h =
       let f : (lane : ℕ) × (i : ℕ) × (n : Note) × (slice_get (of_lane logs lane) i ≡ Some n)
       × (1 ≤ note_tally logs (born_by r) n) = over-found (note_tally logs (born_by r)) logs h in
-      let b : (o : Object) × (k : ℕ) × (root : RootId) × (f.2 ≡ At o k (Birth root r)) = born-note f.2 r f.4 in
+      let b : (o : Object) × (k : ℕ) × (root : RootId) × (f.2 ≡ At o k (Birth root r)) =
+      born-note f.0 f.1 f.2 r f.3 f.4 in
       (b.2, birth-use f.0 f.1 b.1 b.0 b.2 r (f.3 ∙ ap (λ x. Some x) b.3))
 
   -- each birth is a use with number one or more
@@ -181,7 +195,7 @@ module _ (shape : Shape) (logs : Logs) (holds : HistoriesPaged shape logs) (acts
       × (place_after root.place (take at.0 (dids (history_of (Object.Root root.place) logs))) ≡ Some m)
       × (m.present ≡ Some p) × (p.root ≡ root)
       × (slice_get (dids (history_of (Object.Root root.place) logs)) i ≡ Some (Birth root p.region)) × (i < at.0) =
-      end-born root.place (dids (history_of (Object.Root root.place) logs)) ok.0 at.0 root ok.1
+      end-born root.place (dids (history_of (Object.Root root.place) logs)) ok.0 at.0 root (place-still root.place) ok.1
       (dids-at (history_of (Object.Root root.place) logs) at.0 lane (End root) at.2) in
       let before : k - 1 ≡ at.0 = omega (arith, at.1) in
       let present : present_before logs root.place k

@@ -11,7 +11,8 @@ use Rattle.pool_law.specs.Caches.{Cache}
 use Rattle.pool_law.specs.Histories.{cache_after}
 use Rattle.pool_law.specs.Logs.{Logs, dids, of_lane, history_of}
 use Rattle.run_laws.proofs.PagedHistories.{HistoriesPaged}
-use Rattle.pool_law.specs.Lives.{IsUse, Done, cache_of, with_uses}
+use Rattle.pool_law.specs.Lives.{Done, cache_of, with_uses}
+use Rattle.run_laws.proofs.BirthLives.{IsUse}
 use Rattle.run_laws.specs.CacheCounts.{removes}
 use Rattle.pool_law.specs.Patterns.{one_more}
 use Rattle.run_laws.proofs.Numbered.{in-history, in-log}

@@ -11,7 +11,8 @@ use Rattle.pool_law.specs.Logs.{Logs, of_lane, entry_of, entries_of}
 use Rattle.pool_law.specs.Legal.{CountsAgree}
 use Rattle.run_laws.proofs.PagedHistories.{HistoriesPaged}
 use Rattle.pool_law.specs.Patterns.{one_more}
-use Rattle.pool_law.specs.Lives.{IsUse, Done, cache_of, arena_of, with_uses, Event, Stands, Got, Used, LivesOn, InOrder, IsAmong, dids_of}
+use Rattle.pool_law.specs.Lives.{Done, cache_of, arena_of, with_uses, Event, Stands, Got, Used, IsAmong}
+use Rattle.run_laws.proofs.BirthLives.{IsUse, LivesOn, InOrder, dids_of}
 use Rattle.run_laws.specs.CacheCounts.{one_of}
 use Rattle.pool_law.proofs.PatternLemmas.{same_region-refl, same_root-refl}
 use Rattle.run_laws.proofs.LogEntries.{LanesAct}

@@ -197,3 +197,61 @@ pub in-log : (o : Object) (logs : Logs) (h : History) → IsHistory o logs h →
 in-log o logs h whole lane j d e =
     let r : (m : ℕ) × (slice_get (numbered lane 1 h) m ≡ Some (1 + j, d)) = numbered-there lane 1 h j d e in
     own-there o (of_lane logs lane) r.0 (1 + j) d (ap (λ xs. slice_get xs r.0) (whole lane) ∙ r.1)
+
+-- numbers at one object rise in a log
+numbered-rises : (lane n : ℕ) (h : History) (a b k l : ℕ) (d e : Did) → slice_get (numbered lane n h) a ≡ Some (k, d)
+    → slice_get (numbered lane n h) b ≡ Some (l, e) → a < b → k < l
+numbered-rises lane n [] a b k l d e is it less = absurd (cc is)
+numbered-rises lane n (x ∷ h) a b k l d e is it less =
+    cond_both (x.0 == lane) ((n, x.1) ∷ numbered lane (n + 1) h) (numbered lane (n + 1) h)
+    (λ z. slice_get z a ≡ Some (k, d) → slice_get z b ≡ Some (l, e) → k < l)
+    (λ _ p q. first a b p q less (λ i j s t under. numbered-rises lane (n + 1) h i j k l d e s t under))
+    (λ _ p q. numbered-rises lane (n + 1) h a b k l d e p q less)
+    is it
+  where
+    first : (a b : ℕ) → slice_get ((n, x.1) ∷ numbered lane (n + 1) h) a ≡ Some (k, d)
+        → slice_get ((n, x.1) ∷ numbered lane (n + 1) h) b ≡ Some (l, e) → a < b →
+        ((i j : ℕ) → slice_get (numbered lane (n + 1) h) i ≡ Some (k, d)
+        → slice_get (numbered lane (n + 1) h) j ≡ Some (l, e) → i < j → k < l) → k < l
+    first a zero p q under rest = absurd (omega (arith, under))
+    first zero (suc b) p q under rest =
+        let same : ◌≡◌ {A = ℕ × Did} (n, x.1) (k, d) = cc p in
+        let r = numbered-at lane (n + 1) h b l e q in
+        omega (arith, ap (λ (y : ℕ × Did). y.0) same, r.1)
+    first (suc a) (suc b) p q under rest = rest a b p q (omega (arith, under))
+
+own-two : (o : Object) (log : List Note) (i j k l : ℕ) (d e : Did) → slice_get log i ≡ Some (At o k d)
+    → slice_get log j ≡ Some (At o l e) → i < j →
+    (a : ℕ) × (b : ℕ) × (slice_get (own o log) a ≡ Some (k, d)) × (slice_get (own o log) b ≡ Some (l, e)) × (a < b)
+own-two o [] i j k l d e is it less = absurd (cc is)
+own-two o (n ∷ ns) i zero k l d e is it less = absurd (omega (arith, less))
+own-two o (n ∷ ns) zero (suc j) k l d e is it less =
+    let same : n ≡ At o k d = cc is in
+    let notes : own o (n ∷ ns) ≡ (k, d) ∷ own o ns = ap (λ x. own_note o x ++ own o ns) same
+    ∙ ap (λ b. (if b then (k, d) ∷ [] else []) ++ own o ns) (same_object-refl o) in
+    let r = own-at o ns j l e it in (
+      0,
+      suc r.0,
+      ap (λ xs. slice_get xs 0) notes,
+      ap (λ xs. slice_get xs (suc r.0)) notes ∙ r.1,
+      omega arith,
+    )
+own-two o (n ∷ ns) (suc i) (suc j) k l d e is it less =
+    let r = own-two o ns i j k l d e is it (omega (arith, less)) in
+    behind (own_note o n) r.0 r.1 r.2 r.3 r.4
+  where
+    behind : (xs : List (ℕ × Did)) (a b : ℕ) → slice_get (own o ns) a ≡ Some (k, d)
+        → slice_get (own o ns) b ≡ Some (l, e) → a < b →
+        (a : ℕ) × (b : ℕ) × (slice_get (xs ++ own o ns) a ≡ Some (k, d))
+        × (slice_get (xs ++ own o ns) b ≡ Some (l, e)) × (a < b)
+    behind [] a b p q under = (a, b, p, q, under)
+    behind (x ∷ xs) a b p q under =
+        let r = behind xs a b p q under in (suc r.0, suc r.1, r.2, r.3, omega (arith, r.4))
+
+pub rises-in_log : (o : Object) (logs : Logs) (h : History) → IsHistory o logs h → (lane i j k l : ℕ) (d e : Did)
+    → slice_get (of_lane logs lane) i ≡ Some (At o k d) → slice_get (of_lane logs lane) j ≡ Some (At o l e) → i < j
+    → k < l
+rises-in_log o logs h whole lane i j k l d e is it less =
+    let r = own-two o (of_lane logs lane) i j k l d e is it less in
+    numbered-rises lane 1 h r.0 r.1 k l d e (ap (λ xs. slice_get xs r.0) (sym (whole lane)) ∙ r.2)
+    (ap (λ xs. slice_get xs r.1) (sym (whole lane)) ∙ r.3) r.4

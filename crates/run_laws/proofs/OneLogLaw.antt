@@ -11,11 +11,13 @@ use Rattle.pool_law.specs.declared.run.Shape.{Shape}
 use Rattle.pool_law.specs.Logs.{Logs, of_lane, entry_of, entries_of}
 use Rattle.pool_law.specs.Legal.{CountsAgree}
 use Rattle.run_laws.proofs.PagedHistories.{HistoriesPaged}
-use Rattle.pool_law.specs.Lives.{StandsAt, IsUse}
-use Rattle.run_laws.specs.OneLog.{IsBorn, HasEnded, StandInOneLog}
+use Rattle.pool_law.specs.Lives.{StandsAt}
+use Rattle.run_laws.proofs.BirthLives.{IsUse}
+use Rattle.run_laws.specs.OneLog.{IsBirth, IsBorn, HasEnded, StandInOneLog}
 use Rattle.pool_law.specs.Same.{same_root}
 use Rattle.pool_law.proofs.PatternLemmas.{same_root-refl}
 use Rattle.run_laws.proofs.LogEntries.{LanesAct}
+use Rattle.run_laws.proofs.Uses.{use-born}
 use Rattle.run_laws.proofs.Sums.{sum_over, over-place}
 use Rattle.run_laws.proofs.LogParts.{Parts}
 use Rattle.run_laws.proofs.Together.{BirthHere, EndHere, Together, note-together}
@@ -31,17 +33,19 @@ module _ (shape : Shape) (logs : Logs) (holds : HistoriesPaged shape logs) (acts
 
   pub is-born : (root : RootId) (lane : ℕ) → BirthHere logs lane root → IsBorn logs root
   is-born root lane h =
-      let birth : IsUse logs root h.region =
+      let birth : IsBirth logs root h.region =
       record {
         lane = lane;
         at = h.birth;
         number = h.number;
-        birth = h.birth_is
+        stands = h.birth_is
             ∙ ap (λ o. Some (At o h.number (Birth root h.region)))
             (note-placed shape logs holds acts lane h.birth h.number h.object (Birth root h.region) h.birth_is);
       } in
+      let used : IsUse logs root h.region =
+      record { lane = lane; at = h.birth; number = h.number; birth = birth.stands } in
       let one_birth : sum_over (birth_weight root) logs ≤ 1 =
-      births-most shape logs holds acts parts counts root h.region birth in
+      births-most shape logs holds acts parts counts root h.region used in
       let one_set : sum_over (birth_weight root) logs
       ≡ sum_over (born_weight root) logs =
       sums-alike logs acts (birth_weight root) (born_weight root) (birth-alike root) in
@@ -54,7 +58,7 @@ module _ (shape : Shape) (logs : Logs) (holds : HistoriesPaged shape logs) (acts
         birth_once =
             λ r q a b. over-place (birth_weight root) logs a.lane b.lane a.at b.at
             (At (Object.Root root.place) a.number (Birth root r))
-            (At (Object.Root root.place) b.number (Birth root q)) a.birth b.birth one_birth itself itself;
+            (At (Object.Root root.place) b.number (Birth root q)) a.stands b.stands one_birth itself itself;
         set_once =
             λ a b. over-place (born_weight root) logs a.lane b.lane a.at b.at (Ref root RefDid.Born)
             (Ref root RefDid.Born) a.stands b.stands (omega (arith, one_birth, one_set)) itself itself;
@@ -108,9 +112,12 @@ module _ (shape : Shape) (logs : Logs) (holds : HistoriesPaged shape logs) (acts
   pub stand-in_one_log : StandInOneLog logs
   stand-in_one_log =
       record {
+        used =
+            λ root r u. let b = use-born logs acts root r u in is-born root b.lane
+            (together b.lane b.at (At (Object.Root root.place) b.number (Birth root r)) b.birth).0;
         born =
             λ root r u. is-born root u.lane
-            (together u.lane u.at (At (Object.Root root.place) u.number (Birth root r)) u.birth).0;
+            (together u.lane u.at (At (Object.Root root.place) u.number (Birth root r)) u.stands).0;
         set = λ root c. is-born root c.lane (together c.lane c.at (Ref root RefDid.Born) c.stands);
         ended = λ root c. has-ended root c.lane (together c.lane c.at (Ref root RefDid.Ended) c.stands);
         end =

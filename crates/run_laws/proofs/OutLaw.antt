@@ -6,7 +6,7 @@ use Rattle.pool_law.specs.declared.id.RootId.{RootId}
 use Rattle.pool_law.specs.declared.id.RegionId.{RegionId}
 use Rattle.pool_law.specs.declared.note.Object.{Object}
 use Rattle.pool_law.specs.declared.note.Did.{Did}
-use Rattle.pool_law.specs.declared.note.Did.TheVariants.{Take, Give, End}
+use Rattle.pool_law.specs.declared.note.Did.TheVariants.{Take, Give, Grow, End}
 use Rattle.pool_law.specs.declared.note.Note.{Note}
 use Rattle.pool_law.specs.declared.note.Note.TheVariants.{At, Ref, Busy}
 use Rattle.pool_law.specs.declared.run.Shape.{Shape}
@@ -17,8 +17,9 @@ use Rattle.pool_law.specs.Histories.{after, arena_after}
 use Rattle.pool_law.specs.Logs.{Logs, dids, of_lane, history_of, entry_of, entries_of}
 use Rattle.pool_law.specs.Legal.{CountsAgree}
 use Rattle.run_laws.proofs.PagedHistories.{HistoriesPaged}
-use Rattle.pool_law.specs.Lives.{IsUse, Done, arena_of, with_uses}
-use Rattle.run_laws.specs.Conserved.{total_in, IsHeld, EndsAsArena, OutIsHeld}
+use Rattle.pool_law.specs.Lives.{Done, arena_of, with_uses}
+use Rattle.run_laws.proofs.BirthLives.{IsUse, IsHeld, OutIsHeld}
+use Rattle.run_laws.specs.Conserved.{total_in, EndsAsArena}
 use Rattle.arena_law.specs.Slots.{ArenaHolds}
 use Rattle.arena_law.specs.Returns.{gives}
 use Rattle.run_laws.specs.CacheCounts.{one_of, total_by}
@@ -29,7 +30,7 @@ use Rattle.arena_law.proofs.ArenaLaw.{after-holds, new-holds}
 use Rattle.arena_law.proofs.GiveSteps.{IsOne}
 use Rattle.arena_law.proofs.ReturnLaw.{take_note-out, after-keeps, after-append, one-step, IsOne-last}
 use Rattle.arena_law.proofs.TakingLaw.{takings-in_order}
-use Rattle.run_laws.proofs.LogEntries.{LanesAct}
+use Rattle.run_laws.proofs.LogEntries.{LanesAct, no-growth}
 use Rattle.run_laws.proofs.Sums.{over-found}
 use Rattle.run_laws.proofs.Placed.{placed, total-found, one-of-true}
 use Rattle.run_laws.proofs.Totals.{note_tally, takes, gives_of, takes_in, hits_in, sheds_in, keeps_in, gives_in, births_in, ends_in}
@@ -45,17 +46,18 @@ use Rattle.run_laws.proofs.TakingUses.{held-by}
 module _ (shape : Shape) (logs : Logs) (holds : HistoriesPaged shape logs) (acts : LanesAct logs)
     (parts : (lane : ℕ) → lane < length logs → Parts lane (map (entry_of logs) (of_lane logs lane)))
     (counts : CountsAgree (entries_of logs)) where
-  ends-note : (r : RegionId) (n : Note) → 1 ≤ note_tally logs (ended_by r) n
-      → (o : Object) × (k : ℕ) × (root : RootId) × (n ≡ At o k (End root))
+  ends-note : (r : RegionId) (lane i : ℕ) (n : Note) → slice_get (of_lane logs lane) i ≡ Some n
+      → 1 ≤ note_tally logs (ended_by r) n → (o : Object) × (k : ℕ) × (root : RootId) × (n ≡ At o k (End root))
       × ((entry_of logs (At o k (End root))).region ≡ Some r)
-  ends-note r (At o k (End root)) h = (o, k, root, refl, some (entry_of logs (At o k (End root))).region h)
+  ends-note r lane i (At o k (End root)) is h = (o, k, root, refl, some (entry_of logs (At o k (End root))).region h)
     where
       some : (t : Option RegionId) → 1 ≤ one_same r t → t ≡ Some r
       some None h = absurd (omega (arith, h))
       some (Some x) h = ap (λ y. Some y) (sym (same_region-is r x (one-of-true (same_region r x) h)))
-  ends-note r (At o k _) h = absurd (omega (arith, h))
-  ends-note r (Ref root did) h = absurd (omega (arith, h))
-  ends-note r (Busy held) h = absurd (omega (arith, h))
+  ends-note r lane i (At o k (Grow c x)) is h = absurd (no-growth logs acts lane i k o c x is)
+  ends-note r lane i (At o k _) is h = absurd (omega (arith, h))
+  ends-note r lane i (Ref root did) is h = absurd (omega (arith, h))
+  ends-note r lane i (Busy held) is h = absurd (omega (arith, h))
 
   -- the region of a live root has not ended
   pub live-none : (root : RootId) (r : RegionId) → IsUse logs root r → total_in logs root ≢ 0 → ends_in logs r ≡ 0
@@ -68,7 +70,8 @@ module _ (shape : Shape) (logs : Logs) (holds : HistoriesPaged shape logs) (acts
           × (1 ≤ note_tally logs (ended_by r) n) =
           over-found (note_tally logs (ended_by r)) logs (omega (arith, e)) in
           let a : (o : Object) × (k : ℕ) × (root : RootId) × (f.2 ≡ At o k (End root))
-          × ((entry_of logs (At o k (End root))).region ≡ Some r) = ends-note r f.2 f.4 in
+          × ((entry_of logs (At o k (End root))).region ≡ Some r) =
+          ends-note r f.0 f.1 f.2 f.3 f.4 in
           let w : IsUse logs a.2 r × Done logs (Object.Root a.2.place) (End a.2) =
           end-use shape logs holds acts f.0 f.1 a.1 a.0 a.2 r (f.3 ∙ ap (λ x. Some x) a.3) a.4 in
           let same : a.2 ≡ root = one-use shape logs holds acts a.2 root r w.0 u in

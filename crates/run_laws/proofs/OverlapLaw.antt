@@ -9,8 +9,9 @@ use Rattle.pool_law.specs.declared.note.Did.TheVariants.{Take, Give, Hit, Kept, 
 use Rattle.pool_law.specs.Places.{Overlap}
 use Rattle.pool_law.specs.Same.{same_taking}
 use Rattle.pool_law.specs.Logs.{Logs}
-use Rattle.pool_law.specs.Lives.{IsUse, arena_of, with_uses, Event, Stands, InOneLog, AtOneObject, Where, Got, Used, Freed, Cached, Dropped, LivesOn, Follows, InOrder, Moves, IsAmong, dids_of, Life, RegionsLive}
-use Rattle.pool_law.specs.Apart.{Leads, EndsBefore, NeverOverlap, Before, LieApart}
+use Rattle.pool_law.specs.Lives.{arena_of, with_uses, Event, Stands, InOneLog, AtOneObject, Where, Got, Used, Freed, Cached, Dropped, IsAmong}
+use Rattle.run_laws.proofs.BirthLives.{IsUse, LivesOn, Follows, InOrder, Moves, dids_of, Life, RegionsLive, EndsBefore, NeverOverlap, LieApart}
+use Rattle.pool_law.specs.Apart.{Leads, Before}
 use Rattle.pool_law.proofs.PatternLemmas.{same_taking-refl}
 use Rattle.run_laws.proofs.EventKinds.{the, the_birth}
 

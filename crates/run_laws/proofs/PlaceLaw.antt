@@ -1,15 +1,15 @@
 -- The roots of a place.
 use Rattle.std.proofs.Common.{eqb-true, ◌≡◌, inl, inr, ⊎_elim, ℕ, ◌+◌, List, [], ◌∷◌, length, refl, sym, ap, subst, Bool, true, false, Some, None, ◌∙◌}
-use Rattle.std.specs.Prelude.{◌⊎◌, ◌==◌, ◌&&◌, nat_le, Option, option_and_then, replicate}
+use Rattle.std.specs.Prelude.{◌⊎◌, ◌==◌, ◌&&◌, ◌||◌, nat_lt, nat_le, Option, option_and_then, replicate}
 use Rattle.pool_law.specs.declared.id.RootId.{RootId}
 use Rattle.pool_law.specs.declared.id.RegionId.{RegionId}
 use Rattle.pool_law.specs.declared.note.Did.{Did}
-use Rattle.pool_law.specs.declared.note.Did.TheVariants.{Birth, Set, Get, Touch, End}
+use Rattle.pool_law.specs.declared.note.Did.TheVariants.{Birth, Set, Get, Touch, Room, Extend, Grow, End}
 use Rattle.pool_law.specs.Same.{same_root, same_bytes}
 use Rattle.pool_law.specs.Caches.{if_so}
-use Rattle.pool_law.specs.Roots.{RootPlace, Present, new_place, laid_over, bytes_at, born, may_be_born, with_bytes, vacant_step, present_step, place_step_by, place_step}
+use Rattle.pool_law.specs.Roots.{RootPlace, Present, new_place, laid_over, bytes_at, born, zeros_to, may_be_born, with_bytes, vacant_step, present_step, place_step_by, place_step}
 use Rattle.pool_law.specs.Histories.{after, place_after}
-use Rattle.run_laws.specs.PlaceLives.{BornInOrder, WasBorn, PlaceLives}
+use Rattle.run_laws.specs.PlaceLives.{BornInOrder, GrewTo, WasBorn, PlaceLives}
 use Rattle.pool_law.proofs.SameLemmas.{and-first, and-second, same_root-is}
 use Rattle.run_laws.proofs.CacheLaw.{if_so-is}
 use Rattle.arena_law.proofs.ReturnLaw.{after-append, one-step}
@@ -31,8 +31,16 @@ pub record Stays (s t : RootPlace) : Type 0 where
   pub present : (p : Present) → t.present ≡ Some p
       → (q : Present) × (s.present ≡ Some q) × (p.root ≡ q.root) × (p.region ≡ q.region)
 
+-- a growth: what is present after it was present before, in another region
+pub record Grows (s t : RootPlace) (region : RegionId) : Type 0 where
+  pub generation : t.generation ≡ s.generation
+  pub there : Present
+  pub there_is : s.present ≡ Some there
+  pub present : (p : Present) → t.present ≡ Some p → (p.root ≡ there.root) × (p.region ≡ region)
+
 abbrev pub Does : ℕ → RootPlace → Did → RootPlace → Type 0
 Does place s (Birth root region) t = Births place s t root region
+Does place s (Grow capacity region) t = Grows s t region
 Does place s _ t = Stays s t
 
 pub stays-same : (s : RootPlace) → Stays s s
@@ -56,6 +64,32 @@ present_step-does place s t p (Get offset bytes) here e =
     (bytes_at p.bytes offset (length bytes))) s t e in
     subst (λ x. Stays s x) same (stays-same s)
 present_step-does place s t p Touch here e = let same : s ≡ t = cc e in subst (λ x. Stays s x) same (stays-same s)
+present_step-does place s t p (Room asked capacity) here e =
+    let same : s ≡ t = if_so-is ((capacity == length p.bytes) && (nat_le asked capacity
+    || nat_lt p.region.place.len asked)) s t e in
+    subst (λ x. Stays s x) same (stays-same s)
+present_step-does place s t p (Extend size) here e =
+    let same : with_bytes s p (zeros_to size p.bytes) ≡ t =
+    if_so-is (nat_lt (length p.bytes) size && nat_le size p.region.place.len)
+    (with_bytes s p (zeros_to size p.bytes)) t e in
+    subst (λ x. Stays s x) same
+    (record {
+      generation = refl;
+      present = λ q is. let q_is : record p { bytes = zeros_to size p.bytes }
+          ≡ q = cc is in (p, here, sym (ap (λ x. x.root) q_is), sym (ap (λ x. x.region) q_is));
+    })
+present_step-does place s t p (Grow capacity region) here e =
+    let same : with_bytes s (record p { region = region }) (zeros_to capacity p.bytes) ≡ t =
+    if_so-is (nat_lt p.region.place.len capacity && nat_le capacity region.place.len)
+    (with_bytes s (record p { region = region }) (zeros_to capacity p.bytes)) t e in
+    subst (λ x. Grows s x region) same
+    (record {
+      generation = refl;
+      there = p;
+      there_is = here;
+      present = λ q is. let q_is : record p { region = region; bytes = zeros_to capacity p.bytes }
+          ≡ q = cc is in (sym (ap (λ x. x.root) q_is), sym (ap (λ x. x.region) q_is));
+    })
 present_step-does place s t p (End root) here e =
     let same : record s { present = None } ≡ t = if_so-is (same_root root p.root) (record s { present = None }) t e in
     subst (λ x. Stays s x) same (record { generation = refl; present = λ q is. absurd (cc is) })
@@ -117,10 +151,12 @@ births-in_order place (d ∷ ds) s t e =
         (does.here, (does.next, subst (λ n. BornInOrder place n ds t.generation) does.generation rest))
     go _ m does rest = subst (λ n. BornInOrder place n ds t.generation) does.generation rest
 
--- what is present after a history was present before it, or was born in it
+-- what is present after a history was present before it, or was born in it; its region is that of its
+-- last growth
 pub present-origin : (place : ℕ) (ds : List Did) (s t : RootPlace) (p : Present)
     → after (place_step place) s ds ≡ Some t → t.present ≡ Some p →
-    ((q : Present) × (s.present ≡ Some q) × (p.root ≡ q.root) × (p.region ≡ q.region)) ⊎ WasBorn p.root p.region ds
+    ((q : Present) × (s.present ≡ Some q) × (p.root ≡ q.root) × GrewTo q.region ds p.region)
+    ⊎ WasBorn p.root p.region ds
 present-origin place [] s t p e is =
     let same : t ≡ s = cc e in inl (p, subst (λ x. x.present ≡ Some p) same is, refl, refl)
 present-origin place (d ∷ ds) s t p e is =
@@ -129,18 +165,21 @@ present-origin place (d ∷ ds) s t p e is =
     go d f.0 (place_step-does place s f.0 d f.1) (present-origin place ds f.0 t p f.2 is)
   where
     go : (d : Did) (m : RootPlace) → Does place s d m
-        → ((q : Present) × (m.present ≡ Some q) × (p.root ≡ q.root) × (p.region ≡ q.region))
+        → ((q : Present) × (m.present ≡ Some q) × (p.root ≡ q.root) × GrewTo q.region ds p.region)
         ⊎ WasBorn p.root p.region ds →
-        ((q : Present) × (s.present ≡ Some q) × (p.root ≡ q.root) × (p.region ≡ q.region))
+        ((q : Present) × (s.present ≡ Some q) × (p.root ≡ q.root) × GrewTo q.region (d ∷ ds) p.region)
         ⊎ WasBorn p.root p.region (d ∷ ds)
     go d m does (inr later) = inr (inr later)
     go (Birth root region) m does (inl o) =
         let was : (o.0.root ≡ root) × (o.0.region ≡ region) = does.present o.0 o.1 in
-        inr (inl (λ i. Birth (sym (o.2 ∙ was.0) i) (sym (o.3 ∙ was.1) i)))
+        inr (inl (region, ap (λ x. Birth x region) (sym (o.2 ∙ was.0)), subst (λ x. GrewTo x ds p.region) was.1 o.3))
+    go (Grow capacity region) m does (inl o) =
+        let was : (o.0.root ≡ does.there.root) × (o.0.region ≡ region) = does.present o.0 o.1 in
+        inl (does.there, does.there_is, o.2 ∙ was.0, subst (λ x. GrewTo x ds p.region) was.1 o.3)
     go _ m does (inl o) =
         let was : (q : Present) × (s.present ≡ Some q) × (o.0.root ≡ q.root)
         × (o.0.region ≡ q.region) = does.present o.0 o.1 in
-        inl (was.0, was.1, o.2 ∙ was.2, o.3 ∙ was.3)
+        inl (was.0, was.1, o.2 ∙ was.2, subst (λ x. GrewTo x ds p.region) was.3 o.3)
 
 pub was-born : (place : ℕ) (ds : List Did) (s : RootPlace) (p : Present) → place_after place ds ≡ Some s
     → s.present ≡ Some p → WasBorn p.root p.region ds

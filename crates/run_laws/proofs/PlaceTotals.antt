@@ -4,7 +4,7 @@ use Rattle.std.specs.Prelude.{Option, option_and_then, slice_get}
 use Rattle.pool_law.specs.declared.id.RegionId.{RegionId}
 use Rattle.pool_law.specs.declared.note.Object.{Object}
 use Rattle.pool_law.specs.declared.note.Did.{Did}
-use Rattle.pool_law.specs.declared.note.Did.TheVariants.{Birth, End}
+use Rattle.pool_law.specs.declared.note.Did.TheVariants.{Birth, Grow, End}
 use Rattle.pool_law.specs.declared.note.Note.{Note}
 use Rattle.pool_law.specs.declared.note.Note.TheVariants.{At}
 use Rattle.pool_law.specs.Same.{same_region, same_root}
@@ -13,7 +13,7 @@ use Rattle.pool_law.specs.Histories.{after, place_after}
 use Rattle.pool_law.specs.Logs.{Logs, dids, of_lane, history_of, present_in, present_before, region_for}
 use Rattle.run_laws.specs.CacheCounts.{one_of}
 use Rattle.run_laws.specs.HandCounts.{one_same, ended_by}
-use Rattle.run_laws.proofs.PlaceLaw.{place_step-does, Births, Stays}
+use Rattle.run_laws.proofs.PlaceLaw.{place_step-does, Births, Grows, Stays}
 use Rattle.pool_law.proofs.HistoryLemmas.{append-assoc, after-push}
 use Rattle.run_laws.proofs.Sums.{sum_by, sum_over}
 use Rattle.run_laws.proofs.Numbered.{plain, Weight, total_from}
@@ -61,6 +61,16 @@ module _ (logs : Logs) (place : ℕ) (r : RegionId) where
           (omega arith))
           (λ _ e. absurd (cc e))
           is
+  step-ends s t (Grow c x) e =
+      let does : Grows s t x = place_step-does place s t (Grow c x) e in
+      go s.present does.there_is t.present does.present
+    where
+      go : (b : Option Present) → {there : Present} → b ≡ Some there → (o : Option Present)
+          → ((p : Present) → o ≡ Some p → (p.root ≡ there.root) × (p.region ≡ x))
+          → ended_by r (region_for (Grow c x) b) (Grow c x) + here_is r o ≤ here_is r b + one_of (same_region r x)
+      go None here o f = absurd (cc here)
+      go (Some q) here None f = omega arith
+      go (Some q) here (Some p) f = omega (arith, ap (λ y. one_of (same_region r y)) (f p refl).1)
   step-ends s t _ e =
       let does : Stays s t = place_step-does place s t _ e in
       go t.present does.present

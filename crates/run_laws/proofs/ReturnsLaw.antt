@@ -13,8 +13,8 @@ use Rattle.pool_law.specs.declared.run.Shape.{Shape}
 use Rattle.pool_law.specs.Logs.{Logs, Entry, dids, of_lane, history_of, entry_of, entries_of}
 use Rattle.pool_law.specs.Legal.{CountsAgree}
 use Rattle.run_laws.proofs.PagedHistories.{HistoriesPaged}
-use Rattle.pool_law.specs.Lives.{IsUse, Done, cache_of, arena_of}
-use Rattle.run_laws.specs.Conserved.{Returned, ReturnsOnce}
+use Rattle.pool_law.specs.Lives.{Done, cache_of, arena_of}
+use Rattle.run_laws.proofs.BirthLives.{IsUse, Returned, ReturnsOnce}
 use Rattle.run_laws.specs.OneLog.{Counted, HasEnded, StandInOneLog}
 use Rattle.run_laws.specs.Hands.{did_of, Source, Got, Ended, Dropped}
 use Rattle.run_laws.specs.CacheCounts.{one_of, puts}
@@ -220,11 +220,10 @@ module _ (shape : Shape) (logs : Logs) (holds : HistoriesPaged shape logs) (acts
         → FromEnd logs h.end.lane h.to r
     end-from root r u h = record { root = root; used = u; end = h.end; same = refl; held = h.held }
 
-    -- where a region went straight to its arena it was not shed
-    pub straight : (root : RootId) (r : RegionId) → IsUse logs root r → (lane k n : ℕ) → FromEnd logs lane k r
-        → slice_get (of_lane logs lane) k ≡ Some (At (arena_of r) n (Give r)) → Done logs (cache_of r) (Shed r) → ⊥
-    straight root r u lane k n f is s =
-        let kept : Done logs (cache_of r) (Kept r) = shed-kept r s in
+    -- where a region went straight to its arena no cache kept it
+    pub straight-kept : (root : RootId) (r : RegionId) → IsUse logs root r → (lane k n : ℕ) → FromEnd logs lane k r
+        → slice_get (of_lane logs lane) k ≡ Some (At (arena_of r) n (Give r)) → Done logs (cache_of r) (Kept r) → ⊥
+    straight-kept root r u lane k n f is kept =
         let same : (kept.lane ≡ lane) × (kept.at ≡ k) =
         one-way_out root r u kept.lane lane kept.at k
         (kept-from kept.lane kept.at kept.number (cache_of r) r kept.stands) f in
@@ -232,6 +231,11 @@ module _ (shape : Shape) (logs : Logs) (holds : HistoriesPaged shape logs) (acts
         ≡ Some (At (cache_of r) kept.number (Kept r)) =
         (λ i. slice_get (of_lane logs (sym same.0 i)) (sym same.1 i)) ∙ kept.stands in
         absurd (cc (one-note logs lane k (At (arena_of r) n (Give r)) (At (cache_of r) kept.number (Kept r)) is both))
+
+    -- so it was not shed
+    pub straight : (root : RootId) (r : RegionId) → IsUse logs root r → (lane k n : ℕ) → FromEnd logs lane k r
+        → slice_get (of_lane logs lane) k ≡ Some (At (arena_of r) n (Give r)) → Done logs (cache_of r) (Shed r) → ⊥
+    straight root r u lane k n f is s = straight-kept root r u lane k n f is (shed-kept r s)
 
     pub ended-returned : (root : RootId) (r : RegionId) → IsUse logs root r
         → Done logs (Object.Root root.place) (End root) → Returned logs r

@@ -17,13 +17,16 @@ use Rattle.run_laws.proofs.LaneActs.{AnyNote, any-acts}
 use Rattle.run_laws.proofs.LogParts.{Parts, log-parts}
 use Rattle.run_laws.proofs.LogEntries.{LanesAct, entries-at, log-past}
 use Rattle.run_laws.proofs.LifeChain as chain
+use Rattle.run_laws.proofs.BirthLives as old
+use Rattle.run_laws.proofs.AllLives.{regions-so}
+use Rattle.run_laws.proofs.AllUses.{born, apart-so, overlap-so}
+use Rattle.run_laws.proofs.UseReturns.{returns-so, out-so}
 use Rattle.run_laws.proofs.OverlapLaw.{never-overlap}
 use Rattle.run_laws.proofs.ApartLaw.{apart}
 use Rattle.run_laws.specs.Parcels.{PostsWithin, TotalsAreShared}
 use Rattle.run_laws.proofs.ParcelLaw.{total-shared}
 use Rattle.run_laws.proofs.PostLaw.{strays, log-near, posts-within}
 use Rattle.run_laws.proofs.EndLaw.{cache-empty, birth-counts}
-use Rattle.run_laws.proofs.ReturnsLaw.{returns-once}
 use Rattle.run_laws.specs.OneLog.{StandInOneLog}
 use Rattle.run_laws.proofs.OneLogLaw.{stand-in_one_log}
 use Rattle.run_laws.proofs.OutLaw.{out-at_end}
@@ -45,8 +48,8 @@ acts-of run legal lane =
     (log-past (logs_of run) lane (omega (arith, map-length (λ l. l.notes) run.logs, legal.logs, high)))))
     (below-or lane run.shape.lanes)
 
-pub regions-apart : (run : Run) → IsLegal run → LieApart (logs_of run)
-regions-apart run legal = apart run.shape (logs_of run) (paged run legal) (acts-of run legal)
+pub births-apart : (run : Run) → IsLegal run → old.LieApart (logs_of run)
+births-apart run legal = apart run.shape (logs_of run) (paged run legal) (acts-of run legal)
 
 pub logs-length : (run : Run) → IsLegal run → length (logs_of run) ≡ run.shape.lanes
 logs-length run legal = omega (arith, map-length (λ l. l.notes) run.logs, legal.logs)
@@ -58,6 +61,11 @@ parts-of run legal lane low =
     subst (Parts lane) (entries-at (logs_of run) (logs_of run) lane)
     (log-parts run.shape lane (of_lane run.trace.lanes lane) (replies_of run lane)
     (of_lane (entries_of (logs_of run)) lane) (legal.answers lane (omega (arith, low, logs-length run legal))))
+
+pub regions-apart : (run : Run) → IsLegal run → LieApart (logs_of run)
+regions-apart run legal =
+    apart-so run.shape (logs_of run) (paged run legal) (acts-of run legal) (parts-of run legal) legal.counts
+    (births-apart run legal)
 
 pub caches-end_empty : (run : Run) → IsLegal run → CachesEndEmpty run.shape (logs_of run)
 caches-end_empty run legal lane class low cached =
@@ -73,7 +81,7 @@ caches-end_empty run legal lane class low cached =
 
 pub regions-return : (run : Run) → IsLegal run → RegionsReturn (logs_of run)
 regions-return run legal root region used =
-    returns-once run.shape (logs_of run) (paged run legal) (acts-of run legal) (parts-of run legal) legal.counts root
+    returns-so run.shape (logs_of run) (paged run legal) (acts-of run legal) (parts-of run legal) legal.counts root
     region used
 
 pub arenas-end : (run : Run) → IsLegal run → OutAtEnd run.shape (logs_of run)
@@ -83,8 +91,10 @@ arenas-end run legal number =
       ends.0,
       (
         ends.1,
-        out-at_end run.shape (logs_of run) (paged run legal) (acts-of run legal) (parts-of run legal)
-            legal.counts number ends.0 ends.1,
+        out-so run.shape (logs_of run) (paged run legal) (acts-of run legal) (parts-of run legal) legal.counts number
+            ends.0
+            (out-at_end run.shape (logs_of run) (paged run legal) (acts-of run legal) (parts-of run legal)
+            legal.counts number ends.0 ends.1),
       ),
     )
 
@@ -100,15 +110,27 @@ pub totals-are_shared : (run : Run) → IsLegal run → TotalsAreShared (logs_of
 totals-are_shared run legal root region used =
     total-shared run.shape (logs_of run) legal.histories.stand legal.histories.mails root run.shape.lanes
     (omega (arith, logs-length run legal)) (posts-are_near run legal) legal.counts
-    (birth-counts run.shape (logs_of run) (paged run legal) (acts-of run legal) (parts-of run legal) root region used)
+    (birth-counts run.shape (logs_of run) (paged run legal) (acts-of run legal) (parts-of run legal) root region
+    (born run.shape (logs_of run) (paged run legal) (acts-of run legal) (parts-of run legal) legal.counts root region
+    used))
 
 pub roots-in_one_log : (run : Run) → IsLegal run → StandInOneLog (logs_of run)
 roots-in_one_log run legal =
     stand-in_one_log run.shape (logs_of run) (paged run legal) (acts-of run legal) (parts-of run legal) legal.counts
 
-pub regions-live : (run : Run) → IsLegal run → RegionsLive (logs_of run)
-regions-live run legal =
+pub births-live : (run : Run) → IsLegal run → old.RegionsLive (logs_of run)
+births-live run legal =
     chain.regions-live run.shape (logs_of run) (paged run legal) (acts-of run legal) (parts-of run legal) legal.counts
 
+pub regions-live : (run : Run) → IsLegal run → RegionsLive (logs_of run)
+regions-live run legal =
+    regions-so run.shape (logs_of run) (paged run legal) (acts-of run legal) (parts-of run legal) legal.counts
+    (births-live run legal)
+
+pub births-never_overlap : (run : Run) → IsLegal run → old.NeverOverlap (logs_of run)
+births-never_overlap run legal = never-overlap (logs_of run) (births-live run legal) (births-apart run legal)
+
 pub roots-never_overlap : (run : Run) → IsLegal run → NeverOverlap (logs_of run)
-roots-never_overlap run legal = never-overlap (logs_of run) (regions-live run legal) (regions-apart run legal)
+roots-never_overlap run legal =
+    overlap-so run.shape (logs_of run) (paged run legal) (acts-of run legal) (parts-of run legal) legal.counts
+    (births-never_overlap run legal)

@@ -15,8 +15,8 @@ use Rattle.pool_law.specs.Histories.{cache_after}
 use Rattle.pool_law.specs.Logs.{Logs, dids, of_lane, history_of, entry_of, entries_of, note_stands}
 use Rattle.pool_law.specs.Legal.{CountsAgree}
 use Rattle.run_laws.proofs.PagedHistories.{HistoriesPaged}
-use Rattle.pool_law.specs.Lives.{IsUse, cache_of, arena_of, with_uses}
-use Rattle.run_laws.specs.Conserved.{IsHeld}
+use Rattle.pool_law.specs.Lives.{cache_of, arena_of, with_uses}
+use Rattle.run_laws.proofs.BirthLives.{IsUse, IsHeld}
 use Rattle.run_laws.specs.CacheCounts.{times, puts}
 use Rattle.pool_law.proofs.SameLemmas.{and-second}
 use Rattle.pool_law.proofs.PatternLemmas.{same_taking-refl}

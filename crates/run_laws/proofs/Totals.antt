@@ -4,7 +4,7 @@ use Rattle.std.specs.Prelude.{◌≢◌, ◌<◌, ◌==◌, if◌then◌else◌,
 use Rattle.pool_law.specs.declared.id.RegionId.{RegionId}
 use Rattle.pool_law.specs.declared.note.Object.{Object}
 use Rattle.pool_law.specs.declared.note.Did.{Did}
-use Rattle.pool_law.specs.declared.note.Did.TheVariants.{Take, Give, Hit, Shed, Birth}
+use Rattle.pool_law.specs.declared.note.Did.TheVariants.{Take, Give, Hit, Shed, Birth, Grow}
 use Rattle.pool_law.specs.declared.note.Note.{Note}
 use Rattle.pool_law.specs.Same.{same_object, same_region}
 use Rattle.pool_law.specs.Logs.{Logs, History, dids, history_of, entry_of}
@@ -36,9 +36,10 @@ note_tally logs f n = tally_if f (entry_of logs n).region (did_of n)
 abbrev pub total : Logs → Tally → ℕ
 total logs f = sum_over (note_tally logs f) logs
 
--- births with this region
+-- births with this region, and growths into it
 abbrev pub born_by : RegionId → Tally
 born_by r taken (Birth root x) = one_of (same_region r x)
+born_by r taken (Grow c x) = one_of (same_region r x)
 born_by r taken _ = 0
 
 abbrev pub takes : RegionId → Did → ℕ

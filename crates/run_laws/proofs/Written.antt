@@ -1,14 +1,14 @@
 -- The bytes at a root place are those that its notes wrote.
 use Rattle.std.proofs.Common.{⊎_elim, ◌≡◌, ℕ, zero, suc, ◌+◌, ◌-◌, ◌≤◌, List, [], ◌∷◌, ◌++◌, length, take, drop, replicate, get_or, refl, sym, ap, subst, arith, Bool, true, false, Some, None, ◌∙◌, eqb-true, ltb-true, leb-true, le-leb, lt-ltb}
-use Rattle.std.specs.Prelude.{◌<◌, ◌==◌, ◌&&◌, nat_lt, nat_le, if◌then◌else◌, Option}
+use Rattle.std.specs.Prelude.{◌<◌, ◌==◌, ◌&&◌, ◌||◌, nat_lt, nat_le, if◌then◌else◌, Option}
 use Rattle.std.proofs.lemmas.List.{get_or_append_left, get_or-append_right, get_or-drop, get_or-take, length-take-le}
 use Rattle.std.proofs.lemmas.Bool.{cond_both}
 use Rattle.pool_law.specs.declared.note.Object.{Object}
 use Rattle.pool_law.specs.declared.note.Did.{Did}
-use Rattle.pool_law.specs.declared.note.Did.TheVariants.{Birth, Set, Get, Touch, End}
+use Rattle.pool_law.specs.declared.note.Did.TheVariants.{Birth, Set, Get, Touch, Room, Extend, Grow, End}
 use Rattle.pool_law.specs.declared.run.Shape.{Shape}
 use Rattle.pool_law.specs.Same.{same_root, same_bytes}
-use Rattle.pool_law.specs.Roots.{RootPlace, Present, new_place, laid_over, bytes_at, born, may_be_born, with_bytes, place_step, place_step_by}
+use Rattle.pool_law.specs.Roots.{RootPlace, Present, new_place, laid_over, bytes_at, born, zeros_to, may_be_born, with_bytes, place_step, place_step_by}
 use Rattle.pool_law.specs.Histories.{after, place_after}
 use Rattle.pool_law.specs.Logs.{Logs, dids, history_of}
 use Rattle.pool_law.specs.Legal.{HistoriesHold}
@@ -73,6 +73,15 @@ zeros-byte zero (suc i) = refl
 zeros-byte (suc n) zero = refl
 zeros-byte (suc n) (suc i) = zeros-byte n i
 
+-- zeros behind bytes are what is there without them
+pub zeros_to-byte : (size : ℕ) (bytes : List ℕ) (i : ℕ) → get_or (zeros_to size bytes) i 0 ≡ get_or bytes i 0
+zeros_to-byte size bytes i = go bytes i (size - length bytes)
+  where
+    go : (xs : List ℕ) (i n : ℕ) → get_or (xs ++ replicate n 0) i 0 ≡ get_or xs i 0
+    go [] i n = zeros-byte n i
+    go (x ∷ xs) zero n = refl
+    go (x ∷ xs) (suc i) n = go xs i n
+
 -- the bytes of what is present are those that the notes at its place wrote
 abbrev pub Holds : ℕ → ℕ → RootPlace → Type 0
 Holds i old s = (p : Present) → s.present ≡ Some p → get_or p.bytes i 0 ≡ old
@@ -107,6 +116,23 @@ step-written place i old s t d e holds = go s.present refl d e
         (bytes_at q.bytes offset (length bytes))) s t is in
         holds p (ap (λ x. x.present) same ∙ present)
     go (Some q) here Touch is p present = let same : s ≡ t = cc is in holds p (ap (λ x. x.present) same ∙ present)
+    go (Some q) here (Room asked capacity) is p present =
+        let same : s ≡ t = if_so-is ((capacity == length q.bytes) && (nat_le asked capacity
+        || nat_lt q.region.place.len asked)) s t is in
+        holds p (ap (λ x. x.present) same ∙ present)
+    go (Some q) here (Extend size) is p present =
+        let same : with_bytes s q (zeros_to size q.bytes) ≡ t =
+        if_so-is (nat_lt (length q.bytes) size && nat_le size q.region.place.len)
+        (with_bytes s q (zeros_to size q.bytes)) t is in
+        let p_is : record q { bytes = zeros_to size q.bytes } ≡ p = cc (ap (λ x. x.present) same ∙ present) in
+        ap (λ x. get_or x.bytes i 0) (sym p_is) ∙ zeros_to-byte size q.bytes i ∙ holds q here
+    go (Some q) here (Grow capacity region) is p present =
+        let same : with_bytes s (record q { region = region }) (zeros_to capacity q.bytes) ≡ t =
+        if_so-is (nat_lt q.region.place.len capacity && nat_le capacity region.place.len)
+        (with_bytes s (record q { region = region }) (zeros_to capacity q.bytes)) t is in
+        let p_is : record q { region = region; bytes = zeros_to capacity q.bytes } ≡ p =
+        cc (ap (λ x. x.present) same ∙ present) in
+        ap (λ x. get_or x.bytes i 0) (sym p_is) ∙ zeros_to-byte capacity q.bytes i ∙ holds q here
     go (Some q) here (End root) is p present =
         let same : record s { present = None } ≡ t =
         if_so-is (same_root root q.root) (record s { present = None }) t is in

@@ -2,14 +2,14 @@
 use Rattle.std.specs.Prelude.{◌≡◌, ℕ, ◌+◌, [], ◌∷◌, Option, Some, None}
 use Rattle.pool_law.specs.declared.id.RegionId.{RegionId}
 use Rattle.pool_law.specs.declared.note.Did.{Did}
-use Rattle.pool_law.specs.declared.note.Did.TheVariants.{Take, Give, Hit, Kept, Shed, Birth, End}
+use Rattle.pool_law.specs.declared.note.Did.TheVariants.{Take, Give, Hit, Kept, Shed, Birth, Grow, End}
 use Rattle.pool_law.specs.Same.{same_region}
 use Rattle.run_laws.specs.CacheCounts.{one_of}
 use Rattle.run_laws.specs.Hands.{did_of}
 use Rattle.pool_law.specs.Readers.{Entries}
 use Rattle.pool_law.specs.Patterns.{one_more}
 
--- a number for what was done, with the region that an end takes out
+-- a number for what was done, with the region that an end takes out, or that a growth leaves
 abbrev pub Tally : Type 0
 Tally = Option RegionId → Did → ℕ
 
@@ -30,13 +30,15 @@ got_by r taken (Take class x) = one_of (same_region r x)
 got_by r taken (Hit x) = one_of (same_region r x)
 got_by r taken _ = 0
 
--- a birth uses a region that has one use less
+-- a birth and a growth use a region that has one use less
 abbrev pub used_by : RegionId → Tally
 used_by r taken (Birth root x) = one_of (same_region (one_more r) x)
+used_by r taken (Grow capacity x) = one_of (same_region (one_more r) x)
 used_by r taken _ = 0
 
 abbrev pub ended_by : RegionId → Tally
 ended_by r taken (End root) = one_same r taken
+ended_by r taken (Grow capacity x) = one_same r taken
 ended_by r taken _ = 0
 
 abbrev pub shed_by : RegionId → Tally

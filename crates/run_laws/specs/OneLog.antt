@@ -25,16 +25,20 @@ abbrev pub EndsOnce : Logs → RootId → Type 0
 EndsOnce logs root =
     (a b : Done logs (Object.Root root.place) (Did.End root)) → (a.lane ≡ b.lane) × (a.at ≡ b.at)
 
+-- a root is born with the region
+abbrev pub IsBirth : Logs → RootId → RegionId → Type 0
+IsBirth logs root region = Done logs (Object.Root root.place) (Did.Birth root region)
+
 -- the birth of a root stands only once, whatever the region
 abbrev pub BornOnce : Logs → RootId → Type 0
 BornOnce logs root =
-    (r q : RegionId) (a : IsUse logs root r) (b : IsUse logs root q) →
+    (r q : RegionId) (a : IsBirth logs root r) (b : IsBirth logs root q) →
     (a.lane ≡ b.lane) × (a.at ≡ b.at)
 
 -- a root is born in one log: its birth, and then the step that sets its word, each once
 pub record IsBorn (logs : Logs) (root : RootId) : Type 0 where
   pub region : RegionId
-  pub birth : IsUse logs root region
+  pub birth : IsBirth logs root region
   pub set : Counted logs root RefDid.Born
   pub same_log : set.lane ≡ birth.lane
   pub order : birth.at < set.at
@@ -53,9 +57,10 @@ pub record HasEnded (logs : Logs) (root : RootId) : Type 0 where
   pub end_once : EndsOnce logs root
   pub vacated_once : CountedOnce logs root RefDid.Vacated
 
--- where one of these notes of a root stands, all of them do
+-- where one of these notes of a root stands, all of them do; so what uses a region was born
 pub record StandInOneLog (logs : Logs) : Type 0 where
-  pub born : (root : RootId) (region : RegionId) → IsUse logs root region → IsBorn logs root
+  pub used : (root : RootId) (region : RegionId) → IsUse logs root region → IsBorn logs root
+  pub born : (root : RootId) (region : RegionId) → IsBirth logs root region → IsBorn logs root
   pub set : (root : RootId) → Counted logs root RefDid.Born → IsBorn logs root
   pub ended : (root : RootId) → Counted logs root RefDid.Ended → HasEnded logs root
   pub end : (root : RootId) → Done logs (Object.Root root.place) (Did.End root) →

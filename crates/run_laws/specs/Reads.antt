@@ -5,12 +5,12 @@ use Rattle.pool_law.specs.declared.id.Part.{Part}
 use Rattle.pool_law.specs.declared.command.Command.{Command}
 use Rattle.pool_law.specs.declared.note.Object.{Object}
 use Rattle.pool_law.specs.declared.note.Did.{Did}
-use Rattle.pool_law.specs.declared.note.Did.TheVariants.{Birth, Set}
+use Rattle.pool_law.specs.declared.note.Did.TheVariants.{Take, Full, Give, Hit, Miss, Kept, Back, Trim, Close, Shed, Handle, NoHandle, Home, Post, Fetch, Birth, Set, Get, Touch, Room, Extend, Grow, End}
 use Rattle.pool_law.specs.declared.note.Note.{Note}
 use Rattle.pool_law.specs.declared.note.Note.TheVariants.{At}
 use Rattle.pool_law.specs.declared.run.Reply.{Reply}
 use Rattle.pool_law.specs.declared.run.Run.{Run}
-use Rattle.pool_law.specs.Logs.{Logs, Entry, dids, history_of, of_lane, entry_of, entries_of, present_before}
+use Rattle.pool_law.specs.Logs.{Logs, Entry, dids, history_of, of_lane, entry_of, entries_of, root_before}
 use Rattle.pool_law.specs.Caches.{if_so}
 use Rattle.pool_law.specs.Options.{◌>>=◌}
 use Rattle.pool_law.specs.Names.{has_range, has_to_read, reader_of, parts_at}
@@ -23,12 +23,33 @@ use Rattle.pool_law.specs.Legal.{logs_of, replies_of}
 abbrev pub covers : ℕ → List ℕ → ℕ → Bool
 covers offset bytes i = nat_le offset i && nat_lt i (offset + length bytes)
 
--- the byte at an index of a root after a note at its place: zero at its birth, then what is set
+-- the byte at an index of a root after a note at its place: zero at its birth, then what is set; so
+-- what a growth adds is zero, since nothing was set there
 abbrev pub byte_after : ℕ → ℕ → Did → ℕ
 byte_after i old (Birth root region) = 0
 byte_after i old (Set offset bytes) =
     if covers offset bytes i then get_or bytes (i - offset) 0 else old
-byte_after i old _ = old
+byte_after i old (Take class region) = old
+byte_after i old (Full class) = old
+byte_after i old (Give region) = old
+byte_after i old (Hit region) = old
+byte_after i old Miss = old
+byte_after i old (Kept region) = old
+byte_after i old (Back region why) = old
+byte_after i old (Trim quota) = old
+byte_after i old (Close quota) = old
+byte_after i old (Shed region) = old
+byte_after i old (Handle place) = old
+byte_after i old NoHandle = old
+byte_after i old (Home place) = old
+byte_after i old (Post parcel) = old
+byte_after i old (Fetch parcel) = old
+byte_after i old (Get offset bytes) = old
+byte_after i old Touch = old
+byte_after i old (Room asked capacity) = old
+byte_after i old (Extend size) = old
+byte_after i old (Grow capacity region) = old
+byte_after i old (End root) = old
 
 -- the byte that was last written at an index, after these notes
 abbrev pub last_written : ℕ → ℕ → List Did → ℕ
@@ -64,10 +85,6 @@ IsBefore run lane number s =
     lane_run sweep_period run.shape lane new_lane
     (take number (of_lane run.trace.lanes lane)) (take number (groups_of run lane))
     ≡ Some (take number (replies_in (replies_of run lane)), s)
-
--- the root that is present as a note comes
-abbrev pub root_before : Logs → ℕ → ℕ → Option RootId
-root_before logs place number = option_map (λ p. p.root) (present_before logs place number)
 
 -- an entry gets these bytes of a part: of the root that is present, at the part's offset, and each
 -- is the byte that was last written there

@@ -141,3 +141,48 @@ false_full = (at_arena 1 (Did.Full 0) ∷ []) ∷ []
 -- a cache gives what it never kept
 abbrev pub false_hit : Logs
 false_hit = (at_cache 1 (Did.Hit (first_taking 1)) ∷ []) ∷ []
+
+-- ---- Growths.
+
+-- a second taking, of the next class, after so many uses
+abbrev pub wider_taking : ℕ → RegionId
+wider_taking uses =
+    record {
+      place = record { arena = 0; chunk = 0; offset = 8192; len = 32 };
+      class = 1;
+      taking = 2;
+      uses = uses;
+      owner = 0;
+    }
+
+-- a root is born, a wider region is taken for it, and these notes follow
+abbrev pub grows_by : List Note → Logs
+grows_by notes =
+    (at_arena 1 (Did.Take 0 (first_taking 0))
+    ∷ at_root 0 1 (Did.Birth (byte_root 0) (first_taking 1))
+    ∷ Ref (byte_root 0) RefDid.Born
+    ∷ at_arena 2 (Did.Take 1 (wider_taking 0))
+    ∷ notes)
+    ∷ []
+
+-- its growth
+abbrev pub growth : Note
+growth = at_root 0 2 (Did.Grow 17 (wider_taking 1))
+
+-- the region that it leaves does not return
+abbrev pub grown_and_held : Logs
+grown_and_held = grows_by (growth ∷ [])
+
+-- it returns twice
+abbrev pub grown_and_returned_twice : Logs
+grown_and_returned_twice =
+    grows_by
+    (growth ∷ at_cache 1 (Did.Kept (first_taking 1)) ∷ at_arena 3 (Did.Give (first_taking 1)) ∷ [])
+
+-- it returns before the root has left it
+abbrev pub grown_after_return : Logs
+grown_after_return = grows_by (at_cache 1 (Did.Kept (first_taking 1)) ∷ growth ∷ [])
+
+-- the growth does not count as a use
+abbrev pub grown_uncounted : Logs
+grown_uncounted = grows_by (at_root 0 2 (Did.Grow 17 (wider_taking 0)) ∷ [])

@@ -20,7 +20,7 @@ ghost use Rattle.pool_law.specs.Legal.{IsLegal, logs_of};
 ghost use Rattle.run_laws.specs.Conserved.{ReturnsOnce, CachesEndEmpty, RegionsReturn, OutAtEnd};
 ghost use Rattle.run_laws.specs.Reads.{ReadsGiveWritten};
 ghost use Rattle.run_laws.specs.Reported.{ListsLeaks};
-ghost use Rattle.run_laws.specs.Refused.{first_taking, byte_root, given_while_live, given_alive, kept_alive, given_and_kept, kept_and_given, given_late, ended_twice, kept_elsewhere, false_full, false_hit};
+ghost use Rattle.run_laws.specs.Refused.{first_taking, byte_root, given_while_live, given_alive, kept_alive, given_and_kept, kept_and_given, given_late, ended_twice, kept_elsewhere, false_full, false_hit, grown_and_held, grown_and_returned_twice, grown_after_return, grown_uncounted};
 ghost use Rattle.run_laws.specs.RefusedRuns.{shape_of, stale, swapped, read_early, set_unnoted, read_past, touched, leaks_turned};
 ghost use Rattle.run_laws.specs.Headline.{Headline};
 ghost use Rattle.run_laws.specs.OneLog.{StandInOneLog};
@@ -147,6 +147,15 @@ pub fn forged_notes_are_refused()
     ensures kept_elsewhere { RegionsLive kept_elsewhere → ⊥ }
     ensures false_full { OutAtEnd (shape_of 1 1) false_full → ⊥ }
     ensures false_hit { CachesEndEmpty (shape_of 1 1) false_hit → ⊥ }
+{}
+
+/// Growths that no pool makes are refused: one that holds the region that the root leaves, or returns
+/// it twice, or before; and one that does not count as a use of the region that the root goes on in.
+pub fn forged_growths_are_refused()
+    ensures held { ReturnsOnce grown_and_held (byte_root 0) (first_taking 1) → ⊥ }
+    ensures twice { ReturnsOnce grown_and_returned_twice (byte_root 0) (first_taking 1) → ⊥ }
+    ensures before { ReturnsOnce grown_after_return (byte_root 0) (first_taking 1) → ⊥ }
+    ensures uncounted { RegionsLive grown_uncounted → ⊥ }
 {}
 
 /// Runs that no pool makes are refused: a read of what was there before; one of a composite's parts

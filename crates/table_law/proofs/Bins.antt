@@ -8,7 +8,7 @@ use native.Mathlib.Decide.{ℕ_discrete, dec_le}
 use Rattle.size_classes.specs.Sizes.{below}
 use Rattle.pool_law.specs.declared.run.Shape.{Shape}
 use Rattle.pool_law.specs.declared.note.Did.{Did}
-use Rattle.pool_law.specs.declared.note.Did.TheVariants.{Take, Full, Give, Hit, Miss, Kept, Back, Trim, Close, Shed, Handle, NoHandle, Home, Birth, Set, Get, Touch, End}
+use Rattle.pool_law.specs.declared.note.Did.TheVariants.{Take, Full, Give, Hit, Miss, Kept, Back, Trim, Close, Shed, Handle, NoHandle, Home, Birth, Set, Get, Touch, Room, Extend, Grow, End}
 use Rattle.pool_law.specs.declared.note.Object.{Object}
 use Rattle.pool_law.specs.declared.note.Object.TheVariants.{Arena, Cache, Bin, Mail, Root}
 use Rattle.pool_law.specs.declared.note.Noted.{Noted}
@@ -194,6 +194,9 @@ place_placed s o p n x y (End r) t = (λ p. inl refl, λ p g. inl refl)
 place_placed s o p n x y (Set i bs) t = (λ p. inl refl, λ p g. inl refl)
 place_placed s o p n x y (Get i bs) t = (λ p. inl refl, λ p g. inl refl)
 place_placed s o p n x y Touch t = (λ p. inl refl, λ p g. inl refl)
+place_placed s o p n x y (Room asked c) t = (λ p. inl refl, λ p g. inl refl)
+place_placed s o p n x y (Extend c) t = (λ p. inl refl, λ p g. inl refl)
+place_placed s o p n x y (Grow c z) t = (λ p. inl refl, λ p g. inl refl)
 place_placed s o p n x y d t = absurd t
 
 -- a place is taken and comes home only at the bin of its lane

@@ -1,14 +1,14 @@
 -- What one accepted note does to a root place, as far as roots and regions go.
 use Rattle.std.proofs.Common.{◌≡◌, ℕ, ◌+◌, length, Bool, true, sym, refl, ap, ◌∙◌, subst, eqb-true, Some, None}
-use Rattle.std.specs.Prelude.{◌==◌, ◌&&◌, nat_le, Option, option_map}
+use Rattle.std.specs.Prelude.{◌==◌, ◌&&◌, ◌||◌, nat_lt, nat_le, Option, option_map}
 use Rattle.pool_law.specs.declared.id.RootId.{RootId}
 use Rattle.pool_law.specs.declared.id.RegionId.{RegionId}
 use Rattle.pool_law.specs.declared.note.Did.{Did}
-use Rattle.pool_law.specs.declared.note.Did.TheVariants.{Birth, Set, Get, Touch, End}
+use Rattle.pool_law.specs.declared.note.Did.TheVariants.{Birth, Set, Get, Touch, Room, Extend, Grow, End}
 use Rattle.pool_law.specs.declared.note.Noted.{Noted}
 use Rattle.pool_law.specs.Same.{same_root, same_bytes}
 use Rattle.pool_law.specs.Caches.{if_so}
-use Rattle.pool_law.specs.Roots.{RootPlace, Present, place_step, place_step_by, may_be_born, born, laid_over, bytes_at, with_bytes}
+use Rattle.pool_law.specs.Roots.{RootPlace, Present, place_step, place_step_by, may_be_born, born, laid_over, bytes_at, with_bytes, zeros_to}
 use Rattle.pool_law.specs.Logs.{region_for}
 use Rattle.table_law.proofs.Names.{and-first, and-second, same_root-is}
 use Rattle.table_law.proofs.BinSteps.{so}
@@ -42,13 +42,25 @@ pub record IsEnd (x : RootPlace) (r : RootId) (region : Option RegionId) (y : Ro
   pub generation : y.generation ≡ x.generation
   pub vacant : y.present ≡ None
 
--- the root place x with the number p becomes y; the note of an end carries the region
+-- the root stays, and goes on in another region
+pub record IsGrowth (x : RootPlace) (z : RegionId) (region : Option RegionId) (y : RootPlace) : Type 0 where
+  pub root : RootId
+  pub there : root_in x ≡ Some root
+  pub taken_out : region_in x ≡ region
+  pub generation : y.generation ≡ x.generation
+  pub same_root : root_in y ≡ root_in x
+  pub into : region_in y ≡ Some z
+
+-- the root place x with the number p becomes y; the note of an end or a growth carries the region
 abbrev pub IsPlaceStep : ℕ → RootPlace → Did → Option RegionId → RootPlace → Type 0
 IsPlaceStep p x (Birth r z) region y = IsBirth p x r z y
 IsPlaceStep p x (End r) region y = IsEnd x r region y
 IsPlaceStep p x (Set i bs) region y = IsSamePlace x y
 IsPlaceStep p x (Get i bs) region y = IsSamePlace x y
 IsPlaceStep p x Touch region y = IsSamePlace x y
+IsPlaceStep p x (Room asked c) region y = IsSamePlace x y
+IsPlaceStep p x (Extend c) region y = IsSamePlace x y
+IsPlaceStep p x (Grow c z) region y = IsGrowth x z region y
 IsPlaceStep p x d region y = ⊥
 
 -- what is present in the place was born there
@@ -123,7 +135,33 @@ module _ (p : ℕ) (x y : RootPlace) where
         (λ w e. let h : Some w ≡ None = sym e ∙ none in absurd (cc h)),
       )
 
-  -- a place step, where the note knows the region that an end takes out
+  -- a root that grows stays, with its bytes and zeros behind them
+  growth_told : (q : Present) (c : ℕ) (z : RegionId) (region : Option RegionId) → x.present ≡ Some q
+      → region ≡ Some q.region →
+      if_so (nat_lt q.region.place.len c && nat_le c z.place.len)
+      (with_bytes x (record q { region = z }) (zeros_to c q.bytes)) ≡ Some y → FitsPlace p x
+      → IsGrowth x z region y × FitsPlace p y
+  growth_told q c z region is carried e fits =
+      let f = so (nat_lt q.region.place.len c && nat_le c z.place.len)
+      (with_bytes x (record q { region = z }) (zeros_to c q.bytes)) y e in
+      let here : root_in x ≡ Some q.root = ap (λ (o : Option Present). option_map (λ (v : Present). v.root) o) is in (
+        record {
+          root = q.root;
+          there = here;
+          taken_out = ap (λ (o : Option Present). option_map (λ (v : Present). v.region) o) is ∙ sym carried;
+          generation = ap (λ (v : RootPlace). v.generation) (sym f.1);
+          same_root = ap root_in (sym f.1) ∙ sym here;
+          into = ap region_in (sym f.1);
+        },
+        subst (FitsPlace p) f.1 (λ w e.
+            let g : w.root ≡ q.root = (let h : Some q.root
+            ≡ Some w.root =
+            ap (λ (o : Option Present). option_map (λ (v : Present). v.root) o) e in sym (cc h)) in
+            let old = fits q is in
+            (ap (λ (v : RootId). v.place) g ∙ old.0, ap (λ (v : RootId). v.generation) g ∙ old.1)),
+      )
+
+  -- a place step, where the note knows the region that an end takes out or a growth leaves
   pub place_told : (n : Noted) → FitsPlace p x → n.region ≡ region_for n.did x.present → place_step p x n.did ≡ Some y
       → IsPlaceStep p x n.did n.region y × FitsPlace p y
   place_told n fits region e = by n.did x.present refl region e
@@ -148,5 +186,16 @@ module _ (p : ℕ) (x y : RootPlace) where
       by Touch (Some q) is region e =
           same_place_told q x true is (ap (λ (o : Option Present). option_map (λ (v : Present). v.root) o) is)
           (ap (λ (o : Option Present). option_map (λ (v : Present). v.region) o) is) refl e fits
+      by (Room asked c) None is region e = absurd (cc e)
+      by (Room asked c) (Some q) is region e =
+          same_place_told q x ((c == length q.bytes) && (nat_le asked c || nat_lt q.region.place.len asked)) is
+          (ap (λ (o : Option Present). option_map (λ (v : Present). v.root) o) is)
+          (ap (λ (o : Option Present). option_map (λ (v : Present). v.region) o) is) refl e fits
+      by (Extend c) None is region e = absurd (cc e)
+      by (Extend c) (Some q) is region e =
+          same_place_told q (with_bytes x q (zeros_to c q.bytes))
+          (nat_lt (length q.bytes) c && nat_le c q.region.place.len) is refl refl refl e fits
+      by (Grow c z) None is region e = absurd (cc e)
+      by (Grow c z) (Some q) is region e = growth_told q c z n.region is region e fits
       by d None is region e = absurd (cc e)
       by d (Some q) is region e = absurd (cc e)

@@ -5,7 +5,7 @@ use Rattle.std.proofs.lemmas.List.Sums.{sum_by-cons, sum_by_push}
 use Rattle.pool_law.specs.declared.run.Shape.{Shape}
 use Rattle.pool_law.specs.declared.id.RegionId.{RegionId}
 use Rattle.pool_law.specs.declared.note.Did.{Did}
-use Rattle.pool_law.specs.declared.note.Did.TheVariants.{Take, Full, Give, Hit, Miss, Kept, Back, Trim, Close, Shed, Birth, Set, Get, Touch, End}
+use Rattle.pool_law.specs.declared.note.Did.TheVariants.{Take, Full, Give, Hit, Miss, Kept, Back, Trim, Close, Shed, Birth, Set, Get, Touch, Room, Extend, Grow, End}
 use Rattle.pool_law.specs.declared.note.Object.TheVariants.{Arena, Cache, Root}
 use Rattle.pool_law.specs.declared.note.Noted.{Noted}
 use Rattle.pool_law.specs.Same.{same_taking}
@@ -87,11 +87,18 @@ place_step w p x (End r) region y s =
     let u = ap (weight_or w) s.taken_out in let v = ap (weight_or w) (none_out y s.vacant) in let o : weight_or w None
     ≡ 0 = refl in
     omega (arith, u, v, o)
+place_step w p x (Grow c z) region y s =
+    let u = ap (weight_or w) s.taken_out in let v = ap (weight_or w) s.into in let t : weight_or w (Some z) ≡ w z = refl
+    in omega (arith, u, v, t)
 place_step w p x (Set i bs) region y s =
     let u = ap (weight_or w) s.same_region in let o : weight_or w None ≡ 0 = refl in omega (arith, u, o)
 place_step w p x (Get i bs) region y s =
     let u = ap (weight_or w) s.same_region in let o : weight_or w None ≡ 0 = refl in omega (arith, u, o)
 place_step w p x Touch region y s =
+    let u = ap (weight_or w) s.same_region in let o : weight_or w None ≡ 0 = refl in omega (arith, u, o)
+place_step w p x (Room asked c) region y s =
+    let u = ap (weight_or w) s.same_region in let o : weight_or w None ≡ 0 = refl in omega (arith, u, o)
+place_step w p x (Extend c) region y s =
     let u = ap (weight_or w) s.same_region in let o : weight_or w None ≡ 0 = refl in omega (arith, u, o)
 place_step w p x d region y s = absurd s
 
@@ -153,10 +160,13 @@ cache_next s w l c h n x more e =
 place_front : (w : RegionId → ℕ) (p : ℕ) (x : RootPlace) (d : Did) (region : Option RegionId) (y : RootPlace)
     → IsPlaceStep p x d region y → weight_or w (ended_region d region) ≤ weight_or w (region_in x)
 place_front w p x (End r) region y s = let u = ap (weight_or w) s.taken_out in omega (arith, u)
+place_front w p x (Grow c z) region y s = let u = ap (weight_or w) s.taken_out in omega (arith, u)
 place_front w p x (Birth r z) region y s = let o : weight_or w None ≡ 0 = refl in omega (arith, o)
 place_front w p x (Set i bs) region y s = let o : weight_or w None ≡ 0 = refl in omega (arith, o)
 place_front w p x (Get i bs) region y s = let o : weight_or w None ≡ 0 = refl in omega (arith, o)
 place_front w p x Touch region y s = let o : weight_or w None ≡ 0 = refl in omega (arith, o)
+place_front w p x (Room asked c) region y s = let o : weight_or w None ≡ 0 = refl in omega (arith, o)
+place_front w p x (Extend c) region y s = let o : weight_or w None ≡ 0 = refl in omega (arith, o)
 place_front w p x d region y s = absurd s
 
 pub place_next : (s : Shape) (w : RegionId → ℕ) (p : ℕ) (h : List Noted) (n : Noted) (x : RootPlace)

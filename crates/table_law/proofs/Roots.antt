@@ -8,7 +8,7 @@ use Rattle.pool_law.specs.declared.run.Shape.{Shape}
 use Rattle.pool_law.specs.declared.id.RootId.{RootId}
 use Rattle.pool_law.specs.declared.id.RegionId.{RegionId}
 use Rattle.pool_law.specs.declared.note.Did.{Did}
-use Rattle.pool_law.specs.declared.note.Did.TheVariants.{Take, Full, Give, Hit, Miss, Kept, Back, Trim, Close, Shed, Handle, NoHandle, Home, Birth, Set, Get, Touch, End}
+use Rattle.pool_law.specs.declared.note.Did.TheVariants.{Take, Full, Give, Hit, Miss, Kept, Back, Trim, Close, Shed, Handle, NoHandle, Home, Birth, Set, Get, Touch, Room, Extend, Grow, End}
 use Rattle.pool_law.specs.declared.note.Object.{Object}
 use Rattle.pool_law.specs.declared.note.Object.TheVariants.{Arena, Cache, Bin, Mail, Root}
 use Rattle.pool_law.specs.declared.note.Noted.{Noted}
@@ -105,6 +105,9 @@ step_ends p x (End r) region y e t k =
 step_ends p x (Set i bs) region y e t k = stays p x y e (λ g. e g + 0) t.generation t.same_root (λ g. omega arith) k
 step_ends p x (Get i bs) region y e t k = stays p x y e (λ g. e g + 0) t.generation t.same_root (λ g. omega arith) k
 step_ends p x Touch region y e t k = stays p x y e (λ g. e g + 0) t.generation t.same_root (λ g. omega arith) k
+step_ends p x (Room asked c) region y e t k = stays p x y e (λ g. e g + 0) t.generation t.same_root (λ g. omega arith) k
+step_ends p x (Extend c) region y e t k = stays p x y e (λ g. e g + 0) t.generation t.same_root (λ g. omega arith) k
+step_ends p x (Grow c z) region y e t k = stays p x y e (λ g. e g + 0) t.generation t.same_root (λ g. omega arith) k
 step_ends p x d region y e t k = absurd t
 
 abbrev ended : ℕ → ℕ → List Noted → ℕ
@@ -147,6 +150,9 @@ step_births p x (End r) region y t = let b = t.generation in omega (arith, b)
 step_births p x (Set i bs) region y t = let b = t.generation in omega (arith, b)
 step_births p x (Get i bs) region y t = let b = t.generation in omega (arith, b)
 step_births p x Touch region y t = let b = t.generation in omega (arith, b)
+step_births p x (Room asked c) region y t = let b = t.generation in omega (arith, b)
+step_births p x (Extend c) region y t = let b = t.generation in omega (arith, b)
+step_births p x (Grow c z) region y t = let b = t.generation in omega (arith, b)
 step_births p x d region y t = absurd t
 
 sum_none : (h : List Noted) → sum_by (λ (n : Noted). 0) h ≡ 0
@@ -201,6 +207,12 @@ step_born p x (Set i bs) region y e t k =
 step_born p x (Get i bs) region y e t k =
     same_born x.generation y.generation e (λ g. e g + 0) t.generation (λ g. omega arith) k
 step_born p x Touch region y e t k =
+    same_born x.generation y.generation e (λ g. e g + 0) t.generation (λ g. omega arith) k
+step_born p x (Room asked c) region y e t k =
+    same_born x.generation y.generation e (λ g. e g + 0) t.generation (λ g. omega arith) k
+step_born p x (Extend c) region y e t k =
+    same_born x.generation y.generation e (λ g. e g + 0) t.generation (λ g. omega arith) k
+step_born p x (Grow c z) region y e t k =
     same_born x.generation y.generation e (λ g. e g + 0) t.generation (λ g. omega arith) k
 step_born p x d region y e t k = absurd t
 
@@ -261,6 +273,9 @@ step_present p x (End q) region y r t is = none_some r (sym (none_in y t.vacant)
 step_present p x (Set i bs) region y r t is = inl (sym t.same_root ∙ is)
 step_present p x (Get i bs) region y r t is = inl (sym t.same_root ∙ is)
 step_present p x Touch region y r t is = inl (sym t.same_root ∙ is)
+step_present p x (Room asked c) region y r t is = inl (sym t.same_root ∙ is)
+step_present p x (Extend c) region y r t is = inl (sym t.same_root ∙ is)
+step_present p x (Grow c z) region y r t is = inl (sym t.same_root ∙ is)
 step_present p x d region y r t is = absurd t
 
 run_present : (p : ℕ) (h : List Noted) (x y : RootPlace) (r : RootId) → Runs (place_note p) x h y → root_in y ≡ Some r →
@@ -343,6 +358,9 @@ root_rooted p x (End r) region y f t q = dite (ℕ_discrete r.place q)
 root_rooted p x (Set i bs) region y f t q = inl (refl, λ g. refl)
 root_rooted p x (Get i bs) region y f t q = inl (refl, λ g. refl)
 root_rooted p x Touch region y f t q = inl (refl, λ g. refl)
+root_rooted p x (Room asked c) region y f t q = inl (refl, λ g. refl)
+root_rooted p x (Extend c) region y f t q = inl (refl, λ g. refl)
+root_rooted p x (Grow c z) region y f t q = inl (refl, λ g. refl)
 root_rooted p x d region y f t q = absurd t
 
 -- the root that is present is of its place

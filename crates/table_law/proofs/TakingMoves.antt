@@ -6,7 +6,7 @@ use native.Mathlib.Decide.{ℕ_discrete}
 use Rattle.pool_law.specs.declared.run.Shape.{Shape}
 use Rattle.pool_law.specs.declared.id.RegionId.{RegionId}
 use Rattle.pool_law.specs.declared.note.Did.{Did}
-use Rattle.pool_law.specs.declared.note.Did.TheVariants.{Take, Full, Give, Hit, Miss, Kept, Back, Trim, Close, Shed, Handle, NoHandle, Home, Birth, Set, Get, Touch, End}
+use Rattle.pool_law.specs.declared.note.Did.TheVariants.{Take, Full, Give, Hit, Miss, Kept, Back, Trim, Close, Shed, Handle, NoHandle, Home, Birth, Set, Get, Touch, Room, Extend, Grow, End}
 use Rattle.pool_law.specs.declared.note.Object.{Object}
 use Rattle.pool_law.specs.declared.note.Object.TheVariants.{Arena, Cache, Bin, Mail, Root}
 use Rattle.pool_law.specs.declared.note.Noted.{Noted}
@@ -78,9 +78,12 @@ root_regioned : (p : ℕ) (x : RootPlace) (e : Noted) (d : Did) (region : Option
     → IsPlaceStep p x d region y → (g : RegionId) → IsRegioned (Root p) (with_did e d) g
 root_regioned p x e (Birth r z) region y s g = record { arena = inl refl; cache = inl refl; place = inr (p, refl) }
 root_regioned p x e (End r) region y s g = record { arena = inl refl; cache = inl refl; place = inr (p, refl) }
+root_regioned p x e (Grow c z) region y s g = record { arena = inl refl; cache = inl refl; place = inr (p, refl) }
 root_regioned p x e (Set i bs) region y s g = nothing (Root p) (with_did e (Set i bs)) g refl refl refl
 root_regioned p x e (Get i bs) region y s g = nothing (Root p) (with_did e (Get i bs)) g refl refl refl
 root_regioned p x e Touch region y s g = nothing (Root p) (with_did e Touch) g refl refl refl
+root_regioned p x e (Room asked c) region y s g = nothing (Root p) (with_did e (Room asked c)) g refl refl refl
+root_regioned p x e (Extend c) region y s g = nothing (Root p) (with_did e (Extend c)) g refl refl refl
 root_regioned p x e d region y s g = absurd s
 
 -- a taking leaves and enters its arena, caches and root places only by the notes of these

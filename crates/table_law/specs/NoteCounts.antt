@@ -6,7 +6,7 @@ use Rattle.pool_law.specs.declared.id.ViewData.{ViewData}
 use Rattle.pool_law.specs.declared.id.RootId.{RootId}
 use Rattle.pool_law.specs.declared.id.RegionId.{RegionId}
 use Rattle.pool_law.specs.declared.note.Did.{Did}
-use Rattle.pool_law.specs.declared.note.Did.TheVariants.{Take, Give, Hit, Kept, Shed, Handle, Home, Post, Fetch, Birth, End}
+use Rattle.pool_law.specs.declared.note.Did.TheVariants.{Take, Give, Hit, Kept, Shed, Handle, Home, Post, Fetch, Birth, Grow, End}
 use Rattle.pool_law.specs.declared.note.Noted.{Noted}
 use Rattle.pool_law.specs.Same.{same_root, same_taking}
 
@@ -113,13 +113,15 @@ abbrev pub cache_in : (RegionId → ℕ) → Did → ℕ
 cache_in w (Kept r) = w r
 cache_in w d = 0
 
--- what it takes out of a root place, as the region that goes with the note, and puts there
+-- what it takes out of a root place, as the region that goes with the note, and puts there: a root
+-- that grows leaves one region and goes on in another
 abbrev pub weight_or : (RegionId → ℕ) → Option RegionId → ℕ
 weight_or w (Some r) = w r
 weight_or w None = 0
 
 abbrev pub ended_region : Did → Option RegionId → Option RegionId
 ended_region (End r) region = region
+ended_region (Grow c x) region = region
 ended_region d region = None
 
 abbrev pub place_out : (RegionId → ℕ) → Noted → ℕ
@@ -127,4 +129,5 @@ place_out w n = weight_or w (ended_region n.did n.region)
 
 abbrev pub place_in : (RegionId → ℕ) → Did → ℕ
 place_in w (Birth r x) = w x
+place_in w (Grow c x) = w x
 place_in w d = 0

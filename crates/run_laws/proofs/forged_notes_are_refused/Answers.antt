@@ -1,4 +1,5 @@
-use Rattle.run_laws.proofs.Forged.{still-overlapping, overlapping, alive-given, alive-kept, twice-given, twice-kept, late-given, twice-ended, elsewhere-kept, full-false, hit-false}
+use Rattle.run_laws.proofs.ForgedOverlap.{still-overlapping}
+use Rattle.run_laws.proofs.Forged.{overlapping, alive-given, alive-kept, twice-given, twice-kept, late-given, twice-ended, elsewhere-kept, full-false, hit-false}
 use Rattle.run_laws.proofs.forged_notes_are_refused.Goals as goal
 
 pub returns-clause-overlapping : goal.returns-clause-overlapping

@@ -5,43 +5,47 @@ use Rattle.pool_law.specs.declared.note.Did.{Did}
 use Rattle.law_rows.specs.Notes.{least_region}
 use Rattle.law_rows.specs.RootRuns.{first_root, second_root}
 use Rattle.law_rows.specs.LifeRows.{event, least_cache}
+use Rattle.law_rows.proofs.Happened.{happens}
 use Rattle.law_rows.proofs.lives.region_used_twice.Goals as goal
 
 pub returns-clause-lives : goal.returns-clause-lives
-returns-clause-lives c = (refl, (refl, (refl, (refl, (refl, (refl, (refl, (refl, refl))))))))
+returns-clause-lives c = (refl, (refl, (refl, (refl, (refl, (refl, (refl, (refl, (refl, (refl, refl))))))))))
 
 pub returns-clause-order : goal.returns-clause-order
 returns-clause-order c = (
-  refl,
+  happens refl (inl refl),
   (
     (refl, omega arith),
     (
-      refl,
+      happens refl (inl refl),
       (
         (refl, (omega arith, refl)),
         (
-          refl,
+          happens refl (inl refl),
           (
             (refl, omega arith),
             (
-              refl,
+              happens refl (inl refl),
               (
                 (refl, (omega arith, refl)),
                 (
-                  refl,
+                  happens refl (inl refl),
                   (
                     (refl, omega arith),
                     (
-                      refl,
+                      happens refl (inl refl),
                       (
                         (refl, (omega arith, refl)),
                         (
-                          refl,
+                          happens refl (inl refl),
                           (
                             (refl, omega arith),
                             (
-                              refl,
-                              ((refl, (omega arith, refl)), (refl, ((refl, omega arith), refl))),
+                              happens refl (inl refl),
+                              (
+                                (refl, (omega arith, refl)),
+                                (happens refl (inl refl), ((refl, omega arith), happens refl (inl refl))),
+                              ),
                             ),
                           ),
                         ),
@@ -62,9 +66,8 @@ pub returns-clause-apart : goal.returns-clause-apart
 returns-clause-apart c = record {
   end = event 0 8 (Object.Root 0) 3 (Did.End first_root);
   birth = event 0 14 (Object.Root 0) 4 (Did.Birth second_root (least_region 2));
-  region = least_region 2;
-  ended = (refl, refl);
-  born = (refl, refl);
+  ended = happens refl (inl refl);
+  born = happens refl (inl refl);
   between =
       event 0 10 least_cache 2 (Did.Kept (least_region 1)) ∷ event 0 13 least_cache 3 (Did.Hit (least_region 1)) ∷ [];
   order = (inl (refl, omega arith), (refl, (inr (refl, (omega arith, refl)), (refl, inl (refl, omega arith)))));
