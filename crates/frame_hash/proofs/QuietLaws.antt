@@ -5,7 +5,7 @@ use Rattle.std.specs.List.{list_all}
 use Rattle.std.proofs.lemmas.List.{map-append}
 use Rattle.pool_law.specs.declared.id.Parcel.{Parcel}
 use Rattle.pool_law.specs.declared.note.Did.{Did}
-use Rattle.pool_law.specs.declared.note.Did.TheVariants.{Take, Full, Give, Hit, Miss, Kept, Back, Trim, Close, Shed, Handle, NoHandle, Home, Post, Fetch, Birth, Set, Get, Touch, End}
+use Rattle.pool_law.specs.declared.note.Did.TheVariants.{Take, Full, Give, Hit, Miss, Kept, Back, Trim, Close, Shed, Handle, NoHandle, Home, Post, Fetch, Birth, Set, Get, Touch, Room, Extend, Grow, End}
 use Rattle.pool_law.specs.declared.note.Note.{Note}
 use Rattle.pool_law.specs.declared.note.Noted.{Noted}
 use Rattle.pool_law.specs.declared.note.Object.{Object}
@@ -68,6 +68,9 @@ quiet-stays (Birth root region) e = refl
 quiet-stays (Set offset bytes) e = absurd (cc e)
 quiet-stays (Get offset bytes) e = absurd (cc e)
 quiet-stays Touch e = absurd (cc e)
+quiet-stays (Room asked capacity) e = absurd (cc e)
+quiet-stays (Extend size) e = absurd (cc e)
+quiet-stays (Grow capacity region) e = absurd (cc e)
 quiet-stays (End root) e = refl
 
 pub none-either : {X : Type 0} (b : Bool) → ◌≡◌ {A = List X} (if b then [] else []) []

@@ -1,5 +1,5 @@
 -- What one lane writes to a root before it sends it is what another reads of it.
-use Rattle.std.proofs.Common.{◌≡◌, ℕ, zero, suc, ◌+◌, ◌-◌, ◌<◌, ◌≤◌, List, [], ◌∷◌, ◌++◌, length, take, drop, map, refl, sym, ap, subst, arith, Some, None, ◌∙◌}
+use Rattle.std.proofs.Common.{◌≡◌, ℕ, zero, suc, ◌+◌, ◌-◌, ◌<◌, ◌≤◌, List, [], ◌∷◌, ◌++◌, length, take, drop, map, refl, sym, ap, subst, arith, Some, None, append_assoc, ◌∙◌}
 use Rattle.std.specs.Prelude.{Option, nat_le, option_and_then, option_map, if◌then◌else◌, slice_get}
 use Rattle.std.proofs.lemmas.List.{take-append-drop, take-append-le, drop-append-le, drop-take}
 use Rattle.pool_law.specs.declared.id.Parcel.{Parcel}
@@ -294,7 +294,7 @@ module _ (shape : Shape) (logs : Logs) (holds : HistoriesHold shape logs) where
       (ap (λ o. option_and_then (λ m. Some m) o) f.step)
       (after-last root.place (take f.j ds) new_place f.before f.comes new-last) in
       let laid = record p.0 { bytes = laid_over p.0.bytes 0 bytes } in
-      let stays : q.0.bytes ≡ laid.bytes =
+      let stays =
       bytes-stay root.place b.rest f.behind g.before laid q.0 rest
       (set-behind root.place 0 bytes f.before f.behind p.0 f.step p.1) q.1 last (q.2 ∙ sym p.2)
       (unset root bytes sender w f g.j b p.0 p.2) in
@@ -302,8 +302,9 @@ module _ (shape : Shape) (logs : Logs) (holds : HistoriesHold shape logs) where
       let got_is : got.0 ≡ q.0 = cc (sym got.1 ∙ q.1) in
       got.2
       ∙ ap (λ x. bytes_at x.bytes offset (length shown)) got_is
-      ∙ ap (λ xs. bytes_at xs offset (length shown)) stays
-      ∙ front-bytes bytes (drop (0 + length bytes) p.0.bytes) offset (length shown) fits
+      ∙ ap (λ xs. bytes_at xs offset (length shown))
+      (stays.1 ∙ append_assoc bytes (drop (0 + length bytes) p.0.bytes) stays.0)
+      ∙ front-bytes bytes (drop (0 + length bytes) p.0.bytes ++ stays.0) offset (length shown) fits
 
   pub handed : InOneOrder logs → ReadsWhatIsWritten logs
   handed order sender receiver k offset parcel got root bytes shown w p f r before behind fits =

@@ -11,7 +11,7 @@ use Rattle.pool_law.specs.declared.report.Leak.{Leak}
 use Rattle.pool_law.specs.declared.report.Watch.{Watch}
 use Rattle.pool_law.specs.declared.run.Shape.{Shape}
 use Rattle.pool_law.specs.Counts.{total_of}
-use Rattle.pool_law.specs.Leaks.{births, is_sampled, keeps_records, accesses_to, kept_of, dropped_of, leak_of, lane_leaks, leaks_of}
+use Rattle.pool_law.specs.Leaks.{births, is_sampled, keeps_records, accesses_to, kept_of, dropped_of, capacity_at_end, leak_of, lane_leaks, leaks_of}
 use Rattle.pool_law.specs.Legal.{HistoriesHold}
 use Rattle.pool_law.specs.Logs.{Logs, Entry as LogEntry, of_lane, entries_of}
 use Rattle.pool_law.proofs.SameLemmas.{and-first, and-second}
@@ -227,7 +227,7 @@ module _ (shape : Shape) (parts : List Part) (hold : HistoriesHold shape (logs_i
   leak_with lane nth root es = record {
     lane = lane;
     serial = 1 + nth;
-    capacity = root.capacity;
+    capacity = capacity_at_end root logs;
     count = total_of root es;
     records = (if keeps_records shape.level then kept_of (accesses_to root logs) else []);
     dropped = (if keeps_records shape.level then dropped_of (accesses_to root logs) else 0);

@@ -4,11 +4,11 @@ use Rattle.std.specs.Prelude.{Option, Some, None}
 use Rattle.pool_law.specs.declared.id.RootId.{RootId}
 use Rattle.pool_law.specs.declared.id.RegionId.{RegionId}
 use Rattle.pool_law.specs.declared.note.Did.{Did}
-use Rattle.pool_law.specs.declared.note.Did.TheVariants.{Take, Give, Hit, Kept, Shed, Birth, End}
+use Rattle.pool_law.specs.declared.note.Did.TheVariants.{Take, Give, Hit, Kept, Shed, Birth, Grow, End}
 use Rattle.pool_law.specs.declared.note.Noted.{Noted}
 use Rattle.pool_law.specs.declared.note.Object.{Object}
 use Rattle.pool_law.specs.Same.{same_taking}
-use Rattle.table_law.specs.NoteCounts.{is_taking, uses_in}
+use Rattle.table_law.specs.NoteCounts.{is_taking, uses_in, weight_or}
 use Rattle.table_law.proofs.Names.{same_taking-key}
 use Rattle.table_law.proofs.ArenaTakings.{of_taking, uses_light}
 use Rattle.pool_table.specs.declared.views.Entry.{Entry}
@@ -33,8 +33,7 @@ pub record IsGrasp (q : RegionId) (e : Entry) : Type 0 where
 -- or the taking that is in hand, with the uses that it has
 pub record IsLay (q : RegionId) (v : SeatView) (e : Entry) : Type 0 where
   pub one : lays (is_taking q) e ≡ 1
-  pub none : takes_up (is_taking q) e ≡ 0
-  pub unused : takes_up (uses_in q) e ≡ 0
+  pub light : takes_up (is_taking q) e ≡ 0 → takes_up (uses_in q) e ≡ 0
   pub taking : HasTaking q v
   pub uses : uses_gone q v + lays (uses_in q) e ≡ uses_come q v + to_place (is_taking q) e
 
@@ -111,11 +110,13 @@ held_more q v w x all how k =
           let light = g.light none in let old = k.emptied (omega (arith, a, b, c, d, e, f, h, z, s)) in
           omega (arith, c, a', b', c', d', e', f', old, y, light, z);
     })
-    (λ (g : IsLay q v x). let z = g.one in let y = g.none in let t = g.unused in let has = g.taking in let same =
-    g.uses in record {
-      holds = omega (arith, a, b, c, d, e, f, has, z, y);
-      used = omega (arith, c, a', b', c', d', e', f', t, same);
-      emptied = λ s. omega (arith, c, a', b', c', d', e', f', t, same);
+    (λ (g : IsLay q v x). let z = g.one in let has = g.taking in let same = g.uses in record {
+      holds = omega (arith, a, b, c, d, e, f, has, z);
+      used = omega (arith, c, a', b', c', d', e', f', same);
+      emptied = λ s.
+          let none : takes_up (is_taking q) x ≡ 0 = omega (arith, a, b, c, d, e, f, has, z, s) in
+          let light = g.light none in
+          omega (arith, c, a', b', c', d', e', f', same, light);
     })
     how
 
@@ -152,8 +153,7 @@ module _ (q : RegionId) (v : SeatView) (o : Object) (k : ℕ) (n : Noted) where
       let key = held_key v q r w.2 has in let w0 = w.0 in let w1 = w.1 in let k1 = key.1 in
       inr (record {
         one = omega (arith, w0);
-        none = refl;
-        unused = refl;
+        light = λ _. refl;
         taking = key.0;
         uses =
             omega (arith, w1, k1);
@@ -168,8 +168,7 @@ module _ (q : RegionId) (v : SeatView) (o : Object) (k : ℕ) (n : Noted) where
       let key = held_key v q r w.2 has in let w0 = w.0 in let w1 = w.1 in let k1 = key.1 in
       inr (record {
         one = omega (arith, w0);
-        none = refl;
-        unused = refl;
+        light = λ _. refl;
         taking = key.0;
         uses =
             omega (arith, w1, k1);
@@ -187,14 +186,43 @@ module _ (q : RegionId) (v : SeatView) (o : Object) (k : ℕ) (n : Noted) where
       let key = held_key v q z same has in let w0 = w.0 in let w1 = w.1 in let k1 = key.1 in
       inr (record {
         one = omega (arith, w0);
-        none = refl;
-        unused = refl;
+        light = λ _. refl;
         taking = key.0;
         uses =
             omega (arith, w0, w1, k1, more);
       }))
       (λ (w : (is_taking q x ≡ 0) × (uses_in q x ≡ 0)). let w0 = w.0 in let w1 = w.1 in
       inl (record { none = omega (arith, w0); unused = omega (arith, w1); light = λ _. refl }))
+      (of_taking q x)
+
+  -- a region that goes with a note has no use of the taking where it isn't of it
+  region_light : (region : Option RegionId) → weight_or (is_taking q) region ≡ 0 → weight_or (uses_in q) region ≡ 0
+  region_light None z = refl
+  region_light (Some r) z = uses_light q r z
+
+  -- a growth lays down the region that it goes into, and takes up the one that it leaves
+  grown : (c : ℕ) (x z : RegionId) (region : Option RegionId) → HasRegion z v → x ≡ record z { uses = z.uses + 1 }
+      → Handles q v (entry (Grow c x) region)
+  grown c x z region has is = ⊎_elim
+      (λ (w : (is_taking q x ≡ 1) × (uses_in q x ≡ x.uses) × (same_taking q x ≡ true)).
+      let same : same_taking q z ≡ true = ap (λ (y : RegionId). same_taking q y) (sym is) ∙ w.2 in
+      let more : x.uses ≡ z.uses + 1 = ap (λ (y : RegionId). y.uses) is in
+      let key = held_key v q z same has in let w0 = w.0 in let w1 = w.1 in let k1 = key.1 in
+      inr (record {
+        one = omega (arith, w0);
+        light = λ n. let y = region_light region (omega (arith, n)) in
+            omega (arith, y);
+        taking = key.0;
+        uses =
+            omega (arith, w0, w1, k1, more);
+      }))
+      (λ (w : (is_taking q x ≡ 0) × (uses_in q x ≡ 0)). let w0 = w.0 in let w1 = w.1 in
+      inl (record {
+        none = omega (arith, w0);
+        unused = omega (arith, w1);
+        light = λ n. let y = region_light region (omega (arith, n)) in
+            omega (arith, y);
+      }))
       (of_taking q x)
 
   ended : (root : RootId) (region : Option RegionId) → Handles q v (entry (End root) region)
@@ -211,6 +239,7 @@ module _ (q : RegionId) (v : SeatView) (o : Object) (k : ℕ) (n : Noted) where
   handles (Give r) region has = given r region has
   handles (Kept r) region has = kept r region has
   handles (Birth root x) region has = born root x has.1.0 region has.1.1 has.1.2
+  handles (Grow c x) region has = grown c x has.0 region has.1 has.2
   handles (Take c r) region has =
       inl (record {
         none = refl;

@@ -9,7 +9,7 @@ use Rattle.atomic_table.specs.Table.{State}
 use Rattle.pool_law.specs.declared.run.Shape.{Shape}
 use Rattle.pool_law.specs.declared.id.RegionId.{RegionId}
 use Rattle.pool_law.specs.declared.note.Did.{Did}
-use Rattle.pool_law.specs.declared.note.Did.TheVariants.{Take, Give, Hit, Kept, Shed, Birth}
+use Rattle.pool_law.specs.declared.note.Did.TheVariants.{Take, Give, Hit, Kept, Shed, Birth, Grow}
 use Rattle.pool_law.specs.declared.note.Noted.{Noted}
 use Rattle.pool_law.specs.declared.note.Object.{Object}
 use Rattle.pool_law.specs.declared.note.Object.TheVariants.{Arena, Cache, Root}
@@ -57,6 +57,7 @@ module _ (q : RegionId) where
 
   pub born_light : (d : Did) → place_in (is_taking q) d ≡ 0 → place_in (uses_in q) d ≡ 0
   born_light (Birth r x) z = uses_light q x z
+  born_light (Grow c x) z = uses_light q x z
   born_light d z = refl
 
   pub option_light : (o : Option RegionId) → weight_or (is_taking q) o ≡ 0 → weight_or (uses_in q) o ≡ 0

@@ -10,7 +10,7 @@ use lib.ListN.{get_elem?}
 use Rattle.atomic_table.specs.Table.{State}
 use Rattle.pool_law.specs.declared.id.RegionId.{RegionId}
 use Rattle.pool_law.specs.declared.note.Did.{Did}
-use Rattle.pool_law.specs.declared.note.Did.TheVariants.{Take, Birth}
+use Rattle.pool_law.specs.declared.note.Did.TheVariants.{Take, Birth, Grow}
 use Rattle.pool_law.specs.declared.note.Noted.{Noted}
 use Rattle.pool_law.specs.declared.note.Object.{Object}
 use Rattle.pool_law.specs.declared.note.Object.TheVariants.{Arena, Cache, Root}
@@ -122,6 +122,7 @@ module _ {H : Type 0} (stands : List ℕ → Setting → List Noted → H → Ty
     where
       by : (d : Did) → place_in (is_taking q) d ≤ cond {A = ℕ} (is_turn o (passing d)) 1 0
       by (Birth root x) = at_most (same_taking q x)
+      by (Grow c x) = at_most (same_taking q x)
       by d = omega arith
   born_at q (Ref p d) = omega arith
   born_at q (Busy b) = omega arith

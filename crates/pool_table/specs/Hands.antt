@@ -4,7 +4,7 @@ use Rattle.pool_law.specs.declared.id.RootId.{RootId}
 use Rattle.pool_law.specs.declared.id.ViewData.{ViewData}
 use Rattle.pool_law.specs.declared.id.RegionId.{RegionId}
 use Rattle.pool_law.specs.declared.note.Did.{Did}
-use Rattle.pool_law.specs.declared.note.Did.TheVariants.{Give, Kept, Home, Post, Birth, End}
+use Rattle.pool_law.specs.declared.note.Did.TheVariants.{Give, Kept, Home, Post, Birth, Grow, End}
 use Rattle.pool_law.specs.declared.note.Noted.{Noted}
 use Rattle.pool_law.specs.declared.note.Object.{Object}
 use Rattle.pool_law.specs.declared.note.Object.TheVariants.{Root}
@@ -105,8 +105,8 @@ laid w v = weigh (to_arena w) v + (weigh (to_cache w) v + weigh (to_place w) v)
 abbrev pub HasTaking : RegionId → SeatView → Type 0
 HasTaking q v = laid (is_taking q) v < grasped (is_taking q) v
 
--- the uses with which it came into the hands, with one more for each birth of theirs, and those
--- with which it left them
+-- the uses with which it came into the hands, with one more for each birth or growth of theirs, and
+-- those with which it left them
 abbrev pub uses_come : RegionId → SeatView → ℕ
 uses_come q v = grasped (uses_in q) v + weigh (to_place (is_taking q)) v
 
@@ -130,8 +130,8 @@ pub record IsHeldRight (q : RegionId) (v : SeatView) : Type 0 where
   pub emptied : laid (is_taking q) v ≡ grasped (is_taking q) v → uses_gone q v ≡ uses_come q v
 
 -- what a note puts down is in the view's hands, and what it tells of a root is the view's to tell:
--- a place comes home where no birth waits; a birth has its place, and its region with one use less;
--- an end has its token; a root that is posted is counted
+-- a place comes home where no birth waits; a birth has its place, and its region with one use less,
+-- and so has a growth its region; an end has its token; a root that is posted is counted
 abbrev pub PutsDown : SeatView → Did → Type 0
 PutsDown v (Home p) = InHand p v × NoneWaits p v
 PutsDown v (Give r) = HasRegion r v
@@ -139,6 +139,8 @@ PutsDown v (Kept r) = HasRegion r v
 PutsDown v (Birth root r) =
     InHand root.place v
     × ((z : RegionId) × HasRegion z v × (r ≡ record z { uses = z.uses + 1 }))
+PutsDown v (Grow capacity r) =
+    (z : RegionId) × HasRegion z v × (r ≡ record z { uses = z.uses + 1 })
 PutsDown v (End root) = HasToken root v
 PutsDown v (Post q) = IfSome q.view (λ (w : ViewData). HasCount w.root v)
 PutsDown v d = ⊤

@@ -1,7 +1,7 @@
 -- What steps add to a seat's own part, and how much one step may.
 use Rattle.std.specs.Prelude.{◌≡◌, ℕ, ◌+◌, ◌≤◌, if◌then◌else◌, Bool, true, false, List, [], ◌∷◌, ◌++◌, length, map}
 use Rattle.pool_law.specs.declared.note.Did.{Did}
-use Rattle.pool_law.specs.declared.note.Did.TheVariants.{Take, Full, Give, Hit, Miss, Kept, Back, Trim, Close, Shed, Handle, NoHandle, Home, Post, Fetch, Birth, Set, Get, Touch, End}
+use Rattle.pool_law.specs.declared.note.Did.TheVariants.{Take, Full, Give, Hit, Miss, Kept, Back, Trim, Close, Shed, Handle, NoHandle, Home, Post, Fetch, Birth, Set, Get, Touch, Room, Extend, Grow, End}
 use Rattle.pool_law.specs.declared.note.Note.{Note}
 use Rattle.pool_law.specs.declared.note.Note.TheVariants.{At, Ref, Busy}
 use Rattle.pool_table.specs.declared.views.Entry.{Entry}
@@ -47,7 +47,7 @@ pub record HasGrown (old new : SeatView) (added : List Entry) : Type 0 where
   pub setting : new.setting ≡ old.setting
   pub turns : old.turns ≤ new.turns + length added
 
--- what was done neither accesses the bytes of a root nor passes a parcel
+-- what was done neither accesses a root's bytes or capacity nor passes a parcel
 abbrev pub is_quiet : Did → Bool
 is_quiet (Take class region) = true
 is_quiet (Full class) = true
@@ -68,6 +68,9 @@ is_quiet (Birth root region) = true
 is_quiet (Set offset bytes) = false
 is_quiet (Get offset bytes) = false
 is_quiet Touch = false
+is_quiet (Room asked capacity) = false
+is_quiet (Extend size) = false
+is_quiet (Grow capacity region) = false
 is_quiet (End root) = true
 
 -- nor does this entry

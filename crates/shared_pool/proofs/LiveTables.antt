@@ -1,6 +1,7 @@
 -- The live roots that are told of a table's places.
 use Rattle.std.proofs.Common.{◌≡◌, ◌≢◌, ℕ, zero, suc, ◌+◌, ◌-◌, ◌*◌, ◌<◌, ◌≤◌, List, [], ◌∷◌, length, true, false, sym, refl, ap, ◌∙◌, subst, arith, ⊎_elim, ne_eqb, Some, None}
 use Rattle.std.specs.Prelude.{◌==◌, not, if◌then◌else◌, Option, IfSome, option_map, unwrap_or, slice_get, slice_index}
+use Rattle.std.proofs.lemmas.List.{length-take-le}
 use Rattle.std.proofs.lemmas.List.Elements.{All-cons, All-nil}
 use Rattle.std.proofs.lemmas.Option.{slice_get-map}
 use Rattle.step_law.specs.Settings.{Setting}
@@ -13,8 +14,8 @@ use Rattle.pool_law.specs.Arenas.{listed}
 use Rattle.pool_law.specs.Counts.{total_of}
 use Rattle.pool_law.specs.Histories.{place_after}
 use Rattle.pool_law.specs.Homes.{home_of, objects_of, IsObjectOf}
-use Rattle.pool_law.specs.Leaks.{accesses, accesses_to, kept_of, dropped_of, is_live}
-use Rattle.pool_law.specs.Logs.{history_of, entries_of}
+use Rattle.pool_law.specs.Leaks.{accesses, accesses_to, kept_of, dropped_of, capacity_in, capacity_at_end, is_live}
+use Rattle.pool_law.specs.Logs.{dids, history_of, present_in, entries_of}
 use Rattle.pool_law.specs.NotedHistories.{noted_dids}
 use Rattle.pool_law.specs.Roots.{Present, RootPlace, new_place}
 use Rattle.table_law.specs.Measures.{measures_of}
@@ -37,7 +38,7 @@ use Rattle.shared_pool.specs.declared.home.Home.{Home}
 use Rattle.shared_pool.specs.declared.home.Home.TheVariants.{Arena, Cache, Bin, Root}
 use Rattle.shared_pool.proofs.ClosingEntries.{told_note, entries_hold}
 use Rattle.shared_pool.proofs.ClosingLives.{standing, born_in, end_total, total_end, count_told}
-use Rattle.shared_pool.proofs.ClosingWhole.{history_at}
+use Rattle.shared_pool.proofs.ClosingWhole.{history_at, dids_at}
 use Rattle.shared_pool.proofs.JoinedParts.{HasNoToken}
 use Rattle.shared_pool.proofs.LastChunks.{stood}
 use Rattle.shared_pool.proofs.PlaceHomes.{place_at}
@@ -185,6 +186,19 @@ module _ (l : Layout) (v : SeatView) (homes : List (Option Home)) (words : List 
                   ∙ given;
             }
 
+    -- the capacity that it has at the end
+    capacity_is : (fits : IsObjectOf l.shape (RootOf p)) (r : RootState) → s.present ≡ Some r → r.root.place ≡ p
+        → capacity_at_end r.root (logs_in parts) ≡ r.root.capacity
+    capacity_is fits r is here =
+        let at = root_at fits r is in let a = at.fits in let b = at.in_place.size in
+        let told : place_after p (dids (history_of (RootOf p) (logs_in parts))) ≡ Some (law_place s) =
+        ap (place_after p) (dids_at HomeStands l v homes words closed lanes (RootOf p) fits) ∙ (stands fits).told in
+        ap (λ (q : ℕ). capacity_in r.root
+        (present_in (place_after q (dids (history_of (RootOf q) (logs_in parts)))))) here
+        ∙ ap (λ (o : Option RootPlace). capacity_in r.root (present_in o)) told
+        ∙ ap (λ (o : Option RootState). capacity_in r.root (option_map law_root o)) is
+        ∙ length-take-le r.root.capacity r.piece.bytes (omega (arith, a, b))
+
     -- what is told of it
     told_as : (fits : IsObjectOf l.shape (RootOf p)) (r : RootState) (w : Watch) (is : s.present ≡ Some r)
         (watch : r.handle.tracker.watch ≡ Some w) (count : ℕ)
@@ -204,7 +218,8 @@ module _ (l : Layout) (v : SeatView) (homes : List (Option Home)) (words : List 
         let dropped : r.handle.tracker.dropped
         ≡ (if w.keeps then dropped_of (accesses_to r.root (logs_in parts)) else 0) =
         at.records.dropped ∙ (λ i. if keeps i then dropped_of (all i) else 0) in
-        λ i. record { capacity = r.root.capacity; count = number i; watch = w; records = kept i; dropped = dropped i }
+        let capacity : r.root.capacity ≡ capacity_at_end r.root (logs_in parts) = sym (capacity_is fits r is here.0) in
+        λ i. record { capacity = capacity i; count = number i; watch = w; records = kept i; dropped = dropped i }
 
     told_root : (fits : IsObjectOf l.shape (RootOf p)) (count : ℕ)
         → count ≡ count_in (slice_index words (objects_of l.shape + p)) → (o : Option RootState) → s.present ≡ o →

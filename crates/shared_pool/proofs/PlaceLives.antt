@@ -1,14 +1,14 @@
 -- Which root a place has after a history, by the births and the ends in it.
 use Rattle.std.proofs.Common.{◌≡◌, ℕ, suc, ◌+◌, List, ◌∷◌, length, refl, sym, ap, ◌∙◌, eqb-true}
-use Rattle.std.specs.Prelude.{Option, Some, None, slice_get, ◌==◌, ◌&&◌, nat_le}
+use Rattle.std.specs.Prelude.{Option, Some, None, slice_get, ◌==◌, ◌&&◌, ◌||◌, nat_le, nat_lt}
 use Rattle.pool_law.specs.declared.id.RootId.{RootId}
 use Rattle.pool_law.specs.declared.id.RegionId.{RegionId}
 use Rattle.pool_law.specs.declared.note.Did.{Did}
-use Rattle.pool_law.specs.declared.note.Did.TheVariants.{Birth, Set, Get, Touch, End}
+use Rattle.pool_law.specs.declared.note.Did.TheVariants.{Birth, Set, Get, Touch, Room, Extend, Grow, End}
 use Rattle.pool_law.specs.declared.note.Noted.{Noted}
 use Rattle.pool_law.specs.declared.report.Watch.{Watch}
 use Rattle.pool_law.specs.Same.{same_root, same_bytes}
-use Rattle.pool_law.specs.Roots.{RootPlace, Present, laid_over, bytes_at, born, may_be_born, with_bytes, place_step, place_step_by}
+use Rattle.pool_law.specs.Roots.{RootPlace, Present, laid_over, bytes_at, zeros_to, born, may_be_born, with_bytes, place_step, place_step_by}
 use Rattle.pool_law.specs.Histories.{after}
 use Rattle.pool_law.proofs.SameLemmas.{and-first, and-second}
 use Rattle.table_law.proofs.Names.{same_root-is}
@@ -119,6 +119,58 @@ stepped p x y d e = by d x.present refl e
               ∙ here;
           same = refl;
           generation = ap (λ (z : RootPlace). z.generation) (sym same);
+          watch =
+              λ w n h. refl;
+          no_birth = λ r z c. cc c;
+          no_end = λ r c. cc c;
+        })
+    by (Room asked capacity) (Some q) here e =
+        let made = so ((capacity == length q.bytes) && (nat_le asked capacity || nat_lt q.region.place.len asked)) x y
+        e in
+        Kept (record {
+          old = q;
+          new = q;
+          was = here;
+          is = ap (λ (z : RootPlace). z.present) (sym made.1)
+              ∙ here;
+          same = refl;
+          generation = ap (λ (z : RootPlace). z.generation) (sym made.1);
+          watch =
+              λ w n h. refl;
+          no_birth = λ r z c. cc c;
+          no_end = λ r c. cc c;
+        })
+    by (Extend size) (Some q) here e =
+        let made = so (nat_lt (length q.bytes) size && nat_le size q.region.place.len)
+        (with_bytes x q (zeros_to size q.bytes)) y e in
+        Kept (record {
+          old = q;
+          new = record q { bytes = zeros_to size q.bytes };
+          was = here;
+          is =
+              ap (λ (z : RootPlace). z.present) (sym made.1);
+          same =
+              refl;
+          generation =
+              ap (λ (z : RootPlace). z.generation) (sym made.1);
+          watch =
+              λ w n h. refl;
+          no_birth = λ r z c. cc c;
+          no_end = λ r c. cc c;
+        })
+    by (Grow capacity region) (Some q) here e =
+        let made = so (nat_lt q.region.place.len capacity && nat_le capacity region.place.len)
+        (with_bytes x (record q { region = region }) (zeros_to capacity q.bytes)) y e in
+        Kept (record {
+          old = q;
+          new = record q { region = region; bytes = zeros_to capacity q.bytes };
+          was = here;
+          is =
+              ap (λ (z : RootPlace). z.present) (sym made.1);
+          same =
+              refl;
+          generation =
+              ap (λ (z : RootPlace). z.generation) (sym made.1);
           watch =
               λ w n h. refl;
           no_birth = λ r z c. cc c;

@@ -1,16 +1,16 @@
 -- What a root place's history tells of its present root: its accesses, and its watch.
 use Rattle.std.proofs.Common.{◌≡◌, ◌≢◌, ℕ, ◌+◌, ◌<◌, ◌≤◌, Bool, true, false, List, [], ◌∷◌, ◌++◌, length, refl, sym, ap, ◌∙◌, arith, append_assoc, length-append, eqb-true, ne_eqb}
-use Rattle.std.specs.Prelude.{Option, Some, None, unwrap_or, option_and_then, ◌==◌, ◌&&◌, nat_le}
+use Rattle.std.specs.Prelude.{Option, Some, None, unwrap_or, option_and_then, ◌==◌, ◌&&◌, ◌||◌, nat_le, nat_lt}
 use Rattle.std.proofs.lemmas.List.{map-append}
 use Rattle.pool_law.specs.declared.id.RootId.{RootId}
 use Rattle.pool_law.specs.declared.id.RegionId.{RegionId}
 use Rattle.pool_law.specs.declared.note.Did.{Did}
-use Rattle.pool_law.specs.declared.note.Did.TheVariants.{Birth, Set, Get, Touch, End}
+use Rattle.pool_law.specs.declared.note.Did.TheVariants.{Birth, Set, Get, Touch, Room, Extend, Grow, End}
 use Rattle.pool_law.specs.declared.note.Noted.{Noted}
 use Rattle.pool_law.specs.declared.report.Access.{Access}
 use Rattle.pool_law.specs.declared.report.Watch.{Watch}
 use Rattle.pool_law.specs.Same.{same_root, same_bytes}
-use Rattle.pool_law.specs.Roots.{RootPlace, Present, new_place, laid_over, bytes_at, born, may_be_born, with_bytes, place_step, place_step_by}
+use Rattle.pool_law.specs.Roots.{RootPlace, Present, new_place, laid_over, bytes_at, zeros_to, born, may_be_born, with_bytes, place_step, place_step_by}
 use Rattle.pool_law.specs.Histories.{after}
 use Rattle.pool_law.specs.Leaks.{accesses}
 use Rattle.pool_law.specs.Logs.{History}
@@ -109,6 +109,18 @@ live_step p root x y live d is e = by d x.present refl is e
         is ∙ ap (is_at root) (sym here) ∙ ap (λ (z : RootPlace). is_at root z.present) made.1
     by Touch (Some q) here is e =
         let same : x ≡ y = cc e in is ∙ ap (is_at root) (sym here) ∙ ap (λ (z : RootPlace). is_at root z.present) same
+    by (Room asked capacity) (Some q) here is e =
+        let made = so ((capacity == length q.bytes) && (nat_le asked capacity || nat_lt q.region.place.len asked)) x y
+        e in
+        is ∙ ap (is_at root) (sym here) ∙ ap (λ (z : RootPlace). is_at root z.present) made.1
+    by (Extend size) (Some q) here is e =
+        let made = so (nat_lt (length q.bytes) size && nat_le size q.region.place.len)
+        (with_bytes x q (zeros_to size q.bytes)) y e in
+        is ∙ ap (λ (z : RootPlace). is_at root z.present) made.1
+    by (Grow capacity region) (Some q) here is e =
+        let made = so (nat_lt q.region.place.len capacity && nat_le capacity region.place.len)
+        (with_bytes x (record q { region = region }) (zeros_to capacity q.bytes)) y e in
+        is ∙ ap (λ (z : RootPlace). is_at root z.present) made.1
     by (End r) (Some q) here is e =
         let made = so (same_root r q.root) (record x { present = None }) y e in
         ap (λ (z : RootPlace). is_at root z.present) made.1
@@ -192,6 +204,20 @@ older_step p x y d e = by d x.present e
         (omega (arith, same), λ root lt. refl)
     by Touch (Some q) e =
         let is : x ≡ y = cc e in let same : x.generation ≡ y.generation = ap (λ (z : RootPlace). z.generation) is in
+        (omega (arith, same), λ root lt. refl)
+    by (Room asked capacity) (Some q) e =
+        let made = so ((capacity == length q.bytes) && (nat_le asked capacity || nat_lt q.region.place.len asked)) x y
+        e in let same : x.generation ≡ y.generation = ap (λ (z : RootPlace). z.generation) made.1 in
+        (omega (arith, same), λ root lt. refl)
+    by (Extend size) (Some q) e =
+        let made = so (nat_lt (length q.bytes) size && nat_le size q.region.place.len)
+        (with_bytes x q (zeros_to size q.bytes)) y e in let same : x.generation
+        ≡ y.generation = ap (λ (z : RootPlace). z.generation) made.1 in
+        (omega (arith, same), λ root lt. refl)
+    by (Grow capacity region) (Some q) e =
+        let made = so (nat_lt q.region.place.len capacity && nat_le capacity region.place.len)
+        (with_bytes x (record q { region = region }) (zeros_to capacity q.bytes)) y e in let same : x.generation
+        ≡ y.generation = ap (λ (z : RootPlace). z.generation) made.1 in
         (omega (arith, same), λ root lt. refl)
     by (End r) (Some q) e =
         let made = so (same_root r q.root) (record x { present = None }) y e in let same : x.generation

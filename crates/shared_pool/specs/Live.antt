@@ -8,7 +8,7 @@ use Rattle.pool_law.specs.declared.note.Object.TheVariants.{Root}
 use Rattle.pool_law.specs.declared.report.Watch.{Watch}
 use Rattle.pool_law.specs.Logs.{of_lane}
 use Rattle.pool_law.specs.Counts.{total_of}
-use Rattle.pool_law.specs.Leaks.{accesses_to, kept_of, dropped_of, is_live}
+use Rattle.pool_law.specs.Leaks.{accesses_to, kept_of, dropped_of, capacity_at_end, is_live}
 use Rattle.leak_records.specs.declared.live.LiveRoot.{LiveRoot}
 use Rattle.pool_table.specs.declared.views.Entry.TheVariants.{At}
 use Rattle.pool_table.specs.declared.views.Part.{Part}
@@ -36,7 +36,7 @@ abbrev pub live_of : List Part → RootId → Watch → LiveRoot
 live_of parts root watch =
     let all = accesses_to root (logs_in parts) in
     record {
-      capacity = root.capacity;
+      capacity = capacity_at_end root (logs_in parts);
       count = total_of root (entries_in parts);
       watch = watch;
       records = (if watch.keeps then kept_of all else []);
