@@ -4,8 +4,9 @@
 //! An arena with its chunks and lists, a cache, a bin and a root place: each has its first state and one
 //! step for each note, and says none where a note may not stand. It stands on `pool_law`,
 //! `size_classes` and `ground` alone. Of this a checker of runs takes whether an object accepts a history
-//! (`accepts`), what an arena comes to (`arena_after`), what a root place tells of its notes
-//! (`told_of_each`), the size classes and the limits of a shape.
+//! (`accepts`), what an arena comes to (`arena_after`), how many bytes a root has at last
+//! (`capacity_after`), what a root place tells of its notes (`told_of_each`), the size classes and the
+//! limits of a shape.
 
 mod arena;
 mod bin;
@@ -29,7 +30,7 @@ pub use arena::Arena;
 pub use cache::Cache;
 pub use limits::is_shape;
 pub use lists::same_list;
-pub use objects::{accepts, arena_after};
+pub use objects::{accepts, arena_after, capacity_after};
 pub use place::RootPlace;
 pub use sizes::Sizes;
 pub use telling::told_of_each;

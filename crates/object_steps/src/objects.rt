@@ -9,6 +9,8 @@ ghost use Rattle.pool_law.specs.Histories.{
   place_after,
   accepts,
 };
+ghost use Rattle.pool_law.specs.Leaks.{capacity_in};
+ghost use Rattle.pool_law.specs.Logs.{present_in};
 ghost use Rattle.object_steps.specs.Behind.{dids_behind};
 
 use crate::arena::Arena;
@@ -16,7 +18,7 @@ use crate::bin::Bin;
 use crate::cache::Cache;
 use crate::place::RootPlace;
 use crate::sizes::Sizes;
-use pool_law::{Did, Object, Shape};
+use pool_law::{Did, Object, RootId, Shape};
 use std::alloc::{AllocError, Global};
 
 /// An arena after these notes, and none where one of them may not stand.
@@ -96,6 +98,18 @@ pub fn place_after(
         }
     }
     Ok(Some(place))
+}
+
+/// How many bytes a root has after these notes at its place: as many as are there, or those of its birth
+/// where none lives there then.
+pub fn capacity_after(alloc: Global, root: &RootId, dids: &[&Did]) -> Result<usize, AllocError>
+    ensures { IfOk result (λ capacity. capacity
+        ≡ capacity_in root.now (present_in (place_after root.now.place (dids_behind dids.now)))) }
+{
+    match place_after(alloc, root.place, dids)? {
+        Some(place) => Ok(place.capacity_of(root)),
+        None => Ok(root.capacity as usize),
+    }
 }
 
 /// Whether these notes are a history of the object. A mail has none.

@@ -1,8 +1,10 @@
 //! A root place: which root is there, and its bytes.
 
-ghost use Rattle.std.specs.Prelude.{◌≡◌, ◌+◌, ◌&&◌, nat_le, length, IfOk, Some, None};
+ghost use Rattle.std.specs.Prelude.{◌≡◌, ◌+◌, ◌==◌, ◌&&◌, ◌||◌, nat_le, nat_lt, length, IfOk, OnOk, Some, None};
+ghost use Rattle.pool_law.specs.Caches.{if_so};
 ghost use Rattle.pool_law.specs.Same.{same_bytes};
 ghost use Rattle.pool_law.specs.declared.note.Did.{Did};
+ghost use Rattle.pool_law.specs.Leaks.{capacity_in};
 ghost use Rattle.object_steps.specs.Telling.{told_by};
 ghost use Rattle.pool_law.specs.Roots.{
   new_place,
@@ -10,6 +12,7 @@ ghost use Rattle.pool_law.specs.Roots.{
   vacant_step,
   present_step,
   bytes_at,
+  zeros_to,
   may_be_born,
 };
 
@@ -41,7 +44,11 @@ impl Present {
         ensures { result ≡ told_by did.now (Some self.now) }
     {
         let (root, region) = match did {
-            Did::Set { .. } | Did::Get { .. } | Did::Touch => (Some(self.root), None),
+            Did::Set { .. } | Did::Get { .. } | Did::Touch | Did::Room { .. } | Did::Extend(_) => (
+                Some(self.root),
+                None,
+            ),
+            Did::Grow { .. } => (Some(self.root), Some(self.region)),
             Did::End(_) => (None, Some(self.region)),
             _ => (None, None),
         };
@@ -75,6 +82,16 @@ impl RootPlace {
         }
     }
 
+    /// How many bytes a root has here: as many as are there, or those of its birth where none lives.
+    pub(crate) fn capacity_of(&self, root: &RootId) -> usize
+        ensures { result ≡ capacity_in root.now self.now.present }
+    {
+        match &self.present {
+            None => root.capacity as usize,
+            Some(present) => present.bytes.len(),
+        }
+    }
+
     /// What is told of a note that comes next.
     pub(crate) fn told(&self, did: &Did) -> Told
         ensures { result ≡ told_by did.now self.now.present }
@@ -98,7 +115,7 @@ impl RootPlace {
         } = self;
         match present {
             None => vacant_step(alloc, place, generation, did),
-            Some(root) => Ok(present_step(generation, root, did)),
+            Some(root) => present_step(generation, root, did),
         }
     }
 }
@@ -145,38 +162,123 @@ fn may_be_born(place: u32, generation: u32, root: &RootId, region: &RegionId) ->
 }
 
 // A place where a root is present after a note.
-fn present_step(generation: u32, present: Present, did: &Did) -> Option<RootPlace>
-    ensures { result ≡ present_step (record { generation = generation; present = Some present })
-        present did.now }
+fn present_step(
+    generation: u32,
+    present: Present,
+    did: &Did,
+) -> Result<Option<RootPlace>, AllocError>
+    ensures { IfOk result (λ next. next
+        ≡ present_step (record { generation = generation; present = Some present })
+        present did.now) }
 {
     match did {
-        Did::Set { offset, bytes } => set(generation, present, *offset, bytes.items()),
+        Did::Set { offset, bytes } => Ok(set(generation, present, *offset, bytes.items())),
         Did::Get { offset, bytes } => {
-            if has_bytes(&present.bytes, *offset as usize, bytes.items()) {
-                Some(RootPlace {
-                    generation,
-                    present: Some(present),
-                })
-            } else {
-                None
-            }
+            let found = has_bytes(&present.bytes, *offset as usize, bytes.items());
+            Ok(kept_if(found, generation, present))
         }
-        Did::Touch => Some(RootPlace {
-            generation,
-            present: Some(present),
-        }),
+        Did::Touch => Ok(kept_if(true, generation, present)),
+        Did::Room { asked, capacity } => {
+            let found = has_room(&present, *asked, *capacity);
+            Ok(kept_if(found, generation, present))
+        }
+        Did::Extend(size) => extended(generation, present, *size),
+        Did::Grow { capacity, region } => grown(generation, present, *capacity, region),
         Did::End(root) => {
             if *root == present.root {
-                Some(RootPlace {
+                Ok(Some(RootPlace {
                     generation,
                     present: None,
-                })
+                }))
             } else {
-                None
+                Ok(None)
             }
         }
-        _ => None,
+        _ => Ok(None),
     }
+}
+
+// The place as it is, where a test holds.
+fn kept_if(holds: bool, generation: u32, present: Present) -> Option<RootPlace>
+    ensures { result ≡ if_so holds (record { generation = generation; present = Some present }) }
+{
+    if holds {
+        Some(RootPlace {
+            generation,
+            present: Some(present),
+        })
+    } else {
+        None
+    }
+}
+
+// Whether the root has this capacity, and a region that does not let it have what is asked beyond.
+fn has_room(present: &Present, asked: u32, capacity: u32) -> bool
+    ensures { result ≡ ((capacity == length present.now.bytes)
+        && (nat_le asked capacity || nat_lt present.now.region.place.len asked)) }
+{
+    capacity as usize == present.bytes.len()
+        && (asked <= capacity || present.region.place.len < asked)
+}
+
+// Appends zeros to bytes up to a size, if they are fewer.
+fn append_zeros(bytes: &mut Vec<u8>, size: usize) -> Result<(), AllocError>
+    ensures { OnOk result (bytes.new.items ≡ zeros_to size bytes.old.items) }
+{
+    if bytes.len() < size {
+        bytes.resize(size, 0)?;
+    }
+    Ok(())
+}
+
+// A place once the root is extended in its region.
+fn extended(
+    generation: u32,
+    mut present: Present,
+    size: u32,
+) -> Result<Option<RootPlace>, AllocError>
+    ensures { IfOk result (λ next. next
+        ≡ present_step (record { generation = generation; present = Some present })
+        present (Did.Extend size)) }
+{
+    if present.bytes.len() >= size as usize || size > present.region.place.len {
+        return Ok(None);
+    }
+    append_zeros(&mut present.bytes, size as usize)?;
+    Ok(Some(RootPlace {
+        generation,
+        present: Some(present),
+    }))
+}
+
+// A place once the root has grown out of its region.
+fn grown(
+    generation: u32,
+    present: Present,
+    capacity: u32,
+    region: &RegionId,
+) -> Result<Option<RootPlace>, AllocError>
+    ensures { IfOk result (λ next. next
+        ≡ present_step (record { generation = generation; present = Some present })
+        present (Did.Grow capacity region.now)) }
+{
+    if present.region.place.len >= capacity || capacity > region.place.len {
+        return Ok(None);
+    }
+    let Present {
+        root,
+        region: _,
+        mut bytes,
+    } = present;
+    append_zeros(&mut bytes, capacity as usize)?;
+    Ok(Some(RootPlace {
+        generation,
+        present: Some(Present {
+            root,
+            region: *region,
+            bytes,
+        }),
+    }))
 }
 
 /// Whether so many bytes from an offset on lie within a length.

@@ -13,9 +13,10 @@ use Rattle.pool_law.specs.declared.note.Note.TheVariants.{At, Ref, Busy}
 use Rattle.pool_law.specs.declared.report.Leak.{Leak}
 use Rattle.pool_law.specs.declared.run.LaneLog.{LaneLog}
 use Rattle.pool_law.specs.declared.run.Shape.{Shape}
-use Rattle.pool_law.specs.Logs.{Logs, history_of, entry_of, entries_of}
+use Rattle.pool_law.specs.Logs.{Logs, dids, history_of, entry_of, entries_of, present_in}
+use Rattle.pool_law.specs.Histories.{place_after}
 use Rattle.pool_law.specs.Counts.{total_of}
-use Rattle.pool_law.specs.Leaks.{births, is_live, is_sampled, keeps_records, accesses, kept_of, dropped_of, leak_of, lane_leaks, leaks_from}
+use Rattle.pool_law.specs.Leaks.{births, is_live, is_sampled, keeps_records, accesses, kept_of, dropped_of, capacity_in, leak_of, lane_leaks, leaks_from}
 use Rattle.pool_law.proofs.HistoryLemmas.{history_of-is}
 use Rattle.run_check.specs.declared.histories.Histories.{Histories}
 use Rattle.run_check.specs.declared.tally.Sums.{Sums}
@@ -60,7 +61,8 @@ module _ (shape : Shape) (logs : List LaneLog) (m : Histories) (tallies : List T
       then record {
         lane = lane;
         serial = serial;
-        capacity = root.capacity;
+        capacity =
+            capacity_in root (present_in (place_after root.place (dids (history-is root.place i))));
         count = total-is root i;
         records =
             (if keeps_records shape.level then kept_of (accesses root false (history-is root.place i)) else []);

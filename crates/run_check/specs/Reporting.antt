@@ -11,7 +11,9 @@ use Rattle.pool_law.specs.declared.run.LaneLog.{LaneLog}
 use Rattle.pool_law.specs.declared.run.Level.{Level}
 use Rattle.pool_law.specs.declared.run.Shape.{Shape}
 use Rattle.pool_law.specs.Same.{same_root}
-use Rattle.pool_law.specs.Leaks.{births, is_sampled, keeps_records, accesses, kept_of, dropped_of}
+use Rattle.pool_law.specs.Leaks.{births, is_sampled, keeps_records, accesses, kept_of, dropped_of, capacity_in}
+use Rattle.pool_law.specs.Logs.{dids, present_in}
+use Rattle.pool_law.specs.Histories.{place_after}
 use Rattle.run_check.specs.Merging.{dones_in}
 use Rattle.run_check.specs.Storing.{history_in}
 use Rattle.run_check.specs.Tallying.{total_sums}
@@ -55,13 +57,19 @@ kept_by keeps all = if keeps then kept_of all else []
 abbrev pub dropped_by : Bool → List Access → ℕ
 dropped_by keeps all = if keeps then dropped_of all else 0
 
--- the report of a root with these sums and accesses
-abbrev pub leak_by : Level → ℕ → ℕ → RootId → Sums → List Access → Leak
-leak_by level lane serial root sums all =
+-- the capacity that a root has at the end
+abbrev pub capacity_by : Histories → RootId → ℕ
+capacity_by m root =
+    capacity_in root
+    (present_in (place_after root.place (dids (history_in m (Root root.place)))))
+
+-- the report of a root with this capacity, these sums and accesses
+abbrev pub leak_by : Level → ℕ → ℕ → ℕ → Sums → List Access → Leak
+leak_by level lane serial capacity sums all =
     record {
       lane = lane;
       serial = serial;
-      capacity = root.capacity;
+      capacity = capacity;
       count = (1 + sums.retains) - sums.releases;
       records = kept_by (keeps_records level) all;
       dropped = dropped_by (keeps_records level) all;
@@ -73,7 +81,7 @@ one_leak shape m tallies lane serial root =
     let sums = total_sums tallies root in
     let all = accesses root false (history_in m (Root root.place)) in
     if not ((1 + sums.retains) - sums.releases == 0) && is_sampled shape.level shape.interval serial
-    then leak_by shape.level lane serial root sums all ∷ []
+    then leak_by shape.level lane serial (capacity_by m root) sums all ∷ []
     else []
 
 -- what is reported of the roots born in these notes, from this serial on

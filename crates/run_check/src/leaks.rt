@@ -11,9 +11,10 @@ ghost use Rattle.run_check.specs.Storing.{history_in, AreHistories};
 ghost use Rattle.run_check.specs.Tallying.{total_sums, IsTally};
 ghost use Rattle.run_check.specs.Reporting.{accesses_in, access_by, live_after, touched, kept_by, dropped_by, leak_by, one_leak, leaks_in, all_leaks, Tells};
 
-use crate::histories::Histories;
+use crate::histories::{Histories, dids_of};
 use crate::merging::Done;
 use crate::tally::{Sums, Tally, sum, total_of};
+use object_steps::capacity_after;
 use pool_law::{Access, Did, LaneLog, Leak, Level, Note, Object, RootId, Shape};
 use std::alloc::{AllocError, Global};
 
@@ -140,16 +141,16 @@ fn is_leak(
     level: Level,
     lane: usize,
     serial: u64,
-    root: &RootId,
+    capacity: usize,
     sums: &Sums,
     dones: &[Done],
 ) -> bool
     ensures { IsTrue result
-        ↔ (leak.now ≡ leak_by level lane serial root.now sums.now (accesses_in dones.now)) }
+        ↔ (leak.now ≡ leak_by level lane serial capacity sums.now (accesses_in dones.now)) }
 {
     leak.lane as usize == lane
         && u64::from(leak.serial) == serial
-        && leak.capacity == root.capacity
+        && leak.capacity as usize == capacity
         && is_count(leak.count, sums)
         && keeps_last(leak, keeps_records(level), dones)
 }
@@ -225,13 +226,15 @@ fn next_leak(
     if at >= report.leaks.len() {
         return Ok(None);
     }
-    let dones = accesses_to(alloc, root, report.histories.of(&Object::Root(root.place)))?;
+    let history = report.histories.of(&Object::Root(root.place));
+    let dones = accesses_to(alloc, root, history)?;
+    let capacity = capacity_after(alloc, root, &dids_of(alloc, history)?)?;
     if is_leak(
         &report.leaks[at],
         report.shape.level,
         lane,
         serial,
-        root,
+        capacity,
         &sums,
         &dones,
     ) {

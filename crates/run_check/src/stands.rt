@@ -83,6 +83,15 @@ fn may_stand(shape: &Shape, lane: u32, object: &Object, did: &Did) -> bool
             bytes: _,
         }
         | Did::Touch
+        | Did::Room {
+            asked: _,
+            capacity: _,
+        }
+        | Did::Extend(_)
+        | Did::Grow {
+            capacity: _,
+            region: _,
+        }
         | Did::End(_) => has_history(object),
     }
 }
