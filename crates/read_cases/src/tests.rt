@@ -1,6 +1,6 @@
 //! A text as the manual tells it, line by line, and what is refused of it.
 
-use pool_law::{Level, Run, Shape, Trace};
+use pool_law::{Did, LaneLog, Level, Note, Run, Shape, Trace};
 use run_report::text_of;
 use run_text::{LineNo, TextNo, read_run};
 use size_classes::DEFAULT_PAGE;
@@ -115,6 +115,75 @@ fn a_line_is_refused(rt: HostRuntime) -> Result<(), Fail> {
         let other = text.as_str().replacen(alloc, old, new, 1)?;
         let found = read_run(alloc, trace(alloc)?, SHAPE, other.as_str()).err();
         assert_eq!(rt; found, Some(TextNo::Line { number, why }), "at {new}");
+    }
+    Ok(())
+}
+
+// The first lane lets two roots be born, and grows the first. The second lane grows the other while the
+// first has a region in hand for that, which it puts away unused, and gets once more.
+const GROWTH_TRACE: &str = r#"[[["alloc","a",16],["alloc","b",16]],[]]"#;
+
+const GROWTH: &str = "0.0 alloc ok 16 0.0+0\n\
+    0.1 alloc ok 16 0.0+0\n\
+    note 0 bin 0 1 handle 0\n\
+    note 0 cache 0 0 1 miss\n\
+    note 0 arena 0 1 take 0 0+0 1\n\
+    note 0 root 0 1 birth 1 0.0+0 1 1 16\n\
+    note 0 ref 0.1 born\n\
+    note 0 root 0 2 room 100 16\n\
+    note 0 cache 0 6 1 miss\n\
+    note 0 arena 0 2 take 6 0+8192 2\n\
+    note 0 root 0 3 grow 0.0+8192 2 1 100\n\
+    note 0 cache 0 0 2 kept 1\n\
+    note 0 root 0 4 extend 110\n\
+    note 0 ref 0.1 ended\n\
+    note 0 root 0 5 end 1\n\
+    note 0 ref 0.1 vacated\n\
+    note 0 cache 0 6 2 kept 2\n\
+    note 0 bin 0 2 home 0\n\
+    note 0 bin 0 3 handle 1\n\
+    note 0 cache 0 0 3 hit 1\n\
+    note 0 root 1 1 birth 1 0.0+0 1 2 16\n\
+    note 0 ref 1.1 born\n\
+    note 0 root 1 2 room 100 16\n\
+    note 0 cache 0 6 3 hit 2\n\
+    note 0 root 1 4 room 100 112\n\
+    note 0 cache 0 6 4 kept 2\n\
+    note 0 cache 0 6 5 hit 2\n\
+    note 1 arena 1 1 take 6 0+0 1\n\
+    note 1 root 1 3 grow 1.0+0 1 1 112\n\
+    note 1 cache 0 0 4 kept 1\n\
+    end roots 2 live 1 leaks 0\n";
+
+// How often each region was used that a cache keeps or gives: by the first lane, and by the second.
+const USES: [&[u64]; 2] = [&[1, 1, 1, 1, 1, 1], &[2]];
+
+fn uses_in(alloc: Global, log: &LaneLog) -> Result<Vec<u64>, AllocError> {
+    let mut uses = Vec::new(alloc);
+    for note in log.notes.items() {
+        if let Note::At { did, .. } = note {
+            if let Did::Kept(region) | Did::Hit(region) = did {
+                uses.push(region.uses)?;
+            }
+        }
+    }
+    Ok(uses)
+}
+
+#[test]
+fn growths_are_read_back(rt: HostRuntime) -> Result<(), Fail> {
+    let alloc = rt.alloc();
+    let trace = read_trace(alloc, GROWTH_TRACE.as_bytes())?.trace;
+    let shape = Shape { lanes: 2, ..SHAPE };
+    match read_run(alloc, trace, shape, GROWTH) {
+        Ok(run) => {
+            assert_eq!(rt; run.logs.items().len(), 2);
+            for (log, wanted) in run.logs.items().iter().zip(USES) {
+                let uses = uses_in(alloc, log)?;
+                assert_eq!(rt; uses.as_slice(), wanted);
+            }
+        }
+        Err(no) => panic!(rt; "it is refused: {no:?}"),
     }
     Ok(())
 }

@@ -6,7 +6,7 @@ use Rattle.std.proofs.lemmas.List.{map-append, length_push}
 use Rattle.size_classes.specs.Sizes.{IsPage}
 use Rattle.pool_law.specs.declared.id.RegionId.{RegionId}
 use Rattle.pool_law.specs.declared.note.Did.{Did}
-use Rattle.pool_law.specs.declared.note.Did.TheVariants.{Take, Full, Give, Hit, Miss, Kept, Back, Trim, Close, Shed, Handle, NoHandle, Home, Post, Fetch, Birth, Set, Get, Touch, End}
+use Rattle.pool_law.specs.declared.note.Did.TheVariants.{Take, Full, Give, Hit, Miss, Kept, Back, Trim, Close, Shed, Handle, NoHandle, Home, Post, Fetch, Birth, Set, Get, Touch, Room, Extend, Grow, End}
 use Rattle.pool_law.specs.declared.note.Object.{Object}
 use Rattle.pool_law.specs.declared.run.Run.{Run}
 use Rattle.pool_law.specs.declared.run.Shape.{Shape}
@@ -47,6 +47,9 @@ taken-is (Birth q r) s e = absurd (cc e)
 taken-is (Set o b) s e = absurd (cc e)
 taken-is (Get o b) s e = absurd (cc e)
 taken-is Touch s e = absurd (cc e)
+taken-is (Room asked capacity) s e = absurd (cc e)
+taken-is (Extend size) s e = absurd (cc e)
+taken-is (Grow capacity r) s e = absurd (cc e)
 taken-is (End q) s e = absurd (cc e)
 
 -- where one of these notes gives a taking back, it comes back before what follows

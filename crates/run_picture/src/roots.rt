@@ -1,4 +1,4 @@
-//! The track of a root: its life, what was set and got of it, and its count.
+//! The track of a root: its life, what was set and got of it, its growth, and its count.
 
 use crate::chart::{LEFT, WIDTH};
 use crate::marks::{Area, Style};
@@ -27,6 +27,8 @@ enum Act {
     Sets { offset: u32, len: u32 },
     Gets { offset: u32, len: u32 },
     Touches,
+    // It has so many bytes from then on.
+    Grows(u32),
     Ends,
     Counted(u32),
 }
@@ -69,11 +71,15 @@ impl Acts {
                 len: short(bytes.items().len()),
             }),
             Did::Touch => self.lives.then_some(Act::Touches),
+            Did::Extend(capacity) | Did::Grow { capacity, .. } => {
+                self.lives.then_some(Act::Grows(*capacity))
+            }
             Did::End(_) => {
                 let lived = self.lives;
                 self.lives = false;
                 lived.then_some(Act::Ends)
             }
+            // The other notes at a root place, and those that stand at none, change nothing of the root.
             _ => None,
         }
     }
@@ -185,22 +191,32 @@ fn draw_life(pen: &mut Pen, acts: &[Moment], last: u32, y: u32) -> Result<(), Al
     pen.plain(Style::Life, area)
 }
 
-// Draws a set, a get or a touch.
-fn draw_access(pen: &mut Pen, one: &Moment, last: u32, y: u32) -> Result<(), AllocError> {
-    let (style, word, offset, len, down) = match one.act {
-        Act::Sets { offset, len } => (Style::Writes, "set ", offset, len, 0),
-        Act::Gets { offset, len } => (Style::Reads, "get ", offset, len, TICK),
-        _ => return Ok(()),
-    };
+// Draws a set, a get or a growth.
+fn draw_act(pen: &mut Pen, one: &Moment, last: u32, y: u32) -> Result<(), AllocError> {
     let mut title = pen.writer();
-    title.named(word, u64::from(offset))?;
-    title.named("+", u64::from(len))?;
+    let (style, down, height) = match one.act {
+        Act::Sets { offset, len } => {
+            title.named("set ", u64::from(offset))?;
+            title.named("+", u64::from(len))?;
+            (Style::Writes, 0, TICK)
+        }
+        Act::Gets { offset, len } => {
+            title.named("get ", u64::from(offset))?;
+            title.named("+", u64::from(len))?;
+            (Style::Reads, TICK, TICK)
+        }
+        Act::Grows(capacity) => {
+            title.named("capacity ", u64::from(capacity))?;
+            (Style::Allocates, 0, 2 * TICK)
+        }
+        Act::Begins | Act::Touches | Act::Ends | Act::Counted(_) => return Ok(()),
+    };
     title.named(" by lane ", u64::from(one.lane))?;
     let area = Area {
         x: x_of(one.moment, last),
         y: y.saturating_add(down).saturating_add(10),
         width: 50,
-        height: TICK,
+        height,
     };
     pen.rect(style, area, title)
 }
@@ -271,7 +287,7 @@ pub fn track(
     pen.text(Style::Label, LEFT - 220, y.saturating_add(150), label)?;
     draw_life(pen, &acts, order.moments, y)?;
     for one in &acts {
-        draw_access(pen, one, order.moments, y)?;
+        draw_act(pen, one, order.moments, y)?;
     }
     draw_counts(pen, &acts, order.moments, y)?;
     Ok(y.saturating_add(TRACK))

@@ -1,7 +1,7 @@
 //! What each taking was used for, and when.
 
 use crate::order::Order;
-use pool_law::{Did, LaneLog, Note, RegionId, RootId};
+use pool_law::{Did, LaneLog, Note, Object, RegionId, RootId};
 use std::alloc::{AllocError, Global};
 use std::collections::BTreeMap;
 
@@ -25,11 +25,19 @@ pub struct Span {
     pub until: u32,
 }
 
-// The takings that are out as the notes are gone through, by arena and number.
+// A root that lives, and the region that it is on.
+#[derive(Clone, Copy, Drop)]
+struct Living {
+    root: RootId,
+    region: RegionId,
+}
+
+// The takings that are out as the notes are gone through, by arena and number; and the roots that live,
+// by place.
 #[derive(Drop)]
 struct Uses {
     open: BTreeMap<(u32, u64), Span>,
-    roots: BTreeMap<(u32, u32), RegionId>,
+    living: BTreeMap<u32, Living>,
     spans: Vec<Span>,
 }
 
@@ -57,22 +65,69 @@ impl Uses {
         Ok(())
     }
 
-    // Goes through a note.
+    // A root begins to live on a region at a place.
+    fn settle(&mut self, place: u32, living: Living, moment: u32) -> Result<(), AllocError> {
+        self.living.insert(place, living)?;
+        self.change(living.region, Phase::Rooted(living.root), moment)
+    }
+
+    // The root that lives at a place, if one does, leaves its region.
+    fn leave(&mut self, place: u32, moment: u32) -> Result<Option<RootId>, AllocError> {
+        let Some(living) = self.living.remove(&place) else {
+            return Ok(None);
+        };
+        self.change(living.region, Phase::InHand, moment)?;
+        Ok(Some(living.root))
+    }
+
+    // Goes through a note at the place of a root.
+    fn pass_root(&mut self, place: u32, did: &Did, moment: u32) -> Result<(), AllocError> {
+        match did {
+            Did::Birth { root, region } => {
+                let (root, region) = (*root, *region);
+                self.settle(place, Living { root, region }, moment)
+            }
+            Did::Grow {
+                capacity: _,
+                region,
+            } => match self.leave(place, moment)? {
+                Some(root) => {
+                    let region = *region;
+                    self.settle(place, Living { root, region }, moment)
+                }
+                None => Ok(()),
+            },
+            Did::End(_) => {
+                self.leave(place, moment)?;
+                Ok(())
+            }
+            // The root stays where it is.
+            _ => Ok(()),
+        }
+    }
+
+    // Goes through a note at another object.
     fn pass(&mut self, did: &Did, moment: u32) -> Result<(), AllocError> {
         match did {
             Did::Take { class: _, region } => self.change(*region, Phase::InHand, moment),
-            Did::Birth { root, region } => {
-                self.roots.insert((root.place, root.generation), *region)?;
-                self.change(*region, Phase::Rooted(*root), moment)
-            }
-            Did::End(root) => match self.roots.remove(&(root.place, root.generation)) {
-                Some(region) => self.change(region, Phase::InHand, moment),
-                None => Ok(()),
-            },
             Did::Kept(region) => self.change(*region, Phase::Cached, moment),
             Did::Hit(region) | Did::Shed(region) => self.change(*region, Phase::InHand, moment),
             Did::Give(region) => self.close(region, moment),
+            // No region is moved.
             _ => Ok(()),
+        }
+    }
+
+    // Goes through a note of a lane.
+    fn pass_note(&mut self, note: &Note, moment: u32) -> Result<(), AllocError> {
+        match note {
+            Note::At {
+                object: Object::Root(place),
+                did,
+                ..
+            } => self.pass_root(*place, did, moment),
+            Note::At { did, .. } => self.pass(did, moment),
+            Note::Ref { .. } | Note::Busy(_) => Ok(()),
         }
     }
 }
@@ -81,7 +136,7 @@ impl Uses {
 pub fn spans_of(alloc: Global, logs: &[LaneLog], order: &Order) -> Result<Vec<Span>, AllocError> {
     let mut uses = Uses {
         open: BTreeMap::new(alloc),
-        roots: BTreeMap::new(alloc),
+        living: BTreeMap::new(alloc),
         spans: Vec::new(alloc),
     };
     let mut next: Vec<usize> = vec![in alloc; 0; logs.len()]?;
@@ -90,8 +145,8 @@ pub fn spans_of(alloc: Global, logs: &[LaneLog], order: &Order) -> Result<Vec<Sp
         if lane < next.len() && lane < logs.len() {
             let at = next[lane];
             next[lane] = at.saturating_add(1);
-            if let Some(Note::At { did, .. }) = logs[lane].notes.items().get(at) {
-                uses.pass(did, step.moment)?;
+            if let Some(note) = logs[lane].notes.items().get(at) {
+                uses.pass_note(note, step.moment)?;
             }
         }
     }

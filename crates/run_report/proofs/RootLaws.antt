@@ -47,6 +47,9 @@ did_birth o n (Did.Fetch parcel) ns e = e
 did_birth o n (Did.Set offset bytes) ns e = e
 did_birth o n (Did.Get offset bytes) ns e = e
 did_birth o n Did.Touch ns e = e
+did_birth o n (Did.Room asked capacity) ns e = e
+did_birth o n (Did.Extend size) ns e = e
+did_birth o n (Did.Grow capacity region) ns e = e
 did_birth o n (Did.End root) ns e = e
 
 births_is : (ns : List Note) → births ns ≡ roots_in Step.Birth ns

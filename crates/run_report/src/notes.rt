@@ -110,6 +110,18 @@ impl Writer {
                 self.shown(bytes.items())
             }
             Did::Touch => self.word("touch"),
+            Did::Room { asked, capacity } => {
+                self.named("room", u64::from(*asked))?;
+                self.number(u64::from(*capacity))
+            }
+            Did::Extend(size) => self.named("extend", u64::from(*size)),
+            Did::Grow { capacity, region } => {
+                self.word("grow")?;
+                self.place(&region.place)?;
+                self.number(region.taking)?;
+                self.number(region.uses)?;
+                self.number(u64::from(*capacity))
+            }
             Did::End(root) => self.named("end", u64::from(root.generation)),
         }
     }

@@ -26,12 +26,27 @@ fn kind_of(note: &Note) -> Kind {
             Did::NoHandle | Did::Home(_) => Kind::Last,
             Did::Set { bytes, .. } | Did::Get { bytes, .. } => Kind::Bytes(bytes.items().len()),
             Did::Trim(_) | Did::Shed(_) | Did::Give(_) => Kind::Sweep,
-            _ => Kind::Other,
+            Did::Take { .. }
+            | Did::Full { .. }
+            | Did::Hit(_)
+            | Did::Miss
+            | Did::Kept(_)
+            | Did::Back { .. }
+            | Did::Close(_)
+            | Did::Handle(_)
+            | Did::Post(_)
+            | Did::Fetch(_)
+            | Did::Birth { .. }
+            | Did::Touch
+            | Did::Room { .. }
+            | Did::Extend(_)
+            | Did::Grow { .. }
+            | Did::End(_) => Kind::Other,
         },
         Note::Ref { did, .. } => match did {
             RefDid::Born => Kind::Last,
             RefDid::Kept => Kind::Kept,
-            _ => Kind::Other,
+            RefDid::Retain | RefDid::Ended | RefDid::Vacated | RefDid::Look(_) => Kind::Other,
         },
         Note::Busy(_) => Kind::Other,
     }

@@ -5,7 +5,7 @@ use crate::{LineNo, TextNo};
 use pool_law::{Place, RegionId, RootId};
 use size_classes::SizeClasses;
 use std::alloc::{AllocError, Global};
-use std::collections::HashMap;
+use std::collections::{BTreeMap, HashMap};
 
 /// Place and generation of a root.
 pub type RootKey = (u32, u32);
@@ -18,21 +18,21 @@ pub type TakingKey = (u32, u64);
 pub struct Taking {
     /// The region as it was taken.
     pub region: RegionId,
-    /// The uses that its last birth tells.
+    /// The uses that its last birth or growth tells.
     pub uses: u64,
-    /// How often its cache was hit for it so far.
-    pub hits: u64,
+    /// The uses that the last birth or growth tells which was read so far.
+    pub so_far: u64,
 }
 
-/// A root as its birth tells it.
+/// How a root begins to use a region, at its birth or its growth.
 #[derive(Clone, Copy, Drop)]
-pub struct Born {
-    /// The root.
-    pub root: RootId,
-    /// The taking of its region.
+pub struct Begun {
+    /// The taking of the region.
     pub taking: TakingKey,
-    /// How many roots have used the region, with this one.
+    /// How many uses were made of it, with this one.
     pub uses: u64,
+    /// The bytes of the root then.
+    pub capacity: u32,
 }
 
 /// All roots and regions that the notes of a text tell of.
@@ -40,7 +40,9 @@ pub struct Born {
 pub struct Known {
     sizes: SizeClasses,
     takings: HashMap<TakingKey, Taking>,
-    births: HashMap<RootKey, Born>,
+    births: HashMap<RootKey, RootId>,
+    // The births and growths at each root place, by place and number.
+    begun: BTreeMap<(u32, u64), Begun>,
 }
 
 // The greatest chunk, which has the classes of all others: 2^9 pages of so many bytes.
@@ -54,6 +56,7 @@ impl Known {
             sizes: SizeClasses::new(alloc, order, page)?,
             takings: HashMap::new(alloc),
             births: HashMap::new(alloc),
+            begun: BTreeMap::new(alloc),
         })
     }
 
@@ -93,7 +96,7 @@ impl Known {
         })
     }
 
-    /// What a note line tells of takings and births, and no more, is known.
+    /// What a note line tells of takings, births and growths, and no more, is known.
     pub fn learn(&mut self, words: &mut Words) -> Result<(), TextNo> {
         let _note = words.next();
         let lane = words.small()?;
@@ -101,7 +104,7 @@ impl Known {
         if object == "arena" {
             self.learn_taking(words, lane)
         } else if object == "root" {
-            self.learn_birth(words)
+            self.learn_use(words)
         } else {
             Ok(())
         }
@@ -117,7 +120,7 @@ impl Known {
         let taking = Taking {
             region,
             uses: 0,
-            hits: 0,
+            so_far: 0,
         };
         self.takings
             .insert((arena, region.taking), taking)
@@ -125,28 +128,53 @@ impl Known {
         Ok(())
     }
 
-    fn learn_birth(&mut self, words: &mut Words) -> Result<(), TextNo> {
+    fn learn_use(&mut self, words: &mut Words) -> Result<(), TextNo> {
         let place = words.small()?;
-        let _number = words.number()?;
-        if words.next() != "birth" {
+        let number = words.number()?;
+        let word = words.next();
+        let begun = if word == "birth" {
+            let generation = words.small()?;
+            let begun = begun_in(words)?;
+            self.learn_birth(place, generation, begun.capacity)?;
+            begun
+        } else if word == "grow" {
+            begun_in(words)?
+        } else {
             return Ok(());
+        };
+        if let Some(taking) = self.takings.get_mut(&begun.taking) {
+            taking.uses = taking.uses.max(begun.uses);
         }
-        let born = born_at(words, place)?;
-        if let Some(taking) = self.takings.get_mut(&born.taking) {
-            taking.uses = taking.uses.max(born.uses);
-        }
+        self.begun
+            .insert((place, number), begun)
+            .map_err(AllocError::from)?;
+        Ok(())
+    }
+
+    fn learn_birth(&mut self, place: u32, generation: u32, capacity: u32) -> Result<(), TextNo> {
+        let root = RootId {
+            place,
+            generation,
+            capacity,
+        };
         self.births
-            .insert((place, born.root.generation), born)
+            .insert((place, generation), root)
             .map_err(AllocError::from)?;
         Ok(())
     }
 
     /// The root of this place and generation, which a line names.
-    pub fn born(&self, words: &Words, key: RootKey) -> Result<Born, TextNo> {
+    pub fn born(&self, words: &Words, key: RootKey) -> Result<RootId, TextNo> {
         match self.births.get(&key) {
-            Some(born) => Ok(*born),
+            Some(root) => Ok(*root),
             None => Err(words.refused(LineNo::Root)),
         }
+    }
+
+    /// The last birth or growth at a root place before the note of this number there.
+    pub fn begun_before(&self, place: u32, number: u64) -> Option<Begun> {
+        let (key, begun) = self.begun.range(..(place, number)).next_back()?;
+        if key.0 == place { Some(*begun) } else { None }
     }
 
     /// The region of a taking, used so often.
@@ -168,34 +196,33 @@ impl Known {
         }
     }
 
-    /// The region of a taking as its cache gives it once more: each use but the first comes by the cache, so it
-    /// was used as often as it is given now.
-    pub fn region_hit(&mut self, words: &Words, key: TakingKey) -> Result<RegionId, TextNo> {
-        let hits = match self.takings.get_mut(&key) {
-            Some(taking) => {
-                taking.hits = taking.hits.saturating_add(1);
-                taking.hits
-            }
-            None => return Err(words.refused(LineNo::Region)),
-        };
-        self.region(words, key, hits)
+    /// The region of a taking, after the uses that were read so far. All uses of a taking begin in the lane
+    /// that took it, so its notes tell them in their order.
+    pub fn region_so_far(&self, words: &Words, key: TakingKey) -> Result<RegionId, TextNo> {
+        match self.takings.get(&key) {
+            Some(taking) => self.region(words, key, taking.so_far),
+            None => Err(words.refused(LineNo::Region)),
+        }
+    }
+
+    /// The region of a use that begins, which is read now.
+    pub fn region_begun(&mut self, words: &Words, begun: Begun) -> Result<RegionId, TextNo> {
+        if let Some(taking) = self.takings.get_mut(&begun.taking) {
+            taking.so_far = begun.uses;
+        }
+        self.region(words, begun.taking, begun.uses)
     }
 }
 
-// The rest of a line tells of a birth at a place: generation, region and capacity.
-fn born_at(words: &mut Words, place: u32) -> Result<Born, TextNo> {
-    let generation = words.small()?;
+/// The rest of a line tells of a use that begins: region and capacity.
+pub fn begun_in(words: &mut Words) -> Result<Begun, TextNo> {
     let spot = words.place(0)?;
     let taking = words.number()?;
     let uses = words.number()?;
     let capacity = words.small()?;
-    Ok(Born {
-        root: RootId {
-            place,
-            generation,
-            capacity,
-        },
+    Ok(Begun {
         taking: (spot.arena, taking),
         uses,
+        capacity,
     })
 }

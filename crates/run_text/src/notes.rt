@@ -1,11 +1,11 @@
 //! The lines of notes.
 
-use crate::known::{Born, Known};
+use crate::known::{Begun, Known, begun_in};
 use crate::lines::words_behind;
 use crate::objects::{at_bin, busy, object_of, ref_did};
 use crate::words::Words;
 use crate::{LineNo, TextNo};
-use pool_law::{CacheNo, Did, Note, Object, Parcel, RegionId, ViewData};
+use pool_law::{CacheNo, Did, Note, Object, Parcel, RegionId, RootId, ViewData};
 use std::alloc::Global;
 
 /// The notes of a text, as they are made one after another.
@@ -15,8 +15,8 @@ pub struct Notes {
     known: Known,
     // How many arenas there are.
     arenas: u32,
-    // The root that ended last: the region that it leaves is put away next.
-    ended: Option<Born>,
+    // The use that an end or a growth ended last: its region is put away next.
+    left: Option<Begun>,
 }
 
 impl Notes {
@@ -36,7 +36,7 @@ impl Notes {
             alloc,
             known,
             arenas,
-            ended: None,
+            left: None,
         })
     }
 
@@ -58,9 +58,9 @@ impl Notes {
     // A step on the count of a root.
     fn reference(&self, words: &mut Words) -> Result<Note, TextNo> {
         let key = words.pair('.')?;
-        let born = self.known.born(words, key)?;
+        let root = self.known.born(words, key)?;
         Ok(Note::Ref {
-            root: born.root,
+            root,
             did: ref_did(words)?,
         })
     }
@@ -74,7 +74,7 @@ impl Notes {
             Object::Cache { lane: owner, .. } => self.at_cache(words, owner)?,
             Object::Bin(_) => at_bin(words)?,
             Object::Mail { .. } => self.at_mail(words)?,
-            Object::Root(place) => self.at_root(words, place)?,
+            Object::Root(place) => self.at_root(words, place, number)?,
         };
         Ok(Note::At {
             object,
@@ -119,9 +119,9 @@ impl Notes {
             Ok(Did::Close(words.small()?))
         } else if word == "hit" {
             let taking = words.number()?;
-            Ok(Did::Hit(self.known.region_hit(words, (arena, taking))?))
+            Ok(Did::Hit(self.known.region_so_far(words, (arena, taking))?))
         } else if word == "kept" {
-            Ok(Did::Kept(self.region_ended(words, arena)?))
+            Ok(Did::Kept(self.region_kept(words, arena)?))
         } else if word == "back" {
             self.back(words, arena)
         } else if word == "shed" {
@@ -147,12 +147,12 @@ impl Notes {
         Ok(Did::Back { region, no })
     }
 
-    // The region of the root that ended last, by its taking.
-    fn region_ended(&self, words: &mut Words, arena: u32) -> Result<RegionId, TextNo> {
+    // The region of the use that ended last, by its taking; or of another, which was obtained and not used.
+    fn region_kept(&mut self, words: &mut Words, arena: u32) -> Result<RegionId, TextNo> {
         let key = (arena, words.number()?);
-        match self.ended {
-            Some(ended) => self.known.region(words, key, ended.uses),
-            None => self.known.region_used(words, key),
+        match self.left.take() {
+            Some(left) if left.taking == key => self.known.region(words, key, left.uses),
+            _ => self.known.region_so_far(words, key),
         }
     }
 
@@ -173,13 +173,13 @@ impl Notes {
             return Ok(Parcel { view: None });
         }
         let key = words.pair('.')?;
-        let born = self.known.born(words, key)?;
+        let root = self.known.born(words, key)?;
         let (offset, len) = words.pair('+')?;
         let reader = words.small()?;
         let writer = words.small()?;
         Ok(Parcel {
             view: Some(ViewData {
-                root: born.root,
+                root,
                 offset,
                 len,
                 reader,
@@ -188,7 +188,7 @@ impl Notes {
         })
     }
 
-    fn at_root(&mut self, words: &mut Words, place: u32) -> Result<Did, TextNo> {
+    fn at_root(&mut self, words: &mut Words, place: u32, number: u64) -> Result<Did, TextNo> {
         let word = words.next();
         if word == "set" {
             Ok(Did::Set {
@@ -204,22 +204,42 @@ impl Notes {
             Ok(Did::Touch)
         } else if word == "birth" {
             self.birth(words, place)
+        } else if word == "room" {
+            Ok(Did::Room {
+                asked: words.small()?,
+                capacity: words.small()?,
+            })
+        } else if word == "extend" {
+            Ok(Did::Extend(words.small()?))
+        } else if word == "grow" {
+            self.left = self.known.begun_before(place, number);
+            self.growth(words)
         } else if word == "end" {
+            self.left = self.known.begun_before(place, number);
             let generation = words.small()?;
-            let born = self.known.born(words, (place, generation))?;
-            self.ended = Some(born);
-            Ok(Did::End(born.root))
+            Ok(Did::End(self.known.born(words, (place, generation))?))
         } else {
             Err(words.refused(LineNo::Form))
         }
     }
 
-    fn birth(&self, words: &mut Words, place: u32) -> Result<Did, TextNo> {
+    fn birth(&mut self, words: &mut Words, place: u32) -> Result<Did, TextNo> {
         let generation = words.small()?;
-        let born = self.known.born(words, (place, generation))?;
-        let region = self.known.region(words, born.taking, born.uses)?;
-        Ok(Did::Birth {
-            root: born.root,
+        let begun = begun_in(words)?;
+        let root = RootId {
+            place,
+            generation,
+            capacity: begun.capacity,
+        };
+        let region = self.known.region_begun(words, begun)?;
+        Ok(Did::Birth { root, region })
+    }
+
+    fn growth(&mut self, words: &mut Words) -> Result<Did, TextNo> {
+        let begun = begun_in(words)?;
+        let region = self.known.region_begun(words, begun)?;
+        Ok(Did::Grow {
+            capacity: begun.capacity,
             region,
         })
     }

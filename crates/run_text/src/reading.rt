@@ -29,7 +29,8 @@ struct Told {
 /// have made this text, what is derived may be anything: whether the run is legal is to be asked of
 /// `run_check`. A line that is refused is the first that can't be understood, or in which the text of the
 /// run that was derived differs. `Memory` comes only for want of memory; nothing is proved of the other refusals'
-/// causes. Takes time linear in the length of the text.
+/// causes. Takes time linear in the length of the text, but for a search among the births and growths at each
+/// of them and at each end.
 pub fn read_run(alloc: Global, trace: Trace, shape: Shape, text: &str) -> Result<Run, TextNo>
     ensures { IfOk result (λ run. Reads trace shape text.now run) }
 {

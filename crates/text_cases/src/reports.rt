@@ -27,6 +27,20 @@ const REGION: RegionId = RegionId {
     uses: 3,
 };
 
+// A region with other numbers, into which a root grows.
+const LARGER: RegionId = RegionId {
+    place: Place {
+        arena: 1,
+        chunk: 0,
+        offset: 12288,
+        len: 112,
+    },
+    class: 6,
+    owner: 0,
+    taking: 9,
+    uses: 1,
+};
+
 const ROOT: RootId = RootId {
     place: 5,
     generation: 2,
@@ -174,7 +188,26 @@ fn bin_and_root_notes(alloc: Global) -> Result<Vec<Note>, AllocError> {
         at(place, 2, set),
         at(place, 3, get),
         at(place, 4, Did::Touch),
-        at(place, 5, Did::End(ROOT)),
+        at(place, 8, Did::End(ROOT)),
+    ]?;
+    Ok(notes)
+}
+
+// The root's capacity is asked for, and it grows.
+fn growth_notes(alloc: Global) -> Result<Vec<Note>, AllocError> {
+    let place = Object::Root(5);
+    let room = Did::Room {
+        asked: 100,
+        capacity: 24,
+    };
+    let grow = Did::Grow {
+        capacity: 100,
+        region: LARGER,
+    };
+    let notes = vec![in alloc;
+        at(place, 5, room),
+        at(place, 6, Did::Extend(30)),
+        at(place, 7, grow),
     ]?;
     Ok(notes)
 }
@@ -186,18 +219,19 @@ const BIN_AND_ROOT: &str = "note 0 bin 0 1 handle 5\n\
     note 0 root 5 2 set 4 00ff9a\n\
     note 0 root 5 3 get 24 -\n\
     note 0 root 5 4 touch\n\
-    note 0 root 5 5 end 2\n\
+    note 0 root 5 8 end 2\n\
+    note 1 root 5 5 room 100 24\n\
+    note 1 root 5 6 extend 30\n\
+    note 1 root 5 7 grow 1.0+12288 9 1 100\n\
     end roots 1 live 1 leaks 0\n";
 
 #[test]
 fn notes_of_bins_and_roots(rt: HostRuntime) -> Result<(), Fail> {
     let alloc = rt.alloc();
-    let notes = bin_and_root_notes(alloc)?;
-    let text = text_of(
-        alloc,
-        &run_of(alloc, vec![in alloc; noted(alloc, notes)]?),
-        true,
-    )?;
+    let first = bin_and_root_notes(alloc)?;
+    let second = growth_notes(alloc)?;
+    let logs = vec![in alloc; noted(alloc, first), noted(alloc, second)]?;
+    let text = text_of(alloc, &run_of(alloc, logs), true)?;
     assert_eq!(rt; from_utf8(text.items()), Ok(BIN_AND_ROOT));
     Ok(())
 }
