@@ -5,13 +5,13 @@ use Rattle.std.specs.Io.KnownBytes.{Keeps}
 use Rattle.trace_top.specs.declared.answer.Status.{Status}
 use Rattle.trace_top.specs.declared.answer.Status.TheVariants.{Whole, Leaks, Words, Trace, ReadFault, WriteFault, Memory}
 use Rattle.trace_top.specs.declared.answer.Outcome.{Outcome}
-use Rattle.trace_top.specs.declared.words.Generation.{Generation}
-use Rattle.trace_top.specs.declared.words.RunOptions.{RunOptions}
-use Rattle.trace_top.specs.declared.words.Origin.{Origin}
-use Rattle.trace_top.specs.declared.words.Origin.TheVariants.{Source, Generated}
+use Rattle.run_words.specs.declared.words.Generation.{Generation}
+use Rattle.run_words.specs.declared.words.RunOptions.{RunOptions}
+use Rattle.run_words.specs.declared.words.Origin.{Origin}
+use Rattle.run_words.specs.declared.words.Origin.TheVariants.{Source, Generated}
 use Rattle.text_ends.specs.Transfer.{ReadsText}
-use Rattle.trace_top.specs.Pools.{Accepted, reading_for}
-use Rattle.trace_top.specs.Words.{options_of}
+use Rattle.run_words.specs.Pools.{Accepted, reading_for}
+use Rattle.run_words.specs.Words.{options_of}
 use Rattle.text_ends.specs.Spans.{SourceSpan, SinkSpan, IsUnread}
 use Rattle.trace_top.specs.Outcomes.{Explains, ExplainsOptions, ExplainsOrigin, ExplainsGenerated, ExplainsSource, ExplainsText, ExplainsRun}
 

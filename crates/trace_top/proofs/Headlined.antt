@@ -7,10 +7,10 @@ use Rattle.order_laws.proofs.HeadlineInOrderLaw.{headline-in_order}
 use Rattle.trace_top.specs.declared.answer.Status.{Status}
 use Rattle.trace_top.specs.declared.answer.Status.TheVariants.{Whole, Leaks, Words, Trace, ReadFault, WriteFault, Memory}
 use Rattle.trace_top.specs.declared.answer.Outcome.{Outcome}
-use Rattle.trace_top.specs.declared.words.RunOptions.{RunOptions}
-use Rattle.trace_top.specs.declared.words.Origin.{Origin}
-use Rattle.trace_top.specs.declared.words.Origin.TheVariants.{Source, Generated}
-use Rattle.trace_top.specs.Pools.{Accepted}
+use Rattle.run_words.specs.declared.words.RunOptions.{RunOptions}
+use Rattle.run_words.specs.declared.words.Origin.{Origin}
+use Rattle.run_words.specs.declared.words.Origin.TheVariants.{Source, Generated}
+use Rattle.run_words.specs.Pools.{Accepted}
 use Rattle.text_ends.specs.Spans.{SourceSpan, SinkSpan}
 use Rattle.trace_top.specs.Outcomes.{HasRun, Explains, ExplainsOptions, ExplainsOrigin, ExplainsSource, ExplainsText, ExplainsRun}
 

@@ -4,7 +4,4 @@ pub mod Runs
 pub mod Tables
 pub mod Exact
 pub mod Explain
-pub mod PoolLaws
-pub mod WordLaws
-pub mod FormLaws
 pub mod Headlined

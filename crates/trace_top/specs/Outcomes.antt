@@ -7,18 +7,18 @@ use Rattle.pool_law.specs.Summary.{summary_of}
 use Rattle.lane_core.specs.Played.{IsPlayed}
 use Rattle.trace_make.specs.Generated.{generated}
 use Rattle.trace_text.specs.declared.TraceNo.{TraceNo}
-use Rattle.trace_top.specs.declared.words.Generation.{Generation}
-use Rattle.trace_top.specs.declared.words.RunOptions.{RunOptions}
-use Rattle.trace_top.specs.declared.words.Origin.{Origin}
-use Rattle.trace_top.specs.declared.words.Origin.TheVariants.{Source, Generated}
+use Rattle.run_words.specs.declared.words.Generation.{Generation}
+use Rattle.run_words.specs.declared.words.RunOptions.{RunOptions}
+use Rattle.run_words.specs.declared.words.Origin.{Origin}
+use Rattle.run_words.specs.declared.words.Origin.TheVariants.{Source, Generated}
 use Rattle.trace_top.specs.declared.answer.Status.{Status}
 use Rattle.trace_top.specs.declared.answer.Status.TheVariants.{Whole, Leaks, Words, Trace, ReadFault, WriteFault, Memory}
 use Rattle.trace_top.specs.declared.answer.Outcome.{Outcome}
 use Rattle.text_ends.specs.Ends.{Rose, TakesSome}
 use Rattle.text_ends.specs.Transfer.{ReadsText}
 use Rattle.text_ends.specs.Spans.{SourceSpan, SinkSpan, IsUnread, IsUnwritten, IsTaken}
-use Rattle.trace_top.specs.Pools.{Accepted, reading_for, shape_of}
-use Rattle.trace_top.specs.Words.{options_of}
+use Rattle.run_words.specs.Pools.{Accepted, reading_for, shape_of}
+use Rattle.run_words.specs.Words.{options_of}
 
 -- the outcome has neither a run nor a refusal
 pub record IsBare (o : Outcome) : Type 0 where

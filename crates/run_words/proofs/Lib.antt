@@ -1,0 +1,3 @@
+pub mod PoolLaws
+pub mod WordLaws
+pub mod FormLaws

@@ -1,0 +1,4 @@
+pub mod Settings
+pub mod Words
+pub mod WordForm
+pub mod Pools

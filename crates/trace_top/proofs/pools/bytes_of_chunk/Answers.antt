@@ -1,9 +1,0 @@
-use Rattle.std.proofs.Common.{◌*◌, ◌^◌, ◌≤◌, arith}
-use Rattle.trace_top.proofs.PoolLaws.{chunk_most}
-use Rattle.trace_top.proofs.pools.bytes_of_chunk.Goals as goal
-
-pub returns-clause-most : goal.returns-clause-most
-returns-clause-most c =
-    let bytes : c.from.result * 2 ^ c.shape-page.result.order ≤ 67108864 =
-    rw (c.from.ensures, c.shape-page.ensures) (chunk_most c.args.options.now c.requires) in
-    omega (arith, bytes)

@@ -1,7 +1,0 @@
-use Rattle.std.proofs.Common.{sym}
-use Rattle.trace_top.proofs.WordLaws.{in_range}
-use Rattle.trace_top.proofs.words.number_given.Goals as goal
-
-pub returns-clause-within : goal.returns-clause-within
-returns-clause-within c =
-    in_range c.in_ok-setting.setting c.args.text.now c.in_ok-number.number (sym c.in_ok-number.ensures)
