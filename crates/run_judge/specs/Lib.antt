@@ -1,4 +1,2 @@
-pub mod Cases
-pub mod Steps
 pub mod Told
 pub mod Outcomes

@@ -9,6 +9,8 @@ use Rattle.run_check.specs.declared.breach.Breach.TheVariants.{Measures, Lanes, 
 use Rattle.log_order.specs.declared.spots.Spot.{Spot}
 use Rattle.play_check.specs.declared.Played.{Played}
 use Rattle.play_check.specs.declared.Played.TheVariants.{Illegal, Ordered, Circle, Stuck}
+use Rattle.run_input.specs.declared.fault.InputNo.{InputNo}
+use Rattle.run_input.specs.declared.fault.InputNo.TheVariants.{Form, ReadFault, Memory, Unread}
 use Rattle.run_judge.specs.declared.answer.Status.{Status}
 use Rattle.run_judge.specs.declared.answer.Status.TheVariants as statuses
 
@@ -18,6 +20,13 @@ status_for (Illegal breach) = statuses.Illegal
 status_for (Ordered order) = statuses.Legal
 status_for (Circle circle) = statuses.Illegal
 status_for (Stuck order) = statuses.Undecided
+
+-- the status where no run was found
+abbrev pub status_without : InputNo → Status
+status_without Form = statuses.Input
+status_without ReadFault = statuses.ReadFault
+status_without Memory = statuses.Memory
+status_without (Unread fault) = statuses.Unread
 
 -- a note, by its lane and how many of that lane's stand before it
 abbrev pub spot_line : Spot → Text

@@ -1,10 +1,10 @@
 //! What the program answers.
 
 ghost use Rattle.std.specs.Prelude.{◌≡◌};
-ghost use Rattle.run_judge.specs.Told.{status_for};
+ghost use Rattle.run_judge.specs.Told.{status_for, status_without};
 
 use play_check::Played;
-use run_text::LineNo;
+use run_input::{Fault, InputNo};
 
 /// How a run of the program ended. The number is the program's exit status.
 #[derive(Clone, Copy, Debug, PartialEq, Eq)]
@@ -40,13 +40,16 @@ pub fn status_for(played: &Played) -> Status
     }
 }
 
-/// The line of a text that is refused, and why.
-#[derive(Clone, Copy, Debug, PartialEq, Eq, Drop)]
-pub struct Fault {
-    /// The number of the line, from 1.
-    pub line: u32,
-    /// Why it can't stand there.
-    pub why: LineNo,
+/// The status where no run was found.
+pub fn status_without(why: InputNo) -> Status
+    ensures { result ≡ status_without why }
+{
+    match why {
+        InputNo::Form => Status::Input,
+        InputNo::ReadFault => Status::ReadFault,
+        InputNo::Memory => Status::Memory,
+        InputNo::Unread(_) => Status::Unread,
+    }
 }
 
 /// What a run of the program came to.
@@ -68,14 +71,5 @@ pub fn line_for(status: Status) -> &'static str {
         Status::ReadFault => "read fault\n",
         Status::WriteFault => "write fault\n",
         Status::Memory => "out of memory\n",
-    }
-}
-
-/// What is told of a line that is refused.
-pub fn reason_for(why: LineNo) -> &'static str {
-    match why {
-        LineNo::Form => "no run of this trace has such a line here",
-        LineNo::Root => "it names a root that no note tells the birth of",
-        LineNo::Region => "it names a region that no note tells the taking of",
     }
 }

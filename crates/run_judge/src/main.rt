@@ -9,11 +9,10 @@ use text_ends::{StdSink, StdSource};
 
 mod answer;
 mod breach;
-mod reading;
 mod run;
 mod text;
 
-use answer::{Outcome, Status, line_for, reason_for};
+use answer::{Outcome, Status, line_for};
 use run::run_judge;
 
 fn main(rt: HostRuntime) -> ExitCode {
@@ -40,9 +39,7 @@ fn tell(rt: &HostRuntime, outcome: &Outcome) {
             let _ = rt.stderr().write_all(line.as_bytes());
         }
         Some(fault) => {
-            let number = fault.line;
-            let reason = reason_for(fault.why);
-            let _ = eprintln!(rt; "refused text line {number}: {reason}");
+            let _ = eprintln!(rt; "{fault}");
         }
     }
 }

@@ -2,19 +2,16 @@
 
 ghost use Rattle.std.specs.Prelude.{◌≡◌, ◌≢◌, [], map, string_bytes, None};
 ghost use Rattle.text_ends.specs.Spans.{sink_span, source_span};
-ghost use Rattle.run_judge.specs.Outcomes.{Explains, ExplainsAsked, ExplainsCase, ExplainsPlayed, ExplainsSource, ExplainsText};
-ghost use Rattle.run_judge.specs.Cases.{case_in};
-ghost use Rattle.serde_json.specs.View.{view};
+ghost use Rattle.run_judge.specs.Outcomes.{Explains, ExplainsPlayed, ExplainsRun, ExplainsSource};
+ghost use Rattle.run_judge.specs.Told.{status_without};
 
-use crate::answer::{Fault, Outcome, Status, status_for};
-use crate::reading::{Asked, asked_from, read_value, text_in};
+use crate::answer::{Outcome, Status, status_for, status_without};
 use crate::text::text_for;
 use play_check::{Played, check_played};
-use run_text::{TextNo, read_run};
-use serde_json::Value;
+use pool_law::Run;
+use run_input::{InputNo, run_from};
 use std::alloc::Global;
-use text_ends::{Input as Reading, Output, Sink, Source, read_all, write_all};
-use trace_text::RowNo;
+use text_ends::{Output, Sink, Source, write_all};
 
 // An outcome with nothing more to tell.
 fn bare(status: Status) -> Outcome
@@ -55,61 +52,34 @@ pub fn run_judge<S: Source, K: Sink>(
     }
 }
 
-#[tactic(auto, unfolding(crate::specs::Outcomes::ExplainsSource))]
 fn with_source<S: Source, K: Sink>(alloc: Global, src: &mut S, out: &mut K) -> Outcome
     ensures { ExplainsSource result.status (source_span S.left S.faults src.old src.new)
         (sink_span K.got K.faults K.empty_takes out.old out.new) }
 {
-    match read_all(alloc, src) {
-        Reading::Fault => bare(Status::ReadFault),
-        Reading::Memory => bare(Status::Memory),
-        Reading::Text(text) => with_text(alloc, &text, out),
+    match run_from(alloc, src) {
+        Ok(run) => with_run(alloc, &run, out),
+        Err(why) => without_run(why),
     }
 }
 
-#[tactic(auto, using(crate::proofs::OutcomeLaws::case_unread), unfolding(crate::specs::Outcomes::ExplainsAsked))]
-fn with_text<K: Sink>(alloc: Global, text: &[u8], out: &mut K) -> Outcome
-    ensures { ExplainsText result.status text.now
-        (sink_span K.got K.faults K.empty_takes out.old out.new) }
+// The outcome where no run was found.
+fn without_run(why: InputNo) -> Outcome
+    ensures { result.status ≡ status_without why }
 {
-    match read_value(alloc, text) {
-        Ok(value) => with_value(alloc, &value, out),
-        Err(RowNo::Form) => bare(Status::Input),
-        Err(RowNo::Memory) => bare(Status::Memory),
+    Outcome {
+        status: status_without(why),
+        fault: why.fault(),
     }
 }
 
-#[tactic(auto, using(crate::proofs::OutcomeLaws::text_wanting, crate::proofs::OutcomeLaws::asked_wanting), unfolding(crate::specs::Outcomes::ExplainsAsked))]
-fn with_value<K: Sink>(alloc: Global, value: &Value, out: &mut K) -> Outcome
-    ensures { ExplainsAsked result.status (case_in (view value.now))
+#[tactic(auto, unfolding(crate::specs::Outcomes::ExplainsRun))]
+fn with_run<K: Sink>(alloc: Global, run: &Run, out: &mut K) -> Outcome
+    ensures { ExplainsRun result.status run.now
         (sink_span K.got K.faults K.empty_takes out.old out.new) }
 {
-    match asked_from(alloc, value) {
-        Ok(asked) => match text_in(value) {
-            Some(text) => with_case(alloc, asked, text, out),
-            None => bare(Status::Input),
-        },
-        Err(RowNo::Form) => bare(Status::Input),
-        Err(RowNo::Memory) => bare(Status::Memory),
-    }
-}
-
-#[tactic(auto, unfolding(crate::specs::Outcomes::ExplainsCase))]
-fn with_case<K: Sink>(alloc: Global, asked: Asked, text: &str, out: &mut K) -> Outcome
-    ensures { ExplainsCase result.status (asked, text.now)
-        (sink_span K.got K.faults K.empty_takes out.old out.new) }
-{
-    let Asked { trace, shape } = asked;
-    match read_run(alloc, trace, shape, text) {
-        Ok(run) => match check_played(alloc, &run) {
-            Ok(played) => with_played(alloc, &played, out),
-            Err(_) => bare(Status::Memory),
-        },
-        Err(TextNo::Memory) => bare(Status::Memory),
-        Err(TextNo::Line { number, why }) => Outcome {
-            status: Status::Unread,
-            fault: Some(Fault { line: number, why }),
-        },
+    match check_played(alloc, run) {
+        Ok(played) => with_played(alloc, &played, out),
+        Err(_) => bare(Status::Memory),
     }
 }
 

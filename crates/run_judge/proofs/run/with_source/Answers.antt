@@ -1,7 +1,10 @@
-use Rattle.run_judge.proofs.OutcomeLaws.{of_text}
+use Rattle.std.proofs.Common.{rules}
+use Rattle.std.specs.Prelude.{Ok, Err}
+use Rattle.run_judge.proofs.OutcomeLaws.{of_found}
 use Rattle.run_judge.proofs.run.with_source.Goals as goal
 
-pub returns-in-Text : goal.returns-in-Text
-returns-in-Text g c =
-    let explained = rw c.deref.ensures.value at c.with_text.ensures in
-    of_text _ c.in-Text.text.items _ _ c.in-Text.ensures.0 c.in-Text.ensures.1 explained
+pub returns-in-Ok : goal.returns-in-Ok
+returns-in-Ok g c = of_found _ (Ok c.in-Ok.run') _ _ c.in-Ok.ensures c.with_run.ensures
+
+pub returns-in-Err : goal.returns-in-Err
+returns-in-Err g c = of_found _ (Err c.in-Err.why) _ _ c.in-Err.ensures (search rules)

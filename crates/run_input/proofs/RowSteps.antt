@@ -10,8 +10,8 @@ use Rattle.pool_law.specs.Text.{Text}
 use Rattle.trace_text.specs.declared.items.RowNo.{RowNo}
 use Rattle.trace_text.specs.declared.items.RowNo.TheVariants.{Form, Memory}
 use Rattle.trace_text.proofs.LaneSteps.{rest_at}
-use Rattle.run_judge.specs.Cases.{texts_after}
-use Rattle.run_judge.specs.Steps.{IsGivenAs}
+use Rattle.run_input.specs.Cases.{texts_after}
+use Rattle.run_input.specs.Steps.{IsGivenAs}
 
 -- a value that is a text
 pub text_taken : (front new : List (String Global)) (text : String Global) (i : ℕ) (rows : List Value) (row : Value)

@@ -2,24 +2,25 @@
 
 ghost use Rattle.std.specs.Prelude.{◌≡◌, [], IfOk, codes, map, option_and_then, option_map, string_bytes};
 ghost use Rattle.std.specs.Result.{result_ok};
+ghost use Rattle.pool_law.specs.Limits.{IsShape};
 ghost use Rattle.serde_json.specs.Find.{as_str, get};
 ghost use Rattle.serde_json.specs.View.{view};
 ghost use Rattle.trace_text.specs.Items.{array_in};
 ghost use Rattle.trace_text.specs.Options.{AreOptions};
-ghost use Rattle.trace_top.specs.Pools.{reading_for};
-ghost use Rattle.run_judge.specs.Cases.{asked_by, asked_in, pool_in, text_in, texts_after, value_in};
-ghost use Rattle.run_judge.specs.Steps.{IsGiven, IsGivenAs};
+ghost use Rattle.run_words.specs.Pools.{reading_for};
+ghost use Rattle.run_input.specs.Cases.{asked_by, asked_in, pool_in, text_in, texts_after, value_in};
+ghost use Rattle.run_input.specs.Steps.{IsGiven, IsGivenAs};
 
 use pool_law::{Options, Shape, Trace};
+use run_words::{Origin, read_for, read_words, shape};
 use serde_json::Value;
 use std::alloc::{AllocError, Global};
 use trace_text::{Read, RowNo, TEXT_LIMIT, TraceNo, array_of, has_keys_of, value_from};
-use trace_top::{Origin, read_for, read_words, shape};
 
 /// The keys of the object.
 const KEYS: [&str; 3] = ["words", "trace", "text"];
 
-/// A trace and a pool, of which a run is to be judged.
+/// A trace and a pool, of which input tells a run.
 #[derive(Drop)]
 pub struct Asked {
     /// What the lanes were asked to do.
@@ -46,7 +47,8 @@ pub fn read_value(alloc: Global, text: &[u8]) -> Result<Value, RowNo>
 /// The trace and the pool that a JSON value asks about.
 #[tactic(auto, unfolding(crate::specs::Cases::asked_in))]
 pub fn asked_from(alloc: Global, value: &Value) -> Result<Asked, RowNo>
-    ensures { IsGiven result (asked_in (view value.now)) }
+    ensures asked { IsGiven result (asked_in (view value.now)) }
+    ensures within { IfOk result (λ asked. IsShape asked.shape) }
 {
     if !has_keys_of(&KEYS, value) {
         return Err(RowNo::Form);
@@ -84,7 +86,9 @@ pub fn text_in(object: &Value) -> Option<&str>
 // The trace of a text, and the pool that it asks for beside words.
 fn read_asked(alloc: Global, pool: &Options, text: &str) -> Result<Asked, RowNo>
     requires { AreOptions pool.now }
-    ensures { IsGiven result (option_map asked_by (result_ok (reading_for pool.now text.now))) }
+    ensures asked { IsGiven result
+        (option_map asked_by (result_ok (reading_for pool.now text.now))) }
+    ensures within { IfOk result (λ asked. IsShape asked.shape) }
 {
     match read_for(alloc, pool, text.as_bytes()) {
         Ok(Read { trace, options }) => {

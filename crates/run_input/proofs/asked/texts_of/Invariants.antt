@@ -1,7 +1,7 @@
 use Rattle.std.proofs.Common.{◌≡◌, map, drop, [], string_bytes}
 use Rattle.serde_json.specs.View.{view}
-use Rattle.run_judge.specs.Cases.{texts_after}
-use Rattle.run_judge.proofs.reading.texts_of.Given as goal
+use Rattle.run_input.specs.Cases.{texts_after}
+use Rattle.run_input.proofs.asked.texts_of.Given as goal
 
 abbrev pub invariant-loop-value : goal.invariant-loop-value
 invariant-loop-value l =

@@ -1,4 +1,4 @@
--- Which texts ask for a judgement, and of what: words, a trace and a text, as a JSON object.
+-- Which texts ask about a run, and of what: words, a trace and a text, as a JSON object.
 use Rattle.std.specs.Prelude.{nat_lt, if◌then◌else◌, List, [], ◌∷◌, ◌++◌, length, codes, Option, Some, None}
 use Rattle.std.specs.Result.{result_ok}
 use Rattle.serde_json.specs.Data.{Data}
@@ -8,11 +8,11 @@ use Rattle.pool_law.specs.Text.{Text}
 use Rattle.trace_text.specs.Items.{◌>>=◌, only_if, array_in}
 use Rattle.trace_text.specs.Options.{has_keys_of}
 use Rattle.trace_text.specs.Reading.{text_limit, value_of}
-use Rattle.trace_top.specs.declared.words.Origin.{Origin}
-use Rattle.trace_top.specs.declared.words.Origin.TheVariants.{Source, Generated}
-use Rattle.trace_top.specs.Pools.{Accepted, reading_for, shape_of}
-use Rattle.trace_top.specs.Words.{options_of}
-use Rattle.run_judge.specs.declared.reading.Asked.{Asked}
+use Rattle.run_words.specs.declared.words.Origin.{Origin}
+use Rattle.run_words.specs.declared.words.Origin.TheVariants.{Source, Generated}
+use Rattle.run_words.specs.Pools.{Accepted, reading_for, shape_of}
+use Rattle.run_words.specs.Words.{options_of}
+use Rattle.run_input.specs.declared.asked.Asked.{Asked}
 
 abbrev pub case_keys : List Text
 case_keys = codes "words" ∷ codes "trace" ∷ codes "text" ∷ []

@@ -1,6 +1,6 @@
 use Rattle.std.proofs.Common.{rules}
-use Rattle.run_judge.proofs.RowSteps.{text_taken, text_refused}
-use Rattle.run_judge.proofs.reading.texts_of.Goals as goal
+use Rattle.run_input.proofs.RowSteps.{text_taken, text_refused}
+use Rattle.run_input.proofs.asked.texts_of.Goals as goal
 
 pub returns-in_err-text : goal.returns-in_err-text
 returns-in_err-text c =

@@ -1,0 +1,33 @@
+-- What is found of input: a run that has what it asks about, or why there is none.
+use Rattle.std.specs.Prelude.{◌≡◌, Option, Some, None, Result, Ok, Err}
+use Rattle.pool_law.specs.declared.run.Run.{Run}
+use Rattle.pool_law.specs.Limits.{IsShape}
+use Rattle.pool_law.specs.Text.{Text}
+use Rattle.run_text.specs.Reads.{Reads}
+use Rattle.text_ends.specs.Ends.{Rose}
+use Rattle.text_ends.specs.Spans.{SourceSpan}
+use Rattle.text_ends.specs.Transfer.{ReadsText}
+use Rattle.run_input.specs.declared.fault.InputNo.{InputNo}
+use Rattle.run_input.specs.declared.fault.InputNo.TheVariants.{Form, ReadFault, Memory, Unread}
+use Rattle.run_input.specs.Cases.{Case, case_of}
+
+-- a run of the trace and the pool that are asked about, with the text
+pub record IsRunOf (case : Case) (run : Run) : Type 0 where
+  pub reads : Reads case.0.trace case.0.shape case.1 run
+  pub within : IsShape run.shape
+
+-- a run of what is asked about; or nothing is asked about; or a case is, and a line of its text was refused
+abbrev pub IsTold : Result Run InputNo → Option Case → Type 0
+IsTold (Ok run) asked = (case : Case) × ((asked ≡ Some case) × IsRunOf case run)
+IsTold (Err Form) asked = asked ≡ None
+IsTold (Err ReadFault) asked = ⊥
+IsTold (Err Memory) asked = Unit {0}
+IsTold (Err (Unread fault)) asked = (case : Case) × (asked ≡ Some case)
+
+-- the source failed; or there was no memory; or a text was read, and this is told of what it asks about
+abbrev pub IsFound : Result Run InputNo → SourceSpan → Type 0
+IsFound (Err ReadFault) src = Rose src.faults src.faults_then
+IsFound (Err Memory) src = src.faults_then ≡ src.faults
+IsFound found src =
+    (text : Text) × (ReadsText src.left src.left_then text
+    × (src.faults_then ≡ src.faults) × IsTold found (case_of text))
