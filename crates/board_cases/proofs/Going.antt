@@ -1,8 +1,8 @@
 -- A seat of a board that goes on from call to call.
-use Rattle.std.proofs.Common.{ℕ, ◌+◌, ◌≤◌, arith}
+use Rattle.std.proofs.Common.{◌≡◌, ℕ, ◌+◌, ◌≤◌, ◌∙◌, arith}
 use Rattle.shared_composite.specs.declared.board.Board.{Board}
 use Rattle.shared_composite.specs.declared.board.BoardSeat.{BoardSeat}
-use Rattle.board_cases.specs.Seats.{Can, Stays}
+use Rattle.board_cases.specs.Seats.{Can, Stays, Goes, used}
 
 module _ (board : Board) where
   -- what is left serves the next call
@@ -22,3 +22,15 @@ module _ (board : Board) where
     moves_left = (let x = can.moves_left in omega (arith, x, le));
     turns_left = (let x = can.turns_left in omega (arith, x, lf));
   }
+
+  pub stays_on : (a b d e m t : ℕ) (old mid new : BoardSeat) → Stays board a b old mid → Stays board d e mid new
+      → a + d ≤ m → b + e ≤ t → Stays board m t old new
+  stays_on a b d e m t old mid new x y le lf = record {
+    own = y.own;
+    counts = y.counts;
+    moves_left = (let p = x.moves_left in let q = y.moves_left in omega (arith, p, q, le));
+    turns_left = (let p = x.turns_left in let q = y.turns_left in omega (arith, p, q, lf));
+  }
+
+  pub goes_from : (old mid new : BoardSeat) → used mid ≡ used old → Goes board mid new → Goes board old new
+  goes_from old mid new same goes = record { own = goes.own; used_up = goes.used_up ∙ same }

@@ -93,7 +93,18 @@ first_text : (pool : SharedPool) (cores : List Core) → 0 < length cores → Al
 first_text pool [] some all = absurd (omega (arith, some))
 first_text pool (c ∷ cs) some all = (c, refl, all 0 c (omega arith))
 
--- a list that was filled with two cores
+-- a list that was filled with one core
+pub one_text : (pool : SharedPool) (none one : List Core) (a : Core) → none ≡ [] → one ≡ none ++ a ∷ []
+    → IsText pool a → (0 < length one) × (length one ≤ 16) × All (IsText pool) one
+one_text pool none one a empty filled text =
+    let e : one ≡ a ∷ [] = filled ∙ ap (λ (cs : List Core). cs ++ a ∷ []) empty in
+    let n : length one ≡ 1 = ap (λ (cs : List Core). length cs) e in (
+      omega (arith, n),
+      omega (arith, n),
+      subst (All (IsText pool)) (sym e) (All-cons (IsText pool) a [] text (All-nil (IsText pool))),
+    )
+
+-- and with one more
 pub two_texts : (pool : SharedPool) (none one two : List Core) (a b : Core) → none ≡ [] → one ≡ none ++ a ∷ []
     → two ≡ one ++ b ∷ [] → IsText pool a → IsText pool b
     → (0 < length two) × (length two ≤ 16) × All (IsText pool) two

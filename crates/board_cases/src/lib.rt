@@ -1,6 +1,6 @@
 #![tactic(auto)]
-//! Shared composites as their callers use them: a board from its opening to its close, and a read that
-//! finds another thread at a component.
+//! Shared composites as threads use them: a board from its opening to its close, a read that finds
+//! another thread at a component, and a composite that ends once, whoever of five lets it go last.
 //!
 //! A crate with tests is proved twice, once with them; these stand over the crates as they are built,
 //! so that they aren't proved again for them.
@@ -11,5 +11,7 @@ mod cores;
 mod lives;
 #[cfg(test)]
 mod meeting;
+#[cfg(test)]
+mod races;
 #[cfg(test)]
 mod seats;

@@ -74,6 +74,7 @@ kept_self c = record {
   next = refl;
   ending = refl;
   same = (refl, refl);
+  number = refl;
   added = [];
   notes = sym (append-nil (view_of c.seat).own.notes);
   gets = All-nil (IsGetOf (roots_of c.parts));
@@ -86,6 +87,7 @@ kept_on old mid new x y = record {
   next = y.next ∙ x.next;
   ending = y.ending ∙ x.ending;
   same = (y.same.0 ∙ x.same.0, y.same.1 ∙ x.same.1);
+  number = y.number ∙ x.number;
   added = x.added ++ y.added;
   notes =
       y.notes ∙ ap (λ (es : List Entry). es ++ y.added) x.notes

@@ -1,6 +1,7 @@
 -- The steps of the end of a root, by what the pool answered.
 use Rattle.std.proofs.Common.{◌≡◌, ℕ, ◌+◌, ◌<◌, ◌≤◌, List, [], ◌∷◌, false, true, refl, sym, ap, ◌∙◌, subst, arith}
-use Rattle.std.specs.Prelude.{length, map, Option, Some, None, IfSome}
+use Rattle.std.specs.Prelude.{length, map, Option, Some, None, IfSome, IsTrue}
+use Rattle.std.specs.List.{list_all}
 use Rattle.pool_law.specs.declared.id.Region.{Region}
 use Rattle.pool_law.specs.declared.note.CacheNo.{CacheNo}
 use Rattle.pool_law.specs.declared.note.Did.{Did}
@@ -27,6 +28,7 @@ use Rattle.shared_pool.specs.SeatLanes.{lane_of}
 use Rattle.shared_pool.specs.Seats.{IsPoolSeat, IsNoted, FoundBusy}
 use Rattle.shared_pool.specs.SeatViews.{view_of, SameSeat}
 use Rattle.seat_work.specs.Changes.{no_change}
+use Rattle.seat_work.specs.Growth.{is_quiet_entry}
 use Rattle.seat_work.specs.Hands.{Hand, empty_hand}
 use Rattle.seat_work.proofs.Counting.{Tells, changes_by}
 use Rattle.seat_work.proofs.Grown.{Grows, note_at, grows_noted, grows_busy, grows_with}
@@ -59,11 +61,12 @@ module _ (pool : SharedPool) (old new : PoolSeat) (is : IsPoolSeat pool new) (sa
       → 0 < length es → v.turns + turns_in next ≤ w.turns + turns_in (Some stage)
       → Carries lane (hand_in (Some stage)) (hand_in next) es → Tells no_change es → IfSome next (Holds pool new)
       → ReadsOn (rest_in shape (Some stage)) (map entry_of es) none_asked (rest_in shape next)
-      → Ended pool old new stage next es
-  ended_by stage next es may grows some turns carries tells holds read = record {
+      → IsTrue (list_all is_quiet_entry es) → Ended pool old new stage next es
+  ended_by stage next es may grows some turns carries tells holds read quiet = record {
     same = same;
     seat = is;
     more = grows.more;
+    quiet = quiet;
     some = some;
     turns = turns;
     counts = changes_by no_change v w es 0 grows tells;
@@ -92,7 +95,7 @@ module _ (pool : SharedPool) (old new : PoolSeat) (is : IsPoolSeat pool new) (sa
                 (record { counts = λ root. refl; ended = λ root. refl; empty = refl; full = refl })
                 (handle_on pool old new (e ∷ []) 0 grows (hand_in (Some (AskCache r h))) (hand_in (Some (Home h))) h
                 carries refl may.holds.1)
-                (read_kept shape h.place number (entry_of e) r.id may.holds.2 refl),
+                (read_kept shape h.place number (entry_of e) r.id may.holds.2 refl) refl,
           )
 
       pub came_back : (why : CacheNo) → MayEnd pool old (AskCache r h)
@@ -111,7 +114,7 @@ module _ (pool : SharedPool) (old new : PoolSeat) (is : IsPoolSeat pool new) (sa
                   region_on pool old new (e ∷ []) 0 grows hand r carries may.holds.0,
                   handle_on pool old new (e ∷ []) 0 grows hand hand h carries refl may.holds.1,
                 )
-                (read_back shape h.place number (entry_of e) r.id may.holds.2 why refl),
+                (read_back shape h.place number (entry_of e) r.id may.holds.2 why refl) refl,
           )
 
       pub given_back : MayEnd pool old (AskArena r h)
@@ -129,7 +132,7 @@ module _ (pool : SharedPool) (old new : PoolSeat) (is : IsPoolSeat pool new) (sa
                 (record { counts = λ root. refl; ended = λ root. refl; empty = refl; full = refl })
                 (handle_on pool old new (e ∷ []) 0 grows (hand_in (Some (AskArena r h))) (hand_in (Some (Home h))) h
                 carries refl may.holds.1)
-                (read_given shape h.place number (entry_of e) r.id refl),
+                (read_given shape h.place number (entry_of e) r.id refl) refl,
           )
 
     pub gone_home : MayEnd pool old (Home h) → IsNoted pool old new (Bin h.lane) number (plain (Did.Home h.place))
@@ -143,7 +146,7 @@ module _ (pool : SharedPool) (old new : PoolSeat) (is : IsPoolSeat pool new) (sa
           ended_by (Home h) None (e ∷ []) may grows (omega arith) (omega (arith, turns))
               (handle_goes lane number v.own.number empty_hand h.lane h.place)
               (record { counts = λ root. refl; ended = λ root. refl; empty = refl; full = refl }) tt
-              (read_gone shape h.place number (entry_of e) h.lane may.holds.lane refl),
+              (read_gone shape h.place number (entry_of e) h.lane may.holds.lane refl) refl,
         )
 
   -- another seat was in the cache
@@ -162,7 +165,7 @@ module _ (pool : SharedPool) (old new : PoolSeat) (is : IsPoolSeat pool new) (sa
               region_on pool old new (Busy held ∷ []) 0 grows hand r carries may.holds.0,
               handle_on pool old new (Busy held ∷ []) 0 grows hand hand h carries refl may.holds.1,
             )
-            (read_away_busy shape h.place 0 (entry_of (Busy held)) r.id may.holds.2 held found.object refl),
+            (read_away_busy shape h.place 0 (entry_of (Busy held)) r.id may.holds.2 held found.object refl) refl,
       )
 
   -- a root ends, and its region is put away
@@ -202,7 +205,7 @@ module _ (pool : SharedPool) (old new : PoolSeat) (is : IsPoolSeat pool new) (sa
         let turns = ap (λ m. m.0.turns) noted.seat in (
           es,
           ended_by (EndRoot token) (Some (AskCache r h)) es may grows (omega arith) (omega (arith, turns)) carries
-              tells (region, handle, less) reads,
+              tells (region, handle, less) reads refl,
         )
 
     pub root_ended_uncached : cached_classes ≤ r.id.class
@@ -212,7 +215,8 @@ module _ (pool : SharedPool) (old new : PoolSeat) (is : IsPoolSeat pool new) (sa
           es,
           ended_by (EndRoot token) (Some (AskArena r h)) es may grows (omega arith) (omega (arith, turns)) carries
               tells (region, handle) (λ log. reads log
-              ∙ put_uncached shape h.place number (entry_of e) r.id more (behind log (map entry_of es) none_asked)),
+              ∙ put_uncached shape h.place number (entry_of e) r.id more (behind log (map entry_of es) none_asked))
+              refl,
         )
 
   -- another seat was there, and the same is to be tried again

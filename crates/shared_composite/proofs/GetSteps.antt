@@ -84,6 +84,7 @@ module _ (pool : SharedPool) (c : Core) (core : IsCore pool c) (new : PoolSeat) 
       next = refl;
       ending = refl;
       same = same;
+      number = grows.more.number;
       added = e ∷ [];
       notes = grows.more.notes;
       gets =
@@ -113,6 +114,7 @@ module _ (pool : SharedPool) (c : Core) (core : IsCore pool c) (new : PoolSeat) 
       next = refl;
       ending = refl;
       same = same;
+      number = ap (λ (x : SeatView). x.own.number) view;
       added = [];
       notes = ap (λ (x : SeatView). x.own.notes) view ∙ sym (append-nil v.own.notes);
       gets = All-nil (IsGetOf (roots_of c.parts));

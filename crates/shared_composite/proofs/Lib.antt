@@ -9,3 +9,4 @@ pub mod GetSteps
 pub mod ReadSteps
 pub mod Boxes
 pub mod BoardCalls
+pub mod Crossings

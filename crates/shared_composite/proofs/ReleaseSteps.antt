@@ -61,6 +61,7 @@ module _ (pool : SharedPool) (c : Core) (new : PoolSeat) (stage : Ending) (next 
     parts = refl;
     same = did.same;
     more = did.more;
+    quiet = did.quiet;
     read =
         then_on (rest_in pool.table.layout.shape (Some stage)) (map entry_of added) none_asked
         (λ _. releases pool.table.layout.shape (left_of c)) (rest_in pool.table.layout.shape next) did.read;
@@ -204,6 +205,7 @@ module _ (pool : SharedPool) (c : Core) (p : Part) (there : slice_get c.parts c.
         parts = refl;
         same = same;
         more = grows.more;
+        quiet = refl;
         read =
             subst (λ (x : Option Ending × List Part). ReadsOn (rest_in pool.table.layout.shape x.0
             >> releases pool.table.layout.shape x.1) (map entry_of es) none_asked

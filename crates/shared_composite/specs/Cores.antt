@@ -1,6 +1,7 @@
 -- A core: what its pool seat counts, knows and has in hand, before and while its components are
 -- released.
-use Rattle.std.specs.Prelude.{◌≡◌, ℕ, ◌+◌, ◌*◌, ◌<◌, ◌≤◌, false, List, [], ◌∷◌, ◌++◌, length, drop, map, All, Contains, Option, None, IfSome}
+use Rattle.std.specs.Prelude.{◌≡◌, ℕ, ◌+◌, ◌*◌, ◌<◌, ◌≤◌, false, List, [], ◌∷◌, ◌++◌, length, drop, map, All, Contains, Option, None, IfSome, IsTrue}
+use Rattle.std.specs.List.{list_all}
 use Rattle.pool_law.specs.declared.id.Part.{Part}
 use Rattle.pool_law.specs.declared.id.RootId.{RootId}
 use Rattle.pool_law.specs.declared.note.Did.{Did}
@@ -19,7 +20,7 @@ use Rattle.shared_pool.specs.Seated.{HasNothing}
 use Rattle.shared_pool.specs.Seats.{IsPoolSeat, FoundBusy}
 use Rattle.shared_pool.specs.SeatViews.{view_of, SameSeat}
 use Rattle.seat_work.specs.Changes.{times}
-use Rattle.seat_work.specs.Growth.{HasMore}
+use Rattle.seat_work.specs.Growth.{HasMore, is_quiet_entry}
 use Rattle.seat_work.specs.Hands.{empty_hand, IsHeld}
 use Rattle.lane_core.specs.declared.lane.Stepped.{Stepped}
 use Rattle.lane_core.specs.declared.lane.Stepped.TheVariants.{Went, Pending, Waiting, Finished}
@@ -116,6 +117,7 @@ pub record IsKept (old new : Core) : Type 0 where
   pub next : new.next ≡ old.next
   pub ending : new.ending ≡ old.ending
   pub same : SameSeat old.seat new.seat
+  pub number : (view_of new.seat).own.number ≡ (view_of old.seat).own.number
   pub added : List Entry
   pub notes : (view_of new.seat).own.notes ≡ (view_of old.seat).own.notes ++ added
   pub gets : All (IsGetOf (roots_of old.parts)) added
@@ -133,11 +135,12 @@ abbrev pub rest_of : Shape → Core → Reader (Unit {0})
 rest_of shape c = rest_in shape c.ending >> releases shape (left_of c)
 
 -- one step of the core added these entries, at most one section's and one on a count, and they are
--- the next of what the law says is left
+-- the next of what the law says is left; none accesses the bytes of a root or passes a parcel
 pub record Advances (pool : SharedPool) (old new : Core) (added : List Entry) : Type 0 where
   pub parts : new.parts ≡ old.parts
   pub same : SameSeat old.seat new.seat
   pub more : HasMore (view_of old.seat) (view_of new.seat) added
+  pub quiet : IsTrue (list_all is_quiet_entry added)
   pub read :
       let shape = pool.table.layout.shape in
       ReadsOn (rest_of shape old) (map entry_of added) none_asked (rest_of shape new)

@@ -1,6 +1,7 @@
 -- The end of a root whose last count a core released, one step at a time: what is in hand, and what
 -- a step does.
-use Rattle.std.specs.Prelude.{◌≡◌, ℕ, ◌+◌, ◌<◌, ◌≤◌, false, List, length, map, Option, Some, None, IfSome}
+use Rattle.std.specs.Prelude.{◌≡◌, ℕ, ◌+◌, ◌<◌, ◌≤◌, false, List, length, map, Option, Some, None, IfSome, IsTrue}
+use Rattle.std.specs.List.{list_all}
 use Rattle.pool_law.specs.declared.id.RegionId.{RegionId}
 use Rattle.pool_law.specs.declared.id.RootId.{RootId}
 use Rattle.pool_law.specs.Limits.{cached_classes}
@@ -17,7 +18,7 @@ use Rattle.shared_pool.specs.RootNotes.{HoldsToken}
 use Rattle.shared_pool.specs.Seats.{IsPoolSeat, FoundBusy}
 use Rattle.shared_pool.specs.SeatViews.{view_of, SameSeat}
 use Rattle.seat_work.specs.Changes.{Changes, no_change}
-use Rattle.seat_work.specs.Growth.{HasMore}
+use Rattle.seat_work.specs.Growth.{HasMore, is_quiet_entry}
 use Rattle.seat_work.specs.Hands.{Hand, IsHeld, is_place, is_token, held_weight}
 use Rattle.lane_core.specs.declared.retirement.Ending.{Ending}
 use Rattle.lane_core.specs.declared.retirement.Ending.TheVariants.{Root, Cache, Arena, Home}
@@ -73,6 +74,7 @@ pub record Ended
     pub same : SameSeat old new
     pub seat : IsPoolSeat pool new
     pub more : HasMore (view_of old) (view_of new) added
+    pub quiet : IsTrue (list_all is_quiet_entry added)
     pub some : 0 < length added
     pub turns : (view_of old).turns + turns_in next ≤ (view_of new).turns + turns_in (Some stage)
     pub counts : Changes no_change (view_of old) (view_of new)

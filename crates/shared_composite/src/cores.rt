@@ -117,6 +117,13 @@ impl Core {
         }
     }
 
+    /// How many of its components the core has released.
+    pub fn released(&self) -> u32
+        ensures { result ≡ self.now.next }
+    {
+        self.next
+    }
+
     /// The seat of a core whose components are all released.
     pub fn into_seat(self) -> PoolSeat
         requires { IsOver self }

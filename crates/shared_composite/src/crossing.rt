@@ -1,13 +1,15 @@
-//! What may cross threads: these types are proved to be `Send` and `Sync`.
+//! What may cross threads: a board is shared by threads, and seats and cores go from one to another.
+//! Each call below is proved to meet the bound of what it calls.
 
 use crate::board::{Board, BoardSeat};
 use crate::cores::Core;
 
-// Threads may share such a value, and it may go from one to another.
-trait Crossing: Send + Sync {}
+fn shared<T: Sync>() {}
 
-impl Crossing for Board {}
+fn sent<T: Send>() {}
 
-impl Crossing for BoardSeat {}
-
-impl Crossing for Core {}
+fn cross() {
+    shared::<Board>();
+    sent::<BoardSeat>();
+    sent::<Core>();
+}

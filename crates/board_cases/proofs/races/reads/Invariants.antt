@@ -1,0 +1,10 @@
+use Rattle.std.proofs.Common.{◌≡◌, ◌-◌, ◌≤◌}
+use Rattle.board_cases.specs.Seats.{Can, used}
+use Rattle.board_cases.proofs.races.reads.Given as goal
+
+abbrev pub invariant-loop-round : goal.invariant-loop-round
+invariant-loop-round g l = record {
+  can : Can l.board 0 (65 - l.round-counter) l.seat;
+  within : l.round-counter ≤ 64;
+  all : used l.seat ≡ used l.initial.seat;
+}
