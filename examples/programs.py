@@ -1,10 +1,9 @@
-"""The rows of trace_lint, nest_run, run_judge and pool_bench, which run where these programs are built, as the gate leaves them."""
-import json
+"""The rows of trace_lint, nest_run, share_run, run_judge, run_view and pool_bench, which run where these programs are built, as the gate leaves them."""
 import os
-import resource
 
-from trying import ACCEPTED, HERE, LINTED, LIVE, MEMORY, READ_FAULT, REFUSED, TERMINALS, TEXT_LIMIT, WHOLE, WORDS, WRITE_FAULT
-from trying import broken_off, cut_off, expect, rows, run, text_and_line
+from drawing import try_view
+from trying import ACCEPTED, HERE, LINTED, LIVE, READ_FAULT, REFUSED, TERMINALS, TEXT_LIMIT, UNREAD, WHOLE, WRITE_FAULT
+from trying import broken_off, case_of, cut_off, expect, json_of, rows, run, text_and_line, try_ends
 
 CRATES = f"{HERE}/../crates"
 CALL_LIMIT = 4096
@@ -18,28 +17,21 @@ def try_lint(lint):
     try_ends("trace_lint", lint, b"[[]]", b" " * TEXT_LIMIT, TEXT_LIMIT)
 
 
-def try_ends(name, program, text, much, room):
-    """A folder can't be read, a full device not be written, there are no words, and much asks for more than so many bytes of memory."""
-    folder = os.open(HERE, os.O_RDONLY)
-    expect(f"{name} < a folder", ran=(run(program, [], folder), (READ_FAULT, "", "read fault\n")))
-    expect(f"{name} --help", ran=(run(program, ["--help"], folder), (WORDS, "", "refused words\n")))
-    os.close(folder)
-    with open("/dev/full", "wb") as full:
-        expect(f"{name} > /dev/full", ran=(run(program, [], text, stdout=full), (WRITE_FAULT, "", "write fault\n")))
-    bound = lambda: resource.setrlimit(resource.RLIMIT_AS, (room, room))
-    expect(f"{name} in little memory", ran=(run(program, [], much, preexec_fn=bound), (MEMORY, "", "out of memory\n")))
-
-
 def nest_of(calls):
     return f'{{"capacity":1,"calls":[{",".join(["[" + chr(34) + "slice" + chr(34) + ",0,0,0]"] * calls)}]}}'.encode()
 
 
-def try_nests(nest):
-    for text, want in map(text_and_line, rows("nests")):
+def try_inputs(name, program, table):
+    """A table's inputs, each with its status, and with the lines that are written, or with the one that refuses it."""
+    for text, want in map(text_and_line, rows(table)):
         status, *lines = want.removeprefix("status ").split("; ")
         said = "refused input\n" if int(status) == REFUSED else ""
         want = (int(status), "".join(f"{line}\n" for line in lines), said)
-        expect(f"nest_run < {text}", ran=(run(nest, [], text.encode()), want))
+        expect(f"{name} < {text}", ran=(run(program, [], text.encode()), want))
+
+
+def try_nests(nest):
+    try_inputs("nest_run", nest, "nests")
     status, text, said = run(nest, [], nest_of(CALL_LIMIT))
     end = "4095 ok 4096\nend live 4097\n"
     expect("nest_run < 4,096 slices", ran=((status, text[-len(end) :], said), (LIVE, end, "")))
@@ -52,7 +44,52 @@ def try_nests(nest):
     try_ends("nest_run", nest, call, b'{"capacity":4194304,"calls":[]}', 5_000_000)
 
 
-UNREAD = 8
+def share_of(composites, reads):
+    parts = ['["' + '","'.join(it) + '"]' for it in composites]
+    readers = ["[" + ",".join(map(str, it)) + "]" for it in reads]
+    return f'{{"composites":[{",".join(parts)}],"reads":[{",".join(readers)}]}}'.encode()
+
+
+def seen_of(composites, reads):
+    """What readers see: of each read the bytes of the composite's parts, one part behind the other."""
+    wholes = ["".join(it) or "-" for it in composites]
+    lines = [f"{w}.{j} {k} {wholes[k]}" for w, it in enumerate(reads) for j, k in enumerate(it)]
+    lines += [f"composite {k} released {len(it)}" for k, it in enumerate(composites)]
+    return "".join(f"{line}\n" for line in [*lines, "end live 0"])
+
+
+# How many composites there are, parts each of them, bytes each part, readers, and reads each of them: at their limits, where many
+# readers want one or two composites at once, and with one more of each.
+SHARED = [(16, 24, 17, 16, 256), (16, 24, 2048, 16, 1), (1, 24, 2048, 16, 4), (2, 24, 1, 16, 256), (1, 1, 2, 1, 4096)]
+TOO_MUCH = [(17, 1, 1, 1, 1), (1, 25, 1, 1, 1), (1, 1, 2049, 1, 1), (1, 1, 1, 17, 1), (1, 1, 1, 1, 4097), (1, 1, 1, 16, 257)]
+
+
+def shared(size):
+    """Composites whose bytes differ, and readers that begin with different ones."""
+    composites, parts, count, readers, reads = size
+    part_of = lambda k, p: bytes((k * 31 + p * 7 + b) % 251 for b in range(count)).hex()
+    return (
+        [[part_of(k, p) for p in range(parts)] for k in range(composites)],
+        [[(w * 5 + j) % composites for j in range(reads)] for w in range(readers)],
+    )
+
+
+def try_shares(share):
+    try_inputs("share_run", share, "shares")
+    for size in SHARED:
+        expect(f"share_run < {size}", ran=(run(share, [], share_of(*shared(size))), (WHOLE, seen_of(*shared(size)), "")))
+    refused = [share_of(*shared(size)) for size in TOO_MUCH]
+    read = b'{"composites":[["7f"]],"reads":[[0]]}'
+    for text in [*refused, read.ljust(TEXT_LIMIT + 1), b'{"composites":[["\xff"]],"reads":[[]]}']:
+        expect(f"share_run < {text[:200]}", ran=(run(share, [], text), (REFUSED, "", "refused input\n")))
+    text = "0.0 0 7f\ncomposite 0 released 1\nend live 0\n"
+    expect("share_run < the longest text", ran=(run(share, [], read.ljust(TEXT_LIMIT)), (WHOLE, text, "")))
+    expect("share_run < a front", ran=(broken_off(share, [], read[: 7 * TERMINALS]), (READ_FAULT, "", "read fault\n")))
+    for room in (0, 7, 10, 40):
+        expect(f"share_run > {room} bytes", ran=(cut_off(share, [], read, room), (WRITE_FAULT, text[:room], "write fault\n")))
+    try_ends("share_run", share, read, share_of(*shared(SHARED[0])), 5_000_000)
+
+
 # Of an example the places that are changed in its text with history, and what run_judge says of that: its status, and its lines with
 # "; " between them. Where nothing else is said, it is legal.
 JUDGED = [
@@ -92,25 +129,14 @@ JUDGED = [
 ]
 
 
-def case_of(poolrun, name, changes):
-    """What is asked of run_judge: an example and its text with history, changed so."""
-    with open(f"{HERE}/{name}.json", encoding="utf-8") as it:
-        trace = it.read()
-    text = run(poolrun, ["--history"], trace.encode())[1]
-    for old, new in changes.items():
-        assert text.count(old) == 1, old
-        text = text.replace(old, new)
-    return json.dumps({"words": ["--history"], "trace": trace, "text": text}).encode()
-
-
 def try_judge(judge, poolrun):
     for name, changes, want in JUDGED:
-        status, text, said = run(judge, [], case_of(poolrun, name, changes))
+        status, text, said = run(judge, [], json_of(case_of(poolrun, name, changes)))
         lines = "; ".join((text + said).splitlines())
         expect(f"run_judge < {name} {changes}", said=(f"{status} {lines}", want), error=(said != "", status == UNREAD))
     for text in (b"", b"[]", b'{"words":[],"trace":"[[]]"}', b'{"words":["--generate","1"],"trace":"[[]]","text":""}'):
         expect(f"run_judge < {text}", ran=(run(judge, [], text), (REFUSED, "", "refused input\n")))
-    try_ends("run_judge", judge, case_of(poolrun, "smallest", {}), b" " * TEXT_LIMIT, TEXT_LIMIT)
+    try_ends("run_judge", judge, json_of(case_of(poolrun, "smallest", {})), b" " * TEXT_LIMIT, TEXT_LIMIT)
 
 
 # Words of pool_bench, and the sum of what was read, if it is determined. No block is refused.
@@ -143,7 +169,9 @@ def try_programs(poolrun):
     parts = {
         "trace_lint": try_lint,
         "nest_run": try_nests,
+        "share_run": try_shares,
         "run_judge": lambda judge: try_judge(judge, poolrun),
+        "run_view": lambda view: try_view(view, poolrun),
         "pool_bench": try_benches,
     }
     for name, part in parts.items():

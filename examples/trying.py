@@ -1,4 +1,5 @@
 """What the rows of this folder have in common: how a program is run, and how what came of it is compared."""
+import json
 import os
 import resource
 import subprocess
@@ -7,6 +8,7 @@ import tty
 
 HERE = os.path.dirname(os.path.abspath(__file__))
 WHOLE, LIVE, WORDS, REFUSED, READ_FAULT, WRITE_FAULT, MEMORY = range(7)
+UNREAD = 8
 TEXT_LIMIT, COMMANDS = 16_777_216, 65_536
 
 count, wrong = 0, 0
@@ -57,6 +59,44 @@ def broken_off(program, words, front):
     ran = run(program, words, source)
     os.close(source)
     return ran
+
+
+def try_ends(name, program, text, much, room):
+    """A folder can't be read, a full device not be written, there are no words, and much asks for more than so many bytes of memory."""
+    folder = os.open(HERE, os.O_RDONLY)
+    expect(f"{name} < a folder", ran=(run(program, [], folder), (READ_FAULT, "", "read fault\n")))
+    expect(f"{name} --help", ran=(run(program, ["--help"], folder), (WORDS, "", "refused words\n")))
+    os.close(folder)
+    with open("/dev/full", "wb") as full:
+        expect(f"{name} > /dev/full", ran=(run(program, [], text, stdout=full), (WRITE_FAULT, "", "write fault\n")))
+    bound = lambda: resource.setrlimit(resource.RLIMIT_AS, (room, room))
+    expect(f"{name} in little memory", ran=(run(program, [], much, preexec_fn=bound), (MEMORY, "", "out of memory\n")))
+
+
+def words_of(name):
+    """The words of an example, with the history."""
+    path = f"{HERE}/{name}.words"
+    words = []
+    if os.path.isfile(path):
+        with open(path, encoding="utf-8") as it:
+            words = it.read().split()
+    return words if "--history" in words else [*words, "--history"]
+
+
+def case_of(poolrun, name, changes):
+    """What is told of a run: the words and the trace of an example, and its text with history, changed so."""
+    words = words_of(name)
+    with open(f"{HERE}/{name}.json", encoding="utf-8") as it:
+        trace = it.read()
+    text = run(poolrun, words, trace.encode())[1]
+    for old, new in changes.items():
+        assert text.count(old) == 1, old
+        text = text.replace(old, new)
+    return {"words": words, "trace": trace, "text": text}
+
+
+def json_of(case):
+    return json.dumps(case).encode()
 
 
 def has_terminals():

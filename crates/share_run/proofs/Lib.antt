@@ -1,0 +1,12 @@
+pub mod Views
+pub mod OutcomeLaws
+pub mod PartLaws
+pub mod BoardLaws
+pub mod ListSteps
+pub mod DealLaws
+pub mod ReadLaws
+pub mod CloseLaws
+pub mod MeetLaws
+pub mod LiveLaws
+pub mod PlayLaws
+pub mod Crossings

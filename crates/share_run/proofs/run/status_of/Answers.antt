@@ -1,0 +1,7 @@
+use Rattle.std.proofs.Common.{rules}
+use Rattle.share_run.proofs.OutcomeLaws.{of_source, empty_words}
+use Rattle.share_run.proofs.run.status_of.Goals as goal
+
+pub returns-then-is_empty-clause-outcome : goal.returns-then-is_empty-clause-outcome
+returns-then-is_empty-clause-outcome g c =
+    of_source c.with_source.result _ _ _ (empty_words c.args.words.now (search rules)) c.with_source.ensures
