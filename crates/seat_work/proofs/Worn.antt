@@ -31,6 +31,16 @@ module _ (pool : SharedPool) (old mid new : PoolSeat) where
     noted = noted_same pool old mid new number (λ v. Bin (lane_in v)) (plain (Did.Handle h.place)) view noted;
   }
 
+  -- so it is where the seat came here without a note
+  pub took_on : (o : Option HandleValue) → SameSeat old mid → view_of mid ≡ view_of old
+      → IfSome o (λ h. TookHandle pool h.place mid new) → IfSome o (λ h. TookHandle pool h.place old new)
+  took_on None before view took = tt
+  took_on (Some h) before view took = record {
+    same = same_on old mid new before took.same;
+    number = took.number;
+    noted = noted_same pool old mid new took.number (λ v. Bin (lane_in v)) (plain (Did.Handle h.place)) view took.noted;
+  }
+
   module _ (place : ℕ) where
     -- the seat came here, and found it worn out from here on
     worn_on : (why : AllocNo) → IsLater pool old mid → IsWornAt pool place mid new why

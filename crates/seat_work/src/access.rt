@@ -34,6 +34,30 @@ pub fn set<W: Wait>(
     ensures noted { (number : ℕ) × IsNoted pool.now seat.old seat.new (Root root.place) number
         (access root (Did.Set offset bytes.now)) }
 {
+    match pool.write(seat, root, offset, bytes, false) {
+        Went::Did(_number, ()) => (),
+        Went::Held(_held, ()) => wait_to_set(rt, pool, seat, root, offset, bytes),
+    }
+}
+
+// The same, as often as another seat is in the way.
+#[inline(never)]
+fn wait_to_set<W: Wait>(
+    rt: &W,
+    pool: &SharedPool,
+    seat: &mut PoolSeat,
+    root: RootId,
+    offset: u32,
+    bytes: &[u8],
+)
+    requires works { Works pool.now empty_hand 1 0 seat.old }
+    requires counts { HasCount root (view_of seat.old) }
+    requires range { offset + length bytes.now ≤ root.capacity }
+    ensures proceeds { Proceeds pool.now empty_hand 1 0 no_change seat.old seat.new }
+    ensures counts { HasCount root (view_of seat.new) }
+    ensures noted { (number : ℕ) × IsNoted pool.now seat.old seat.new (Root root.place) number
+        (access root (Did.Set offset bytes.now)) }
+{
     for _ in rt.forever() {
         match pool.write(seat, root, offset, bytes, false) {
             Went::Did(_number, ()) => return,
@@ -46,6 +70,31 @@ pub fn set<W: Wait>(
 /// Bytes of a root are copied out, from an offset on.
 #[inline]
 pub fn get<W: Wait>(
+    rt: &W,
+    pool: &SharedPool,
+    seat: &mut PoolSeat,
+    root: RootId,
+    offset: u32,
+    out: &mut [u8],
+)
+    requires works { Works pool.now empty_hand 1 0 seat.old }
+    requires counts { HasCount root (view_of seat.old) }
+    requires range { offset + length out.old ≤ root.capacity }
+    ensures proceeds { Proceeds pool.now empty_hand 1 0 no_change seat.old seat.new }
+    ensures counts { HasCount root (view_of seat.new) }
+    ensures len { length out.new ≡ length out.old }
+    ensures noted { (number : ℕ) × IsNoted pool.now seat.old seat.new (Root root.place) number
+        (access root (Did.Get offset out.new)) }
+{
+    match pool.read(seat, root, offset, out, false) {
+        Went::Did(_number, ()) => (),
+        Went::Held(_held, ()) => wait_to_get(rt, pool, seat, root, offset, out),
+    }
+}
+
+// The same, as often as another seat is in the way.
+#[inline(never)]
+fn wait_to_get<W: Wait>(
     rt: &W,
     pool: &SharedPool,
     seat: &mut PoolSeat,

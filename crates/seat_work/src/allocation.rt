@@ -12,7 +12,7 @@ ghost use Rattle.seat_work.specs.Works.{HasBorn, IsLater, Proceeds, Works};
 ghost use Rattle.seat_work.specs.Answers.{with_place, with_both, hand_got, hand_with, handle_told, region_told, allocated, TookHandle, IsWorn, IsWornAt};
 
 use crate::birth::bear;
-use crate::ending::{put_away, put_handle};
+use crate::ending::{put_handle, return_both};
 use handle_bin::Handle;
 use pool_law::{Region, RootId, Watch};
 use shared_pool::{PoolSeat, SharedPool, Went, Worn};
@@ -58,7 +58,7 @@ pub fn allocate<W: Wait>(
     }
 }
 
-// A new root at the place of a handle.
+// A new root at the place of a handle, with a region of the lane's cache where there is one.
 #[inline]
 fn allocate_at<W: Wait>(
     rt: &W,
@@ -80,8 +80,39 @@ fn allocate_at<W: Wait>(
     ensures later { IsLater pool.now seat.old seat.new }
     ensures worn { IfErr result (IsWornAt pool.now handle.place seat.old seat.new) }
 {
-    match find_region(rt, pool, seat, &handle, class) {
+    if class >= CACHED_CLASSES {
+        return allocate_taken(rt, pool, seat, handle, size, class, watch);
+    }
+    match pop_region(pool, seat, &handle, class) {
         Some(region) => bear_or_return(rt, pool, seat, handle, region, size, watch),
+        None => allocate_taken(rt, pool, seat, handle, size, class, watch),
+    }
+}
+
+// The same, with a region of the lane's arena.
+#[inline(never)]
+fn allocate_taken<W: Wait>(
+    rt: &W,
+    pool: &SharedPool,
+    seat: &mut PoolSeat,
+    handle: Handle,
+    size: u32,
+    class: u32,
+    watch: Option<Watch>,
+) -> Result<RootId, AllocNo>
+    requires works { Works pool.now (with_place handle.place) 4 0 seat.old }
+    requires handle { IsHandle pool.now handle }
+    requires class { class_of (geometry_of pool.now.table.layout.shape) size ≡ Some class }
+    ensures proceeds { Proceeds pool.now empty_hand 4 0 (allocated result) seat.old seat.new }
+    ensures root { IfOk result (λ root. (root.capacity ≡ size) × HasCount root (view_of seat.new)) }
+    ensures place { let shape = pool.now.table.layout.shape in
+        IfOk result (λ root. root.place < shape.lanes * shape.handles) }
+    ensures born { IfOk result (λ root. HasBorn pool.now root seat.old seat.new) }
+    ensures later { IsLater pool.now seat.old seat.new }
+    ensures worn { IfErr result (IsWornAt pool.now handle.place seat.old seat.new) }
+{
+    match take_region(rt, pool, seat, &handle, class) {
+        Some(taken) => bear_or_return(rt, pool, seat, handle, taken, size, watch),
         None => {
             put_handle(rt, pool, seat, handle);
             Err(AllocNo::Full)
@@ -90,7 +121,7 @@ fn allocate_at<W: Wait>(
 }
 
 // A new root of a handle and a region, or both go back.
-#[inline]
+#[inline(always)]
 fn bear_or_return<W: Wait>(
     rt: &W,
     pool: &SharedPool,
@@ -116,7 +147,7 @@ fn bear_or_return<W: Wait>(
         Ok(root) => Ok(root),
         Err(worn) => {
             let Worn { handle, region } = worn;
-            put_away(rt, pool, seat, handle, region);
+            return_both(rt, pool, seat, handle, region);
             Err(AllocNo::Worn)
         }
     }
@@ -132,6 +163,22 @@ fn pop_handle<W: Wait>(rt: &W, pool: &SharedPool, seat: &mut PoolSeat) -> Option
     ensures later { IsLater pool.now seat.old seat.new }
     ensures took { IfSome result (λ h. TookHandle pool.now h.place seat.old seat.new) }
 {
+    match pool.pop_handle(seat) {
+        Went::Did(_number, handle) => handle,
+        Went::Held(_held, ()) => wait_for_handle(rt, pool, seat),
+    }
+}
+
+// The same, as often as another seat is in the way.
+#[inline(never)]
+fn wait_for_handle<W: Wait>(rt: &W, pool: &SharedPool, seat: &mut PoolSeat) -> Option<Handle>
+    requires { Works pool.now empty_hand 1 0 seat.old }
+    ensures proceeds { Proceeds pool.now (hand_got result) 1 0 (handle_told result)
+        seat.old seat.new }
+    ensures handle { IfSome result (IsHandle pool.now) }
+    ensures later { IsLater pool.now seat.old seat.new }
+    ensures took { IfSome result (λ h. TookHandle pool.now h.place seat.old seat.new) }
+{
     for _ in rt.forever() {
         match pool.pop_handle(seat) {
             Went::Did(_number, handle) => return handle,
@@ -139,31 +186,6 @@ fn pop_handle<W: Wait>(rt: &W, pool: &SharedPool, seat: &mut PoolSeat) -> Option
         }
     }
     unreachable!()
-}
-
-// A region for the place of a handle, from the lane's cache of the class or from its arena.
-#[inline]
-fn find_region<W: Wait>(
-    rt: &W,
-    pool: &SharedPool,
-    seat: &mut PoolSeat,
-    handle: &Handle,
-    class: u32,
-) -> Option<Region>
-    requires works { Works pool.now (with_place handle.now.place) 2 0 seat.old }
-    requires class { class < class_count (geometry_of pool.now.table.layout.shape) }
-    ensures proceeds { Proceeds pool.now (hand_with handle.now.place result) 2 0
-        (region_told result) seat.old seat.new }
-    ensures region { IfSome result (λ r. IsRegion pool.now seat.new r × (r.id.class ≡ class)) }
-    ensures later { IsLater pool.now seat.old seat.new }
-{
-    if class >= CACHED_CLASSES {
-        return take_region(rt, pool, seat, handle, class);
-    }
-    match pop_region(pool, seat, handle, class) {
-        Some(region) => Some(region),
-        None => take_region(rt, pool, seat, handle, class),
-    }
 }
 
 // The front region of the lane's cache. None where there is none, or where another seat is in it.

@@ -16,7 +16,7 @@ use shared_pool::{PoolSeat, SharedPool, Worn};
 
 // A root is born of a handle and a region, if the handle's place isn't worn out. Else both come
 // back.
-#[inline]
+#[inline(always)]
 pub(crate) fn bear(
     pool: &SharedPool,
     seat: &mut PoolSeat,

@@ -49,8 +49,21 @@ fn retire(pool: &SharedPool, seat: &mut PoolSeat, token: EndToken) -> (Handle, R
 }
 
 // The region goes into its owner's cache or back to its arena, and the handle home.
-#[inline]
-pub(crate) fn put_away<W: Wait>(
+#[inline(always)]
+fn put_away<W: Wait>(rt: &W, pool: &SharedPool, seat: &mut PoolSeat, handle: Handle, region: Region)
+    requires works { Works pool.now (with_both handle.place region.id) 3 0 seat.old }
+    requires handle { IsHandle pool.now handle }
+    requires region { IsRegion pool.now seat.old region }
+    ensures proceeds { Proceeds pool.now empty_hand 3 0 no_change seat.old seat.new }
+    ensures later { IsLater pool.now seat.old seat.new }
+{
+    put_back(rt, pool, seat, &handle, region);
+    put_handle(rt, pool, seat, handle);
+}
+
+// The same, where a root that was to be born is not: seldom, so apart.
+#[inline(never)]
+pub(crate) fn return_both<W: Wait>(
     rt: &W,
     pool: &SharedPool,
     seat: &mut PoolSeat,
@@ -63,12 +76,11 @@ pub(crate) fn put_away<W: Wait>(
     ensures proceeds { Proceeds pool.now empty_hand 3 0 no_change seat.old seat.new }
     ensures later { IsLater pool.now seat.old seat.new }
 {
-    put_back(rt, pool, seat, &handle, region);
-    put_handle(rt, pool, seat, handle);
+    put_away(rt, pool, seat, handle, region);
 }
 
 // The region goes into its owner's cache or back to its arena.
-#[inline]
+#[inline(always)]
 fn put_back<W: Wait>(
     rt: &W,
     pool: &SharedPool,
@@ -93,7 +105,7 @@ fn put_back<W: Wait>(
 }
 
 // The region goes into its owner's cache, or comes back.
-#[inline]
+#[inline(always)]
 fn put_region(
     pool: &SharedPool,
     seat: &mut PoolSeat,
@@ -116,7 +128,7 @@ fn put_region(
 }
 
 // The region goes back to its arena.
-#[inline]
+#[inline(never)]
 fn give_region<W: Wait>(
     rt: &W,
     pool: &SharedPool,
@@ -141,8 +153,22 @@ fn give_region<W: Wait>(
 }
 
 // The handle goes home.
-#[inline]
+#[inline(always)]
 pub(crate) fn put_handle<W: Wait>(rt: &W, pool: &SharedPool, seat: &mut PoolSeat, own: Handle)
+    requires works { Works pool.now (with_place own.place) 1 0 seat.old }
+    requires handle { IsHandle pool.now own }
+    ensures proceeds { Proceeds pool.now empty_hand 1 0 no_change seat.old seat.new }
+    ensures later { IsLater pool.now seat.old seat.new }
+{
+    match pool.put_handle(seat, own) {
+        Went::Did(_number, ()) => (),
+        Went::Held(_held, back) => wait_to_put_handle(rt, pool, seat, back),
+    }
+}
+
+// The same, as often as another seat is in the way.
+#[inline(never)]
+fn wait_to_put_handle<W: Wait>(rt: &W, pool: &SharedPool, seat: &mut PoolSeat, own: Handle)
     requires works { Works pool.now (with_place own.place) 1 0 seat.old }
     requires handle { IsHandle pool.now own }
     ensures proceeds { Proceeds pool.now empty_hand 1 0 no_change seat.old seat.new }

@@ -24,6 +24,7 @@ use std::marker::Brand;
 
 impl SharedPool {
     /// Takes the front handle of the seat's lane, or none exactly where its bin is empty.
+    #[inline(always)]
     pub fn pop_handle(&self, seat: &mut PoolSeat) -> Went<Option<Handle>, ()>
         requires seat { IsPoolSeat self.now seat.old }
         requires turn { 0 < (view_of seat.old).turns }
@@ -50,6 +51,7 @@ impl SharedPool {
 
     /// Puts a handle into the bin of its lane, behind the others. It comes back where another seat
     /// was there.
+    #[inline(always)]
     pub fn put_handle(&self, seat: &mut PoolSeat, handle: Handle) -> Went<(), Handle>
         requires seat { IsPoolSeat self.now seat.old }
         requires turn { 0 < (view_of seat.old).turns }

@@ -27,6 +27,7 @@ use std::marker::Brand;
 impl SharedPool {
     /// Takes the front region of the cache of a class in the seat's lane, or none exactly where it
     /// is empty. Where another seat was there, the seat keeps a mark of it.
+    #[inline(always)]
     pub fn pop_cached(&self, seat: &mut PoolSeat, class: u32) -> Went<Option<Region>, ()>
         requires seat { IsPoolSeat self.now seat.old }
         requires turn { 0 < (view_of seat.old).turns }
@@ -60,6 +61,7 @@ impl SharedPool {
     /// Puts a region into the cache of its class in the lane that took it from its arena, or gets
     /// it back from a cache that is closed or full. Where another seat was there, the region comes
     /// back, and the seat keeps a mark.
+    #[inline(always)]
     pub fn put_cached(&self, seat: &mut PoolSeat, region: Region) -> Went<Put, Region>
         requires seat { IsPoolSeat self.now seat.old }
         requires turn { 0 < (view_of seat.old).turns }

@@ -122,6 +122,7 @@ impl SharedPool {
 
     /// Lays bytes over those of a root, from an offset on. With `mark` the seat notes that another
     /// seat was there.
+    #[inline(always)]
     pub fn write(
         &self,
         seat: &mut PoolSeat,
@@ -154,6 +155,7 @@ impl SharedPool {
 
     /// Reads bytes of a root, from an offset on. Where another seat was there nothing is read, and
     /// with `mark` the seat notes that.
+    #[inline(always)]
     pub fn read(
         &self,
         seat: &mut PoolSeat,

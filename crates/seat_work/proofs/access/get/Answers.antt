@@ -1,25 +1,56 @@
-use Rattle.std.proofs.Common.{◌∙◌, sym, subst}
+use Rattle.std.proofs.Common.{ℕ, List, ◌+◌, ◌≤◌, ◌∙◌, length, refl, sym, subst, ap}
 use Rattle.pool_law.specs.declared.note.Did.{Did}
+use Rattle.pool_law.specs.declared.note.Object.TheVariants.{Root}
 use Rattle.pool_table.specs.declared.views.SeatView.{SeatView}
 use Rattle.pool_table.specs.Counts.{HasCount}
 use Rattle.shared_pool.specs.SeatViews.{view_of}
-use Rattle.seat_work.proofs.Accesses.{accessed, get_quiet}
+use Rattle.shared_pool.specs.RootNotes.{access}
+use Rattle.seat_work.specs.Changes.{no_change}
+use Rattle.seat_work.specs.Hands.{empty_hand}
+use Rattle.seat_work.proofs.Accesses.{accessed, noted_same, get_quiet}
+use Rattle.seat_work.proofs.Proceeding.{works_same, proceeds_same}
 use Rattle.seat_work.proofs.access.get.Goals as goal
-
-pub read-requires-clause-counts : goal.read-requires-clause-counts
-read-requires-clause-counts g c =
-    subst (λ (v : SeatView). HasCount c.args.root v) (sym c.loop.invariant.1) c.requires.counts
 
 pub returns-in-Did : goal.returns-in-Did
 returns-in-Did g c =
-    let inv = c.loop.invariant in let did = c.in-Did in let a = c.args in let mid = c.loop.seat in
-    let out = c.read.new.out in
-    let it = accessed a.pool.now a.seat.now mid c.read.new.seat a.root did._number (Did.Get a.offset out)
-    inv.0 inv.1 did.ensures.seat c.requires.works c.requires.counts
-    (get_quiet a.root did._number (view_of mid).own.number a.offset out) did.ensures.did in
+    let did = c.in-Did in let a = c.args in let old = a.seat.now in let out = c.read.new.out in
+    let it = accessed a.pool.now old old c.read.new.seat a.root did._number (Did.Get a.offset out)
+    c.requires.works.seat refl did.ensures.seat c.requires.works c.requires.counts
+    (get_quiet a.root did._number (view_of old).own.number a.offset out) did.ensures.did in
     record {
       proceeds = it.proceeds;
       counts = it.counts;
-      len = did.ensures.len ∙ c.loop.invariant.2;
+      len = did.ensures.len;
       noted = (did._number, it.noted);
+    }
+
+pub wait_to_get-requires-clause-works : goal.wait_to_get-requires-clause-works
+wait_to_get-requires-clause-works g c =
+    works_same c.args.pool.now empty_hand 1 0 c.args.seat.now c.read.new.seat c.in-Held.ensures.seat
+    (ap (λ m. m.0) c.in-Held.ensures.held.1.marked) c.requires.works
+
+pub wait_to_get-requires-clause-counts : goal.wait_to_get-requires-clause-counts
+wait_to_get-requires-clause-counts g c =
+    subst (λ (v : SeatView). HasCount c.args.root v) (sym (ap (λ m. m.0) c.in-Held.ensures.held.1.marked))
+    c.requires.counts
+
+pub wait_to_get-requires-clause-range : goal.wait_to_get-requires-clause-range
+wait_to_get-requires-clause-range g c =
+    subst (λ (xs : List ℕ). c.args.offset + length xs ≤ c.args.root.capacity) (sym c.in-Held.ensures.held.0)
+    c.requires.range
+
+pub returns-in-Held : goal.returns-in-Held
+returns-in-Held g c =
+    let a = c.args in let mid = c.read.new.seat in let next = c.wait_to_get in let noted = next.ensures.noted in
+    let same = ap (λ m. m.0) c.in-Held.ensures.held.1.marked in
+    record {
+      proceeds =
+          proceeds_same a.pool.now no_change empty_hand 1 0 a.seat.now mid next.new.seat same next.ensures.proceeds;
+      counts = next.ensures.counts;
+      len = next.ensures.len ∙ ap length c.in-Held.ensures.held.0;
+      noted = (
+        noted.0,
+        noted_same a.pool.now a.seat.now mid next.new.seat noted.0 (λ v. Root a.root.place)
+            (access a.root (Did.Get a.offset next.new.out)) same noted.1,
+      );
     }

@@ -1,19 +1,45 @@
-use Rattle.std.proofs.Common.{sym, subst}
+use Rattle.std.proofs.Common.{refl, sym, subst, ap}
 use Rattle.pool_law.specs.declared.note.Did.{Did}
+use Rattle.pool_law.specs.declared.note.Object.TheVariants.{Root}
 use Rattle.pool_table.specs.declared.views.SeatView.{SeatView}
 use Rattle.pool_table.specs.Counts.{HasCount}
 use Rattle.shared_pool.specs.SeatViews.{view_of}
-use Rattle.seat_work.proofs.Accesses.{accessed, set_quiet}
+use Rattle.shared_pool.specs.RootNotes.{access}
+use Rattle.seat_work.specs.Changes.{no_change}
+use Rattle.seat_work.specs.Hands.{empty_hand}
+use Rattle.seat_work.proofs.Accesses.{accessed, noted_same, set_quiet}
+use Rattle.seat_work.proofs.Proceeding.{works_same, proceeds_same}
 use Rattle.seat_work.proofs.access.set.Goals as goal
-
-pub write-requires-clause-counts : goal.write-requires-clause-counts
-write-requires-clause-counts g c =
-    subst (λ (v : SeatView). HasCount c.args.root v) (sym c.loop.invariant.1) c.requires.counts
 
 pub returns-in-Did : goal.returns-in-Did
 returns-in-Did g c =
-    let inv = c.loop.invariant in let did = c.in-Did in let a = c.args in let mid = c.loop.seat in
-    let it = accessed a.pool.now a.seat.now mid c.write.new.seat a.root did._number (Did.Set a.offset a.bytes.now)
-    inv.0 inv.1 did.ensures.seat c.requires.works c.requires.counts
-    (set_quiet a.root did._number (view_of mid).own.number a.offset a.bytes.now) did.ensures.did in
+    let did = c.in-Did in let a = c.args in let old = a.seat.now in
+    let it = accessed a.pool.now old old c.write.new.seat a.root did._number (Did.Set a.offset a.bytes.now)
+    c.requires.works.seat refl did.ensures.seat c.requires.works c.requires.counts
+    (set_quiet a.root did._number (view_of old).own.number a.offset a.bytes.now) did.ensures.did in
     record { proceeds = it.proceeds; counts = it.counts; noted = (did._number, it.noted) }
+
+pub wait_to_set-requires-clause-works : goal.wait_to_set-requires-clause-works
+wait_to_set-requires-clause-works g c =
+    works_same c.args.pool.now empty_hand 1 0 c.args.seat.now c.write.new.seat c.in-Held.ensures.seat
+    (ap (λ m. m.0) c.in-Held.ensures.held.marked) c.requires.works
+
+pub wait_to_set-requires-clause-counts : goal.wait_to_set-requires-clause-counts
+wait_to_set-requires-clause-counts g c =
+    subst (λ (v : SeatView). HasCount c.args.root v) (sym (ap (λ m. m.0) c.in-Held.ensures.held.marked))
+    c.requires.counts
+
+pub returns-in-Held : goal.returns-in-Held
+returns-in-Held g c =
+    let a = c.args in let mid = c.write.new.seat in let next = c.wait_to_set in let noted = next.ensures.noted in
+    let same = ap (λ m. m.0) c.in-Held.ensures.held.marked in
+    record {
+      proceeds =
+          proceeds_same a.pool.now no_change empty_hand 1 0 a.seat.now mid next.new.seat same next.ensures.proceeds;
+      counts = next.ensures.counts;
+      noted = (
+        noted.0,
+        noted_same a.pool.now a.seat.now mid next.new.seat noted.0 (λ v. Root a.root.place)
+            (access a.root (Did.Set a.offset a.bytes.now)) same noted.1,
+      );
+    }

@@ -15,12 +15,12 @@ pub returns-in-Err-clause-proceeds : goal.returns-in-Err-clause-proceeds
 returns-in-Err-clause-proceeds g c =
     let worn = c.in-Err.worn in
     proceeds_on c.args.pool.now no_change (with_both worn.handle.place worn.region.id) empty_hand 0 0 3 0 3 0
-    c.args.seat.now c.bear.new.seat c.put_away.new.seat c.in-Err.ensures.kept c.put_away.ensures.proceeds
+    c.args.seat.now c.bear.new.seat c.return_both.new.seat c.in-Err.ensures.kept c.return_both.ensures.proceeds
     (omega arith) (omega arith)
 
 pub returns-in-Err-clause-worn : goal.returns-in-Err-clause-worn
 returns-in-Err-clause-worn g c =
-    let pool = c.args.pool.now in let mid = c.args.seat.now in let next = c.put_away in
+    let pool = c.args.pool.now in let mid = c.args.seat.now in let next = c.return_both in
     record {
       mid = mid;
       before = later_none pool mid c.requires.works.seat;
@@ -32,5 +32,5 @@ returns-in-Err-clause-worn g c =
 
 pub returns-in-Err-clause-later : goal.returns-in-Err-clause-later
 returns-in-Err-clause-later g c =
-    later_on c.args.pool.now c.args.seat.now c.bear.new.seat c.put_away.new.seat c.in-Err.ensures.later
-    c.put_away.ensures.later
+    later_on c.args.pool.now c.args.seat.now c.bear.new.seat c.return_both.new.seat c.in-Err.ensures.later
+    c.return_both.ensures.later

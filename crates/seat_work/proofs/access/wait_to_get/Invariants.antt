@@ -1,7 +1,7 @@
 use Rattle.std.proofs.Common.{◌≡◌, length}
 use Rattle.shared_pool.specs.SeatViews.{view_of}
 use Rattle.shared_pool.specs.Seats.{IsPoolSeat}
-use Rattle.seat_work.proofs.access.get.Given as goal
+use Rattle.seat_work.proofs.access.wait_to_get.Given as goal
 
 abbrev pub invariant-loop : goal.invariant-loop
 invariant-loop g l =
