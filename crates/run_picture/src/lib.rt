@@ -22,8 +22,6 @@ mod standing;
 mod strips;
 mod surroundings;
 mod svg;
-#[cfg(test)]
-mod tests;
 mod thinning;
 mod uses;
 mod writer;
