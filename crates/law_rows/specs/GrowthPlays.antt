@@ -1,5 +1,5 @@
 -- Roots that grow: in their region, out of it, and where the arena is full.
-use Rattle.std.specs.Prelude.{ℕ, ◌+◌, List, [], ◌∷◌, ◌++◌, Option, option_map, option_and_then, Some, None, Result}
+use Rattle.std.specs.Prelude.{ℕ, List, [], ◌∷◌, ◌++◌, Option, option_map, option_and_then, Some, Result}
 use Rattle.pool_law.specs.declared.id.RootId.{RootId}
 use Rattle.pool_law.specs.declared.id.RegionId.{RegionId}
 use Rattle.pool_law.specs.declared.note.Did.{Did}
@@ -17,7 +17,7 @@ use Rattle.pool_law.specs.Patterns.{regrow}
 use Rattle.pool_law.specs.Lives.{Move, Takes, Gives, Keeps, Hits, Sheds, Begins, Leaves, Happening}
 use Rattle.law_rows.specs.Notes.{default_shape, place, region, least_region, root, arena, cache, bin, root_place, closes}
 use Rattle.law_rows.specs.Entries.{alone, access}
-use Rattle.law_rows.specs.LifeRows.{event, happening, first_arena, least_cache}
+use Rattle.law_rows.specs.LifeRows.{happening, first_arena, least_cache}
 
 -- a root of the least class, and the region that it grows into, after so many uses
 abbrev pub sixteen : RootId
@@ -37,8 +37,8 @@ second_class uses = region (place 0 32) 1 1 uses
 abbrev pub five_pages : RootId
 five_pages = root 0 1 40960
 
-abbrev pub five_region : RegionId
-five_region = region (place 0 40960) 40 1 1
+abbrev pub five_region : ℕ → RegionId
+five_region uses = region (place 0 40960) 40 1 uses
 
 abbrev pub whole_chunk : RegionId
 whole_chunk = region (place 0 65536) 43 2 1
@@ -58,7 +58,7 @@ abbrev pub after_seventeen : List Did → Option RootPlace
 after_seventeen ds = place_after 0 (Did.Birth seventeen (second_class 1) ∷ ds)
 
 abbrev pub after_five : List Did → Option RootPlace
-after_five ds = place_after 0 (Did.Birth five_pages five_region ∷ ds)
+after_five ds = place_after 0 (Did.Birth five_pages (five_region 1) ∷ ds)
 
 -- the region of the root that is present
 abbrev pub present_region : Option RootPlace → Option RegionId
@@ -114,9 +114,9 @@ has_grown =
 -- ---- A whole log.
 
 -- a root is born, grows and ends; its two regions return and are shed at the end
-abbrev pub grown_logs : Logs
-grown_logs =
-    (bin 0 1 (Did.Handle 0)
+abbrev pub grown_notes : List Note
+grown_notes =
+    bin 0 1 (Did.Handle 0)
     ∷ cache 0 0 1 Did.Miss
     ∷ arena 0 1 (Did.Take 0 (least_region 0))
     ∷ root_place 0 1 (Did.Birth sixteen (least_region 1))
@@ -142,8 +142,11 @@ grown_logs =
     ++ cache 0 6 3 (Did.Close 1)
     ∷ cache 0 6 4 (Did.Shed (wider 1))
     ∷ arena 0 4 (Did.Give (wider 1))
-    ∷ closes 0 7 33)
-    ∷ []
+    ∷ closes 0 7 33
+
+-- the lane is alone
+abbrev pub grown_logs : Logs
+grown_logs = grown_notes ∷ []
 
 -- the growth, as an event of both regions
 abbrev pub growing : Move → Happening

@@ -18,7 +18,7 @@ use Rattle.pool_law.specs.LaneStates.{LaneState, log_at}
 use Rattle.pool_law.specs.Lanes.{Answer, answer, answer_of}
 use Rattle.pool_law.specs.LaneLaw.{sweep_period, lane_step, lane_run, closes}
 use Rattle.law_rows.specs.Notes.{default_shape, place, region, root, view, arena, cache, bin, root_place}
-use Rattle.law_rows.specs.Entries.{alone, on, end, mark}
+use Rattle.law_rows.specs.Entries.{alone, on, access, end, mark}
 
 -- the root that it counts
 abbrev pub held : RootId
@@ -162,6 +162,29 @@ gave region = alone (arena 0 3 (Did.Give region))
 -- its place goes home
 abbrev pub held_home : Entry
 held_home = alone (bin 0 3 (Did.Home 0))
+
+-- ---- The held root is asked for seventeen bytes, and its region holds sixteen.
+
+-- the region that is taken for it, after so many uses
+abbrev pub next_region : ℕ → RegionId
+next_region uses = region (place 32 32) 1 3 uses
+
+-- the notes until it is there
+abbrev pub asks_for_seventeen : Entries
+asks_for_seventeen =
+    access held 2 (Did.Room 17 8)
+    ∷ alone (cache 0 1 3 Did.Miss)
+    ∷ alone (arena 0 3 (Did.Take 1 (next_region 0)))
+    ∷ []
+
+-- it is kept unused
+abbrev pub next_kept : Note
+next_kept = cache 0 1 4 (Did.Kept (next_region 0))
+
+-- the view of the held root reaches so far
+abbrev pub reached : ℕ → Answers
+reached capacity =
+    gives (Reply.OkNumber capacity) ((0, Plain (view held 0 capacity 2 6)) ∷ (1, Plain gone_view) ∷ []) []
 
 -- ---- The law of a log.
 

@@ -1,11 +1,12 @@
 -- Accesses to the roots of one place.
-use Rattle.std.specs.Prelude.{ℕ, [], ◌∷◌}
+use Rattle.std.specs.Prelude.{ℕ, [], ◌∷◌, take}
 use Rattle.pool_law.specs.declared.note.Did.TheVariants.{Birth, Set, Get, Touch, End}
 use Rattle.pool_law.specs.declared.note.RefDid.{RefDid}
 use Rattle.pool_law.specs.declared.note.Note.TheVariants.{Ref}
 use Rattle.pool_law.specs.declared.report.Access.{Access}
 use Rattle.pool_law.specs.Logs.{Logs, History}
 use Rattle.law_rows.specs.Notes.{root, least_region, root_place}
+use Rattle.law_rows.specs.GrowthPlays.{grown_notes}
 
 -- a touch by a lane
 abbrev pub touch_of : ℕ → Access
@@ -38,3 +39,7 @@ two_logs =
     ∷ Ref (root 1 2 6) RefDid.Retain
     ∷ [])
     ∷ []
+
+-- a root that has grown and does not end
+abbrev pub live_grown : Logs
+live_grown = take 14 grown_notes ∷ []

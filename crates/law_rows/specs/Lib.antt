@@ -31,3 +31,5 @@ pub mod DisorderedRuns
 pub mod LifeRows
 pub mod GrowthPlays
 pub mod OrderedRuns
+pub mod GrowthRuns
+pub mod ElsewhereRuns

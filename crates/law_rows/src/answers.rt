@@ -1,15 +1,16 @@
 //! What a lane answers where it refuses nothing: the reply, the notes of the command, and the names
 //! that are bound then.
 
-ghost use Rattle.std.specs.Prelude.{◌≡◌, [], ◌∷◌, None, true, false};
-ghost use Rattle.pool_law.specs.declared.command.Command.TheVariants.{Alloc, Set, Get, Write, Read, Slice, Dup, Retain, Release, Refcnt, Touch, Forget, Send, Recv};
+ghost use Rattle.std.specs.Prelude.{◌≡◌, [], ◌∷◌, ◌++◌, None, true, false};
+ghost use Rattle.pool_law.specs.declared.command.Command.TheVariants.{Alloc, Set, Get, Write, Read, Slice, Dup, Retain, Release, Refcnt, Touch, Forget, Send, Recv, Capacity};
 ghost use Rattle.pool_law.specs.declared.note.Did.{Did};
 ghost use Rattle.pool_law.specs.declared.note.RefDid.{RefDid};
 ghost use Rattle.pool_law.specs.declared.run.Reply.{Reply};
 ghost use Rattle.pool_law.specs.Names.{Plain};
 ghost use Rattle.law_rows.specs.Notes.{place, root, view, mail, post, fetch};
 ghost use Rattle.law_rows.specs.Entries.{alone, on, access};
-ghost use Rattle.law_rows.specs.LanePlays.{held, gone, held_view, gone_view, bound, answers, gives, replies, handle, home, hit, miss, cache_mark, taken_from, birth, born, third_bound, held_region, far_region, large_region, ends_with, kept_at, sent_back, gave, held_home};
+ghost use Rattle.law_rows.specs.LanePlays.{held, gone, held_view, gone_view, bound, answers, gives, replies, handle, home, hit, miss, cache_mark, taken_from, birth, born, third_bound, held_region, far_region, large_region, ends_with, kept_at, sent_back, gave, held_home, reached, next_region, asks_for_seventeen, next_kept};
+ghost use Rattle.law_rows.specs.GrowthPlays.{growth};
 
 /// `alloc` takes a handle. It asks the lane's cache, and its arena after a miss or a busy mark.
 /// Then a root is born, with the region's uses one higher.
@@ -29,6 +30,33 @@ pub fn alloc()
     ensures one_use_more { answers (Alloc 2 8) (handle ∷ hit ∷ birth 1 ∷ born ∷ []) ≡ None }
     ensures of_this_capacity { answers (Alloc 2 7) (handle ∷ hit ∷ birth 2 ∷ born ∷ []) ≡ None }
     ensures of_this_class { answers (Alloc 2 17) (handle ∷ hit ∷ birth 2 ∷ born ∷ []) ≡ None }
+{}
+
+/// `capacity` answers what the last note about it tells, and its view then ends there. What is taken
+/// for the root is put away, or is what the root leaves.
+pub fn capacity()
+    ensures enough { answers (Capacity 0 5) (access held 2 (Did.Room 5 8) ∷ []) ≡ reached 8 }
+    ensures grown_by_another { answers (Capacity 0 5) (access held 2 (Did.Room 5 12) ∷ [])
+        ≡ reached 12 }
+    ensures extended { answers (Capacity 0 12) (access held 2 (Did.Extend 12) ∷ [])
+        ≡ reached 12 }
+    ensures replaced { answers (Capacity 0 17)
+        (asks_for_seventeen ++ growth held 3 17 held_region (next_region 1)
+        ∷ kept_at 0 held_region ∷ [])
+        ≡ reached 17 }
+    ensures outrun { answers (Capacity 0 17)
+        (asks_for_seventeen ++ access held 4 (Did.Room 17 24) ∷ alone next_kept ∷ [])
+        ≡ reached 24 }
+    ensures unnoted { answers (Capacity 0 5) [] ≡ None }
+    ensures of_another_root { answers (Capacity 0 5) (access gone 2 (Did.Room 5 8) ∷ [])
+        ≡ None }
+    ensures of_another_size { answers (Capacity 0 5) (access held 2 (Did.Room 4 8) ∷ []) ≡ None }
+    ensures extended_to_more { answers (Capacity 0 12) (access held 2 (Did.Extend 16) ∷ [])
+        ≡ None }
+    ensures too_little { answers (Capacity 0 17) (access held 2 (Did.Room 17 8) ∷ []) ≡ None }
+    ensures both_kept { answers (Capacity 0 17)
+        (asks_for_seventeen ++ growth held 3 17 held_region (next_region 1) ∷ alone next_kept ∷ [])
+        ≡ None }
 {}
 
 /// The release that ends a count is followed by the end of the root. Its owner's cache keeps the

@@ -1,13 +1,14 @@
 //! The most notes that a lane of given commands makes.
 
 ghost use Rattle.std.specs.Prelude.{◌≡◌, [], ◌∷◌, replicate, true, false};
-ghost use Rattle.pool_law.specs.declared.command.Command.TheVariants.{Alloc, Set, Get, Write, Read, Slice, Dup, Release, Forget, Compose, Add};
+ghost use Rattle.pool_law.specs.declared.command.Command.TheVariants.{Alloc, Set, Get, Write, Read, Slice, Dup, Release, Forget, Compose, Add, Capacity};
 ghost use Rattle.pool_law.specs.Bounds.{most_drained, note_bound};
 
 /// Without composites, a release makes at most six notes and an access one.
 pub fn bounds_of_lanes()
     ensures closing { note_bound [] ≡ 40 }
     ensures alloc { note_bound (Alloc 0 8 ∷ []) ≡ 47 }
+    ensures capacity { note_bound (Capacity 0 8 ∷ []) ≡ 48 }
     ensures few { note_bound
         (Set 0 0 [] false ∷ Set 0 0 [] true ∷ Write 0 [] ∷ Release 0 ∷ Dup 1 0 ∷ Forget 0
         ∷ Slice 1 0 0 0 false ∷ Slice 1 0 0 0 true ∷ []) ≡ 50 }

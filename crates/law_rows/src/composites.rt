@@ -1,7 +1,7 @@
 //! Composites: where their bytes lie, and what a lane answers to commands on them.
 
 ghost use Rattle.std.specs.Prelude.{◌≡◌, [], ◌∷◌, ◌++◌, None, replicate, true, false};
-ghost use Rattle.pool_law.specs.declared.command.Command.TheVariants.{Set, Get, Write, Read, Slice, Dup, Retain, Release, Refcnt, Touch, Forget, Send, Compose, Add};
+ghost use Rattle.pool_law.specs.declared.command.Command.TheVariants.{Set, Get, Write, Read, Slice, Dup, Retain, Release, Refcnt, Touch, Forget, Send, Compose, Add, Capacity};
 ghost use Rattle.pool_law.specs.declared.note.Did.{Did};
 ghost use Rattle.pool_law.specs.declared.note.RefDid.{RefDid};
 ghost use Rattle.pool_law.specs.declared.run.Reply.{Reply};
@@ -124,6 +124,7 @@ pub fn refused_composites()
     ensures rslice { answers (Slice 2 4 9 1 true) [] ≡ replies Reply.Composite [] }
     ensures dup { answers (Dup 2 4) [] ≡ replies Reply.Composite [] }
     ensures touch { answers (Touch 4) [] ≡ replies Reply.Composite [] }
+    ensures capacity { answers (Capacity 4 4194305) [] ≡ replies Reply.Composite [] }
     ensures send { answers (Send 3 1) (alone (mail 0 1 1 post_nothing) ∷ [])
         ≡ replies Reply.Composite [] }
 {}

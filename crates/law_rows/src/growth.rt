@@ -6,11 +6,12 @@ ghost use Rattle.pool_law.specs.declared.note.Did.{Did};
 ghost use Rattle.pool_law.specs.declared.note.Did.TheVariants.{Set, Get, Room, Extend, Grow, End};
 ghost use Rattle.pool_law.specs.declared.run.Reply.{Reply};
 ghost use Rattle.pool_law.specs.Capacities.{known_of};
+ghost use Rattle.pool_law.specs.Logs.{entry_of};
 ghost use Rattle.pool_law.specs.Lives.{Got, LivesOn, InOrder, IsUse, moves_of, Begins, Leaves, Keeps, Gives};
 ghost use Rattle.pool_law.specs.Text.{note_lines};
 ghost use Rattle.law_rows.specs.Notes.{root, least_region, arena, cache, root_place, view, lines, fetch, mail};
 ghost use Rattle.law_rows.specs.Entries.{alone, access};
-ghost use Rattle.law_rows.specs.GrowthPlays.{sixteen, seventeen, five_pages, second_class, wider, five_region, six_region, whole_chunk, after_sixteen, after_seventeen, after_five, grown_with, present_region, regrown, growth, takes_wider, grows_wider, keeps_least, has_grown, grown_logs, left_taken, left_used, wider_taken, wider_used, outrun};
+ghost use Rattle.law_rows.specs.GrowthPlays.{sixteen, seventeen, five_pages, second_class, wider, six_region, whole_chunk, after_sixteen, after_seventeen, after_five, grown_with, present_region, regrown, growth, takes_wider, grows_wider, keeps_least, has_grown, grown_logs, left_taken, left_used, wider_taken, wider_used, outrun};
 
 /// A root grows in its region, which stays; what is asked of it is there, or is more than the region
 /// holds.
@@ -117,6 +118,10 @@ pub fn regions_of_a_growth()
     ensures first_use { IsUse grown_logs sixteen (least_region 1) }
     ensures second_use { IsUse grown_logs sixteen (wider 1) }
     ensures passages { LivesOn Got (wider 0) outrun }
+    // the lane of each of these notes has to count the root
+    ensures room_entry { entry_of grown_logs (root_place 0 4 (Room 100 16))
+        ≡ access sixteen 4 (Room 100 16) }
+    ensures growth_entry { entry_of grown_logs (root_place 0 5 (Grow 100 (wider 1))) ≡ grows_wider }
 {}
 
 /// No region lives otherwise: it returns behind the growth, once, and its uses are counted.
@@ -139,6 +144,10 @@ pub fn lives_refused()
     ensures uses_not_raised { LivesOn Got (wider 0) (Begins sixteen (wider 0) ∷ []) → ⊥ }
     ensures two_at_once { LivesOn Got (wider 0)
         (Begins sixteen (wider 1) ∷ Begins seventeen (wider 2) ∷ []) → ⊥ }
+    ensures taken_and_forgotten { LivesOn Got (wider 0) [] → ⊥ }
+    ensures left_in_a_cache { LivesOn Got (wider 0) (Keeps (wider 0) ∷ []) → ⊥ }
+    ensures used_once_given { LivesOn Got (wider 0)
+        (Gives (wider 0) ∷ Begins sixteen (wider 1) ∷ []) → ⊥ }
 {}
 
 /// A lane knows of a root the greatest capacity that its notes told it.

@@ -7,7 +7,7 @@ ghost use Rattle.pool_law.specs.declared.report.Access.{Access};
 ghost use Rattle.pool_law.specs.declared.run.Level.{Level};
 ghost use Rattle.pool_law.specs.Leaks.{is_sampled, keeps_records, accesses, kept_of, dropped_of, births, leaks_of};
 ghost use Rattle.law_rows.specs.Notes.{default_shape, root, least_region, cache, root_place, leak};
-ghost use Rattle.law_rows.specs.LeakPlays.{touch_of, history, two_logs};
+ghost use Rattle.law_rows.specs.LeakPlays.{touch_of, history, two_logs, live_grown};
 
 /// By interval the first birth of a lane is sampled, and then each after so many.
 pub fn sampled_serials()
@@ -65,4 +65,7 @@ pub fn reports()
         ≡ leak 1 4 1 [] 0 ∷ record (leak 1 7 1 [] 0) { lane = 1 } ∷ [] }
     ensures disabled { leaks_of (record (default_shape 2) { level = Level.Disabled }) two_logs
         ≡ [] }
+    // with the capacity at the end; a growth is no access
+    ensures grown { leaks_of (record (default_shape 1) { level = Level.Paranoid }) live_grown
+        ≡ leak 1 100 1 (Access.Set 0 0 1 ∷ Access.Get 0 0 2 ∷ Access.Get 0 99 1 ∷ []) 0 ∷ [] }
 {}

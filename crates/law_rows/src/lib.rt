@@ -13,6 +13,7 @@ pub mod composites;
 pub mod counts;
 pub mod elements;
 pub mod growth;
+pub mod growth_runs;
 pub mod homes;
 pub mod lane_runs;
 pub mod leaks;

@@ -3,12 +3,13 @@
 
 ghost use Rattle.std.specs.Prelude.{◌≡◌, [], ◌∷◌, None, true, false};
 ghost use Rattle.pool_law.specs.declared.command.Command.{Command};
-ghost use Rattle.pool_law.specs.declared.command.Command.TheVariants.{Alloc, Set, Get, Write, Read, Slice, Dup, Retain, Release, Refcnt, Touch, Forget, Send, Recv};
+ghost use Rattle.pool_law.specs.declared.command.Command.TheVariants.{Alloc, Set, Get, Write, Read, Slice, Dup, Retain, Release, Refcnt, Touch, Forget, Send, Recv, Capacity};
+ghost use Rattle.pool_law.specs.declared.note.Did.TheVariants.{Room};
 ghost use Rattle.pool_law.specs.declared.note.Object.{Object};
 ghost use Rattle.pool_law.specs.declared.note.RefDid.{RefDid};
 ghost use Rattle.pool_law.specs.declared.run.Reply.{Reply};
 ghost use Rattle.law_rows.specs.Notes.{mail, post, post_nothing, fetch_nothing};
-ghost use Rattle.law_rows.specs.Entries.{alone, on, mark};
+ghost use Rattle.law_rows.specs.Entries.{alone, on, access, mark};
 ghost use Rattle.law_rows.specs.LanePlays.{held, gone, gone_view, answers, replies, handle, no_handle, home, miss, full, held_mark};
 
 /// `alloc`: taken, toolarge, handles, full.
@@ -24,6 +25,20 @@ pub fn alloc()
     ensures full_without_cache { answers (Alloc 2 40960) (handle ∷ full 40 ∷ home ∷ [])
         ≡ replies Reply.Full [] }
     ensures full_and_home { answers (Alloc 2 8) (handle ∷ miss ∷ full 0 ∷ []) ≡ None }
+{}
+
+/// `capacity`: unbound, illegal, toolarge, full.
+pub fn capacity()
+    ensures unbound { answers (Capacity 2 4194305) [] ≡ replies Reply.Unbound [] }
+    ensures illegal_before_toolarge { answers (Capacity 1 4194305) [] ≡ replies Reply.Illegal [] }
+    ensures illegal_before_enough { answers (Capacity 1 8) (access gone 2 (Room 8 8) ∷ [])
+        ≡ replies Reply.Illegal (access gone 2 (Room 8 8) ∷ []) }
+    ensures toolarge_before_full { answers (Capacity 0 4194305)
+        (access held 2 (Room 4194305 8) ∷ full 67 ∷ [])
+        ≡ replies Reply.TooLarge (access held 2 (Room 4194305 8) ∷ full 67 ∷ []) }
+    ensures full { answers (Capacity 0 40960) (access held 2 (Room 40960 8) ∷ full 40 ∷ [])
+        ≡ replies Reply.Full [] }
+    ensures full_unasked { answers (Capacity 0 40960) (full 40 ∷ []) ≡ None }
 {}
 
 /// `set` and `get`: unbound, illegal, range.

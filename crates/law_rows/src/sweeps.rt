@@ -1,7 +1,7 @@
 //! The sweep of a lane's caches, once three allocations asked one.
 
 ghost use Rattle.std.specs.Prelude.{◌≡◌, [], ◌∷◌, ◌++◌, map, replicate, Some, None, true, false};
-ghost use Rattle.pool_law.specs.declared.command.Command.TheVariants.{Alloc, Release, Get, Compose, Add};
+ghost use Rattle.pool_law.specs.declared.command.Command.TheVariants.{Alloc, Release, Get, Compose, Add, Capacity};
 ghost use Rattle.pool_law.specs.declared.note.Did.{Did};
 ghost use Rattle.pool_law.specs.declared.note.Object.{Object};
 ghost use Rattle.pool_law.specs.declared.note.RefDid.{RefDid};
@@ -38,6 +38,14 @@ pub fn allocations_that_ask()
         ≡ Some (Reply.OkNumber 64, 0) }
     ensures add { asking_composed 1 (Add 10 0) (plays.handle ++ plays.full)
         ≡ Some (Reply.Full, 2) }
+    ensures growth { asking 1 (Capacity 0 16)
+        (access held 2 (Did.Room 16 8) ∷ miss ∷ full 0 ∷ [])
+        ≡ Some (Reply.Full, 2) }
+    ensures growth_without_cache { asking 1 (Capacity 0 40960)
+        (access held 2 (Did.Room 40960 8) ∷ full 40 ∷ [])
+        ≡ Some (Reply.Full, 1) }
+    ensures growth_in_its_region { asking 1 (Capacity 0 16) (access held 2 (Did.Extend 16) ∷ [])
+        ≡ Some (Reply.OkNumber 16, 1) }
 {}
 
 /// The third allocation ends with a sweep, also where it is refused, and the count begins anew.
@@ -53,6 +61,9 @@ pub fn sweeps_when_due()
         ++ ends_with held_region (kept_at 0 held_region ∷ held_home ∷ [])
         ++ map alone (trims 0 0 9 40))
         ≡ Some (Reply.OkNumber 68, 0) }
+    ensures third_growth { asking 2 (Capacity 0 16)
+        (access held 2 (Did.Room 16 8) ∷ miss ∷ full 0 ∷ map alone (trims 0 0 9 40))
+        ≡ Some (Reply.Full, 0) }
     ensures not_left_out { asking 2 (Alloc 2 8) (handle ∷ hit ∷ birth 2 ∷ born ∷ []) ≡ None }
     ensures not_before { asking 1 (Alloc 2 8)
         (handle ∷ hit ∷ birth 2 ∷ born ∷ map alone (trims 0 0 9 40)) ≡ None }

@@ -1,7 +1,7 @@
 //! Views: which bytes of the root they mean, and what can be read and written through them.
 
 ghost use Rattle.std.specs.Prelude.{◌≡◌, true, false};
-ghost use Rattle.pool_law.specs.Views.{IsView, view_of, root_index, in_range, can_read, can_write, slice_of, after_read, after_write};
+ghost use Rattle.pool_law.specs.Views.{IsView, LiesIn, most_capacity, reaching, view_of, root_index, in_range, can_read, can_write, slice_of, after_read, after_write};
 ghost use Rattle.law_rows.specs.Notes.{root, view};
 
 /// The view of a new root is all of it, and nothing can be read yet.
@@ -44,12 +44,22 @@ pub fn readers_and_writers()
         ≡ view (root 0 1 16) 0 16 2 16 }
 {}
 
-/// A view lies in its root, with its reader and its writer in order.
+/// A view that is to reach a capacity ends there, also where it began behind the front.
+pub fn views_that_reach()
+    ensures whole { reaching 112 (view (root 0 1 16) 0 16 2 6) ≡ view (root 0 1 16) 0 112 2 6 }
+    ensures slice { reaching 112 (view (root 0 1 16) 4 8 0 8) ≡ view (root 0 1 16) 4 108 0 8 }
+{}
+
+/// A view lies where roots have bytes, with its reader and its writer in order, and in so much
+/// capacity of its root or not.
 pub fn views_of_a_root()
     ensures whole { IsView (view (root 0 1 16) 0 16 0 0) }
     ensures at_the_end { IsView (view (root 0 1 16) 16 0 0 0) }
     ensures written { IsView (view (root 0 1 16) 4 8 8 8) }
-    ensures past_the_root { ¬ IsView (view (root 0 1 16) 9 8 0 0) }
+    ensures grown { IsView (view (root 0 1 16) 9 8 0 0) }
+    ensures past_all_roots { ¬ IsView (view (root 0 1 16) 1 most_capacity 0 0) }
+    ensures in_its_capacity { LiesIn 17 (view (root 0 1 16) 9 8 0 0) }
+    ensures past_its_capacity { ¬ LiesIn 16 (view (root 0 1 16) 9 8 0 0) }
     ensures past_its_length { ¬ IsView (view (root 0 1 16) 4 8 0 9) }
     ensures out_of_order { ¬ IsView (view (root 0 1 16) 4 8 3 2) }
 {}

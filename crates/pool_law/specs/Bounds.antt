@@ -2,7 +2,7 @@
 use Rattle.std.specs.Prelude.{ℕ, ◌+◌, ◌*◌, ◌/◌, Bool, true, false, if◌then◌else◌, List, map, sum}
 use Rattle.std.specs.List.{list_any}
 use Rattle.pool_law.specs.declared.command.Command.{Command}
-use Rattle.pool_law.specs.declared.command.Command.TheVariants.{Alloc, Set, Get, Write, Read, Slice, Dup, Retain, Release, Refcnt, Touch, Forget, Send, Recv, Compose, Add}
+use Rattle.pool_law.specs.declared.command.Command.TheVariants.{Alloc, Set, Get, Write, Read, Slice, Dup, Retain, Release, Refcnt, Touch, Forget, Send, Recv, Compose, Add, Capacity}
 use Rattle.pool_law.specs.Limits.{cached_classes}
 use Rattle.pool_law.specs.LaneLaw.{sweep_period}
 
@@ -16,6 +16,7 @@ abbrev pub may_ask : Command → ℕ
 may_ask (Alloc new n) = 1
 may_ask (Compose new vs) = 1
 may_ask (Add c v) = 1
+may_ask (Capacity v n) = 1
 may_ask (Set v i bytes tries) = 0
 may_ask (Get v i n tries) = 0
 may_ask (Write v bytes) = 0
@@ -50,6 +51,7 @@ most_notes composites (Send v to) = 1
 most_notes composites (Recv new from) = 1
 most_notes composites (Compose new vs) = 197
 most_notes composites (Add c v) = 141
+most_notes composites (Capacity v n) = 6
 
 -- the most notes of the sweeps and of the closing, after so many commands that may ask a cache
 abbrev pub most_drained : ℕ → ℕ

@@ -5,17 +5,17 @@ use Rattle.pool_law.specs.declared.id.ViewData.{ViewData}
 use Rattle.pool_law.specs.declared.id.Parcel.{Parcel}
 use Rattle.pool_law.specs.declared.id.Part.{Part}
 use Rattle.pool_law.specs.declared.command.Command.{Command}
-use Rattle.pool_law.specs.declared.command.Command.TheVariants.{Alloc, Set, Get, Write, Read, Slice, Dup, Retain, Release, Refcnt, Touch, Forget, Send, Recv, Compose, Add}
+use Rattle.pool_law.specs.declared.command.Command.TheVariants.{Alloc, Set, Get, Write, Read, Slice, Dup, Retain, Release, Refcnt, Touch, Forget, Send, Recv, Compose, Add, Capacity}
 use Rattle.pool_law.specs.declared.note.Object.TheVariants.{Mail, Root}
 use Rattle.pool_law.specs.declared.run.Shape.{Shape}
 use Rattle.pool_law.specs.declared.run.Reply.{Reply}
 use Rattle.pool_law.specs.Dids as says
 use Rattle.pool_law.specs.Readers.{Reader, ◌>>=◌, ◌>>◌, ◌or◌, give, nothing, given, note, step, busy, access, count}
-use Rattle.pool_law.specs.Views.{view_of, slice_of}
+use Rattle.pool_law.specs.Views.{view_of, slice_of, reaching}
 use Rattle.pool_law.specs.Composites.{Composite, size_of, filled, is_crowded, moved_to}
 use Rattle.pool_law.specs.Names.{Bound, Plain, Composed, Names, bind, without, reader_of, writer_of, read_on, written_on, parts_at}
 use Rattle.pool_law.specs.LaneStates.{LaneState, named, view_named, composite_from, composite_with}
-use Rattle.pool_law.specs.Patterns.{New, allot, release, sweep_if_due}
+use Rattle.pool_law.specs.Patterns.{New, allot, release, regrow, sweep_if_due}
 use Rattle.pool_law.specs.Refusals.{first_refusal, refusals}
 
 -- the answer to a command, and the names that are bound then
@@ -94,6 +94,12 @@ allotted s name (Err reply) = answer reply s.names
 allotted s name (Ok new) =
     let place = new.region.place in
     answer (Reply.OkPlace place.len place) (bind name (Plain (view_of new.root)) s.names)
+
+-- the answer where more capacity was asked: the view then ends where the capacity does
+abbrev pub regrown : LaneState → ℕ → ViewData → Result ℕ Reply → Answer
+regrown s name v (Err reply) = answer reply s.names
+regrown s name v (Ok capacity) =
+    answer (Reply.OkNumber capacity) (bind name (Plain (reaching capacity v)) s.names)
 
 -- the answer to a fetch
 abbrev pub received : LaneState → ℕ → Option ViewData → Answer
@@ -203,6 +209,10 @@ carried_out shape lane s (Add c v) = do
   longer ← given (composite_with s c v)
   made ← consolidate shape lane longer
   give (composed s c made)
+carried_out shape lane s (Capacity v n) = do
+  view ← given (view_named s v)
+  got ← regrow shape lane view.root n
+  give (regrown s v view got)
 
 -- the notes of a command that is refused before any, or stopped: a send posts an empty parcel
 abbrev pub not_carried_out : ℕ → Command → Reader (Unit {0})

@@ -2,7 +2,7 @@
 use Rattle.std.specs.Prelude.{ℕ, Bool, true, false, ◌&&◌, ◌||◌, not, nat_lt, if◌then◌else◌, List, [], ◌∷◌, ◌++◌, length, map, Option, Some, None, is_some, is_none}
 use Rattle.size_classes.specs.Sizes.{class_of}
 use Rattle.pool_law.specs.declared.command.Command.{Command}
-use Rattle.pool_law.specs.declared.command.Command.TheVariants.{Alloc, Set, Get, Write, Read, Slice, Dup, Retain, Release, Refcnt, Touch, Forget, Send, Recv, Compose, Add}
+use Rattle.pool_law.specs.declared.command.Command.TheVariants.{Alloc, Set, Get, Write, Read, Slice, Dup, Retain, Release, Refcnt, Touch, Forget, Send, Recv, Compose, Add, Capacity}
 use Rattle.pool_law.specs.declared.run.Shape.{Shape}
 use Rattle.pool_law.specs.declared.run.Reply.{Reply}
 use Rattle.pool_law.specs.Limits.{geometry_of}
@@ -113,3 +113,5 @@ refusals shape s (Compose new vs) =
 refusals shape s (Add c v) =
     unbound s c ∷ unbound s v ∷ plain s c ∷ composite s v ∷ illegal s c ∷ illegal s v
     ∷ too_long shape (composite_with s c v) ∷ []
+refusals shape s (Capacity v n) =
+    unbound s v ∷ composite s v ∷ illegal s v ∷ too_large shape n ∷ []

@@ -81,6 +81,7 @@ command_word (Command.Send name lane) = codes "send"
 command_word (Command.Recv fresh lane) = codes "recv"
 command_word (Command.Compose fresh names) = codes "compose"
 command_word (Command.Add whole name) = codes "add"
+command_word (Command.Capacity name size) = codes "capacity"
 
 -- the words of a reply
 abbrev pub reply_words : Reply → List Text

@@ -36,6 +36,7 @@ bytes_asked_by (Command.Send name lane) = 0
 bytes_asked_by (Command.Recv fresh lane) = 0
 bytes_asked_by (Command.Compose fresh names) = 0
 bytes_asked_by (Command.Add whole name) = 0
+bytes_asked_by (Command.Capacity name size) = 0
 
 -- the bytes that the commands of all lanes ask to see
 abbrev pub bytes_asked : List (List Command) → ℕ

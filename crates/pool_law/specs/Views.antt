@@ -1,15 +1,23 @@
 -- Views: windows on the bytes of a root.
-use Rattle.std.specs.Prelude.{ℕ, ◌+◌, ◌-◌, ◌≤◌, Bool, nat_le}
+use Rattle.std.specs.Prelude.{ℕ, ◌+◌, ◌-◌, ◌^◌, ◌≤◌, Bool, nat_le}
 use Rattle.pool_law.specs.declared.id.RootId.{RootId}
 use Rattle.pool_law.specs.declared.id.ViewData.{ViewData}
 
--- a view lies in its root, and its reader and writer are in order
+-- the most bytes of a root
+abbrev pub most_capacity : ℕ
+most_capacity = 2 ^ 24
+
+-- the view lies inside so much capacity of its root
+abbrev pub LiesIn : ℕ → ViewData → Type 0
+LiesIn capacity v = v.offset + v.len ≤ capacity
+
+-- a view lies where a root may have bytes, and its reader and writer are in order
 pub record IsView (v : ViewData) : Type 0 where
-  pub inside : v.offset + v.len ≤ v.root.capacity
+  pub inside : LiesIn most_capacity v
   pub reader : v.reader ≤ v.writer
   pub writer : v.writer ≤ v.len
 
--- the whole of a new root
+-- the whole of a new root, before it grows
 abbrev pub view_of : RootId → ViewData
 view_of root = record { root = root; offset = 0; len = root.capacity; reader = 0; writer = 0 }
 
@@ -40,3 +48,7 @@ after_read v n = record v { reader = v.reader + n }
 -- a view after so much was written
 abbrev pub after_write : ViewData → ℕ → ViewData
 after_write v n = record v { writer = v.writer + n }
+
+-- a view up to the end of its root's capacity
+abbrev pub reaching : ℕ → ViewData → ViewData
+reaching capacity v = record v { len = capacity - v.offset }

@@ -19,3 +19,12 @@ returns-clause-uses_not_raised c l = absurd (omega (arith, ap (λ r. r.uses) l.0
 
 pub returns-clause-two_at_once : goal.returns-clause-two_at_once
 returns-clause-two_at_once c l = l.1
+
+pub returns-clause-taken_and_forgotten : goal.returns-clause-taken_and_forgotten
+returns-clause-taken_and_forgotten c l = l
+
+pub returns-clause-left_in_a_cache : goal.returns-clause-left_in_a_cache
+returns-clause-left_in_a_cache c l = l.1
+
+pub returns-clause-used_once_given : goal.returns-clause-used_once_given
+returns-clause-used_once_given c l = l
