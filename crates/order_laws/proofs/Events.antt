@@ -4,7 +4,7 @@ use Rattle.std.specs.Prelude.{◌<◌, ◌⊎◌, ◌==◌, slice_get}
 use Rattle.pool_law.specs.declared.id.RootId.{RootId}
 use Rattle.pool_law.specs.declared.id.RegionId.{RegionId}
 use Rattle.pool_law.specs.declared.note.Object.{Object}
-use Rattle.pool_law.specs.declared.note.Did.TheVariants.{Birth, End}
+use Rattle.pool_law.specs.declared.note.Did.TheVariants.{End}
 use Rattle.pool_law.specs.declared.note.RefDid.{RefDid}
 use Rattle.pool_law.specs.declared.note.Note.{Note}
 use Rattle.pool_law.specs.declared.note.Note.TheVariants.{At, Ref, Busy}
@@ -12,9 +12,8 @@ use Rattle.pool_law.specs.declared.run.Run.{Run}
 use Rattle.pool_law.specs.Logs.{Logs, has_history}
 use Rattle.pool_law.specs.Counts.{ends_root}
 use Rattle.pool_law.specs.Legal.{IsLegal, logs_of}
-use Rattle.pool_law.specs.Lives.{StandsAt, Event, Stands, InOneLog, AtOneObject}
-use Rattle.run_laws.proofs.BirthLives.{IsUse}
-use Rattle.pool_law.specs.Apart.{Leads}
+use Rattle.pool_law.specs.Lives.{StandsAt, Event, Stands, InOneLog, AtOneObject, IsUse, Begins}
+use Rattle.pool_law.specs.Apart.{Leads, IsOneUse}
 use Rattle.pool_law.proofs.SameLemmas.{same_root-is}
 use Rattle.pool_law.proofs.PatternLemmas.{same_root-refl}
 use Rattle.run_laws.specs.OneLog.{HasEnded, StandInOneLog}
@@ -22,18 +21,18 @@ use Rattle.run_laws.proofs.PagedHistories.{HistoriesPaged, paged}
 use Rattle.run_laws.proofs.HandTotals.{note-placed}
 use Rattle.run_laws.proofs.OverlapLaw.{Reaches}
 use Rattle.run_laws.proofs.HandPairs.{compare, same-some}
-use Rattle.pool_law.specs.Lives.{IsUse as AnyUse}
-use Rattle.run_laws.proofs.AllUses.{born, born-at}
-use Rattle.run_laws.proofs.RunLaws.{acts-of, parts-of, roots-in_one_log}
+use Rattle.run_laws.proofs.Doings.{Does}
+use Rattle.run_laws.proofs.EventLaw.{same-begins}
+use Rattle.run_laws.proofs.Births.{use_event, use-does}
+use Rattle.run_laws.proofs.RunLaws.{acts-of, roots-in_one_log}
 use Rattle.run_order.specs.Order.{made, InOneOrder}
 use Rattle.run_order.proofs.Fronts.{made-found, found-made}
 use Rattle.run_order.proofs.Positions.{place, there, noted, later-in_log, later-at_object}
 use Rattle.pool_law.specs.Same.{same_object, same_root}
-use Rattle.pool_law.specs.Logs.{dids, history_of, of_lane}
+use Rattle.pool_law.specs.Logs.{history_of, of_lane}
 use Rattle.pool_law.specs.declared.note.Did.{Did}
 use Rattle.pool_law.proofs.PatternLemmas.{both_true, same_object-refl}
 use Rattle.pool_law.proofs.SameLemmas.{and-first, and-second, same_object-is}
-use Rattle.run_laws.specs.OneLog.{IsBirth}
 use Rattle.run_laws.proofs.Numbered.{in-history, rises-in_log}
 use Rattle.order_laws.specs.Moments.{is_noted}
 
@@ -107,20 +106,9 @@ module _ (run : Run) (legal : IsLegal run) (o : InOneOrder (logs_of run)) where
   abbrev pub notes : StandInOneLog logs
   notes = roots-in_one_log run legal
 
-  -- a birth stands at the place of its root
-  pub birth-stands : (root : RootId) (region : RegionId) (lane at number : ℕ) (object : Object)
-      → StandsAt logs lane at (At object number (Birth root region))
-      → StandsAt logs lane at (At (Object.Root root.place) number (Birth root region))
-  birth-stands root region lane at number object is =
-      is ∙ ap (λ x. Some (At x number (Birth root region)))
-      (note-placed run.shape logs (paged run legal) (acts-of run legal) lane at number object (Birth root region) is)
-
-  -- when a root is born
-  abbrev pub born_when : {root : RootId} {region : RegionId} → IsUse logs root region → ℕ
-  born_when u = place logs o u.lane u.at
-
-  abbrev as-birth : (root : RootId) (a : RegionId) → IsUse logs root a → IsBirth logs root a
-  as-birth root a u = record { lane = u.lane; at = u.at; number = u.number; stands = u.birth }
+  -- when a use begins
+  abbrev pub begun_when : {root : RootId} {region : RegionId} → IsUse logs root region → ℕ
+  begun_when u = place logs o u.lane u.at
 
   -- a number at an object is that of one note
   pub noted-once : (object : Object) → has_history object ≡ true → (lane at other bt number : ℕ) (d e : Did)
@@ -167,38 +155,28 @@ module _ (run : Run) (legal : IsLegal run) (o : InOneOrder (logs_of run)) where
         noted-once (Object.Root place_no) refl lane at f.0 f.1 number d n.0 s (f.3 ∙ ap Some n.1),
       )
 
-  -- a use is a birth, and in a front that has its beginning it is before the front's end
-  pub was-born : (root : RootId) (r : RegionId) → AnyUse logs root r → IsUse logs root r
-  was-born root r u =
-      born run.shape logs (paged run legal) (acts-of run legal) (parts-of run legal) legal.counts root r u
+  -- in a front that has the beginning of a use it is before the front's end
+  pub use-when : (root : RootId) (r : RegionId) (u : IsUse logs root r) (k : ℕ)
+      → 0 < made (is_noted (Object.Root root.place) u.number) (take k o.steps) → begun_when u < k
+  use-when root r u k more = noted-when root.place u.number u.lane u.at k u.did u.stands more
 
-  pub use-when : (root : RootId) (r : RegionId) (u : AnyUse logs root r) (k : ℕ)
-      → 0 < made (is_noted (Object.Root root.place) u.number) (take k o.steps) → born_when (was-born root r u) < k
-  unfolding was-born
-  use-when root r u k more =
-      let p = born-at run.shape logs (paged run legal) (acts-of run legal) (parts-of run legal) legal.counts root r u in
-      let same : born_when (was-born root r u) ≡ place logs o u.lane u.at = (λ i. place logs o (p.0 i) (p.1 i)) in
-      omega (arith, same, noted-when root.place u.number u.lane u.at k u.did u.stands more)
+  -- a use begins once
+  pub use-same : (root : RootId) (a : RegionId) (e : Event) → Stands logs e → Does logs (Begins root a) e
+      → (u : IsUse logs root a) → when logs o e ≡ begun_when u
+  use-same root a e s does u =
+      let same : e ≡ use_event u =
+      same-begins run.shape logs (paged run legal) (acts-of run legal) a root root e (use_event u) s u.stands does
+      (use-does logs root a u) in
+      ap (when logs o) same
 
-  -- a root is born once
-  pub born-same : (root : RootId) (a b : RegionId) (u : IsUse logs root a) (v : IsUse logs root b)
-      → born_when u ≡ born_when v
-  born-same root a b u v =
-      let once = (notes.born root a (as-birth root a u)).birth_once a b (as-birth root a u) (as-birth root b v) in
-      λ i. place logs o (once.0 i) (once.1 i)
-
-  -- so two births at two moments are of two roots
-  pub born-apart : (root other : RootId) (a b : RegionId) (u : IsUse logs root a) (v : IsUse logs other b)
-      → born_when u < born_when v → root ≡ other → ⊥
-  born-apart root other a b u v less same =
-      let moved : IsUse logs root b =
-      record {
-        lane = v.lane;
-        at = v.at;
-        number = v.number;
-        birth = v.birth ∙ ap (λ z. Some (At (Object.Root z.place) v.number (Birth z b))) (sym same);
-      } in
-      omega (arith, less, born-same root a b u moved)
+  -- so two uses at two moments are two
+  pub uses-apart : (root other : RootId) (a b : RegionId) (u : IsUse logs root a) (v : IsUse logs other b)
+      → begun_when u < begun_when v → IsOneUse root a other b → ⊥
+  uses-apart root other a b u v less one =
+      let does : Does logs (Begins other b) (use_event u) =
+      subst (λ q. Does logs (Begins q b) (use_event u)) one.0
+      (subst (λ r. Does logs (Begins root r) (use_event u)) one.1 (use-does logs root a u)) in
+      omega (arith, less, use-same other b (use_event u) u.stands does v)
 
   -- the release that ends a root stands before its end
   pub ended-first : (root : RootId) (f : Event) (k : ℕ) → Stands logs f → f.did ≡ End root → when logs o f ≤ k

@@ -1,11 +1,12 @@
--- The notes of a lane, act by act: a note that moves no region, a birth, an end, or a shed.
-use Rattle.std.proofs.Common.{⊎_elim, inl, inr, ◌≡◌, ℕ, zero, suc, ◌+◌, ◌≤◌, List, [], ◌∷◌, ◌++◌, length, refl, sym, ap, subst, arith, true, Some, None, ◌∙◌}
-use Rattle.std.specs.Prelude.{◌⊎◌, ◌<◌, Option, slice_get}
+-- The notes of a lane, act by act: a note that moves no region, a birth, a growth, a region that is got and put
+-- away unused, an end, or a shed.
+use Rattle.std.proofs.Common.{◌≡◌, ℕ, ◌+◌, ◌≤◌, List, [], ◌∷◌, ◌++◌, refl, sym, ap, subst, arith, true, Some, None, ◌∙◌}
+use Rattle.std.specs.Prelude.{Option}
 use Rattle.pool_law.specs.declared.id.RootId.{RootId}
 use Rattle.pool_law.specs.declared.id.RegionId.{RegionId}
 use Rattle.pool_law.specs.declared.note.Object.{Object}
 use Rattle.pool_law.specs.declared.note.Did.{Did}
-use Rattle.pool_law.specs.declared.note.Did.TheVariants.{Take, Full, Give, Hit, Miss, Kept, Back, Handle, NoHandle, Home, Post, Fetch, Trim, Close, Shed, Birth, Set, Get, Touch, End}
+use Rattle.pool_law.specs.declared.note.Did.TheVariants.{Take, Full, Give, Hit, Miss, Kept, Back, Handle, NoHandle, Home, Post, Fetch, Trim, Close, Shed, Birth, Set, Get, Touch, Room, Extend, Grow, End}
 use Rattle.pool_law.specs.declared.note.RefDid.{RefDid}
 use Rattle.pool_law.specs.declared.note.Note.{Note}
 use Rattle.pool_law.specs.declared.note.Note.TheVariants.{At, Ref, Busy}
@@ -13,7 +14,7 @@ use Rattle.pool_law.specs.Limits.{has_cache}
 use Rattle.pool_law.specs.Logs.{Entry}
 use Rattle.pool_law.specs.Readers.{Entries}
 use Rattle.pool_law.specs.Patterns.{one_more}
-use Rattle.pool_law.proofs.HistoryLemmas.{append-assoc, append-nil}
+use Rattle.pool_law.proofs.HistoryLemmas.{append-assoc}
 use Rattle.run_laws.proofs.Sums.{sum_by}
 
 -- a sum over entries, by their notes
@@ -39,6 +40,8 @@ IsStill P o (Fetch parcel) = Unit {0}
 IsStill P o (Set offset bytes) = Unit {0}
 IsStill P o (Get offset bytes) = Unit {0}
 IsStill P o Touch = Unit {0}
+IsStill P o (Room asked capacity) = Unit {0}
+IsStill P o (Extend size) = Unit {0}
 IsStill P o _ = ⊥
 
 -- a step on a count that neither begins nor ends it
@@ -83,6 +86,30 @@ pub record Birthing (got birth set : Entry) : Type 0 where
   pub birth_is : IsAt (Birth root (one_more region)) birth.note
   pub set_is : set.note ≡ Ref root RefDid.Born
 
+-- a region is got, a root grows into it, and the region that it leaves is put away
+pub record Growing (got growth away : Entry) : Type 0 where
+  pub capacity : ℕ
+  pub region : RegionId
+  pub left : RegionId
+  pub got_did : Did
+  pub got_is : IsAt got_did got.note
+  pub gets : Gets region got_did
+  pub growth_is : IsAt (Grow capacity (one_more region)) growth.note
+  pub out : growth.region ≡ Some left
+  pub did : Did
+  pub away_is : IsAt did away.note
+  pub puts_away : PutsAway left did
+
+-- a region is got, and put away unused
+pub record Sparing (got away : Entry) : Type 0 where
+  pub region : RegionId
+  pub got_did : Did
+  pub got_is : IsAt got_did got.note
+  pub gets : Gets region got_did
+  pub did : Did
+  pub away_is : IsAt did away.note
+  pub puts_away : PutsAway region did
+
 -- a count ends, then its root, whose place is vacated, and its region is put away
 pub record Ending (ended end vacated away : Entry) : Type 0 where
   pub root : RootId
@@ -106,6 +133,10 @@ pub record Shedding (P : Object → Did → Type 0) (shed given : Entry) : Type 
 pub data Act (P : Object → Did → Type 0) : Type 0 where
   Quiet : (e : Entry) → IsQuiet P e.note → Act P
   Births : (got birth set : Entry) → Birthing got birth set → Act P
+  Grows : (got growth : Entry) (refused : Option Entry) (away : Entry) → AreQuiet P refused
+      → Growing got growth away → Act P
+  Spares : (got found : Entry) (refused : Option Entry) (away : Entry) → IsQuiet P found.note → AreQuiet P refused
+      → Sparing got away → Act P
   Ends : (ended end vacated : Entry) (refused : Option Entry) (away : Entry) → AreQuiet P refused
       → Ending ended end vacated away → Act P
   Sheds : (shed given : Entry) → Shedding P shed given → Act P
@@ -117,6 +148,8 @@ before (Some e) es = e ∷ es
 abbrev pub act_notes : {P : Object → Did → Type 0} → Act P → Entries
 act_notes (Act.Quiet e quiet) = e ∷ []
 act_notes (Act.Births got birth set b) = got ∷ birth ∷ set ∷ []
+act_notes (Act.Grows got growth refused away quiet g) = got ∷ growth ∷ before refused (away ∷ [])
+act_notes (Act.Spares got found refused away still quiet s) = got ∷ found ∷ before refused (away ∷ [])
 act_notes (Act.Ends ended end vacated refused away quiet e) = ended ∷ end ∷ vacated ∷ before refused (away ∷ [])
 act_notes (Act.Sheds shed given x) = shed ∷ given ∷ []
 
@@ -135,6 +168,21 @@ module _ {P : Object → Did → Type 0} where
 
   pub one-act : (a : Act P) (es rest : Entries) → es ≡ act_notes a ++ rest → Acts P es rest
   one-act a es rest is = record { acts = a ∷ []; are = is ∙ sym (append-assoc (act_notes a) [] rest) }
+
+  pub grow-act : (got growth : Entry) (refused : Option Entry) (away : Entry) → AreQuiet P refused
+      → Growing got growth away → (es rest : Entries) → es ≡ got ∷ (growth ∷ before refused (away ∷ rest))
+      → Acts P es rest
+  grow-act got growth None away quiet g es rest is = one-act (Act.Grows got growth None away quiet g) es rest is
+  grow-act got growth (Some x) away quiet g es rest is =
+      one-act (Act.Grows got growth (Some x) away quiet g) es rest is
+
+  pub spare-act : (got found : Entry) (refused : Option Entry) (away : Entry) → IsQuiet P found.note
+      → AreQuiet P refused → Sparing got away → (es rest : Entries)
+      → es ≡ got ∷ (found ∷ before refused (away ∷ rest)) → Acts P es rest
+  spare-act got found None away still quiet s es rest is =
+      one-act (Act.Spares got found None away still quiet s) es rest is
+  spare-act got found (Some x) away still quiet s es rest is =
+      one-act (Act.Spares got found (Some x) away still quiet s) es rest is
 
   pub end-act : (ended end vacated : Entry) (refused : Option Entry) (away : Entry) → AreQuiet P refused
       → Ending ended end vacated away → (es rest : Entries) →
@@ -169,26 +217,8 @@ module _ {P : Object → Did → Type 0} where
       ap f (append-assoc (act_notes x) (all_notes acts) rest) ∙ keeps x (all_notes acts ++ rest)
       ∙ acts-keep f keeps acts rest
 
-pub get-front : {X : Type 0} (xs ys : List X) (j : ℕ) (x : X) → slice_get xs j ≡ Some x
-    → slice_get (xs ++ ys) j ≡ Some x
-get-front [] ys j x e = absurd (cc e)
-get-front (y ∷ xs) ys zero x e = e
-get-front (y ∷ xs) ys (suc j) x e = get-front xs ys j x e
-
-pub get-behind : {X : Type 0} (xs ys : List X) (j : ℕ) (x : X) → slice_get ys j ≡ Some x
-    → (m : ℕ) × (slice_get (xs ++ ys) m ≡ Some x)
-get-behind [] ys j x e = (j, e)
-get-behind (y ∷ xs) ys j x e = let r = get-behind xs ys j x e in (suc r.0, r.1)
-
-pub get-split : {X : Type 0} (xs ys : List X) (i : ℕ) (x : X) → slice_get (xs ++ ys) i ≡ Some x
-    → (slice_get xs i ≡ Some x) ⊎ ((m : ℕ) × (i ≡ length xs + m) × (slice_get ys m ≡ Some x))
-get-split [] ys i x e = inr (i, omega arith, e)
-get-split (y ∷ xs) ys zero x e = inl e
-get-split (y ∷ xs) ys (suc i) x e =
-    ⊎_elim (λ here. inl here) (λ m. inr (m.0, omega (arith, m.1), m.2)) (get-split xs ys i x e)
-
 module _ (P : Object → Did → Type 0) where
-  -- what no birth and no end says
+  -- what no birth, no growth and no end says
   abbrev pub IsOther : Note → Type 0
   IsOther (At o k (Take class r)) = Unit {0}
   IsOther (At o k (Hit r)) = Unit {0}
@@ -222,11 +252,24 @@ module _ (P : Object → Did → Type 0) where
     pub other : (n : Note) → IsOther n → f n ≤ g n
     pub birth : (o : Object) (k : ℕ) (root : RootId) (r : RegionId)
         → f (At o k (Birth root r)) + f (Ref root RefDid.Born) ≤ g (At o k (Birth root r)) + g (Ref root RefDid.Born)
+    pub growth : (o : Object) (k c : ℕ) (r : RegionId) → f (At o k (Grow c r)) ≤ g (At o k (Grow c r))
     pub end : (o : Object) (k : ℕ) (root : RootId) →
         f (Ref root RefDid.Ended) + (f (At o k (End root)) + f (Ref root RefDid.Vacated)) ≤ g (Ref root RefDid.Ended)
         + (g (At o k (End root)) + g (Ref root RefDid.Vacated))
     pub shed : (o p : Object) (k l : ℕ) (r : RegionId) → P o (Shed r)
         → f (At o k (Shed r)) + f (At p l (Give r)) ≤ g (At o k (Shed r)) + g (At p l (Give r))
+
+  less-away : (f g : Note → ℕ) → Less f g → (r : RegionId) (d : Did) (refused : Option Entry) (away : Entry)
+      → AreQuiet P refused → IsAt d away.note → PutsAway r d
+      → sum_notes f (before refused (away ∷ [])) ≤ sum_notes g (before refused (away ∷ []))
+  less-away f g less r d None away quiet at puts =
+      omega (arith, less.other away.note (away-other r d away.note at puts))
+  less-away f g less r d (Some x) away quiet at puts =
+      omega (
+        arith,
+        less.other x.note (quiet-other x.note quiet),
+        less.other away.note (away-other r d away.note at puts),
+      )
 
   pub less-act : (f g : Note → ℕ) → Less f g → (a : Act P) → sum_notes f (act_notes a) ≤ sum_notes g (act_notes a)
   less-act f g less (Act.Quiet e quiet) = omega (arith, less.other e.note (quiet-other e.note quiet))
@@ -240,10 +283,26 @@ module _ (P : Object → Did → Type 0) where
         ap f b.set_is,
         ap g b.set_is,
       )
+  less-act f g less (Act.Grows got growth refused away quiet x) =
+      omega (
+        arith,
+        less.other got.note (gets-other x.region x.got_did got.note x.got_is x.gets),
+        less.growth x.growth_is.object x.growth_is.number x.capacity (one_more x.region),
+        ap f x.growth_is.is,
+        ap g x.growth_is.is,
+        less-away f g less x.left x.did refused away quiet x.away_is x.puts_away,
+      )
+  less-act f g less (Act.Spares got found refused away still quiet x) =
+      omega (
+        arith,
+        less.other got.note (gets-other x.region x.got_did got.note x.got_is x.gets),
+        less.other found.note (quiet-other found.note still),
+        less-away f g less x.region x.did refused away quiet x.away_is x.puts_away,
+      )
   less-act f g less (Act.Ends ended end vacated refused away quiet e) =
       omega (
         arith,
-        tail refused quiet,
+        less-away f g less e.region e.did refused away quiet e.away_is e.puts_away,
         less.end e.end_is.object e.end_is.number e.root,
         ap f e.ended_is,
         ap g e.ended_is,
@@ -252,16 +311,6 @@ module _ (P : Object → Did → Type 0) where
         ap f e.vacated_is,
         ap g e.vacated_is,
       )
-    where
-      tail : (o : Option Entry) → AreQuiet P o → sum_notes f (before o (away ∷ [])) ≤ sum_notes g (before o (away ∷ []))
-      tail None q = omega (arith, less.other away.note (away-other e.region e.did away.note e.away_is e.puts_away))
-      tail (Some x) q =
-          omega (
-            arith,
-            less.other x.note (quiet-other x.note q),
-            less.other away.note
-                (away-other e.region e.did away.note e.away_is e.puts_away),
-          )
   less-act f g less (Act.Sheds shed given x) =
       omega (
         arith,
@@ -297,56 +346,3 @@ module _ (P : Object → Did → Type 0) where
             notes-append g
                 (act_notes x) (all_notes acts),
           )
-
-  -- where an entry stands in an act, each of the act's entries does, in order
-  pub record Within (es : Entries) (i : ℕ) (e : Entry) : Type 0 where
-    pub act : Act P
-    pub index : ℕ
-    pub found : slice_get (act_notes act) index ≡ Some e
-    pub place : ℕ → ℕ
-    pub here : i ≡ place index
-    pub rises : (j l : ℕ) → j < l → place j < place l
-    pub in_row : (j : ℕ) → place j ≡ place 0 + j
-    pub there : (j : ℕ) (x : Entry) → slice_get (act_notes act) j ≡ Some x → slice_get es (place j) ≡ Some x
-
-  pub within-behind : (xs es : Entries) (i : ℕ) (e : Entry) → Within es i e → Within (xs ++ es) (length xs + i) e
-  within-behind [] es i e w = let same : i ≡ 0 + i = omega arith in subst (λ k. Within es k e) same w
-  within-behind (x ∷ xs) es i e w =
-      let r : Within (xs ++ es) (length xs + i) e = within-behind xs es i e w in
-      record {
-        act = r.act;
-        index = r.index;
-        found = r.found;
-        place = λ j. suc (r.place j);
-        here =
-            omega (arith, r.here);
-        rises =
-            λ j l h. omega (arith, r.rises j l h);
-        in_row = λ j. omega (arith, r.in_row j);
-        there = r.there;
-      }
-
-  pub entry-within : (es : Entries) (i : ℕ) (e : Entry) → Acts P es [] → slice_get es i ≡ Some e → Within es i e
-  entry-within es i e a is =
-      subst (λ xs. Within xs i e) (sym whole) (go a.acts i (ap (λ xs. slice_get xs i) (sym whole) ∙ is))
-    where
-      whole : es ≡ all_notes a.acts
-      whole = a.are ∙ append-nil (all_notes a.acts)
-
-      go : (acts : List (Act P)) (i : ℕ) → slice_get (all_notes acts) i ≡ Some e → Within (all_notes acts) i e
-      go [] i is = absurd (cc is)
-      go (x ∷ acts) i is =
-          ⊎_elim (λ inside. record {
-            act = x;
-            index = i;
-            found = inside;
-            place = λ j. j;
-            here = refl;
-            rises =
-                λ j l h. h;
-            in_row = λ j. omega arith;
-            there = get-front (act_notes x) (all_notes acts);
-          })
-          (λ later. subst (λ k. Within (act_notes x ++ all_notes acts) k e) (sym later.1)
-          (within-behind (act_notes x) (all_notes acts) later.0 e (go acts later.0 later.2)))
-          (get-split (act_notes x) (all_notes acts) i e is)

@@ -2,33 +2,33 @@
 use Rattle.std.proofs.Common.{⊎_elim, inl, inr, ◌≡◌, ℕ, zero, suc, ◌+◌, ◌≤◌, List, [], ◌∷◌, ◌++◌, refl, sym, ap, arith, Bool, true, false, Some, ◌∙◌, eq-eqb}
 use Rattle.std.specs.Prelude.{◌⊎◌, ◌<◌, ◌==◌, IsTrue, slice_get}
 use Rattle.std.specs.List.{list_any}
+use Rattle.pool_law.specs.declared.id.RootId.{RootId}
 use Rattle.pool_law.specs.declared.id.RegionId.{RegionId}
 use Rattle.pool_law.specs.declared.note.Object.{Object}
 use Rattle.pool_law.specs.declared.note.Did.{Did}
 use Rattle.pool_law.specs.declared.note.Did.TheVariants.{Take, Give}
-use Rattle.pool_law.specs.declared.note.Note.TheVariants.{At}
 use Rattle.pool_law.specs.declared.run.Shape.{Shape}
 use Rattle.pool_law.specs.Places.{Overlap}
 use Rattle.pool_law.specs.Limits.{geometry_of}
 use Rattle.pool_law.specs.Same.{same_taking}
 use Rattle.pool_law.specs.Arenas.{Arena, new_arena, arena_step}
 use Rattle.pool_law.specs.Histories.{after, arena_after}
-use Rattle.pool_law.specs.Logs.{Logs, dids, of_lane, has_history, history_of}
+use Rattle.pool_law.specs.Logs.{Logs, dids, history_of}
 use Rattle.run_laws.proofs.PagedHistories.{HistoriesPaged}
-use Rattle.pool_law.specs.Lives.{Done, arena_of, with_uses}
-use Rattle.pool_law.specs.Apart.{Before}
-use Rattle.run_laws.proofs.BirthLives.{LieApart}
+use Rattle.pool_law.specs.Lives.{Done, IsUse, arena_of, with_uses}
+use Rattle.pool_law.specs.Apart.{Before, LieApart}
 use Rattle.arena_law.specs.Returns.{gives}
 use Rattle.pool_law.proofs.SameLemmas.{same_region-is}
 use Rattle.pool_law.proofs.PatternLemmas.{same_taking-refl, both_true}
 use Rattle.run_laws.proofs.LogEntries.{LanesAct}
-use Rattle.run_laws.proofs.Numbered.{in-log}
 use Rattle.arena_law.proofs.ReturnLaw.{comes-back, after-append}
-use Rattle.run_laws.proofs.Placed.{placed, is-some, total-found, one-of-true}
-use Rattle.run_laws.proofs.Totals.{dids-there, takes, takes_in, hits_in, births_in}
-use Rattle.run_laws.proofs.HandTotals.{births-next, takes-unused}
-use Rattle.run_laws.proofs.LifeLaw.{use-counts, hits-less, unused-none}
-use Rattle.run_laws.proofs.LifeOrder.{compare-uses}
+use Rattle.run_laws.proofs.Placed.{is-some}
+use Rattle.run_laws.proofs.Totals.{births_in}
+use Rattle.run_laws.proofs.LifeLaw.{taken-of}
+use Rattle.run_laws.proofs.EventLaw.{done-at, begins-in}
+use Rattle.run_laws.proofs.Births.{use_event, use-does}
+use Rattle.run_laws.proofs.Owners.{taken-at}
+use Rattle.run_laws.proofs.HandPairs.{compare}
 
 pub split-at : (ds : List Did) (j : ℕ) (y : Did) → slice_get ds j ≡ Some y
     → (between rest : List Did) × (ds ≡ (between ++ y ∷ []) ++ rest)
@@ -102,59 +102,8 @@ gives-it r (Give x) e = (x, refl, e)
 gives-it r _ e = absurd (cc e)
 
 module _ (shape : Shape) (logs : Logs) (holds : HistoriesPaged shape logs) (acts : LanesAct logs) where
-  -- a region that is used was taken
-  pub taken-of : (n : ℕ) (r : RegionId) → 1 ≤ births_in logs (with_uses r n) → 1 ≤ takes_in logs (with_uses r 0)
-  taken-of zero r h = absurd (omega (arith, unused-none shape logs holds acts (with_uses r 0) refl, h))
-  taken-of (suc n) r h =
-      let step : births_in logs (with_uses r (n + 1))
-      ≡ takes_in logs (with_uses r n) + hits_in logs (with_uses r n) =
-      births-next shape logs holds acts (with_uses r n) in
-      let number : suc n ≡ n + 1 = omega arith in
-      go n (λ more. taken-of n r more) (omega (arith, h, step, ap (λ m. births_in logs (with_uses r m)) number))
-    where
-      go : (n : ℕ) → (1 ≤ births_in logs (with_uses r n) → 1 ≤ takes_in logs (with_uses r 0))
-          → 1 ≤ takes_in logs (with_uses r n) + hits_in logs (with_uses r n) → 1 ≤ takes_in logs (with_uses r 0)
-      go zero again some =
-          omega (
-            arith,
-            some,
-            hits-less shape logs holds acts (with_uses r 0),
-            unused-none shape logs holds acts
-                (with_uses r 0) refl,
-          )
-      go (suc m) again some =
-          again (omega (
-            arith,
-            some,
-            takes-unused shape logs holds acts (with_uses r (suc m)) (omega arith),
-            hits-less
-                shape logs holds acts (with_uses r (suc m)),
-          ))
-
-  pub taken-at : (r : RegionId) → 1 ≤ takes_in logs (with_uses r 0)
-      → (j : ℕ) × (slice_get (dids (history_of (arena_of r) logs)) j ≡ Some (Take r.class (with_uses r 0)))
-  taken-at r h =
-      let f : (i : ℕ) × (d : Did) × (slice_get (dids (history_of (arena_of r) logs)) i ≡ Some d)
-      × (1 ≤ takes (with_uses r 0) d) = total-found (takes (with_uses r 0)) (dids (history_of (arena_of r) logs))
-      h in
-      let t : (c : ℕ) × (f.1 ≡ Take c (with_uses r 0)) = taken f.1 f.3 in
-      let p : (arena_of r ≡ arena_of r) × ((0 ≡ 0) × (r.class ≡ t.0)) =
-      placed shape holds.page (arena_of r) (dids (history_of (arena_of r) logs)) f.0 (Take t.0 (with_uses r 0))
-      (holds.accepted (arena_of r) refl) (f.2 ∙ ap (λ x. Some x) t.1) in
-      (f.0, f.2 ∙ ap (λ x. Some x) t.1 ∙ ap (λ c. Some (Take c (with_uses r 0))) (sym p.1.1))
-    where
-      taken : (d : Did) → 1 ≤ takes (with_uses r 0) d → (c : ℕ) × (d ≡ Take c (with_uses r 0))
-      taken (Take c x) h = (c, ap (λ y. Take c y) (sym (same_region-is (with_uses r 0) x (one-of-true _ h))))
-      taken _ h = absurd (omega arith)
-
-  pub done-at : (o : Object) → has_history o ≡ true → (j : ℕ) (d : Did)
-      → slice_get (dids (history_of o logs)) j ≡ Some d
-      → (x : Done logs o d) × (x.number ≡ 1 + j)
-  done-at o has j d e =
-      let l : (lane : ℕ) × (slice_get (history_of o logs) j ≡ Some (lane, d)) = dids-there (history_of o logs) j d e in
-      let n : (i : ℕ) × (slice_get (of_lane logs l.0) i ≡ Some (At o (1 + j) d)) =
-      in-log o logs (history_of o logs) (holds.whole o has) l.0 j d l.1 in
-      (record { lane = l.0; at = n.0; number = 1 + j; stands = n.1 }, refl)
+  use-in : (root : RootId) (r : RegionId) → IsUse logs root r → 1 ≤ births_in logs r
+  use-in root r u = begins-in shape logs holds acts root r (use_event u) u.stands (use-does logs root r u)
 
   pub one-way : (number : ℕ) (a b : RegionId) (i j : ℕ) → number ≡ a.place.arena → number ≡ b.place.arena →
       slice_get (dids (history_of (Object.Arena number) logs)) i ≡ Some (Take a.class (with_uses a 0))
@@ -194,9 +143,10 @@ module _ (shape : Shape) (logs : Logs) (holds : HistoriesPaged shape logs) (acts
       ap (λ k. slice_get (dids (history_of (Object.Arena k) logs)) n.0) (sym of_a) ∙ n.1 ∙ ap (λ x. Some x) g.1
       ∙ ap (λ x. Some (Give x)) x_is in
       let given : (x : Done logs (arena_of a) (Give (with_uses a g.0.uses)))
-      × (x.number ≡ 1 + n.0) = done-at (arena_of a) refl n.0 (Give (with_uses a g.0.uses)) there in
+      × (x.number ≡ 1 + n.0) =
+      done-at shape logs holds acts (arena_of a) refl n.0 (Give (with_uses a g.0.uses)) there in
       let taken : (x : Done logs (arena_of b) (Take b.class (with_uses b 0)))
-      × (x.number ≡ 1 + j) = done-at (arena_of b) refl j (Take b.class (with_uses b 0))
+      × (x.number ≡ 1 + j) = done-at shape logs holds acts (arena_of b) refl j (Take b.class (with_uses b 0))
       (ap (λ k. slice_get (dids (history_of (Object.Arena k) logs)) j) (sym of_b) ∙ at_b) in
       record { uses = g.0.uses; given = given.0; taken = taken.0; order = omega (arith, given.1, taken.1, n.2) }
 
@@ -207,9 +157,9 @@ module _ (shape : Shape) (logs : Logs) (holds : HistoriesPaged shape logs) (acts
       go true e = inl e
       go false e =
           let ta : (j : ℕ) × (slice_get (dids (history_of (arena_of a) logs)) j ≡ Some (Take a.class (with_uses a 0))) =
-          taken-at a (taken-of a.uses a (use-counts shape logs holds acts first a u)) in
+          taken-at shape logs holds acts a (taken-of shape logs holds acts a.uses a (use-in first a u)) in
           let tb : (j : ℕ) × (slice_get (dids (history_of (arena_of b) logs)) j ≡ Some (Take b.class (with_uses b 0))) =
-          taken-at b (taken-of b.uses b (use-counts shape logs holds acts second b v)) in
+          taken-at shape logs holds acts b (taken-of shape logs holds acts b.uses b (use-in second b v)) in
           let tb_a : slice_get (dids (history_of (arena_of a) logs)) tb.0
           ≡ Some (Take b.class (with_uses b 0)) =
           ap (λ k. slice_get (dids (history_of (Object.Arena k) logs)) tb.0) over.arena ∙ tb.1 in
@@ -226,4 +176,4 @@ module _ (shape : Shape) (logs : Logs) (holds : HistoriesPaged shape logs) (acts
           (λ less. inr (inr (one-way a.place.arena b a tb.0 ta.0 over.arena refl tb_a ta.1 less
           (record { arena = sym over.arena; chunk = sym over.chunk; first = over.second; second = over.first }))))
           o)
-          (compare-uses ta.0 tb.0)
+          (compare ta.0 tb.0)

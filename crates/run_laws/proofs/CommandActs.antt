@@ -17,12 +17,13 @@ use Rattle.pool_law.specs.Composites.{Composite, size_of, filled, is_crowded, mo
 use Rattle.pool_law.specs.Names.{Bound, Plain, Composed, bind, reader_of, writer_of, parts_at, written_on, read_on, without}
 use Rattle.pool_law.specs.LaneStates.{LaneState, named, view_named, composite_from, composite_with}
 use Rattle.pool_law.specs.Refusals.{first_refusal, refusals}
-use Rattle.pool_law.specs.Patterns.{New, allot, release}
-use Rattle.pool_law.specs.Lanes.{Answer, answer, set_parts, get_parts, copy_parts, release_part, release_parts, copied_to, consolidate, composed, allotted, received, busy_or, set_at, get_at, retain_of, release_of, count_in, no_parcel, parcel_of, carried_out, not_carried_out, answer_by, answer_of}
+use Rattle.pool_law.specs.Patterns.{New, allot, release, regrow}
+use Rattle.pool_law.specs.Lanes.{Answer, answer, set_parts, get_parts, copy_parts, release_part, release_parts, copied_to, consolidate, composed, allotted, regrown, received, busy_or, set_at, get_at, retain_of, release_of, count_in, no_parcel, parcel_of, carried_out, not_carried_out, answer_by, answer_of}
 use Rattle.run_laws.proofs.Acts.{IsStill, IsStep, Acts}
 use Rattle.run_laws.proofs.Keeping.{Keeps, keeps-give, keeps-given, keeps-bind, keeps-then, keeps-or, keeps-if, keeps-count}
 use Rattle.run_laws.proofs.RootActs.{acts-chain, note-acts, step-acts, access-acts, busy-acts, allot-acts}
 use Rattle.run_laws.proofs.EndActs.{release-acts}
+use Rattle.run_laws.proofs.GrowActs.{regrow-acts}
 
 module _ (P : Object → Did → Type 0) where
   pub set_one-acts : (root : RootId) (at : ℕ) (bytes : List ℕ) → Keeps (Acts P) (access root (says.set at bytes))
@@ -243,6 +244,10 @@ module _ (P : Object → Did → Type 0) where
   carried_out-acts shape lane s (Command.Add whole name) near =
       given-acts (composite_with s whole name) _
       (λ c. then-answer (consolidate shape lane c) (λ made. composed s whole made) (consolidate-acts shape lane c))
+  carried_out-acts shape lane s (Command.Capacity name size) near =
+      given-acts (view_named s name) _
+      (λ v. then-answer (regrow shape lane v.root size) (λ got. regrown s name v got)
+      (regrow-acts P shape lane v.root size))
 
   pub not_carried_out-acts : (lane : ℕ) (c : Command) → Sends c → Keeps (Acts P) (not_carried_out lane c)
   not_carried_out-acts lane (Command.Send name to) near = post-acts (Object.Mail lane to) no_parcel (near lane)

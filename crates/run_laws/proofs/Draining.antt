@@ -221,6 +221,7 @@ grants-shed o = (
   record {
     other = λ n is. omega (arith, other n is);
     birth = λ x k root r. omega arith;
+    growth = λ x k c r. omega arith;
     end =
         λ x k root. omega arith;
     shed = λ x y k l r may. absurd may;
@@ -228,6 +229,7 @@ grants-shed o = (
   record {
     other = λ n is. omega (arith, other n is);
     birth = λ x k root r. omega arith;
+    growth = λ x k c r. omega arith;
     end =
         λ x k root. omega arith;
     shed = λ x y k l r may. absurd may;

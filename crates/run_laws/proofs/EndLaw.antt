@@ -5,7 +5,7 @@ use Rattle.pool_law.specs.declared.id.RootId.{RootId}
 use Rattle.pool_law.specs.declared.id.RegionId.{RegionId}
 use Rattle.pool_law.specs.declared.note.Object.{Object}
 use Rattle.pool_law.specs.declared.note.Did.{Did}
-use Rattle.pool_law.specs.declared.note.Did.TheVariants.{Give, Kept, Shed, Birth, End}
+use Rattle.pool_law.specs.declared.note.Did.TheVariants.{Give, Kept, Shed, Birth, Grow, End}
 use Rattle.pool_law.specs.declared.note.RefDid.{RefDid}
 use Rattle.pool_law.specs.declared.note.Note.{Note}
 use Rattle.pool_law.specs.declared.note.Note.TheVariants.{At, Ref, Busy}
@@ -18,22 +18,18 @@ use Rattle.pool_law.specs.Logs.{Logs, dids, of_lane, has_history, history_of, en
 use Rattle.pool_law.specs.Legal.{CountsAgree}
 use Rattle.run_laws.proofs.PagedHistories.{HistoriesPaged}
 use Rattle.pool_law.specs.Lives.{Done}
-use Rattle.run_laws.proofs.BirthLives.{IsUse}
+use Rattle.run_laws.specs.OneLog.{IsBirth}
 use Rattle.run_laws.specs.Conserved.{total_in}
-use Rattle.run_laws.specs.CacheCounts.{one_of, total_by}
+use Rattle.run_laws.specs.CacheCounts.{total_by}
 use Rattle.pool_law.specs.Counts.{count_in, count_over, ends_root, is_birth, is_born, TotalHolds}
-use Rattle.run_laws.specs.HandCounts.{one_same, ended_by}
 use Rattle.run_laws.proofs.LogEntries.{entry-note, LanesAct, log-most, sum-entries, log-past, logs-less, sums-less}
 use Rattle.run_laws.proofs.Acts.{IsOther, Less}
 use Rattle.run_laws.proofs.LaneActs.{AnyNote}
-use Rattle.run_laws.proofs.Together.{EndHere, note-together}
 use Rattle.pool_law.proofs.SameLemmas.{same_root-is}
-use Rattle.pool_law.proofs.PatternLemmas.{same_root-refl, same_region-refl}
+use Rattle.pool_law.proofs.PatternLemmas.{same_root-refl}
 use Rattle.run_laws.proofs.Sums.{below-or, over-none, sum_by, sum_over, over-at, over-one, over-found}
 use Rattle.run_laws.proofs.Numbered.{plain, total-plain, at_object, regroup}
-use Rattle.run_laws.proofs.Totals.{note_tally, ends_in}
 use Rattle.run_laws.proofs.HandTotals.{note-placed}
-use Rattle.run_laws.proofs.LifeLaw.{end-use}
 use Rattle.run_laws.proofs.Draining.{grant, shed_one, close_one}
 use Rattle.run_laws.proofs.LogParts.{Parts, log-even, log-closes}
 use Rattle.run_laws.proofs.CloseLaw.{ends-empty}
@@ -66,6 +62,7 @@ pub record Alike (f g : Note → ℕ) : Type 0 where
   pub end : (o : Object) (k : ℕ) (root : RootId) →
       f (Ref root RefDid.Ended) + (f (At o k (End root)) + f (Ref root RefDid.Vacated))
       ≡ g (Ref root RefDid.Ended) + (g (At o k (End root)) + g (Ref root RefDid.Vacated))
+  pub growth : (o : Object) (k c : ℕ) (r : RegionId) → f (At o k (Grow c r)) ≡ g (At o k (Grow c r))
   pub shed : (o p : Object) (k l : ℕ) (r : RegionId)
       → f (At o k (Shed r)) + f (At p l (Give r)) ≡ g (At o k (Shed r)) + g (At p l (Give r))
 
@@ -76,6 +73,7 @@ sums-alike logs acts f g alike =
       other = λ n is. omega (arith, alike.other n is);
       birth =
           λ o k root r. omega (arith, alike.birth o k root r);
+      growth = λ o k c r. omega (arith, alike.growth o k c r);
       end =
           λ o k root. omega (arith, alike.end o k root);
       shed =
@@ -86,6 +84,7 @@ sums-alike logs acts f g alike =
       other = λ n is. omega (arith, alike.other n is);
       birth =
           λ o k root r. omega (arith, alike.birth o k root r);
+      growth = λ o k c r. omega (arith, alike.growth o k c r);
       end =
           λ o k root. omega (arith, alike.end o k root);
       shed =
@@ -112,6 +111,7 @@ ended-alike root =
     record {
       other = λ n is. omega (arith, other-none root n is);
       birth = λ o k r x. refl;
+      growth = λ o k c x. refl;
       end =
           λ o k r. omega arith;
       shed = λ o p k l r. refl;
@@ -122,6 +122,7 @@ vacated-alike root =
     record {
       other = λ n is. omega (arith, other-none root n is);
       birth = λ o k r x. refl;
+      growth = λ o k c x. refl;
       end =
           λ o k r. omega arith;
       shed = λ o p k l r. refl;
@@ -132,6 +133,7 @@ birth-alike root =
     record {
       other = λ n is. omega (arith, other-none root n is);
       birth = λ o k r x. omega arith;
+      growth = λ o k c x. refl;
       end =
           λ o k r. refl;
       shed = λ o p k l r. refl;
@@ -147,6 +149,7 @@ uncached-less =
     record {
       other = other;
       birth = λ o k r x. omega arith;
+      growth = λ o k c x. omega arith;
       end = λ o k r. omega arith;
       shed =
           λ o p k l r may. omega arith;
@@ -234,7 +237,7 @@ module _ (shape : Shape) (logs : Logs) (holds : HistoriesPaged shape logs) (acts
             over-none logs,
           ))
 
-  pub birth-counts : (root : RootId) (r : RegionId) → IsUse logs root r
+  pub birth-counts : (root : RootId) (r : RegionId) → IsBirth logs root r
       → 0 < count_over (is_birth root) (entries_of logs)
   birth-counts root r u =
       let weight : one (is_birth root (At (Object.Root root.place) u.number (Birth root r)))
@@ -243,7 +246,7 @@ module _ (shape : Shape) (logs : Logs) (holds : HistoriesPaged shape logs) (acts
         arith,
         count-notes (is_birth root) logs,
         over-at (λ n. one (is_birth root n)) logs u.lane u.at
-            (At (Object.Root root.place) u.number (Birth root r)) u.birth,
+            (At (Object.Root root.place) u.number (Birth root r)) u.stands,
         weight,
       )
 
@@ -277,23 +280,23 @@ module _ (shape : Shape) (logs : Logs) (holds : HistoriesPaged shape logs) (acts
       )
 
   module _ (counts : CountsAgree (entries_of logs)) where
-    pub dead-ended : (root : RootId) (r : RegionId) → IsUse logs root r → total_in logs root ≡ 0
+    pub dead-ended : (root : RootId) (r : RegionId) → IsBirth logs root r → total_in logs root ≡ 0
         → Done logs (Object.Root root.place) (End root)
     dead-ended root r u dead =
         let t : TotalHolds root (entries_of logs) = counts.totals root (birth-counts root r u) in
         let once : count_over (ends_root root) (entries_of logs) ≡ 1 = t.ends_at_zero.1 dead in
         end-found root (omega (arith, once, ends-over root))
 
-    pub ends-most : (root : RootId) (r : RegionId) → IsUse logs root r → sum_over (end_weight root) logs ≤ 1
+    pub ends-most : (root : RootId) (r : RegionId) → IsBirth logs root r → sum_over (end_weight root) logs ≤ 1
     ends-most root r u = omega (arith, (counts.totals root (birth-counts root r u)).ends_once, ends-over root)
 
-    pub ended-dead : (root : RootId) (r : RegionId) → IsUse logs root r → Done logs (Object.Root root.place) (End root)
-        → total_in logs root ≡ 0
+    pub ended-dead : (root : RootId) (r : RegionId) → IsBirth logs root r
+        → Done logs (Object.Root root.place) (End root) → total_in logs root ≡ 0
     ended-dead root r u d =
         let t : TotalHolds root (entries_of logs) = counts.totals root (birth-counts root r u) in
         t.ends_at_zero.0 (omega (arith, end-counts root d, ends-most root r u, ends-over root))
 
-    pub end-one : (root : RootId) (r : RegionId) → IsUse logs root r
+    pub end-one : (root : RootId) (r : RegionId) → IsBirth logs root r
         → (a b : Done logs (Object.Root root.place) (End root)) → a.number ≡ b.number
     end-one root r u a b =
         let notes : At (Object.Root root.place) a.number (End root) ≡ At (Object.Root root.place) b.number (End root) =
@@ -303,7 +306,7 @@ module _ (shape : Shape) (logs : Logs) (holds : HistoriesPaged shape logs) (acts
         cc notes
 
     -- a root is born once, so with one region
-    pub births-most : (root : RootId) (r : RegionId) → IsUse logs root r → sum_over (birth_weight root) logs ≤ 1
+    pub births-most : (root : RootId) (r : RegionId) → IsBirth logs root r → sum_over (birth_weight root) logs ≤ 1
     births-most root r u =
         omega (
           arith,
@@ -311,55 +314,4 @@ module _ (shape : Shape) (logs : Logs) (holds : HistoriesPaged shape logs) (acts
           count-notes
               (λ n. is_born root n) logs,
           (counts.totals root (birth-counts root r u)).born_once,
-        )
-
-    pub use-region : (root : RootId) (a b : RegionId) → IsUse logs root a → IsUse logs root b → a ≡ b
-    use-region root a b u v =
-        let notes : At (Object.Root root.place) u.number (Birth root a)
-        ≡ At (Object.Root root.place) v.number (Birth root b) =
-        over-one (birth_weight root) logs u.lane v.lane u.at v.at (At (Object.Root root.place) u.number (Birth root a))
-        (At (Object.Root root.place) v.number (Birth root b)) u.birth v.birth (births-most root a u)
-        (omega (arith, ap one (same_root-refl root))) (omega (arith, ap one (same_root-refl root))) in
-        cc notes
-
-    -- an end of a root takes out its region
-    pub record EndOut (root : RootId) (r : RegionId) : Type 0 where
-      pub end : Done logs (Object.Root root.place) (End root)
-      pub out : (entry_of logs (At (Object.Root root.place) end.number (End root))).region ≡ Some r
-
-    pub end-out : (root : RootId) (r : RegionId) → IsUse logs root r → Done logs (Object.Root root.place) (End root)
-        → EndOut root r
-    end-out root r u d =
-        let h : EndHere logs d.lane root = note-together logs d.lane (acts d.lane) d.at
-        (At (Object.Root root.place) d.number (End root)) d.stands in
-        let placed : h.object ≡ Object.Root root.place =
-        note-placed shape logs holds acts d.lane h.end h.number h.object (End root) h.end_is in
-        let region : h.region ≡ r = use-region root h.region r
-        (end-use shape logs holds acts d.lane h.end h.number h.object root h.region h.end_is h.out).0 u in
-        record {
-          end =
-              record {
-                lane = d.lane;
-                at = h.end;
-                number = h.number;
-                stands = h.end_is
-                    ∙ ap (λ o. Some (At o h.number (End root))) placed;
-              };
-          out =
-              ap (λ o. (entry_of logs (At o h.number (End root))).region) (sym placed) ∙ h.out
-              ∙ ap (λ x. Some x) region;
-        }
-
-    -- an end of a root with the region counts among its ends
-    pub end-in : (root : RootId) (r : RegionId) → IsUse logs root r → Done logs (Object.Root root.place) (End root)
-        → 1 ≤ ends_in logs r
-    end-in root r u d =
-        let e : EndOut root r = end-out root r u d in
-        let weight : note_tally logs (ended_by r) (At (Object.Root root.place) e.end.number (End root))
-        ≡ 1 = ap (one_same r) e.out ∙ ap one_of (same_region-refl r) in
-        omega (
-          arith,
-          over-at (note_tally logs (ended_by r)) logs e.end.lane e.end.at
-              (At (Object.Root root.place) e.end.number (End root)) e.end.stands,
-          weight,
         )

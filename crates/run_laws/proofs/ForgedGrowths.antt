@@ -1,15 +1,13 @@
 -- Why growths are refused that no pool makes.
-use Rattle.std.proofs.Common.{⊎_elim, inl, inr, ◌≡◌, ℕ, ◌≤◌, List, [], ◌∷◌, refl, ap, subst, arith, ◌∙◌}
+use Rattle.std.proofs.Common.{⊎_elim, inl, inr, ◌≡◌, ℕ, ◌≤◌, List, [], ◌∷◌, refl, ap, arith, ◌∙◌}
 use Rattle.std.specs.Prelude.{◌<◌}
 use Rattle.pool_law.specs.declared.id.RootId.{RootId}
 use Rattle.pool_law.specs.declared.id.RegionId.{RegionId}
 use Rattle.pool_law.specs.declared.note.Object.{Object}
-use Rattle.pool_law.specs.declared.note.Did.TheVariants.{Give, Hit, Kept, Shed, Grow}
+use Rattle.pool_law.specs.declared.note.Did.TheVariants.{Give, Kept, Grow}
 use Rattle.pool_law.specs.declared.note.Note.{Note}
 use Rattle.pool_law.specs.declared.note.Note.TheVariants.{At}
-use Rattle.pool_law.specs.Logs.{Logs}
-use Rattle.pool_law.specs.Patterns.{one_more}
-use Rattle.pool_law.specs.Lives.{cache_of, arena_of, GrowsOut, Move, Takes, Gives, Keeps, Hits, Sheds, Begins, Leaves, Happening, Where, Got, Used, Freed, Cached, Dropped, LivesOn, IsAmong, moves_of, Life, RegionsLive}
+use Rattle.pool_law.specs.Lives.{cache_of, arena_of, Move, Takes, Gives, Keeps, Hits, Sheds, Begins, Leaves, Happening, Where, Got, Used, Freed, Cached, Dropped, LivesOn, IsAmong, moves_of, Life, RegionsLive}
 use Rattle.run_laws.proofs.Sums.{sum_over, over-at}
 use Rattle.run_laws.proofs.Forged.{never-hit, never-shed, moves-among}
 use Rattle.run_laws.specs.Conserved.{Returned, ReturnsOnce}

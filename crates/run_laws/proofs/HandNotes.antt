@@ -4,16 +4,15 @@ use Rattle.std.specs.Prelude.{◌<◌, map, slice_get}
 use Rattle.pool_law.specs.declared.id.RegionId.{RegionId}
 use Rattle.pool_law.specs.declared.note.Object.{Object}
 use Rattle.pool_law.specs.declared.note.Did.{Did}
-use Rattle.pool_law.specs.declared.note.Did.TheVariants.{Grow}
 use Rattle.pool_law.specs.declared.note.Note.{Note}
 use Rattle.pool_law.specs.declared.note.Note.TheVariants.{At, Ref, Busy}
 use Rattle.pool_law.specs.Logs.{Logs, Entry, of_lane, entry_of}
 use Rattle.run_laws.specs.Hands.{did_of, Source, Hand, hand_after}
-use Rattle.run_laws.proofs.Together.{Fills}
-use Rattle.run_laws.proofs.LogEntries.{LanesAct, entry-note, get-map, map-get, no-growth}
+use Rattle.run_laws.proofs.LogEntries.{LanesAct, entry-note, get-map, map-get}
 use Rattle.run_laws.proofs.HandLaw.{acts-hand}
 use Rattle.run_laws.proofs.LaneActs.{AnyNote}
-use Rattle.run_laws.proofs.HandPairs.{Empties, NoGrowths, IsIn, IsOut, Pair, same-some, Onward, pair-from, pair-to, one-out}
+use Rattle.run_laws.proofs.HandPairs.{Pair, same-some, Onward, pair-from, pair-to, one-out}
+use Rattle.run_laws.proofs.HandSteps.{Fills, Empties, IsIn, IsOut}
 
 -- the same in a log: what a lane has in hand, from one note to another
 pub record Held (logs : Logs) (lane i k : ℕ) (from : Source) (y : RegionId) : Type 0 where
@@ -71,10 +70,6 @@ module _ (logs : Logs) (acts : LanesAct logs) (lane : ℕ) where
   entry-did : (o : Object) (k : ℕ) (d : Did) → did_of (entry_of logs (At o k d)).note ≡ Some d
   entry-did o k d = ap did_of (entry-note logs (At o k d))
 
-  -- none of them is a growth
-  none-grow : NoGrowths (map (entry_of logs) (of_lane logs lane))
-  none-grow i e is c x did = let n = note-of i e (Grow c x) is did in no-growth logs acts lane i n.1 n.0 c x n.2
-
   -- what the notes at both ends say
   abbrev FillsBy : Source → RegionId → Note → Type 0
   FillsBy from y (At o k d) = Fills from y (entry_of logs (At o k d)).region d
@@ -89,7 +84,7 @@ module _ (logs : Logs) (acts : LanesAct logs) (lane : ℕ) where
       × Fills from y (entry_of logs (At o k d)).region d
   held-from i k o d is kind =
       let r : Onward (map (entry_of logs) (of_lane logs lane)) i =
-      pair-from (map (entry_of logs) (of_lane logs lane)) None i (entry_of logs (At o k d)) d none-grow empty
+      pair-from (map (entry_of logs) (of_lane logs lane)) None i (entry_of logs (At o k d)) d empty
       (get-map (entry_of logs) (of_lane logs lane) i (At o k d) is) (entry-did o k d) kind in
       let h : Held logs lane i r.to r.from r.region = held i r.to r.from r.region r.pair in (
         r.to,
@@ -115,7 +110,7 @@ module _ (logs : Logs) (acts : LanesAct logs) (lane : ℕ) where
         subst (EmptiesBy before.from before.region)
             (same-some (At h.out_object h.out_number h.out) (At o k d) (sym h.out_is ∙ is)) h.empties,
       ))
-      (pair-to (map (entry_of logs) (of_lane logs lane)) None i (entry_of logs (At o k d)) d none-grow empty
+      (pair-to (map (entry_of logs) (of_lane logs lane)) None i (entry_of logs (At o k d)) d empty
       (get-map (entry_of logs) (of_lane logs lane) i (At o k d) is) (entry-did o k d) kind)
 
   pub held-once : (i k l : ℕ) (from of : Source) (y z : RegionId) → Held logs lane i k from y → Held logs lane i l of z

@@ -20,9 +20,9 @@ use Rattle.run_laws.specs.CacheCounts.{times, puts, removes, total_by}
 use Rattle.pool_law.specs.Patterns.{one_more}
 use Rattle.run_laws.specs.Hands.{did_of}
 use Rattle.run_laws.specs.HandCounts.{Tally, tally_if, tally, got_by, used_by, ended_by, shed_by, kept_by, given_by, HandsBalance}
-use Rattle.run_laws.proofs.Acts.{IsOther, Acts, Less}
+use Rattle.run_laws.proofs.Acts.{Acts}
 use Rattle.run_laws.proofs.LaneActs.{AnyNote}
-use Rattle.run_laws.proofs.LogEntries.{LanesAct, entry-note, sums-less}
+use Rattle.run_laws.proofs.LogEntries.{LanesAct, entry-note}
 use Rattle.run_laws.proofs.HandLaw.{acts-hand}
 use Rattle.run_laws.proofs.HandSums.{hands-balance}
 use Rattle.pool_law.proofs.SameLemmas.{same_region-is}
@@ -56,27 +56,39 @@ module _ (shape : Shape) (logs : Logs) (holds : HistoriesPaged shape logs) (acts
   tally-log f (n ∷ log) =
       omega (arith, tally-log f log, ap (λ m. tally_if f (entry_of logs n).region (did_of m)) (entry-note logs n))
 
+  -- what all lanes got, ended or shed of a region they used, kept or gave
+  pub record HandsTotal (r : RegionId) (rest : Logs) : Type 0 where
+    pub through :
+        sum_over (note_tally logs (got_by r)) rest + (sum_over (note_tally logs (ended_by r)) rest
+        + sum_over (note_tally logs (shed_by r)) rest)
+        ≡ sum_over (note_tally logs (used_by r)) rest + (sum_over (note_tally logs (kept_by r)) rest
+        + sum_over (note_tally logs (given_by r)) rest)
+    pub got : sum_over (note_tally logs (used_by r)) rest ≤ sum_over (note_tally logs (got_by r)) rest
+    pub given : sum_over (note_tally logs (shed_by r)) rest ≤ sum_over (note_tally logs (given_by r)) rest
+
   pub hands-total : (r : RegionId) (rest : Logs)
-      → ((lane : ℕ) → Acts AnyNote (map (entry_of logs) (of_lane rest lane)) []) →
-      (sum_over (note_tally logs (got_by r)) rest ≡ sum_over (note_tally logs (used_by r)) rest)
-      × (sum_over (note_tally logs (ended_by r)) rest + sum_over (note_tally logs (shed_by r)) rest
-      ≡ sum_over (note_tally logs (kept_by r)) rest + sum_over (note_tally logs (given_by r)) rest)
-  hands-total r [] h = (refl, refl)
+      → ((lane : ℕ) → Acts AnyNote (map (entry_of logs) (of_lane rest lane)) []) → HandsTotal r rest
+  hands-total r [] h = record { through = refl; got = omega arith; given = omega arith }
   hands-total r (log ∷ rest) h =
       let b : HandsBalance r (map (entry_of logs) log) =
       hands-balance r (map (entry_of logs) log) (acts-hand AnyNote (map (entry_of logs) log) (h 0)) in
-      let ih = hands-total r rest (λ lane. h (suc lane)) in (
-        omega (arith, b.used, tally-log (got_by r) log, tally-log (used_by r) log, ih.0),
-        omega (
-          arith,
-          b.put_down,
-          tally-log (ended_by r) log,
-          tally-log (shed_by r) log,
-          tally-log (kept_by r) log,
-          tally-log (given_by r) log,
-          ih.1,
-        ),
-      )
+      let ih : HandsTotal r rest = hands-total r rest (λ lane. h (suc lane)) in
+      record {
+        through =
+            omega (
+              arith,
+              b.through,
+              tally-log (got_by r) log,
+              tally-log (ended_by r) log,
+              tally-log (shed_by r) log,
+              tally-log (used_by r) log,
+              tally-log (kept_by r) log,
+              tally-log (given_by r) log,
+              ih.through,
+            );
+        got = omega (arith, b.got, tally-log (got_by r) log, tally-log (used_by r) log, ih.got);
+        given = omega (arith, b.given, tally-log (shed_by r) log, tally-log (given_by r) log, ih.given);
+      }
 
   module _ (r : RegionId) where
     pub at-total : (o : Object) → has_history o ≡ true → (f : Did → ℕ) → sum_over (at_object o (plain f)) logs
@@ -167,39 +179,32 @@ module _ (shape : Shape) (logs : Logs) (holds : HistoriesPaged shape logs) (acts
     used-born (Ref root did) = refl
     used-born (Busy held) = refl
 
-    pub births-next : births_in logs (one_more r) ≡ takes_in logs r + hits_in logs r
-    births-next =
+    used-total : births_in logs (one_more r) ≡ total logs (used_by r)
+    used-total =
         sym (over-alike (note_tally logs (used_by r)) (note_tally logs (born_by (one_more r))) logs
-        (λ lane i n is. used-born n)) ∙ sym (hands-total r logs acts).0 ∙ got-total
+        (λ lane i n is. used-born n))
 
-    pub put-down : ends_in logs r + sheds_in logs r ≡ keeps_in logs r + gives_in logs r
-    put-down = omega (arith, (hands-total r logs acts).1, shed-total, kept-total, given-total)
-
-    -- what is shed is given back
-    shed-less : Less AnyNote (note_tally logs (shed_by r)) (note_tally logs (given_by r))
-    shed-less =
-        record {
-          other = other;
-          birth = λ o k root x. omega arith;
-          end = λ o k root. omega arith;
-          shed =
-              λ o p k l x may. omega arith;
-        }
-      where
-        other : (n : Note) → IsOther AnyNote n → note_tally logs (shed_by r) n ≤ note_tally logs (given_by r) n
-        other (At o k (Shed x)) is = absurd is
-        other (At o k _) is = omega arith
-        other (Ref root did) is = omega arith
-        other (Busy held) is = omega arith
-
-    pub drops : sheds_in logs r ≤ gives_in logs r
-    drops =
+    -- what is taken, hit, ended or shed is used once more, kept or given
+    pub hands-through : takes_in logs r + hits_in logs r + (ends_in logs r + sheds_in logs r)
+        ≡ births_in logs (one_more r) + (keeps_in logs r + gives_in logs r)
+    hands-through =
         omega (
           arith,
-          sums-less logs acts (note_tally logs (shed_by r)) (note_tally logs (given_by r)) shed-less,
+          (hands-total r logs acts).through,
+          got-total,
           shed-total,
+          used-total,
+          kept-total,
           given-total,
         )
+
+    -- what is used was taken or hit
+    pub births-less : births_in logs (one_more r) ≤ takes_in logs r + hits_in logs r
+    births-less = omega (arith, (hands-total r logs acts).got, got-total, used-total)
+
+    -- what is shed is given back
+    pub drops : sheds_in logs r ≤ gives_in logs r
+    drops = omega (arith, (hands-total r logs acts).given, shed-total, given-total)
 
     pub removes-are : (ds : List Did) → total_by (removes r) ds ≡ total_by (hits r) ds + total_by (sheds_of r) ds
     removes-are [] = refl
@@ -223,6 +228,15 @@ module _ (shape : Shape) (logs : Logs) (holds : HistoriesPaged shape logs) (acts
         is-some (cache_after r.owner r.class (dids (history_of (cache_of r) logs)))
         (holds.accepted (cache_of r) refl) in
         omega (arith, through c.0 c.1)
+
+    -- what is taken or ended is used once more, given, or in the cache
+    pub conserved : (c : Cache) → cache_after r.owner r.class (dids (history_of (cache_of r) logs)) ≡ Some c
+        → takes_in logs r + ends_in logs r
+        ≡ births_in logs (one_more r) + gives_in logs r + times r c.regions
+    conserved c e = omega (arith, hands-through, through c e)
+
+    pub uses-less : births_in logs (one_more r) + gives_in logs r ≤ takes_in logs r + ends_in logs r
+    uses-less = omega (arith, hands-through, removes-less)
 
     pub takes-most : takes_in logs r ≤ 1
     takes-most =

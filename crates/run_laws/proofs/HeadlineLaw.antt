@@ -1,10 +1,10 @@
 -- What a legal run gives: the headline, from the laws.
-use Rattle.std.proofs.Common.{⊎_elim, ◌≡◌, ℕ, zero, suc, List, [], ◌∷◌, length, refl, sym, ap, subst, arith, true, Some, ◌∙◌, ne_eqb}
+use Rattle.std.proofs.Common.{⊎_elim, inl, ◌≡◌, ℕ, zero, suc, List, [], ◌∷◌, length, refl, sym, ap, subst, arith, true, Some, ◌∙◌, ne_eqb}
 use Rattle.std.specs.Prelude.{◌≢◌, ◌<◌, ◌==◌, not, map, unwrap_or, IsTrue, slice_get}
 use Rattle.pool_law.specs.declared.id.RootId.{RootId}
 use Rattle.pool_law.specs.declared.id.RegionId.{RegionId}
 use Rattle.pool_law.specs.declared.note.Object.{Object}
-use Rattle.pool_law.specs.declared.note.Did.TheVariants.{Birth, End}
+use Rattle.pool_law.specs.declared.note.Did.TheVariants.{Birth}
 use Rattle.pool_law.specs.declared.note.RefDid.{RefDid}
 use Rattle.pool_law.specs.declared.note.Note.TheVariants.{At}
 use Rattle.pool_law.specs.declared.report.Leak.{Leak}
@@ -19,18 +19,19 @@ use Rattle.pool_law.specs.Apart.{EndsBefore, NeverOverlap}
 use Rattle.run_laws.specs.Conserved.{total_in}
 use Rattle.run_laws.specs.OneLog.{Counted, StandInOneLog}
 use Rattle.run_laws.specs.Reported.{NeverFreed, IsLeak, ListsLeaks}
-use Rattle.run_laws.specs.Headline.{LiveLieApart, LiveUseLasts, LiveIsNeverFreed, Headline}
+use Rattle.run_laws.specs.Headline.{LiveLieApart, LiveIsNeverFreed, Headline}
 use Rattle.run_laws.proofs.LogEntries.{LanesAct}
 use Rattle.run_laws.proofs.LogParts.{Parts}
-use Rattle.run_laws.proofs.Uses.{is-use}
-use Rattle.run_laws.proofs.AllLives.{is-done_at}
-use Rattle.run_laws.proofs.AllUses.{born, use-ended}
-use Rattle.run_laws.proofs.LifeLaw.{birth-use}
-use Rattle.run_laws.proofs.EndLaw.{dead-ended, ended-dead, use-region}
+use Rattle.run_laws.proofs.Births.{used-born}
+use Rattle.run_laws.proofs.LifeChain.{is-done_at}
+use Rattle.run_laws.proofs.TakingUses.{begins-use}
+use Rattle.run_laws.proofs.Lasting.{live-lasts}
+use Rattle.run_laws.proofs.EndLaw.{dead-ended, ended-dead}
 use Rattle.run_laws.proofs.OneLogLaw.{stand-in_one_log}
 use Rattle.run_laws.proofs.LeakLaw.{birth-there, Listed, leaks-only, leaks-all, leaks-order}
 use Rattle.run_laws.proofs.ReadLaw.{reads-give_written}
-use Rattle.run_laws.proofs.RunLaws.{acts-of, parts-of, regions-live, regions-apart, roots-never_overlap, regions-return, arenas-end, caches-end_empty}
+use Rattle.run_laws.proofs.RunLaws.{acts-of, parts-of, regions-live, regions-apart, roots-never_overlap, caches-end_empty}
+use Rattle.run_laws.proofs.RunEnds.{regions-return, arenas-end}
 
 -- a log that has a note is one of the logs
 pub log-there : {X : Type 0} (logs : List (List X)) (lane i : ℕ) (x : X) → slice_get (of_lane logs lane) i ≡ Some x
@@ -53,14 +54,14 @@ module _ (shape : Shape) (logs : Logs) (holds : HistoriesPaged shape logs) (acts
   pub freed-dead : (root : RootId) (r : RegionId) → IsUse logs root r → Counted logs root RefDid.Ended
       → total_in logs root ≡ 0
   freed-dead root r u c =
-      ended-dead shape logs holds acts parts counts root r (born shape logs holds acts parts counts root r u)
-      (notes.ended root c).end
+      let b = used-born shape logs holds acts root r u in
+      ended-dead shape logs holds acts parts counts root b.0 b.1 (notes.ended root c).end
 
   pub dead-freed : (root : RootId) (r : RegionId) → IsUse logs root r → total_in logs root ≡ 0
       → Counted logs root RefDid.Ended
   dead-freed root r u dead =
-      (notes.end root (dead-ended shape logs holds acts parts counts root r
-      (born shape logs holds acts parts counts root r u) dead)).ended
+      let b = used-born shape logs holds acts root r u in
+      (notes.end root (dead-ended shape logs holds acts parts counts root b.0 b.1 dead)).ended
 
   pub live-never_freed : LiveIsNeverFreed logs
   live-never_freed root r u = (λ live c. live (freed-dead root r u c), λ never dead. never (dead-freed root r u dead))
@@ -69,7 +70,7 @@ module _ (shape : Shape) (logs : Logs) (holds : HistoriesPaged shape logs) (acts
   pub before-ends : (first second : RootId) (a b : RegionId) → EndsBefore logs first a second b → UseEnds logs first a
   before-ends first second a b before =
       let here : before.end.object ≡ Object.Root first.place =
-      is-done_at shape logs holds acts parts counts (record { event = before.end; move = Leaves first a })
+      is-done_at shape logs holds acts (record { event = before.end; move = Leaves first a })
       before.ended in
       record {
         lane = before.end.lane;
@@ -87,23 +88,15 @@ module _ (shape : Shape) (logs : Logs) (holds : HistoriesPaged shape logs) (acts
       (λ before. living (before-ends second first b a before))
       (never first second a b u v differ over)
 
-  pub live-lasts : LiveUseLasts logs
-  live-lasts root r u never =
-      record {
-        region = r;
-        used = u;
-        lasts = λ ends. never (notes.end root (use-ended shape logs holds acts parts counts root r ends).0).ended;
-        one =
-            λ other v last. use-region shape logs holds acts parts counts root other r
-            (born shape logs holds acts parts counts root other v) (born shape logs holds acts parts counts root r u);
-      }
-
   -- a root that is born in a log is used
   pub birth-used : (lane n : ℕ) (root : RootId) → slice_get (births (of_lane logs lane)) n ≡ Some root
       → (r : RegionId) × IsUse logs root r
   birth-used lane n root e =
-      let f = birth-there (of_lane logs lane) n root e in
-      (f.3, is-use logs root f.3 (birth-use shape logs holds acts lane f.0 f.2 f.1 root f.3 f.4))
+      let f = birth-there (of_lane logs lane) n root e in (
+        f.3,
+        begins-use shape logs holds acts root f.3
+            (record { object = f.1; did = Birth root f.3; lane = lane; at = f.0; number = f.2 }) f.4 (inl refl),
+      )
 
   pub live-is : (lane n : ℕ) (root : RootId) → slice_get (births (of_lane logs lane)) n ≡ Some root
       → is_live logs root ≡ true → NeverFreed logs root

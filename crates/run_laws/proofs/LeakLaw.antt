@@ -15,7 +15,7 @@ use Rattle.pool_law.proofs.SameLemmas.{and-first, and-second}
 use Rattle.pool_law.proofs.ListLemmas.{slice_get-below}
 use Rattle.pool_law.proofs.PatternLemmas.{both_true}
 use Rattle.run_laws.specs.Reported.{ComesBefore}
-use Rattle.run_laws.proofs.Acts.{get-front, get-split, get-behind}
+use Rattle.run_laws.proofs.ActPlaces.{get-front, get-split, get-behind}
 
 -- what is born in a log stands there
 pub birth-there : (log : List Note) (n : ℕ) (root : RootId) → slice_get (births log) n ≡ Some root

@@ -1,15 +1,13 @@
 -- The entries of a lane's log are made of its notes.
 use Rattle.std.proofs.Common.{◌≡◌, ℕ, zero, suc, ◌≤◌, List, [], ◌∷◌, length, refl, ap, arith, Some}
 use Rattle.std.specs.Prelude.{◌<◌, map, slice_get, unwrap_or}
-use Rattle.pool_law.specs.declared.id.RegionId.{RegionId}
 use Rattle.pool_law.specs.declared.note.Object.{Object}
-use Rattle.pool_law.specs.declared.note.Did.TheVariants.{Grow}
 use Rattle.pool_law.specs.declared.note.Note.{Note}
 use Rattle.pool_law.specs.declared.note.Note.TheVariants.{At, Ref, Busy}
 use Rattle.pool_law.specs.Logs.{Logs, of_lane, entry_of}
 use Rattle.pool_law.proofs.ListLemmas.{slice_get-past}
-use Rattle.run_laws.proofs.Sums.{sum_by, sum_over, sum-none, over-at}
-use Rattle.run_laws.proofs.Acts.{IsOther, sum_notes, Acts, Less, less-acts}
+use Rattle.run_laws.proofs.Sums.{sum_by, sum_over}
+use Rattle.run_laws.proofs.Acts.{sum_notes, Acts, Less, less-acts}
 use Rattle.run_laws.proofs.LaneActs.{AnyNote}
 
 -- an entry has the note that it is made of
@@ -75,36 +73,3 @@ sums-less logs acts f g less =
     (map (entry_of logs) (of_lane logs lane)) =
     less-acts AnyNote f g less (map (entry_of logs) (of_lane logs lane)) [] (acts lane) (omega arith) in
     omega (arith, a, sum-entries logs f (of_lane logs lane), sum-entries logs g (of_lane logs lane)))
-
--- no act is a growth, so no lane's log has one
-abbrev growth_weight : Note → ℕ
-growth_weight (At o k (Grow c x)) = 1
-growth_weight _ = 0
-
-growths-none : (logs : Logs) → LanesAct logs → sum_over growth_weight logs ≤ 0
-growths-none logs acts =
-    omega (arith, sums-less logs acts growth_weight (λ n. 0) less, nothing logs)
-  where
-    other : (n : Note) → IsOther AnyNote n → growth_weight n ≤ 0
-    other (At o k (Grow c x)) is = absurd is
-    other (At o k _) is = omega arith
-    other (Ref root d) is = omega arith
-    other (Busy held) is = omega arith
-
-    less : Less AnyNote growth_weight (λ n. 0)
-    less =
-        record {
-          other = other;
-          birth = λ o k root r. omega arith;
-          end = λ o k root. omega arith;
-          shed = λ o p k l r may. omega arith;
-        }
-
-    nothing : (logs : Logs) → sum_over (λ n. 0) logs ≡ 0
-    nothing [] = refl
-    nothing (log ∷ logs) = omega (arith, sum-none log, nothing logs)
-
-pub no-growth : (logs : Logs) → LanesAct logs → (lane i k : ℕ) (o : Object) (c : ℕ) (x : RegionId)
-    → slice_get (of_lane logs lane) i ≡ Some (At o k (Grow c x)) → ⊥
-no-growth logs acts lane i k o c x is =
-    absurd (omega (arith, growths-none logs acts, over-at growth_weight logs lane i (At o k (Grow c x)) is))

@@ -2,6 +2,7 @@
 use Rattle.std.proofs.Common.{◌≡◌, ℕ, ◌≤◌, length, refl, ap, arith, Some, ◌∙◌}
 use Rattle.std.specs.Prelude.{◌<◌, map}
 use Rattle.pool_law.specs.declared.id.RootId.{RootId}
+use Rattle.pool_law.specs.declared.id.RegionId.{RegionId}
 use Rattle.pool_law.specs.declared.note.Object.{Object}
 use Rattle.pool_law.specs.declared.note.Did.TheVariants.{Birth, End}
 use Rattle.pool_law.specs.declared.note.RefDid.{RefDid}
@@ -11,18 +12,16 @@ use Rattle.pool_law.specs.declared.run.Shape.{Shape}
 use Rattle.pool_law.specs.Logs.{Logs, of_lane, entry_of, entries_of}
 use Rattle.pool_law.specs.Legal.{CountsAgree}
 use Rattle.run_laws.proofs.PagedHistories.{HistoriesPaged}
-use Rattle.pool_law.specs.Lives.{StandsAt}
-use Rattle.run_laws.proofs.BirthLives.{IsUse}
+use Rattle.pool_law.specs.Lives.{StandsAt, Done}
 use Rattle.run_laws.specs.OneLog.{IsBirth, IsBorn, HasEnded, StandInOneLog}
 use Rattle.pool_law.specs.Same.{same_root}
 use Rattle.pool_law.proofs.PatternLemmas.{same_root-refl}
 use Rattle.run_laws.proofs.LogEntries.{LanesAct}
-use Rattle.run_laws.proofs.Uses.{use-born}
+use Rattle.run_laws.proofs.Births.{ended-born, used-born}
 use Rattle.run_laws.proofs.Sums.{sum_over, over-place}
 use Rattle.run_laws.proofs.LogParts.{Parts}
 use Rattle.run_laws.proofs.Together.{BirthHere, EndHere, Together, note-together}
 use Rattle.run_laws.proofs.HandTotals.{note-placed}
-use Rattle.run_laws.proofs.LifeLaw.{end-use}
 use Rattle.run_laws.proofs.EndLaw.{one, birth_weight, born_weight, ended_weight, end_weight, vacated_weight, birth-alike, ended-alike, vacated-alike, sums-alike, ends-most, births-most}
 
 module _ (shape : Shape) (logs : Logs) (holds : HistoriesPaged shape logs) (acts : LanesAct logs)
@@ -42,10 +41,8 @@ module _ (shape : Shape) (logs : Logs) (holds : HistoriesPaged shape logs) (acts
             ∙ ap (λ o. Some (At o h.number (Birth root h.region)))
             (note-placed shape logs holds acts lane h.birth h.number h.object (Birth root h.region) h.birth_is);
       } in
-      let used : IsUse logs root h.region =
-      record { lane = lane; at = h.birth; number = h.number; birth = birth.stands } in
       let one_birth : sum_over (birth_weight root) logs ≤ 1 =
-      births-most shape logs holds acts parts counts root h.region used in
+      births-most shape logs holds acts parts counts root h.region birth in
       let one_set : sum_over (birth_weight root) logs
       ≡ sum_over (born_weight root) logs =
       sums-alike logs acts (birth_weight root) (born_weight root) (birth-alike root) in
@@ -71,10 +68,16 @@ module _ (shape : Shape) (logs : Logs) (holds : HistoriesPaged shape logs) (acts
   has-ended root lane h =
       let placed : h.object ≡ Object.Root root.place =
       note-placed shape logs holds acts lane h.end h.number h.object (End root) h.end_is in
-      let used : IsUse logs root h.region =
-      (end-use shape logs holds acts lane h.end h.number h.object root h.region h.end_is h.out).0 in
+      let end : Done logs (Object.Root root.place) (End root) =
+      record {
+        lane = lane;
+        at = h.end;
+        number = h.number;
+        stands = h.end_is ∙ ap (λ o. Some (At o h.number (End root))) placed;
+      } in
+      let born : (r : RegionId) × IsBirth logs root r = ended-born shape logs holds acts root end in
       let most : sum_over (end_weight root) logs ≤ 1 =
-      ends-most shape logs holds acts parts counts root h.region used in
+      ends-most shape logs holds acts parts counts root born.0 born.1 in
       let ended : sum_over (ended_weight root) logs
       ≡ sum_over (end_weight root) logs =
       sums-alike logs acts (ended_weight root) (end_weight root) (ended-alike root) in
@@ -83,14 +86,7 @@ module _ (shape : Shape) (logs : Logs) (holds : HistoriesPaged shape logs) (acts
       sums-alike logs acts (vacated_weight root) (end_weight root) (vacated-alike root) in
       record {
         ended = record { lane = lane; at = h.ended; stands = h.ended_is };
-        end =
-            record {
-              lane = lane;
-              at = h.end;
-              number = h.number;
-              stands = h.end_is
-                  ∙ ap (λ o. Some (At o h.number (End root))) placed;
-            };
+        end = end;
         vacated = record { lane = lane; at = h.vacated; stands = h.vacated_is };
         same_log = (refl, refl);
         order = (h.after_ended, h.after_end);
@@ -113,8 +109,8 @@ module _ (shape : Shape) (logs : Logs) (holds : HistoriesPaged shape logs) (acts
   stand-in_one_log =
       record {
         used =
-            λ root r u. let b = use-born logs acts root r u in is-born root b.lane
-            (together b.lane b.at (At (Object.Root root.place) b.number (Birth root r)) b.birth).0;
+            λ root r u. let b = used-born shape logs holds acts root r u in is-born root b.1.lane
+            (together b.1.lane b.1.at (At (Object.Root root.place) b.1.number (Birth root b.0)) b.1.stands).0;
         born =
             λ root r u. is-born root u.lane
             (together u.lane u.at (At (Object.Root root.place) u.number (Birth root r)) u.stands).0;

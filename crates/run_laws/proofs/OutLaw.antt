@@ -1,14 +1,12 @@
 -- What the arenas have out at the end of a run is what the live roots use.
-use Rattle.std.proofs.Common.{⊎_elim, ◌≡◌, ℕ, zero, suc, ◌+◌, ◌≤◌, List, [], ◌∷◌, ◌++◌, length, refl, sym, ap, subst, arith, Bool, true, false, Some, None, ◌∙◌}
-use Rattle.std.specs.Prelude.{◌≢◌, ◌<◌, map, IsTrue, Option, slice_get}
+use Rattle.std.proofs.Common.{◌≡◌, ℕ, ◌+◌, ◌≤◌, List, [], ◌∷◌, ◌++◌, length, refl, sym, ap, subst, arith, Bool, true, false, Some, ◌∙◌}
+use Rattle.std.specs.Prelude.{◌<◌, map, IsTrue, slice_get}
 use Rattle.std.specs.List.{list_any}
 use Rattle.pool_law.specs.declared.id.RootId.{RootId}
 use Rattle.pool_law.specs.declared.id.RegionId.{RegionId}
 use Rattle.pool_law.specs.declared.note.Object.{Object}
 use Rattle.pool_law.specs.declared.note.Did.{Did}
-use Rattle.pool_law.specs.declared.note.Did.TheVariants.{Take, Give, Grow, End}
-use Rattle.pool_law.specs.declared.note.Note.{Note}
-use Rattle.pool_law.specs.declared.note.Note.TheVariants.{At, Ref, Busy}
+use Rattle.pool_law.specs.declared.note.Did.TheVariants.{Take, Give}
 use Rattle.pool_law.specs.declared.run.Shape.{Shape}
 use Rattle.pool_law.specs.Limits.{geometry_of}
 use Rattle.pool_law.specs.Same.{same_taking, same_region}
@@ -17,164 +15,37 @@ use Rattle.pool_law.specs.Histories.{after, arena_after}
 use Rattle.pool_law.specs.Logs.{Logs, dids, of_lane, history_of, entry_of, entries_of}
 use Rattle.pool_law.specs.Legal.{CountsAgree}
 use Rattle.run_laws.proofs.PagedHistories.{HistoriesPaged}
-use Rattle.pool_law.specs.Lives.{Done, arena_of, with_uses}
-use Rattle.run_laws.proofs.BirthLives.{IsUse, IsHeld, OutIsHeld}
-use Rattle.run_laws.specs.Conserved.{total_in, EndsAsArena}
+use Rattle.pool_law.specs.Lives.{IsUse, UseEnds, arena_of, with_uses}
+use Rattle.run_laws.specs.Conserved.{EndsAsArena, IsHeld, OutIsHeld}
 use Rattle.arena_law.specs.Slots.{ArenaHolds}
 use Rattle.arena_law.specs.Returns.{gives}
 use Rattle.run_laws.specs.CacheCounts.{one_of, total_by}
-use Rattle.run_laws.specs.HandCounts.{one_same, ended_by}
 use Rattle.pool_law.proofs.SameLemmas.{same_region-is}
 use Rattle.pool_law.proofs.PatternLemmas.{same_taking-refl, same_region-refl}
 use Rattle.arena_law.proofs.ArenaLaw.{after-holds, new-holds}
 use Rattle.arena_law.proofs.GiveSteps.{IsOne}
 use Rattle.arena_law.proofs.ReturnLaw.{take_note-out, after-keeps, after-append, one-step, IsOne-last}
 use Rattle.arena_law.proofs.TakingLaw.{takings-in_order}
-use Rattle.run_laws.proofs.LogEntries.{LanesAct, no-growth}
-use Rattle.run_laws.proofs.Sums.{over-found}
+use Rattle.run_laws.proofs.LogEntries.{LanesAct}
 use Rattle.run_laws.proofs.Placed.{placed, total-found, one-of-true}
-use Rattle.run_laws.proofs.Totals.{note_tally, takes, gives_of, takes_in, hits_in, sheds_in, keeps_in, gives_in, births_in, ends_in}
-use Rattle.run_laws.proofs.HandTotals.{births-next, put-down, drops, takes-unused, removes-less}
-use Rattle.run_laws.proofs.LifeLaw.{use-counts, use-used, hits-less, one-use, end-use}
-use Rattle.run_laws.proofs.LifeOrder.{compare-uses, given-last}
-use Rattle.run_laws.proofs.ApartLaw.{split-at, any-at, same_taking-back, gives-it, taken-of, taken-at}
+use Rattle.run_laws.proofs.Totals.{takes, gives_of, gives_in}
+use Rattle.run_laws.proofs.LifeLaw.{taken-of}
+use Rattle.run_laws.proofs.EventLaw.{begins-in}
+use Rattle.run_laws.proofs.Births.{use_event, use-does}
+use Rattle.run_laws.proofs.Owners.{taken-at}
+use Rattle.run_laws.proofs.ApartLaw.{split-at, any-at, same_taking-back, gives-it}
 use Rattle.run_laws.proofs.LogParts.{Parts}
-use Rattle.run_laws.proofs.EndLaw.{ended-dead}
 use Rattle.run_laws.proofs.OutTimes.{out_times, takes_taking, gives_taking, after-out, taking-once, total-at, total-less, total-append, out-one, decide, each-of, one-any}
-use Rattle.run_laws.proofs.TakingUses.{held-by}
+use Rattle.run_laws.proofs.TakingUses.{lasting-kept, held-by}
 
 module _ (shape : Shape) (logs : Logs) (holds : HistoriesPaged shape logs) (acts : LanesAct logs)
     (parts : (lane : ℕ) → lane < length logs → Parts lane (map (entry_of logs) (of_lane logs lane)))
     (counts : CountsAgree (entries_of logs)) where
-  ends-note : (r : RegionId) (lane i : ℕ) (n : Note) → slice_get (of_lane logs lane) i ≡ Some n
-      → 1 ≤ note_tally logs (ended_by r) n → (o : Object) × (k : ℕ) × (root : RootId) × (n ≡ At o k (End root))
-      × ((entry_of logs (At o k (End root))).region ≡ Some r)
-  ends-note r lane i (At o k (End root)) is h = (o, k, root, refl, some (entry_of logs (At o k (End root))).region h)
-    where
-      some : (t : Option RegionId) → 1 ≤ one_same r t → t ≡ Some r
-      some None h = absurd (omega (arith, h))
-      some (Some x) h = ap (λ y. Some y) (sym (same_region-is r x (one-of-true (same_region r x) h)))
-  ends-note r lane i (At o k (Grow c x)) is h = absurd (no-growth logs acts lane i k o c x is)
-  ends-note r lane i (At o k _) is h = absurd (omega (arith, h))
-  ends-note r lane i (Ref root did) is h = absurd (omega (arith, h))
-  ends-note r lane i (Busy held) is h = absurd (omega (arith, h))
-
-  -- the region of a live root has not ended
-  pub live-none : (root : RootId) (r : RegionId) → IsUse logs root r → total_in logs root ≢ 0 → ends_in logs r ≡ 0
-  live-none root r u live = go (ends_in logs r) refl
-    where
-      go : (n : ℕ) → ends_in logs r ≡ n → ends_in logs r ≡ 0
-      go zero e = e
-      go (suc n) e =
-          let f : (lane : ℕ) × (i : ℕ) × (n : Note) × (slice_get (of_lane logs lane) i ≡ Some n)
-          × (1 ≤ note_tally logs (ended_by r) n) =
-          over-found (note_tally logs (ended_by r)) logs (omega (arith, e)) in
-          let a : (o : Object) × (k : ℕ) × (root : RootId) × (f.2 ≡ At o k (End root))
-          × ((entry_of logs (At o k (End root))).region ≡ Some r) =
-          ends-note r f.0 f.1 f.2 f.3 f.4 in
-          let w : IsUse logs a.2 r × Done logs (Object.Root a.2.place) (End a.2) =
-          end-use shape logs holds acts f.0 f.1 a.1 a.0 a.2 r (f.3 ∙ ap (λ x. Some x) a.3) a.4 in
-          let same : a.2 ≡ root = one-use shape logs holds acts a.2 root r w.0 u in
-          absurd (live (ended-dead shape logs holds acts parts counts root r u
-          (subst (λ x. Done logs (Object.Root x.place) (End x)) same w.1)))
-
-  -- so its taking has no later use
-  pub no-later : (root : RootId) (r : RegionId) → IsUse logs root r → total_in logs root ≢ 0 → (n : ℕ) → r.uses < n
-      → births_in logs (with_uses r n) ≡ 0
-  no-later root r u live n more =
-      let d = difference r.uses n more in
-      ap (λ k. births_in logs (with_uses r k)) d.1 ∙ none d.0
-    where
-      difference : (a b : ℕ) → a < b → (m : ℕ) × (b ≡ a + 1 + m)
-      difference a zero h = absurd (omega arith)
-      difference zero (suc b) h = (b, omega arith)
-      difference (suc a) (suc b) h =
-          let d : (m : ℕ) × (b ≡ a + 1 + m) = difference a b (omega arith) in (d.0, omega (arith, d.1))
-
-      first : births_in logs (with_uses r (r.uses + 1)) ≡ 0
-      first =
-          omega (
-            arith,
-            births-next shape logs holds acts r,
-            takes-unused shape logs holds acts r (use-used shape logs holds acts root r u),
-            removes-less shape logs holds acts r,
-            put-down shape logs holds acts r,
-            drops shape logs holds acts r,
-            live-none root r u live,
-          )
-
-      none : (m : ℕ) → births_in logs (with_uses r (r.uses + 1 + m)) ≡ 0
-      none zero =
-          let e : r.uses + 1 + 0 ≡ r.uses + 1 = omega arith in ap (λ k. births_in logs (with_uses r k)) e ∙ first
-      none (suc m) =
-          let next : births_in logs (with_uses r (r.uses + 1 + m + 1))
-          ≡ takes_in logs (with_uses r (r.uses + 1 + m)) + hits_in logs (with_uses r (r.uses + 1 + m)) =
-          births-next shape logs holds acts (with_uses r (r.uses + 1 + m)) in
-          let number : r.uses + 1 + suc m ≡ r.uses + 1 + m + 1 = omega arith in
-          omega (
-            arith,
-            none m,
-            ap (λ k. births_in logs (with_uses r k)) number,
-            next,
-            takes-unused shape logs holds
-                acts (with_uses r (r.uses + 1 + m)) (omega arith),
-            hits-less shape logs holds acts
-                (with_uses r (r.uses + 1 + m)),
-          )
-
-  -- and no use of it has come back
-  pub live-kept : (root : RootId) (r : RegionId) → IsUse logs root r → total_in logs root ≢ 0 → (n : ℕ)
-      → gives_in logs (with_uses r n) ≡ 0
-  live-kept root r u live n = go (gives_in logs (with_uses r n)) refl
-    where
-      born : 1 ≤ births_in logs r
-      born = use-counts shape logs holds acts root r u
-
-      no_end : ends_in logs r ≡ 0
-      no_end = live-none root r u live
-
-      go : (g : ℕ) → gives_in logs (with_uses r n) ≡ g → gives_in logs (with_uses r n) ≡ 0
-      go zero e = e
-      go (suc g) e =
-          ⊎_elim
-          -- before this use
-          (λ less. absurd (omega (
-            arith,
-            born,
-            given-last shape logs holds acts (with_uses r n) r.uses less
-                (omega (arith, e)),
-          )))
-          (λ o. ⊎_elim
-          (λ equal.
-          let here : gives_in logs (with_uses r n) ≡ gives_in logs r = ap (λ k. gives_in logs (with_uses r k)) equal in
-          absurd (omega (
-            arith,
-            e,
-            here,
-            no_end,
-            put-down shape logs holds acts r,
-            keeps-removes,
-            drops shape logs holds
-                acts r,
-          )))
-          (λ more. absurd (omega (
-            arith,
-            e,
-            hits-less shape logs holds acts (with_uses r n),
-            no-later root r u live n
-                more,
-          )))
-          o)
-          (compare-uses n r.uses)
-        where
-          keeps-removes : hits_in logs r + sheds_in logs r ≤ keeps_in logs r
-          keeps-removes = removes-less shape logs holds acts r
-
   pub out-at_end : (number : ℕ) (a : Arena) → EndsAsArena shape logs number a → OutIsHeld logs number a
   out-at_end number a e =
       record {
         held = each-of (IsHeld logs) a.out (λ r o. held-one r o);
-        out = λ root r u live here. still root r u live here (is_out_of a r) refl;
+        out = λ root r u lasts live here. still root r u lasts here (is_out_of a r) refl;
       }
     where
       ds : List Did
@@ -240,13 +111,14 @@ module _ (shape : Shape) (logs : Logs) (holds : HistoriesPaged shape logs) (acts
                     (λ o. total_by (gives_of (with_uses r n)) (dids (history_of o logs))) here,
               )
 
-      still : (root : RootId) (r : RegionId) → IsUse logs root r → total_in logs root ≢ 0 → r.place.arena ≡ number
+      still : (root : RootId) (r : RegionId) → IsUse logs root r → (UseEnds logs root r → ⊥) → r.place.arena ≡ number
           → (b : Bool) → is_out_of a r ≡ b → IsTrue (is_out_of a r)
-      still root r u live here true out = out
-      still root r u live here false _ =
+      still root r u lasts here true out = out
+      still root r u lasts here false _ =
           let j : (j : ℕ) × (slice_get (dids (history_of (arena_of r) logs)) j ≡ Some (Take r.class (with_uses r 0))) =
           taken-at shape logs holds acts r
-          (taken-of shape logs holds acts r.uses r (use-counts shape logs holds acts root r u)) in
+          (taken-of shape logs holds acts r.uses r
+          (begins-in shape logs holds acts root r (use_event u) u.stands (use-does logs root r u))) in
           let at : slice_get ds j.0 ≡ Some (Take r.class (with_uses r 0)) =
           ap (λ k. slice_get (dids (history_of (Object.Arena k) logs)) j.0) (sym here) ∙ j.1 in
           let s : (between rest : List Did) × (ds ≡ (between ++ Take r.class (with_uses r 0) ∷ []) ++ rest)
@@ -294,5 +166,5 @@ module _ (shape : Shape) (logs : Logs) (holds : HistoriesPaged shape logs) (acts
             total-append (gives_of (with_uses r g.0.uses)) (s.0 ++ Take r.class (with_uses r 0) ∷ []) s.1,
             ap (total_by (gives_of (with_uses r g.0.uses))) s.2,
             ap (λ k. total_by (gives_of (with_uses r g.0.uses)) (dids (history_of (Object.Arena k) logs))) here,
-            live-kept root r u live g.0.uses,
+            lasting-kept shape logs holds acts root r u lasts g.0.uses,
           )))

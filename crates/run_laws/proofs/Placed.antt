@@ -6,7 +6,7 @@ use Rattle.pool_law.specs.declared.id.RootId.{RootId}
 use Rattle.pool_law.specs.declared.id.RegionId.{RegionId}
 use Rattle.pool_law.specs.declared.note.Object.{Object}
 use Rattle.pool_law.specs.declared.note.Did.{Did}
-use Rattle.pool_law.specs.declared.note.Did.TheVariants.{Take, Full, Give, Hit, Miss, Kept, Back, Trim, Close, Shed, Handle, NoHandle, Home, Birth, Grow, End}
+use Rattle.pool_law.specs.declared.note.Did.TheVariants.{Take, Full, Give, Hit, Miss, Kept, Back, Trim, Close, Shed, Handle, NoHandle, Home, Birth, End}
 use Rattle.pool_law.specs.declared.note.Note.{Note}
 use Rattle.pool_law.specs.declared.run.Shape.{Shape}
 use Rattle.size_classes.specs.Sizes.{IsPage}
@@ -21,7 +21,7 @@ use Rattle.run_laws.specs.CacheCounts.{one_of, times, puts, removes, total_by}
 use Rattle.arena_law.specs.Slots.{ArenaHolds, IsLocated}
 use Rattle.arena_law.specs.Takings.{IsTaking}
 use Rattle.pool_law.specs.Lives.{cache_of, arena_of}
-use Rattle.run_laws.specs.PlaceLives.{GrewTo, WasBorn}
+use Rattle.run_laws.specs.PlaceLives.{WasBorn}
 use Rattle.pool_law.proofs.SameLemmas.{and-first, and-second, same_region-is, same_place-is}
 use Rattle.pool_law.proofs.PatternLemmas.{same_region-refl}
 use Rattle.run_laws.proofs.CacheLaw.{if-some, cache_step-balances, goes-through}
@@ -231,28 +231,12 @@ mail-placed shape lane (Object.Mail from to) (End root) none e = absurd (cc e)
 mail-placed shape lane (Object.Mail from to) _ none e = tt
 mail-placed shape lane _ d none e = absurd (cc none)
 
--- no root grows in these notes
-abbrev pub NoGrowth : List Did → Type 0
-NoGrowth ds = (i c : ℕ) (x : RegionId) → slice_get ds i ≡ Some (Grow c x) → ⊥
-
--- so each is in the region that it was born with
-grew-nowhere : (first last : RegionId) (ds : List Did) → NoGrowth ds → GrewTo first ds last → first ≡ last
-grew-nowhere first last [] none same = same
-grew-nowhere first last (Grow c x ∷ ds) none grew = absurd (none 0 c x refl)
-grew-nowhere first last (_ ∷ ds) none grew = grew-nowhere first last ds (λ i c x e. none (suc i) c x e) grew
-
 -- a birth in a history, as found in it
 pub born-at : (root : RootId) (r : RegionId) (ds : List Did) → WasBorn root r ds
-    → (i : ℕ) × (x : RegionId) × (slice_get ds i ≡ Some (Birth root x)) × (NoGrowth ds → x ≡ r)
+    → (i : ℕ) × (x : RegionId) × (slice_get ds i ≡ Some (Birth root x))
 born-at root r [] b = absurd b
-born-at root r (d ∷ ds) (inl b) = (
-  0,
-  b.0,
-  ap (λ x. Some x) b.1,
-  λ none. grew-nowhere b.0 r ds (λ i c x e. none (suc i) c x e) b.2,
-)
-born-at root r (d ∷ ds) (inr b) =
-    let k = born-at root r ds b in (suc k.0, k.1, k.2, λ none. k.3 (λ i c x e. none (suc i) c x e))
+born-at root r (d ∷ ds) (inl b) = (0, b.0, ap (λ x. Some x) b.1)
+born-at root r (d ∷ ds) (inr b) = let k = born-at root r ds b in (suc k.0, k.1, k.2)
 
 -- what no root place knows
 abbrev pub MovesElse : Did → Type 0
@@ -296,20 +280,15 @@ module _ (place : ℕ) where
       let g = take-get j ds b.0 (Birth p.0.root b.1) b.2 in
       ap (λ x. x.place) (sym p.2) ∙ birth-place ds t b.0 p.0.root b.1 e g.0
 
-  -- where no root grows, an end takes out what was born before it
-  pub end-born : (ds : List Did) (t : RootPlace) (j : ℕ) (root : RootId) → NoGrowth ds → place_after place ds ≡ Some t
-      → slice_get ds j ≡ Some (End root) →
-      (m : RootPlace) × (p : Present) × (i : ℕ) × (place_after place (take j ds) ≡ Some m) × (m.present ≡ Some p)
-      × (p.root ≡ root) × (slice_get ds i ≡ Some (Birth root p.region)) × (i < j)
-  end-born ds t j root none e is =
-      let s : (m : RootPlace) × (n : RootPlace) × (after (place_step place) new_place (take j ds) ≡ Some m)
-      × (place_step place m (End root) ≡ Some n) = step-at (place_step place) ds new_place t j (End root) e is in
-      let p : (p : Present) × (s.0.present ≡ Some p) × (p.root ≡ root) = end-present place s.0 s.1 root s.3 in
+  -- a root that ends was born before
+  pub end-birth : (ds : List Did) (t : RootPlace) (j : ℕ) (root : RootId) → place_after place ds ≡ Some t
+      → slice_get ds j ≡ Some (End root) → (i : ℕ) × (x : RegionId) × (slice_get ds i ≡ Some (Birth root x)) × (i < j)
+  end-birth ds t j root e is =
+      let s = step-at (place_step place) ds new_place t j (End root) e is in
+      let p = end-present place s.0 s.1 root s.3 in
       let b = born-at p.0.root p.0.region (take j ds) (was-born place (take j ds) s.0 p.0 s.2 p.1) in
-      let region : b.1 ≡ p.0.region =
-      b.3 (λ i c x e. none i c x (take-get j ds i (Grow c x) e).0) in
-      let g : (slice_get ds b.0 ≡ Some (Birth p.0.root b.1)) × (b.0 < j) = take-get j ds b.0 (Birth p.0.root b.1) b.2 in
-      (s.0, p.0, b.0, s.2, p.1, p.2, g.0 ∙ (λ i. Some (Birth (p.2 i) (region i))), g.1)
+      let g = take-get j ds b.0 (Birth p.0.root b.1) b.2 in
+      (b.0, b.1, g.0 ∙ ap (λ q. Some (Birth q b.1)) p.2, g.1)
 
   pub place-placed : (ds : List Did) (t : RootPlace) (j : ℕ) (d : Did) → place_after place ds ≡ Some t
       → slice_get ds j ≡ Some d → IsPlaced (Object.Root place) d

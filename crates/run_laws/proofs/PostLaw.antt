@@ -5,7 +5,7 @@ use Rattle.pool_law.specs.declared.id.RegionId.{RegionId}
 use Rattle.pool_law.specs.declared.command.Command.{Command}
 use Rattle.pool_law.specs.declared.note.Object.{Object}
 use Rattle.pool_law.specs.declared.note.Did.{Did}
-use Rattle.pool_law.specs.declared.note.Did.TheVariants.{Post, Give, Shed, Trim, Close, Birth, End}
+use Rattle.pool_law.specs.declared.note.Did.TheVariants.{Post, Give, Shed, Trim, Close, Birth, Grow, End}
 use Rattle.pool_law.specs.declared.note.Note.{Note}
 use Rattle.pool_law.specs.declared.note.Note.TheVariants.{At}
 use Rattle.pool_law.specs.declared.run.Shape.{Shape}
@@ -47,6 +47,7 @@ strays-less lanes =
     record {
       other = other;
       birth = λ o k root r. omega (arith, none-strays lanes o k (Birth root r) (λ x. x));
+      growth = λ o k c r. omega (arith, none-strays lanes o k (Grow c r) (λ x. x));
       end = λ o k root. omega (arith, none-strays lanes o k (End root) (λ x. x));
       shed =
           λ o p k l r may. omega (

@@ -1,6 +1,6 @@
 -- Reads alone are answered with bytes, and a read that is not refused lies in what its name is bound to.
 use Rattle.std.proofs.Common.{⊎_elim, ◌≡◌, ℕ, ◌-◌, List, [], ◌∷◌, ◌++◌, length, subst, Bool, true, false, Some, None, Ok, Err}
-use Rattle.std.specs.Prelude.{◌==◌, not, map, if◌then◌else◌, Option, Result}
+use Rattle.std.specs.Prelude.{◌==◌, not, nat_le, map, if◌then◌else◌, Option, Result}
 use Rattle.std.proofs.lemmas.Bool.{cond_both}
 use Rattle.pool_law.specs.declared.id.ViewData.{ViewData}
 use Rattle.pool_law.specs.declared.id.RootId.{RootId}
@@ -11,14 +11,15 @@ use Rattle.pool_law.specs.declared.run.Shape.{Shape}
 use Rattle.pool_law.specs.declared.run.Reply.{Reply}
 use Rattle.size_classes.specs.Sizes.{class_of}
 use Rattle.pool_law.specs.Limits.{geometry_of}
+use Rattle.pool_law.specs.Options.{check}
 use Rattle.pool_law.specs.Dids as says
 use Rattle.pool_law.specs.Readers.{Log, give, given, note, step, busy, access, ◌>>=◌, ◌>>◌, nothing}
 use Rattle.pool_law.specs.Composites.{Composite, size_of, filled, is_crowded, moved_to}
 use Rattle.pool_law.specs.Names.{Bound, Plain, Composed, Names, bind, passes, writer_of, parts_at}
 use Rattle.pool_law.specs.LaneStates.{LaneState, named, view_named, composite_from, composite_with}
 use Rattle.pool_law.specs.Refusals.{Refusal, first_refusal, unbound, taken, composite, illegal, too_long, refusals}
-use Rattle.pool_law.specs.Patterns.{New, obtain, one_more, bear, with_handle, allot, end_of, release}
-use Rattle.pool_law.specs.Lanes.{Answer, answer, parcel_of, set_parts, copy_parts, release_parts, copied_to, consolidate, composed, allotted, received, set_at, retain_of, release_of, count_in, carried_out}
+use Rattle.pool_law.specs.Patterns.{New, obtain, one_more, bear, with_handle, allot, put_away, end_of, release, found_room, grown, grow_with, regrow}
+use Rattle.pool_law.specs.Lanes.{Answer, answer, parcel_of, set_parts, copy_parts, release_parts, copied_to, consolidate, composed, allotted, regrown, received, set_at, retain_of, release_of, count_in, carried_out}
 use Rattle.arena_law.specs.Slots.{EachOf}
 use Rattle.run_laws.proofs.Readings.{bind-some, or-some}
 
@@ -93,6 +94,7 @@ refusals-quiet shape s (Command.Compose new vs) =
     (tt, each-map (composite s) (λ n. tt) vs)) (each-map (illegal s) (λ n. tt) vs))
     (tt, tt)
 refusals-quiet shape s (Command.Add c v) = (tt, (tt, (tt, (tt, (tt, (tt, (tt, tt)))))))
+refusals-quiet shape s (Command.Capacity v n) = (tt, (tt, (tt, (tt, tt))))
 
 -- ---- Answers.
 
@@ -134,6 +136,31 @@ allot-quiet shape lane size log p is =
     bear-quiet lane x.0.0 size z.0.0 z.0.1 p z.2)
     (or-some ((note (Object.Bin lane) says.no_handle >> give (Err Reply.Handles)) log)
     ((note (Object.Bin lane) says.handle >>= with_handle shape lane size) log) p is)
+
+grow_with-quiet : (root : RootId) (size : ℕ) (o : Option RegionId) (log : Log) (p : Result ℕ Reply × Log)
+    → grow_with root size o log ≡ Some p → QuietErr p.0
+grow_with-quiet root size None log p is = result-give (Err Reply.Full) log p tt is
+grow_with-quiet root size (Some region) log p is =
+    let x = bind-some (grown root size region log) _ p is in
+    let y = bind-some (given (check (nat_le size x.0.0.capacity)) x.0.1) _ p x.2 in
+    let z = bind-some (put_away x.0.0.spare y.0.1) _ p y.2 in
+    result-give (Ok x.0.0.capacity) z.0.1 p tt z.2
+
+regrow-quiet : (shape : Shape) (lane : ℕ) (root : RootId) (size : ℕ) (log : Log) (p : Result ℕ Reply × Log)
+    → regrow shape lane root size log ≡ Some p → QuietErr p.0
+regrow-quiet shape lane root size log p is =
+    let x = bind-some (found_room root size log) _ p is in
+    let y = bind-some (given (class_of (geometry_of shape) size) x.0.1) _ p x.2 in
+    cond_both (nat_le size x.0.0) (give (Ok x.0.0)) (obtain shape lane y.0.0 >>= grow_with root size)
+    (λ r. r y.0.1 ≡ Some p → QuietErr p.0)
+    (λ _ e. result-give (Ok x.0.0) y.0.1 p tt e)
+    (λ _ e. let z = bind-some (obtain shape lane y.0.0 y.0.1) _ p e in
+    grow_with-quiet root size z.0.0 z.0.1 p z.2) y.2
+
+regrown-quiet : (s : LaneState) (name : ℕ) (v : ViewData) (r : Result ℕ Reply) (log : Log) (p : Answer × Log)
+    → QuietErr r → give (regrown s name v r) log ≡ Some p → NoBytes p.0.reply
+regrown-quiet s name v (Err reply) log p quiet is = quiet-give reply s.names log p quiet is
+regrown-quiet s name v (Ok capacity) log p quiet is = quiet-give (Reply.OkNumber capacity) _ log p tt is
 
 copied-quiet : (shape : Shape) (c : Composite) (r : Result New Reply) → QuietErr r
     → (log : Log) (p : Result Composite Reply × Log) → copied_to shape c r log ≡ Some p → QuietErr p.0
@@ -269,3 +296,7 @@ other-quiet shape lane s (Command.Add c v) other log p is =
     let x = bind-some (given (composite_with s c v) log) _ p is in
     let y = bind-some (consolidate shape lane x.0.0 x.0.1) _ p x.2 in
     composed-quiet s c y.0.0 y.0.1 p (consolidate-quiet shape lane x.0.0 x.0.1 y.0 y.1) y.2
+other-quiet shape lane s (Command.Capacity v n) other log p is =
+    let x = bind-some (given (view_named s v) log) _ p is in
+    let y = bind-some (regrow shape lane x.0.0.root n x.0.1) _ p x.2 in
+    regrown-quiet s v x.0.0 y.0.0 y.0.1 p (regrow-quiet shape lane x.0.0.root n x.0.1 y.0 y.1) y.2

@@ -3,12 +3,12 @@ use Rattle.std.proofs.Common.{⊎_elim, ◌≡◌, ℕ, suc, List, [], ◌∷◌
 use Rattle.std.specs.Prelude.{◌<◌, map}
 use Rattle.pool_law.specs.declared.run.Run.{Run}
 use Rattle.pool_law.specs.declared.note.Object.{Object}
-use Rattle.pool_law.specs.Histories.{arena_after, cache_after}
+use Rattle.pool_law.specs.Histories.{cache_after}
 use Rattle.pool_law.specs.Logs.{of_lane, dids, history_of, entry_of, entries_of}
 use Rattle.pool_law.specs.Legal.{IsLegal, logs_of, replies_of}
 use Rattle.pool_law.specs.Lives.{RegionsLive}
 use Rattle.pool_law.specs.Apart.{LieApart, NeverOverlap}
-use Rattle.run_laws.specs.Conserved.{CachesEndEmpty, RegionsReturn, OutAtEnd}
+use Rattle.run_laws.specs.Conserved.{CachesEndEmpty}
 use Rattle.run_laws.proofs.Sums.{below-or}
 use Rattle.run_laws.proofs.PagedHistories.{paged}
 use Rattle.run_laws.proofs.Placed.{is-some}
@@ -17,10 +17,7 @@ use Rattle.run_laws.proofs.LaneActs.{AnyNote, any-acts}
 use Rattle.run_laws.proofs.LogParts.{Parts, log-parts}
 use Rattle.run_laws.proofs.LogEntries.{LanesAct, entries-at, log-past}
 use Rattle.run_laws.proofs.LifeChain as chain
-use Rattle.run_laws.proofs.BirthLives as old
-use Rattle.run_laws.proofs.AllLives.{regions-so}
-use Rattle.run_laws.proofs.AllUses.{born, apart-so, overlap-so}
-use Rattle.run_laws.proofs.UseReturns.{returns-so, out-so}
+use Rattle.run_laws.proofs.Births.{used-born}
 use Rattle.run_laws.proofs.OverlapLaw.{never-overlap}
 use Rattle.run_laws.proofs.ApartLaw.{apart}
 use Rattle.run_laws.specs.Parcels.{PostsWithin, TotalsAreShared}
@@ -29,7 +26,6 @@ use Rattle.run_laws.proofs.PostLaw.{strays, log-near, posts-within}
 use Rattle.run_laws.proofs.EndLaw.{cache-empty, birth-counts}
 use Rattle.run_laws.specs.OneLog.{StandInOneLog}
 use Rattle.run_laws.proofs.OneLogLaw.{stand-in_one_log}
-use Rattle.run_laws.proofs.OutLaw.{out-at_end}
 
 pub map-length : {X Y : Type 0} (f : X → Y) (xs : List X) → length (map f xs) ≡ length xs
 map-length f [] = refl
@@ -48,9 +44,6 @@ acts-of run legal lane =
     (log-past (logs_of run) lane (omega (arith, map-length (λ l. l.notes) run.logs, legal.logs, high)))))
     (below-or lane run.shape.lanes)
 
-pub births-apart : (run : Run) → IsLegal run → old.LieApart (logs_of run)
-births-apart run legal = apart run.shape (logs_of run) (paged run legal) (acts-of run legal)
-
 pub logs-length : (run : Run) → IsLegal run → length (logs_of run) ≡ run.shape.lanes
 logs-length run legal = omega (arith, map-length (λ l. l.notes) run.logs, legal.logs)
 
@@ -64,8 +57,7 @@ parts-of run legal lane low =
 
 pub regions-apart : (run : Run) → IsLegal run → LieApart (logs_of run)
 regions-apart run legal =
-    apart-so run.shape (logs_of run) (paged run legal) (acts-of run legal) (parts-of run legal) legal.counts
-    (births-apart run legal)
+    apart run.shape (logs_of run) (paged run legal) (acts-of run legal)
 
 pub caches-end_empty : (run : Run) → IsLegal run → CachesEndEmpty run.shape (logs_of run)
 caches-end_empty run legal lane class low cached =
@@ -76,25 +68,6 @@ caches-end_empty run legal lane class low cached =
         ends.1,
         cache-empty run.shape (logs_of run) (paged run legal) (acts-of run legal) (parts-of run legal)
             lane class ends.0 (omega (arith, low, logs-length run legal)) cached ends.1,
-      ),
-    )
-
-pub regions-return : (run : Run) → IsLegal run → RegionsReturn (logs_of run)
-regions-return run legal root region used =
-    returns-so run.shape (logs_of run) (paged run legal) (acts-of run legal) (parts-of run legal) legal.counts root
-    region used
-
-pub arenas-end : (run : Run) → IsLegal run → OutAtEnd run.shape (logs_of run)
-arenas-end run legal number =
-    let ends = is-some (arena_after run.shape number (dids (history_of (Object.Arena number) (logs_of run))))
-    (legal.histories.accepted (Object.Arena number) refl) in (
-      ends.0,
-      (
-        ends.1,
-        out-so run.shape (logs_of run) (paged run legal) (acts-of run legal) (parts-of run legal) legal.counts number
-            ends.0
-            (out-at_end run.shape (logs_of run) (paged run legal) (acts-of run legal) (parts-of run legal)
-            legal.counts number ends.0 ends.1),
       ),
     )
 
@@ -110,27 +83,16 @@ pub totals-are_shared : (run : Run) → IsLegal run → TotalsAreShared (logs_of
 totals-are_shared run legal root region used =
     total-shared run.shape (logs_of run) legal.histories.stand legal.histories.mails root run.shape.lanes
     (omega (arith, logs-length run legal)) (posts-are_near run legal) legal.counts
-    (birth-counts run.shape (logs_of run) (paged run legal) (acts-of run legal) (parts-of run legal) root region
-    (born run.shape (logs_of run) (paged run legal) (acts-of run legal) (parts-of run legal) legal.counts root region
-    used))
+    (let b = used-born run.shape (logs_of run) (paged run legal) (acts-of run legal) root region used in
+    birth-counts run.shape (logs_of run) (paged run legal) (acts-of run legal) (parts-of run legal) root b.0 b.1)
 
 pub roots-in_one_log : (run : Run) → IsLegal run → StandInOneLog (logs_of run)
 roots-in_one_log run legal =
     stand-in_one_log run.shape (logs_of run) (paged run legal) (acts-of run legal) (parts-of run legal) legal.counts
 
-pub births-live : (run : Run) → IsLegal run → old.RegionsLive (logs_of run)
-births-live run legal =
-    chain.regions-live run.shape (logs_of run) (paged run legal) (acts-of run legal) (parts-of run legal) legal.counts
-
 pub regions-live : (run : Run) → IsLegal run → RegionsLive (logs_of run)
 regions-live run legal =
-    regions-so run.shape (logs_of run) (paged run legal) (acts-of run legal) (parts-of run legal) legal.counts
-    (births-live run legal)
-
-pub births-never_overlap : (run : Run) → IsLegal run → old.NeverOverlap (logs_of run)
-births-never_overlap run legal = never-overlap (logs_of run) (births-live run legal) (births-apart run legal)
+    chain.regions-live run.shape (logs_of run) (paged run legal) (acts-of run legal) (parts-of run legal)
 
 pub roots-never_overlap : (run : Run) → IsLegal run → NeverOverlap (logs_of run)
-roots-never_overlap run legal =
-    overlap-so run.shape (logs_of run) (paged run legal) (acts-of run legal) (parts-of run legal) legal.counts
-    (births-never_overlap run legal)
+roots-never_overlap run legal = never-overlap (logs_of run) (regions-live run legal) (regions-apart run legal)

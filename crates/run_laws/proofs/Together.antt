@@ -1,33 +1,22 @@
--- What stands together in a lane's log: the notes of a birth, and those of an end.
-use Rattle.std.proofs.Common.{inl, inr, ◌≡◌, ℕ, zero, suc, ◌+◌, ◌≤◌, [], ◌∷◌, refl, sym, ap, subst, arith, Some, None, ◌∙◌}
-use Rattle.std.specs.Prelude.{◌⊎◌, ◌<◌, map, Option, slice_get}
+-- What stands together in a lane's log: the notes of a birth, those of an end, and a growth with what puts the
+-- region away that the root leaves.
+use Rattle.std.proofs.Common.{◌≡◌, ℕ, zero, suc, ◌+◌, ◌≤◌, [], ◌∷◌, refl, sym, ap, subst, arith, Some, None, ◌∙◌}
+use Rattle.std.specs.Prelude.{◌<◌, map, Option, slice_get}
 use Rattle.pool_law.specs.declared.id.RootId.{RootId}
 use Rattle.pool_law.specs.declared.id.RegionId.{RegionId}
 use Rattle.pool_law.specs.declared.note.Object.{Object}
 use Rattle.pool_law.specs.declared.note.Did.{Did}
-use Rattle.pool_law.specs.declared.note.Did.TheVariants.{Take, Give, Hit, Kept, Shed, Birth, End}
+use Rattle.pool_law.specs.declared.note.Did.TheVariants.{Take, Give, Hit, Kept, Birth, Grow, End}
 use Rattle.pool_law.specs.declared.note.RefDid.{RefDid}
 use Rattle.pool_law.specs.declared.note.Note.{Note}
 use Rattle.pool_law.specs.declared.note.Note.TheVariants.{At, Ref, Busy}
 use Rattle.pool_law.specs.Logs.{Logs, Entry, of_lane, entry_of}
 use Rattle.pool_law.specs.Readers.{Entries}
 use Rattle.pool_law.specs.Patterns.{one_more}
-use Rattle.run_laws.specs.Hands.{Source, Got, Ended, Dropped}
-use Rattle.run_laws.proofs.Acts.{Gets, PutsAway, IsQuiet, AreQuiet, Birthing, Ending, Act, before, act_notes, Acts, Within, entry-within}
+use Rattle.run_laws.proofs.Acts.{Gets, PutsAway, IsQuiet, AreQuiet, IsAt, Birthing, Growing, Sparing, Ending, Act, before, act_notes, Acts}
+use Rattle.run_laws.proofs.ActPlaces.{Within, entry-within}
 use Rattle.run_laws.proofs.LaneActs.{AnyNote}
 use Rattle.run_laws.proofs.LogEntries.{entry-note, get-map, map-get}
-
--- what was done gave this region
-abbrev pub Fills : Source → RegionId → Option RegionId → Did → Type 0
-Fills Got y t d = (d ≡ Hit y) ⊎ ((c : ℕ) × (d ≡ Take c y))
-Fills Ended y t d = (root : RootId) × (d ≡ End root) × (t ≡ Some y)
-Fills Dropped y t d = d ≡ Shed y
-
--- before this place of the log a note gave the region
-abbrev pub FilledAt : Logs → ℕ → ℕ → Source → RegionId → Type 0
-FilledAt logs lane i from y =
-    (j : ℕ) × (o : Object) × (k : ℕ) × (d : Did) × (slice_get (of_lane logs lane) j ≡ Some (At o k d)) × (j < i)
-    × Fills from y (entry_of logs (At o k d)).region d
 
 pub record BirthHere (logs : Logs) (lane : ℕ) (root : RootId) : Type 0 where
   pub region : RegionId
@@ -61,24 +50,33 @@ pub record EndHere (logs : Logs) (lane : ℕ) (root : RootId) : Type 0 where
   pub after_vacated : vacated < away
   pub near : away ≤ ended + 4
 
+-- soon behind a growth at this place of the log a region is put away
+pub record GrowthHere (logs : Logs) (lane at : ℕ) : Type 0 where
+  pub left : RegionId
+  pub away : ℕ
+  pub did : Did
+  pub away_object : Object
+  pub away_number : ℕ
+  pub away_is : slice_get (of_lane logs lane) away ≡ Some (At away_object away_number did)
+  pub puts_away : PutsAway left did
+  pub after_growth : at < away
+  pub near : away ≤ at + 2
+
 -- what stands in the log with this note at this place
 abbrev pub Together : Logs → ℕ → ℕ → Note → Type 0
-Together logs lane i (At o k (Birth root x)) =
-    BirthHere logs lane root × ((y : RegionId) × (x ≡ one_more y) × FilledAt logs lane i Got y)
+Together logs lane i (At o k (Birth root x)) = BirthHere logs lane root × ((y : RegionId) × (x ≡ one_more y))
+Together logs lane i (At o k (Grow c x)) = GrowthHere logs lane i
 Together logs lane i (Ref root RefDid.Born) = BirthHere logs lane root
 Together logs lane i (Ref root RefDid.Ended) = EndHere logs lane root
 Together logs lane i (At o k (End root)) = EndHere logs lane root
 Together logs lane i (Ref root RefDid.Vacated) = EndHere logs lane root
-Together logs lane i (At o k (Kept x)) = FilledAt logs lane i Ended x
-Together logs lane i (At o k (Give x)) = FilledAt logs lane i Ended x ⊎ FilledAt logs lane i Dropped x
 Together logs lane i _ = Unit {0}
 
 module _ (logs : Logs) (lane : ℕ) where
   quiet-together : (i : ℕ) (n : Note) → IsQuiet AnyNote n → Together logs lane i n
   quiet-together i (At o k (Birth root r)) quiet = absurd quiet
+  quiet-together i (At o k (Grow c r)) quiet = absurd quiet
   quiet-together i (At o k (End root)) quiet = absurd quiet
-  quiet-together i (At o k (Kept r)) quiet = absurd quiet
-  quiet-together i (At o k (Give r)) quiet = absurd quiet
   quiet-together i (At o k _) quiet = tt
   quiet-together i (Ref root RefDid.Born) quiet = absurd quiet
   quiet-together i (Ref root RefDid.Ended) quiet = absurd quiet
@@ -91,16 +89,10 @@ module _ (logs : Logs) (lane : ℕ) where
   gets-together i k o r (Take c x) gets = tt
   gets-together i k o r _ gets = absurd gets
 
-  gets-fills : (r : RegionId) (t : Option RegionId) (d : Did) → Gets r d → Fills Got r t d
-  gets-fills r t (Hit x) gets = inl (ap Hit gets)
-  gets-fills r t (Take c x) gets = inr (c, ap (Take c) gets)
-  gets-fills r t _ gets = absurd gets
-
-  away-together : (i k : ℕ) (o : Object) (r : RegionId) (d : Did) → PutsAway r d → FilledAt logs lane i Ended r
-      → Together logs lane i (At o k d)
-  away-together i k o r (Kept x) puts filled = subst (FilledAt logs lane i Ended) (sym puts.0) filled
-  away-together i k o r (Give x) puts filled = inl (subst (FilledAt logs lane i Ended) (sym puts) filled)
-  away-together i k o r _ puts filled = absurd puts
+  away-together : (i k : ℕ) (o : Object) (r : RegionId) (d : Did) → PutsAway r d → Together logs lane i (At o k d)
+  away-together i k o r (Kept x) puts = tt
+  away-together i k o r (Give x) puts = tt
+  away-together i k o r _ puts = absurd puts
 
   abbrev pub log_entries : Entries
   log_entries = map (entry_of logs) (of_lane logs lane)
@@ -115,6 +107,32 @@ module _ (logs : Logs) (lane : ℕ) where
   -- the entries of an act at their places
   module _ (e : Entry) (place : ℕ → ℕ) (rises : (j l : ℕ) → j < l → place j < place l)
       (in_row : (j : ℕ) → place j ≡ place 0 + j) where
+    -- what gets a region stands alone, as do a refusal and what puts a region away
+    got-together : (n : ℕ) (got : Entry) (r : RegionId) (d : Did) → IsAt d got.note → Gets r d → got ≡ e
+        → Together logs lane n e.note
+    got-together n got r d at gets same =
+        subst (λ x. Together logs lane n x.note) same
+        (subst (Together logs lane n) (sym at.is) (gets-together n at.number at.object r d gets))
+
+    still-together : (n : ℕ) (x : Entry) → IsQuiet AnyNote x.note → x ≡ e → Together logs lane n e.note
+    still-together n x quiet same =
+        subst (λ y. Together logs lane n y.note) same (quiet-together n x.note quiet)
+
+    put-together : (n : ℕ) (away : Entry) (r : RegionId) (d : Did) → IsAt d away.note → PutsAway r d → away ≡ e
+        → Together logs lane n e.note
+    put-together n away r d at puts same =
+        subst (λ y. Together logs lane n y.note) same
+        (subst (Together logs lane n) (sym at.is) (away-together n at.number at.object r d puts))
+
+    tail-together : (n : ℕ) (refused : Option Entry) (away : Entry) (r : RegionId) (d : Did)
+        → AreQuiet AnyNote refused → IsAt d away.note → PutsAway r d → (i : ℕ)
+        → slice_get (before refused (away ∷ [])) i ≡ Some e → Together logs lane n e.note
+    tail-together n None away r d quiet at puts zero is = put-together n away r d at puts (cc is)
+    tail-together n None away r d quiet at puts (suc i) is = absurd (cc is)
+    tail-together n (Some x) away r d quiet at puts zero is = still-together n x quiet (cc is)
+    tail-together n (Some x) away r d quiet at puts (suc zero) is = put-together n away r d at puts (cc is)
+    tail-together n (Some x) away r d quiet at puts (suc (suc i)) is = absurd (cc is)
+
     births-together : (got birth set : Entry) → Birthing got birth set
         → ((j : ℕ) (x : Entry) → slice_get (got ∷ birth ∷ set ∷ []) j ≡ Some x
         → slice_get log_entries (place j) ≡ Some x) →
@@ -136,33 +154,68 @@ module _ (logs : Logs) (lane : ℕ) where
               order = rises 1 2 (omega arith);
             }
 
-        filled : FilledAt logs lane (place 1) Got b.region
-        filled = (
-          place 0,
-          b.got_is.object,
-          b.got_is.number,
-          b.did,
-          (note-at (place 0) got (At b.got_is.object b.got_is.number b.did) (there 0 got refl) b.got_is.is).0,
-          rises 0 1 (omega arith),
-          gets-fills b.region
-              (entry_of logs (At b.got_is.object b.got_is.number b.did)).region b.did b.gets,
-        )
-
         go : (m : ℕ) → slice_get (got ∷ birth ∷ set ∷ []) m ≡ Some e → Together logs lane (place m) e.note
-        go zero is =
-            let same : e.note ≡ At b.got_is.object b.got_is.number b.did =
-            ap (λ x. x.note) (let x : e ≡ got = sym (cc is) in x) ∙ b.got_is.is in
-            subst (Together logs lane (place 0)) (sym same)
-            (gets-together (place 0) b.got_is.number b.got_is.object b.region b.did b.gets)
+        go zero is = got-together (place 0) got b.region b.did b.got_is b.gets (cc is)
         go (suc zero) is =
             let same : birth ≡ e = cc is in
             subst (λ x. Together logs lane (place 1) x.note) same
-            (subst (Together logs lane (place 1)) (sym b.birth_is.is) (here, (b.region, refl, filled)))
+            (subst (Together logs lane (place 1)) (sym b.birth_is.is) (here, (b.region, refl)))
         go (suc (suc zero)) is =
             let same : set ≡ e = cc is in
             subst (λ x. Together logs lane (place 2) x.note) same
             (subst (Together logs lane (place 2)) (sym b.set_is) here)
         go (suc (suc (suc i))) is = absurd (cc is)
+
+    grows-together : (got growth : Entry) (refused : Option Entry) (away : Entry) → AreQuiet AnyNote refused
+        → Growing got growth away →
+        ((j : ℕ) (x : Entry) → slice_get (got ∷ growth ∷ before refused (away ∷ [])) j ≡ Some x
+        → slice_get log_entries (place j) ≡ Some x) →
+        (m : ℕ) → slice_get (got ∷ growth ∷ before refused (away ∷ [])) m ≡ Some e
+        → Together logs lane (place m) e.note
+    grows-together got growth refused away quiet g there = go
+      where
+        last : (o : Option Entry) → (l : ℕ) × (1 < l)
+            × (slice_get (got ∷ growth ∷ before o (away ∷ [])) l ≡ Some away) × (l ≤ 3)
+        last None = (2, omega arith, refl, omega arith)
+        last (Some r) = (3, omega arith, refl, omega arith)
+
+        here : GrowthHere logs lane (place 1)
+        here =
+            let l = last refused in
+            record {
+              left = g.left;
+              away = place l.0;
+              did = g.did;
+              away_object = g.away_is.object;
+              away_number = g.away_is.number;
+              away_is =
+                  (note-at (place l.0) away (At g.away_is.object g.away_is.number g.did) (there l.0 away l.2)
+                  g.away_is.is).0;
+              puts_away = g.puts_away;
+              after_growth = rises 1 l.0 l.1;
+              near = omega (arith, in_row l.0, in_row 1, l.3);
+            }
+
+        go : (m : ℕ) → slice_get (got ∷ growth ∷ before refused (away ∷ [])) m ≡ Some e
+            → Together logs lane (place m) e.note
+        go zero is = got-together (place 0) got g.region g.got_did g.got_is g.gets (cc is)
+        go (suc zero) is =
+            let same : growth ≡ e = cc is in
+            subst (λ y. Together logs lane (place 1) y.note) same
+            (subst (Together logs lane (place 1)) (sym g.growth_is.is) here)
+        go (suc (suc i)) is =
+            tail-together (place (suc (suc i))) refused away g.left g.did quiet g.away_is g.puts_away i is
+
+    spares-together : (got found : Entry) (refused : Option Entry) (away : Entry) → IsQuiet AnyNote found.note
+        → AreQuiet AnyNote refused → Sparing got away →
+        (m : ℕ) → slice_get (got ∷ found ∷ before refused (away ∷ [])) m ≡ Some e
+        → Together logs lane (place m) e.note
+    spares-together got found refused away still quiet s zero is =
+        got-together (place 0) got s.region s.got_did s.got_is s.gets (cc is)
+    spares-together got found refused away still quiet s (suc zero) is =
+        still-together (place 1) found still (cc is)
+    spares-together got found refused away still quiet s (suc (suc i)) is =
+        tail-together (place (suc (suc i))) refused away s.region s.did quiet s.away_is s.puts_away i is
 
     ends-together : (ended end vacated : Entry) (refused : Option Entry) (away : Entry) → AreQuiet AnyNote refused
         → Ending ended end vacated away →
@@ -210,30 +263,6 @@ module _ (logs : Logs) (lane : ℕ) where
               near = omega (arith, in_row l.0, l.3);
             }
 
-        put : (l : ℕ) → 1 < l → away ≡ e → Together logs lane (place l) e.note
-        put l after same =
-            subst (λ y. Together logs lane (place l) y.note) same
-            (subst (Together logs lane (place l)) (sym x.away_is.is)
-            (away-together (place l) x.away_is.number x.away_is.object x.region x.did x.puts_away (
-              place 1,
-              x.end_is.object,
-              x.end_is.number,
-              End x.root,
-              n.0,
-              rises 1 l after,
-              (x.root, refl, ap (λ y. y.region) (sym n.1) ∙ x.out),
-            )))
-
-        rest : (o : Option Entry) → AreQuiet AnyNote o → (i : ℕ) → slice_get (before o (away ∷ [])) i ≡ Some e
-            → Together logs lane (place (suc (suc (suc i)))) e.note
-        rest None q zero is = put 3 (omega arith) (cc is)
-        rest None q (suc i) is = absurd (cc is)
-        rest (Some r) q zero is =
-            let same : r ≡ e = cc is in
-            subst (λ y. Together logs lane (place 3) y.note) same (quiet-together (place 3) r.note q)
-        rest (Some r) q (suc zero) is = put 4 (omega arith) (cc is)
-        rest (Some r) q (suc (suc i)) is = absurd (cc is)
-
         go : (m : ℕ) → slice_get (ended ∷ end ∷ vacated ∷ before refused (away ∷ [])) m ≡ Some e
             → Together logs lane (place m) e.note
         go zero is =
@@ -248,16 +277,19 @@ module _ (logs : Logs) (lane : ℕ) where
             let same : vacated ≡ e = cc is in
             subst (λ y. Together logs lane (place 2) y.note) same
             (subst (Together logs lane (place 2)) (sym x.vacated_is) here)
-        go (suc (suc (suc i))) is = rest refused quiet i is
+        go (suc (suc (suc i))) is =
+            tail-together (place (suc (suc (suc i)))) refused away x.region x.did quiet x.away_is x.puts_away i is
 
     act-together : (a : Act AnyNote)
         → ((j : ℕ) (x : Entry) → slice_get (act_notes a) j ≡ Some x → slice_get log_entries (place j) ≡ Some x)
         → (m : ℕ) → slice_get (act_notes a) m ≡ Some e → Together logs lane (place m) e.note
-    act-together (Act.Quiet x quiet) there zero is =
-        let same : x ≡ e = cc is in
-        subst (λ y. Together logs lane (place 0) y.note) same (quiet-together (place 0) x.note quiet)
+    act-together (Act.Quiet x quiet) there zero is = still-together (place 0) x quiet (cc is)
     act-together (Act.Quiet x quiet) there (suc m) is = absurd (cc is)
     act-together (Act.Births got birth set b) there m is = births-together got birth set b there m is
+    act-together (Act.Grows got growth refused away quiet g) there m is =
+        grows-together got growth refused away quiet g there m is
+    act-together (Act.Spares got found refused away still quiet s) there m is =
+        spares-together got found refused away still quiet s m is
     act-together (Act.Ends ended end vacated refused away quiet x) there m is =
         ends-together ended end vacated refused away quiet x there m is
     act-together (Act.Sheds shed given x) there zero is =
@@ -266,21 +298,8 @@ module _ (logs : Logs) (lane : ℕ) where
         (subst (Together logs lane (place 0)) (sym x.shed_is.is) tt)
     act-together (Act.Sheds shed given x) there (suc zero) is =
         let same : given ≡ e = cc is in
-        let shed_at : slice_get (of_lane logs lane) (place 0)
-        ≡ Some (At x.shed_is.object x.shed_is.number (Shed x.region)) =
-        (note-at (place 0) shed (At x.shed_is.object x.shed_is.number (Shed x.region)) (there 0 shed refl)
-        x.shed_is.is).0 in
         subst (λ y. Together logs lane (place 1) y.note) same
-        (subst (Together logs lane (place 1)) (sym x.given_is.is)
-        (inr (
-          place 0,
-          x.shed_is.object,
-          x.shed_is.number,
-          Shed x.region,
-          shed_at,
-          rises 0 1 (omega arith),
-          refl,
-        )))
+        (subst (Together logs lane (place 1)) (sym x.given_is.is) tt)
     act-together (Act.Sheds shed given x) there (suc (suc m)) is = absurd (cc is)
 
   -- each note stands with the others of its act

@@ -1,5 +1,5 @@
 -- How often a lane gets, uses, ends, sheds, keeps and gives a region.
-use Rattle.std.specs.Prelude.{◌≡◌, ℕ, ◌+◌, [], ◌∷◌, Option, Some, None}
+use Rattle.std.specs.Prelude.{◌≡◌, ℕ, ◌+◌, ◌≤◌, [], ◌∷◌, Option, Some, None}
 use Rattle.pool_law.specs.declared.id.RegionId.{RegionId}
 use Rattle.pool_law.specs.declared.note.Did.{Did}
 use Rattle.pool_law.specs.declared.note.Did.TheVariants.{Take, Give, Hit, Kept, Shed, Birth, Grow, End}
@@ -53,8 +53,11 @@ abbrev pub given_by : RegionId → Tally
 given_by r taken (Give x) = one_of (same_region r x)
 given_by r taken _ = 0
 
--- in a lane's log: what is got is used once; what ends or is shed is kept or given once
+-- in a lane's log: what is got, ends or is shed is used, kept or given once
 pub record HandsBalance (r : RegionId) (es : Entries) : Type 0 where
-  pub used : tally (got_by r) es ≡ tally (used_by r) es
-  pub put_down : tally (ended_by r) es + tally (shed_by r) es
-      ≡ tally (kept_by r) es + tally (given_by r) es
+  pub through : tally (got_by r) es + (tally (ended_by r) es + tally (shed_by r) es)
+      ≡ tally (used_by r) es + (tally (kept_by r) es + tally (given_by r) es)
+  -- what is used was got
+  pub got : tally (used_by r) es ≤ tally (got_by r) es
+  -- what is shed is given
+  pub given : tally (shed_by r) es ≤ tally (given_by r) es

@@ -49,14 +49,15 @@ pub fn one_history()
         IsHistory object logs h → history_of object logs ≡ h }
 {}
 
-/// In a lane's log each region that is taken, hit, shed or ended is put down before the next: it is
-/// born with a root, kept or given.
+/// In a lane's log each region that is taken, hit, shed or left is put down before the next: a root is
+/// born with it or grows into it, or it is kept or given.
 pub fn hands_are_empty()
     ensures empty { (shape : Shape) (lane : ℕ) (commands : List Command) (replies : List Answered)
         (es : Entries) → IsLaneLog shape lane commands replies es → EmptyHanded es }
 {}
 
-/// In a lane's log what is got is used once, and what ends or is shed is kept or given once.
+/// In a lane's log what is got, left or shed is used, kept or given once; what is used was got, and what
+/// is shed is given.
 pub fn hands_balance()
     ensures balance { (r : RegionId) (es : Entries) → EmptyHanded es → HandsBalance r es }
 {}
@@ -74,19 +75,20 @@ pub fn sums_agree()
 {}
 
 /// In a legal run each taking lives one life: its Take, and all that moves it after that, in order.
-/// One root after another uses it, each with one use more; after each that ends, the arena gets it
-/// at once, or a cache keeps it, which is hit for the next root or sheds it for the arena.
+/// One root after another uses it, each with one use more, from its birth or its growth into the region
+/// to its end or its growth out of it. Then, or where a lane got it and was outrun, the arena gets it,
+/// or a cache keeps it, which is hit for the next use or sheds it for the arena.
 pub fn regions_live()
     ensures live { (run : Run) → IsLegal run → RegionsLive (logs_of run) }
 {}
 
-/// In a legal run two roots whose places overlap use one taking, or the taking of one came back
+/// In a legal run two uses whose places overlap are of one taking, or the taking of one came back
 /// before that of the other was taken.
 pub fn regions_lie_apart()
     ensures apart { (run : Run) → IsLegal run → LieApart (logs_of run) }
 {}
 
-/// In a legal run, of two roots whose places overlap one ended before the other was born.
+/// In a legal run, of two uses whose places overlap one ended before the other began.
 pub fn roots_never_overlap()
     ensures apart { (run : Run) → IsLegal run → NeverOverlap (logs_of run) }
 {}
@@ -103,15 +105,15 @@ pub fn caches_end_empty()
     ensures empty { (run : Run) → IsLegal run → CachesEndEmpty run.shape (logs_of run) }
 {}
 
-/// In a legal run the region of a root returns once, by the release that ends the root's count and
-/// within four notes behind it in its log, and otherwise never; which is exactly where the root's
-/// total is 0.
+/// In a legal run a region that a root uses returns once, by the growth that replaces it, within two
+/// notes, or by the release that ends the root's count, within four notes behind it in its log, and
+/// otherwise never; the last one returns exactly where the root's total is 0.
 pub fn regions_return()
     ensures returned { (run : Run) → IsLegal run → RegionsReturn (logs_of run) }
 {}
 
-/// In a legal run each arena comes to an end, and has out there exactly the regions of the live roots
-/// whose places name it.
+/// In a legal run each arena comes to an end, and has out there exactly the regions that live roots have
+/// then, whose places name it.
 pub fn live_regions_are_out()
     ensures out { (run : Run) → IsLegal run → OutAtEnd run.shape (logs_of run) }
 {}
@@ -124,9 +126,9 @@ pub fn totals_are_shared()
 
 /// The headline. In a legal run, whatever its trace, its lanes and their interleaving: regions of
 /// live roots never overlap; each read gives the bytes last written to its root, at its view's
-/// offsets; a root's region returns once, by the release that ends its count, and otherwise never;
-/// at the end exactly the live roots' regions are out, and the leak report lists exactly the
-/// sampled roots never freed.
+/// offsets; a root's region returns once, by the release that ends its count or the growth that
+/// replaces it, and otherwise never; at the end exactly the live roots' regions are out, and the leak
+/// report lists exactly the sampled roots never freed.
 pub fn headline()
     ensures headline { (run : Run) → IsLegal run → Headline run }
 {}

@@ -1,4 +1,4 @@
-use Rattle.run_laws.proofs.RunLaws.{arenas-end}
+use Rattle.run_laws.proofs.RunEnds.{arenas-end}
 use Rattle.run_laws.proofs.live_regions_are_out.Goals as goal
 
 pub returns : goal.returns

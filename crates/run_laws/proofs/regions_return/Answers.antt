@@ -1,4 +1,4 @@
-use Rattle.run_laws.proofs.RunLaws.{regions-return}
+use Rattle.run_laws.proofs.RunEnds.{regions-return}
 use Rattle.run_laws.proofs.regions_return.Goals as goal
 
 pub returns : goal.returns

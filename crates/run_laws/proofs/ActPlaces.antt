@@ -1,0 +1,81 @@
+-- Where an act stands in a log.
+use Rattle.std.proofs.Common.{⊎_elim, inl, inr, ◌≡◌, ℕ, zero, suc, ◌+◌, List, [], ◌∷◌, ◌++◌, length, refl, sym, ap, subst, arith, Some, ◌∙◌}
+use Rattle.std.specs.Prelude.{◌⊎◌, ◌<◌, slice_get}
+use Rattle.pool_law.specs.declared.note.Object.{Object}
+use Rattle.pool_law.specs.declared.note.Did.{Did}
+use Rattle.pool_law.specs.Logs.{Entry}
+use Rattle.pool_law.specs.Readers.{Entries}
+use Rattle.pool_law.proofs.HistoryLemmas.{append-nil}
+use Rattle.run_laws.proofs.Acts.{Act, act_notes, all_notes, Acts}
+
+pub get-front : {X : Type 0} (xs ys : List X) (j : ℕ) (x : X) → slice_get xs j ≡ Some x
+    → slice_get (xs ++ ys) j ≡ Some x
+get-front [] ys j x e = absurd (cc e)
+get-front (y ∷ xs) ys zero x e = e
+get-front (y ∷ xs) ys (suc j) x e = get-front xs ys j x e
+
+pub get-behind : {X : Type 0} (xs ys : List X) (j : ℕ) (x : X) → slice_get ys j ≡ Some x
+    → (m : ℕ) × (slice_get (xs ++ ys) m ≡ Some x)
+get-behind [] ys j x e = (j, e)
+get-behind (y ∷ xs) ys j x e = let r = get-behind xs ys j x e in (suc r.0, r.1)
+
+pub get-split : {X : Type 0} (xs ys : List X) (i : ℕ) (x : X) → slice_get (xs ++ ys) i ≡ Some x
+    → (slice_get xs i ≡ Some x) ⊎ ((m : ℕ) × (i ≡ length xs + m) × (slice_get ys m ≡ Some x))
+get-split [] ys i x e = inr (i, omega arith, e)
+get-split (y ∷ xs) ys zero x e = inl e
+get-split (y ∷ xs) ys (suc i) x e =
+    ⊎_elim (λ here. inl here) (λ m. inr (m.0, omega (arith, m.1), m.2)) (get-split xs ys i x e)
+
+module _ (P : Object → Did → Type 0) where
+  -- where an entry stands in an act, each of the act's entries does, in order
+  pub record Within (es : Entries) (i : ℕ) (e : Entry) : Type 0 where
+    pub act : Act P
+    pub index : ℕ
+    pub found : slice_get (act_notes act) index ≡ Some e
+    pub place : ℕ → ℕ
+    pub here : i ≡ place index
+    pub rises : (j l : ℕ) → j < l → place j < place l
+    pub in_row : (j : ℕ) → place j ≡ place 0 + j
+    pub there : (j : ℕ) (x : Entry) → slice_get (act_notes act) j ≡ Some x → slice_get es (place j) ≡ Some x
+
+  pub within-behind : (xs es : Entries) (i : ℕ) (e : Entry) → Within es i e → Within (xs ++ es) (length xs + i) e
+  within-behind [] es i e w = let same : i ≡ 0 + i = omega arith in subst (λ k. Within es k e) same w
+  within-behind (x ∷ xs) es i e w =
+      let r : Within (xs ++ es) (length xs + i) e = within-behind xs es i e w in
+      record {
+        act = r.act;
+        index = r.index;
+        found = r.found;
+        place = λ j. suc (r.place j);
+        here =
+            omega (arith, r.here);
+        rises =
+            λ j l h. omega (arith, r.rises j l h);
+        in_row = λ j. omega (arith, r.in_row j);
+        there = r.there;
+      }
+
+  pub entry-within : (es : Entries) (i : ℕ) (e : Entry) → Acts P es [] → slice_get es i ≡ Some e → Within es i e
+  entry-within es i e a is =
+      subst (λ xs. Within xs i e) (sym whole) (go a.acts i (ap (λ xs. slice_get xs i) (sym whole) ∙ is))
+    where
+      whole : es ≡ all_notes a.acts
+      whole = a.are ∙ append-nil (all_notes a.acts)
+
+      go : (acts : List (Act P)) (i : ℕ) → slice_get (all_notes acts) i ≡ Some e → Within (all_notes acts) i e
+      go [] i is = absurd (cc is)
+      go (x ∷ acts) i is =
+          ⊎_elim (λ inside. record {
+            act = x;
+            index = i;
+            found = inside;
+            place = λ j. j;
+            here = refl;
+            rises =
+                λ j l h. h;
+            in_row = λ j. omega arith;
+            there = get-front (act_notes x) (all_notes acts);
+          })
+          (λ later. subst (λ k. Within (act_notes x ++ all_notes acts) k e) (sym later.1)
+          (within-behind (act_notes x) (all_notes acts) later.0 e (go acts later.0 later.2)))
+          (get-split (act_notes x) (all_notes acts) i e is)
