@@ -1,16 +1,17 @@
 -- What a seat has after a note that it made: the counts, hands and rights that the next call asks.
-use Rattle.std.proofs.Common.{◌≡◌, ◌⊎◌, ℕ, ◌+◌, ◌<◌, ◌≤◌, Bool, cond, eqb, sym, refl, ap, ◌∙◌, subst, inl, inr, arith, eq-eqb, Some}
+use Rattle.std.proofs.Common.{◌≡◌, ◌⊎◌, ℕ, ◌+◌, ◌<◌, ◌≤◌, Bool, true, false, cond, eqb, sym, refl, ap, ◌∙◌, subst, inl, inr, arith, eq-eqb, Some}
 use Rattle.std.specs.Prelude.{◌&&◌, Option}
 use Rattle.pool_law.specs.declared.id.RootId.{RootId}
 use Rattle.pool_law.specs.declared.id.RegionId.{RegionId}
 use Rattle.pool_law.specs.declared.id.Parcel.{Parcel}
 use Rattle.pool_law.specs.declared.id.ViewData.{ViewData}
 use Rattle.pool_law.specs.declared.note.Did.{Did}
-use Rattle.pool_law.specs.declared.note.Did.TheVariants.{Take, Give, Hit, Kept, Shed, Handle, Fetch, Birth, End}
+use Rattle.pool_law.specs.declared.note.Did.TheVariants.{Take, Give, Hit, Kept, Shed, Handle, Fetch, Birth, Grow, End}
 use Rattle.pool_law.specs.declared.note.Noted.{Noted}
 use Rattle.pool_law.specs.declared.note.RefDid.{RefDid}
 use Rattle.pool_law.specs.declared.note.RefDid.TheVariants.{Born}
 use Rattle.pool_law.specs.declared.note.Object.{Object}
+use Rattle.pool_law.specs.Same.{same_taking}
 use Rattle.table_law.specs.NoteCounts.{is_root, is_taking, uses_in, did_handle, did_home, did_birth, did_birth_of, did_birth_as, did_end_of, view_of_root, did_fetch_of, did_post_of, arena_out, arena_in, cache_out, cache_in, weight_or, ended_region, place_in}
 use Rattle.table_law.proofs.Names.{same_taking-refl, same_root-refl}
 use Rattle.pool_table.specs.declared.views.Entry.{Entry}
@@ -22,7 +23,7 @@ use Rattle.pool_table.specs.Hands.{at_in, at_out, taken, put_down, grasped, laid
 use Rattle.pool_table.specs.Learned.{did_take_up}
 use Rattle.pool_table.proofs.Counts.{weigh_ref}
 use Rattle.pool_table.proofs.Weights.{weigh_entry}
-use Rattle.pool_table.proofs.Holdings.{takes_up, lays}
+use Rattle.pool_table.proofs.Holdings.{takes_up, lays, taking_key}
 
 -- a note takes the region up
 abbrev pub TakesUp : RegionId → Noted → Type 0
@@ -237,6 +238,45 @@ module _ (v : SeatView) (o : Object) (k : ℕ) (n : Noted) (t : ℕ) where
       let h : to_place (is_taking r) e ≡ is_taking r z = ap (place_in (is_taking r)) is in
       let f1 = f (is_taking r) in let f2 = f (uses_in r) in
       laid_down r (omega (arith, f1, a)) (g (is_taking r)) (g (uses_in r)) (omega (arith, f2, a, b, h)) has once
+
+  -- a region that isn't in hand is of another taking than one that is
+  apart : (r z : RegionId) → IsLaidDown r v → HasRegion z v → same_taking r z ≡ false
+  apart r z down has = by (same_taking r z) refl
+    where
+      by : (b : Bool) → same_taking r z ≡ b → b ≡ false
+      by false same = refl
+      by true same =
+          let key = taking_key v r z same has.taking in let none = down.taking in absurd (omega (arith, key, none))
+
+  -- the region that a root leaves that grows is in hand then
+  pub after_growing : (c : ℕ) (r z : RegionId) → n.did ≡ Grow c (record z { uses = z.uses + 1 }) → n.region ≡ Some r
+      → HasRegion z v → IsLaidDown r v → HasRegion r w
+  after_growing c r z is out has down =
+      let x : RegionId = record z { uses = z.uses + 1 } in let other = apart r z down has in
+      let own = its_own r in let o0 = own.0 in let o1 = own.1 in
+      let none : is_taking r x ≡ 0 = ap (λ (b : Bool). cond {A = ℕ} b 1 0) other in let unused : uses_in r x
+      ≡ 0 = ap (λ (b : Bool). cond {A = ℕ} b (z.uses + 1) 0) other in
+      let up : (u : RegionId → ℕ) → takes_up u e ≡ 0 + (0 + u r) =
+      (λ u i. arena_out u (is i) + (cache_out u (is i) + weight_or u (ended_region (is i) (out i)))) in
+      let down_by : (u : RegionId → ℕ) → lays u e ≡ 0 + (0 + u x) =
+      (λ u. ap (λ (d : Did). arena_in u d + (cache_in u d + place_in u d)) is) in
+      let into : to_place (is_taking r) e ≡ is_taking r x = ap (place_in (is_taking r)) is in
+      let a = weigh_entry (to_arena (is_taking r)) v e t in let b = weigh_entry (to_cache (is_taking r)) v e t in
+      let d = weigh_entry (to_place (is_taking r)) v e t in
+      let f = weigh_entry (from_arena (is_taking r)) v e t in let g = weigh_entry (from_cache (is_taking r)) v e t in
+      let h = weigh_entry (from_place (is_taking r)) v e t in
+      let a' = weigh_entry (to_arena (uses_in r)) v e t in let b' = weigh_entry (to_cache (uses_in r)) v e t in let d' =
+      weigh_entry (to_place (uses_in r)) v e t in
+      let f' = weigh_entry (from_arena (uses_in r)) v e t in let g' = weigh_entry (from_cache (uses_in r)) v e t in
+      let h' = weigh_entry (from_place (uses_in r)) v e t in
+      let u1 = up (is_taking r) in let u2 = up (uses_in r) in let l1 = down_by (is_taking r) in let l2 =
+      down_by (uses_in r) in
+      let k1 = down.taking in let k2 = down.uses in
+      record {
+        taking = omega (arith, a, b, d, f, g, h, u1, l1, none, o0, k1);
+        uses =
+            omega (arith, d, a', b', d', f', g', h', u2, l2, into, none, unused, o1, k2);
+      }
 
   -- a place stays in hand until it comes home, and no birth waits while none is noted
   pub hand_stays : (p : ℕ) → did_home p n.did ≡ 0 → InHand p v → InHand p w

@@ -265,7 +265,8 @@ module _ {H : Type 0} (stands : List ℕ → Setting → List Noted → H → Ty
       subst (λ (y : Layout × ℕ × Parcel). Splits (IsSound stands y.0) id v (sends_next y.1 y.2 v)
       (letter_beside y.1 y.2 v)) (λ i. (sym ke i, sym te i, sym pe i))
       (sends_allowed stands l v (next_letter to parcel v) out
-      (may.number ∙ ap (λ (o : Option ℕ). Some (lane_of o)) (sym may.number)) may.receiver may.counts refl id)
+      (may.number ∙ ap (λ (o : Option ℕ). Some (lane_of o)) (sym may.number)) may.receiver may.counts may.reaches
+      refl id)
 
   pub receives_as : (id other : ℕ) (v w : SeatView) → v.inside ≡ None → MayReceive v w
       → Joins (IsSound stands key) id v other w (receives_with v w) (blank None)

@@ -36,6 +36,7 @@ use Rattle.pool_table.specs.Hands.{MayEnter}
 use Rattle.pool_table.proofs.Weights.{same_parts, counted_parts, settled_same, handy_parts, orderly_parts}
 use Rattle.pool_table.proofs.Looks.{looks_same}
 use Rattle.pool_table.proofs.Births.{born_same}
+use Rattle.pool_table.proofs.Tidings.{known_same}
 use Rattle.pool_table.proofs.Exact.{counted_of, vacated_of}
 use Rattle.pool_table.proofs.Order.{order_same}
 use Rattle.pool_table.proofs.Sequence.{one_same}
@@ -225,6 +226,7 @@ module _ {H : Type 0} (stands : List ℕ → Setting → List Noted → H → Ty
             (order_same s.views id v w at refl r.order)
             (one_same l.shape s.views id v w at refl r.one_order)
             (born_same s.views id v w at refl r.born)
+            (known_same s.views id v w at refl r.known)
             (mailed_same s.views id v w at refl refl r.mailed)
             (length-set s.homes d none) (λ j ne. set_else
             s.homes d j none ne) kept',

@@ -1,13 +1,21 @@
 -- The objects that notes name: those of the shape, and mails.
-use Rattle.std.proofs.Common.{◌≡◌, ◌≢◌, ◌<◌, ℕ, refl, arith}
+use Rattle.std.proofs.Common.{◌≡◌, ◌≢◌, ◌<◌, ℕ, List, [], ◌∷◌, ◌++◌, sym, refl, ap, ◌∙◌, arith}
 use Rattle.pool_law.specs.declared.run.Shape.{Shape}
 use Rattle.pool_law.specs.declared.note.Noted.{Noted}
 use Rattle.pool_law.specs.declared.note.Object.{Object}
 use Rattle.pool_law.specs.declared.note.Object.TheVariants.{Arena, Cache, Bin, Mail, Root}
 use Rattle.pool_law.specs.Homes.{home_of, objects_of, IsObjectOf}
 use Rattle.table_law.proofs.Apart.{home_within, one_home}
-use Rattle.pool_law.specs.Kinds.{Passing}
-use Rattle.std.specs.Prelude.{None}
+use Rattle.pool_law.specs.Kinds.{Passing, Beside, ItsRoot, ItsRegion, ItsRootAndRegion, ItsWatch, Nothing, beside}
+use Rattle.std.specs.Prelude.{Option, Some, None}
+use Rattle.pool_law.specs.declared.id.RootId.{RootId}
+use Rattle.pool_law.specs.Roots.{Present, RootPlace}
+use Rattle.pool_law.specs.Histories.{place_after}
+use Rattle.pool_law.specs.NotedHistories.{noted_dids}
+use Rattle.pool_law.specs.Logs.{present_in, root_beside, root_for}
+use Rattle.table_law.specs.Histories.{IsHistory}
+use Rattle.table_law.proofs.Runs.{right_last}
+use Rattle.table_law.proofs.Told.{place_fits}
 use Rattle.pool_table.specs.Letters.{letter_in, letter_out}
 use Rattle.pool_table.specs.Sound.{IsKnown, IsPlain}
 
@@ -33,13 +41,33 @@ known s (Bin b) fits = fits
 known s (Mail a b) fits = absurd fits
 known s (Root p) fits = fits
 
--- an object with a home is no mail, so nothing is asked of its notes there
-pub plain_at : (s : Shape) (o : Object) (n : Noted) → IsObjectOf s o → IsPlain o n
-plain_at s (Arena a) n is = tt
-plain_at s (Cache lane class) n is = tt
-plain_at s (Bin lane) n is = tt
-plain_at s (Mail a b) n is = absurd is
-plain_at s (Root p) n is = tt
+-- what a place gives as the root of a note is present there
+root_beside-is : (b : Beside) (o : Option Present) (r : RootId) → root_beside b o ≡ Some r
+    → (q : Present) × (o ≡ Some q) × (q.root ≡ r)
+root_beside-is ItsRoot (Some q) r is = (q, refl, cc is)
+root_beside-is ItsRootAndRegion (Some q) r is = (q, refl, cc is)
+root_beside-is ItsRoot None r is = absurd (cc is)
+root_beside-is ItsRootAndRegion None r is = absurd (cc is)
+root_beside-is ItsRegion o r is = absurd (cc is)
+root_beside-is ItsWatch o r is = absurd (cc is)
+root_beside-is Nothing o r is = absurd (cc is)
+
+-- a note that is accepted tells of roots of its place alone
+pub plain_at : (s : Shape) (o : Object) (h : List Noted) (n : Noted) → IsObjectOf s o → IsHistory s o (h ++ n ∷ [])
+    → IsPlain o n
+plain_at s (Arena a) h n is more = let t = right_last (Arena a) h n more.right in (t.0, t.1)
+plain_at s (Cache d c) h n is more = let t = right_last (Cache d c) h n more.right in (t.0, t.1)
+plain_at s (Bin b) h n is more = let t = right_last (Bin b) h n more.right in (t.0, t.1)
+plain_at s (Mail a b) h n is more = absurd is
+plain_at s (Root p) h n is more =
+    λ r told. by r (place_after p (noted_dids h)) refl (sym (right_last (Root p) h n more.right).0 ∙ told)
+  where
+    by : (r : RootId) (o : Option RootPlace) → place_after p (noted_dids h) ≡ o
+        → root_for n.did (present_in o) ≡ Some r → r.place ≡ p
+    by r None after is = let t = root_beside-is (beside n.did) None r is in absurd (cc t.1)
+    by r (Some x) after is =
+        let t = root_beside-is (beside n.did) x.present r is in
+        sym (ap (λ (z : RootId). z.place) t.2) ∙ (place_fits p h x after t.0 t.1).0
 
 -- no letter goes into an object of the shape, and none comes out
 pub none_in : (s : Shape) (o : Object) → IsObjectOf s o → (k : ℕ) (passed : Passing) → letter_in o k passed ≡ None

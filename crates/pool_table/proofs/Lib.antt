@@ -8,7 +8,11 @@ pub mod Sending
 pub mod Counting
 pub mod MailLogs
 pub mod Looks
+pub mod Lasting
 pub mod Births
+pub mod Tidings
+pub mod GiftSteps
+pub mod Gifts
 pub mod Known
 pub mod Makers
 pub mod Newest
@@ -50,6 +54,8 @@ pub mod CountSteps
 pub mod OneRoot
 pub mod Hands
 pub mod RegionNotes
+pub mod Capacities
+mod KnownCapacities
 pub mod Regions
 pub mod RegionNumbers
 pub mod OwnCaches

@@ -29,6 +29,7 @@ use Rattle.pool_table.specs.Hands.{MayEnter, MayLeave}
 use Rattle.pool_table.proofs.Weights.{IsWeighedSame, same_entry, counted_entry, handy_entry, orderly_entry}
 use Rattle.pool_table.proofs.Looks.{looks_entry}
 use Rattle.pool_table.proofs.Births.{born_entry}
+use Rattle.pool_table.proofs.Tidings.{known_entry}
 use Rattle.pool_table.proofs.Order.{newest, order_entry}
 use Rattle.pool_table.proofs.Sequence.{one_more}
 use Rattle.pool_table.proofs.Fitting.{noted_so_far}
@@ -139,6 +140,7 @@ module _ {H : Type 0} (stands : List ℕ → Setting → List Noted → H → Ty
       (one_more l.shape s.views id v w e at refl (alone_among stands l s r id v at) r.one_order
       (bn ∙ noted_so_far stands l s r r.one_order o fits))
       (born_entry s.views id v w e at refl (λ q is. absurd (cc is)) r.born)
+      (known_entry s.views id v w e at refl (λ q lt. absurd (omega (arith, lt))) r.known)
       (mailed_entry s.views id v w e at refl refl refl refl r.mailed)
       refl (λ j ne. refl)
       (subst (λ (y : ObjectView × ℕ). IsKept stands l.shape r.setting o

@@ -45,6 +45,9 @@ use Rattle.pool_table.proofs.Weights.{IsWeighedSame, same_entry, counted_entry, 
 use Rattle.pool_table.proofs.Looks.{looks_entry}
 use Rattle.pool_table.proofs.AtPlace.{PutsAt}
 use Rattle.pool_table.proofs.Births.{born_entry}
+use Rattle.pool_table.proofs.Capacities.{note_tells}
+use Rattle.pool_table.proofs.Lasting.{entry_grows, entry_counts}
+use Rattle.pool_table.proofs.Tidings.{known_entry}
 use Rattle.pool_table.proofs.Putting.{puts_at, note_born}
 use Rattle.pool_table.proofs.Order.{IsNewest, order_entry}
 use Rattle.pool_table.proofs.Sequence.{one_more}
@@ -272,6 +275,10 @@ module _ {H : Type 0} (stands : List ℕ → Setting → List Noted → H → Ty
             (ap (λ (z : ℕ). z + 1) (nk ∙ noted_so_far stands l s r r.one_order o fits))))
             (born_entry s.views id v w ent at refl
             (note_born stands l s r id v at o fits (length h + 1) nd may.in_place.mailed hands) r.born)
+            (known_entry s.views id v w ent at refl
+            (note_tells stands l s r (set s.views id w) o fits (length h + 1) v.own.number nd
+            (entry_grows s.views id v w ent at refl) (entry_counts s.views id v w ent at refl) may
+            (subst (λ (g : List Noted). IsHistory l.shape o (g ++ nd ∷ [])) hk accepted)) r.known)
             (mailed_entry s.views id v w ent at refl refl (none_in l.shape o fits (length h + 1) (passing nd.did))
             (none_out l.shape o fits (length h + 1) (passing nd.did)) r.mailed)
             (length-set s.homes d (some (Some home))) (λ j ne. set_else s.homes d j (some (Some home)) ne) kept',
@@ -297,7 +304,8 @@ module _ {H : Type 0} (stands : List ℕ → Setting → List Noted → H → Ty
       (λ s r wide at _. let got = notes_it id me.0 o fits h home (noted_by me.0.own.number note) e turn refl
       (record {
         object = known l.shape o fits;
-        plain = plain_at l.shape o (noted_by me.0.own.number note) fits;
+        plain =
+            plain_at l.shape o h (noted_by me.0.own.number note) fits accepted;
         lane_may = may;
         in_place =
             in_place l.shape o h (noted_by me.0.own.number note) accepted;

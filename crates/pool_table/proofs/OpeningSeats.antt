@@ -31,6 +31,7 @@ use Rattle.pool_table.proofs.Looks.{looks_open}
 use Rattle.pool_table.proofs.Order.{order_opens}
 use Rattle.pool_table.proofs.Sequence.{one_opens}
 use Rattle.pool_table.proofs.Births.{born_opens}
+use Rattle.pool_table.proofs.Tidings.{known_opens}
 use Rattle.pool_table.specs.Sound.{IsKept, IsSound, IsView, IsTold, IsIdle, IsShape, Stands, Knows, OnceBelow}
 use Rattle.pool_table.specs.Steps.{lane_parts, first_view, rest_view, lane_view, first_lane, rest_of_lanes}
 use Rattle.pool_table.proofs.Mails.{lying, mailed_opens}
@@ -184,6 +185,7 @@ module _ {H : Type 0} (stands : List ℕ → Setting → List Noted → H → Ty
             (get_elem? (map some homes) (slot_of l.shape o))) (sym word)
             (opens_at gs homes o here.0 fits here.1 here.2);
         born = born_opens (first_view l gs) (all_parts gs);
+        known = known_opens (first_view l gs) (all_parts gs);
         looks = looks_open (first_view l gs) (all_parts gs);
         order = order_opens (first_view l gs) (all_parts gs);
         one_order =

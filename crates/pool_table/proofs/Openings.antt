@@ -1,5 +1,5 @@
 -- The table as it is made, and the first seats that are cut from the opening view.
-use Rattle.std.proofs.Common.{◌≡◌, ℕ, zero, suc, ◌+◌, ◌-◌, ◌<◌, ◌≤◌, [], Bool, cond, eqb, refl, ap, arith, eq-eqb, ne_eqb}
+use Rattle.std.proofs.Common.{◌≡◌, ℕ, zero, suc, ◌+◌, ◌<◌, ◌≤◌, [], Bool, cond, eqb, refl, ap, arith, eq-eqb, ne_eqb}
 use Rattle.std.specs.Prelude.{Some, All, count_by}
 use Rattle.std.proofs.lemmas.List.Elements.{All-cons, All-nil}
 use Rattle.std.proofs.lemmas.List.Sums.{sum_by-cons}

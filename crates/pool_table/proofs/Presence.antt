@@ -1,7 +1,7 @@
 -- Which root is at a place, by who claims it.
 use Rattle.step_law.specs.Settings.{Setting}
 use Rattle.std.proofs.Common.{◌≡◌, ◌≢◌, ℕ, ◌+◌, ◌*◌, ◌<◌, ◌≤◌, List, [], ◌∷◌, ◌++◌, Bool, true, false, cond, eqb, sym, refl, ap, ◌∙◌, subst, inl, inr, arith, lt_of_not-le}
-use Rattle.std.specs.Prelude.{Option, Some, None, sum_by, count_by}
+use Rattle.std.specs.Prelude.{Option, Some, None, option_map, sum_by, count_by}
 use Rattle.std.proofs.lemmas.List.Sums.{sum_by-le-sum_by}
 use Rattle.std.proofs.lemmas.List.Elements.{All-weaker}
 use mathlib.Core.Logic.{dite}
@@ -20,7 +20,7 @@ use Rattle.pool_law.specs.declared.note.Object.TheVariants.{Root}
 use Rattle.pool_law.specs.Homes.{IsObjectOf}
 use Rattle.table_law.specs.Histories.{IsHistory, IsPlaceAfter, root_after}
 use Rattle.table_law.specs.NoteCounts.{did_birth, did_birth_of, did_end}
-use Rattle.pool_law.specs.Roots.{RootPlace}
+use Rattle.pool_law.specs.Roots.{Present, RootPlace}
 use Rattle.table_law.proofs.PlaceSteps.{root_in}
 use Rattle.table_law.proofs.Told.{place_there, last_place, root_is}
 use Rattle.table_law.proofs.Roots.{place_born, of_birth, place_births, place_ends, birth_step, end_step}
@@ -37,6 +37,7 @@ use Rattle.pool_table.specs.Births.{IsBorn}
 use Rattle.pool_table.specs.Sound.{IsSound, IsView}
 use Rattle.pool_table.specs.Learned.{TellsRoot}
 use Rattle.pool_table.proofs.AtPlace.{CountsAt, IsPresentIn, TokenAt}
+use Rattle.pool_table.proofs.Capacities.{knows_no_more}
 use Rattle.pool_table.proofs.Exact.{root_notes, one_born, present_born, count_at, count_born, token_at, token_born, ends_at}
 use Rattle.pool_table.proofs.Weights.{strict_sum}
 use Rattle.pool_table.proofs.WordChanges.{live_word}
@@ -204,6 +205,13 @@ module _ {H : Type 0} (stands : List ℕ → Setting → List Noted → H → Ty
       ≡ n = nb in let hi' : bi ≤ k.generation = hi in let small' : k.generation < 4294967296 = small in
       omega (arith, nb', hi', small')
 
+  -- the root of what is present
+  only_root : (p : ℕ) (h : List Noted) (x : RootPlace) (w : Present) (q : RootId) → IsPlaceAfter p h x
+      → x.present ≡ Some w → root_after p h ≡ Some q → w.root ≡ q
+  only_root p h x w q after is there =
+      let both : Some w.root ≡ Some q = sym (ap (λ (o : Option Present). option_map (λ (z : Present). z.root) o) is)
+      ∙ sym (root_is p h x after) ∙ there in cc both
+
   -- what a view learns of a root place
   pub tells_root : (s : St) (r : IsSound stands l s) (id : ℕ) (v : SeatView) (o : Object) (fits : IsObjectOf l.shape o)
       → get_elem? s.views id ≡ some v → (p : ℕ) → o ≡ Root p → TellsRoot l p v (r.objects o fits).history
@@ -226,6 +234,12 @@ module _ {H : Type 0} (stands : List ℕ → Setting → List Noted → H → Ty
             (subst (λ (n : ℕ). TokenAt n q.generation v) here (token_at stands l s r id v at q has));
         few = λ x after. few_births s r p lt x after;
         young = λ has z x after. young_place s r id v p lt at has z x after;
+        capacity =
+            λ q here has x w after is. knows_no_more stands l s r id v at q has p lt x w after is
+            (only_root p (r.objects (Root p) lt).history x w q after is
+            (let c = subst (λ (n : ℕ). CountsAt n q.generation v) here (count_at stands l s r id v at q has) in
+            exactly s r p lt q here (count_born stands l s r id v at q has)
+            (counted_root s r id p q.generation v lt at c)));
       }) fits
 
   -- a view that may note a birth has none that waits

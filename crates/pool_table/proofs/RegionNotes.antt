@@ -121,7 +121,7 @@ module _ {H : Type 0} (stands : List ℕ → Setting → List Noted → H → Ty
   abbrev St : Type 0
   St = State (Option H) SeatView
 
-  abbrev Among : ℕ → ℕ → (Noted → ℕ) → Type 0
+  abbrev pub Among : ℕ → ℕ → (Noted → ℕ) → Type 0
   Among base n w = (lane : Option ℕ) (e : Entry) → Stands l.shape lane e → IsAmong l.shape base n w e
 
   pub all_among : (s : St) (r : IsSound stands l s) (base n : ℕ) (w : Noted → ℕ) → Among base n w

@@ -25,6 +25,7 @@ use Rattle.pool_table.proofs.Looks.{looks_regroup}
 use Rattle.pool_table.proofs.Order.{order_regroups}
 use Rattle.pool_table.proofs.Sequence.{one_regroups}
 use Rattle.pool_table.proofs.Births.{born_regroups}
+use Rattle.pool_table.proofs.Tidings.{known_regroups}
 use Rattle.pool_table.specs.declared.views.Letter.{Letter}
 use Rattle.pool_table.proofs.Mails.{lying, mailed_regroups}
 use Rattle.pool_table.specs.Sound.{IsKept, IsSound, IsView, Stands, OnceBelow}
@@ -116,6 +117,9 @@ module _ {H : Type 0} (stands : List ℕ → Setting → List Noted → H → Ty
         born =
             born_regroups s.views (set s.views id left ++ right ∷ [])
             (λ f. same (weigh f) (adds (λ (q : Part). sum_by f q.notes) refl)) regroups r.born;
+        known =
+            known_regroups s.views (set s.views id left ++ right ∷ [])
+            (λ f. same (weigh f) (adds (λ (q : Part). sum_by f q.notes) refl)) regroups r.known;
         looks =
             looks_regroup s.views (set s.views id left ++ right ∷ [])
             (λ p g. same (weigh (on_root ref_retain p g))

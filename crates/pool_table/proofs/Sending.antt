@@ -33,11 +33,14 @@ use Rattle.pool_table.specs.Views.{ObjectView, parts_of, is_lane, took_turn, obj
 use Rattle.pool_table.specs.Counts.{weigh, weigh_in, on_root, on_place, reached, returned, HasCount}
 use Rattle.pool_table.specs.Hands.{PutsDown}
 use Rattle.pool_table.specs.Births.{IsBorn, NamesBorn}
+use Rattle.pool_table.specs.Capacities.{TellsGiven, knows_of}
 use Rattle.pool_table.specs.Letters.{sent_as, received_as, is_on_way, sent_on, received_on, AreMailed, post_of, fetch_of, sends, receives, letter_view, by_lane}
 use Rattle.pool_table.specs.Order.{IsBelow}
 use Rattle.pool_table.specs.Sequence.{Fits}
 use Rattle.pool_table.specs.Sound.{IsKept, IsSound, IsView, OnceBelow, Stands}
 use Rattle.pool_table.proofs.Births.{born_same, born_entry}
+use Rattle.pool_table.proofs.Capacities.{post_tells}
+use Rattle.pool_table.proofs.Tidings.{known_same, known_more, fetch_tells}
 use Rattle.pool_table.proofs.Counts.{other_kept}
 use Rattle.pool_table.proofs.Known.{no_home}
 use Rattle.pool_table.proofs.Posts.{other_sends_none, other_receives_none, only_own, is_letter, is_itself}
@@ -95,6 +98,7 @@ module _ {H : Type 0} (stands : List ℕ → Setting → List Noted → H → Ty
       → took_turn (At (Mail a b) k n) ≡ false
       → IsView l.shape r.setting (with_entry v (At (Mail a b) k n) v.turns) → IsView l.shape r.setting z
       → Fits l.shape r.one_order.made (At (Mail a b) k n) → NamesBorn s.views (At (Mail a b) k n)
+      → TellsGiven s.views (At (Mail a b) k n)
       → AreMailed (set (set s.views id (with_entry v (At (Mail a b) k n) v.turns)) other z)
       → IsSound stands l (record {
         words = s.words;
@@ -102,7 +106,7 @@ module _ {H : Type 0} (stands : List ℕ → Setting → List Noted → H → Ty
         views =
             set (set s.views id (with_entry v (At (Mail a b) k n) v.turns)) other z;
       })
-  mail_step s r id other v u z a b k n at ne at' vo uo zo parts moves turns free fw fz fit born mailed =
+  mail_step s r id other v u z a b k n at ne at' vo uo zo parts moves turns free fw fz fit born tells mailed =
       let e : Entry = At (Mail a b) k n in let w : SeatView = with_entry v e v.turns in
       let mid : List SeatView = set s.views id w in
       let there : get_elem? mid other ≡ some u = set_else s.views id other w ne ∙ at' in
@@ -142,6 +146,7 @@ module _ {H : Type 0} (stands : List ℕ → Setting → List Noted → H → Ty
             ∙ map_same (object_view l.shape j) s.views id v w at here))
             (r.objects o fits);
         born = born_same mid other u z there parts (born_entry s.views id v w e at refl born r.born);
+        known = known_same mid other u z there parts (known_more s.views id v w e at refl tells r.known);
         looks =
             looks_same mid other u z there parts
             (looks_entry s.views id v w e at refl (λ q k is. absurd (cc is)) r.looks);
@@ -229,6 +234,7 @@ module _ {H : Type 0} (stands : List ℕ → Setting → List Noted → H → Ty
   -- ---- A letter is sent.
   module _ (v : SeatView) (x : Letter) (vo : v.inside ≡ None) (own : v.own.number ≡ Some x.from)
       (to : x.to < l.shape.lanes) (counts : PutsDown v (Post x.parcel))
+      (reaches : IfSome x.parcel.view (λ (w : ViewData). w.offset + w.len ≤ knows_of w.root v))
       (number : x.number ≡ sent_on x.from x.to v.own.notes + 1) where
     abbrev post : Entry
     post = post_of x
@@ -286,7 +292,7 @@ module _ {H : Type 0} (stands : List ℕ → Setting → List Noted → H → Ty
         let fine : IsView l.shape r'.setting v = each_at (IsView l.shape r'.setting) s'.views id v r'.views at' in
         let got = mail_step s' r' id n v b z x.from x.to x.number (by_lane x.from (Post x.parcel)) at' ne last vo refl
         refl refl refl refl refl (post_view s' r' id at') (bare_view l r'.setting v.setting (x ∷ []) fine.setting_is)
-        (post_fits s' r' id at') (post_born s' r' id at')
+        (post_fits s' r' id at') (post_born s' r' id at') (post_tells stands l s' r' id v at' x counts reaches)
         (mailed_step s'.views id n v b w z post at' (set_else s'.views id n w ne ∙ last) refl refl refl
         (record {
           sent = λ y is. let same : x ≡ y = cc is in
@@ -346,7 +352,7 @@ module _ {H : Type 0} (stands : List ℕ → Setting → List Noted → H → Ty
         })))
         (bare_view l r.setting None [] tt)
         ((number ∙ ap (λ (n : ℕ). n + 1) (sym only ∙ r.one_order.each g)), omega (arith, low, all))
-        sent.born
+        sent.born (fetch_tells s.views x sent.reaches)
         (mailed_step s.views id other v u w z fetch at there refl refl refl
         (record {
           sent = λ y is. absurd (cc is);

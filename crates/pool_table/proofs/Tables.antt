@@ -36,6 +36,7 @@ use Rattle.pool_table.specs.Order.{AreInOrder}
 use Rattle.pool_table.specs.Sequence.{AreInOneOrder}
 use Rattle.pool_table.proofs.Sequence.{IsAlone}
 use Rattle.pool_table.specs.Births.{AreBorn}
+use Rattle.pool_table.specs.Capacities.{AreKnown}
 use Rattle.pool_table.specs.Letters.{AreMailed}
 use Rattle.pool_table.proofs.Known.{no_home}
 use Rattle.std.proofs.lemmas.Bool.{eqb-true}
@@ -51,7 +52,7 @@ module _ {H : Type 0} (stands : List ℕ → Setting → List Noted → H → Ty
       → ((j : ℕ) → j ≢ home_of l.shape o → object_view l.shape j w ≡ object_view l.shape j v)
       → ((m : ℕ) → numbered m w ≡ numbered m v) → IsWeighedSame v w → IsView l.shape r.setting w → spent w ≤ spent v
       → AreLooksRight (set s.views id w) → AreInOrder (set s.views id w) → AreInOneOrder l.shape (set s.views id w)
-      → AreBorn (set s.views id w) → AreMailed (set s.views id w)
+      → AreBorn (set s.views id w) → AreKnown (set s.views id w) → AreMailed (set s.views id w)
       → length homes' ≡ length s.homes → ((j : ℕ) → j ≢ slot_of l.shape o → get_elem? homes' j ≡ get_elem? s.homes j)
       → IsKept stands l.shape r.setting o
       (set (map (object_view l.shape (home_of l.shape o)) s.views) id (object_view l.shape (home_of l.shape o) w)) n
@@ -62,7 +63,8 @@ module _ {H : Type 0} (stands : List ℕ → Setting → List Noted → H → Ty
         views =
             set s.views id w;
       })
-  changes s r id v w o n homes' fits at elsewhere numbers refs fine spends looks order one_order born mailed wide homes
+  changes s r id v w o n homes' fits at elsewhere numbers refs fine spends looks order one_order born known mailed
+      wide homes
       kept =
       let i : ℕ = home_of l.shape o in
       let d : ℕ = word_of l.shape o in
@@ -98,6 +100,7 @@ module _ {H : Type 0} (stands : List ℕ → Setting → List Noted → H → Ty
             ))
             (r.objects p fits'));
         born = born;
+        known = known;
         looks = looks;
         order = order;
         one_order = one_order;
@@ -126,53 +129,6 @@ module _ {H : Type 0} (stands : List ℕ → Setting → List Noted → H → Ty
             (λ f. sum_same (weigh (on_place f p)) s.views id v w at (refs.places f p))
             (r.counts p lt));
       }
-
-  -- a view changes, and no object sees it
-  pub unseen : (s : St) (r : IsSound stands l s) (id : ℕ) (v w : SeatView) → get_elem? s.views id ≡ some v
-      → ((j : ℕ) → object_view l.shape j w ≡ object_view l.shape j v) → ((m : ℕ) → numbered m w ≡ numbered m v)
-      → IsWeighedSame v w
-      → IsView l.shape r.setting w → spent w ≤ spent v → AreLooksRight (set s.views id w)
-      → AreInOrder (set s.views id w) → AreInOneOrder l.shape (set s.views id w) → AreBorn (set s.views id w)
-      → AreMailed (set s.views id w)
-      → IsSound stands l (record { words = s.words; homes = s.homes; views = set s.views id w })
-  unseen s r id v w at everywhere numbers refs fine spends looks order one_order born mailed = record {
-    setting = r.setting;
-    words = r.words;
-    homes = r.homes;
-    between = r.between;
-    views = All-set (IsView l.shape r.setting) s.views id w fine r.views;
-    lanes =
-        λ m. subst (OnceBelow l.shape.lanes m) (sym (sum_same (numbered m) s.views id v w at (numbers m))) (r.lanes m);
-    objects =
-        λ p fits. subst (λ (x : List ObjectView). IsKept stands l.shape r.setting p x
-        (slice_index s.words (word_of l.shape p)) (get_elem? s.homes (slot_of l.shape p)))
-        (sym (map_same (object_view l.shape (home_of l.shape p)) s.views id v w at (everywhere (home_of l.shape p))))
-        (r.objects p fits);
-    born = born;
-    looks = looks;
-    order = order;
-    one_order = one_order;
-    mailed = mailed;
-    room = r.room;
-    budget = (let a = sum_set spent s.views id v w at in let b = r.budget in let c = spends in
-        let x : ℕ = sum_by spent (set s.views id w) in let y : ℕ = sum_by spent s.views in let sv : ℕ = spent v in
-        let sw : ℕ = spent w in let t : ℕ = l.shape.lanes * l.turns in
-        let a' : x + sv ≡ y + sw = a in let b' : y ≤ t = b in let c' : sw ≤ sv = c in let g : x ≤ t =
-        omega (arith, a', b', c') in
-        g);
-    few = r.few;
-    moved =
-        subst (λ (x : ℕ × ℕ). x.0 ≤ l.shape.lanes * l.moves + x.1)
-        (λ i. (
-          sym (sum_same reached s.views id v w at (reached_same v w refs)) i,
-          sym
-              (sum_same returned s.views id v w at (returned_same v w refs)) i,
-        )) r.moved;
-    counts =
-        λ p lt. other_kept p s.views (set s.views id w) (slice_index s.words (count_word_of l.shape p))
-        (λ f g. sum_same (weigh (on_root f p g)) s.views id v w at (refs.refs f p g))
-        (λ f. sum_same (weigh (on_place f p)) s.views id v w at (refs.places f p)) (r.counts p lt);
-  }
 
   -- the notes of an object are no more than the turns taken
   module _ (o : Object) (fits : IsObjectOf l.shape o) where

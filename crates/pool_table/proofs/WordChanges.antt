@@ -35,6 +35,7 @@ use Rattle.pool_table.proofs.Order.{newest, order_entry}
 use Rattle.pool_table.specs.Sequence.{FitsCount}
 use Rattle.pool_table.proofs.Sequence.{one_more}
 use Rattle.pool_table.proofs.Births.{born_entry}
+use Rattle.pool_table.proofs.Tidings.{known_entry}
 use Rattle.pool_table.specs.Births.{IsBorn}
 use Rattle.pool_table.specs.Sound.{IsKept, IsSound, IsView, Stands, OnceBelow}
 use Rattle.pool_table.proofs.AtPlace.{CountsAt}
@@ -175,6 +176,7 @@ module _ {H : Type 0} (stands : List ℕ → Setting → List Noted → H → Ty
         born =
             born_entry s.views id v w (Ref root d) at refl
             (λ q is. subst (IsBorn s.views) (let f : root ≡ q = cc is in f) born) r.born;
+        known = known_entry s.views id v w (Ref root d) at refl (λ q lt. absurd (omega (arith, lt))) r.known;
         looks =
             looks_entry s.views id v w (Ref root d) at refl
             (λ q k is. subst (λ (y : RootId). IsLookRight y.place y.generation k

@@ -1,6 +1,6 @@
 -- Laws of the sound table: who has a root place, and who has a taking.
 use Rattle.step_law.specs.Settings.{Setting}
-use Rattle.std.specs.Prelude.{◌≡◌, ◌≢◌, ◌⊎◌, ℕ, zero, suc, ◌+◌, ◌*◌, ◌/◌, ◌%◌, ◌<◌, ◌≤◌, ◌==◌, List, Option, option_map, sum_by, count_by}
+use Rattle.std.specs.Prelude.{◌≡◌, ◌≢◌, ◌⊎◌, ℕ, zero, suc, ◌+◌, ◌*◌, ◌/◌, ◌%◌, ◌<◌, ◌≤◌, ◌==◌, List, length, Option, Some, option_map, All, sum_by, count_by}
 use mathlib.Core.Option.{some}
 use lib.ListN.{get_elem?}
 use Rattle.atomic_table.specs.Table.{State}
@@ -14,12 +14,13 @@ use Rattle.pool_law.specs.Homes.{IsObjectOf}
 use Rattle.pool_law.specs.Limits.{cached_classes}
 use Rattle.pool_law.specs.Arenas.{Arena as ArenaState}
 use Rattle.pool_law.specs.Caches.{Cache as CacheState}
-use Rattle.pool_law.specs.Roots.{RootPlace}
+use Rattle.pool_law.specs.Roots.{Present, RootPlace}
 use Rattle.table_law.specs.NoteCounts.{place_lane, is_taking, uses_in, weight_or}
 use Rattle.table_law.specs.Histories.{IsArenaAfter, IsCacheAfter, IsBinAfter, IsPlaceAfter}
 use Rattle.pool_table.specs.declared.views.Layout.{Layout}
 use Rattle.pool_table.specs.declared.views.SeatView.{SeatView}
 use Rattle.pool_table.specs.Births.{IsBorn}
+use Rattle.pool_table.specs.Capacities.{KnowsNoMore}
 use Rattle.pool_table.specs.Counts.{weigh, HasCount, HasToken}
 use Rattle.pool_table.specs.Hands.{InHand, taken, put_down, HasTaking, grasped, laid, uses_come, uses_gone, to_place}
 use Rattle.pool_table.specs.Sound.{IsSound}
@@ -127,3 +128,12 @@ module _ {H : Type 0} (stands : List ℕ → Setting → List Noted → H → Ty
   RootsBornAsNamed =
       (s : State (Option H) SeatView) → IsSound stands l s → (id : ℕ) (v : SeatView) →
       get_elem? s.views id ≡ some v → (q : RootId) → HasCount q v ⊎ HasToken q v → IsBorn s.views q
+
+  -- what a part knows of the capacity of the root that is present at a place, and how far the view
+  -- of it in a letter reaches, is at most the capacity that it has by the place's history
+  abbrev pub CapacitiesAreKnown : Type 0
+  CapacitiesAreKnown =
+      (s : State (Option H) SeatView) (r : IsSound stands l s)
+      (p : ℕ) (fits : IsObjectOf l.shape (Root p)) (x : RootPlace) (q : Present) →
+      IsPlaceAfter p (r.objects (Root p) fits).history x → x.present ≡ Some q →
+      All (KnowsNoMore q.root (length q.bytes)) s.views

@@ -12,7 +12,7 @@ use Rattle.pool_law.specs.Homes.{home_of, IsObjectOf}
 use Rattle.pool_law.specs.NotedHistories.{MayNote}
 use Rattle.pool_law.specs.Arenas.{Arena as ArenaState, is_out_of}
 use Rattle.pool_law.specs.Caches.{Cache as CacheState}
-use Rattle.pool_law.specs.Roots.{RootPlace}
+use Rattle.pool_law.specs.Roots.{Present, RootPlace}
 use Rattle.table_law.specs.Histories.{IsHistory, root_after, IsPlaceAfter, IsArenaAfter, IsCacheAfter, IsBinAfter}
 use Rattle.table_law.specs.NoteCounts.{one_if_so, is_taking, has_number, arena_out, cache_out, place_out}
 use Rattle.table_law.specs.Measures.{measures_of}
@@ -22,6 +22,7 @@ use Rattle.pool_table.specs.declared.views.SeatView.{SeatView}
 use Rattle.pool_table.specs.Views.{noted_of, noted_weight, is_about, is_lane}
 use Rattle.pool_table.specs.Counts.{weigh, on_this, ref_vacated, gained_of, lost_of, HasCount, HasToken}
 use Rattle.pool_table.specs.Numbers.{IsAbove}
+use Rattle.pool_table.specs.Capacities.{knows_of}
 use Rattle.pool_table.specs.Hands.{ends, HasNoEnd, InHand, NoneWaits, from_arena, to_arena, grasped, laid, HasTaking, HasRegion, IsLaidDown}
 use Rattle.pool_table.specs.Sound.{IsView}
 
@@ -39,6 +40,9 @@ pub record TellsRoot (l : Layout) (p : ℕ) (v : SeatView) (h : List Noted) : Ty
   pub few : (x : RootPlace) → IsPlaceAfter p h x → x.generation ≤ l.shape.lanes * l.turns
   pub young : InHand p v → NoneWaits p v → (x : RootPlace) → IsPlaceAfter p h x →
       x.generation < 4294967296
+  -- the root that it counts has at least the capacity that it knows
+  pub capacity : (r : RootId) → r.place ≡ p → HasCount r v → (x : RootPlace) (q : Present) →
+      IsPlaceAfter p h x → x.present ≡ Some q → knows_of r v ≤ length q.bytes
 
 -- the entries of the seat's own part, weighed
 abbrev pub in_own : (Entry → ℕ) → SeatView → ℕ

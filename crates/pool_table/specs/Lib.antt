@@ -3,6 +3,8 @@ pub mod Slots
 pub mod Firsts
 pub mod Views
 pub mod Counts
+pub mod LaneLogs
+pub mod Capacities
 pub mod Letters
 pub mod SeatFields
 pub mod Looks
@@ -23,4 +25,3 @@ pub mod Closed
 pub mod Holders
 pub mod Turns
 pub mod Dropping
-pub mod LaneLogs

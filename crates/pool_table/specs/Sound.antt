@@ -7,6 +7,7 @@ use mathlib.Core.Option as maybe
 use lib.ListN.{get_elem?}
 use Rattle.atomic_table.specs.Table.{State}
 use Rattle.pool_law.specs.declared.run.Shape.{Shape}
+use Rattle.pool_law.specs.declared.id.RootId.{RootId}
 use Rattle.pool_law.specs.NotedHistories.{MayNote}
 use Rattle.pool_law.specs.declared.note.Noted.{Noted}
 use Rattle.pool_law.specs.declared.note.Object.{Object}
@@ -26,6 +27,7 @@ use Rattle.pool_table.specs.declared.views.Layout.{Layout}
 use Rattle.pool_table.specs.Counts.{IsCounted, gained, lost, gained_beside, lost_beside, reached, returned, weigh, on_root, ref_ended, ref_vacated}
 use Rattle.pool_table.specs.Hands.{put_down, taken, MayEnter, IsOrderly}
 use Rattle.pool_table.specs.Births.{AreBorn}
+use Rattle.pool_table.specs.Capacities.{AreKnown}
 use Rattle.pool_table.specs.Letters.{AreMailed}
 use Rattle.pool_table.specs.Looks.{AreLooksRight}
 use Rattle.pool_table.specs.Order.{AreInOrder}
@@ -113,13 +115,14 @@ IsKnown s (Bin lane) = IsObjectOf s (Bin lane)
 IsKnown s (Mail a b) = (a < s.lanes) × (b < s.lanes)
 IsKnown s (Root p) = IsObjectOf s (Root p)
 
--- a note at a mail tells of no root and no region
+-- a note at a root place tells of roots of that place alone, and another note of no root and no
+-- region
 abbrev pub IsPlain : Object → Noted → Type 0
-IsPlain (Arena a) n = ⊤
-IsPlain (Cache lane class) n = ⊤
-IsPlain (Bin lane) n = ⊤
+IsPlain (Arena a) n = (n.root ≡ None) × (n.region ≡ None)
+IsPlain (Cache lane class) n = (n.root ≡ None) × (n.region ≡ None)
+IsPlain (Bin lane) n = (n.root ≡ None) × (n.region ≡ None)
 IsPlain (Mail a b) n = (n.root ≡ None) × (n.region ≡ None)
-IsPlain (Root p) n = ⊤
+IsPlain (Root p) n = (r : RootId) → n.root ≡ Some r → r.place ≡ p
 
 -- a note stands on such an object, in the log of a lane that may note it, where it may move what it
 -- moves
@@ -204,6 +207,9 @@ pub record IsSound {H : Type 0}
       IsCounted p s.views (slice_index s.words (count_word_of l.shape p))
   -- each root that a step, a parcel or an end token names was born with this capacity
   pub born : AreBorn s.views
+  -- each capacity that a note tells was given to its root, and the view in a letter reaches no
+  -- further
+  pub known : AreKnown s.views
   -- each look told the truth, and notes that follow an earlier note have the higher numbers
   pub looks : AreLooksRight s.views
   pub order : AreInOrder s.views

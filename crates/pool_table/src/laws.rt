@@ -2,6 +2,7 @@
 
 ghost use Rattle.pool_table.specs.declared.views.Layout.{Layout};
 ghost use Rattle.pool_table.specs.Holders.{
+  CapacitiesAreKnown,
   PlacesInOneHand,
   PlacesInOnePlace,
   RootsBornAlone,
@@ -46,4 +47,10 @@ pub fn words_tell_counts<H: Told<Note = Noted>>()
 /// ends, where nothing counts it any more, then is vacated, and only then the next one is born.
 pub fn roots_come_in_turn<H: Told<Note = Noted>>()
     ensures in_turn { (l : Layout) → RootsInTurn H.stands l }
+{}
+
+/// Between any two steps no seat's part knows of more capacity of a root than the root has, and the
+/// view of it in no letter reaches further.
+pub fn capacities_are_known<H: Told<Note = Noted>>()
+    ensures known { (l : Layout) → CapacitiesAreKnown H.stands l }
 {}
