@@ -11,6 +11,7 @@ pub mod Numbers
 pub mod PlaceHands
 pub mod MailMoves
 pub mod MailWays
+pub mod Knowledge
 pub mod MailSeats
 pub mod OpeningHomes
 pub mod OpeningSeats
@@ -19,6 +20,9 @@ pub mod Dealings
 pub mod NewMails
 pub mod DealtEnds
 pub mod PlaceLaws
+pub mod RegrowLaws
+pub mod RegrowHomes
+pub mod RegrowCalls
 pub mod ClosingNumbers
 pub mod ClosingHistories
 pub mod PlaceRecords

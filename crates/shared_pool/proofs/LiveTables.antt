@@ -188,7 +188,7 @@ module _ (l : Layout) (v : SeatView) (homes : List (Option Home)) (words : List 
 
     -- the capacity that it has at the end
     capacity_is : (fits : IsObjectOf l.shape (RootOf p)) (r : RootState) → s.present ≡ Some r → r.root.place ≡ p
-        → capacity_at_end r.root (logs_in parts) ≡ r.root.capacity
+        → capacity_at_end r.root (logs_in parts) ≡ r.capacity
     capacity_is fits r is here =
         let at = root_at fits r is in let a = at.fits in let b = at.in_place.size in
         let told : place_after p (dids (history_of (RootOf p) (logs_in parts))) ≡ Some (law_place s) =
@@ -197,7 +197,7 @@ module _ (l : Layout) (v : SeatView) (homes : List (Option Home)) (words : List 
         (present_in (place_after q (dids (history_of (RootOf q) (logs_in parts)))))) here
         ∙ ap (λ (o : Option RootPlace). capacity_in r.root (present_in o)) told
         ∙ ap (λ (o : Option RootState). capacity_in r.root (option_map law_root o)) is
-        ∙ length-take-le r.root.capacity r.piece.bytes (omega (arith, a, b))
+        ∙ length-take-le r.capacity r.piece.bytes (omega (arith, a, b))
 
     -- what is told of it
     told_as : (fits : IsObjectOf l.shape (RootOf p)) (r : RootState) (w : Watch) (is : s.present ≡ Some r)
@@ -218,7 +218,7 @@ module _ (l : Layout) (v : SeatView) (homes : List (Option Home)) (words : List 
         let dropped : r.handle.tracker.dropped
         ≡ (if w.keeps then dropped_of (accesses_to r.root (logs_in parts)) else 0) =
         at.records.dropped ∙ (λ i. if keeps i then dropped_of (all i) else 0) in
-        let capacity : r.root.capacity ≡ capacity_at_end r.root (logs_in parts) = sym (capacity_is fits r is here.0) in
+        let capacity : r.capacity ≡ capacity_at_end r.root (logs_in parts) = sym (capacity_is fits r is here.0) in
         λ i. record { capacity = capacity i; count = number i; watch = w; records = kept i; dropped = dropped i }
 
     told_root : (fits : IsObjectOf l.shape (RootOf p)) (count : ℕ)

@@ -7,13 +7,12 @@ use Rattle.std.proofs.lemmas.List.Quantifiers.{all_pairs_push}
 use Rattle.std.proofs.lemmas.Option.{slice_get-get_or}
 use mathlib.Core.Logic.{dite}
 use native.Mathlib.Decide.{ℕ_discrete}
-use Rattle.size_classes.specs.Sizes.{below}
 use Rattle.pool_law.specs.declared.id.RootId.{RootId}
 use Rattle.pool_law.specs.declared.report.Access.{Access}
 use Rattle.pool_law.specs.declared.report.Watch.{Watch}
 use Rattle.pool_law.specs.declared.run.Shape.{Shape}
 use Rattle.pool_law.specs.Homes.{objects_of}
-use Rattle.pool_law.specs.Leaks.{accesses, kept_of}
+use Rattle.pool_law.specs.Leaks.{kept_of}
 use Rattle.pool_law.specs.Logs.{of_lane}
 use Rattle.pool_table.specs.declared.views.Entry.{Entry}
 use Rattle.pool_table.specs.declared.views.Part.{Part}

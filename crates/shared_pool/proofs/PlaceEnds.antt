@@ -144,7 +144,7 @@ home_vacated s setting p h n root (Root y) (Root t) at po pn is did made =
       region = tt;
     })
   where
-    fitting : (r : RootState) → IsRootAt setting.grounds p s.handles h r → r.root.capacity ≤ length r.piece.bytes
+    fitting : (r : RootState) → IsRootAt setting.grounds p s.handles h r → r.capacity ≤ length r.piece.bytes
     fitting r here = let a = here.fits in let b = here.in_place.size in omega (arith, a, b)
 home_vacated s setting p h n root (Root y) (Arena t) at po pn is did made = absurd pn
 home_vacated s setting p h n root (Root y) (Cache t) at po pn is did made = absurd pn

@@ -1,6 +1,7 @@
 -- The home value of a root place: which it is, what it tells of its root, and what it stands for after a call.
-use Rattle.std.proofs.Common.{◌≡◌, ℕ, ◌+◌, ◌<◌, ◌≤◌, Bool, true, false, List, [], ◌∷◌, ◌++◌, length, refl, sym, ap, ◌∙◌, subst, arith}
+use Rattle.std.proofs.Common.{◌≡◌, ℕ, ◌+◌, ◌<◌, ◌≤◌, Bool, true, false, List, [], ◌∷◌, ◌++◌, length, take, refl, sym, ap, ◌∙◌, subst, arith}
 use Rattle.std.specs.Prelude.{Option, Some, None, IfSome, IsTrue, is_some, unwrap_or, option_map, option_and_then, if◌then◌else◌}
+use Rattle.std.proofs.lemmas.List.{length-take-le}
 use Rattle.step_law.specs.Settings.{Setting}
 use Rattle.step_law.specs.declared.Told.{Ghosts}
 use Rattle.ground.specs.Grounds.{Grounds}
@@ -27,6 +28,7 @@ use Rattle.pool_table.specs.declared.views.Layout.{Layout}
 use Rattle.pool_table.specs.declared.table.PoolSeat.{PoolSeat}
 use Rattle.pool_table.specs.declared.table.Section.{Section}
 use Rattle.pool_table.specs.Seats.{view_of}
+use Rattle.pool_table.specs.Capacities.{knows_of}
 use Rattle.pool_table.specs.Counts.{HasCount}
 use Rattle.shared_pool.specs.RootNotes.{access}
 use Rattle.pool_table.specs.Sections.{GotSection}
@@ -83,19 +85,22 @@ present_root p h s root told is = go s.present refl (sym (present_told p h s tol
 -- a root that is counted may be accessed
 pub may_access : (grounds : Grounds) (p handles : ℕ) (h : List Noted) (s : PlaceState) (root : RootId) (offset n : ℕ)
     → PlaceStandsFor grounds p handles h s → root_after p h ≡ Some root → length h < 4611686018427387904 →
-    offset + n ≤ root.capacity → MayAccess offset n s
+    ((x : RootPlace) (q : Present) → place_after p (noted_dids h) ≡ Some x → x.present ≡ Some q
+    → offset + n ≤ length q.bytes) → MayAccess offset n s
 may_access grounds p handles h s root offset n at is short_h within =
     let there = present_root p h s root at.told is in let r : RootState = there.0 in
     let here : IsRootAt grounds p handles h r = subst
     (λ (o : Option RootState). IfSome o (IsRootAt grounds p handles h)) there.1 at.root in
     let few = dropped-most (accesses r.root false (lane_dids h)) r.handle.tracker here.records in let le =
     short r.root h in
-    let capacity : r.root.capacity ≡ root.capacity = ap (λ (q : RootId). q.capacity) there.2 in
     let size = here.in_place.size in let fits = here.fits in
+    let low = within (law_place s) (law_root r) at.told (ap (option_map law_root) there.1) in
+    let many : length (take r.capacity r.piece.bytes) ≡ r.capacity =
+    length-take-le r.capacity r.piece.bytes (omega (arith, size, fits)) in
     record {
       root = r;
       present = there.1;
-      range = omega (arith, capacity, within);
+      range = omega (arith, low, many);
       fits = omega (arith, size, fits);
       few = omega (arith, few, le, short_h);
     }
@@ -204,9 +209,10 @@ module _ {G : Ghosts Home Noted} (l : Layout) (root : RootId) (old new : PoolSea
       is_place setting got.history root.place l.shape.handles l.shape.lanes l.shape.order l.shape.page section.home
       (stood l (RootOf root.place) old new section got setting known)
 
-  -- it may be accessed
-  pub accessible : (offset n : ℕ) → offset + n ≤ root.capacity → IfPlace section.home (MayAccess offset n)
-  accessible offset n within =
+  -- it may be accessed as far as the seat knows of its capacity
+  pub accessible : HasCount root (view_of old) → (offset n : ℕ) → offset + n ≤ knows_of root (view_of old)
+      → IfPlace section.home (MayAccess offset n)
+  accessible has offset n within =
       go section.home (place_at l.shape setting root.place got.history section.home
       (stood l (RootOf root.place) old new section got setting known))
     where
@@ -214,7 +220,11 @@ module _ {G : Ghosts Home Noted} (l : Layout) (root : RootId) (old new : PoolSea
           → IfPlace home (MayAccess offset n)
       go (Root y) at =
           may_access setting.grounds root.place l.shape.handles got.history y.value root offset n at counted
-          got.learned.short within
+          got.learned.short
+          (λ x q after is. let k = (got.learned.root root.place refl).capacity root refl has x q after is in
+          let c : ℕ = knows_of root (view_of old) in let k' : c ≤ length q.bytes = k in let w : offset + n ≤ c =
+          within in
+          omega (arith, k', w))
       go (Arena a) at = tt
       go (Cache q) at = tt
       go (Bin b) at = tt

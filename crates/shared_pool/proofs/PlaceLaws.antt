@@ -72,9 +72,9 @@ same_root-refl r =
 
 -- the root's bytes in the law
 bytes_of : RootState → List ℕ
-bytes_of r = take r.root.capacity r.piece.bytes
+bytes_of r = take r.capacity r.piece.bytes
 
-module _ (old : PlaceState) (r : RootState) (was : old.present ≡ Some r) (fits : r.root.capacity ≤ length r.piece.bytes)
+module _ (old : PlaceState) (r : RootState) (was : old.present ≡ Some r) (fits : r.capacity ≤ length r.piece.bytes)
   where
     -- a note at a place where a root is present
     at_root : (place : ℕ) (did : Did) → place_step place (law_place old) did
@@ -82,8 +82,8 @@ module _ (old : PlaceState) (r : RootState) (was : old.present ≡ Some r) (fits
     at_root place did =
         ap (λ (o : Option RootState). place_step_by place (law_place old) (option_map law_root o) did) was
 
-    many : length (law_root r).bytes ≡ r.root.capacity
-    many = length-take-le r.root.capacity r.piece.bytes fits
+    many : length (law_root r).bytes ≡ r.capacity
+    many = length-take-le r.capacity r.piece.bytes fits
 
     -- nothing else changes where the bytes are the same
     same_place : (access : Access) → law_place (record old { present = Some (accessed r r.piece.bytes access) })
@@ -102,7 +102,7 @@ module _ (old : PlaceState) (r : RootState) (was : old.present ≡ Some r) (fits
           step = λ place. at_root place Did.Touch ∙ ap Some (sym (same_place (Access.Touch lane)));
         }
 
-    pub sets : (lane offset : ℕ) (ys : List ℕ) → offset + length ys ≤ r.root.capacity →
+    pub sets : (lane offset : ℕ) (ys : List ℕ) → offset + length ys ≤ r.capacity →
         Accesses old (Did.Set offset ys) (Access.Set lane offset (length ys))
         (record old {
           present = Some (accessed r (laid_over r.piece.bytes offset ys)
@@ -130,12 +130,12 @@ module _ (old : PlaceState) (r : RootState) (was : old.present ≡ Some r) (fits
                       root = r.root;
                       region = r.region;
                       bytes =
-                          sym (laid-front r.piece.bytes ys offset r.root.capacity within fits) i;
+                          sym (laid-front r.piece.bytes ys offset r.capacity within fits) i;
                     });
               }));
         }
 
-    pub gets : (lane offset n : ℕ) (ys : List ℕ) → offset + n ≤ r.root.capacity → ys ≡ bytes_at r.piece.bytes offset n →
+    pub gets : (lane offset n : ℕ) (ys : List ℕ) → offset + n ≤ r.capacity → ys ≡ bytes_at r.piece.bytes offset n →
         Accesses old (Did.Get offset ys) (Access.Get lane offset (length ys))
         (record old { present = Some (accessed r r.piece.bytes (Access.Get lane offset (length ys))) })
     gets lane offset n ys within is =
@@ -143,7 +143,7 @@ module _ (old : PlaceState) (r : RootState) (was : old.present ≡ Some r) (fits
         let room : nat_le (offset + length ys) (length (law_root r).bytes)
         ≡ true = le-leb (offset + length ys) (length (law_root r).bytes) (omega (arith, many, within, size)) in
         let there : ys ≡ bytes_at (law_root r).bytes offset (length ys) = is
-        ∙ there-front r.piece.bytes offset n r.root.capacity within fits
+        ∙ there-front r.piece.bytes offset n r.capacity within fits
         ∙ ap (bytes_at (law_root r).bytes offset) (sym size) in
         let same : same_bytes ys (bytes_at (law_root r).bytes offset (length ys)) ≡ true =
         ap (same_bytes ys) (sym there)
@@ -171,12 +171,12 @@ module _ (i : Inside) (r s : Root) (old : PlaceState) (view : state_in i ≡ old
   present_is : (offset n : ℕ) (may : MayAccess offset n old) → may.root ≡ root_seen r
   present_is offset n may = let e : Some may.root ≡ Some (root_seen r) = sym may.present ∙ was in cc e
 
-  pub fits_in : (offset n : ℕ) → MayAccess offset n old → r.root.capacity ≤ length r.piece.bytes
+  pub fits_in : (offset n : ℕ) → MayAccess offset n old → r.capacity ≤ length r.piece.bytes
   fits_in offset n may =
-      subst (λ (q : RootState). q.root.capacity ≤ length q.piece.bytes) (present_is offset n may) may.fits
+      subst (λ (q : RootState). q.capacity ≤ length q.piece.bytes) (present_is offset n may) may.fits
 
-  pub range_in : (offset n : ℕ) → MayAccess offset n old → offset + n ≤ r.root.capacity
-  range_in offset n may = subst (λ (q : RootState). offset + n ≤ q.root.capacity) (present_is offset n may) may.range
+  pub range_in : (offset n : ℕ) → MayAccess offset n old → offset + n ≤ r.capacity
+  range_in offset n may = subst (λ (q : RootState). offset + n ≤ q.capacity) (present_is offset n may) may.range
 
   made : (did : Did) (access : Access) (bytes : List ℕ) → root_seen s ≡ accessed (root_seen r) bytes access
       → Accesses old did access (record old { present = Some (accessed (root_seen r) bytes access) }) →

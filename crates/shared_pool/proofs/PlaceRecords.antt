@@ -158,6 +158,52 @@ accesses_more p root h x n access e here is =
     ∙ (λ i. accesses root false (lane_dids h) ++ access_in (live i) lane n.did)
     ∙ ap (λ (xs : List Access). accesses root false (lane_dids h) ++ xs) is
 
+-- ---- Asks for capacity, and growths.
+
+-- the root is asked for capacity, or grows
+abbrev pub is_regrow : Did → Bool
+is_regrow (Room asked capacity) = true
+is_regrow (Extend size) = true
+is_regrow (Grow capacity region) = true
+is_regrow _ = false
+
+quiet_access : (d : Did) → is_regrow d ≡ true → (live : Bool) (lane : ℕ) → access_in live lane d ≡ []
+quiet_access (Room asked capacity) is true lane = refl
+quiet_access (Room asked capacity) is false lane = refl
+quiet_access (Extend size) is true lane = refl
+quiet_access (Extend size) is false lane = refl
+quiet_access (Grow capacity region) is true lane = refl
+quiet_access (Grow capacity region) is false lane = refl
+quiet_access d is live lane = absurd (cc is)
+
+-- they are no access
+pub accesses_same : (root : RootId) (h : List Noted) (n : Noted) → is_regrow n.did ≡ true
+    → accesses root false (lane_dids (h ++ n ∷ [])) ≡ accesses root false (lane_dids h)
+accesses_same root h n is =
+    let lane : ℕ = unwrap_or n.lane 0 in
+    ap (accesses root false) (lane_dids-push h n) ∙ last_access root false (lane_dids h) lane n.did
+    ∙ ap (λ (xs : List Access). accesses root false (lane_dids h) ++ xs)
+    (quiet_access n.did is (live_after root false (lane_dids h)) lane)
+    ∙ nil (accesses root false (lane_dids h))
+  where
+    nil : (xs : List Access) → xs ++ [] ≡ xs
+    nil [] = refl
+    nil (x ∷ xs) = ap (λ (ys : List Access). x ∷ ys) (nil xs)
+
+-- and leave the watch
+pub watch_quiet : (w : Option Watch) (h : List Noted) (n : Noted) → is_regrow n.did ≡ true
+    → watch_after w (h ++ n ∷ []) ≡ watch_after w h
+watch_quiet w [] n is = by n.did n.lane n.watch n.root n.region is
+  where
+    by : (d : Did) (lane : Option ℕ) (watch : Option Watch) (root : Option RootId) (region : Option RegionId)
+        → is_regrow d ≡ true →
+        watch_after w (record { did = d; lane = lane; watch = watch; root = root; region = region } ∷ []) ≡ w
+    by (Room asked capacity) lane watch root region is = refl
+    by (Extend size) lane watch root region is = refl
+    by (Grow capacity x) lane watch root region is = refl
+    by d lane watch root region is = absurd (cc is)
+watch_quiet w (m ∷ h) n is = watch_quiet _ h n is
+
 -- ---- Births.
 
 other_root : (a b : RootId) → a.generation ≢ b.generation → same_root a b ≡ false

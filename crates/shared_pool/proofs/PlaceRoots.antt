@@ -10,7 +10,6 @@ use Rattle.pool_law.specs.declared.report.Watch.{Watch}
 use Rattle.pool_law.specs.Roots.{RootPlace, Present, born, place_step}
 use Rattle.pool_law.specs.Histories.{after}
 use Rattle.pool_law.specs.NotedHistories.{noted_dids}
-use Rattle.table_law.proofs.BinSteps.{so}
 use Rattle.shared_pool.specs.RootPlaces.{watch_after}
 use Rattle.shared_pool.proofs.PlaceLives.{Stepped, Born, Kept, Ended, stepped, first_watch, first_born, WasBorn, HasEnd, Has, later_born, later_end}
 

@@ -1,5 +1,5 @@
 -- A seat that shares moves or accepts them stays a seat of the pool.
-use Rattle.std.proofs.Common.{◌≡◌, ℕ, sym, ap, subst, refl}
+use Rattle.std.proofs.Common.{ℕ, sym, ap, subst, refl}
 use Rattle.pool_table.specs.declared.views.SeatView.{SeatView}
 use Rattle.pool_table.specs.declared.table.PoolSeat.{PoolSeat as TableSeat}
 use Rattle.pool_table.specs.Counts.{CountsOne}

@@ -48,7 +48,7 @@ count_in word = word % 4294967296 / 2
 abbrev pub told_with : ℕ → RootState → Watch → LiveRoot
 told_with count r watch =
     record {
-      capacity = r.root.capacity;
+      capacity = r.capacity;
       count = count;
       watch = watch;
       records = r.handle.tracker.kept;

@@ -18,7 +18,9 @@ pub mod CacheAnswers
 pub mod MailAnswers
 pub mod Wearing
 pub mod Holding
+pub mod Knowing
 pub mod RootNotes
+pub mod Regrowing
 pub mod Looks
 pub mod Closing
 pub mod Live

@@ -1,5 +1,5 @@
 -- What a call makes of a root place.
-use Rattle.std.specs.Prelude.{◌≡◌, ℕ, ◌+◌, ◌-◌, ◌^◌, ◌<◌, ◌≤◌, List, [], length, replicate, option_map, unwrap_or, drop, ◌++◌, Option, Some, None}
+use Rattle.std.specs.Prelude.{◌≡◌, ℕ, ◌+◌, ◌^◌, ◌<◌, ◌≤◌, List, [], length, replicate, option_map, unwrap_or, drop, ◌++◌, Option, Some, None}
 use Rattle.ground.specs.Ground.{with_bytes}
 use Rattle.pool_law.specs.declared.id.Region.{Region}
 use Rattle.pool_law.specs.declared.id.RootId.{RootId}
@@ -21,8 +21,8 @@ used region = record region { uses = region.uses + 1 }
 pub record MayAccess (offset len : ℕ) (s : PlaceState) : Type 0 where
   pub root : RootState
   pub present : s.present ≡ Some root
-  pub range : offset + len ≤ root.root.capacity
-  pub fits : root.root.capacity ≤ length root.piece.bytes
+  pub range : offset + len ≤ root.capacity
+  pub fits : root.capacity ≤ length root.piece.bytes
   pub few : root.handle.tracker.dropped < 2 ^ 63
 
 -- no root is present, and the place has a name left for one
@@ -70,6 +70,7 @@ born_root root region handle watch =
       region = used region.id;
       piece = with_bytes region.piece (cleared root.capacity region.piece.bytes);
       handle = with_tracker handle (new_tracker watch);
+      capacity = root.capacity;
     }
 
 -- the place once this root is born there

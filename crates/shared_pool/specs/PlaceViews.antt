@@ -5,7 +5,14 @@ use Rattle.shared_pool.specs.declared.root_place.Root.{Root}
 use Rattle.shared_pool.specs.declared.root_place.RootPlace.TheInside.{Inside}
 
 abbrev pub root_seen : Root → RootState
-root_seen r = record { root = r.root; region = r.region; piece = r.piece; handle = r.handle }
+root_seen r =
+    record {
+      root = r.root;
+      region = r.region;
+      piece = r.piece;
+      handle = r.handle;
+      capacity = r.capacity;
+    }
 
 abbrev pub state_in : Inside → PlaceState
 state_in i = record { generation = i.generation; present = option_map root_seen i.present }

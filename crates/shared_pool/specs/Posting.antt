@@ -1,5 +1,5 @@
 -- A letter in a seat of its own.
-use Rattle.std.specs.Prelude.{◌≡◌, IfSome, None, unwrap_or}
+use Rattle.std.specs.Prelude.{IfSome, None, unwrap_or}
 use Rattle.step_law.specs.declared.Told.{Ghosts}
 use Rattle.atomic_table.specs.Seated.{TableId}
 use Rattle.pool_law.specs.declared.note.Noted.{Noted}

@@ -17,12 +17,14 @@ use Rattle.pool_law.specs.NotedHistories.{noted_dids}
 use Rattle.leak_records.specs.Records.{HasRecords}
 use Rattle.handle_bin.specs.Bins.{HandleValue}
 
--- the root that is present, with its region's name and memory, and the place's handle
+-- the root that is present, with its region's name and memory, the place's handle, and the capacity
+-- that it has by now
 pub record RootState : Type 0 where
   pub root : RootId
   pub region : RegionId
   pub piece : Segment
   pub handle : HandleValue
+  pub capacity : ℕ
 
 -- the generation of the last birth, and what is present
 pub record PlaceState : Type 0 where
@@ -39,7 +41,7 @@ new_place_state = record { generation = 0; present = None }
 -- the law's root, whose bytes are the first of the region's, as many as its capacity
 abbrev pub law_root : RootState → Present
 law_root r =
-    record { root = r.root; region = r.region; bytes = take r.root.capacity r.piece.bytes }
+    record { root = r.root; region = r.region; bytes = take r.capacity r.piece.bytes }
 
 -- the law's root place
 abbrev pub law_place : PlaceState → RootPlace
@@ -64,7 +66,7 @@ lane_dids notes = map (λ n. (unwrap_or n.lane 0, n.did)) notes
 pub record IsRootAt
     (grounds : Grounds) (place handles : ℕ) (notes : List Noted) (r : RootState) : Type 0 where
   pub in_place : IsInPlace grounds r.region.place r.piece
-  pub fits : r.root.capacity ≤ r.region.place.len
+  pub fits : r.capacity ≤ r.region.place.len
   pub place_is : r.handle.place ≡ place
   pub lane_is : r.handle.lane ≡ place / handles
   pub watch : r.handle.tracker.watch ≡ watch_after None notes

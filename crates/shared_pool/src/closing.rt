@@ -18,8 +18,8 @@ use crate::live_roots::live_roots;
 use crate::mail::Mail;
 use crate::pool::SharedPool;
 use crate::queue::{MailPass, pop};
-use crate::room::Room;
 use crate::seat::{PoolSeat, TableSeat};
+use crate::spares::Spares;
 use crate::went::PoolEnd;
 use pool_law::Shape;
 use pool_law::list::Items;
@@ -50,7 +50,7 @@ impl SharedPool {
             end.chunks ≡ ends_from shape (logs_in (parts_in seats.items)) (below shape.arenas)) }
         ensures live { IfOk result (λ end. AreLiveRoots (parts_in seats.items) end.live) }
     {
-        let Ok(room) = Room::reserve(alloc, &self.layout.shape) else {
+        let Ok(room) = Spares::reserve(alloc, &self.layout.shape) else {
             return Err((self, seats));
         };
         let SharedPool {
@@ -60,7 +60,7 @@ impl SharedPool {
         } = self;
         let seat = joined(rt, &table, &mails, &layout.shape, seats);
         let (mut homes, words) = table.close_with(seat);
-        let Room {
+        let Spares {
             chunks,
             live,
             records,

@@ -102,6 +102,7 @@ fn region_of(root: Root) -> Region
         region,
         piece,
         handle,
+        capacity: _,
     } = root;
     handle.leave();
     Region::new(region, piece)

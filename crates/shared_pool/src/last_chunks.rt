@@ -6,7 +6,7 @@ ghost use Rattle.pool_law.specs.Limits.{IsShape};
 ghost use Rattle.shared_pool.specs.Ends.{IsArenaOf, AreArenas, arena_chunks, chunks_in, chunks_from};
 
 use crate::home::Home;
-use crate::room::add;
+use crate::spares::add;
 use pool_arena::Arena;
 use pool_law::{ChunkEnd, Shape};
 

@@ -10,8 +10,8 @@ ghost use Rattle.shared_pool.specs.PlaceViews.{root_seen};
 ghost use Rattle.shared_pool.specs.Rooms.{IsSpare};
 
 use crate::home::Home;
-use crate::room::{KEPT, add};
 use crate::root_place::{Root, RootPlace};
+use crate::spares::{KEPT, add};
 use leak_records::{LiveRoot, Tracker};
 use pool_law::list::Items;
 use pool_law::{Access, Shape};
@@ -103,7 +103,7 @@ impl Root {
         ensures same { self.new ≡ self.old }
         ensures told { listed result (λ x. x) ≡ told_of count (root_seen self.old) }
     {
-        let capacity = self.root.capacity;
+        let capacity = self.capacity;
         let tracker = self.handle.tracker();
         let Some(watch) = tracker.watch() else {
             return None;

@@ -5,6 +5,7 @@ ghost use Rattle.std.specs.Prelude.{◌≡◌, ◌*◌, ◌+◌, ◌<◌, ◌^�
 ghost use Rattle.pool_law.specs.Views.{IsView};
 ghost use Rattle.pool_table.specs.Counts.{CountsOne, HasCount};
 ghost use Rattle.pool_table.specs.Letters.{next_letter, received_on, sent_on};
+ghost use Rattle.shared_pool.specs.Knowing.{ReachesKnown};
 ghost use Rattle.shared_pool.specs.MailAnswers.{HasOwnChannel, HasRoom, IfEmpty, IfGot, IsDrained, IsFetched, IsPosted};
 ghost use Rattle.shared_pool.specs.Mails.{table_of};
 ghost use Rattle.shared_pool.specs.SeatLanes.{lane_of};
@@ -38,6 +39,7 @@ impl SharedPool {
         requires to { to < self.now.table.layout.shape.lanes }
         requires few { sent_on (lane_of seat.old) to (view_of seat.old).own.notes < 2 ^ 62 }
         requires view { IfSome parcel.view IsView }
+        requires known { IfSome parcel.view (ReachesKnown (view_of seat.old)) }
         requires counts { IfSome parcel.view (λ v. HasCount v.root (view_of seat.old)) }
         ensures same { SameSeat seat.old seat.new }
         ensures ends { (seat.new.posts ≡ seat.old.posts) × (seat.new.fetches ≡ seat.old.fetches) }
@@ -49,13 +51,15 @@ impl SharedPool {
         Posted::new(self.table.send(&mut seat.seat, to, parcel))
     }
 
-    /// Posts a parcel to another lane, and answers the number of the post. The seat then counts the
-    /// parcel's root once less.
+    /// Posts a parcel to another lane, and answers the number of the post. Its view reaches no
+    /// further into its root than the seat knows of the root's capacity. The seat then counts the
+    /// root once less.
     pub fn post<W: Wait>(&self, rt: &W, seat: &mut PoolSeat, to: u32, parcel: Parcel) -> u64
         requires seat { IsPoolSeat self.now seat.old }
         requires to { to < self.now.table.layout.shape.lanes }
         requires room { HasRoom self.now (lane_of seat.old) to (view_of seat.old) }
         requires view { IfSome parcel.view IsView }
+        requires known { IfSome parcel.view (ReachesKnown (view_of seat.old)) }
         requires counts { IfSome parcel.view (λ v. HasCount v.root (view_of seat.old)) }
         ensures same { SameSeat seat.old seat.new }
         ensures seat { IsPoolSeat self.now seat.new }
@@ -69,9 +73,9 @@ impl SharedPool {
         number
     }
 
-    /// Fetches the next parcel from another lane, whose root the seat then counts once more. Empty
-    /// comes exactly where the mail's queue was empty at this call's own step on it; then nothing is
-    /// noted.
+    /// Fetches the next parcel from another lane. The seat then counts its root once more, and knows
+    /// that the root's capacity reaches as far as the view. Empty comes exactly where the mail's
+    /// queue was empty at this call's own step on it; then nothing is noted.
     pub fn fetch<W: Wait>(&self, rt: &W, seat: &mut PoolSeat, from: u32) -> Fetched
         requires seat { IsPoolSeat self.now seat.old }
         requires from_is { «from» < self.now.table.layout.shape.lanes }
@@ -80,6 +84,8 @@ impl SharedPool {
         ensures got { IfGot result (λ number parcel.
             IsFetched seat.old seat.new «from» number parcel) }
         ensures view { IfGot result (λ number parcel. IfSome parcel.view IsView) }
+        ensures known { IfGot result (λ number parcel.
+            IfSome parcel.view (ReachesKnown (view_of seat.new))) }
         ensures counts { IfGot result (λ number parcel.
             IfSome parcel.view (λ w. HasCount w.root (view_of seat.new))) }
         ensures place { let s = self.now.table.layout.shape in
@@ -99,13 +105,15 @@ impl SharedPool {
 
     /// Sends a parcel to another lane as a letter that the caller carries by a channel of his own,
     /// where the pool was made with no room between the two lanes. So no number of parcels ends a
-    /// pool's life. The seat then counts the parcel's root once less.
+    /// pool's life. The parcel's view reaches no further into its root than the seat knows of the
+    /// root's capacity. The seat then counts the root once less.
     pub fn send(&self, seat: &mut PoolSeat, to: u32, parcel: Parcel) -> Posted
         requires seat { IsPoolSeat self.now seat.old }
         requires to { to < self.now.table.layout.shape.lanes }
         requires own { HasOwnChannel self.now (lane_of seat.old) to }
         requires few { sent_on (lane_of seat.old) to (view_of seat.old).own.notes < 2 ^ 62 }
         requires view { IfSome parcel.view IsView }
+        requires known { IfSome parcel.view (ReachesKnown (view_of seat.old)) }
         requires counts { IfSome parcel.view (λ v. HasCount v.root (view_of seat.old)) }
         ensures same { SameSeat seat.old seat.new }
         ensures seat { IsPoolSeat self.now seat.new }
@@ -117,7 +125,8 @@ impl SharedPool {
     }
 
     /// Receives a letter to the seat's lane that is the next from the lane that sent it; the seat
-    /// then counts the parcel's root once more. `Posted::letter` tells all that is asked.
+    /// then counts the parcel's root once more, and knows that its capacity reaches as far as the
+    /// view. `Posted::letter` tells all that is asked.
     pub fn receive(&self, seat: &mut PoolSeat, posted: Posted) -> (u64, Parcel)
         requires seat { IsPoolSeat self.now seat.old }
         requires table { posted.table ≡ table_of self.now }
@@ -131,6 +140,7 @@ impl SharedPool {
         ensures letter { (result.0 ≡ posted.letter.number) × (result.1 ≡ posted.letter.parcel) }
         ensures received { IsFetched seat.old seat.new posted.letter.from result.0 result.1 }
         ensures view { IfSome result.1.view IsView }
+        ensures known { IfSome result.1.view (ReachesKnown (view_of seat.new)) }
         ensures counts { IfSome result.1.view (λ w. HasCount w.root (view_of seat.new)) }
         ensures place { let s = self.now.table.layout.shape in
             IfSome result.1.view (λ w. w.root.place < s.lanes * s.handles) }

@@ -251,6 +251,7 @@ fn spend_place(place: RootPlace) {
                 region: _,
                 piece,
                 handle,
+                capacity: _,
             },
         ) => {
             piece.leave();

@@ -8,10 +8,12 @@ ghost use Rattle.pool_law.specs.declared.report.Access.{Access};
 ghost use Rattle.shared_pool.specs.RootPlaces.{last_generation};
 ghost use Rattle.shared_pool.specs.PlaceSteps.{MayAccess, MayBear, MayEnd, born_root, with_born, vacated};
 ghost use Rattle.shared_pool.specs.PlaceStanding.{IsAccessed, IfPlaces, home_bytes};
+ghost use Rattle.shared_pool.specs.Regrowing.{MayRegrow, Turns, Answers, IsGrown};
 ghost use Rattle.shared_pool.specs.Standing.{IsPlace, IfPlace};
 
 use crate::home::Home;
 use crate::root_place::Root;
+use crate::went::{Grown, Room};
 use handle_bin::Handle;
 use pool_law::{Region, RootId, Watch};
 use pool_table::Section;
@@ -159,6 +161,43 @@ pub(crate) fn end(section: &mut Section<Home>) -> (Region, Handle)
         region,
         piece,
         handle,
+        capacity: _,
     } = place.end();
     (Region::new(region, piece), handle)
+}
+
+// What the root of a section answers to an ask for so much capacity.
+#[inline(always)]
+pub(crate) fn room(section: &mut Section<Home>, asked: u32) -> Room
+    requires place { IsPlace section.old.home }
+    requires may { IfPlace section.old.home MayRegrow }
+    ensures same { (section.new.object ≡ section.old.object)
+        × (section.new.slot ≡ section.old.slot) }
+    ensures place { IsPlace section.new.home }
+    ensures did { IfPlaces section.old.home section.new.home
+        (λ s t. Turns s (Answers asked result) t) }
+{
+    let Home::Root(place) = Section::home(section) else {
+        unreachable!()
+    };
+    place.room(asked)
+}
+
+// What comes of the root of a section that is given a region to grow into.
+#[inline(always)]
+pub(crate) fn grow(section: &mut Section<Home>, asked: u32, region: Region) -> Grown
+    requires place { IsPlace section.old.home }
+    requires may { IfPlace section.old.home MayRegrow }
+    requires long { asked ≤ region.id.place.len }
+    requires uses { region.id.uses < 2 ^ 64 - 1 }
+    ensures same { (section.new.object ≡ section.old.object)
+        × (section.new.slot ≡ section.old.slot) }
+    ensures place { IsPlace section.new.home }
+    ensures did { IfPlaces section.old.home section.new.home
+        (λ s t. Turns s (λ r q. IsGrown asked r region result q) t) }
+{
+    let Home::Root(place) = Section::home(section) else {
+        unreachable!()
+    };
+    place.grow(asked, region)
 }

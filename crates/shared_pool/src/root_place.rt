@@ -21,12 +21,14 @@ use std::mem::replace;
 // The generation of the last root that a place has a name for.
 const LAST_GENERATION: u32 = u32::MAX;
 
-// A root that is present. Its bytes are the first of the region's, as many as its capacity.
+// A root that is present. Its bytes are the first of the region's, as many as the capacity that it
+// has by now.
 pub(crate) struct Root {
     pub(crate) root: RootId,
     pub(crate) region: RegionId,
     pub(crate) piece: Piece,
     pub(crate) handle: Handle,
+    pub(crate) capacity: u32,
 }
 
 /// The place of one root after another (Netty: `PooledByteBuf`). It must be spent.
@@ -217,6 +219,7 @@ impl RootPlace {
                 region,
                 piece,
                 handle,
+                capacity,
             }),
         );
         let None = none else { unreachable!() };

@@ -5,6 +5,7 @@ ghost use Rattle.std.specs.Fn.{FnOnceReturnsAt};
 ghost use Rattle.pool_law.specs.declared.note.Did.{Did};
 ghost use Rattle.pool_law.specs.declared.note.Object.TheVariants.{Root};
 ghost use Rattle.pool_law.specs.declared.note.RefDid.TheVariants.{Born, Vacated};
+ghost use Rattle.pool_table.specs.Capacities.{knows_of};
 ghost use Rattle.pool_table.specs.Counts.{HasCount};
 ghost use Rattle.shared_pool.specs.SeatViews.{view_of, HasView, SameSeat};
 ghost use Rattle.shared_pool.specs.Answers.{IfDid, IfHeld};
@@ -120,8 +121,8 @@ impl SharedPool {
         Ok((number, root))
     }
 
-    /// Lays bytes over those of a root, from an offset on. With `mark` the seat notes that another
-    /// seat was there.
+    /// Lays bytes over those of a root, from an offset on, as far as the seat knows of its capacity.
+    /// With `mark` the seat notes that another seat was there.
     #[inline(always)]
     pub fn write(
         &self,
@@ -134,7 +135,7 @@ impl SharedPool {
         requires seat { IsPoolSeat self.now seat.old }
         requires turn { 0 < (view_of seat.old).turns }
         requires counts { HasCount root (view_of seat.old) }
-        requires range { offset + length bytes.now ≤ root.capacity }
+        requires range { offset + length bytes.now ≤ knows_of root (view_of seat.old) }
         ensures same { SameSeat seat.old seat.new }
         ensures seat { IsPoolSeat self.now seat.new }
         ensures did { IfDid result (λ number done.
@@ -153,8 +154,8 @@ impl SharedPool {
         Went::Did(number, ())
     }
 
-    /// Reads bytes of a root, from an offset on. Where another seat was there nothing is read, and
-    /// with `mark` the seat notes that.
+    /// Reads bytes of a root, from an offset on, as far as the seat knows of its capacity. Where
+    /// another seat was there nothing is read, and with `mark` the seat notes that.
     #[inline(always)]
     pub fn read(
         &self,
@@ -167,7 +168,7 @@ impl SharedPool {
         requires seat { IsPoolSeat self.now seat.old }
         requires turn { 0 < (view_of seat.old).turns }
         requires counts { HasCount root (view_of seat.old) }
-        requires range { offset + length out.old ≤ root.capacity }
+        requires range { offset + length out.old ≤ knows_of root (view_of seat.old) }
         ensures same { SameSeat seat.old seat.new }
         ensures seat { IsPoolSeat self.now seat.new }
         ensures len { length out.new ≡ length out.old }
@@ -200,7 +201,7 @@ impl SharedPool {
         requires seat { IsPoolSeat self.now seat.old }
         requires turn { 0 < (view_of seat.old).turns }
         requires counts { HasCount root (view_of seat.old) }
-        requires range { offset + len ≤ root.capacity }
+        requires range { offset + len ≤ knows_of root (view_of seat.old) }
         requires callable { F.IsAlwaysCallable f }
         ensures same { SameSeat seat.old seat.new }
         ensures seat { IsPoolSeat self.now seat.new }

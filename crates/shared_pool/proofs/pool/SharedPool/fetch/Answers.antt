@@ -1,5 +1,6 @@
 use Rattle.std.proofs.Common.{◌∙◌, ap, arith, refl}
 use Rattle.pool_table.specs.Seats as table
+use Rattle.shared_pool.proofs.Knowledge.{known_fetched}
 use Rattle.shared_pool.proofs.MailSeats.{drained, empty_seat, fetch_within, fetched_seat, is_next, may_pop, may_receive, noted_fetch}
 use Rattle.shared_pool.proofs.pool.SharedPool.fetch.Goals as goal
 
@@ -73,3 +74,6 @@ returns-clause-seat g c =
     (table.view_of c.into_seat.result) c.receive-letter.result (ap (λ s. s.0) c.into_seat.ensures.alone)
     c.receive-letter.ensures.came c.receive-letter.ensures.noted)
     c.receive-letter.ensures.counts refl refl
+
+pub returns-clause-known : goal.returns-clause-known
+returns-clause-known g c = known_fetched _ _ _ _ _ (returns-clause-got g c)

@@ -15,7 +15,9 @@ get-requires-clause-may c =
     let l = c.args.self.now.table.layout in let root = c.args.root in let got = c.in-Ok.ensures.got in let seat =
     c.requires.seat in
     accessible l root c.args.seat.now.seat c.claim_place.new.seat c.in-Ok.section got seat.setting seat.settled
-    (counts_root l root c.args.seat.now.seat c.claim_place.new.seat c.in-Ok.section got c.requires.counts) c.args.offset
+    (counts_root l root c.args.seat.now.seat c.claim_place.new.seat c.in-Ok.section got c.requires.counts)
+    c.requires.counts
+    c.args.offset
     (length c.args.out.now) c.requires.range
 
 pub note_get-number-requires-clause-section : goal.note_get-number-requires-clause-section

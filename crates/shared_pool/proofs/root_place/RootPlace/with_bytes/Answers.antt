@@ -11,8 +11,8 @@ pub returns-clause-len : goal.returns-clause-len
 returns-clause-len g c =
     let i = c.self.inside in let r = c.in-Some.root in let s = c.record.new.self in let old = c.args.self.now in
     let at : ℕ = c.args.offset in let n : ℕ = c.args.len in
-    let low : at + n ≤ r.root.capacity = range_in i r s old c.self.view_is c.in-Some.is at n c.requires.may in
-    let high : r.root.capacity ≤ length r.piece.bytes =
+    let low : at + n ≤ r.capacity = range_in i r s old c.self.view_is c.in-Some.is at n c.requires.may in
+    let high : r.capacity ≤ length r.piece.bytes =
     fits_in i r s old c.self.view_is c.in-Some.is at n c.requires.may in
     ap (λ (q : Root). length (bytes_at q.piece.bytes at n)) c.record.ensures
     ∙ there-length r.piece.bytes at n (omega (arith, low, high))
@@ -21,8 +21,8 @@ pub returns-clause-did : goal.returns-clause-did
 returns-clause-did g c =
     let i = c.self.inside in let r = c.in-Some.root in let s = c.record.new.self in let old = c.args.self.now in
     let at : ℕ = c.args.offset in let n : ℕ = c.args.len in
-    let low : at + n ≤ r.root.capacity = range_in i r s old c.self.view_is c.in-Some.is at n c.requires.may in
-    let high : r.root.capacity ≤ length r.piece.bytes =
+    let low : at + n ≤ r.capacity = range_in i r s old c.self.view_is c.in-Some.is at n c.requires.may in
+    let high : r.capacity ≤ length r.piece.bytes =
     fits_in i r s old c.self.view_is c.in-Some.is at n c.requires.may in
     let bytes : List ℕ = bytes_at s.piece.bytes at n in
     let is : bytes ≡ bytes_at r.piece.bytes at n = ap (λ (q : Root). bytes_at q.piece.bytes at n) c.record.ensures in

@@ -15,15 +15,15 @@ pub(crate) const KEPT: u32 = 4;
 /// Room for each chunk, and for each root place a live root with its records: for the largest pool
 /// of 65,536 root places some ten million bytes.
 #[derive(Drop)]
-pub(crate) struct Room {
+pub(crate) struct Spares {
     pub(crate) chunks: Vec<ChunkEnd>,
     pub(crate) live: Vec<LiveRoot>,
     pub(crate) records: Vec<Vec<Access>>,
 }
 
-impl Room {
+impl Spares {
     /// Takes it.
-    pub(crate) fn reserve(alloc: Global, shape: &Shape) -> Result<Room, AllocError>
+    pub(crate) fn reserve(alloc: Global, shape: &Shape) -> Result<Spares, AllocError>
         requires { IsShape shape.now }
         ensures chunks { IfOk result (λ r. (r.chunks.items ≡ [])
             × (shape.now.arenas * shape.now.chunks ≤ vec_capacity r.chunks)) }
@@ -36,7 +36,7 @@ impl Room {
         let chunks = Vec::with_capacity(alloc, (shape.arenas * shape.chunks) as usize)?;
         let live = Vec::with_capacity(alloc, places as usize)?;
         let records = spare_records(alloc, places)?;
-        Ok(Room {
+        Ok(Spares {
             chunks,
             live,
             records,
