@@ -1,7 +1,7 @@
 //! A view and its calls. Ranges are answered as the offset in the root and the length.
 
-ghost use Rattle.std.specs.Prelude.{◌≡◌, ◌<◌, ◌^◌, ◌↔◌, IsTrue, IsOk, IfOk, OnOk, OnErr};
-ghost use Rattle.pool_law.specs.Views.{view_of, slice_of, root_index, in_range, can_read, can_write, after_read, after_write, IsView};
+ghost use Rattle.std.specs.Prelude.{◌≡◌, ◌≤◌, ◌↔◌, IsTrue, IsOk, IfOk, OnOk, OnErr};
+ghost use Rattle.pool_law.specs.Views.{view_of, slice_of, root_index, in_range, can_read, can_write, after_read, after_write, reaching, most_capacity, LiesIn, IsView};
 
 use pool_law::{RootId, ViewData};
 
@@ -13,17 +13,18 @@ pub enum RangeNo {
 
 /// A window on the bytes of a root, with a reader and a writer in it (Netty: `AbstractByteBuf`).
 ///
-/// It lies in its root, and its reader, its writer and its length are in this order.
+/// It lies where a root may have bytes, in its first 16,777,216, and its reader, its writer and its
+/// length are in this order. Whether its root has so many bytes, its owner knows.
 #[derive(Debug, Drop)]
 pub struct View {
     pub at: ViewData,
     ghost is_view: { IsView at },
-    ghost fits: { at.root.capacity < 2 ^ 32 },
 }
 
 impl View {
-    /// All of a new root: nothing of it is written yet.
+    /// All of a new root of at most 16,777,216 bytes: nothing of it is written yet.
     pub fn of_root(root: RootId) -> View
+        requires { root.capacity ≤ most_capacity }
         ensures { result.at ≡ view_of root }
     {
         View {
@@ -88,7 +89,7 @@ impl View {
     }
 
     /// Where the next `n` bytes to write lie in the root. The writer moves past them.
-    /// No root grows.
+    /// The view keeps its length: `reach` makes it longer.
     pub fn write_range(&mut self, n: u32) -> Result<(u32, u32), RangeNo>
         ensures succeeds { IsOk result ↔ IsTrue (can_write self.old.at n) }
         ensures ok { IfOk result (λ range. range ≡ (root_index self.old.at self.old.at.writer, n)) }
@@ -101,5 +102,15 @@ impl View {
         let start = self.at.offset + self.at.writer;
         self.at.writer += n;
         Ok((start, n))
+    }
+
+    /// Lengthens the view up to the end of its root, which has `capacity` bytes now. The reader
+    /// and the writer stay. No view grows shorter: `capacity` is at least where the view ends.
+    pub fn reach(&mut self, capacity: u32)
+        requires covers { LiesIn capacity self.old.at }
+        requires most { capacity ≤ most_capacity }
+        ensures { self.new.at ≡ reaching capacity self.old.at }
+    {
+        self.at.len = capacity - self.at.offset;
     }
 }
