@@ -81,8 +81,8 @@ module _ (pool : SharedPool) (old new : PoolSeat) (is : IsPoolSeat pool new)
       (grows_noted pool old new works.seat is o number n noted) (omega (arith, turns)) carries tells holds unsent
 
   -- a note that tells nothing
-  quiet : (before after : Hand) (o : Object) (n : Noted) → Works pool before 1 0 old → IsNoted pool old new o number n
-      → Carries (lane_in v) before after (entries o n) → Tells no_change (entries o n)
+  pub quiet : (before after : Hand) (o : Object) (n : Noted) → Works pool before 1 0 old
+      → IsNoted pool old new o number n → Carries (lane_in v) before after (entries o n) → Tells no_change (entries o n)
       → ((to : ℕ) → sent_on (lane_in v) to (entries o n) ≤ 0) → Proceeds pool after 1 0 no_change old new
   quiet before after o n works noted carries tells unsent =
       proceeds_noted before after no_change o n works noted carries tells works.paid unsent
@@ -107,9 +107,11 @@ module _ (pool : SharedPool) (old new : PoolSeat) (is : IsPoolSeat pool new)
       (handle_goes (lane_in v) number v.own.number empty_hand h.lane h.place)
       (record { counts = λ root. refl; ended = λ root. refl; empty = refl; full = refl }) (λ to. omega arith)
 
-  module _ (place : ℕ) where
+  -- ---- A region, beside the handle of a place or none.
+
+  module _ (place : Option ℕ) where
     abbrev at_place : Hand
-    at_place = with_place place
+    at_place = hand_with place None
 
     pub popped_region : (class : ℕ) (o : Option Region) → Works pool at_place 1 0 old
         → IsNoted pool old new (Cache (lane_of old) class) number (plain (hit o))
@@ -119,7 +121,7 @@ module _ (pool : SharedPool) (old new : PoolSeat) (is : IsPoolSeat pool new)
         (cache_missed (lane_in v) number v.own.number at_place (lane_of old) class)
         (record { counts = λ root. refl; ended = λ root. refl; empty = refl; full = refl }) (λ to. omega arith)
     popped_region class (Some r) works noted =
-        quiet at_place (with_both place r.id) (Cache (lane_of old) class) (plain (Did.Hit r.id)) works noted
+        quiet at_place (hand_with place (Some r)) (Cache (lane_of old) class) (plain (Did.Hit r.id)) works noted
         (region_hit (lane_in v) number v.own.number at_place (lane_of old) class r.id)
         (record { counts = λ root. refl; ended = λ root. refl; empty = refl; full = refl }) (λ to. omega arith)
 
@@ -132,31 +134,31 @@ module _ (pool : SharedPool) (old new : PoolSeat) (is : IsPoolSeat pool new)
         (record { counts = λ root. refl; ended = λ root. refl; empty = refl; full = refl }) works.paid
         (λ to. omega arith)
     took_region arena class (Some r) works noted =
-        quiet at_place (with_both place r.id) (Arena arena) (plain (Did.Take class r.id)) works noted
+        quiet at_place (hand_with place (Some r)) (Arena arena) (plain (Did.Take class r.id)) works noted
         (region_taken (lane_in v) number v.own.number at_place arena class r.id)
         (record { counts = λ root. refl; ended = λ root. refl; empty = refl; full = refl }) (λ to. omega arith)
 
-    module _ (r : Region) (works : Works pool (with_both place r.id) 1 0 old) where
+    module _ (r : Region) (works : Works pool (hand_with place (Some r)) 1 0 old) where
       pub gave_region : IsNoted pool old new (Arena r.id.place.arena) number (plain (Did.Give r.id))
           → Proceeds pool at_place 1 0 no_change old new
       gave_region noted =
-          quiet (with_both place r.id) at_place (Arena r.id.place.arena) (plain (Did.Give r.id)) works noted
+          quiet (hand_with place (Some r)) at_place (Arena r.id.place.arena) (plain (Did.Give r.id)) works noted
           (region_given (lane_in v) number v.own.number at_place r.id.place.arena r.id)
           (record { counts = λ root. refl; ended = λ root. refl; empty = refl; full = refl }) (λ to. omega arith)
 
       pub kept_region : IsNoted pool old new (Cache r.id.owner r.id.class) number (plain (Did.Kept r.id))
           → Proceeds pool at_place 1 0 no_change old new
       kept_region noted =
-          quiet (with_both place r.id) at_place (Cache r.id.owner r.id.class) (plain (Did.Kept r.id)) works noted
+          quiet (hand_with place (Some r)) at_place (Cache r.id.owner r.id.class) (plain (Did.Kept r.id)) works noted
           (region_kept (lane_in v) number v.own.number at_place r.id.owner r.id.class r.id)
           (record { counts = λ root. refl; ended = λ root. refl; empty = refl; full = refl }) (λ to. omega arith)
 
       -- and one that comes back
       pub back_region : (why : CacheNo)
           → IsNoted pool old new (Cache r.id.owner r.id.class) number (plain (Did.Back r.id why))
-          → Proceeds pool (with_both place r.id) 1 0 no_change old new
+          → Proceeds pool (hand_with place (Some r)) 1 0 no_change old new
       back_region why noted =
-          let hand = with_both place r.id in
+          let hand = hand_with place (Some r) in
           quiet hand hand (Cache r.id.owner r.id.class) (plain (Did.Back r.id why)) works noted
           (region_back (lane_in v) number v.own.number hand r.id.owner r.id.class r.id why)
           (record { counts = λ root. refl; ended = λ root. refl; empty = refl; full = refl }) (λ to. omega arith)

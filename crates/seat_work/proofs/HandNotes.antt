@@ -21,7 +21,8 @@ use Rattle.pool_table.specs.declared.views.Entry.TheVariants.{At, Ref, Busy}
 use Rattle.pool_table.specs.declared.views.SeatView.{SeatView}
 use Rattle.pool_table.specs.Counts.{ref_born, ref_ended, ref_vacated}
 use Rattle.shared_pool.specs.Notes.{plain}
-use Rattle.shared_pool.specs.RootNotes.{birth, end_of}
+use Rattle.shared_pool.specs.Regrowing.{growth}
+use Rattle.shared_pool.specs.RootNotes.{access, birth, end_of}
 use Rattle.seat_work.specs.Hands.{Hand, IsHeld, empty_hand}
 use Rattle.seat_work.proofs.HandLaws.{Carries, quota_of}
 
@@ -201,6 +202,49 @@ module _ (lane k : ℕ) (number : Option ℕ) (h : Hand) where
     uses = λ q. (let a = with_use (same_taking q r) r.uses in omega (arith, a));
     tokens = λ q. omega arith;
     ended = λ q. (let a = nothing (same_root root q) in omega (arith, a));
+    quotas = λ class. refl;
+    closes = λ class. refl;
+  }
+
+  -- a root is asked for capacity, or has more in its region
+  abbrev root_note : RootId → Did → List Entry
+  root_note root did = At (Root root.place) k (noted_by number (access root did)) ∷ []
+
+  pub root_asked : (root : RootId) (asked capacity : ℕ) → Carries lane h h (root_note root (Did.Room asked capacity))
+  root_asked root asked capacity = record {
+    places = λ q. omega arith;
+    births = λ q. refl;
+    regions = λ q. omega arith;
+    uses = λ q. omega arith;
+    tokens = λ q. omega arith;
+    ended = λ q. refl;
+    quotas = λ class. refl;
+    closes = λ class. refl;
+  }
+
+  pub root_extended : (root : RootId) (size : ℕ) → Carries lane h h (root_note root (Did.Extend size))
+  root_extended root size = record {
+    places = λ q. omega arith;
+    births = λ q. refl;
+    regions = λ q. omega arith;
+    uses = λ q. omega arith;
+    tokens = λ q. omega arith;
+    ended = λ q. refl;
+    quotas = λ class. refl;
+    closes = λ class. refl;
+  }
+
+  -- a root goes on in the region, and the one that it leaves comes
+  pub root_moved : (root : RootId) (size : ℕ) (into left : RegionId) →
+      Carries lane (record h { region = Some into }) (record h { region = Some left })
+      (At (Root root.place) k (noted_by number (growth root size into left)) ∷ [])
+  root_moved root size into left = record {
+    places = λ q. omega arith;
+    births = λ q. refl;
+    regions = λ q. omega arith;
+    uses = λ q. (let a = with_use (same_taking q into) into.uses in omega (arith, a));
+    tokens = λ q. omega arith;
+    ended = λ q. refl;
     quotas = λ class. refl;
     closes = λ class. refl;
   }

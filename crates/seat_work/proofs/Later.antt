@@ -1,7 +1,8 @@
 -- A seat further on, behind steps of its own.
-use Rattle.std.proofs.Common.{◌≡◌, ℕ, suc, ◌+◌, ◌≤◌, List, [], ◌∷◌, ◌++◌, Bool, true, false, length, refl, sym, ap, ◌∙◌, subst, arith, append_assoc, append-nil, length-append, Some}
-use Rattle.std.specs.Prelude.{◌&&◌, slice_get, Option, None, Result, Ok, Err, IfOk}
+use Rattle.std.proofs.Common.{◌≡◌, ℕ, zero, suc, ◌+◌, ◌≤◌, List, [], ◌∷◌, ◌++◌, Bool, true, false, length, refl, sym, ap, ◌∙◌, subst, arith, append_assoc, append-nil, length-append, Some}
+use Rattle.std.specs.Prelude.{◌&&◌, ◌||◌, slice_get, Option, None, Result, Ok, Err, IfOk}
 use Rattle.std.specs.List.{list_all}
+use Rattle.std.proofs.lemmas.Bool.{and_parts}
 use Rattle.handle_bin.specs.Bins.{HandleValue}
 use Rattle.pool_arena.specs.Standing.{taken_or_full}
 use Rattle.pool_law.specs.declared.id.Region.{Region}
@@ -13,6 +14,7 @@ use Rattle.pool_law.specs.declared.note.Object.{Object}
 use Rattle.pool_law.specs.declared.note.RefDid.{RefDid}
 use Rattle.pool_law.specs.declared.note.RefDid.TheVariants.{Born}
 use Rattle.shared_pool.specs.declared.seat.PoolSeat.{PoolSeat}
+use Rattle.pool_law.specs.Counts.{root_is}
 use Rattle.pool_table.specs.declared.views.Entry.{Entry}
 use Rattle.pool_table.specs.declared.views.SeatView.{SeatView}
 use Rattle.pool_table.specs.Counts.{with_ref}
@@ -25,9 +27,9 @@ use Rattle.shared_pool.specs.Notes.{popped, hit}
 use Rattle.shared_pool.specs.RootNotes.{IsNotedWith}
 use Rattle.seat_work.specs.declared.allocation.AllocNo.{AllocNo}
 use Rattle.shared_pool.specs.Seats.{IsPoolSeat, IsNoted, FoundBusy}
-use Rattle.seat_work.specs.Growth.{HasGrown, is_quiet, is_quiet_entry}
-use Rattle.seat_work.specs.Works.{IsLater, HasBorn}
-use Rattle.seat_work.proofs.Grown.{Grows, grows_noted, grows_busy, grows_none, grows_ref, grows_with}
+use Rattle.seat_work.specs.Growth.{HasGrown, asks_root, is_ask, is_quiet, is_quiet_but, is_quiet_entry}
+use Rattle.seat_work.specs.Works.{IsLater, IsLaterBut, IsLaterBy, HasBorn}
+use Rattle.seat_work.proofs.Grown.{Grows, note_at, grows_noted, grows_busy, grows_none, grows_ref, grows_with}
 
 -- ---- Views that grow.
 
@@ -59,16 +61,47 @@ grown_by v w es spent grows = record {
 
 -- ---- Entries that are quiet.
 
-pub quiet_on : (xs ys : List Entry) → list_all is_quiet_entry xs ≡ true → list_all is_quiet_entry ys ≡ true
-    → list_all is_quiet_entry (xs ++ ys) ≡ true
-quiet_on [] ys x y = y
-quiet_on (e ∷ xs) ys x y = go (is_quiet_entry e) x (λ rest. quiet_on xs ys rest y)
+pub quiet_on : (is_so : Entry → Bool) (xs ys : List Entry) → list_all is_so xs ≡ true → list_all is_so ys ≡ true
+    → list_all is_so (xs ++ ys) ≡ true
+quiet_on is_so [] ys x y = y
+quiet_on is_so (e ∷ xs) ys x y = go (is_so e) x (λ rest. quiet_on is_so xs ys rest y)
   where
-    go : (b : Bool) → (b && list_all is_quiet_entry xs) ≡ true
-        → (list_all is_quiet_entry xs ≡ true → list_all is_quiet_entry (xs ++ ys) ≡ true)
-        → (b && list_all is_quiet_entry (xs ++ ys)) ≡ true
+    go : (b : Bool) → (b && list_all is_so xs) ≡ true
+        → (list_all is_so xs ≡ true → list_all is_so (xs ++ ys) ≡ true)
+        → (b && list_all is_so (xs ++ ys)) ≡ true
     go false none more = absurd (cc none)
     go true rest more = more rest
+
+pub or_last : (a : Bool) → ((a || true) && true) ≡ true
+or_last true = refl
+or_last false = refl
+
+-- quiet entries are quiet but for a root
+or_else : (a b : Bool) → a ≡ true → (a || b) ≡ true
+or_else false b is = absurd (cc is)
+or_else true b is = refl
+
+pub quiet_too : (root : RootId) (es : List Entry) → list_all is_quiet_entry es ≡ true
+    → list_all (is_quiet_but root) es ≡ true
+quiet_too root [] quiet = refl
+quiet_too root (e ∷ es) quiet =
+    let both = and_parts (is_quiet_entry e) (list_all is_quiet_entry es) quiet in
+    (λ i. or_else (is_quiet_entry e) (asks_root root e) both.0 i && list_all (is_quiet_but root) es)
+    ∙ quiet_too root es both.1
+
+-- ---- Where an entry stands.
+
+-- behind other entries, and before others
+pub behind : (xs ys : List Entry) (k : ℕ) → slice_get (xs ++ ys) (length xs + k) ≡ slice_get ys k
+behind [] ys k = let none : 0 + k ≡ k = omega arith in ap (slice_get ys) none
+behind (e ∷ xs) ys k =
+    let next : length (e ∷ xs) + k ≡ suc (length xs + k) = omega arith in
+    ap (slice_get (e ∷ (xs ++ ys))) next ∙ behind xs ys k
+
+pub before : (xs ys : List Entry) (k : ℕ) (e : Entry) → slice_get xs k ≡ Some e → slice_get (xs ++ ys) k ≡ Some e
+before [] ys k e is = absurd (cc is)
+before (x ∷ xs) ys zero e is = is
+before (x ∷ xs) ys (suc k) e is = before xs ys k e is
 
 -- ---- What pops, takes and puts note.
 
@@ -86,7 +119,7 @@ quiet_taken class (Some r) = refl
 
 pub quiet_put : (id : RegionId) (put : Put) → is_quiet (was_put id put) ≡ true
 quiet_put id Kept = refl
-quiet_put id (Back r why) = refl
+quiet_put id (Back why r) = refl
 
 -- ---- Seats that go on.
 
@@ -98,24 +131,43 @@ module _ (pool : SharedPool) where
   pub later_none : (s : PoolSeat) → IsPoolSeat pool s → IsLater pool s s
   later_none s is = record { same = (refl, refl); seat = is; added = []; grown = grown_none (view_of s); quiet = refl }
 
-  abbrev pub later_on : (old mid new : PoolSeat) → IsLater pool old mid → IsLater pool mid new → IsLater pool old new
-  later_on old mid new x y = record {
-    same = same_on old mid new x.same y.same;
-    seat = y.seat;
-    added = x.added ++ y.added;
-    grown = grown_on (view_of old) (view_of mid) (view_of new) x.added y.added x.grown y.grown;
-    quiet = quiet_on x.added y.added x.quiet y.quiet;
-  }
+  module _ (is_so : Entry → Bool) where
+    abbrev pub follows_on : (old mid new : PoolSeat) → IsLaterBy is_so pool old mid → IsLaterBy is_so pool mid new
+        → IsLaterBy is_so pool old new
+    follows_on old mid new x y = record {
+      same = same_on old mid new x.same y.same;
+      seat = y.seat;
+      added = x.added ++ y.added;
+      grown = grown_on (view_of old) (view_of mid) (view_of new) x.added y.added x.grown y.grown;
+      quiet = quiet_on is_so x.added y.added x.quiet y.quiet;
+    }
 
-  -- what follows a seat that knows what it knew
+    -- what follows a seat that knows what it knew
+    abbrev pub follows_same : (old mid new : PoolSeat) → SameSeat old mid → view_of mid ≡ view_of old
+        → IsLaterBy is_so pool mid new → IsLaterBy is_so pool old new
+    follows_same old mid new same view x = record {
+      same = same_on old mid new same x.same;
+      seat = x.seat;
+      added = x.added;
+      grown = subst (λ (v : SeatView). HasGrown v (view_of new) x.added) view x.grown;
+      quiet = x.quiet;
+    }
+
+  abbrev pub later_on : (old mid new : PoolSeat) → IsLater pool old mid → IsLater pool mid new → IsLater pool old new
+  later_on old mid new x y = follows_on is_quiet_entry old mid new x y
+
   pub later_same : (old mid new : PoolSeat) → SameSeat old mid → view_of mid ≡ view_of old
       → IsLater pool mid new → IsLater pool old new
-  later_same old mid new same view x = record {
-    same = same_on old mid new same x.same;
+  later_same old mid new same view x = follows_same is_quiet_entry old mid new same view x
+
+  -- what is quiet is so but for a root
+  abbrev pub later_but : (root : RootId) (old new : PoolSeat) → IsLater pool old new → IsLaterBut root pool old new
+  later_but root old new x = record {
+    same = x.same;
     seat = x.seat;
     added = x.added;
-    grown = subst (λ (v : SeatView). HasGrown v (view_of new) x.added) view x.grown;
-    quiet = x.quiet;
+    grown = x.grown;
+    quiet = quiet_too root x.added x.quiet;
   }
 
   module _ (old new : PoolSeat) (same : SameSeat old new) (was : IsPoolSeat pool old)
@@ -128,6 +180,17 @@ module _ (pool : SharedPool) where
       added = es;
       grown = grown_by (view_of old) (view_of new) es spent grows;
       quiet = quiet;
+    }
+
+    -- a root is asked for capacity
+    abbrev pub later_asked : (root : RootId) {o : Object} {number : ℕ} {n : Noted} → IsNoted pool old new o number n
+        → (is_ask n.did && root_is root n.root) ≡ true → IsLaterBut root pool old new
+    later_asked root {o} {number} {n} noted asks = record {
+      same = same;
+      seat = is;
+      added = note_at pool old new was is o number n ∷ [];
+      grown = grown_by (view_of old) (view_of new) _ 0 (grows_noted pool old new was is o number n noted);
+      quiet = ap (λ b. (is_quiet n.did || b) && true) asks ∙ or_last (is_quiet n.did);
     }
 
     -- the calls that make a note, that leave a mark, and that do nothing
@@ -167,14 +230,8 @@ module _ (pool : SharedPool) where
   born_on root old mid new x y = record {
     later = later_on old mid new x y.later;
     at = length x.added + y.at;
-    born = further x.added y.later.added y.at ∙ y.born;
+    born = behind x.added y.later.added y.at ∙ y.born;
   }
-    where
-      further : (xs ys : List Entry) (k : ℕ) → slice_get (xs ++ ys) (length xs + k) ≡ slice_get ys k
-      further [] ys k = let none : 0 + k ≡ k = omega arith in ap (slice_get ys) none
-      further (e ∷ xs) ys k =
-          let next : length (e ∷ xs) + k ≡ suc (length xs + k) = omega arith in
-          ap (slice_get (e ∷ (xs ++ ys))) next ∙ further xs ys k
 
   pub if_born_on : (old mid new : PoolSeat) (r : Result RootId AllocNo) → IsLater pool old mid
       → IfOk r (λ root. HasBorn pool root mid new) → IfOk r (λ root. HasBorn pool root old new)

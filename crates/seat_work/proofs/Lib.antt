@@ -1,4 +1,5 @@
 pub mod Grown
+pub mod Knowing
 pub mod HandLaws
 pub mod HandNotes
 pub mod Holds
@@ -9,6 +10,7 @@ pub mod Calls
 pub mod Accesses
 pub mod HandedOver
 pub mod Later
+pub mod Regrowing
 pub mod Worn
 pub mod FirstSeats
 pub mod MailRooms

@@ -15,6 +15,7 @@ use Rattle.seat_work.specs.Works.{Works, Goes, Proceeds}
 use Rattle.seat_work.proofs.Counting.{Tells, changes_by, paid_after}
 use Rattle.seat_work.proofs.Grown.{Grows, sent_append}
 use Rattle.seat_work.proofs.HandLaws.{Carries, held_on}
+use Rattle.seat_work.proofs.Knowing.{knows_more, knows_on, knows_same}
 
 -- ---- What is sent.
 
@@ -71,6 +72,7 @@ module _ (pool : SharedPool) where
     turns_left = (let p = x.turns_left in let q = y.turns_left in omega (arith, p, q, le));
     moves_left = (let p = x.moves_left in let q = y.moves_left in omega (arith, p, q, lf));
     number = y.number ∙ x.number;
+    knows = knows_on (view_of old) (view_of mid) (view_of new) x.knows y.knows;
   }
 
   -- nothing was spent yet
@@ -82,6 +84,7 @@ module _ (pool : SharedPool) where
     turns_left = omega arith;
     moves_left = omega arith;
     number = refl;
+    knows = knows_same (view_of s) (view_of s) refl;
   }
 
   pub proceeds_on : (c : Change) (between after : Hand) (a b d e t m : ℕ) (old mid new : PoolSeat)
@@ -113,6 +116,7 @@ module _ (pool : SharedPool) where
       turns_left = (let p = x.goes.turns_left in omega (arith, p, le));
       moves_left = (let p = x.goes.moves_left in omega (arith, p, lf));
       number = x.goes.number;
+      knows = x.goes.knows;
     };
     changes = x.changes;
     sends = x.sends;
@@ -150,6 +154,8 @@ module _ (pool : SharedPool) where
     turns_left = (let p = x.turns_left in let q = ap (λ (v : SeatView). v.turns) same in omega (arith, p, q));
     moves_left = (let p = x.moves_left in let q = ap (λ (v : SeatView). v.moves) same in omega (arith, p, q));
     number = x.number ∙ ap (λ (v : SeatView). v.own.number) same;
+    knows =
+        knows_on (view_of old) (view_of mid) (view_of new) (knows_same (view_of old) (view_of mid) same) x.knows;
   }
 
   pub proceeds_same : (c : Change) (hand : Hand) (t m : ℕ) (old mid new : PoolSeat) → view_of mid ≡ view_of old
@@ -174,6 +180,7 @@ module _ (pool : SharedPool) where
           turns_left = (let q = ap (λ (v : SeatView). v.turns) same in omega (arith, q));
           moves_left = (let q = ap (λ (v : SeatView). v.moves) same in omega (arith, q));
           number = ap (λ (v : SeatView). v.own.number) same;
+          knows = knows_same (view_of old) (view_of new) same;
         };
         changes = subst (λ (v : SeatView). Changes no_change (view_of old) v) (sym same) (record {
           counts = λ root. omega arith;
@@ -207,6 +214,7 @@ module _ (pool : SharedPool) where
       turns_left = took;
       moves_left = grows.moves;
       number = grows.more.number;
+      knows = knows_more v w es grows.more.notes;
     }
 
     pub proceeds_by : ((to : ℕ) → sent_on (lane_in v) to es ≤ 0) → Proceeds pool after turns spent c old new

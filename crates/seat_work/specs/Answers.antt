@@ -29,14 +29,15 @@ with_both place region = record empty_hand { place = Some place; region = Some r
 abbrev pub with_token : RootId → Hand
 with_token root = record empty_hand { token = Some root }
 
--- what is in hand where a handle was asked for, and a region beside a handle
+-- what is in hand where a handle was asked for
 abbrev pub hand_got : Option HandleValue → Hand
 hand_got None = empty_hand
 hand_got (Some handle) = with_place handle.place
 
-abbrev pub hand_with : ℕ → Option Region → Hand
-hand_with place None = with_place place
-hand_with place (Some region) = with_both place region.id
+-- a hand with a region, or none, beside the handle of a place, or none
+abbrev pub hand_with : Option ℕ → Option Region → Hand
+hand_with place None = record empty_hand { place = place }
+hand_with place (Some region) = record empty_hand { place = place; region = Some region.id }
 
 -- what it tells that a handle was asked for, and a region of the arena
 abbrev pub handle_told : Option HandleValue → Change

@@ -1,9 +1,11 @@
 -- What steps add to a seat's own part, and how much one step may.
-use Rattle.std.specs.Prelude.{◌≡◌, ℕ, ◌+◌, ◌≤◌, if◌then◌else◌, Bool, true, false, List, [], ◌∷◌, ◌++◌, length, map}
+use Rattle.std.specs.Prelude.{◌≡◌, ℕ, ◌+◌, ◌≤◌, ◌&&◌, ◌||◌, if◌then◌else◌, Bool, true, false, List, [], ◌∷◌, ◌++◌, length, map}
+use Rattle.pool_law.specs.declared.id.RootId.{RootId}
 use Rattle.pool_law.specs.declared.note.Did.{Did}
 use Rattle.pool_law.specs.declared.note.Did.TheVariants.{Take, Full, Give, Hit, Miss, Kept, Back, Trim, Close, Shed, Handle, NoHandle, Home, Post, Fetch, Birth, Set, Get, Touch, Room, Extend, Grow, End}
 use Rattle.pool_law.specs.declared.note.Note.{Note}
 use Rattle.pool_law.specs.declared.note.Note.TheVariants.{At, Ref, Busy}
+use Rattle.pool_law.specs.Counts.{root_is}
 use Rattle.pool_table.specs.declared.views.Entry.{Entry}
 use Rattle.pool_table.specs.declared.views.Entry.TheVariants as entries
 use Rattle.pool_table.specs.declared.views.SeatView.{SeatView}
@@ -78,3 +80,20 @@ abbrev pub is_quiet_entry : Entry → Bool
 is_quiet_entry (entries.At object number noted) = is_quiet noted.did
 is_quiet_entry (entries.Ref root did) = true
 is_quiet_entry (entries.Busy held) = true
+
+-- a root was asked for capacity, was extended or grew
+abbrev pub is_ask : Did → Bool
+is_ask (Room asked capacity) = true
+is_ask (Extend size) = true
+is_ask (Grow capacity region) = true
+is_ask _ = false
+
+-- this root was
+abbrev pub asks_root : RootId → Entry → Bool
+asks_root root (entries.At object number noted) = is_ask noted.did && root_is root noted.root
+asks_root root (entries.Ref other did) = false
+asks_root root (entries.Busy held) = false
+
+-- the entry is quiet, or this root was asked so
+abbrev pub is_quiet_but : RootId → Entry → Bool
+is_quiet_but root e = is_quiet_entry e || asks_root root e

@@ -1,9 +1,11 @@
-//! Accesses to the bytes of a root that the seat counts. Each is one note at the root's place.
+//! Accesses to the bytes of a root that the seat counts, as far as the seat knows of its capacity.
+//! Each is one note at the root's place.
 
 ghost use Rattle.std.specs.Prelude.{◌≡◌, ℕ, ◌+◌, ◌≤◌, List, length};
 ghost use Rattle.std.specs.Fn.{FnOnceReturnsAt};
 ghost use Rattle.pool_law.specs.declared.note.Did.{Did};
 ghost use Rattle.pool_law.specs.declared.note.Object.TheVariants.{Root};
+ghost use Rattle.pool_table.specs.Capacities.{knows_of};
 ghost use Rattle.pool_table.specs.Counts.{HasCount};
 ghost use Rattle.shared_pool.specs.SeatViews.{view_of};
 ghost use Rattle.shared_pool.specs.RootNotes.{access};
@@ -28,7 +30,7 @@ pub fn set<W: Wait>(
 )
     requires works { Works pool.now empty_hand 1 0 seat.old }
     requires counts { HasCount root (view_of seat.old) }
-    requires range { offset + length bytes.now ≤ root.capacity }
+    requires range { offset + length bytes.now ≤ knows_of root (view_of seat.old) }
     ensures proceeds { Proceeds pool.now empty_hand 1 0 no_change seat.old seat.new }
     ensures counts { HasCount root (view_of seat.new) }
     ensures noted { (number : ℕ) × IsNoted pool.now seat.old seat.new (Root root.place) number
@@ -52,7 +54,7 @@ fn wait_to_set<W: Wait>(
 )
     requires works { Works pool.now empty_hand 1 0 seat.old }
     requires counts { HasCount root (view_of seat.old) }
-    requires range { offset + length bytes.now ≤ root.capacity }
+    requires range { offset + length bytes.now ≤ knows_of root (view_of seat.old) }
     ensures proceeds { Proceeds pool.now empty_hand 1 0 no_change seat.old seat.new }
     ensures counts { HasCount root (view_of seat.new) }
     ensures noted { (number : ℕ) × IsNoted pool.now seat.old seat.new (Root root.place) number
@@ -79,7 +81,7 @@ pub fn get<W: Wait>(
 )
     requires works { Works pool.now empty_hand 1 0 seat.old }
     requires counts { HasCount root (view_of seat.old) }
-    requires range { offset + length out.old ≤ root.capacity }
+    requires range { offset + length out.old ≤ knows_of root (view_of seat.old) }
     ensures proceeds { Proceeds pool.now empty_hand 1 0 no_change seat.old seat.new }
     ensures counts { HasCount root (view_of seat.new) }
     ensures len { length out.new ≡ length out.old }
@@ -104,7 +106,7 @@ fn wait_to_get<W: Wait>(
 )
     requires works { Works pool.now empty_hand 1 0 seat.old }
     requires counts { HasCount root (view_of seat.old) }
-    requires range { offset + length out.old ≤ root.capacity }
+    requires range { offset + length out.old ≤ knows_of root (view_of seat.old) }
     ensures proceeds { Proceeds pool.now empty_hand 1 0 no_change seat.old seat.new }
     ensures counts { HasCount root (view_of seat.new) }
     ensures len { length out.new ≡ length out.old }
@@ -134,7 +136,7 @@ pub fn with_bytes<W: Wait, R, F: FnOnce(&[u8]) -> R>(
 ) -> R
     requires works { Works pool.now empty_hand 1 0 seat.old }
     requires counts { HasCount root (view_of seat.old) }
-    requires range { offset + len ≤ root.capacity }
+    requires range { offset + len ≤ knows_of root (view_of seat.old) }
     requires callable { F.IsAlwaysCallable f }
     ensures proceeds { Proceeds pool.now empty_hand 1 0 no_change seat.old seat.new }
     ensures counts { HasCount root (view_of seat.new) }

@@ -2,17 +2,18 @@
 //! birth of a root. (Netty: `PooledByteBufAllocator`, `PoolThreadCache`)
 
 ghost use Rattle.std.specs.Prelude.{◌≡◌, ◌*◌, ◌<◌, ◌≤◌, Some, IfSome, IfOk, IfErr};
-ghost use Rattle.size_classes.specs.Sizes.{class_count, class_of, size_at};
-ghost use Rattle.pool_law.specs.Limits.{geometry_of, cached_classes};
+ghost use Rattle.size_classes.specs.Sizes.{class_of, size_at};
+ghost use Rattle.pool_law.specs.Limits.{geometry_of};
+ghost use Rattle.pool_law.specs.Views.{most_capacity};
 ghost use Rattle.pool_table.specs.Counts.{HasCount};
 ghost use Rattle.shared_pool.specs.SeatViews.{view_of};
 ghost use Rattle.seat_work.specs.Hands.{empty_hand, IsHandle, IsRegion};
-ghost use Rattle.seat_work.specs.Changes.{no_change};
 ghost use Rattle.seat_work.specs.Works.{HasBorn, IsLater, Proceeds, Works};
-ghost use Rattle.seat_work.specs.Answers.{with_place, with_both, hand_got, hand_with, handle_told, region_told, allocated, TookHandle, IsWorn, IsWornAt};
+ghost use Rattle.seat_work.specs.Answers.{with_place, with_both, hand_got, handle_told, allocated, TookHandle, IsWorn, IsWornAt};
 
 use crate::birth::bear;
 use crate::ending::{put_handle, return_both};
+use crate::regions::{pop_region, take_region};
 use handle_bin::Handle;
 use pool_law::{Region, RootId, Watch};
 use shared_pool::{PoolSeat, SharedPool, Went, Worn};
@@ -48,6 +49,7 @@ pub fn allocate<W: Wait>(
     ensures root { IfOk result (λ root. (root.capacity ≡ size) × HasCount root (view_of seat.new)) }
     ensures place { let shape = pool.now.table.layout.shape in
         IfOk result (λ root. root.place < shape.lanes * shape.handles) }
+    ensures small { IfOk result (λ root. root.capacity ≤ most_capacity) }
     ensures born { IfOk result (λ root. HasBorn pool.now root seat.old seat.new) }
     ensures later { IsLater pool.now seat.old seat.new }
     ensures worn { IfErr result (IsWorn pool.now seat.old seat.new) }
@@ -83,7 +85,7 @@ fn allocate_at<W: Wait>(
     if class >= CACHED_CLASSES {
         return allocate_taken(rt, pool, seat, handle, size, class, watch);
     }
-    match pop_region(pool, seat, &handle, class) {
+    match pop_region(pool, seat, Some(&handle), class) {
         Some(region) => bear_or_return(rt, pool, seat, handle, region, size, watch),
         None => allocate_taken(rt, pool, seat, handle, size, class, watch),
     }
@@ -111,7 +113,7 @@ fn allocate_taken<W: Wait>(
     ensures later { IsLater pool.now seat.old seat.new }
     ensures worn { IfErr result (IsWornAt pool.now handle.place seat.old seat.new) }
 {
-    match take_region(rt, pool, seat, &handle, class) {
+    match take_region(rt, pool, seat, Some(&handle), class) {
         Some(taken) => bear_or_return(rt, pool, seat, handle, taken, size, watch),
         None => {
             put_handle(rt, pool, seat, handle);
@@ -182,47 +184,6 @@ fn wait_for_handle<W: Wait>(rt: &W, pool: &SharedPool, seat: &mut PoolSeat) -> O
     for _ in rt.forever() {
         match pool.pop_handle(seat) {
             Went::Did(_number, handle) => return handle,
-            Went::Held(_held, ()) => (),
-        }
-    }
-    unreachable!()
-}
-
-// The front region of the lane's cache. None where there is none, or where another seat is in it.
-#[inline]
-fn pop_region(pool: &SharedPool, seat: &mut PoolSeat, handle: &Handle, class: u32) -> Option<Region>
-    requires works { Works pool.now (with_place handle.now.place) 1 0 seat.old }
-    requires class { class < cached_classes }
-    ensures proceeds { Proceeds pool.now (hand_with handle.now.place result) 1 0 no_change
-        seat.old seat.new }
-    ensures region { IfSome result (λ r. IsRegion pool.now seat.new r × (r.id.class ≡ class)) }
-    ensures later { IsLater pool.now seat.old seat.new }
-{
-    match pool.pop_cached(seat, class) {
-        Went::Did(_number, region) => region,
-        Went::Held(_held, ()) => None,
-    }
-}
-
-// A region of the lane's arena.
-#[inline]
-fn take_region<W: Wait>(
-    rt: &W,
-    pool: &SharedPool,
-    seat: &mut PoolSeat,
-    handle: &Handle,
-    class: u32,
-) -> Option<Region>
-    requires works { Works pool.now (with_place handle.now.place) 1 0 seat.old }
-    requires class { class < class_count (geometry_of pool.now.table.layout.shape) }
-    ensures proceeds { Proceeds pool.now (hand_with handle.now.place result) 1 0
-        (region_told result) seat.old seat.new }
-    ensures region { IfSome result (λ r. IsRegion pool.now seat.new r × (r.id.class ≡ class)) }
-    ensures later { IsLater pool.now seat.old seat.new }
-{
-    for _ in rt.forever() {
-        match pool.take(seat, class) {
-            Went::Did(_number, region) => return region,
             Went::Held(_held, ()) => (),
         }
     }

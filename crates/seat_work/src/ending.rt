@@ -2,19 +2,17 @@
 //! owner's cache or back to its arena, and the handle of its place goes home. (Netty:
 //! `PooledByteBuf.deallocate`)
 
-ghost use Rattle.std.specs.Prelude.{◌<◌, IfSome};
-ghost use Rattle.pool_law.specs.Limits.{cached_classes};
 ghost use Rattle.shared_pool.specs.RootNotes.{HoldsToken};
 ghost use Rattle.seat_work.specs.Hands.{empty_hand, IsHandle, IsRegion};
 ghost use Rattle.seat_work.specs.Changes.{no_change};
 ghost use Rattle.seat_work.specs.Works.{Works, Proceeds, IsLater};
-ghost use Rattle.seat_work.specs.Answers.{with_token, with_place, with_both, hand_with};
+ghost use Rattle.seat_work.specs.Answers.{with_token, with_place, with_both};
 
+use crate::regions::put_back;
 use handle_bin::Handle;
 use pool_law::Region;
 use pool_table::EndToken;
-use shared_pool::{PoolSeat, Put, Retired, SharedPool, Went};
-use size_classes::CACHED_CLASSES;
+use shared_pool::{PoolSeat, Retired, SharedPool, Went};
 use std::sync::Wait;
 
 // A root whose count ended, ends.
@@ -57,7 +55,7 @@ fn put_away<W: Wait>(rt: &W, pool: &SharedPool, seat: &mut PoolSeat, handle: Han
     ensures proceeds { Proceeds pool.now empty_hand 3 0 no_change seat.old seat.new }
     ensures later { IsLater pool.now seat.old seat.new }
 {
-    put_back(rt, pool, seat, &handle, region);
+    put_back(rt, pool, seat, Some(&handle), region);
     put_handle(rt, pool, seat, handle);
 }
 
@@ -77,79 +75,6 @@ pub(crate) fn return_both<W: Wait>(
     ensures later { IsLater pool.now seat.old seat.new }
 {
     put_away(rt, pool, seat, handle, region);
-}
-
-// The region goes into its owner's cache or back to its arena.
-#[inline(always)]
-fn put_back<W: Wait>(
-    rt: &W,
-    pool: &SharedPool,
-    seat: &mut PoolSeat,
-    handle: &Handle,
-    region: Region,
-)
-    requires works { Works pool.now (with_both handle.now.place region.id) 2 0 seat.old }
-    requires region { IsRegion pool.now seat.old region }
-    ensures proceeds { Proceeds pool.now (with_place handle.now.place) 2 0 no_change
-        seat.old seat.new }
-    ensures later { IsLater pool.now seat.old seat.new }
-{
-    if region.id.class >= CACHED_CLASSES {
-        give_region(rt, pool, seat, handle, region);
-        return;
-    }
-    match put_region(pool, seat, handle, region) {
-        Some(region) => give_region(rt, pool, seat, handle, region),
-        None => (),
-    }
-}
-
-// The region goes into its owner's cache, or comes back.
-#[inline(always)]
-fn put_region(
-    pool: &SharedPool,
-    seat: &mut PoolSeat,
-    handle: &Handle,
-    region: Region,
-) -> Option<Region>
-    requires works { Works pool.now (with_both handle.now.place region.id) 1 0 seat.old }
-    requires region { IsRegion pool.now seat.old region }
-    requires class { region.id.class < cached_classes }
-    ensures proceeds { Proceeds pool.now (hand_with handle.now.place result) 1 0 no_change
-        seat.old seat.new }
-    ensures region { IfSome result (IsRegion pool.now seat.new) }
-    ensures later { IsLater pool.now seat.old seat.new }
-{
-    match pool.put_cached(seat, region) {
-        Went::Did(_number, Put::Kept) => None,
-        Went::Did(_number, Put::Back(region, _no)) => Some(region),
-        Went::Held(_held, region) => Some(region),
-    }
-}
-
-// The region goes back to its arena.
-#[inline(never)]
-fn give_region<W: Wait>(
-    rt: &W,
-    pool: &SharedPool,
-    seat: &mut PoolSeat,
-    handle: &Handle,
-    own: Region,
-)
-    requires works { Works pool.now (with_both handle.now.place own.id) 1 0 seat.old }
-    requires region { IsRegion pool.now seat.old own }
-    ensures proceeds { Proceeds pool.now (with_place handle.now.place) 1 0 no_change
-        seat.old seat.new }
-    ensures later { IsLater pool.now seat.old seat.new }
-{
-    let mut region = own;
-    for _ in rt.forever() {
-        match pool.give(seat, region) {
-            Went::Did(_number, ()) => return,
-            Went::Held(_held, back) => region = back,
-        }
-    }
-    unreachable!()
 }
 
 // The handle goes home.

@@ -28,8 +28,8 @@ pub bear-requires-clause-works : goal.bear-requires-clause-works
 bear-requires-clause-works c =
     let pool = c.args.pool.now in let old = c.args.seat.now in let mid = c.take.new.seat in
     let did = c.in-Did-default-Some in let place = c.args.handle.place in let works = c.requires.works in
-    works_after pool (with_place place) (hand_with place (Some did.region)) 4 0 1 0 3 0 old mid works
-    (took_region pool old mid did.ensures.seat did._number place (lane_of old % pool.table.layout.shape.arenas)
+    works_after pool (with_place place) (hand_with (Some place) (Some did.region)) 4 0 1 0 3 0 old mid works
+    (took_region pool old mid did.ensures.seat did._number (Some place) (lane_of old % pool.table.layout.shape.arenas)
     c.args.class (Some did.region) (works_less pool (with_place place) 4 0 1 0 old works (omega arith) (omega arith))
     (subst (λ (o : Option Region).
     IsNoted pool old mid (Arena (lane_of old % pool.table.layout.shape.arenas)) did._number
@@ -60,11 +60,11 @@ returns-in-Did-default-Some-clause-goes c =
     let pool = c.args.pool.now in let old = c.args.seat.now in let mid = c.take.new.seat in
     let did = c.in-Did-default-Some in let place = c.args.handle.place in let works = c.requires.works in
     let bear = c.bear in
-    goes_then pool (allocated bear.result.0) (hand_with place (Some did.region)) 1 3 4 old mid bear.new.seat
+    goes_then pool (allocated bear.result.0) (hand_with (Some place) (Some did.region)) 1 3 4 old mid bear.new.seat
     bear.result.1
     (later_noted pool old mid did.ensures.same works.seat did.ensures.seat did.ensures.did
     (quiet_taken c.args.class _)) (omega arith)
-    (took_region pool old mid did.ensures.seat did._number place (lane_of old % pool.table.layout.shape.arenas)
+    (took_region pool old mid did.ensures.seat did._number (Some place) (lane_of old % pool.table.layout.shape.arenas)
     c.args.class (Some did.region) (works_less pool (with_place place) 4 0 1 0 old works (omega arith) (omega arith))
     (subst (λ (o : Option Region).
     IsNoted pool old mid (Arena (lane_of old % pool.table.layout.shape.arenas)) did._number
@@ -91,7 +91,7 @@ put_handle-requires-clause-works c =
     let pool = c.args.pool.now in let old = c.args.seat.now in let mid = c.take.new.seat in
     let did = c.in-Did-default-None in let place = c.args.handle.place in let works = c.requires.works in
     works_after pool (with_place place) (with_place place) 4 0 1 0 1 0 old mid works
-    (took_region pool old mid did.ensures.seat did._number place (lane_of old % pool.table.layout.shape.arenas)
+    (took_region pool old mid did.ensures.seat did._number (Some place) (lane_of old % pool.table.layout.shape.arenas)
     c.args.class None (works_less pool (with_place place) 4 0 1 0 old works (omega arith) (omega arith))
     (subst (λ (o : Option Region).
     IsNoted pool old mid (Arena (lane_of old % pool.table.layout.shape.arenas)) did._number
@@ -105,7 +105,7 @@ returns-in-Did-default-None-clause-goes c =
     goes_first pool (region_told None) (with_place place) 1 1 4 old mid call.new.seat call.result
     (later_noted pool old mid did.ensures.same works.seat did.ensures.seat did.ensures.did
     (quiet_taken c.args.class _)) (omega arith)
-    (took_region pool old mid did.ensures.seat did._number place (lane_of old % pool.table.layout.shape.arenas)
+    (took_region pool old mid did.ensures.seat did._number (Some place) (lane_of old % pool.table.layout.shape.arenas)
     c.args.class None (works_less pool (with_place place) 4 0 1 0 old works (omega arith) (omega arith))
     (subst (λ (o : Option Region).
     IsNoted pool old mid (Arena (lane_of old % pool.table.layout.shape.arenas)) did._number

@@ -21,8 +21,8 @@ pub bear-requires-clause-works : goal.bear-requires-clause-works
 bear-requires-clause-works c =
     let pool = c.args.pool.now in let old = c.args.seat.now in let mid = c.pop_cached.new.seat in
     let did = c.in-Did-default-Some in let place = c.args.handle.place in let works = c.requires.works in
-    works_after pool (with_place place) (hand_with place (Some did.region)) 5 0 1 0 3 0 old mid works
-    (popped_region pool old mid did.ensures.seat did._number place c.args.class (Some did.region)
+    works_after pool (with_place place) (hand_with (Some place) (Some did.region)) 5 0 1 0 3 0 old mid works
+    (popped_region pool old mid did.ensures.seat did._number (Some place) c.args.class (Some did.region)
     (works_less pool (with_place place) 5 0 1 0 old works (omega arith) (omega arith))
     (subst (λ (o : Option Region).
     IsNoted pool old mid (Cache (lane_of old) c.args.class) did._number (plain (hit o)))
@@ -53,11 +53,11 @@ returns-in-Did-default-Some-clause-goes c =
     let pool = c.args.pool.now in let old = c.args.seat.now in let mid = c.pop_cached.new.seat in
     let did = c.in-Did-default-Some in let place = c.args.handle.place in let works = c.requires.works in
     let next = c.bear in
-    goes_then pool (allocated next.result.0) (hand_with place (Some did.region)) 1 3 5 old mid next.new.seat
+    goes_then pool (allocated next.result.0) (hand_with (Some place) (Some did.region)) 1 3 5 old mid next.new.seat
     next.result.1
     (later_noted pool old mid did.ensures.same works.seat did.ensures.seat did.ensures.did (quiet_hit _))
     (omega arith)
-    (popped_region pool old mid did.ensures.seat did._number place c.args.class (Some did.region)
+    (popped_region pool old mid did.ensures.seat did._number (Some place) c.args.class (Some did.region)
     (works_less pool (with_place place) 5 0 1 0 old works (omega arith) (omega arith))
     (subst (λ (o : Option Region).
     IsNoted pool old mid (Cache (lane_of old) c.args.class) did._number (plain (hit o)))
@@ -85,7 +85,7 @@ from_arena-requires-clause-works c =
     let pool = c.args.pool.now in let old = c.args.seat.now in let mid = c.pop_cached.new.seat in
     let did = c.in-Did-default-None in let place = c.args.handle.place in let works = c.requires.works in
     works_after pool (with_place place) (with_place place) 5 0 1 0 4 0 old mid works
-    (popped_region pool old mid did.ensures.seat did._number place c.args.class None
+    (popped_region pool old mid did.ensures.seat did._number (Some place) c.args.class None
     (works_less pool (with_place place) 5 0 1 0 old works (omega arith) (omega arith))
     (subst (λ (o : Option Region).
     IsNoted pool old mid (Cache (lane_of old) c.args.class) did._number (plain (hit o)))
@@ -99,7 +99,7 @@ returns-in-Did-default-None-clause-goes c =
     goes_then pool (allocated next.result.0) (with_place place) 1 4 5 old mid next.new.seat next.result.1
     (later_noted pool old mid did.ensures.same works.seat did.ensures.seat did.ensures.did (quiet_hit _))
     (omega arith)
-    (popped_region pool old mid did.ensures.seat did._number place c.args.class None
+    (popped_region pool old mid did.ensures.seat did._number (Some place) c.args.class None
     (works_less pool (with_place place) 5 0 1 0 old works (omega arith) (omega arith))
     (subst (λ (o : Option Region).
     IsNoted pool old mid (Cache (lane_of old) c.args.class) did._number (plain (hit o)))

@@ -1,4 +1,4 @@
-use Rattle.std.proofs.Common.{refl, arith}
+use Rattle.std.proofs.Common.{Some, refl, arith}
 use Rattle.pool_law.specs.declared.note.Object.TheVariants.{Arena}
 use Rattle.seat_work.specs.Answers.{with_both, with_place}
 use Rattle.seat_work.specs.Changes.{no_change}
@@ -20,7 +20,7 @@ put_handle-requires-clause-works c =
     let pool = c.args.pool.now in let old = c.args.seat.now in let mid = c.give.new.seat in let did = c.in-Did in
     let place = c.args.handle.place in let own = c.args.own in let works = c.requires.works in
     works_after pool (with_both place own.id) (with_place place) 2 0 1 0 1 0 old mid works
-    (gave_region pool old mid did.ensures.seat did._number place own
+    (gave_region pool old mid did.ensures.seat did._number (Some place) own
     (works_less pool (with_both place own.id) 2 0 1 0 old works (omega arith) (omega arith)) did.ensures.did).goes
     (omega arith) (omega arith)
 
@@ -30,7 +30,7 @@ returns-in-Did c =
     let place = c.args.handle.place in let own = c.args.own in let works = c.requires.works in
     goes_then pool no_change (with_place place) 1 1 2 old mid c.put_handle.new.seat c.put_handle.result
     (later_noted pool old mid did.ensures.same works.seat did.ensures.seat did.ensures.did refl) (omega arith)
-    (gave_region pool old mid did.ensures.seat did._number place own
+    (gave_region pool old mid did.ensures.seat did._number (Some place) own
     (works_less pool (with_both place own.id) 2 0 1 0 old works (omega arith) (omega arith)) did.ensures.did)
     c.put_handle.ensures
 

@@ -1,4 +1,4 @@
-use Rattle.std.proofs.Common.{◌≡◌, sym, subst, arith}
+use Rattle.std.proofs.Common.{Some, ◌≡◌, sym, subst, arith}
 use Rattle.pool_law.specs.declared.id.Region.{Region}
 use Rattle.pool_law.specs.declared.note.Object.TheVariants.{Cache}
 use Rattle.shared_pool.specs.declared.went.Put.{Put}
@@ -27,7 +27,7 @@ put_handle-requires-clause-works c =
     let did = c.in-Did-default-Kept in let own = c.args.own in let place = c.args.handle.place in
     let hand = with_both place own.id in
     works_after pool hand (with_place place) 3 0 1 0 1 0 old mid c.requires.works
-    (kept_region pool old mid did.ensures.seat did._number place own
+    (kept_region pool old mid did.ensures.seat did._number (Some place) own
     (works_less pool hand 3 0 1 0 old c.requires.works (omega arith) (omega arith))
     (subst (λ (x : Put).
     IsNoted pool old mid (Cache own.id.owner own.id.class) did._number (plain (was_put own.id x)))
@@ -41,7 +41,7 @@ returns-in-Did-default-Kept c =
     goes_then pool no_change (with_place place) 1 1 3 old mid next.new.seat next.result
     (later_noted pool old mid did.ensures.same c.requires.works.seat did.ensures.seat did.ensures.did
     (quiet_put own.id _)) (omega arith)
-    (kept_region pool old mid did.ensures.seat did._number place own
+    (kept_region pool old mid did.ensures.seat did._number (Some place) own
     (works_less pool hand 3 0 1 0 old c.requires.works (omega arith) (omega arith))
     (subst (λ (x : Put).
     IsNoted pool old mid (Cache own.id.owner own.id.class) did._number (plain (was_put own.id x)))
@@ -53,10 +53,10 @@ give_region-requires-clause-works c =
     let pool = c.args.pool.now in let old = c.args.seat.now in let mid = c.put_cached.new.seat in
     let did = c.in-Did-default-Back in let own = c.args.own in let place = c.args.handle.place in
     let hand = with_both place own.id in
-    let same : did.region ≡ own = subst (λ (x : Put). IfBack x (λ r no. r ≡ own)) did.field-1-is did.ensures.back in
+    let same : did.region ≡ own = subst (λ (x : Put). IfBack x (λ no r. r ≡ own)) did.field-1-is did.ensures.back in
     subst (λ (r : Region). Works pool (with_both place r.id) 2 0 mid) (sym same)
     (works_after pool hand hand 3 0 1 0 2 0 old mid c.requires.works
-    (back_region pool old mid did.ensures.seat did._number place own
+    (back_region pool old mid did.ensures.seat did._number (Some place) own
     (works_less pool hand 3 0 1 0 old c.requires.works (omega arith) (omega arith)) did._no
     (subst (λ (x : Put).
     IsNoted pool old mid (Cache own.id.owner own.id.class) did._number (plain (was_put own.id x)))
@@ -67,11 +67,11 @@ returns-in-Did-default-Back c =
     let pool = c.args.pool.now in let old = c.args.seat.now in let mid = c.put_cached.new.seat in
     let did = c.in-Did-default-Back in let own = c.args.own in let place = c.args.handle.place in
     let hand = with_both place own.id in let next = c.give_region in
-    let same : did.region ≡ own = subst (λ (x : Put). IfBack x (λ r no. r ≡ own)) did.field-1-is did.ensures.back in
+    let same : did.region ≡ own = subst (λ (x : Put). IfBack x (λ no r. r ≡ own)) did.field-1-is did.ensures.back in
     goes_then pool no_change hand 1 2 3 old mid next.new.seat next.result
     (later_noted pool old mid did.ensures.same c.requires.works.seat did.ensures.seat did.ensures.did
     (quiet_put own.id _)) (omega arith)
-    (back_region pool old mid did.ensures.seat did._number place own
+    (back_region pool old mid did.ensures.seat did._number (Some place) own
     (works_less pool hand 3 0 1 0 old c.requires.works (omega arith) (omega arith)) did._no
     (subst (λ (x : Put).
     IsNoted pool old mid (Cache own.id.owner own.id.class) did._number (plain (was_put own.id x)))

@@ -2,6 +2,7 @@ use Rattle.std.proofs.Common.{ℕ, List, ◌+◌, ◌≤◌, ◌∙◌, length, 
 use Rattle.pool_law.specs.declared.note.Did.{Did}
 use Rattle.pool_law.specs.declared.note.Object.TheVariants.{Root}
 use Rattle.pool_table.specs.declared.views.SeatView.{SeatView}
+use Rattle.pool_table.specs.Capacities.{knows_of}
 use Rattle.pool_table.specs.Counts.{HasCount}
 use Rattle.shared_pool.specs.SeatViews.{view_of}
 use Rattle.shared_pool.specs.RootNotes.{access}
@@ -36,8 +37,11 @@ wait_to_get-requires-clause-counts g c =
 
 pub wait_to_get-requires-clause-range : goal.wait_to_get-requires-clause-range
 wait_to_get-requires-clause-range g c =
-    subst (λ (xs : List ℕ). c.args.offset + length xs ≤ c.args.root.capacity) (sym c.in-Held.ensures.held.0)
-    c.requires.range
+    let a = c.args in
+    subst (λ (v : SeatView). a.offset + length c.read.new.out ≤ knows_of a.root v)
+    (sym (ap (λ m. m.0) c.in-Held.ensures.held.1.marked))
+    (subst (λ (xs : List ℕ). a.offset + length xs ≤ knows_of a.root (view_of a.seat.now))
+    (sym c.in-Held.ensures.held.0) c.requires.range)
 
 pub returns-in-Held : goal.returns-in-Held
 returns-in-Held g c =

@@ -1,7 +1,8 @@
-use Rattle.std.proofs.Common.{refl, sym, subst, ap}
+use Rattle.std.proofs.Common.{◌+◌, ◌≤◌, length, refl, sym, subst, ap}
 use Rattle.pool_law.specs.declared.note.Did.{Did}
 use Rattle.pool_law.specs.declared.note.Object.TheVariants.{Root}
 use Rattle.pool_table.specs.declared.views.SeatView.{SeatView}
+use Rattle.pool_table.specs.Capacities.{knows_of}
 use Rattle.pool_table.specs.Counts.{HasCount}
 use Rattle.shared_pool.specs.SeatViews.{view_of}
 use Rattle.shared_pool.specs.RootNotes.{access}
@@ -28,6 +29,12 @@ pub wait_to_set-requires-clause-counts : goal.wait_to_set-requires-clause-counts
 wait_to_set-requires-clause-counts g c =
     subst (λ (v : SeatView). HasCount c.args.root v) (sym (ap (λ m. m.0) c.in-Held.ensures.held.marked))
     c.requires.counts
+
+pub wait_to_set-requires-clause-range : goal.wait_to_set-requires-clause-range
+wait_to_set-requires-clause-range g c =
+    let a = c.args in
+    subst (λ (v : SeatView). a.offset + length a.bytes.now ≤ knows_of a.root v)
+    (sym (ap (λ m. m.0) c.in-Held.ensures.held.marked)) c.requires.range
 
 pub returns-in-Held : goal.returns-in-Held
 returns-in-Held g c =

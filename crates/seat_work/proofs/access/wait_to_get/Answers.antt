@@ -1,6 +1,7 @@
-use Rattle.std.proofs.Common.{◌∙◌, sym, subst}
+use Rattle.std.proofs.Common.{ℕ, ◌+◌, ◌≤◌, ◌∙◌, length, sym, subst}
 use Rattle.pool_law.specs.declared.note.Did.{Did}
 use Rattle.pool_table.specs.declared.views.SeatView.{SeatView}
+use Rattle.pool_table.specs.Capacities.{knows_of}
 use Rattle.pool_table.specs.Counts.{HasCount}
 use Rattle.shared_pool.specs.SeatViews.{view_of}
 use Rattle.seat_work.proofs.Accesses.{accessed, get_quiet}
@@ -9,6 +10,12 @@ use Rattle.seat_work.proofs.access.wait_to_get.Goals as goal
 pub read-requires-clause-counts : goal.read-requires-clause-counts
 read-requires-clause-counts g c =
     subst (λ (v : SeatView). HasCount c.args.root v) (sym c.loop.invariant.1) c.requires.counts
+
+pub read-requires-clause-range : goal.read-requires-clause-range
+read-requires-clause-range g c =
+    let a = c.args in
+    subst (λ (v : SeatView). a.offset + length c.loop.out ≤ knows_of a.root v) (sym c.loop.invariant.1)
+    (subst (λ (n : ℕ). a.offset + n ≤ knows_of a.root (view_of a.seat.now)) (sym c.loop.invariant.2) c.requires.range)
 
 pub returns-in-Did : goal.returns-in-Did
 returns-in-Did g c =

@@ -1,7 +1,8 @@
-use Rattle.std.proofs.Common.{sym, subst}
+use Rattle.std.proofs.Common.{◌+◌, ◌≤◌, sym, subst}
 use Rattle.std.specs.Fn.{FnOnceReturnsAt}
 use Rattle.pool_law.specs.declared.note.Did.{Did}
 use Rattle.pool_table.specs.declared.views.SeatView.{SeatView}
+use Rattle.pool_table.specs.Capacities.{knows_of}
 use Rattle.pool_table.specs.Counts.{HasCount}
 use Rattle.shared_pool.specs.SeatViews.{view_of}
 use Rattle.seat_work.proofs.Accesses.{accessed, get_quiet}
@@ -10,6 +11,11 @@ use Rattle.seat_work.proofs.access.with_bytes.Goals as goal
 pub with_bytes-requires-clause-counts : goal.with_bytes-requires-clause-counts
 with_bytes-requires-clause-counts g c =
     subst (λ (v : SeatView). HasCount c.args.root v) (sym c.loop.invariant.1) c.requires.counts
+
+pub with_bytes-requires-clause-range : goal.with_bytes-requires-clause-range
+with_bytes-requires-clause-range g c =
+    let a = c.args in
+    subst (λ (v : SeatView). a.offset + a.len ≤ knows_of a.root v) (sym c.loop.invariant.1) c.requires.range
 
 pub with_bytes-requires-clause-callable : goal.with_bytes-requires-clause-callable
 with_bytes-requires-clause-callable g c =

@@ -2,6 +2,7 @@ use Rattle.std.proofs.Common.{arith}
 use Rattle.seat_work.specs.declared.allocation.AllocNo.TheVariants.{NoHandle}
 use Rattle.seat_work.specs.Answers.{with_place, allocated, refused}
 use Rattle.seat_work.specs.Hands.{empty_hand}
+use Rattle.seat_work.proofs.ClassLaws.{if_small}
 use Rattle.seat_work.proofs.Later.{if_born_on, later_on}
 use Rattle.seat_work.proofs.Proceeding.{proceeds_on, proceeds_more}
 use Rattle.seat_work.proofs.Worn.{first_worn}
@@ -18,6 +19,11 @@ pub returns-in-Some-clause-worn : goal.returns-in-Some-clause-worn
 returns-in-Some-clause-worn g c =
     first_worn c.args.pool.now c.args.seat.now c.pop_handle.new.seat c.allocate_at.new.seat c.in-Some.handle.place
     c.allocate_at.result c.in-Some.ensures.took c.allocate_at.ensures.worn
+
+pub returns-in-Some-clause-small : goal.returns-in-Some-clause-small
+returns-in-Some-clause-small g c =
+    if_small c.args.pool.now c.allocate_at.new.seat c.args.size c.args.class c.allocate_at.result c.requires.class
+    c.allocate_at.ensures.root
 
 pub returns-in-None-clause-proceeds : goal.returns-in-None-clause-proceeds
 returns-in-None-clause-proceeds g c =

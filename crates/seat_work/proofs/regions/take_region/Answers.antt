@@ -1,18 +1,20 @@
 use Rattle.std.proofs.Common.{◌%◌}
 use Rattle.shared_pool.specs.SeatLanes.{lane_of}
-use Rattle.seat_work.specs.Answers.{with_place, hand_with, region_told}
+use Rattle.std.specs.Prelude.{None, option_map}
+use Rattle.seat_work.specs.Answers.{hand_with, region_told}
 use Rattle.seat_work.proofs.Calls.{taken_region, took_region}
 use Rattle.seat_work.proofs.Later.{later_same, later_noted, quiet_taken}
 use Rattle.seat_work.proofs.Proceeding.{works_same, proceeds_same}
-use Rattle.seat_work.proofs.allocation.take_region.Goals as goal
+use Rattle.seat_work.proofs.regions.take_region.Goals as goal
 
 pub returns-in-Did-clause-proceeds : goal.returns-in-Did-clause-proceeds
 returns-in-Did-clause-proceeds g c =
     let pool = c.args.pool.now in let old = c.args.seat.now in let mid = c.loop.seat in let did = c.in-Did in
-    let new = c.take.new.seat in let inv = c.loop.invariant in let place = c.args.handle.now.place in
+    let new = c.take.new.seat in let inv = c.loop.invariant in
+    let place = option_map (λ h. h.now.place) c.args.beside in
     proceeds_same pool (region_told did.region) (hand_with place did.region) 1 0 old mid new inv.1
     (took_region pool mid new did.ensures.seat did._number place (lane_of mid % pool.table.layout.shape.arenas)
-    c.args.class did.region (works_same pool (with_place place) 1 0 old mid inv.0 inv.1 c.requires.works)
+    c.args.class did.region (works_same pool (hand_with place None) 1 0 old mid inv.0 inv.1 c.requires.works)
     did.ensures.did)
 
 pub returns-in-Did-clause-region : goal.returns-in-Did-clause-region

@@ -1,19 +1,20 @@
 use Rattle.std.proofs.Common.{refl, sym, subst}
 use Rattle.pool_law.specs.declared.id.Region.{Region}
 use Rattle.shared_pool.specs.Holding.{HoldsRegion}
-use Rattle.seat_work.specs.Answers.{with_place, with_both}
+use Rattle.std.specs.Prelude.{None, Some, option_map}
+use Rattle.seat_work.specs.Answers.{hand_with}
 use Rattle.seat_work.specs.Changes.{no_change}
 use Rattle.seat_work.specs.Works.{Works}
 use Rattle.seat_work.proofs.Calls.{gave_region}
 use Rattle.seat_work.proofs.Holds.{holds_region, region_stays}
 use Rattle.seat_work.proofs.Later.{later_same, later_noted}
 use Rattle.seat_work.proofs.Proceeding.{works_same, proceeds_same}
-use Rattle.seat_work.proofs.ending.give_region.Goals as goal
+use Rattle.seat_work.proofs.regions.give_region.Goals as goal
 
 pub give-requires-clause-region : goal.give-requires-clause-region
 give-requires-clause-region g c =
     let pool = c.args.pool.now in let old = c.args.seat.now in let mid = c.loop.seat in let inv = c.loop.invariant in
-    let own = c.args.own in let hand = with_both c.args.handle.now.place own.id in
+    let own = c.args.own in let hand = hand_with (option_map (λ h. h.now.place) c.args.beside) (Some own) in
     let works = works_same pool hand 1 0 old mid inv.0 inv.1 c.requires.works in
     subst (λ (r : Region). HoldsRegion pool mid r) (sym inv.2)
     (holds_region pool mid hand own works.held
@@ -23,11 +24,11 @@ pub returns-in-Did-clause-proceeds : goal.returns-in-Did-clause-proceeds
 returns-in-Did-clause-proceeds g c =
     let pool = c.args.pool.now in let old = c.args.seat.now in let mid = c.loop.seat in let did = c.in-Did in
     let new = c.give.new.seat in let inv = c.loop.invariant in let own = c.args.own in
-    let place = c.args.handle.now.place in
-    let works = works_same pool (with_both place own.id) 1 0 old mid inv.0 inv.1 c.requires.works in
-    proceeds_same pool no_change (with_place place) 1 0 old mid new inv.1
+    let place = option_map (λ h. h.now.place) c.args.beside in
+    let works = works_same pool (hand_with place (Some own)) 1 0 old mid inv.0 inv.1 c.requires.works in
+    proceeds_same pool no_change (hand_with place None) 1 0 old mid new inv.1
     (gave_region pool mid new did.ensures.seat did._number place c.loop.region
-    (subst (λ (r : Region). Works pool (with_both place r.id) 1 0 mid) (sym inv.2) works) did.ensures.did)
+    (subst (λ (r : Region). Works pool (hand_with place (Some r)) 1 0 mid) (sym inv.2) works) did.ensures.did)
 
 pub returns-in-Did-clause-later : goal.returns-in-Did-clause-later
 returns-in-Did-clause-later g c =

@@ -5,25 +5,28 @@ use Rattle.shared_pool.specs.declared.went.Put.{Put}
 use Rattle.shared_pool.specs.CacheAnswers.{was_put, IfBack}
 use Rattle.shared_pool.specs.Notes.{plain}
 use Rattle.shared_pool.specs.Seats.{IsNoted}
-use Rattle.seat_work.specs.Answers.{with_both}
+use Rattle.std.specs.Prelude.{Some, option_map}
+use Rattle.seat_work.specs.Answers.{hand_with}
 use Rattle.seat_work.specs.Changes.{no_change}
 use Rattle.seat_work.specs.Works.{Proceeds}
 use Rattle.seat_work.proofs.Calls.{kept_region, back_region, marked}
 use Rattle.seat_work.proofs.Holds.{holds_region}
 use Rattle.seat_work.proofs.Later.{later_noted, later_busy, quiet_put}
-use Rattle.seat_work.proofs.ending.put_region.Goals as goal
+use Rattle.seat_work.proofs.regions.put_region.Goals as goal
 
 pub put_cached-requires-clause-region : goal.put_cached-requires-clause-region
 put_cached-requires-clause-region c =
     let region = c.args.region in
-    holds_region c.args.pool.now c.args.seat.now (with_both c.args.handle.now.place region.id) region
+    holds_region c.args.pool.now c.args.seat.now
+    (hand_with (option_map (λ h. h.now.place) c.args.beside) (Some region)) region
     c.requires.works.held c.requires.region
 
 pub returns-in-Did-default-Kept-clause-proceeds : goal.returns-in-Did-default-Kept-clause-proceeds
 returns-in-Did-default-Kept-clause-proceeds c =
     let pool = c.args.pool.now in let old = c.args.seat.now in let new = c.put_cached.new.seat in
     let did = c.in-Did-default-Kept in let region = c.args.region in
-    kept_region pool old new did.ensures.seat did._number c.args.handle.now.place region c.requires.works
+    kept_region pool old new did.ensures.seat did._number
+    (option_map (λ h. h.now.place) c.args.beside) region c.requires.works
     (subst (λ (x : Put).
     IsNoted pool old new (Cache region.id.owner region.id.class) did._number (plain (was_put region.id x)))
     did.field-1-is did.ensures.did)
@@ -31,10 +34,11 @@ returns-in-Did-default-Kept-clause-proceeds c =
 pub returns-in-Did-default-Back-clause-proceeds : goal.returns-in-Did-default-Back-clause-proceeds
 returns-in-Did-default-Back-clause-proceeds c =
     let pool = c.args.pool.now in let old = c.args.seat.now in let new = c.put_cached.new.seat in
-    let did = c.in-Did-default-Back in let region = c.args.region in let place = c.args.handle.now.place in
-    let same : did.region ≡ region = subst (λ (x : Put). IfBack x (λ r no. r ≡ region)) did.field-1-is
+    let did = c.in-Did-default-Back in let region = c.args.region in
+    let place = option_map (λ h. h.now.place) c.args.beside in
+    let same : did.region ≡ region = subst (λ (x : Put). IfBack x (λ no r. r ≡ region)) did.field-1-is
     did.ensures.back in
-    subst (λ (r : Region). Proceeds pool (with_both place r.id) 1 0 no_change old new) (sym same)
+    subst (λ (r : Region). Proceeds pool (hand_with place (Some r)) 1 0 no_change old new) (sym same)
     (back_region pool old new did.ensures.seat did._number place region c.requires.works did._no
     (subst (λ (x : Put).
     IsNoted pool old new (Cache region.id.owner region.id.class) did._number (plain (was_put region.id x)))
@@ -43,9 +47,9 @@ returns-in-Did-default-Back-clause-proceeds c =
 pub returns-in-Held-clause-proceeds : goal.returns-in-Held-clause-proceeds
 returns-in-Held-clause-proceeds c =
     let pool = c.args.pool.now in let old = c.args.seat.now in let new = c.put_cached.new.seat in
-    let held = c.in-Held in let region = c.args.region in let place = c.args.handle.now.place in
-    subst (λ (r : Region). Proceeds pool (with_both place r.id) 1 0 no_change old new) (sym held.ensures.held.0)
-    (marked pool old new held.ensures.seat (with_both place region.id) (Cache region.id.owner region.id.class)
+    let held = c.in-Held in let region = c.args.region in let place = option_map (λ h. h.now.place) c.args.beside in
+    subst (λ (r : Region). Proceeds pool (hand_with place (Some r)) 1 0 no_change old new) (sym held.ensures.held.0)
+    (marked pool old new held.ensures.seat (hand_with place (Some region)) (Cache region.id.owner region.id.class)
     held._held c.requires.works held.ensures.held.1)
 
 pub returns-in-Did-default-Kept-clause-later : goal.returns-in-Did-default-Kept-clause-later
