@@ -19,6 +19,7 @@ use std::process::Abort;
 use std::sync::Wait;
 use std::test::Fail;
 
+mod growth;
 mod stops;
 
 struct OpenGate;

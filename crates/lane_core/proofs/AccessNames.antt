@@ -11,13 +11,13 @@ use Rattle.pool_law.specs.LaneStates.{LaneState}
 use Rattle.pool_law.specs.Lanes.{Answer, answer, answer_of, set_parts, get_parts, set_at, get_at, busy_or}
 use Rattle.pool_law.specs.Names.{Bound, Plain, bind, has_range, has_to_read, has_room, reader_of, writer_of, read_on, written_on, parts_at}
 use Rattle.pool_law.specs.Readers.{Log, Reader, ◌>>=◌, ◌>>◌, give, given}
-use Rattle.pool_law.specs.Views.{root_index, in_range, can_read, can_write, after_read, after_write}
+use Rattle.pool_law.specs.Views.{LiesIn, root_index, in_range, can_read, can_write, after_read, after_write}
 use Rattle.lane_core.specs.declared.access.Refusal.{Refusal}
 use Rattle.lane_core.specs.declared.access.Reach.{Reach}
 use Rattle.lane_core.specs.declared.access.Access.{Access}
 use Rattle.lane_core.specs.declared.access.Access.TheVariants.{Refused, Set, Get}
 use Rattle.lane_core.specs.declared.counts.Counted.{Counted}
-use Rattle.lane_core.specs.Named.{bound_at, NamesAre}
+use Rattle.lane_core.specs.Named.{AreInside, bound_at, NamesAre}
 use Rattle.lane_core.specs.Counting.{counted}
 use Rattle.lane_core.specs.Accesses.{reply_for, tries_or, IsState, IsRefusedRange, IsReached, Reaches, IsPrepared, BindsBelow, IsMadeSet, IsMadeGet}
 use Rattle.lane_core.specs.Works.{IsPlainAt, IsUnplanned}
@@ -71,28 +71,33 @@ module _ (s : LaneState) (names : List (Option Bound)) (cs : List Counted) (stat
       -- the bytes lie in the root, since they lie in the view
       reaches : (len : ℕ) → (behind reached.view).root ≡ reached.view.root
           → (behind reached.view).offset ≡ reached.view.offset → index reached.view + len ≤ (behind reached.view).len
-          → Reaches cs len r
-      reaches len root offset lt =
+          → (behind reached.view).len ≡ reached.view.len → (known : RootId → ℕ) → AreInside known names
+          → Reaches known cs len r
+      reaches len root offset lt long known are =
           record {
             counts = subst (λ root. 0 < counted cs root) (sym reached.root) reached.counts;
             inside =
                 (let start : r.offset ≡ reached.view.offset + index reached.view = reached.offset in
-                let in_root = r.after.is_view.inside in
-                let len_is = ap (λ (v : ViewData). v.len) reached.after in
+                let own = ap known reached.root in omega (arith, start, lies, own, long, lt));
+            view = root_is ∙ sym reached.root;
+            lies =
+                (let len_is = ap (λ (v : ViewData). v.len) reached.after in
                 let offset_is = ap (λ (v : ViewData). v.offset) reached.after in
-                let capacity = ap (λ (v : ViewData). v.root.capacity) reached.after in
-                let whole = ap (λ (root : RootId). root.capacity) root in
-                let own = ap (λ (root : RootId). root.capacity) reached.root in
-                omega (arith, start, in_root, len_is, offset_is, capacity, whole, own, offset, lt));
-            view = ap (λ (v : ViewData). v.root) reached.after ∙ root ∙ sym reached.root;
+                let same = ap known root_is in omega (arith, lies, len_is, offset_is, offset, long, same));
           }
+        where
+          lies : LiesIn (known reached.view.root) reached.view
+          lies = are.each name (Plain reached.view) reached.bound
+
+          root_is : r.after.at.root ≡ reached.view.root
+          root_is = ap (λ (v : ViewData). v.root) reached.after ∙ root
 
     -- a refusal is prepared
     prepared_refusal : (command : Command) → ((composes : Bool) → 1 ≤ most_notes composes command) → (refusal : Refusal)
         → ((shape : Shape) (lane : ℕ) (log : Log) → answer_of shape lane s command log
         ≡ Some (answer (reply_for refusal) s.names, log)) → IsPrepared names cs command (Refused refusal) s
     prepared_refusal command noted refusal reads =
-        record { ready = tt; noted = noted; bound = s.names; names_are = state.names_are; read = reads }
+        record { ready = λ known are. tt; noted = noted; bound = s.names; names_are = state.names_are; read = reads }
 
     module _ (name at : ℕ) (bytes : List ℕ) where
       abbrev can_set : ViewData → Bool
@@ -142,7 +147,7 @@ module _ (s : LaneState) (names : List (Option Bound)) (cs : List Counted) (stat
           ready =
               reaches name tries can_set (λ v. at) (λ v. v) r k (length copy.items) refl refl
               (let pass = leb-true (at + length bytes) k.view.len k.passes in let len = ap length same in
-              omega (arith, pass, len));
+              omega (arith, pass, len)) refl;
           noted = set_noted tries;
           bound = s.names;
           names_are = again name tries can_set (λ v. at) (λ v. v) r k (λ v. refl);
@@ -209,9 +214,9 @@ module _ (s : LaneState) (names : List (Option Bound)) (cs : List Counted) (stat
             → length note.items ≡ len → length reply.items ≡ len
             → IsPrepared names cs (Command.Get name at len tries) (Get r note reply) s
         get_reached r note reply k same also = record {
-          ready = (
+          ready = λ known are. (
             reaches name tries can_get (λ v. at) (λ v. v) r k (length note.items) refl refl
-                (let pass = leb-true (at + len) k.view.len k.passes in omega (arith, pass, same)),
+                (let pass = leb-true (at + len) k.view.len k.passes in omega (arith, pass, same)) refl known are,
             also ∙ sym same,
           );
           noted = get_noted tries;
@@ -270,7 +275,7 @@ module _ (s : LaneState) (names : List (Option Bound)) (cs : List Counted) (stat
         ready =
             reaches name false may_write (λ v. v.writer) written r k (length copy.items) refl refl
             (let pass = leb-true (k.view.writer + length bytes) k.view.len k.passes in let len = ap length same in
-            omega (arith, pass, len));
+            omega (arith, pass, len)) refl;
         noted = write_noted;
         bound = bind name (Plain (written k.view)) s.names;
         names_are = bound_behind name false may_write (λ v. v.writer) written r k;
@@ -325,12 +330,12 @@ module _ (s : LaneState) (names : List (Option Bound)) (cs : List Counted) (stat
           → IsReached names cs name false may_read (λ v. v.reader) past r → length note.items ≡ len
           → length reply.items ≡ len → IsPrepared names cs (Command.Read name len) (Get r note reply) s
       read_reached r note reply k same also = record {
-        ready = (
+        ready = λ known are. (
           reaches name false may_read (λ v. v.reader) past r k (length note.items) refl refl
               (let order = r.after.is_view.reader in let most = r.after.is_view.writer in
               let reader : r.after.at.reader ≡ k.view.reader + len = ap (λ (v : ViewData). v.reader) k.after in
               let full : r.after.at.len ≡ k.view.len = ap (λ (v : ViewData). v.len) k.after in
-              omega (arith, order, most, same, reader, full)),
+              omega (arith, order, most, same, reader, full)) refl known are,
           also ∙ sym same,
         );
         noted = read_noted;

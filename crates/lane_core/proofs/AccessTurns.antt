@@ -139,7 +139,7 @@ module _ (pool : SharedPool) (old start mid new : Context) (d : IsContext pool e
         (λ root uses. subst (λ (q : RootId). 0 < counted old.counts q) (same_root-is r root uses) lt))
 
     pub access_turn : (names : List (Option Bound)) (reply : Reply) → before_stop (reply ∷ []) ≡ 1
-        → HasReplied (record mid { names = names }) new reply → RebindsAt 1 old names →
+        → HasReplied (record mid { names = names }) new reply → RebindsAt 1 old start.seat names →
         (s : LaneState) (command : Command) (bound : Names) → NamesAre bound names → 1 ≤
         (left_for old.composes command).notes →
         ReadsOn (answer_of old.shape (lane_of old.seat) s command) (entry_of e ∷ []) none_asked

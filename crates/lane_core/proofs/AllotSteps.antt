@@ -12,6 +12,7 @@ use Rattle.pool_law.specs.declared.note.Object.{Object}
 use Rattle.pool_law.specs.declared.note.Object.TheVariants.{Arena, Cache, Bin}
 use Rattle.pool_law.specs.declared.run.Shape.{Shape}
 use Rattle.pool_law.specs.Limits.{cached_classes, geometry_of}
+use Rattle.pool_law.specs.Patterns.{bear}
 use Rattle.leak_records.specs.Records.{Sampling}
 use Rattle.handle_bin.specs.Bins.{HandleValue}
 use Rattle.pool_table.specs.declared.views.Entry.{Entry}
@@ -43,7 +44,8 @@ use Rattle.lane_core.proofs.OneNote.{wrote_note, wrote_mark, wrote_nothing, foun
 use Rattle.lane_core.specs.NextNotes.{BeginsAt}
 use Rattle.lane_core.specs.Readings.{ReadsOn, none_asked, one_asked}
 use Rattle.lane_core.proofs.ReadLaws.{still_on}
-use Rattle.lane_core.proofs.Readings.{read_no_handle, read_handle, read_handle_uncached, read_hit, read_missed, read_busy, read_taken, read_full, read_home}
+use Rattle.lane_core.proofs.Readings.{read_no_handle, read_handle, read_handle_uncached, read_home}
+use Rattle.lane_core.proofs.RegionReads.{hit_on, missed_on, busy_on, taken_on, full_on}
 
 -- each stage has a note left
 pub allot_left : (stage : Allotting) → 1 ≤ (left_of stage).notes
@@ -182,7 +184,7 @@ module _ (pool : SharedPool) (old new : PoolSeat) (class : ℕ)
             wrote =
                 wrote_note pool old new may.seat_is is same sampler (rest_of shape lane size class (AskCache h))
                 one_asked (rest_after shape lane size class (More (Birth h r))) o number n note noted it (tt, refl)
-                (read_hit shape lane size class h.place number (entry_of e) may.fits.1 r.id refl);
+                (hit_on shape lane class number (entry_of e) (bear lane h.place size) may.fits.1 r.id refl);
             hand =
                 held_on v w (e ∷ []) 0 (hand_of (AskCache h)) (hand_of (Birth h r)) grows
                 (region_hit lane number v.own.number (hand_of (AskCache h)) lane class r.id) may.hand;
@@ -212,7 +214,7 @@ module _ (pool : SharedPool) (old new : PoolSeat) (class : ℕ)
             wrote =
                 wrote_note pool old new may.seat_is is same sampler (rest_of shape lane size class (AskCache h))
                 one_asked (rest_after shape lane size class (More (AskArena h))) o number n note noted it (tt, refl)
-                (read_missed shape lane size class h.place number (entry_of e) may.fits.1 refl);
+                (missed_on shape lane class number (entry_of e) (bear lane h.place size) may.fits.1 refl);
             hand =
                 held_on v w (e ∷ []) 0 (hand_of (AskCache h)) (hand_of (AskArena h)) grows
                 (cache_missed lane number v.own.number (hand_of (AskCache h)) lane class) may.hand;
@@ -243,7 +245,7 @@ module _ (pool : SharedPool) (old new : PoolSeat) (class : ℕ)
             wrote =
                 wrote_note pool old new may.seat_is is same sampler (rest_of shape lane size class (AskArena h))
                 none_asked (rest_after shape lane size class (More (Birth h r))) o number n note noted it (tt, refl)
-                (read_taken shape lane size class h.place number (entry_of e) r.id refl);
+                (taken_on shape lane class number (entry_of e) (bear lane h.place size) r.id refl);
             hand =
                 held_on v w (e ∷ []) 0 (hand_of (AskArena h)) (hand_of (Birth h r)) grows
                 (region_taken lane number v.own.number (hand_of (AskArena h)) (lane % shape.arenas) class r.id)
@@ -274,7 +276,7 @@ module _ (pool : SharedPool) (old new : PoolSeat) (class : ℕ)
             wrote =
                 wrote_note pool old new may.seat_is is same sampler (rest_of shape lane size class (AskArena h))
                 none_asked (rest_after shape lane size class (More (Home h))) o number n note noted it (tt, refl)
-                (read_full shape lane size class h.place number (entry_of e) refl);
+                (full_on shape lane class number (entry_of e) (bear lane h.place size) refl);
             hand =
                 held_on v w (e ∷ []) 0 (hand_of (AskArena h)) (hand_of (Home h)) grows
                 (arena_full lane number v.own.number (hand_of (AskArena h)) (lane % shape.arenas) class) may.hand;
@@ -333,7 +335,8 @@ module _ (pool : SharedPool) (old new : PoolSeat) (class : ℕ)
         wrote =
             wrote_mark pool old new may.seat_is is same sampler (rest_of shape lane size class (AskCache h)) one_asked
             (rest_after shape lane size class (More (AskArena h))) (Cache lane class) held found
-            (read_busy shape lane size class h.place 0 (entry_of (Busy held)) may.fits.1 held found.object refl);
+            (busy_on shape lane class 0 (entry_of (Busy held)) (bear lane h.place size) may.fits.1 held found.object
+            refl);
         hand =
             held_on v w (Busy held ∷ []) 0 (hand_of (AskCache h)) (hand_of (AskArena h)) grows
             (marked_busy lane 0 v.own.number (hand_of (AskCache h)) held) may.hand;

@@ -44,6 +44,8 @@ use Rattle.lane_core.specs.Readings.{ReadsOn, swept, renamed}
 use Rattle.lane_core.specs.Contexts.{IsContext, reads_from, HasTurned}
 use Rattle.lane_core.specs.ContextSteps.{HasNoted, Concludes, CountsMore}
 use Rattle.lane_core.proofs.NextNotes.{then_begins}
+use Rattle.lane_core.proofs.SeatCounts.{adds_recounted}
+use Rattle.lane_core.proofs.Knowing.{knows_name}
 use Rattle.lane_core.proofs.NameLaws.{NamesAre-bind, rebound_same, rebound_view}
 use Rattle.lane_core.proofs.ReadLaws.{then_on, given_on}
 use Rattle.lane_core.proofs.ContextLaws.{spends_at}
@@ -83,7 +85,7 @@ module _ (pool : SharedPool) (old mid : Context) (name size class : ℕ) (stage 
       more = did.wrote.more;
       held = did.hand;
       sampled = did.wrote.sampled;
-      adds = did.counts;
+      adds = λ cs. adds_recounted old.counts cs (map entry_of did.wrote.added) (allotment.born_in allots) did.counts;
       noted =
           subst (HasNoted allot_start mid) (sym did.wrote.noted) (noted_so allot_start mid did.written did.log mid_so);
     }
@@ -227,7 +229,8 @@ module _ (pool : SharedPool) (old mid : Context) (name size class : ℕ) (stage 
           staged_concludes pool (allotment.hand_of stage) empty_hand old allot_start mid did.wrote.added (one_for root)
           st refl new (slice_set mid.names name (Some (Plain w))) cs (Reply.OkPlace region.place.len region.place) refl
           before.counts before.places
-          (rebound_view 0 old.names mid.names names_are name lt w) s
+          (rebound_view 0 old.names mid.names names_are name lt w
+          (let k = knows_name root (view_of mid.seat) in omega (arith, k))) s
           command (Allotting name size class stage) (bind name (Plain w) s.names)
           (subst (λ (names : List (Option Bound)). NamesAre (bind name (Plain w) s.names)
           (slice_set names name (Some (Plain w)))) (sym names_are) (NamesAre-bind s.names old.names are name

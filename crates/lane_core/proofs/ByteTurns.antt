@@ -35,10 +35,13 @@ use Rattle.lane_core.specs.NextNotes.{BeginsAt}
 use Rattle.lane_core.specs.Readings.{before_left, ReadsOn, none_asked}
 use Rattle.lane_core.specs.Counting.{counted}
 use Rattle.seat_work.specs.Hands.{empty_hand}
-use Rattle.lane_core.specs.Named.{NamesAre}
+use Rattle.lane_core.specs.Named.{NamesAre, known_to}
 use Rattle.lane_core.specs.Contexts.{IsContext, left_for, HasTurned}
 use Rattle.lane_core.specs.ContextSteps.{HasNoted, HasReplied, FindsBusy, AccessTurns}
 use Rattle.lane_core.proofs.ContextWaits.{waits_turn}
+use Rattle.pool_law.specs.Views.{LiesIn}
+use Rattle.lane_core.proofs.Knowing.{lies_more}
+use Rattle.seat_work.proofs.Grown.{grows_noted}
 use Rattle.lane_core.proofs.AccessTurns.{IsAccessDid, set_is, get_is, access_entry, access_turn, access_names, busy_turn, read_set, read_get, read_busy}
 
 -- the access of a reach to its root is noted, and its name is bound to what is behind it
@@ -48,7 +51,8 @@ module _ (pool : SharedPool) (old start mid new : Context) (d : IsContext pool e
     (lt : 0 < counted old.counts reach.root) (in_names : reach.name < length old.names)
     (number : ℕ) (did : Did) (is : IsAccessDid reach.root number (view_of old.seat).own.number did)
     (made : IsNoted pool old.seat start.seat (Root reach.root.place) number (access reach.root did))
-    (noted : HasNoted start mid (Note.At (Root reach.root.place) number did ∷ [])) where
+    (noted : HasNoted start mid (Note.At (Root reach.root.place) number did ∷ []))
+    (lies : LiesIn (known_to old.seat reach.after.at.root) reach.after.at) where
   reached_turn : (reply : Reply) → before_stop (reply ∷ []) ≡ 1
       → HasReplied (record mid { names = slice_set mid.names reach.name (Some (Plain reach.after.at)) }) new reply →
       (s : LaneState) (command : Command) (bound : Names)
@@ -62,7 +66,12 @@ module _ (pool : SharedPool) (old start mid new : Context) (d : IsContext pool e
       number did is made noted in
       access_turn pool old start mid new d low start_is same seat reach.root lt number did is made noted
       (slice_set mid.names reach.name (Some (Plain reach.after.at))) reply unstopped replied
-      (rebound_view 1 old.names mid.names names_are reach.name in_names reach.after.at) s command bound
+      (rebound_view 1 old.names mid.names names_are reach.name in_names reach.after.at
+      (lies_more (view_of old.seat) (view_of start.seat)
+      (access_entry reach.root number (view_of old.seat).own.number did ∷ [])
+      (grows_noted pool old.seat start.seat d.seat seat (Root reach.root.place) number (access reach.root did)
+      made).more
+      reach.after.at lies)) s command bound
       (subst (λ (names : List (Option Bound)). NamesAre bound (slice_set names reach.name (Some
       (Plain reach.after.at))))
       (sym names_are) are) notes reads
@@ -70,7 +79,8 @@ module _ (pool : SharedPool) (old start mid new : Context) (d : IsContext pool e
 module _ (pool : SharedPool) (old start mid new : Context) (d : IsContext pool empty_hand old)
     (low : old.asked < sweep_period) (start_is : start ≡ record old { seat = start.seat })
     (same : SameSeat old.seat start.seat) (seat : IsPoolSeat pool start.seat) (reach : Reach)
-    (lt : 0 < counted old.counts reach.root) (in_names : reach.name < length old.names) (number : ℕ) where
+    (lt : 0 < counted old.counts reach.root) (in_names : reach.name < length old.names) (number : ℕ)
+    (lies : LiesIn (known_to old.seat reach.after.at.root) reach.after.at) where
   -- bytes were set
   pub set_turn : (bytes : Vec ℕ Global) → IsNoted pool old.seat start.seat (Root reach.root.place) number
       (access reach.root (Did.Set reach.offset bytes.items))
@@ -82,7 +92,7 @@ module _ (pool : SharedPool) (old start mid new : Context) (d : IsContext pool e
       let e = entry_of (access_entry reach.root number lane (Did.Set reach.offset bytes.items)) in
       reached_turn pool old start mid new d low start_is same seat reach lt in_names number
       (Did.Set reach.offset bytes.items)
-      (set_is reach.root number lane reach.offset bytes.items) made noted Reply.Ok refl replied s command bound
+      (set_is reach.root number lane reach.offset bytes.items) made noted lies Reply.Ok refl replied s command bound
       prepared.names_are (prepared.noted old.composes)
       (λ log. prepared.read old.shape (lane_of old.seat) (before_left log (e ∷ []))
       ∙ read_set s bound reach number lane bytes.items log)
@@ -98,7 +108,7 @@ module _ (pool : SharedPool) (old start mid new : Context) (d : IsContext pool e
       let lane : Option ℕ = (view_of old.seat).own.number in let bound = prepared.bound in
       let e = entry_of (access_entry reach.root number lane (Did.Get reach.offset bytes)) in
       reached_turn pool old start mid new d low start_is same seat reach lt in_names number (Did.Get reach.offset bytes)
-      (get_is reach.root number lane reach.offset bytes) made noted (Reply.OkBytes bytes) refl replied s command
+      (get_is reach.root number lane reach.offset bytes) made noted lies (Reply.OkBytes bytes) refl replied s command
       bound prepared.names_are (prepared.noted old.composes)
       (λ log. prepared.read old.shape (lane_of old.seat) (before_left log (e ∷ []))
       ∙ read_get s bound reach number lane bytes (length note.items) len log)

@@ -1,5 +1,5 @@
 -- The turns of the commands that bind a name, release a root, or claim a root's place.
-use Rattle.std.proofs.Common.{◌≡◌, ℕ, ◌+◌, ◌-◌, ◌<◌, ◌≤◌, List, [], ◌∷◌, ◌++◌, Bool, true, false, length, refl, sym, ap, ◌∙◌, subst, arith, Option, Some, None}
+use Rattle.std.proofs.Common.{◌≡◌, ℕ, ◌+◌, ◌-◌, ◌<◌, ◌≤◌, List, [], ◌∷◌, ◌++◌, Bool, true, false, length, refl, sym, ap, ◌∙◌, subst, arith, Option, Some, None, leb-true}
 use Rattle.std.specs.Prelude.{vec_capacity, slice_set, option_and_then, if◌then◌else◌}
 use Rattle.std.proofs.lemmas.List.{length-map}
 use Rattle.std.proofs.lemmas.List.Sums.{sum_by-cons}
@@ -10,7 +10,7 @@ use Rattle.pool_law.specs.declared.note.Note.{Note}
 use Rattle.pool_law.specs.declared.note.RefDid.TheVariants.{Retain, Kept, Ended}
 use Rattle.pool_law.specs.declared.run.Reply.{Reply}
 use Rattle.pool_law.specs.declared.run.Shape.{Shape}
-use Rattle.pool_law.specs.Views.{in_range, slice_of}
+use Rattle.pool_law.specs.Views.{in_range, slice_of, LiesIn}
 use Rattle.pool_law.specs.Dids as says
 use Rattle.pool_law.specs.LaneLaw.{sweep_period}
 use Rattle.pool_law.specs.LaneStates.{LaneState}
@@ -42,7 +42,7 @@ use Rattle.seat_work.specs.Hands.{lane_in, Hand, empty_hand}
 use Rattle.lane_core.specs.Budgets.{Spends, notes_alone}
 use Rattle.seat_work.specs.Changes.{one_for}
 use Rattle.lane_core.specs.Counting.{counted}
-use Rattle.lane_core.specs.Named.{bound_at, NamesAre}
+use Rattle.lane_core.specs.Named.{bound_at, NamesAre, known_to, AreInside}
 use Rattle.lane_core.specs.Endings.{retired}
 use Rattle.lane_core.specs.Readings.{before_left, behind, ReadsOn, none_asked, swept, renamed}
 use Rattle.lane_core.specs.Contexts.{IsContext, notes_of, entries_of, HasRoomFor, reads_from, left_for, HasTurned}
@@ -59,6 +59,7 @@ use Rattle.lane_core.proofs.StateReads.{named_so, viewed, is_bound, passed, used
 use Rattle.lane_core.proofs.ContextLaws.{Advances, spends_at}
 use Rattle.lane_core.proofs.ContextGrown.{mid_grew, goes_on}
 use Rattle.seat_work.proofs.HandNotes.{weightless, ended_carries}
+use Rattle.lane_core.proofs.Knowing.{lies_more}
 use Rattle.lane_core.proofs.Turning.{noteless, ref_advances, one_turn, one_turn_same, mid_names}
 
 -- ---- Names.
@@ -79,6 +80,7 @@ forget_turn pool name old new may lt b is replied s state =
 -- a new name is bound to a view
 module _ (pool : SharedPool) (fresh : ℕ) (old new : Context) (d : IsContext pool empty_hand old)
     (low : old.asked < sweep_period) (lt : fresh < length old.names) (v : ViewData)
+    (lies : LiesIn (known_to old.seat v.root) v)
     (replied : HasReplied (record old { names = slice_set old.names fresh (Some (Plain v)) }) new Reply.Ok)
     (s : LaneState)
     (are : NamesAre s.names old.names) where
@@ -88,7 +90,7 @@ module _ (pool : SharedPool) (fresh : ℕ) (old new : Context) (d : IsContext po
       → HasTurned pool old new s command Ready (Went Ready)
   bound_turn command reads =
       noteless pool old new d low (slice_set old.names fresh (Some (Plain v))) Reply.Ok refl replied
-      (rebound_view 1 old.names old.names refl fresh lt v) s command (bind fresh (Plain v) s.names)
+      (rebound_view 1 old.names old.names refl fresh lt v lies) s command (bind fresh (Plain v) s.names)
       (NamesAre-bind s.names old.names are fresh (Plain v) lt) reads
 
 -- ---- A release.
@@ -330,6 +332,17 @@ has_retained pool old start mid r ds start_is same seat did noted more =
       counts = subst (λ (cs : List Counted). CountsMore cs ds r) counts_are more;
     }
 
+-- a view of a name lies in what is known of its root, and so does a slice in its range
+pub view_lies : (old : Context) (name : ℕ) (v : ViewData) → AreInside (known_to old.seat) old.names
+    → bound_at old.names name ≡ Some (Plain v) → LiesIn (known_to old.seat v.root) v
+view_lies old name v are bound = are.each name (Plain v) bound
+
+pub slice_lies : (old : Context) (name : ℕ) (v : ViewData) → AreInside (known_to old.seat) old.names
+    → bound_at old.names name ≡ Some (Plain v) → (at len : ℕ) → in_range v at len ≡ true
+    → LiesIn (known_to old.seat v.root) (slice_of v at len)
+slice_lies old name v are bound at len inside =
+    let lies = view_lies old name v are bound in let le = leb-true (at + len) v.len inside in omega (arith, lies, le)
+
 -- a slice that is retained
 pub slice_turn : (pool : SharedPool) (fresh name at len : ℕ) (old mid new : Context)
     → MayTurn pool (left_for old.composes (Command.Slice fresh name at len true)) old → fresh < length old.names →
@@ -351,7 +364,9 @@ slice_turn pool fresh name at len old mid new may in_names v bound none lt insid
     one_turn pool old start mid new may.context may.asked refl refl (Ref v.root Retain) 1 adv did.noted
     (slice_set mid.names fresh (Some (Plain w))) Reply.Ok refl replied
     (retained old.counts mid.counts v.root lt did.counts.counts) did.counts.places refl
-    (rebound_view 1 old.names mid.names names_are fresh in_names w) s
+    (rebound_view 1 old.names mid.names names_are fresh in_names w
+    (lies_more (view_of old.seat) (view_of mid.seat) (Ref v.root Retain ∷ []) adv.grows.more w
+    (slice_lies old name v may.context.inside bound at len inside))) s
     (Command.Slice fresh name at len true) (bind fresh (Plain w) s.names)
     (subst (λ (names : List (Option Bound)). NamesAre (bind fresh (Plain w) s.names)
     (slice_set names fresh (Some (Plain w)))) (sym names_are)

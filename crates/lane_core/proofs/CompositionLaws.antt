@@ -3,9 +3,10 @@ use Rattle.std.proofs.Common.{◌≡◌, ℕ, zero, suc, ◌+◌, ◌<◌, ◌�
 use Rattle.std.proofs.Math.Numerals.{add-one}
 use Rattle.std.specs.Prelude.{All, not, ◌||◌, ◌&&◌, ◌==◌, is_none, slice_get}
 use Rattle.std.proofs.lemmas.Bool.{lt-ltb, le-ltb, ltb-false}
-use Rattle.std.proofs.lemmas.List.Elements.{All-nil, All-cons, All-head, All-tail, All-same, All-filter, All-weaker}
+use Rattle.std.proofs.lemmas.List.Elements.{All-nil, All-cons, All-head, All-tail, All-same, All-filter}
 use Rattle.size_classes.specs.Sizes.{class_of}
 use Rattle.pool_law.specs.declared.id.Part.{Part}
+use Rattle.pool_law.specs.declared.id.RootId.{RootId}
 use Rattle.pool_law.specs.declared.run.Shape.{Shape}
 use Rattle.pool_law.specs.Composites.{Composite, filled, is_crowded, most_bytes, most_parts, size_of}
 use Rattle.pool_law.specs.Limits.{geometry_of}
@@ -17,7 +18,7 @@ use Rattle.lane_core.specs.declared.work.Consolidation.{Consolidation}
 use Rattle.lane_core.specs.declared.work.Work.{Work}
 use Rattle.lane_core.specs.declared.work.Work.TheVariants.{Refused, Empty, Cross, End, Bind, Consolidate}
 use Rattle.lane_core.specs.Composing.{IsCandidate, IsConsolidation, IsTransfer}
-use Rattle.lane_core.specs.Compositions.{AreJoinable, HasBytes, IsMade, IsPlaced, MayMake, joined}
+use Rattle.lane_core.specs.Compositions.{AreJoinable, HasBytes, IsMade, MayMake, joined}
 use Rattle.lane_core.specs.Counting.{counted}
 use Rattle.lane_core.specs.Named.{IsInRoot}
 use Rattle.lane_core.specs.Releasings.{AreUncounted}
@@ -78,19 +79,19 @@ copied P (t ∷ ts) all =
     All-cons (λ (u : Transfer). P u.part) t ts (All-head P t.part (map (λ u. u.part) ts) all)
     (copied P ts (All-tail P t.part (map (λ u. u.part) ts) all))
 
-transfers_by : (cs : List Counted) (ts : List Transfer) → All HasBytes ts → All (λ t. IsPlaced t.part) ts
-    → All (λ t. 0 < counted cs t.part.root) ts → All (IsTransfer cs) ts
-transfers_by cs ts bytes placed counts k d lt = record {
+transfers_by : (known : RootId → ℕ) (cs : List Counted) (ts : List Transfer) → All HasBytes ts
+    → All (λ t. IsInRoot known t.part) ts → All (λ t. 0 < counted cs t.part.root) ts → All (IsTransfer known cs) ts
+transfers_by known cs ts bytes inside counts k d lt = record {
   counts = counts k d lt;
-  inside = (placed k d lt).inside;
+  inside = inside k d lt;
   got = (bytes k d lt).got;
   set = (bytes k d lt).set;
 }
 
-pub are_transfers : (cs : List Counted) (parts : List Part) (ts : List Transfer) → AreJoinable cs parts
-    → map (λ t. t.part) ts ≡ filled parts → All HasBytes ts → All (IsTransfer cs) ts
-are_transfers cs parts ts joinable is bytes =
-    transfers_by cs ts bytes (of_filled IsPlaced joinable.placed) (of_filled (λ p. 0 < counted cs p.root)
+pub are_transfers : (known : RootId → ℕ) (cs : List Counted) (parts : List Part) (ts : List Transfer)
+    → AreJoinable known cs parts → map (λ t. t.part) ts ≡ filled parts → All HasBytes ts → All (IsTransfer known cs) ts
+are_transfers known cs parts ts joinable is bytes =
+    transfers_by known cs ts bytes (of_filled (IsInRoot known) joinable.inside) (of_filled (λ p. 0 < counted cs p.root)
     joinable.counts)
   where
     of_filled : (P : Part → Type 0) → All P parts → All (λ t. P t.part) ts
@@ -107,16 +108,16 @@ some_counted cs (p ∷ ps) some counts none =
     let no : counted cs p.root ≡ 0 = All-head (λ (q : Part). counted cs q.root ≡ 0) p ps none in
     absurd (omega (arith, lt, no))
 
-pub is_consolidation : (shape : Shape) (cs : List Counted) (parts : List Part) (p : Consolidation)
-    → AreJoinable cs parts → p.size ≡ size_of parts → class_of (geometry_of shape) (size_of parts) ≡ Some p.class
+pub is_consolidation : (known : RootId → ℕ) (shape : Shape) (cs : List Counted) (parts : List Part) (p : Consolidation)
+    → AreJoinable known cs parts → p.size ≡ size_of parts → class_of (geometry_of shape) (size_of parts) ≡ Some p.class
     → p.whole.value.parts ≡ parts → p.parts.items ≡ parts → map (λ t. t.part) p.transfers.items ≡ filled parts
-    → All HasBytes p.transfers.items → IsConsolidation shape cs p
-is_consolidation shape cs parts p joinable size class whole all copied bytes = record {
+    → All HasBytes p.transfers.items → IsConsolidation known shape cs p
+is_consolidation known shape cs parts p joinable size class whole all copied bytes = record {
   size = size ∙ ap (λ (ps : List Part). size_of ps) (sym whole);
   class = ap (class_of (geometry_of shape)) size ∙ class;
   parts = all ∙ sym whole;
   copied = copied ∙ ap (λ (ps : List Part). filled ps) (sym whole);
-  transfers = are_transfers cs parts p.transfers.items joinable copied bytes;
+  transfers = are_transfers known cs parts p.transfers.items joinable copied bytes;
   some =
       subst (λ (ps : List Part). AreUncounted cs ps → ⊥) (sym all)
       (some_counted cs parts joinable.some joinable.counts);
@@ -132,8 +133,8 @@ module _ (d : Context) (name : ℕ) (parts : List Part) (count reader : ℕ)
     name_is = may.name_is;
     composes = may.composes;
     few = may.few;
+    inside = may.parts.inside;
     marked = record {
-      inside = All-weaker IsPlaced IsInRoot (λ p placed. placed.inside) parts may.parts.placed;
       reader = may.reader;
       writer = omega arith;
     };

@@ -29,7 +29,7 @@ use Rattle.lane_core.specs.Budgets.{notes_alone}
 use Rattle.lane_core.specs.Composing.{IsConsolidation}
 use Rattle.lane_core.specs.Compositions.{IsMade, joined, readable_at, readable_of, refusals_to_add, refusals_to_compose}
 use Rattle.lane_core.specs.Contexts.{left_for, moves_of}
-use Rattle.lane_core.specs.Named.{bound_at}
+use Rattle.lane_core.specs.Named.{bound_at, known_to}
 use Rattle.lane_core.specs.Works.{IsPlanned, IsWithin}
 use Rattle.lane_core.proofs.CompositionTests.{AreShown, IsShown, clear_to_add, first_part, length-readable, one_part, shown_to_compose}
 use Rattle.lane_core.proofs.RefusalLists.{first_refusal-append}
@@ -152,7 +152,7 @@ module _ (s : LaneState) (names : List (Option Bound)) (cs : List Counted) (stat
           goes s names cs state d.shape lane command (by_length false short) log ∙ carried lane log
           ∙ ap (λ (b : Bool). consolidates b lane log) is
 
-      few_transfers : (p : Consolidation) → p.whole.value ≡ c → IsConsolidation d.shape d.counts p
+      few_transfers : (p : Consolidation) → p.whole.value ≡ c → IsConsolidation (known_to d.seat) d.shape d.counts p
           → (length p.transfers.items ≤ length c.parts) × (length p.parts.items ≡ length c.parts)
       few_transfers p is k =
           let parts : p.whole.value.parts ≡ c.parts = ap (λ (c : Composite). c.parts) is in

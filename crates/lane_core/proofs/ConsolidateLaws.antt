@@ -1,7 +1,7 @@
 -- What a consolidation spends beside its allotment, what it makes, and how the law reads what follows.
 use Rattle.std.proofs.Common.{◌≡◌, ℕ, ◌+◌, ◌*◌, ◌≤◌, List, [], refl, arith, Option, Some, None}
 use Rattle.std.specs.Prelude.{Result, Ok, option_and_then}
-use Rattle.std.proofs.lemmas.List.Elements.{All-cons, All-nil}
+use Rattle.std.proofs.lemmas.List.Elements.{All-weaker}
 use Rattle.pool_law.specs.declared.id.Part.{Part}
 use Rattle.pool_law.specs.declared.id.RootId.{RootId}
 use Rattle.pool_law.specs.declared.run.Reply.{Reply}
@@ -15,7 +15,11 @@ use Rattle.composite_buf.proofs.MapLaws.{size_of_cons}
 use Rattle.shared_pool.specs.declared.pool.SharedPool.{SharedPool}
 use Rattle.lane_core.specs.declared.context.Context.{Context}
 use Rattle.lane_core.specs.Budgets.{Left, Spends}
-use Rattle.lane_core.specs.Named.{IsInRoot, IsMarked}
+use Rattle.lane_core.specs.Composing.{IsConsolidation, IsTransfer}
+use Rattle.lane_core.specs.Named.{IsMarked}
+use Rattle.lane_core.specs.declared.copying.Transfer.{Transfer}
+use Rattle.lane_core.specs.declared.counts.Counted.{Counted}
+use Rattle.lane_core.specs.declared.work.Consolidation.{Consolidation}
 use Rattle.lane_core.specs.Contexts.{HasRoomFor, with_parts}
 
 -- who has room for what is left beside it has room for it
@@ -48,11 +52,28 @@ module _ (v w : SeatView) (left next : Left) (copied parts : ℕ) (spends : Spen
     sends = spends.sends;
   }
 
+-- what may be copied may be copied where no less is known
+pub consolidation_later : (known later : RootId → ℕ) → ((r : RootId) → known r ≤ later r) → (shape : Shape)
+    (cs : List Counted) (p : Consolidation) → IsConsolidation known shape cs p → IsConsolidation later shape cs p
+consolidation_later known later up shape cs p is = record {
+  size = is.size;
+  class = is.class;
+  parts = is.parts;
+  copied = is.copied;
+  transfers =
+      All-weaker (IsTransfer known cs) (IsTransfer later cs) (λ (t : Transfer) (x : IsTransfer known cs t). record {
+        counts = x.counts;
+        inside = (let a = up t.part.root in let b = x.inside in omega (arith, a, b));
+        got = x.got;
+        set = x.set;
+      }) p.transfers.items is.transfers;
+  some = is.some;
+}
+
 -- the whole of a root of its size is marked as the composite is
 pub moved_marked : (root : RootId) (c : Composite) → root.capacity ≡ size_of c.parts → IsMarked c
     → IsMarked (moved_to root c)
 moved_marked root c size is = record {
-  inside = All-cons IsInRoot (whole_part root) [] (omega arith) (All-nil IsInRoot);
   reader = is.reader;
   writer = (let a = size_of_cons (whole_part root) [] in let b = is.writer in omega (arith, a, b, size));
 }

@@ -2,7 +2,7 @@
 use Rattle.std.proofs.Common.{◌≡◌, ℕ, ◌+◌, ◌*◌, ◌<◌, ◌≤◌, List, [], ◌∷◌, ◌++◌, length, map, refl, sym, ap, ◌∙◌, subst, arith, None}
 use Rattle.std.specs.Global.{Box, Vec}
 use Rattle.std.specs.Prelude.{All, Result, Ok, Err, option_and_then}
-use Rattle.std.proofs.lemmas.List.Elements.{All-weaker}
+use Rattle.std.proofs.lemmas.List.Elements.{All-weaker, All-cons, All-nil}
 use Rattle.pool_law.specs.declared.command.Command.{Command}
 use Rattle.pool_law.specs.declared.id.Part.{Part}
 use Rattle.pool_law.specs.declared.id.RegionId.{RegionId}
@@ -11,7 +11,7 @@ use Rattle.pool_law.specs.declared.note.Held.{Held}
 use Rattle.pool_law.specs.declared.note.Note.{Note}
 use Rattle.pool_law.specs.declared.run.Reply.{Reply}
 use Rattle.pool_law.specs.declared.run.Shape.{Shape}
-use Rattle.pool_law.specs.Composites.{Composite, filled, moved_to, size_of}
+use Rattle.pool_law.specs.Composites.{Composite, filled, moved_to, size_of, whole_part}
 use Rattle.pool_law.specs.LaneLaw.{sweep_period, before_stop}
 use Rattle.pool_law.specs.LaneStates.{LaneState}
 use Rattle.pool_law.specs.Lanes.{Answer, composed, copied_to, copy_parts, release_parts}
@@ -46,7 +46,7 @@ use Rattle.lane_core.specs.Budgets.{Left, Spends, notes_alone}
 use Rattle.lane_core.specs.Composing.{IsBindable, IsCandidate, IsConsolidation, IsMoved, IsTransfer, MovesTo}
 use Rattle.lane_core.specs.Copyings as copying
 use Rattle.lane_core.specs.Counting.{counted}
-use Rattle.lane_core.specs.Named.{NamesAre}
+use Rattle.lane_core.specs.Named.{NamesAre, known_to, IsInRoot}
 use Rattle.lane_core.specs.NextNotes.{BeginsAt}
 use Rattle.lane_core.specs.Readings.{ReadsOn, renamed, swept}
 use Rattle.lane_core.specs.Releasings as releasing
@@ -55,17 +55,19 @@ use Rattle.lane_core.specs.Contexts.{ContextGrew, GoesOn, HasTurned, IsContext, 
 use Rattle.lane_core.specs.ContextSteps.{Concludes, CountsMore}
 use Rattle.lane_core.proofs.NextNotes.{then_begins}
 use Rattle.lane_core.proofs.AllotTurns.{allotted, asks_least, read_on}
-use Rattle.lane_core.proofs.ConsolidateLaws.{beside, copied_as, less_beside, made_of, moved_marked, replaced_as}
+use Rattle.lane_core.proofs.ConsolidateLaws.{beside, copied_as, less_beside, made_of, moved_marked, replaced_as, consolidation_later}
 use Rattle.lane_core.proofs.ContextGrown.{grew, lengthened}
 use Rattle.lane_core.proofs.ContextLaws.{entries_more, reads_at, spends_at}
-use Rattle.lane_core.proofs.SeatCounts.{adds_recounted, has_count}
+use Rattle.lane_core.proofs.SeatCounts.{has_count}
 use Rattle.lane_core.proofs.NameLaws.{rebound_same}
+use Rattle.lane_core.proofs.Knowing.{knows_more, knows_name}
 use Rattle.lane_core.proofs.PartTurns.{candidate_on}
 use Rattle.lane_core.proofs.ReadLaws.{given_on, then_on}
+use Rattle.seat_work.specs.Growth.{HasMore}
 use Rattle.lane_core.proofs.StageTurns.{none_of, some_of, staged, staged_concludes, staged_counts, staged_grew, staged_names, staged_on, staged_still}
 
 module _ (pool : SharedPool) (old mid : Context) (p : Consolidation) (stage : AllotStage)
-    (d : IsContext pool (allotment.hand_of stage) old) (is : IsConsolidation old.shape old.counts p)
+    (d : IsContext pool (allotment.hand_of stage) old) (is : IsConsolidation (known_to old.seat) old.shape old.counts p)
     (may : IsCandidate old p.name p.whole.value)
     (mid_so : mid ≡ record old {
       seat = mid.seat;
@@ -96,15 +98,18 @@ module _ (pool : SharedPool) (old mid : Context) (p : Consolidation) (stage : Al
       allotment.HasAllotted pool old.seat mid.seat old.sampler mid.sampler old.notes mid.notes p.size p.class stage
       allots
 
-  candidate_still : IsCandidate mid p.name c
-  candidate_still =
-      candidate_on old mid (ap (λ (x : Context). x.names) mid_so) (ap (λ (x : Context). x.composes) mid_so)
-      (ap (λ (x : Context). x.replies) mid_so) p.name c may
+  module _ (es : List Entry) (more : HasMore (view_of old.seat) (view_of mid.seat) es) where
+    candidate_still : IsCandidate mid p.name c
+    candidate_still =
+        candidate_on old mid es more (ap (λ (x : Context). x.names) mid_so) (ap (λ (x : Context). x.composes) mid_so)
+        (ap (λ (x : Context). x.replies) mid_so) p.name c may
 
-  same_so : IsConsolidation mid.shape mid.counts p
-  same_so =
-      subst (λ (x : Shape × List Counted). IsConsolidation x.0 x.1 p)
-      (λ i. (sym (ap (λ (x : Context). x.shape) mid_so) i, sym (ap (λ (x : Context). x.counts) mid_so) i)) is
+    same_so : IsConsolidation (known_to mid.seat) mid.shape mid.counts p
+    same_so =
+        subst (λ (x : Shape × List Counted). IsConsolidation (known_to mid.seat) x.0 x.1 p)
+        (λ i. (sym (ap (λ (x : Context). x.shape) mid_so) i, sym (ap (λ (x : Context). x.counts) mid_so) i))
+        (consolidation_later (known_to old.seat) (known_to mid.seat)
+        (knows_more (view_of old.seat) (view_of mid.seat) es more) old.shape old.counts p is)
 
   asked_is : mid.asked ≡ allotment.asks_of stage old.asked
   asked_is = ap (λ (x : Context). x.asked) mid_so
@@ -134,8 +139,8 @@ module _ (pool : SharedPool) (old mid : Context) (p : Consolidation) (stage : Al
         record {
           added = es;
           grew = staged_grew pool before after old start mid es (λ root. 0) st (λ root. refl);
-          fits = (same_so, did.fits, omega (arith, few, a, low));
-          name = candidate_still;
+          fits = (same_so es did.wrote.more, did.fits, omega (arith, few, a, low));
+          name = candidate_still es did.wrote.more;
           spends =
               spends_at old mid (with_parts copied released (allotment.left_of stage))
               (with_parts copied released (allotment.left_of next))
@@ -162,8 +167,8 @@ module _ (pool : SharedPool) (old mid : Context) (p : Consolidation) (stage : Al
         record {
           added = es;
           grew = staged_grew pool before after old start mid es (λ root. 0) st (λ root. refl);
-          fits = (same_so, did.fits, omega (arith, few, a, low));
-          name = candidate_still;
+          fits = (same_so es did.wrote.more, did.fits, omega (arith, few, a, low));
+          name = candidate_still es did.wrote.more;
           spends =
               spends_at old mid (with_parts copied released (allotment.left_of stage))
               (with_parts copied released (allotment.left_of next))
@@ -250,7 +255,7 @@ module _ (pool : SharedPool) (old mid : Context) (p : Consolidation) (stage : Al
           let adv = staged pool before empty_hand old start mid es (one_for root) st in
           let spent = (view_of old.seat).moves in
           grew pool before empty_hand old start mid d refl es spent adv st.noted made refl
-          (adds_recounted old.counts cs (map entry_of es) (one_for root) st.adds counts_more)
+          (st.adds cs counts_more)
           (more.places ∙ ap (λ (x : Context). length x.counts) mid_so) st.sampled
           (let a = d.begun in let b = lengthened pool before empty_hand old start mid d refl es spent adv st.noted in
           omega (arith, a, b)) (omega arith) 0 (rebound_same 0 old.names old.names refl) (omega arith)
@@ -285,6 +290,10 @@ module _ (pool : SharedPool) (old mid : Context) (p : Consolidation) (stage : Al
               name_is = may.name_is;
               composes = may.composes;
               few = may.few;
+              inside =
+                  All-cons (IsInRoot (known_to made.seat)) (whole_part root) []
+                  (let k = knows_name root (view_of made.seat) in omega (arith, k))
+                  (All-nil (IsInRoot (known_to made.seat)));
               marked = moved_marked root c capacity_is may.marked;
             },
             omega arith,
@@ -367,10 +376,12 @@ module _ (pool : SharedPool) (old mid : Context) (p : Consolidation) (stage : Al
               (
                 root_counted,
                 subst (All (copying.IsWithin v)) split
-                    (All-weaker (IsTransfer old.counts) (copying.IsWithin v)
-                    (λ (t : Transfer) (x : IsTransfer old.counts t). record {
+                    (All-weaker (IsTransfer (known_to old.seat) old.counts) (copying.IsWithin v)
+                    (λ (t : Transfer) (x : IsTransfer (known_to old.seat) old.counts t). record {
                       counts = counted_still t.part.root x.counts;
-                      inside = x.inside;
+                      inside =
+                          (let a = knows_more (view_of old.seat) v es did.wrote.more t.part.root in let b = x.inside in
+                          omega (arith, a, b));
                       got = x.got;
                       set = x.set;
                     }) p.transfers.items is.transfers),

@@ -27,13 +27,14 @@ use Rattle.lane_core.specs.Budgets.{notes_alone, with_sheds}
 use Rattle.lane_core.specs.Counting.{CountsAre}
 use Rattle.seat_work.specs.Hands.{Hand, empty_hand}
 use Rattle.lane_core.specs.Logs.{HasWritten}
-use Rattle.lane_core.specs.Named.{NamesAre}
+use Rattle.lane_core.specs.Named.{NamesAre, known_to}
 use Rattle.lane_core.specs.Sampled.{AreSampled}
 use Rattle.lane_core.specs.Contexts.{IsContext, notes_of, entries_of, log_of, reads_from, left_now, ContextGrew, GoesOn, SpendsAt, HasTurned}
 use Rattle.lane_core.specs.Readings.{behind, ReadsOn, swept}
 use Rattle.lane_core.specs.ContextSteps.{HasNoted, HasReplied}
 use Rattle.lane_core.proofs.EntryCounts.{Recounts, recounted}
-use Rattle.lane_core.proofs.NameLaws.{RebindsAt, rebound_same, composites_kept}
+use Rattle.lane_core.proofs.Knowing.{knows_more}
+use Rattle.lane_core.proofs.NameLaws.{RebindsAt, rebound_same, composites_kept, inside_later}
 use Rattle.lane_core.proofs.ReadLaws.{given_on, unswept}
 use Rattle.lane_core.proofs.ContextLaws.{Advances, entries_more, reads_at, sampled_append}
 
@@ -81,7 +82,7 @@ module _ (pool : SharedPool) (hand after : Hand) (old start mid : Context) (d : 
       (places : length final.counts ≡ length old.counts) (sampled : AreSampled old.sampler added start.sampler)
       (begun : final.begun ≤ length (notes_of start))
       (replies_room : vec_capacity old.replies ≤ vec_capacity final.replies)
-      (up : ℕ) (rebound : RebindsAt up old final.names)
+      (up : ℕ) (rebound : RebindsAt up old start.seat final.names)
       (replied_so : length old.replies.items + up ≤ length final.replies.items) where
     abbrev made : Context
     made =
@@ -118,8 +119,11 @@ module _ (pool : SharedPool) (hand after : Hand) (old start mid : Context) (d : 
           (notes_of old) added d.sampled sampled);
       begun = begun;
       composites =
-          composites_kept old.composes (1 + length old.replies.items) (1 + length final.replies.items) up old.names
-          final.names (omega (arith, replied_so)) d.composites rebound;
+          composites_kept (known_to start.seat) old.composes (1 + length old.replies.items)
+          (1 + length final.replies.items) up old.names final.names (omega (arith, replied_so)) d.composites rebound;
+      inside =
+          rebound.inside (inside_later (known_to old.seat) (known_to start.seat)
+          (knows_more (view_of old.seat) (view_of start.seat) added adv.grows.more) old.names d.inside);
     }
 
     pub grew : ContextGrew pool after old final added
@@ -222,7 +226,7 @@ module _ (pool : SharedPool) (hand after : Hand) (old start mid : Context) (d : 
         omega (arith, a, b, c)
 
     pub answered : after ≡ empty_hand → Recounts old.counts cs (map entry_of added) → length cs ≡ length old.counts
-        → AreSampled old.sampler added start.sampler → RebindsAt 1 old names →
+        → AreSampled old.sampler added start.sampler → RebindsAt 1 old start.seat names →
         (s : LaneState) (command : Command) (stage : Stage) (bound : Names) → NamesAre bound names
         → before_stop (reply ∷ []) ≡ 1 → start.asked < sweep_period →
         SpendsAt old answered_context (left_now old.composes command stage (view_of old.seat))

@@ -42,7 +42,8 @@ use Rattle.lane_core.proofs.LogLaws.{wrote_none}
 use Rattle.lane_core.proofs.NextNotes.{begins_there}
 use Rattle.lane_core.proofs.OneNote.{wrote_note, wrote_nothing, found_there}
 use Rattle.lane_core.proofs.PartReads.{copy_part_on, read_set_at}
-use Rattle.lane_core.proofs.PartSteps.{part_entry, hand_on, counts_on, one_spent, same_counts, same_view, none_spent}
+use Rattle.lane_core.proofs.PartSteps.{part_entry, hand_on, counts_on, one_spent, same_counts, same_view, none_spent, knows_on}
+use Rattle.pool_table.specs.Capacities.{knows_of}
 use Rattle.lane_core.proofs.ReadLaws.{given_on, still_on}
 
 -- ---- What is left to be copied.
@@ -59,13 +60,14 @@ pub copy_left : (stage : Copying) → 1 ≤ (left_of stage).notes
 copy_left (Get root at first later) = omega arith
 copy_left (Set root at bytes later) = omega arith
 
--- the parts lie in roots that are counted still
-within_on : (v w : SeatView) → ((q : RootId) → HasCount q v → HasCount q w) → (left : List Transfer)
+-- the parts lie in roots that are counted still, and of which no less is known
+within_on : (v w : SeatView) → ((q : RootId) → HasCount q v → HasCount q w)
+    → ((q : RootId) → knows_of q v ≤ knows_of q w) → (left : List Transfer)
     → All (IsWithin v) left → All (IsWithin w) left
-within_on v w counts =
+within_on v w counts knows =
     All-weaker (IsWithin v) (IsWithin w) (λ (t : Transfer) (is : IsWithin v t). record {
       counts = counts t.part.root is.counts;
-      inside = is.inside;
+      inside = (let a = knows t.part.root in let b = is.inside in omega (arith, a, b));
       got = is.got;
       set = is.set;
     })
@@ -76,7 +78,7 @@ module _ (v : SeatView) (first : Transfer) (left : List Transfer) (all : All (Is
   first_within = All-head (IsWithin v) first left all
 
   pub first_range : (bytes : List ℕ) → length bytes ≡ length first.got.items
-      → first.part.offset + length bytes ≤ first.part.root.capacity
+      → first.part.offset + length bytes ≤ knows_of first.part.root v
   first_range bytes same = let a = first_within.inside in let b = first_within.got in omega (arith, a, b, same)
 
 module _ (pool : SharedPool) (old new : PoolSeat) (is : IsPoolSeat pool new)
@@ -148,12 +150,15 @@ module _ (pool : SharedPool) (old new : PoolSeat) (is : IsPoolSeat pool new)
     copy_got =
         let counts : (q : RootId) → HasCount q v → HasCount q w =
         counts_on pool old new may.seat_is is get_root number get_did noted get_on in
-        let long = ap (λ (bs : List ℕ). length bs) got_is in let more = size_of_cons first.part (parts_of left.items) in
+        let knows : (q : RootId) → knows_of q v ≤ knows_of q w =
+        knows_on pool old new may.seat_is is get_root number get_did noted in
+        let long = ap (λ (bs : List ℕ). length bs) got_is in
+        let more = size_of_cons first.part (parts_of left.items) in
         let enough = may.fits.2 in let len = get_within.got in
         copied (Get root at first left) (More (Set root at got left)) may get_root get_within.counts number get_did
         get_on get_did_is noted note it log later adds get_read (
           counts root may.fits.0,
-          within_on v w counts left.items (All-tail (IsWithin v) first left.items may.fits.1),
+          within_on v w counts knows left.items (All-tail (IsWithin v) first left.items may.fits.1),
           omega (arith, long, more, enough, len, same_length),
         ) (omega arith)
         (one_spent pool old new may.seat_is is get_root number get_did noted get_did_is (2 + 2 * length left.items)
@@ -205,13 +210,15 @@ module _ (pool : SharedPool) (old new : PoolSeat) (is : IsPoolSeat pool new)
     copy_more behind behind_is next rest is_next =
         let counts : (q : RootId) → HasCount q v → HasCount q w =
         counts_on pool old new may.seat_is is root number set_did noted set_on in
+        let knows : (q : RootId) → knows_of q v ≤ knows_of q w =
+        knows_on pool old new may.seat_is is root number set_did noted in
         let long = ap (λ (xs : List Transfer). length xs) is_next in
         let size = ap (λ (xs : List Transfer). size_of (parts_of xs)) is_next in let enough = may.fits.2 in
         was_set (More (Get root behind next rest))
         (subst (λ (p : ℕ × List Transfer). ReadsOn (rest_of (Set root at bytes left)) (set_entry ∷ []) none_asked
         (copies root p.0 p.1)) (λ i. (sym behind_is i, is_next i)) set_read) (
           counts root may.fits.0,
-          subst (All (IsWithin w)) is_next (within_on v w counts left.items may.fits.1),
+          subst (All (IsWithin w)) is_next (within_on v w counts knows left.items may.fits.1),
           omega (arith, behind_is, size, enough),
         ) (omega arith) (set_spent (2 + 2 * length rest.items) (omega (arith, long)))
 

@@ -147,7 +147,7 @@ module _ (pool : SharedPool) (old mid : Context) (stage : CopyStage) (d : IsCont
           added = w.added;
           grew = moved_grew pool empty_hand empty_hand old mid w.added m;
           fits = (did.fits, omega (arith, a, low), some_still);
-          name = bindable_on old mid mid_is name whole.value may;
+          name = bindable_on old mid w.added w.more mid_is name whole.value may;
           spends =
               moved_spends pool empty_hand empty_hand old mid w.added m
               (with_parts 0 count_parts (copying.left_of stage)) (with_parts 0 count_parts (copying.left_of next))
@@ -172,7 +172,7 @@ module _ (pool : SharedPool) (old mid : Context) (stage : CopyStage) (d : IsCont
           added = w.added;
           grew = moved_grew pool empty_hand empty_hand old mid w.added m;
           fits = (did.fits, omega (arith, a, low), some_still);
-          name = bindable_on old mid mid_is name whole.value may;
+          name = bindable_on old mid w.added w.more mid_is name whole.value may;
           spends =
               moved_spends pool empty_hand empty_hand old mid w.added m
               (with_parts 0 count_parts (copying.left_of stage)) (with_parts 0 count_parts (copying.left_of next))
@@ -204,7 +204,7 @@ module _ (pool : SharedPool) (old mid : Context) (stage : CopyStage) (d : IsCont
           added = w.added;
           grew = moved_grew pool empty_hand empty_hand old mid w.added m;
           fits = (tt, omega (arith, a, low), λ over. some_still over.1);
-          name = bindable_on old mid mid_is name whole.value may;
+          name = bindable_on old mid w.added w.more mid_is name whole.value may;
           spends =
               moved_spends pool empty_hand empty_hand old mid w.added m
               (with_parts 0 count_parts (copying.left_of stage)) (releasing.left_of (all_left parts))

@@ -40,7 +40,8 @@ use Rattle.lane_core.proofs.LogLaws.{wrote_none}
 use Rattle.lane_core.proofs.NextNotes.{begins_there}
 use Rattle.lane_core.proofs.OneNote.{wrote_note, wrote_nothing, found_there}
 use Rattle.lane_core.proofs.PartReads.{set_part_on, get_part_on}
-use Rattle.lane_core.proofs.PartSteps.{part_entry, hand_on, counts_on, one_spent, same_counts, same_view, none_spent}
+use Rattle.lane_core.proofs.PartSteps.{part_entry, hand_on, counts_on, one_spent, same_counts, same_view, none_spent, knows_on}
+use Rattle.pool_table.specs.Capacities.{knows_of}
 use Rattle.lane_core.proofs.ReadLaws.{then_on, still_on}
 
 -- ---- What is left of a range.
@@ -57,13 +58,14 @@ pub cross_left : (stage : Crossing) → 1 ≤ (left_of stage).notes
 cross_left (Set first later) = omega arith
 cross_left (Get first later got) = omega arith
 
--- the stretches lie in roots that are counted still
-within_on : (v w : SeatView) → ((q : RootId) → HasCount q v → HasCount q w) → (left : List Stretch)
+-- the stretches lie in roots that are counted still, and of which no less is known
+within_on : (v w : SeatView) → ((q : RootId) → HasCount q v → HasCount q w)
+    → ((q : RootId) → knows_of q v ≤ knows_of q w) → (left : List Stretch)
     → All (IsWithin v) left → All (IsWithin w) left
-within_on v w counts =
+within_on v w counts knows =
     All-weaker (IsWithin v) (IsWithin w) (λ (s : Stretch) (is : IsWithin v s). record {
       counts = counts s.part.root is.counts;
-      inside = is.inside;
+      inside = (let a = knows s.part.root in let b = is.inside in omega (arith, a, b));
       bytes = is.bytes;
     })
 
@@ -76,7 +78,7 @@ module _ (v : SeatView) (first : Stretch) (left : List Stretch) (all : All (IsWi
   first_counts = first_within.counts
 
   pub first_range : (bytes : List ℕ) → length bytes ≡ length first.bytes.items
-      → first.part.offset + length bytes ≤ first.part.root.capacity
+      → first.part.offset + length bytes ≤ knows_of first.part.root v
   first_range bytes same = let a = first_within.inside in let b = first_within.bytes in omega (arith, a, b, same)
 
 -- what was there and is tried again is alike
@@ -169,7 +171,8 @@ module _ (pool : SharedPool) (old new : PoolSeat) (is : IsPoolSeat pool new)
           subst (All (IsWithin w)) is_next
               (within_on v w
               (counts_on pool old new may.seat_is is set_root number set_did noted
-              (set_quiet set_root number v.own.number first.part.offset first.bytes.items)) left.items
+              (set_quiet set_root number v.own.number first.part.offset first.bytes.items))
+              (knows_on pool old new may.seat_is is set_root number set_did noted) left.items
               (All-tail (IsWithin v) first left.items may.fits.0)),
           tt,
         ) tt (omega arith)
@@ -239,7 +242,8 @@ module _ (pool : SharedPool) (old new : PoolSeat) (is : IsPoolSeat pool new)
           subst (All (IsWithin w)) is_next
               (within_on v w
               (counts_on pool old new may.seat_is is get_root number get_did noted
-              (get_quiet get_root number v.own.number first.part.offset bytes)) left.items
+              (get_quiet get_root number v.own.number first.part.offset bytes))
+              (knows_on pool old new may.seat_is is get_root number get_did noted) left.items
               (All-tail (IsWithin v) first left.items may.fits.0)),
           omega (arith, more, a, b, enough, left_is, same_length, room),
         ) tt (omega arith)

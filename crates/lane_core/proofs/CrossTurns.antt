@@ -4,6 +4,7 @@ use Rattle.std.specs.Global.{Vec}
 use Rattle.std.specs.Prelude.{option_and_then, vec_capacity}
 use Rattle.std.proofs.lemmas.List.Elements.{All-weaker}
 use Rattle.pool_law.specs.declared.command.Command.{Command}
+use Rattle.pool_law.specs.declared.id.RootId.{RootId}
 use Rattle.pool_law.specs.declared.note.Held.{Held}
 use Rattle.pool_law.specs.declared.run.Reply.{Reply}
 use Rattle.pool_law.specs.LaneLaw.{sweep_period, before_stop}
@@ -35,7 +36,7 @@ use Rattle.lane_core.specs.Composing.{IsReachable, MarksFit, changed, crossed, m
 use Rattle.lane_core.specs.Counting.{CountsAre}
 use Rattle.lane_core.specs.Crossings as crossing
 use Rattle.lane_core.specs.Logs.{HasWritten}
-use Rattle.lane_core.specs.Named.{NamesAre}
+use Rattle.lane_core.specs.Named.{NamesAre, known_to}
 use Rattle.lane_core.specs.Readings.{none_asked, renamed, swept}
 use Rattle.lane_core.specs.Wrote.{Wrote}
 use Rattle.lane_core.specs.Contexts.{HasRoomFor, HasTurned, IsContext, entries_of, log_of, reads_from}
@@ -54,11 +55,12 @@ use Rattle.lane_core.proofs.WorkTurns.{stage_begun}
 
 module _ (old new : List (Option Bound)) (name : ℕ) where
   -- the names are bound to what they may be
-  pub marks_rebound : {composes : Bool} {most : ℕ} (up : ℕ) (marks : Option Marks) → MarksFit old name marks
-      → MarksMoved old new name marks → Rebound composes most up old new
+  pub marks_rebound : {known : RootId → ℕ} {composes : Bool} {most : ℕ} (up : ℕ) (marks : Option Marks)
+      → MarksFit old name marks
+      → MarksMoved old new name marks → Rebound known composes most up old new
   marks_rebound up None fit moved = rebound_same up old new moved
-  marks_rebound {composes} {most} up (Some marks) fit moved =
-      subst (λ (names : List (Option Bound)). Rebound composes most up old names) (sym (moved fit.0 fit.1))
+  marks_rebound {known} {composes} {most} up (Some marks) fit moved =
+      subst (λ (names : List (Option Bound)). Rebound known composes most up old names) (sym (moved fit.0 fit.1))
       (rebound_marks up old old refl name fit.0 fit.1 marks fit.2 fit.3)
 
   -- and those of the law move alike
@@ -301,7 +303,8 @@ module _ (pool : SharedPool) (old mid : Context) (name : ℕ) (marks : Option Ma
 module _ (pool : SharedPool) (old : Context) (name : ℕ) (marks : Option Marks) (stage : CrossStage)
     (may : MayTurn pool (left_of (Cross name marks stage)) old) (ready : IsReady old (Cross name marks stage)) where
   -- what is counted is counted in the seat's view
-  within_view : (s : Stretch) → IsReachable old.counts s → crossing.IsWithin (view_of old.seat) s
+  within_view : (s : Stretch) → IsReachable (known_to old.seat) old.counts s
+      → crossing.IsWithin (view_of old.seat) s
   within_view s is = record {
     counts = has_count old.counts (view_of old.seat) may.context.seat.alone may.context.counts s.part.root is.counts;
     inside = is.inside;
@@ -313,7 +316,7 @@ module _ (pool : SharedPool) (old : Context) (name : ℕ) (marks : Option Marks)
     context = may.context;
     fits = (
       (
-        All-weaker (IsReachable old.counts) (crossing.IsWithin (view_of old.seat)) within_view
+        All-weaker (IsReachable (known_to old.seat) old.counts) (crossing.IsWithin (view_of old.seat)) within_view
             (crossing.stretches stage) ready.1.0,
         ready.1.1,
       ),

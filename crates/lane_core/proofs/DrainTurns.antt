@@ -37,6 +37,7 @@ use Rattle.lane_core.proofs.NameLaws.{rebound_same}
 use Rattle.seat_work.proofs.HandNotes.{drained_held}
 use Rattle.lane_core.proofs.ReadLaws.{then_on, given_on}
 use Rattle.lane_core.proofs.ContextGrown.{answer_reads, noted_so}
+use Rattle.lane_core.proofs.SeatCounts.{adds_recounted}
 use Rattle.lane_core.proofs.StageTurns.{Staged, none_of, some_of, staged, staged_answer, staged_grew, staged_on, staged_seat, staged_still}
 
 module _ (pool : SharedPool) (old mid : Context) (kind : DrainKind) (stage : Draining)
@@ -61,7 +62,7 @@ module _ (pool : SharedPool) (old mid : Context) (kind : DrainKind) (stage : Dra
         more = (did.wrote old.sampler).more;
         held = did.hand;
         sampled = (did.wrote old.sampler).sampled;
-        adds = did.counts old.sampler;
+        adds = λ cs. adds_recounted old.counts cs (map entry_of wrote_so) (λ root. 0) (did.counts old.sampler);
         noted =
             subst (HasNoted drain_start mid) (sym (did.wrote old.sampler).noted)
             (noted_so drain_start mid did.written did.log mid_so);

@@ -32,7 +32,7 @@ use Rattle.lane_core.specs.declared.retirement.Ending.{Ending}
 use Rattle.lane_core.specs.declared.retirement.Ending.TheVariants.{Root as EndRoot, Cache as AskCache, Arena as AskArena, Home}
 use Rattle.lane_core.specs.declared.retirement.Ends.TheVariants.{More, Held as HeldBack, Done}
 use Rattle.seat_work.specs.Hands.{empty_hand, IsHeld, IsRegion}
-use Rattle.lane_core.specs.Endings.{MayEnd, HasEnded, Fits, hand_of, left_of, left_after, rest_of, rest_after}
+use Rattle.lane_core.specs.Endings.{MayEnd, HasEnded, Fits, goes_home, hand_of, left_of, left_after, rest_of, rest_after}
 use Rattle.lane_core.proofs.SeatCounts.{none_added, still_added, vacated_added}
 use Rattle.seat_work.proofs.Grown.{Grows, note_at, grows_noted, grows_busy, grows_held, grows_with}
 use Rattle.lane_core.proofs.Grown.{spends}
@@ -45,7 +45,8 @@ use Rattle.lane_core.proofs.OneNote.{wrote_note, wrote_mark, wrote_nothing, foun
 use Rattle.lane_core.specs.NextNotes.{BeginsAt}
 use Rattle.lane_core.specs.Readings.{behind, none_asked}
 use Rattle.lane_core.proofs.ReadLaws.{still_on}
-use Rattle.lane_core.proofs.Readings.{read_end, put_uncached, read_kept, read_back, read_away_busy, read_given, read_gone}
+use Rattle.lane_core.proofs.Readings.{read_end, read_gone}
+use Rattle.lane_core.proofs.RegionReads.{put_uncached, kept_on, back_on, away_busy_on, given_behind}
 
 -- each stage has a note left
 pub end_left : (stage : Ending) → 1 ≤ (left_of stage).notes
@@ -86,7 +87,7 @@ module _ (pool : SharedPool) (old new : PoolSeat) (is : IsPoolSeat pool new)
                   λ sampler. wrote_note pool old new may.seat_is is same sampler (rest_of shape (AskCache r h))
                   none_asked
                   (rest_after shape (More (Home h))) o number n note noted it (tt, refl)
-                  (read_kept shape h.place number (entry_of e) r.id may.fits.2 refl);
+                  (kept_on number (entry_of e) (goes_home shape h.place) r.id may.fits.2 refl);
               hand =
                   held_on v w (e ∷ []) 0 (hand_of (AskCache r h)) (hand_of (Home h)) grows
                   (region_kept lane number v.own.number (hand_of (Home h)) r.id.owner r.id.class r.id) may.hand;
@@ -115,7 +116,7 @@ module _ (pool : SharedPool) (old new : PoolSeat) (is : IsPoolSeat pool new)
                   λ sampler. wrote_note pool old new may.seat_is is same sampler (rest_of shape (AskCache r h))
                   none_asked
                   (rest_after shape (More (AskArena r h))) o number n note noted it (tt, refl)
-                  (read_back shape h.place number (entry_of e) r.id may.fits.2 why refl);
+                  (back_on number (entry_of e) (goes_home shape h.place) r.id may.fits.2 why refl);
               hand =
                   held_on v w (e ∷ []) 0 (hand_of (AskCache r h)) (hand_of (AskArena r h)) grows
                   (region_back lane number v.own.number (hand_of (AskCache r h)) r.id.owner r.id.class r.id why)
@@ -145,7 +146,7 @@ module _ (pool : SharedPool) (old new : PoolSeat) (is : IsPoolSeat pool new)
                   λ sampler. wrote_note pool old new may.seat_is is same sampler (rest_of shape (AskArena r h))
                   none_asked
                   (rest_after shape (More (Home h))) o number n note noted it (tt, refl)
-                  (read_given shape h.place number (entry_of e) r.id refl);
+                  (given_behind number (entry_of e) (goes_home shape h.place) r.id refl);
               hand =
                   held_on v w (e ∷ []) 0 (hand_of (AskArena r h)) (hand_of (Home h)) grows
                   (region_given lane number v.own.number (hand_of (Home h)) r.id.place.arena r.id) may.hand;
@@ -200,7 +201,7 @@ module _ (pool : SharedPool) (old new : PoolSeat) (is : IsPoolSeat pool new)
         wrote =
             λ sampler. wrote_mark pool old new may.seat_is is same sampler (rest_of shape (AskCache r h)) none_asked
             (rest_after shape (More (AskArena r h))) o held found
-            (read_away_busy shape h.place 0 (entry_of (Busy held)) r.id may.fits.2 held found.object refl);
+            (away_busy_on 0 (entry_of (Busy held)) (goes_home shape h.place) r.id may.fits.2 held found.object refl);
         hand =
             held_on v w (Busy held ∷ []) 0 (hand_of (AskCache r h)) (hand_of (AskArena r h)) grows
             (marked_busy lane 0 v.own.number (hand_of (AskCache r h)) held) may.hand;
@@ -276,7 +277,7 @@ module _ (pool : SharedPool) (old new : PoolSeat) (is : IsPoolSeat pool new)
         read = λ log.
             read_end shape h.place number (entry_of e) token.root r.id (entry_of (Ref token.root Vacated)) at refl refl
             refl log
-            ∙ put_uncached shape h.place number (entry_of e) r.id more (behind log (map entry_of es) none_asked);
+            ∙ put_uncached (goes_home shape h.place) r.id more (behind log (map entry_of es) none_asked);
       };
       hand =
           held_on v w es 0 (hand_of (EndRoot token)) (hand_of (AskArena r h)) grows

@@ -36,6 +36,7 @@ use Rattle.lane_core.proofs.NameLaws.{rebound_same}
 use Rattle.lane_core.proofs.ReadLaws.{then_on, given_on}
 use Rattle.lane_core.proofs.ContextLaws.{spends_at}
 use Rattle.lane_core.proofs.ContextGrown.{swept_reads, noted_so}
+use Rattle.lane_core.proofs.SeatCounts.{adds_recounted}
 use Rattle.lane_core.proofs.StageTurns.{Staged, none_of, some_of, staged, staged_answer, staged_counts, staged_grew, staged_names, staged_on, staged_seat, staged_still}
 
 -- it asks no cache
@@ -64,7 +65,7 @@ module _ (pool : SharedPool) (old mid : Context) (stage : EndStage) (d : IsConte
       more = (did.wrote old.sampler).more;
       held = did.hand;
       sampled = (did.wrote old.sampler).sampled;
-      adds = did.counts old.sampler;
+      adds = λ cs. adds_recounted old.counts cs (map entry_of added) (λ root. 0) (did.counts old.sampler);
       noted =
           subst (HasNoted end_start mid) (sym (did.wrote old.sampler).noted)
           (noted_so end_start mid did.written did.log mid_so);

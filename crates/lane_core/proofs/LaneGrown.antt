@@ -48,6 +48,7 @@ fits_still old new names shape composes (Command.Recv fresh lane) fits =
 fits_still old new names shape composes (Command.Compose fresh more) fits =
     (let a = fits.0 in omega (arith, names, a), composes ∙ fits.1, fits.2, fits.3)
 fits_still old new names shape composes (Command.Add whole name) fits = tt
+fits_still old new names shape composes (Command.Capacity name size) fits = omega (arith, names, fits)
 
 -- a lane with another context, at another stage
 abbrev pub lane_at : Lane → Context → Stage → ℕ → Lane

@@ -14,7 +14,7 @@ use Rattle.pool_table.specs.Letters.{sent_on}
 use Rattle.shared_pool.specs.SeatLanes.{lane_of}
 use Rattle.lane_core.specs.declared.context.Context.{Context}
 use Rattle.lane_core.specs.declared.context.Stage.{Stage}
-use Rattle.lane_core.specs.declared.context.Stage.TheVariants.{Ready, Allotting, Ending, Sweeping, Closing, Crossing, Parting, Consolidating, Copying, Replacing}
+use Rattle.lane_core.specs.declared.context.Stage.TheVariants.{Ready, Allotting, Ending, Sweeping, Closing, Crossing, Parting, Consolidating, Copying, Replacing, Growing}
 use Rattle.lane_core.specs.Budgets.{Left, notes_alone, with_sheds}
 use Rattle.seat_work.specs.Hands.{Hand}
 use Rattle.lane_core.specs.Contexts.{ContextGrew, HasRoomFor, SpendsAt, notes_of, left_at, left_now}
@@ -47,6 +47,7 @@ now_more composes command (Parting name stage) v = (omega arith, refl, λ to. re
 now_more composes command (Consolidating p stage) v = (omega arith, refl, λ to. refl)
 now_more composes command (Copying name whole parts stage) v = (omega arith, refl, λ to. refl)
 now_more composes command (Replacing name whole stage) v = (omega arith, refl, λ to. refl)
+now_more composes command (Growing name it size class stage) v = (omega arith, refl, λ to. refl)
 
 pub room_front : (pool : SharedPool) (d : Context) (composes : Bool) (command : Command) (stage : Stage) (v : SeatView)
     (more rest : Left) → HasRoomFor pool d (both (both (left_now composes command stage v) more) rest)
@@ -70,6 +71,7 @@ to_ask_open (Parting name stage) asking not = refl
 to_ask_open (Consolidating p stage) asking not = refl
 to_ask_open (Copying name whole parts stage) asking not = refl
 to_ask_open (Replacing name whole stage) asking not = refl
+to_ask_open (Growing name it size class stage) asking not = refl
 to_ask_open (Closing stage) asking not = absurd (not tt)
 
 -- so many sweeps less

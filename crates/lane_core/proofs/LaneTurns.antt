@@ -35,7 +35,7 @@ use Rattle.lane_core.specs.Lanes.{Heeds, IsRunningLane, IsClosing, IsAtRest, IsB
 use Rattle.lane_core.specs.Steps.{HasStepped, IsReadOn, IsStateBehind, MayFollow, NextStandsAt, ReceivesNext, stepped_of}
 use Rattle.lane_core.proofs.LaneLogs.{cut_at, take_whole, drop_whole}
 use Rattle.lane_core.proofs.LaneGrown.{lane_at, same_lane, same_log, noted_more, replied_more, front_room}
-use Rattle.lane_core.proofs.StageWays.{stage_way}
+use Rattle.lane_core.proofs.StageWays.{its_class, stage_way}
 use Rattle.lane_core.proofs.Ways.{same_way, way_read}
 use Rattle.lane_core.proofs.Heeding.{turned_heeds}
 use Rattle.lane_core.proofs.LaneKept.{answered_lane, still_lane, waiting_lane}
@@ -162,7 +162,8 @@ module _ (pool : SharedPool) (l : Lane) (lane : IsRunningLane pool l) (d : Conte
         stands_next held.object t.held.1
             (way_read (reads_now state_of l.stage)
             (same_way (reads_now state_of x) (reads_now state_of l.stage) on.0
-            (stage_way l.context.shape (number_of l) state_of command x u))),
+            (stage_way l.context.shape (number_of l) state_of command x u
+            (its_class pool d l.context.shape t.grew.shape x t.fits)))),
       )) next
   turned_so (Waiting sender) = λ t. (
     same_log pool l lane.context d n (hand_of l.stage) t.added t.grew t.comes.1.none t.comes.1.replies l.stage,

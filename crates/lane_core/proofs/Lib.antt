@@ -1,3 +1,4 @@
+pub mod Knowing
 pub mod NameLaws
 pub mod CountLaws
 pub mod AccessLaws
@@ -6,9 +7,11 @@ pub mod RoomLaws
 pub mod OpenedLaws
 pub mod LogLaws
 pub mod Grown
+pub mod RegionReads
 pub mod Readings
 pub mod NextNotes
 pub mod Ways
+pub mod GrowWays
 pub mod StageWays
 pub mod OneNote
 pub mod AllotSteps
@@ -38,7 +41,9 @@ pub mod PassTurns
 pub mod StageTurns
 pub mod StageCases
 pub mod BeginTurns
+pub mod ClassSizes
 pub mod AllotTurns
+pub mod GrowTurns
 pub mod EndTurns
 pub mod DrainTurns
 pub mod StageNeeds
@@ -85,3 +90,9 @@ mod PlacedBirths
 mod PlayedLeaks
 mod PlayedReported
 mod PlayedRun
+pub mod KnownLaws
+pub mod GrowCounts
+pub mod GrowReads
+pub mod GrowSteps
+pub mod GrowAsks
+pub mod GrowEnds

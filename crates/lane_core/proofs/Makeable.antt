@@ -13,7 +13,7 @@ use Rattle.lane_core.specs.declared.context.Context.{Context}
 use Rattle.lane_core.specs.Compositions.{IsPlaced, MayMake, joined, readable_at, readable_of, refusals_to_add, refusals_to_compose}
 use Rattle.lane_core.specs.Counting.{counted}
 use Rattle.lane_core.specs.Contexts.{FitsContext}
-use Rattle.lane_core.specs.Named.{AreComposites, IsInRoot, bound_at}
+use Rattle.lane_core.specs.Named.{AreComposites, AreInside, IsInRoot, bound_at, known_to}
 use Rattle.lane_core.proofs.CompositionTests.{clear_to_add, counts-readable, length-readable, one_part, shown_to_compose}
 use Rattle.lane_core.proofs.NameLaws.{bound_within}
 
@@ -23,8 +23,9 @@ module _ (d : Context) where
 
   pub may_compose : (fresh : ℕ) (of : List ℕ) → FitsContext d (Command.Compose fresh of)
       → None ≡ first_refusal (refusals_to_compose d.names d.counts fresh of) → (parts : List Part)
-      → parts ≡ readable_of d.names of → All IsPlaced parts → MayMake d fresh (joined parts 1 0)
-  may_compose fresh of fits none parts is placed =
+      → parts ≡ readable_of d.names of → All IsPlaced parts → All (IsInRoot (known_to d.seat)) parts
+      → MayMake d fresh (joined parts 1 0)
+  may_compose fresh of fits none parts is placed inside =
       let shown = shown_to_compose d.names d.counts fresh of none in
       let long = ap (λ (ps : List Part). length ps) is ∙ length-readable d.names d.counts of shown in
       record {
@@ -35,15 +36,17 @@ module _ (d : Context) where
           some = (let least = fits.2 in omega (arith, long, least));
           few = (let most = fits.3 in omega (arith, long, most));
           placed = placed;
+          inside = inside;
           counts = All-same IsCounted parts (readable_of d.names of) is (counts-readable d.names d.counts of shown);
         };
         reader = omega arith;
       }
 
-  placed_in : (ps : List Part) → All IsInRoot ps → All Fits ps → All IsPlaced ps
-  placed_in ps inside fits k e lt = record { inside = inside k e lt; fits = fits k e lt }
+  abbrev lies_in : Part → Type 0
+  lies_in = IsInRoot (known_to d.seat)
 
-  module _ (composites : AreComposites d.composes (1 + length d.replies.items) d.names) (whole name : ℕ)
+  module _ (composites : AreComposites d.composes (1 + length d.replies.items) d.names)
+      (lies : AreInside (known_to d.seat) d.names) (whole name : ℕ)
       (none : None ≡ first_refusal (refusals_to_add d.names d.counts whole name)) (before : Composite)
       (bound : bound_at d.names whole ≡ Some (Composed before)) where
     does_compose : (b : Bool) → d.composes ≡ b → b ≡ true
@@ -65,8 +68,9 @@ module _ (d : Context) where
 
     pub may_add : (parts : List Part) (count reader : ℕ) → parts ≡ before.parts ++ readable_at d.names name
         → count ≡ before.count → reader ≡ before.reader → All Fits before.parts
-        → All IsPlaced (readable_at d.names name) → MayMake d whole (joined parts count reader)
-    may_add parts count reader is same_count same_reader fits placed =
+        → All IsPlaced (readable_at d.names name) → All lies_in (readable_at d.names name)
+        → MayMake d whole (joined parts count reader)
+    may_add parts count reader is same_count same_reader fits placed inside =
         let formed = composites.formed whole before bound in
         let few = composites.few whole before bound in
         let shown = (clear_to_add d.names d.counts whole name none).1 in
@@ -86,7 +90,10 @@ module _ (d : Context) where
             few = omega (arith, long, one, most);
             placed =
                 All-same IsPlaced parts (before.parts ++ behind) is
-                (All-append IsPlaced before.parts behind (placed_in before.parts formed.marked.inside fits) placed);
+                (All-append IsPlaced before.parts behind (λ k e lt. fits k e lt) placed);
+            inside =
+                All-same lies_in parts (before.parts ++ behind) is
+                (All-append lies_in before.parts behind (lies.each whole (Composed before) bound) inside);
             counts =
                 All-same IsCounted parts (before.parts ++ behind) is
                 (All-append IsCounted before.parts behind counts_before counts_behind);

@@ -16,8 +16,8 @@ use Rattle.pool_law.specs.Dids as says
 use Rattle.pool_law.specs.Lanes.{set_parts, get_parts}
 use Rattle.pool_law.specs.Limits.{cached_classes}
 use Rattle.pool_law.specs.Logs.{Entry}
-use Rattle.pool_law.specs.Patterns.{allot, ask_arena, bear, drain, give_back, sheds}
-use Rattle.pool_law.specs.Readers.{Entries, Log, Reader, ◌>>=◌, ◌>>◌, ◌or◌, access, done_at, first_of_left, give, next, note}
+use Rattle.pool_law.specs.Patterns.{allot, ask_arena, bear, drain, found_room, give_back, grown, one_more, sheds}
+use Rattle.pool_law.specs.Readers.{Entries, Log, Reader, ◌>>=◌, ◌>>◌, ◌or◌, access, done_at, first_of_left, give, growth, next, note}
 use Rattle.pool_law.specs.Same.{same_object}
 use Rattle.pool_law.proofs.SameLemmas.{same_object-is}
 use Rattle.lane_core.specs.declared.draining.DrainKind.{DrainKind}
@@ -75,6 +75,15 @@ module _ {A : Type 0} (says : Did → Option A) where
       (λ e is. done_there (Root root.place) e.note (then_some says (done_at (Root root.place) e.note)
       (if_some (root_is root e.root) (option_and_then says (done_at (Root root.place) e.note)) is).1))
 
+pub growth_begins : (root : RootId) (size : ℕ) (region : RegionId)
+    → BeginsAt (Root root.place) (growth root size region)
+growth_begins root size region = next_begins (Root root.place)
+    (λ e. if root_is root e.root then option_and_then (λ _. e.region)
+    (option_and_then (says.grow size region) (done_at (Root root.place) e.note)) else None)
+    (λ e is. (let did = option_and_then (says.grow size region) (done_at (Root root.place) e.note) in
+    done_there (Root root.place) e.note (then_some (says.grow size region) (done_at (Root root.place) e.note)
+    (then_some (λ _. e.region) did (if_some (root_is root e.root) (option_and_then (λ _. e.region) did) is).1))))
+
 -- ---- Readings of readings.
 
 pub then_begins : {A B : Type 0} (o : Object) (r : Reader A) (f : A → Reader B) → BeginsAt o r → BeginsAt o (r >>= f)
@@ -113,6 +122,17 @@ arena_begins shape lane class =
 
 pub home_begins : (lane place size : ℕ) → BeginsAt (Bin lane) (bear lane place size None)
 home_begins lane place size = then_begins (Bin lane) _ _ (note_begins (says.home place) (Bin lane))
+
+pub room_begins : (root : RootId) (size : ℕ) → BeginsAt (Root root.place) (found_room root size)
+room_begins root size =
+    either_begins (Root root.place) _ _ (then_begins (Root root.place) _ _ (access_begins (says.extend size) root))
+    (access_begins (says.room size) root)
+
+pub grown_begins : (root : RootId) (size : ℕ) (region : RegionId) → BeginsAt (Root root.place) (grown root size region)
+grown_begins root size region =
+    either_begins (Root root.place) _ _
+    (then_begins (Root root.place) _ _ (growth_begins root size (one_more region)))
+    (then_begins (Root root.place) _ _ (room_begins root size))
 
 pub given_begins : (region : RegionId) → BeginsAt (Arena region.place.arena) (give_back region)
 given_begins region = note_begins (says.give region) (Arena region.place.arena)

@@ -35,7 +35,7 @@ use Rattle.lane_core.specs.declared.lane.Parts.{Parts}
 use Rattle.lane_core.specs.Budgets.{Left, all_out}
 use Rattle.seat_work.specs.Hands.{empty_hand}
 use Rattle.lane_core.specs.Sampled.{AreSampled}
-use Rattle.lane_core.specs.Named.{bound_at, NamesAre, AreViews, ChangesBelow}
+use Rattle.lane_core.specs.Named.{bound_at, NamesAre, AreViews, ChangesBelow, known_to, AreInside}
 use Rattle.lane_core.specs.Counting.{counted, CountsAre}
 use Rattle.lane_core.specs.Contexts.{IsContext, entries_of, FitsContext, HasRoomFor}
 use Rattle.lane_core.specs.Lanes.{left_for_each, IsRunningLane, HasAnswered, IsBegun, left_for_rest, left_to_ask, commands_left, answered_entries, both}
@@ -67,6 +67,9 @@ module _ (names : List (Option Bound)) (e : names ≡ replicate (length names) N
   AreViews-none : AreViews names
   AreViews-none name c bound = (let none = none_at name in absurd (cc (none, bound)))
 
+  AreInside-none : (known : RootId → ℕ) → AreInside known names
+  AreInside-none known = record { each = λ name b bound. (let none = none_at name in absurd (cc (none, bound))) }
+
 -- ---- The commands.
 fits_context : (d : Context) (earlier : List Command) (c : Command) → (composes c ≡ true → d.composes ≡ true)
     → ChangesBelow (length d.names) c → fits_after d.shape earlier c ≡ true → FitsContext d c
@@ -89,6 +92,7 @@ fits_context d earlier (Command.Compose fresh names) some below fits =
     let parts = and_parts (nat_le 1 (length names)) (nat_le (length names) 24) fits in
     (below, some refl, leb-true 1 (length names) parts.0, leb-true (length names) 24 parts.1)
 fits_context d earlier (Command.Add whole name) some below fits = tt
+fits_context d earlier (Command.Capacity name size) some below fits = below
 
 -- one of the commands makes a composite
 any_first : (c : Command) (cs : List Command) → composes c ≡ true → list_any composes (c ∷ cs) ≡ true
@@ -164,6 +168,7 @@ module _ (pool : SharedPool) (shape : Shape) (l : Lane) (p : Parts)
         few = λ name c bound. absurd (AreViews-none p.names parts.names name c bound);
         formed = λ name c bound. absurd (AreViews-none p.names parts.names name c bound);
       };
+      inside = AreInside-none p.names parts.names (known_to l.context.seat);
     }
 
     answered : HasAnswered shape (lane_of l.context.seat) new new_lane

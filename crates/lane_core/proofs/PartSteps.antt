@@ -13,6 +13,7 @@ use Rattle.pool_law.proofs.SameLemmas.{same_root-is}
 use Rattle.shared_pool.specs.declared.seat.PoolSeat.{PoolSeat}
 use Rattle.pool_table.specs.declared.views.Entry.{Entry}
 use Rattle.pool_table.specs.declared.views.SeatView.{SeatView}
+use Rattle.pool_table.specs.Capacities.{knows_of}
 use Rattle.pool_table.specs.Counts.{HasCount}
 use Rattle.shared_pool.specs.SeatViews.{view_of}
 use Rattle.shared_pool.specs.Closing.{entry_of}
@@ -32,6 +33,7 @@ use Rattle.lane_core.proofs.AccessTurns.{IsAccessDid}
 use Rattle.lane_core.proofs.EntryCounts.{recounted, still}
 use Rattle.lane_core.proofs.SeatCounts.{is_counted}
 use Rattle.lane_core.proofs.Grown.{spends}
+use Rattle.lane_core.proofs.Knowing.{knows_more}
 
 module _ (pool : SharedPool) (old new : PoolSeat) (was : IsPoolSeat pool old)
     (is : IsPoolSeat pool new) where
@@ -58,6 +60,10 @@ module _ (pool : SharedPool) (old new : PoolSeat) (was : IsPoolSeat pool old)
       pub counts_on : IsQuiet r number v.own.number did → (q : RootId) → HasCount q v → HasCount q w
       counts_on quiet q has =
           still_counts no_change v w q refl (changes_by no_change v w (part_entry ∷ []) 0 grows quiet.tells) has
+
+      -- and no less of it is known
+      pub knows_on : (q : RootId) → knows_of q v ≤ knows_of q w
+      knows_on = knows_more v w (part_entry ∷ []) grows.more
 
       -- one note is spent
       pub one_spent : IsAccessDid r number v.own.number did → (before after : ℕ) → after + 1 ≤ before

@@ -24,7 +24,7 @@ use Rattle.seat_work.specs.Hands.{Hand, empty_hand, IsHeld}
 use Rattle.lane_core.specs.declared.counts.Counted.{Counted}
 use Rattle.lane_core.specs.declared.context.Context.{Context}
 use Rattle.lane_core.specs.declared.context.Stage.{Stage}
-use Rattle.lane_core.specs.declared.context.Stage.TheVariants.{Ready, Allotting, Ending, Sweeping, Closing, Crossing, Parting, Consolidating, Copying, Replacing}
+use Rattle.lane_core.specs.declared.context.Stage.TheVariants.{Ready, Allotting, Ending, Sweeping, Closing, Crossing, Parting, Consolidating, Copying, Replacing, Growing}
 use Rattle.lane_core.specs.declared.context.Turn.{Turn}
 use Rattle.lane_core.specs.declared.context.Turn.TheVariants.{Went, Pending, Waiting}
 use Rattle.lane_core.specs.declared.draining.Draining.TheVariants.{Ask}
@@ -33,7 +33,7 @@ use Rattle.lane_core.specs.Budgets.{Left, Spends, notes_alone, with_sheds}
 use Rattle.lane_core.specs.Composing.{IsBindable, IsCandidate}
 use Rattle.lane_core.specs.Counting.{CountsAre, counted}
 use Rattle.lane_core.specs.Logs.{HasWritten}
-use Rattle.lane_core.specs.Named.{NamesAre}
+use Rattle.lane_core.specs.Named.{NamesAre, known_to}
 use Rattle.lane_core.specs.Readings.{ReadsOn, none_asked, swept}
 use Rattle.lane_core.specs.Releasings.{ReadsOnWith}
 use Rattle.lane_core.specs.Sampled.{AreSampled}
@@ -42,7 +42,8 @@ use Rattle.lane_core.specs.ContextSteps.{CanAnswer, Concludes, HasNoted, HasRepl
 use Rattle.lane_core.proofs.ContextGrown.{answered, grew, lengthened, mid_grew, noted_so}
 use Rattle.lane_core.proofs.ContextLaws.{Advances, entries_more, reads_at, spends_at}
 use Rattle.lane_core.proofs.EntryCounts.{Recounts, counts_append}
-use Rattle.lane_core.proofs.NameLaws.{RebindsAt, rebound_more}
+use Rattle.lane_core.proofs.Knowing.{knows_more}
+use Rattle.lane_core.proofs.NameLaws.{RebindsAt, parts_later, rebound_more}
 use Rattle.lane_core.proofs.ReadLaws.{sweeps_on, unswept}
 use Rattle.lane_core.proofs.StageNeeds.{answers_behind}
 
@@ -79,21 +80,26 @@ pub record Moved (pool : SharedPool) (before after : Hand) (old mid : Context) (
   pub held : IsHeld after (view_of mid.seat)
   pub sampled : AreSampled old.sampler added old.sampler
 
--- a composite that may be bound at a context may be bound at another with its names
-pub candidate_on : (old mid : Context) → mid.names ≡ old.names → mid.composes ≡ old.composes → mid.replies ≡ old.replies
+-- a composite that may be bound at a context may be bound at another with its names, whose seat knows more
+pub candidate_on : (old mid : Context) (added : List Entry) → HasMore (view_of old.seat) (view_of mid.seat) added
+    → mid.names ≡ old.names → mid.composes ≡ old.composes → mid.replies ≡ old.replies
     → (name : ℕ) (c : Composite) → IsCandidate old name c → IsCandidate mid name c
-candidate_on old mid names composes replies name c may = record {
+candidate_on old mid added more names composes replies name c may = record {
   name_is = subst (λ (bound : List (Option Bound)). name < length bound) (sym names) may.name_is;
   composes = composes ∙ may.composes;
   few = (let a = ap (λ (xs : Vec Answered). length xs.items) replies in let b = may.few in omega (arith, a, b));
+  inside =
+      parts_later (known_to old.seat) (known_to mid.seat)
+      (knows_more (view_of old.seat) (view_of mid.seat) added more) c.parts may.inside;
   marked = may.marked;
 }
 
 -- so it is behind a step
-pub bindable_on : (old mid : Context) → mid ≡ record old { seat = mid.seat; counts = mid.counts; notes = mid.notes }
+pub bindable_on : (old mid : Context) (added : List Entry) → HasMore (view_of old.seat) (view_of mid.seat) added
+    → mid ≡ record old { seat = mid.seat; counts = mid.counts; notes = mid.notes }
     → (name : ℕ) (c : Composite) → IsBindable old name c → IsBindable mid name c
-bindable_on old mid mid_is name c may = (
-  candidate_on old mid (ap (λ (x : Context). x.names) mid_is) (ap (λ (x : Context). x.composes) mid_is)
+bindable_on old mid added more mid_is name c may = (
+  candidate_on old mid added more (ap (λ (x : Context). x.names) mid_is) (ap (λ (x : Context). x.composes) mid_is)
       (ap (λ (x : Context). x.replies) mid_is) name c may.0,
   may.1,
 )
@@ -195,7 +201,7 @@ module _ (pool : SharedPool) (before after : Hand) (old mid : Context) (added : 
 
   -- it is answered
   module _ (empty : after ≡ empty_hand) (new : Context) (names : List (Option Bound)) (reply : Reply)
-      (unstopped : before_stop (reply ∷ []) ≡ 1) (rebound : RebindsAt 0 old names)
+      (unstopped : before_stop (reply ∷ []) ≡ 1) (rebound : RebindsAt 0 old mid.seat names)
       (s : LaneState) (command : Command) (stage : Stage) (bound : Names) (are : NamesAre bound names)
       (left : Left)
       (left_is : left_now old.composes command stage (view_of old.seat) ≡ with_sheds (view_of old.seat) left)
@@ -286,5 +292,6 @@ module _ (pool : SharedPool) (before after : Hand) (old mid : Context) (added : 
     moved_concludes some (Went (Consolidating p next)) did = absurd did
     moved_concludes some (Went (Copying other whole parts next)) did = absurd did
     moved_concludes some (Went (Replacing other whole next)) did = absurd did
+    moved_concludes some (Went (Growing other v size class next)) did = absurd did
     moved_concludes some (Pending held next) did = absurd did
     moved_concludes some (Waiting sender) did = absurd did

@@ -17,32 +17,33 @@ use Rattle.lane_core.specs.declared.context.Context.{Context}
 use Rattle.lane_core.specs.declared.work.Work.TheVariants.{End, Refused}
 use Rattle.lane_core.specs.Accesses.{IsState}
 use Rattle.lane_core.specs.Composing.{changed, rebound, released}
-use Rattle.lane_core.specs.Named.{AreComposites, bound_at}
+use Rattle.lane_core.specs.Named.{AreComposites, AreInside, bound_at, known_to}
 use Rattle.lane_core.specs.Plans.{GetsAt, IsDenied, IsPlanOf, IsUsable, SetsAt, work_on}
 use Rattle.lane_core.specs.Works.{reads}
 use Rattle.lane_core.proofs.PlanReads.{getting, held, makes, marks_moved, refusing, setting}
 use Rattle.lane_core.proofs.StateReads.{goes_composite, named_so}
 
-module _ (d : Context) (composites : AreComposites d.composes (1 + length d.replies.items) d.names) (name : ℕ)
-    (c : Composite) (is : bound_at d.names name ≡ Some (Composed c)) where
+module _ (d : Context) (composites : AreComposites d.composes (1 + length d.replies.items) d.names)
+    (lies : AreInside (known_to d.seat) d.names) (name : ℕ) (c : Composite)
+    (is : bound_at d.names name ≡ Some (Composed c)) where
   -- ---- Set.
 
   module _ (at : ℕ) (bytes : List ℕ) where
     pub set_refused : (inside : Bool) → inside ≡ has_range at (length bytes) (Composed c) → (r : Refusal)
         → IsDenied d.counts c inside r → IsPlanOf d (Command.Set name at bytes false) (Some (Refused r))
     set_refused =
-        refusing d composites name c is (Command.Set name at bytes false) (has_range at (length bytes)) (λ s. refl)
+        refusing d composites lies name c is (Command.Set name at bytes false) (has_range at (length bytes)) (λ s. refl)
         (λ s lane reply log. refl)
 
     pub set_planned : IsUsable d.counts c → true ≡ has_range at (length bytes) (Composed c) → (stage : Option Crossing)
         → SetsAt c at bytes stage
         → IsPlanOf d (Command.Set name at bytes false) (Some (work_on name None stage Reply.Ok))
     set_planned usable pass stage sets =
-        setting d composites name c is (Command.Set name at bytes false) (has_range at (length bytes)) (λ s. refl)
-        (λ s lane reply log. refl) usable pass (makes d composites name c is 16 1) at (length bytes) None tt
+        setting d composites lies name c is (Command.Set name at bytes false) (has_range at (length bytes)) (λ s. refl)
+        (λ s lane reply log. refl) usable pass (makes d composites lies name c is 16 1) at (length bytes) None tt
         (λ s. s.names) (λ s here. refl) bytes refl
         (λ s here lane log. ap (λ (o : Option Bound). (given o >>= set_at s at bytes) log) here) stage
-        (sets d.counts (held d composites name c is usable))
+        (sets (known_to d.seat) d.counts (held d composites lies name c is usable))
 
   -- ---- Get.
 
@@ -50,18 +51,18 @@ module _ (d : Context) (composites : AreComposites d.composes (1 + length d.repl
     pub get_refused : (inside : Bool) → inside ≡ has_range at len (Composed c) → (r : Refusal)
         → IsDenied d.counts c inside r → IsPlanOf d (Command.Get name at len false) (Some (Refused r))
     get_refused =
-        refusing d composites name c is (Command.Get name at len false) (has_range at len) (λ s. refl)
+        refusing d composites lies name c is (Command.Get name at len false) (has_range at len) (λ s. refl)
         (λ s lane reply log. refl)
 
     pub get_planned : IsUsable d.counts c → true ≡ has_range at len (Composed c) → (stage : Option Crossing)
         → GetsAt c at len stage
         → IsPlanOf d (Command.Get name at len false) (Some (work_on name None stage (Reply.OkBytes [])))
     get_planned usable pass stage gets =
-        getting d composites name c is (Command.Get name at len false) (has_range at len) (λ s. refl)
-        (λ s lane reply log. refl) usable pass (makes d composites name c is 16 1) at len None tt
+        getting d composites lies name c is (Command.Get name at len false) (has_range at len) (λ s. refl)
+        (λ s lane reply log. refl) usable pass (makes d composites lies name c is 16 1) at len None tt
         (λ s. s.names) (λ s here. refl)
         (λ s here lane log. ap (λ (o : Option Bound). (given o >>= get_at s at len) log) here) stage
-        (gets d.counts (held d composites name c is usable))
+        (gets (known_to d.seat) d.counts (held d composites lies name c is usable))
 
   -- ---- Write.
 
@@ -73,7 +74,7 @@ module _ (d : Context) (composites : AreComposites d.composes (1 + length d.repl
     pub write_refused : (inside : Bool) → inside ≡ has_range writer (length bytes) (Composed c) → (r : Refusal)
         → IsDenied d.counts c inside r → IsPlanOf d (Command.Write name bytes) (Some (Refused r))
     write_refused inside same =
-        refusing d composites name c is (Command.Write name bytes) (has_room (length bytes)) (λ s. refl)
+        refusing d composites lies name c is (Command.Write name bytes) (has_room (length bytes)) (λ s. refl)
         (λ s lane reply log. refl) inside (has_room_so inside same)
 
     abbrev written : Marks
@@ -83,8 +84,8 @@ module _ (d : Context) (composites : AreComposites d.composes (1 + length d.repl
         → (stage : Option Crossing) → SetsAt c writer bytes stage
         → IsPlanOf d (Command.Write name bytes) (Some (work_on name (Some written) stage Reply.Ok))
     write_planned usable pass stage sets =
-        setting d composites name c is (Command.Write name bytes) (has_room (length bytes)) (λ s. refl)
-        (λ s lane reply log. refl) usable (has_room_so true pass) (makes d composites name c is 16 1) writer
+        setting d composites lies name c is (Command.Write name bytes) (has_room (length bytes)) (λ s. refl)
+        (λ s lane reply log. refl) usable (has_room_so true pass) (makes d composites lies name c is 16 1) writer
         (length bytes) (Some written) (c, is, omega (arith, r, w, ordered), inside)
         (λ s. bind name (written_on (length bytes) (Composed c)) s.names)
         (λ s here. marks_moved s name c here written
@@ -93,7 +94,7 @@ module _ (d : Context) (composites : AreComposites d.composes (1 + length d.repl
         (length bytes)) bytes >> give (answer Reply.Ok (bind name (written_on (length bytes) b) s.names)))) log) here
         ∙ (λ i. (set_parts (ranges c.parts (sym w i) (length bytes)) bytes
         >> give (answer Reply.Ok (bind name (written_on (length bytes) (Composed c)) s.names))) log)) stage
-        (sets d.counts (held d composites name c is usable))
+        (sets (known_to d.seat) d.counts (held d composites lies name c is usable))
       where
         ordered : c.reader ≤ c.writer
         ordered = (composites.formed name c is).marked.reader
@@ -107,7 +108,7 @@ module _ (d : Context) (composites : AreComposites d.composes (1 + length d.repl
     pub read_refused : (inside : Bool) → inside ≡ has_to_read len (Composed c) → (r : Refusal)
         → IsDenied d.counts c inside r → IsPlanOf d (Command.Read name len) (Some (Refused r))
     read_refused =
-        refusing d composites name c is (Command.Read name len) (has_to_read len) (λ s. refl)
+        refusing d composites lies name c is (Command.Read name len) (has_to_read len) (λ s. refl)
         (λ s lane reply log. refl)
 
     abbrev was_read : Marks
@@ -117,8 +118,8 @@ module _ (d : Context) (composites : AreComposites d.composes (1 + length d.repl
         → GetsAt c reader len stage
         → IsPlanOf d (Command.Read name len) (Some (work_on name (Some was_read) stage (Reply.OkBytes [])))
     read_planned usable pass stage gets =
-        getting d composites name c is (Command.Read name len) (has_to_read len) (λ s. refl)
-        (λ s lane reply log. refl) usable pass (makes d composites name c is 16 1) reader len (Some was_read)
+        getting d composites lies name c is (Command.Read name len) (has_to_read len) (λ s. refl)
+        (λ s lane reply log. refl) usable pass (makes d composites lies name c is 16 1) reader len (Some was_read)
         (c, is, omega (arith, r, w, ordered, le), omega (arith, w, inside))
         (λ s. bind name (read_on len (Composed c)) s.names)
         (λ s here. marks_moved s name c here was_read
@@ -127,7 +128,7 @@ module _ (d : Context) (composites : AreComposites d.composes (1 + length d.repl
         >>= (λ bytes. give (answer (Reply.OkBytes bytes) (bind name (read_on len b) s.names))))) log) here
         ∙ (λ i. (get_parts (ranges c.parts (sym r i) len)
         >>= (λ bytes. give (answer (Reply.OkBytes bytes) (bind name (read_on len (Composed c)) s.names)))) log)) stage
-        (gets d.counts (held d composites name c is usable))
+        (gets (known_to d.seat) d.counts (held d composites lies name c is usable))
       where
         ordered : c.reader ≤ c.writer
         ordered = (composites.formed name c is).marked.reader
@@ -161,7 +162,7 @@ module _ (d : Context) (composites : AreComposites d.composes (1 + length d.repl
       λ s state. record {
         within = (let few = (composites.formed name c is).parts in
             let long = ap (λ (ps : List Part). length ps) items in
-            let most = makes d composites name c is 96 6 in
+            let most = makes d composites lies name c is 96 6 in
             record {
               notes = omega (arith, few, long, most);
               asks = omega arith;

@@ -7,6 +7,7 @@ use Rattle.std.proofs.Math.Seq.{take-add}
 use Rattle.std.proofs.lemmas.List.{take_more, length-take-le, length-drop}
 use Rattle.std.proofs.lemmas.List.Elements.{All-nil, All-cons, All-head, All-tail, All-same, All-push}
 use Rattle.pool_law.specs.declared.id.Part.{Part}
+use Rattle.pool_law.specs.declared.id.RootId.{RootId}
 use Rattle.pool_law.specs.Composites.{Composite, cut, ranges, size_of}
 use Rattle.composite_buf.proofs.MapLaws.{size_of_cons, size_of_more, same_size}
 use Rattle.composite_buf.proofs.RangeLaws.{All-ranges, size_of-ranges}
@@ -104,24 +105,25 @@ of_parts P (s ∷ ss) all =
     All-cons (λ (t : Stretch). P t.part) s ss (All-head P s.part (parts_of ss) all)
     (of_parts P ss (All-tail P s.part (parts_of ss) all))
 
-reachable_by : (cs : List Counted) (ss : List Stretch) → All IsSized ss → All (λ s. IsInRoot s.part) ss
-    → All (λ s. 0 < counted cs s.part.root) ss → All (IsReachable cs) ss
-reachable_by cs ss sized inside counts k d lt = record {
+reachable_by : (known : RootId → ℕ) (cs : List Counted) (ss : List Stretch) → All IsSized ss
+    → All (λ s. IsInRoot known s.part) ss → All (λ s. 0 < counted cs s.part.root) ss → All (IsReachable known cs) ss
+reachable_by known cs ss sized inside counts k d lt = record {
   counts = counts k d lt;
   inside = inside k d lt;
   bytes = sized k d lt;
 }
 
-module _ (cs : List Counted) (parts : List Part) (i n : ℕ) (usable : AreUsable cs parts) (ss : List Stretch)
-    (are : parts_of ss ≡ ranges parts i n) (sized : All IsSized ss) where
+module _ (known : RootId → ℕ) (cs : List Counted) (parts : List Part) (i n : ℕ) (usable : AreUsable known cs parts)
+    (ss : List Stretch) (are : parts_of ss ≡ ranges parts i n) (sized : All IsSized ss) where
   in_ranges : (P : Part → Type 0) → ((p : Part) (i n : ℕ) → i + n ≤ p.len → P p → P (cut p i n)) → All P parts
       → All (λ s. P s.part) ss
   in_ranges P keeps all =
       of_parts P ss (All-same P (parts_of ss) (ranges parts i n) are (All-ranges P keeps parts i n all))
 
-  pub are_reachable : All (IsReachable cs) ss
+  pub are_reachable : All (IsReachable known cs) ss
   are_reachable =
-      reachable_by cs ss sized (in_ranges IsInRoot (λ p i n le inside. omega (arith, le, inside)) usable.inside)
+      reachable_by known cs ss sized
+      (in_ranges (IsInRoot known) (λ p i n le inside. omega (arith, le, inside)) usable.inside)
       (in_ranges (λ p. 0 < counted cs p.root) (λ p i n le lt. lt) usable.counts)
 
 module _ (c : Composite) (at : ℕ) (ss : List Stretch) (first : Stretch) (later : Vec Stretch)
@@ -129,12 +131,12 @@ module _ (c : Composite) (at : ℕ) (ss : List Stretch) (first : Stretch) (later
   -- a range is set
   pub is_set : (bytes : List ℕ) → parts_of ss ≡ ranges c.parts at (length bytes) → bytes_of ss ≡ bytes
       → SetsAt c at bytes (Some (Set first later))
-  is_set bytes are have cs usable = (
+  is_set bytes are have known cs usable = (
     ap parts_of (sym next) ∙ are,
     ap bytes_of (sym next) ∙ have,
     (
-      All-same (IsReachable cs) (first ∷ later.items) ss (sym next)
-          (are_reachable cs c.parts at (length bytes) usable ss are sized),
+      All-same (IsReachable known cs) (first ∷ later.items) ss (sym next)
+          (are_reachable known cs c.parts at (length bytes) usable ss are sized),
       tt,
     ),
   )
@@ -142,12 +144,12 @@ module _ (c : Composite) (at : ℕ) (ss : List Stretch) (first : Stretch) (later
   -- a range is got
   pub is_got : (len : ℕ) (got : Vec ℕ) → parts_of ss ≡ ranges c.parts at len → got.items ≡ []
       → len ≤ vec_capacity got → at + len ≤ size_of c.parts → GetsAt c at len (Some (Get first later got))
-  is_got len got are none room inside cs usable = (
+  is_got len got are none room inside known cs usable = (
     ap parts_of (sym next) ∙ are,
     none,
     (
-      All-same (IsReachable cs) (first ∷ later.items) ss (sym next)
-          (are_reachable cs c.parts at len usable ss are sized),
+      All-same (IsReachable known cs) (first ∷ later.items) ss (sym next)
+          (are_reachable known cs c.parts at len usable ss are sized),
       omega (arith, empty, long, size, room),
     ),
   )

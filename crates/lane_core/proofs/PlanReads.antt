@@ -6,6 +6,7 @@ use Rattle.std.proofs.lemmas.List.{length-map}
 use Rattle.std.proofs.lemmas.List.Sums.{length-filter, count_by-le-length}
 use Rattle.pool_law.specs.declared.command.Command.{Command}
 use Rattle.pool_law.specs.declared.id.Part.{Part}
+use Rattle.pool_law.specs.declared.id.RootId.{RootId}
 use Rattle.pool_law.specs.declared.run.Reply.{Reply}
 use Rattle.pool_law.specs.declared.run.Shape.{Shape}
 use Rattle.pool_law.specs.Bounds.{most_notes}
@@ -29,7 +30,7 @@ use Rattle.lane_core.specs.Composing.{MarksFit, crossed, marked, set_marks, rebo
 use Rattle.lane_core.specs.Compositions.{counts_in}
 use Rattle.lane_core.specs.Crossings.{bytes_of, parts_of, stretches}
 use Rattle.lane_core.specs.Contexts.{left_for}
-use Rattle.lane_core.specs.Named.{AreComposites, bound_at}
+use Rattle.lane_core.specs.Named.{AreComposites, AreInside, bound_at, known_to}
 use Rattle.lane_core.specs.Plans.{AreUsable, Gets, IsDenied, IsPlanOf, IsUsable, Sets, work_on}
 use Rattle.lane_core.specs.Works.{IsReady, IsWithin, left_of, reads}
 use Rattle.lane_core.proofs.CompositionTests.{usable_so}
@@ -59,18 +60,19 @@ as_many : (stage : Crossing) (parts : List Part) → parts_of (stretches stage) 
 as_many stage parts are =
     sym (length-map (stretches stage) (λ s. s.part)) ∙ ap (λ (ps : List Part). length ps) are
 
-few_sets : (cs : List Counted) (parts : List Part) (bytes : List ℕ) (stage : Option Crossing)
-    → Sets cs parts bytes stage → steps stage ≤ length parts
-few_sets cs parts bytes None sets = omega arith
-few_sets cs parts bytes (Some (Set first later)) sets =
+few_sets : (known : RootId → ℕ) (cs : List Counted) (parts : List Part) (bytes : List ℕ) (stage : Option Crossing)
+    → Sets known cs parts bytes stage → steps stage ≤ length parts
+few_sets known cs parts bytes None sets = omega arith
+few_sets known cs parts bytes (Some (Set first later)) sets =
     let same = as_many (Set first later) parts sets.0 in omega (arith, same)
-few_sets cs parts bytes (Some (Get first later got)) sets = absurd sets
+few_sets known cs parts bytes (Some (Get first later got)) sets = absurd sets
 
-few_gets : (cs : List Counted) (parts : List Part) (stage : Option Crossing) → Gets cs parts stage
+few_gets : (known : RootId → ℕ) (cs : List Counted) (parts : List Part) (stage : Option Crossing)
+    → Gets known cs parts stage
     → steps stage ≤ length parts
-few_gets cs parts None gets = omega arith
-few_gets cs parts (Some (Set first later)) gets = absurd gets
-few_gets cs parts (Some (Get first later got)) gets =
+few_gets known cs parts None gets = omega arith
+few_gets known cs parts (Some (Set first later)) gets = absurd gets
+few_gets known cs parts (Some (Get first later got)) gets =
     let same = as_many (Get first later got) parts gets.0 in omega (arith, same)
 
 -- ---- Readings one behind the other.
@@ -87,10 +89,10 @@ then_given {A} {B} {C} r f g log = go (r log)
     go None = refl
     go (Some got) = refl
 
-module _ (cs : List Counted) (shape : Shape) (lane : ℕ) (s : LaneState) (name : ℕ) (marks : Option Marks)
-    (after : Names)
+module _ (known : RootId → ℕ) (cs : List Counted) (shape : Shape) (lane : ℕ) (s : LaneState) (name : ℕ)
+    (marks : Option Marks) (after : Names)
     (moved : marked name marks s.names ≡ after) (parts : List Part) (log : Log) where
-  set_read : (bytes : List ℕ) (stage : Option Crossing) → Sets cs parts bytes stage
+  set_read : (bytes : List ℕ) (stage : Option Crossing) → Sets known cs parts bytes stage
       → (set_parts parts bytes >> give (answer Reply.Ok after)) log
       ≡ reads shape lane s (work_on name marks stage Reply.Ok) log
   set_read bytes None sets =
@@ -101,7 +103,7 @@ module _ (cs : List Counted) (shape : Shape) (lane : ℕ) (s : LaneState) (name 
       (λ u. no_bytes) (λ bytes. crossed s name marks (Set first later) bytes) log
   set_read bytes (Some (Get first later got)) sets = absurd sets
 
-  get_read : (stage : Option Crossing) → Gets cs parts stage
+  get_read : (stage : Option Crossing) → Gets known cs parts stage
       → (get_parts parts >>= (λ bytes. give (answer (Reply.OkBytes bytes) after))) log
       ≡ reads shape lane s (work_on name marks stage (Reply.OkBytes [])) log
   get_read None gets =
@@ -167,8 +169,12 @@ module _ (s : LaneState) (names : List (Option Bound)) (cs : List Counted) (stat
 
 -- ---- The work on a composite of the context.
 
-module _ (d : Context) (composites : AreComposites d.composes (1 + length d.replies.items) d.names) (name : ℕ)
-    (c : Composite) (is : bound_at d.names name ≡ Some (Composed c)) where
+module _ (d : Context) (composites : AreComposites d.composes (1 + length d.replies.items) d.names)
+    (lies : AreInside (known_to d.seat) d.names) (name : ℕ) (c : Composite)
+    (is : bound_at d.names name ≡ Some (Composed c)) where
+  abbrev known : RootId → ℕ
+  known = known_to d.seat
+
   -- the lane makes composites, so that it has notes for their parts
   pub makes : (most less : ℕ) → (if d.composes then most else less) ≡ most
   makes most less = go d.composes refl
@@ -177,8 +183,8 @@ module _ (d : Context) (composites : AreComposites d.composes (1 + length d.repl
       go true so = refl
       go false so = absurd (composites.unmixed so name c is)
 
-  pub held : IsUsable d.counts c → AreUsable d.counts c.parts
-  held usable = record { inside = (composites.formed name c is).marked.inside; counts = usable.parts }
+  pub held : IsUsable d.counts c → AreUsable known d.counts c.parts
+  held usable = record { inside = lies.each name (Composed c) is; counts = usable.parts }
 
   module _ (command : Command) (test : Bound → Bool)
       (of : (s : LaneState) → refusals d.shape s command ≡ of_bytes s name test)
@@ -237,21 +243,21 @@ module _ (d : Context) (composites : AreComposites d.composes (1 + length d.repl
           → ((s : LaneState) → named s name ≡ Some (Composed c) → (lane : ℕ) (log : Log)
           → carried_out d.shape lane s command log
           ≡ (set_parts (ranges c.parts at len) bytes >> give (answer Reply.Ok (after s))) log)
-          → (stage : Option Crossing) → Sets d.counts (ranges c.parts at len) bytes stage
+          → (stage : Option Crossing) → Sets known d.counts (ranges c.parts at len) bytes stage
           → IsPlanOf d command (Some (work_on name marks stage Reply.Ok))
       setting bytes long carried stage sets = (
         ready stage sets,
         λ s state. record {
-          within = within_by stage Reply.Ok (few_sets d.counts (ranges c.parts at len) bytes stage sets);
+          within = within_by stage Reply.Ok (few_sets known d.counts (ranges c.parts at len) bytes stage sets);
           read = λ lane log.
               let here = named_so s d.names d.counts state name (Some (Composed c)) is in
               carried_on s state lane log ∙ carried s here lane log
-              ∙ set_read d.counts d.shape lane s name marks (after s) (moved s here) (ranges c.parts at len) log bytes
-              stage sets;
+              ∙ set_read known d.counts d.shape lane s name marks (after s) (moved s here) (ranges c.parts at len)
+              log bytes stage sets;
         },
       )
         where
-          ready : (stage : Option Crossing) → Sets d.counts (ranges c.parts at len) bytes stage
+          ready : (stage : Option Crossing) → Sets known d.counts (ranges c.parts at len) bytes stage
               → IsReady d (work_on name marks stage Reply.Ok)
           ready None sets = (fit, refl)
           ready (Some (Set first later)) sets = (fit, sets.2)
@@ -261,22 +267,22 @@ module _ (d : Context) (composites : AreComposites d.composes (1 + length d.repl
       pub getting : ((s : LaneState) → named s name ≡ Some (Composed c) → (lane : ℕ) (log : Log)
           → carried_out d.shape lane s command log
           ≡ (get_parts (ranges c.parts at len) >>= (λ bytes. give (answer (Reply.OkBytes bytes) (after s)))) log)
-          → (stage : Option Crossing) → Gets d.counts (ranges c.parts at len) stage
+          → (stage : Option Crossing) → Gets known d.counts (ranges c.parts at len) stage
           → IsPlanOf d command (Some (work_on name marks stage (Reply.OkBytes no_bytes)))
       getting carried stage gets = (
         ready stage gets,
         λ s state. record {
           within = within_by stage (Reply.OkBytes no_bytes)
-              (few_gets d.counts (ranges c.parts at len) stage gets);
+              (few_gets known d.counts (ranges c.parts at len) stage gets);
           read = λ lane log.
               let here = named_so s d.names d.counts state name (Some (Composed c)) is in
               carried_on s state lane log ∙ carried s here lane log
-              ∙ get_read d.counts d.shape lane s name marks (after s) (moved s here) (ranges c.parts at len) log stage
-              gets;
+              ∙ get_read known d.counts d.shape lane s name marks (after s) (moved s here) (ranges c.parts at len)
+              log stage gets;
         },
       )
         where
-          ready : (stage : Option Crossing) → Gets d.counts (ranges c.parts at len) stage
+          ready : (stage : Option Crossing) → Gets known d.counts (ranges c.parts at len) stage
               → IsReady d (work_on name marks stage (Reply.OkBytes no_bytes))
           ready None gets = (fit, refl)
           ready (Some (Set first later)) gets = absurd gets

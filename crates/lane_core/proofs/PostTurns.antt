@@ -27,6 +27,7 @@ use Rattle.pool_table.specs.Counts.{weigh, on_this, ref_gain, ref_loss, fetches,
 use Rattle.shared_pool.specs.SeatViews.{view_of, SameSeat}
 use Rattle.shared_pool.specs.declared.pool.SharedPool.{SharedPool}
 use Rattle.shared_pool.specs.Closing.{note_of, entry_of}
+use Rattle.shared_pool.specs.Knowing.{ReachesKnown}
 use Rattle.shared_pool.specs.MailAnswers.{HasRoom, IsFetched, IsPosted}
 use Rattle.shared_pool.specs.SeatLanes.{lane_of}
 use Rattle.shared_pool.specs.Seats.{IsPoolSeat}
@@ -254,7 +255,7 @@ module _ (pool : SharedPool) (fresh from : ℕ) (old start mid new : Context)
 
   fetched_turn : (cs : List Counted) (names : List (Option Bound)) (reply : Reply) → before_stop (reply ∷ []) ≡ 1
       → HasReplied (record mid { names = names; counts = cs }) new reply → Recounts old.counts cs (entry_of f ∷ [])
-      → length cs ≡ length old.counts → RebindsAt 1 old names → (s : LaneState) (bound : Names)
+      → length cs ≡ length old.counts → RebindsAt 1 old start.seat names → (s : LaneState) (bound : Names)
       → NamesAre bound names →
       received s fresh parcel.view ≡ answer reply bound
       → HasTurned pool old new s (Command.Recv fresh from) Ready (Went Ready)
@@ -304,11 +305,12 @@ module _ (pool : SharedPool) (fresh from : ℕ) (old start mid new : Context)
       (ap (received s fresh) none)
 
   -- a parcel with a view
-  pub receive_turn : (v : ViewData) → parcel.view ≡ Some v → fresh < length old.names → (cs : List Counted)
+  pub receive_turn : (v : ViewData) → parcel.view ≡ Some v → ReachesKnown (view_of start.seat) v
+      → fresh < length old.names → (cs : List Counted)
       → CountsMore mid.counts cs v.root → HasReplied
       (record mid { counts = cs; names = slice_set mid.names fresh (Some (Plain v)) }) new Reply.Ok → (s : LaneState)
       → IsState s old.names old.counts → HasTurned pool old new s (Command.Recv fresh from) Ready (Went Ready)
-  receive_turn v some lt cs more replied s state =
+  receive_turn v some known lt cs more replied s state =
       let before : CountsMore old.counts cs v.root =
       subst (λ (ds : List Counted). CountsMore ds cs v.root) mid_counts_are more in
       fetched_turn cs (slice_set mid.names fresh (Some (Plain v))) Reply.Ok refl replied
@@ -316,7 +318,7 @@ module _ (pool : SharedPool) (fresh from : ℕ) (old start mid new : Context)
       (entry_of (fetch_entry from (lane_of old.seat) number (view_of old.seat).own.number p) ∷ []))
       (λ i. record { view = sym some i })
       (fetched old.counts cs v (Mail from (lane_of old.seat)) number before.counts))
-      before.places (rebound_view 1 old.names mid.names mid_names_are fresh lt v) s (bind fresh (Plain v) s.names)
+      before.places (rebound_view 1 old.names mid.names mid_names_are fresh lt v known) s (bind fresh (Plain v) s.names)
       (subst (λ (names : List (Option Bound)). NamesAre (bind fresh (Plain v) s.names)
       (slice_set names fresh (Some (Plain v)))) (sym mid_names_are)
       (NamesAre-bind s.names old.names state.names_are fresh (Plain v) lt))

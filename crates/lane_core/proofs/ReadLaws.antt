@@ -109,6 +109,13 @@ module _ {A : Type 0} (e : Entry) where
       access-is root says n did (before_left log (e ∷ [])) e log.left refl is here
       ∙ ap (λ (x : Option A). option_map (λ a. (a, behind_entry (before_left log (e ∷ [])) e log.left)) x) so
 
+  pub access_off : (root : RootId) (says : Did → Option A) (n : ℕ) (did : Did)
+      → e.note ≡ Note.At (Object.Root root.place) n did → root_is root e.root ≡ true → says did ≡ None
+      → (log : Log) → access root says (before_left log (e ∷ [])) ≡ None
+  access_off root says n did is here so log =
+      access-is root says n did (before_left log (e ∷ [])) e log.left refl is here
+      ∙ ap (λ (x : Option A). option_map (λ a. (a, behind_entry (before_left log (e ∷ [])) e log.left)) x) so
+
   -- a busy mark is no note
   pub mark_off : (o : Object) (says : Did → Option A) (held : Held) → e.note ≡ Note.Busy held → (log : Log)
       → note o says (before_left log (e ∷ [])) ≡ None

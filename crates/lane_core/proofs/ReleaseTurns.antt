@@ -34,7 +34,7 @@ use Rattle.lane_core.specs.declared.releasing.Releases.{Releases}
 use Rattle.lane_core.specs.declared.releasing.Releases.TheVariants.{More, Held as HeldBack, Done}
 use Rattle.lane_core.specs.Composing.{HasLast, IsBindable, ended, released}
 use Rattle.lane_core.specs.Counting.{counted}
-use Rattle.lane_core.specs.Named.{NamesAre, bound_at}
+use Rattle.lane_core.specs.Named.{NamesAre, bound_at, known_to}
 use Rattle.lane_core.specs.NextNotes.{BeginsAt}
 use Rattle.lane_core.specs.Readings.{renamed, swept}
 use Rattle.lane_core.specs.Releasings as releasing
@@ -42,8 +42,10 @@ use Rattle.lane_core.specs.Releasings.{AreUncounted, IsOver, ReadsOnWith, hand_i
 use Rattle.lane_core.specs.Contexts.{HasRoomFor, HasTurned, IsContext, log_of, notes_of, reads_from}
 use Rattle.lane_core.specs.ContextSteps.{CanAnswer, Concludes, HasReplied, bound_to, recounted}
 use Rattle.lane_core.proofs.NextNotes.{then_begins}
-use Rattle.lane_core.proofs.NameLaws.{NamesAre-bind, NamesAre-changed, rebound_composite, rebound_count}
+use Rattle.lane_core.proofs.NameLaws.{NamesAre-bind, NamesAre-changed, rebound_composite, rebound_count, parts_later}
 use Rattle.lane_core.proofs.PartTurns.{Moved, between, bindable_on, moved_answer, moved_can, moved_concludes, moved_counts, moved_grew, moved_on, moved_spends, moved_still, moved_with}
+use Rattle.lane_core.proofs.Knowing.{knows_more}
+use Rattle.shared_pool.specs.SeatViews.{view_of}
 use Rattle.lane_core.proofs.StageTurns.{none_of, some_of}
 
 pub may_release : (pool : SharedPool) (old : Context) (stage : Releasing) → IsContext pool (releasing.hand_of stage) old
@@ -247,7 +249,7 @@ module _ (pool : SharedPool) (old mid : Context) (stage : Releasing) (d : IsCont
           added = did.added;
           grew = moved_grew pool before after old mid did.added m;
           fits = (did.fits, omega (arith, a, low), more);
-          name = bindable_on old mid mid_is name w may;
+          name = bindable_on old mid did.added did.more mid_is name w may;
           spends =
               moved_spends pool before after old mid did.added m (releasing.left_of stage) (releasing.left_of next)
               did.spends (omega arith);
@@ -282,7 +284,7 @@ module _ (pool : SharedPool) (old mid : Context) (stage : Releasing) (d : IsCont
                   (λ p gone. sym (counts_same (HeldBack held next) did none p.root) ∙ gone) next.left.items over.1,
             )),
           );
-          name = bindable_on old mid mid_is name w may;
+          name = bindable_on old mid did.added did.more mid_is name w may;
           spends =
               moved_spends pool before after old mid did.added m (releasing.left_of stage) (releasing.left_of next)
               did.spends (omega arith);
@@ -317,7 +319,9 @@ module _ (pool : SharedPool) (old mid : Context) (stage : Releasing) (d : IsCont
         moved_concludes pool before after old mid did.added m (ap hand_in over.0) new
         (slice_set mid.names name (Some (Composed w))) (Reply.OkNumber (size_of w.parts)) refl
         (rebound_composite 0 old.names mid.names names_same name may.0.name_is w may.0.composes
-        (let a = may.0.few in omega (arith, a)) (record { marked = may.0.marked; parts = may.1 })) s command
+        (let a = may.0.few in omega (arith, a)) (record { marked = may.0.marked; parts = may.1 })
+        (parts_later (known_to old.seat) (known_to mid.seat)
+        (knows_more (view_of old.seat) (view_of mid.seat) did.added did.more) w.parts may.0.inside)) s command
         (Replacing name whole stage) bound_names names_bound (releasing.left_of stage) refl
         (record {
           notes = (let a = did.spends.notes in omega (arith, a));

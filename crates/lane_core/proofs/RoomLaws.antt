@@ -41,6 +41,7 @@ few_notes composes (Command.Send name lane) = omega arith
 few_notes composes (Command.Recv fresh lane) = omega arith
 few_notes composes (Command.Compose fresh names) = omega arith
 few_notes composes (Command.Add whole name) = omega arith
+few_notes composes (Command.Capacity name size) = omega arith
 
 pub one_ask : (c : Command) → may_ask c ≤ 1
 one_ask (Command.Alloc name size) = omega arith
@@ -59,6 +60,7 @@ one_ask (Command.Send name lane) = omega arith
 one_ask (Command.Recv fresh lane) = omega arith
 one_ask (Command.Compose fresh names) = omega arith
 one_ask (Command.Add whole name) = omega arith
+one_ask (Command.Capacity name size) = omega arith
 
 module _ (composes : Bool) where
   pub all_few : (cs : List Command) → (left_for_each composes cs).notes ≤ 197 * length cs

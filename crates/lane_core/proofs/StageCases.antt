@@ -9,7 +9,7 @@ use Rattle.pool_table.specs.declared.views.Entry.{Entry}
 use Rattle.pool_table.specs.declared.views.SeatView.{SeatView}
 use Rattle.lane_core.specs.declared.context.Context.{Context}
 use Rattle.lane_core.specs.declared.context.Stage.{Stage}
-use Rattle.lane_core.specs.declared.context.Stage.TheVariants.{Ready, Allotting, Ending, Sweeping, Closing, Crossing, Parting, Consolidating, Copying, Replacing}
+use Rattle.lane_core.specs.declared.context.Stage.TheVariants.{Ready, Allotting, Ending, Sweeping, Closing, Crossing, Parting, Consolidating, Copying, Replacing, Growing}
 use Rattle.lane_core.specs.declared.context.Turn.TheVariants.{Went, Pending}
 use Rattle.lane_core.specs.declared.draining.Draining.{Draining}
 use Rattle.lane_core.specs.Contexts.{IsUnderway, ComesTo, ClosesTo, GoesOn, PassesTo, Waits, left_after, left_at, left_now}
@@ -29,6 +29,7 @@ module _ (P : Stage → Type 0) (ready : P Ready) (closing : (at : Draining) →
   by_kind (Consolidating p at) = under (Consolidating p at) tt
   by_kind (Copying name whole parts at) = under (Copying name whole parts at) tt
   by_kind (Replacing name whole at) = under (Replacing name whole at) tt
+  by_kind (Growing name it size class at) = under (Growing name it size class at) tt
 
 -- where it is neither of the first two, a command is under way
 pub underway : (stage : Stage) → (stage ≡ Ready → ⊥) → ((x : Draining) → stage ≡ Closing x → ⊥) → IsUnderway stage
@@ -48,6 +49,7 @@ no_closing (Parting name at) u closes = closes
 no_closing (Consolidating p at) u closes = closes
 no_closing (Copying name whole parts at) u closes = closes
 no_closing (Replacing name whole at) u closes = closes
+no_closing (Growing name it size class at) u closes = closes
 
 -- nor is the lane at rest then
 pub no_rest : (stage : Stage) → IsUnderway stage → IsAtRest stage → ⊥
@@ -61,6 +63,7 @@ no_rest (Parting name at) u rest = rest
 no_rest (Consolidating p at) u rest = rest
 no_rest (Copying name whole parts at) u rest = rest
 no_rest (Replacing name whole at) u rest = rest
+no_rest (Growing name it size class at) u rest = rest
 
 -- what is left of it is the same for each command
 pub same_left : (composes : Bool) (stage : Stage) (v : SeatView) → IsUnderway stage → (a b : Command)
@@ -75,6 +78,7 @@ same_left composes (Parting name at) v u a b = refl
 same_left composes (Consolidating p at) v u a b = refl
 same_left composes (Copying name whole parts at) v u a b = refl
 same_left composes (Replacing name whole at) v u a b = refl
+same_left composes (Growing name it size class at) v u a b = refl
 
 -- what is left after a turn that comes to it
 pub left_on : (composes : Bool) (command : Command) (stage next : Stage) (v : SeatView) → IsUnderway next
@@ -89,6 +93,7 @@ left_on composes command stage (Parting name at) v u = refl
 left_on composes command stage (Consolidating p at) v u = refl
 left_on composes command stage (Copying name whole parts at) v u = refl
 left_on composes command stage (Replacing name whole at) v u = refl
+left_on composes command stage (Growing name it size class at) v u = refl
 
 -- ---- A turn that comes to such a stage.
 
@@ -107,6 +112,7 @@ module _ (reads : LaneState → Stage → Reader Answer) (s : LaneState) (old ne
   went_on (Consolidating p at) u t = t
   went_on (Copying name whole parts at) u t = t
   went_on (Replacing name whole at) u t = t
+  went_on (Growing name it size class at) u t = t
 
   pub on_went : (next : Stage) → IsUnderway next → GoesOn old new added (reads s stage)
       (λ names. reads (renamed s names) next)
@@ -121,6 +127,7 @@ module _ (reads : LaneState → Stage → Reader Answer) (s : LaneState) (old ne
   on_went (Consolidating p at) u t = t
   on_went (Copying name whole parts at) u t = t
   on_went (Replacing name whole at) u t = t
+  on_went (Growing name it size class at) u t = t
 
   -- it waits there
   pub waits_on : (held : Held) (next : Stage) → IsUnderway next
@@ -136,6 +143,7 @@ module _ (reads : LaneState → Stage → Reader Answer) (s : LaneState) (old ne
   waits_on held (Consolidating p at) u t = t
   waits_on held (Copying name whole parts at) u t = t
   waits_on held (Replacing name whole at) u t = t
+  waits_on held (Growing name it size class at) u t = t
 
   pub on_waits : (held : Held) (next : Stage) → IsUnderway next
       → ((log : Log) → reads s stage log ≡ reads s next log) × Waits old new added
@@ -150,6 +158,7 @@ module _ (reads : LaneState → Stage → Reader Answer) (s : LaneState) (old ne
   on_waits held (Consolidating p at) u t = t
   on_waits held (Copying name whole parts at) u t = t
   on_waits held (Replacing name whole at) u t = t
+  on_waits held (Growing name it size class at) u t = t
 
 -- ---- No turn that passes a command over, and none of the closing, comes to one.
 
@@ -165,6 +174,7 @@ module _ (old new : Context) (added : List Entry) (command : Command) where
   passes_none (Consolidating p at) u t = t
   passes_none (Copying name whole parts at) u t = t
   passes_none (Replacing name whole at) u t = t
+  passes_none (Growing name it size class at) u t = t
 
 module _ (stage after : Draining) (added : List Entry) where
   pub closes_none : (next : Stage) → IsUnderway next → ClosesTo stage (Went next) after added → ⊥
@@ -178,6 +188,7 @@ module _ (stage after : Draining) (added : List Entry) where
   closes_none (Consolidating p at) u t = t
   closes_none (Copying name whole parts at) u t = t
   closes_none (Replacing name whole at) u t = t
+  closes_none (Growing name it size class at) u t = t
 
   pub closes_held : (held : Held) (next : Stage) → IsUnderway next → ClosesTo stage (Pending held next) after added → ⊥
   closes_held held Ready u t = u
@@ -190,3 +201,4 @@ module _ (stage after : Draining) (added : List Entry) where
   closes_held held (Consolidating p at) u t = t
   closes_held held (Copying name whole parts at) u t = t
   closes_held held (Replacing name whole at) u t = t
+  closes_held held (Growing name it size class at) u t = t

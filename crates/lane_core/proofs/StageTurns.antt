@@ -19,13 +19,13 @@ use Rattle.shared_pool.specs.Seats.{IsPoolSeat}
 use Rattle.lane_core.specs.declared.counts.Counted.{Counted}
 use Rattle.lane_core.specs.declared.context.Context.{Context}
 use Rattle.lane_core.specs.declared.context.Stage.{Stage}
-use Rattle.lane_core.specs.declared.context.Stage.TheVariants.{Ready, Allotting, Ending, Sweeping, Closing, Crossing, Parting, Consolidating, Copying, Replacing}
+use Rattle.lane_core.specs.declared.context.Stage.TheVariants.{Ready, Allotting, Ending, Sweeping, Closing, Crossing, Parting, Consolidating, Copying, Replacing, Growing}
 use Rattle.lane_core.specs.declared.context.Turn.{Turn}
 use Rattle.lane_core.specs.declared.context.Turn.TheVariants.{Went, Pending, Waiting}
 use Rattle.lane_core.specs.declared.draining.Draining.TheVariants.{Ask}
 use Rattle.lane_core.specs.Drainings as draining
 use Rattle.lane_core.specs.Budgets.{Left, Spends, notes_alone, with_sheds}
-use Rattle.lane_core.specs.Counting.{AddCounts, counted}
+use Rattle.lane_core.specs.Counting.{counted}
 use Rattle.seat_work.specs.Hands.{Hand, empty_hand, IsHeld}
 use Rattle.lane_core.specs.Named.{NamesAre}
 use Rattle.lane_core.specs.Sampled.{AreSampled}
@@ -35,7 +35,6 @@ use Rattle.lane_core.specs.Contexts.{IsContext, log_of, reads_from, left_now, Co
 use Rattle.lane_core.specs.ContextSteps.{HasNoted, HasReplied, Concludes}
 use Rattle.lane_core.proofs.NameLaws.{RebindsAt, rebound_more}
 use Rattle.lane_core.proofs.EntryCounts.{Recounts}
-use Rattle.lane_core.proofs.SeatCounts.{adds_recounted}
 use Rattle.lane_core.proofs.ReadLaws.{given_on, sweeps_on}
 use Rattle.lane_core.proofs.ContextLaws.{Advances, entries_more, reads_at, spends_at}
 use Rattle.lane_core.proofs.ContextGrown.{mid_is, mid_grew, grew, goes_on, answered, swept_reads, lengthened}
@@ -60,7 +59,8 @@ pub record Staged (pool : SharedPool) (before after : Hand) (old start mid : Con
   pub more : HasMore (view_of old.seat) (view_of start.seat) added
   pub held : IsHeld after (view_of start.seat)
   pub sampled : AreSampled old.sampler added start.sampler
-  pub adds : AddCounts gain (map entry_of added)
+  pub adds : (cs : List Counted) → ((root : RootId) → counted cs root ≡ counted old.counts root + gain root)
+      → Recounts old.counts cs (map entry_of added)
   pub noted : HasNoted start mid (map note_of added)
 
 module _ (pool : SharedPool) (before after : Hand) (old start mid : Context) (added : List Entry) (gain : RootId → ℕ)
@@ -93,7 +93,7 @@ module _ (pool : SharedPool) (before after : Hand) (old start mid : Context) (ad
 
   recounts : (cs : List Counted) → ((root : RootId) → counted cs root ≡ counted old.counts root + gain root)
       → Recounts old.counts cs (map entry_of added)
-  recounts cs is = adds_recounted old.counts cs (map entry_of added) gain st.adds is
+  recounts cs is = st.adds cs is
 
   -- it goes on, where it gained nothing
   pub staged_grew : ((root : RootId) → gain root ≡ 0) → ContextGrew pool after old mid added
@@ -131,7 +131,7 @@ module _ (pool : SharedPool) (before after : Hand) (old start mid : Context) (ad
   module _ (empty : after ≡ empty_hand) (new : Context) (names : List (Option Bound)) (cs : List Counted)
       (reply : Reply) (unstopped : before_stop (reply ∷ []) ≡ 1)
       (gained : (root : RootId) → counted cs root ≡ counted old.counts root + gain root)
-      (places : length cs ≡ length old.counts) (rebound : RebindsAt 0 old names)
+      (places : length cs ≡ length old.counts) (rebound : RebindsAt 0 old start.seat names)
       (s : LaneState) (command : Command) (stage : Stage) (bound : Names) (are : NamesAre bound names) where
     abbrev final : Context
     final =
@@ -253,6 +253,7 @@ module _ (pool : SharedPool) (before after : Hand) (old start mid : Context) (ad
       staged_concludes (Went (Consolidating p next)) did = absurd did
       staged_concludes (Went (Copying named whole parts next)) did = absurd did
       staged_concludes (Went (Replacing named whole next)) did = absurd did
+      staged_concludes (Went (Growing named v size class next)) did = absurd did
       staged_concludes (Went (Closing next)) did = absurd did
       staged_concludes (Pending held next) did = absurd did
       staged_concludes (Waiting sender) did = absurd did

@@ -1,20 +1,24 @@
 -- From each stage on there are entries that the law reads.
-use Rattle.std.proofs.Common.{◌≡◌, ℕ, ◌+◌, ◌/◌, [], ◌∷◌, ◌++◌, length, refl, Option, Some, None}
+use Rattle.std.proofs.Common.{◌≡◌, ℕ, ◌+◌, ◌/◌, [], ◌∷◌, ◌++◌, length, refl, subst, Option, Some, None}
 use Rattle.std.specs.Prelude.{Result, Ok}
+use Rattle.size_classes.specs.Sizes.{class_of}
 use Rattle.pool_law.specs.declared.command.Command.{Command}
 use Rattle.pool_law.specs.declared.note.Object.TheVariants.{Bin}
 use Rattle.pool_law.specs.declared.run.Reply.{Reply}
 use Rattle.pool_law.specs.declared.run.Shape.{Shape}
 use Rattle.pool_law.specs.Dids as says
+use Rattle.pool_law.specs.Limits.{geometry_of}
 use Rattle.pool_law.specs.LaneLaw.{sweep_period}
 use Rattle.pool_law.specs.LaneStates.{LaneState}
-use Rattle.pool_law.specs.Lanes.{Answer, allotted, answer, composed, copied_to, get_parts, release_parts, set_parts}
+use Rattle.pool_law.specs.Lanes.{Answer, allotted, answer, composed, copied_to, get_parts, regrown, release_parts, set_parts}
 use Rattle.pool_law.specs.Patterns.{New, ask_arena, drain, give_back, obtain, put_away, sheds, sweep_if_due}
 use Rattle.pool_law.specs.Readers.{Reader, ◌>>=◌, ◌>>◌, access, ending as ends, give, step}
+use Rattle.shared_pool.specs.declared.pool.SharedPool.{SharedPool}
 use Rattle.lane_core.specs.declared.allotment.Allotting.{Allotting}
 use Rattle.lane_core.specs.declared.allotment.Allotting.TheVariants as allots
+use Rattle.lane_core.specs.declared.context.Context.{Context}
 use Rattle.lane_core.specs.declared.context.Stage.{Stage}
-use Rattle.lane_core.specs.declared.context.Stage.TheVariants.{Ready, Allotting as AllottingAt, Ending as EndingAt, Sweeping, Closing, Crossing as CrossingAt, Parting, Consolidating, Copying as CopyingAt, Replacing}
+use Rattle.lane_core.specs.declared.context.Stage.TheVariants.{Ready, Allotting as AllottingAt, Ending as EndingAt, Sweeping, Closing, Crossing as CrossingAt, Parting, Consolidating, Copying as CopyingAt, Replacing, Growing as GrowingAt}
 use Rattle.lane_core.specs.declared.copying.Copying.{Copying}
 use Rattle.lane_core.specs.declared.copying.Copying.TheVariants as copies
 use Rattle.lane_core.specs.declared.crossing.Crossing.{Crossing}
@@ -28,13 +32,15 @@ use Rattle.lane_core.specs.declared.retirement.Ending.{Ending}
 use Rattle.lane_core.specs.declared.retirement.Ending.TheVariants as endings
 use Rattle.lane_core.specs.Allotments as allotment
 use Rattle.lane_core.specs.Composing.{crossed, ended}
-use Rattle.lane_core.specs.Contexts.{IsUnderway, reads_from}
+use Rattle.lane_core.specs.Contexts.{Fits, IsUnderway, reads_from}
 use Rattle.lane_core.specs.Copyings as copying
 use Rattle.lane_core.specs.Crossings as crossing
 use Rattle.lane_core.specs.Drainings as draining
 use Rattle.lane_core.specs.Endings as ending
 use Rattle.lane_core.specs.Readings.{swept}
+use Rattle.lane_core.specs.Growings as growing
 use Rattle.lane_core.specs.Releasings as releasing
+use Rattle.lane_core.proofs.GrowWays.{grow_from}
 use Rattle.lane_core.proofs.Ways.{HasWay, allot_way, arena_way, bear_way, copied_way, copy_way, drain_way, ending_way, get_parts_way, give_back_way, give_way, home_way, obtain_way, parts_way, put_away_way, set_parts_way, set_way, sheds_way, sweep_way, then_way, vacated_way}
 
 pub swept_way : (lane : ℕ) (a : Answer) → HasWay (swept lane a)
@@ -112,6 +118,17 @@ copy_from (copies.Set root at bytes later) =
 
 -- ---- From each stage of a command.
 
+-- the class that is kept of a size that a root is asked for is its class
+abbrev pub HasItsClass : Shape → Stage → Type 0
+HasItsClass shape (GrowingAt name view size class stage) = class_of (geometry_of shape) size ≡ Some class
+HasItsClass shape _ = Unit {0}
+
+pub its_class : (pool : SharedPool) (d : Context) (shape : Shape) → d.shape ≡ shape → (stage : Stage)
+    → Fits pool d stage → HasItsClass shape stage
+its_class pool d shape is (GrowingAt name view size class stage) fits =
+    subst (λ (x : Shape). class_of (geometry_of x) size ≡ Some class) is fits.0
+its_class pool d shape is _ fits = tt
+
 -- what is read gives this
 then_give : {A B : Type 0} (r : Reader A) (f : A → B) → HasWay r → HasWay (r >>= (λ a. give (f a)))
 then_give r f way = then_way r (λ a. give (f a)) way (λ a. give_way (f a))
@@ -122,28 +139,32 @@ module _ (shape : Shape) (lane : ℕ) (s : LaneState) (command : Command) where
       → HasWay (r >>= (λ a. give (f a)) >>= swept lane)
   answered r f way = then_way (r >>= (λ a. give (f a))) (swept lane) (then_give r f way) (swept_way lane)
 
-  pub stage_way : (stage : Stage) → IsUnderway stage → HasWay (reads_from shape lane s command stage)
-  stage_way Ready u = absurd u
-  stage_way (AllottingAt name size class stage) u =
+  pub stage_way : (stage : Stage) → IsUnderway stage → HasItsClass shape stage
+      → HasWay (reads_from shape lane s command stage)
+  stage_way Ready u is = absurd u
+  stage_way (AllottingAt name size class stage) u is =
       answered (allotment.rest_of shape lane size class stage) (allotted s name)
       (allot_from shape lane size class stage)
-  stage_way (EndingAt stage) u =
+  stage_way (EndingAt stage) u is =
       answered (ending.rest_of shape stage) (λ v. answer Reply.Freed s.names) (end_from shape stage)
-  stage_way (Sweeping reply stage) u =
+  stage_way (Sweeping reply stage) u is =
       then_give (draining.rest_of Trim lane stage) (λ v. answer reply s.names) (drain_from Trim lane stage)
-  stage_way (Closing stage) u = absurd u
-  stage_way (CrossingAt name marks stage) u =
+  stage_way (Closing stage) u is = absurd u
+  stage_way (CrossingAt name marks stage) u is =
       answered (crossing.rest_of stage) (crossed s name marks stage) (cross_from stage)
-  stage_way (Parting name stage) u =
+  stage_way (Parting name stage) u is =
       answered (releasing.rest_of shape stage) (λ v. ended s name) (release_from shape stage)
-  stage_way (Consolidating p stage) u =
+  stage_way (Consolidating p stage) u is =
       let rest : Reader (Result New Reply) = allotment.rest_of shape lane p.size p.class stage in
       answered (rest >>= copied_to shape p.whole.value) (composed s p.name)
       (then_way rest (copied_to shape p.whole.value) (allot_from shape lane p.size p.class stage)
       (copied_way shape p.whole.value))
-  stage_way (CopyingAt name whole parts stage) u =
+  stage_way (CopyingAt name whole parts stage) u is =
       let released : Reader (Unit {0}) = release_parts shape parts.items in
       answered (copying.rest_of stage >> released) (λ v. composed s name (Ok whole.value))
       (then_way (copying.rest_of stage) (λ v. released) (copy_from stage) (λ v. parts_way shape parts.items))
-  stage_way (Replacing name whole stage) u =
+  stage_way (Replacing name whole stage) u is =
       answered (releasing.rest_of shape stage) (λ v. composed s name (Ok whole.value)) (release_from shape stage)
+  stage_way (GrowingAt name view size class stage) u is =
+      answered (growing.rest_of shape lane view.at.root size class stage) (regrown s name view.at)
+      (grow_from view.at.root size shape lane class is stage)

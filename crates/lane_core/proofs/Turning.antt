@@ -70,7 +70,7 @@ grows_same v alone = record {
 -- a command that makes no note, and is answered
 module _ (pool : SharedPool) (old new : Context) (d : IsContext pool empty_hand old) (low : old.asked < sweep_period)
     (names : List (Option Bound)) (reply : Reply) (unstopped : before_stop (reply ∷ []) ≡ 1)
-    (replied : HasReplied (record old { names = names }) new reply) (rebound : RebindsAt 1 old names)
+    (replied : HasReplied (record old { names = names }) new reply) (rebound : RebindsAt 1 old old.seat names)
   where
     pub noteless : (s : LaneState) (command : Command) (bound : Names) → NamesAre bound names
         → ((log : Log) → answer_of old.shape (lane_of old.seat) s command log ≡ Some (answer reply bound, log))
@@ -167,7 +167,7 @@ module _ (pool : SharedPool) (old start mid new : Context) (d : IsContext pool e
   pub one_turn : (names : List (Option Bound)) (reply : Reply) → before_stop (reply ∷ []) ≡ 1
       → HasReplied (record mid { names = names }) new reply → Recounts old.counts start.counts (entry_of e ∷ [])
       → length start.counts ≡ length old.counts → AreSampled old.sampler (e ∷ []) start.sampler
-      → RebindsAt 1 old names →
+      → RebindsAt 1 old start.seat names →
       (s : LaneState) (command : Command) (bound : Names) → NamesAre bound names → 1 ≤
       (left_for old.composes command).notes
       → takes e ≤ (left_for old.composes command).takes → spent ≤ (left_for old.composes command).moves

@@ -18,7 +18,7 @@ use Rattle.shared_pool.specs.SeatLanes.{lane_of}
 use Rattle.lane_core.specs.declared.allotment.Allotting.TheVariants.{Handle as AskHandle}
 use Rattle.lane_core.specs.declared.context.Context.{Context}
 use Rattle.lane_core.specs.declared.context.Stage.{Stage}
-use Rattle.lane_core.specs.declared.context.Stage.TheVariants.{Ready, Allotting, Ending, Sweeping, Closing, Crossing, Parting, Consolidating, Copying, Replacing}
+use Rattle.lane_core.specs.declared.context.Stage.TheVariants.{Ready, Allotting, Ending, Sweeping, Closing, Crossing, Parting, Consolidating, Copying, Replacing, Growing}
 use Rattle.lane_core.specs.declared.context.Turn.{Turn}
 use Rattle.lane_core.specs.declared.context.Turn.TheVariants.{Went, Pending, Waiting}
 use Rattle.lane_core.specs.declared.releasing.Releasing.{Releasing}
@@ -150,7 +150,8 @@ module _ (pool : SharedPool) (old new : Context) (name : ℕ) (whole : Box Compo
       noteless pool old new may.context may.asked (slice_set old.names name (Some (Composed c)))
       (Reply.OkNumber (size_of c.parts)) refl did.0
       (rebound_composite 1 old.names old.names refl name ready.0.name_is c ready.0.composes
-      (let a = ready.0.few in omega (arith, a)) (record { marked = ready.0.marked; parts = ready.1 })) s command
+      (let a = ready.0.few in omega (arith, a)) (record { marked = ready.0.marked; parts = ready.1 }) ready.0.inside) s
+      command
       (bind name (Composed c) s.names)
       (NamesAre-bind s.names old.names state.names_are name (Composed c) ready.0.name_is)
       (λ log. planned.read (lane_of old.seat) log)
@@ -163,5 +164,6 @@ module _ (pool : SharedPool) (old new : Context) (name : ℕ) (whole : Box Compo
   bind_concludes (Went (Consolidating p next)) did = absurd did
   bind_concludes (Went (Copying other of parts next)) did = absurd did
   bind_concludes (Went (Replacing other of next)) did = absurd did
+  bind_concludes (Went (Growing other v size class next)) did = absurd did
   bind_concludes (Pending held next) did = absurd did
   bind_concludes (Waiting sender) did = absurd did

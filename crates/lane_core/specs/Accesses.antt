@@ -1,10 +1,11 @@
 -- What a command that accesses bytes is prepared for, and how the law reads it.
 use Rattle.std.specs.Prelude.{◌≡◌, ℕ, ◌+◌, ◌<◌, ◌≤◌, Bool, true, false, ⊤, List, length, slice_set, Option, Some, None, Result, Ok, Err, if◌then◌else◌}
 use Rattle.pool_law.specs.declared.command.Command.{Command}
+use Rattle.pool_law.specs.declared.id.RootId.{RootId}
 use Rattle.pool_law.specs.declared.id.ViewData.{ViewData}
 use Rattle.pool_law.specs.declared.run.Reply.{Reply}
 use Rattle.pool_law.specs.declared.run.Shape.{Shape}
-use Rattle.pool_law.specs.Views.{root_index}
+use Rattle.pool_law.specs.Views.{LiesIn, root_index}
 use Rattle.pool_law.specs.Bounds.{most_notes}
 use Rattle.pool_law.specs.Dids as says
 use Rattle.pool_law.specs.Readers.{Log, Reader, ◌>>=◌, ◌>>◌, give, access}
@@ -20,7 +21,7 @@ use Rattle.lane_core.specs.declared.access.Reach.{Reach}
 use Rattle.lane_core.specs.declared.access.Access.{Access}
 use Rattle.lane_core.specs.declared.access.Access.TheVariants.{Refused, Set, Get}
 use Rattle.lane_core.specs.declared.counts.Counted.{Counted}
-use Rattle.lane_core.specs.Named.{bound_at, NamesAre}
+use Rattle.lane_core.specs.Named.{AreInside, bound_at, NamesAre}
 use Rattle.lane_core.specs.Counting.{counted, CountsAre}
 
 abbrev pub reply_for : Refusal → Reply
@@ -105,12 +106,13 @@ pub record IsReached (names : List (Option Bound)) (cs : List Counted) (name : �
     pub name_is : r.name ≡ name
     pub tries_is : r.tries ≡ tries
 
--- so many bytes of a root that the lane counts, from the offset on, lie in it; and the view that
--- the name is bound to afterwards is one of this root
-pub record Reaches (cs : List Counted) (len : ℕ) (r : Reach) : Type 0 where
+-- so many bytes of a root that the lane counts, from the offset on, lie in what is known of it; and
+-- so does the view that the name is bound to afterwards, which is one of this root
+pub record Reaches (known : RootId → ℕ) (cs : List Counted) (len : ℕ) (r : Reach) : Type 0 where
   pub counts : 0 < counted cs r.root
-  pub inside : r.offset + len ≤ r.root.capacity
+  pub inside : r.offset + len ≤ known r.root
   pub view : r.after.at.root ≡ r.root
+  pub lies : LiesIn (known r.after.at.root) r.after.at
 
 -- the names once a name is bound to the view behind an access
 abbrev pub names_after : List (Option Bound) → Access → List (Option Bound)
@@ -140,16 +142,17 @@ reads s names (Get reach note reply) =
     tries_or reach.tries s reach.after.at (reads_get names reach (length note.items))
 
 -- an access has room for its bytes, and reaches them
-abbrev pub IsReady : List Counted → Access → Type 0
-IsReady cs (Refused refusal) = ⊤
-IsReady cs (Set reach bytes) = Reaches cs (length bytes.items) reach
-IsReady cs (Get reach note reply) =
-    Reaches cs (length note.items) reach × (length reply.items ≡ length note.items)
+abbrev pub IsReady : (RootId → ℕ) → List Counted → Access → Type 0
+IsReady known cs (Refused refusal) = ⊤
+IsReady known cs (Set reach bytes) = Reaches known cs (length bytes.items) reach
+IsReady known cs (Get reach note reply) =
+    Reaches known cs (length note.items) reach × (length reply.items ≡ length note.items)
 
--- a command is prepared: its access is what the law reads of it
+-- a command is prepared: its access is what the law reads of it, and reaches what is known of its
+-- root where all names do
 pub record IsPrepared (names : List (Option Bound)) (cs : List Counted) (command : Command)
     (made : Access) (s : LaneState) : Type 0 where
-  pub ready : IsReady cs made
+  pub ready : (known : RootId → ℕ) → AreInside known names → IsReady known cs made
   pub noted : (composes : Bool) → 1 ≤ most_notes composes command
   pub bound : Names
   pub names_are : NamesAre bound (names_after names made)

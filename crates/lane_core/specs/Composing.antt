@@ -22,7 +22,7 @@ use Rattle.lane_core.specs.declared.context.Stage.TheVariants.{Copying, Replacin
 use Rattle.lane_core.specs.declared.work.Consolidation.{Consolidation}
 use Rattle.lane_core.specs.Counting.{counted}
 use Rattle.lane_core.specs.Crossings.{HasRoom, stretches}
-use Rattle.lane_core.specs.Named.{IsMarked, bound_at}
+use Rattle.lane_core.specs.Named.{IsInRoot, IsMarked, bound_at, known_to}
 use Rattle.lane_core.specs.Releasings.{AreUncounted}
 
 -- ---- Names, where one composite is another.
@@ -81,38 +81,41 @@ pub record IsCandidate (d : Context) (name : ℕ) (c : Composite) : Type 0 where
   pub name_is : name < length d.names
   pub composes : d.composes ≡ true
   pub few : c.count ≤ 1 + length d.replies.items
+  pub inside : All (IsInRoot (known_to d.seat)) c.parts
   pub marked : IsMarked c
 
 -- and has them
 abbrev pub IsBindable : Context → ℕ → Composite → Type 0
 IsBindable d name c = IsCandidate d name c × (length c.parts ≤ most_parts)
 
--- a part of a root that is counted, with memory for just its bytes
-pub record IsReachable (cs : List Counted) (s : Stretch) : Type 0 where
+-- a part of a root that is counted and so much known of, with memory for just its bytes
+pub record IsReachable (known : RootId → ℕ) (cs : List Counted) (s : Stretch) : Type 0 where
   pub counts : 0 < counted cs s.part.root
-  pub inside : s.part.offset + s.part.len ≤ s.part.root.capacity
+  pub inside : IsInRoot known s.part
   pub bytes : length s.bytes.items ≡ s.part.len
 
--- a range lies in roots that are counted
-abbrev pub AreReachable : List Counted → Crossing → Type 0
-AreReachable cs stage = All (IsReachable cs) (stretches stage) × HasRoom stage
+-- a range lies in what is known of roots that are counted
+abbrev pub AreReachable : (RootId → ℕ) → List Counted → Crossing → Type 0
+AreReachable known cs stage = All (IsReachable known cs) (stretches stage) × HasRoom stage
 
--- a part of a root that is counted, with memory for its bytes twice
-pub record IsTransfer (cs : List Counted) (t : Transfer) : Type 0 where
+-- a part of a root that is counted and so much known of, with memory for its bytes twice
+pub record IsTransfer (known : RootId → ℕ) (cs : List Counted) (t : Transfer) : Type 0 where
   pub counts : 0 < counted cs t.part.root
-  pub inside : t.part.offset + t.part.len ≤ t.part.root.capacity
+  pub inside : IsInRoot known t.part
   pub got : length t.got.items ≡ t.part.len
   pub set : length t.set.items ≡ t.part.len
 
 -- a crowded composite may be copied to a root of this size and class: its parts that are not empty
 -- are to be copied, and all are to be released, of which some root is counted
-pub record IsConsolidation (shape : Shape) (cs : List Counted) (p : Consolidation) : Type 0 where
-  pub size : p.size ≡ size_of p.whole.value.parts
-  pub class : class_of (geometry_of shape) p.size ≡ Some p.class
-  pub parts : p.parts.items ≡ p.whole.value.parts
-  pub copied : map (λ t. t.part) p.transfers.items ≡ filled p.whole.value.parts
-  pub transfers : All (IsTransfer cs) p.transfers.items
-  pub some : AreUncounted cs p.parts.items → ⊥
+pub record IsConsolidation
+    (known : RootId → ℕ) (shape : Shape) (cs : List Counted) (p : Consolidation) : Type 0
+  where
+    pub size : p.size ≡ size_of p.whole.value.parts
+    pub class : class_of (geometry_of shape) p.size ≡ Some p.class
+    pub parts : p.parts.items ≡ p.whole.value.parts
+    pub copied : map (λ t. t.part) p.transfers.items ≡ filled p.whole.value.parts
+    pub transfers : All (IsTransfer known cs) p.transfers.items
+    pub some : AreUncounted cs p.parts.items → ⊥
 
 -- what follows once a root is there for its bytes: its parts are copied, or released where all of
 -- them are empty

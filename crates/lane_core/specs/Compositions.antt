@@ -15,7 +15,7 @@ use Rattle.lane_core.specs.declared.work.Work.{Work}
 use Rattle.lane_core.specs.declared.work.Work.TheVariants.{Refused, Empty, Cross, End, Bind, Consolidate}
 use Rattle.lane_core.specs.Composing.{IsConsolidation}
 use Rattle.lane_core.specs.Counting.{counted}
-use Rattle.lane_core.specs.Named.{IsInRoot, bound_at}
+use Rattle.lane_core.specs.Named.{IsInRoot, bound_at, known_to}
 
 -- ---- The tests of the law, of what a lane keeps of its names and counts.
 
@@ -79,10 +79,9 @@ readable_at names name = readable_in (bound_at names name)
 abbrev pub readable_of : List (Option Bound) → List ℕ → List Part
 readable_of names of = flat_map (readable_at names) of
 
--- a part that lies in its root, where it is in numbers of 32 bits
-pub record IsPlaced (p : Part) : Type 0 where
-  pub inside : IsInRoot p
-  pub fits : p.offset + p.len < 2 ^ 32
+-- a part that lies in its root where it is in numbers of 32 bits
+abbrev pub IsPlaced : Part → Type 0
+IsPlaced p = p.offset + p.len < 2 ^ 32
 
 -- the memory for the bytes of a part, twice
 pub record HasBytes (t : Transfer) : Type 0 where
@@ -97,10 +96,11 @@ joined parts count reader =
     record { parts = parts; count = count; reader = reader; writer = size_of parts }
 
 -- the parts may be those of a composite before it is consolidated
-pub record AreJoinable (cs : List Counted) (parts : List Part) : Type 0 where
+pub record AreJoinable (known : RootId → ℕ) (cs : List Counted) (parts : List Part) : Type 0 where
   pub some : 1 ≤ length parts
   pub few : length parts ≤ 24
   pub placed : All IsPlaced parts
+  pub inside : All (IsInRoot known) parts
   pub counts : All (λ p. 0 < counted cs p.root) parts
 
 -- a composite to which a name of the context may be bound, once it is not too long
@@ -108,7 +108,7 @@ pub record MayMake (d : Context) (name : ℕ) (c : Composite) : Type 0 where
   pub name_is : name < length d.names
   pub composes : d.composes ≡ true
   pub few : c.count ≤ 1 + length d.replies.items
-  pub parts : AreJoinable d.counts c.parts
+  pub parts : AreJoinable (known_to d.seat) d.counts c.parts
   pub reader : c.reader ≤ size_of c.parts
 
 -- the work that binds a name to a composite, unless it is too long
@@ -124,4 +124,4 @@ IsMade d name c (Bind other whole) =
 IsMade d name c (Consolidate p) =
     (p.name ≡ name) × (p.whole.value ≡ c)
     × (is_too_long d.shape (Some c) ≡ false) × (is_crowded c ≡ true)
-    × IsConsolidation d.shape d.counts p
+    × IsConsolidation (known_to d.seat) d.shape d.counts p

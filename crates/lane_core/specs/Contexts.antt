@@ -10,8 +10,8 @@ use Rattle.pool_law.specs.Bounds.{most_notes, may_ask}
 use Rattle.pool_law.specs.Limits.{cached_classes, geometry_of}
 use Rattle.pool_law.specs.LaneLaw.{sweep_period, before_stop}
 use Rattle.pool_law.specs.LaneStates.{LaneState, new_lane, log_at}
-use Rattle.pool_law.specs.Lanes.{Answer, answer, allotted, composed, copied_to, not_carried_out, release_parts, turn}
-use Rattle.pool_law.specs.Names.{Names}
+use Rattle.pool_law.specs.Lanes.{Answer, answer, allotted, composed, copied_to, not_carried_out, regrown, release_parts, turn}
+use Rattle.pool_law.specs.Names.{Names, Plain}
 use Rattle.pool_law.specs.Readers.{Entries, Log, Reader, ◌>>=◌, ◌>>◌, give, read_all}
 use Rattle.leak_records.specs.Records.{new_sampler}
 use Rattle.pool_table.specs.declared.views.Entry.{Entry}
@@ -28,7 +28,7 @@ use Rattle.lane_core.specs.declared.access.Access.{Access}
 use Rattle.lane_core.specs.declared.access.Access.TheVariants.{Refused, Set, Get}
 use Rattle.lane_core.specs.declared.context.Context.{Context}
 use Rattle.lane_core.specs.declared.context.Stage.{Stage}
-use Rattle.lane_core.specs.declared.context.Stage.TheVariants.{Ready, Allotting, Ending, Sweeping, Closing, Crossing, Parting, Consolidating, Copying, Replacing}
+use Rattle.lane_core.specs.declared.context.Stage.TheVariants.{Ready, Allotting, Ending, Sweeping, Closing, Crossing, Parting, Consolidating, Copying, Replacing, Growing}
 use Rattle.lane_core.specs.declared.context.Turn.{Turn}
 use Rattle.lane_core.specs.declared.context.Turn.TheVariants.{Went, Pending, Waiting}
 use Rattle.lane_core.specs.declared.draining.DrainKind.TheVariants.{Trim, Close}
@@ -39,7 +39,7 @@ use Rattle.lane_core.specs.Sampled.{AreSampled}
 use Rattle.lane_core.specs.Budgets.{Left, most_of_lane, notes_alone, with_sheds, Spends}
 use Rattle.seat_work.specs.Growth.{HasMore}
 use Rattle.lane_core.specs.Counting.{CountsAre}
-use Rattle.lane_core.specs.Named.{AreComposites, NamesAre}
+use Rattle.lane_core.specs.Named.{AreComposites, AreInside, NamesAre, bound_at, known_to}
 use Rattle.lane_core.specs.NextNotes.{BeginsAt, CanBeRead}
 use Rattle.lane_core.specs.Readings.{ReadsOn, none_asked, swept, renamed}
 use Rattle.lane_core.specs.Allotments as allotment
@@ -48,6 +48,7 @@ use Rattle.lane_core.specs.Drainings as draining
 use Rattle.lane_core.specs.Crossings as crossing
 use Rattle.lane_core.specs.Copyings as copying
 use Rattle.lane_core.specs.Releasings as releasing
+use Rattle.lane_core.specs.Growings as growing
 use Rattle.lane_core.specs.Composing.{HasLast, IsBindable, IsCandidate, IsConsolidation, MarksFit, crossed, ended}
 
 -- what the seat noted, and as the law reads it
@@ -75,6 +76,7 @@ pub record IsContext (pool : SharedPool) (hand : Hand) (d : Context) : Type 0 wh
   pub begun : d.begun ≤ length (notes_of d)
   -- a command adds at most one to the count of a composite
   pub composites : AreComposites d.composes (1 + length d.replies.items) d.names
+  pub inside : AreInside (known_to d.seat) d.names
 
 -- what is in hand at a stage
 abbrev pub hand_of : Stage → Hand
@@ -88,6 +90,7 @@ hand_of (Parting name stage) = releasing.hand_of stage
 hand_of (Consolidating p stage) = allotment.hand_of stage
 hand_of (Copying name whole parts stage) = empty_hand
 hand_of (Replacing name whole stage) = releasing.hand_of stage
+hand_of (Growing name view size class stage) = growing.hand_of stage
 
 -- and what is known of it; a sweep is due only behind the command that asked a cache
 abbrev pub Fits : SharedPool → Context → Stage → Type 0
@@ -104,7 +107,8 @@ Fits pool d (Crossing name marks stage) =
     crossing.Fits (view_of d.seat) stage × (d.asked < sweep_period)
 Fits pool d (Parting name stage) = releasing.Fits pool d.seat stage × (d.asked < sweep_period)
 Fits pool d (Consolidating p stage) =
-    IsConsolidation d.shape d.counts p × allotment.Fits pool d.seat p.class stage
+    IsConsolidation (known_to d.seat) d.shape d.counts p
+    × allotment.Fits pool d.seat p.class stage
     × (d.asked + (allotment.left_of stage).asks ≤ sweep_period)
 Fits pool d (Copying name whole parts stage) =
     copying.Fits (view_of d.seat) stage × (d.asked ≤ sweep_period)
@@ -112,6 +116,10 @@ Fits pool d (Copying name whole parts stage) =
 Fits pool d (Replacing name whole stage) =
     releasing.Fits pool d.seat stage × (d.asked ≤ sweep_period)
     × (releasing.IsOver d.counts stage → ⊥)
+Fits pool d (Growing name view size class stage) =
+    (class_of (geometry_of d.shape) size ≡ Some class)
+    × growing.Fits pool d.seat view.at.root size class stage
+    × (d.asked + (growing.left_of stage).asks ≤ sweep_period)
 
 -- how many births and retains a command makes: no fewer than the moves that it takes, since a birth
 -- takes none
@@ -159,6 +167,7 @@ left_at composes command (Consolidating p stage) v =
 left_at composes command (Copying name whole parts stage) v =
     with_parts 0 (length parts.items) (copying.left_of stage)
 left_at composes command (Replacing name whole stage) v = releasing.left_of stage
+left_at composes command (Growing name view size class stage) v = growing.left_of stage
 
 -- the same at this context
 abbrev pub left_from : Context → Command → Stage → Left
@@ -184,6 +193,8 @@ left_now composes command (Consolidating p stage) v =
 left_now composes command (Copying name whole parts stage) v =
     with_sheds v (with_parts 0 (length parts.items) (copying.left_of stage))
 left_now composes command (Replacing name whole stage) v = with_sheds v (releasing.left_of stage)
+left_now composes command (Growing name view size class stage) v =
+    with_sheds v (growing.left_of stage)
 
 -- how the law reads the notes of a command from this stage on, with the names that are bound now
 abbrev pub reads_from : Shape → ℕ → LaneState → Command → Stage → Reader Answer
@@ -208,6 +219,9 @@ reads_from shape lane s command (Copying name whole parts stage) =
     >> give (composed s name (Ok whole.value)) >>= swept lane
 reads_from shape lane s command (Replacing name whole stage) =
     releasing.rest_of shape stage >> give (composed s name (Ok whole.value)) >>= swept lane
+reads_from shape lane s command (Growing name view size class stage) =
+    growing.rest_of shape lane view.at.root size class stage
+    >>= (λ got. give (regrown s name view.at got)) >>= swept lane
 
 -- a turn adds these entries to what the seat noted, and nothing else is new at the context but its
 -- names and its replies
@@ -329,6 +343,7 @@ NameFits d (Parting name stage) = HasLast d.names name
 NameFits d (Consolidating p stage) = IsCandidate d p.name p.whole.value
 NameFits d (Copying name whole parts stage) = IsBindable d name whole.value
 NameFits d (Replacing name whole stage) = IsBindable d name whole.value
+NameFits d (Growing name view size class stage) = bound_at d.names name ≡ Some (Plain view.at)
 
 -- a turn of the command that is under way, in this state of the law
 pub record HasTurned (pool : SharedPool) (old new : Context) (s : LaneState) (command : Command)
@@ -414,6 +429,7 @@ FitsContext d (Command.Compose fresh names) =
     (fresh < length d.names) × (d.composes ≡ true)
     × (1 ≤ length names) × (length names ≤ 24)
 FitsContext d (Command.Add whole name) = ⊤
+FitsContext d (Command.Capacity name size) = name < length d.names
 
 -- a command has begun, and is not answered yet
 abbrev pub IsUnderway : Stage → Type 0
@@ -425,6 +441,7 @@ IsUnderway (Parting name stage) = ⊤
 IsUnderway (Consolidating p stage) = ⊤
 IsUnderway (Copying name whole parts stage) = ⊤
 IsUnderway (Replacing name whole stage) = ⊤
+IsUnderway (Growing name view size class stage) = ⊤
 IsUnderway _ = ⊥
 
 abbrev pub AccessFits : Context → Access → Type 0

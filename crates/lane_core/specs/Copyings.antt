@@ -9,6 +9,7 @@ use Rattle.pool_law.specs.Dids as says
 use Rattle.pool_law.specs.Lanes.{copy_parts}
 use Rattle.pool_law.specs.Readers.{Reader, ◌>>◌, nothing, access}
 use Rattle.leak_records.specs.Records.{Sampling}
+use Rattle.pool_table.specs.Capacities.{knows_of}
 use Rattle.pool_table.specs.Counts.{HasCount}
 use Rattle.shared_pool.specs.declared.seat.PoolSeat.{PoolSeat}
 use Rattle.pool_table.specs.declared.views.SeatView.{SeatView}
@@ -57,10 +58,10 @@ rest_after (More stage) = rest_of stage
 rest_after (Held held stage) = rest_of stage
 rest_after Done = nothing
 
--- a part of a root that the view counts, with memory for its bytes twice
+-- a part of a root that the view counts and knows so much of, with memory for its bytes twice
 pub record IsWithin (v : SeatView) (t : Transfer) : Type 0 where
   pub counts : HasCount t.part.root v
-  pub inside : t.part.offset + t.part.len ≤ t.part.root.capacity
+  pub inside : t.part.offset + t.part.len ≤ knows_of t.part.root v
   pub got : length t.got.items ≡ t.part.len
   pub set : length t.set.items ≡ t.part.len
 

@@ -7,6 +7,7 @@ use Rattle.pool_law.specs.declared.note.Note.{Note}
 use Rattle.pool_law.specs.Lanes.{set_parts, get_parts}
 use Rattle.pool_law.specs.Readers.{Reader, ◌>>=◌, ◌>>◌, give}
 use Rattle.leak_records.specs.Records.{Sampling}
+use Rattle.pool_table.specs.Capacities.{knows_of}
 use Rattle.pool_table.specs.Counts.{HasCount}
 use Rattle.shared_pool.specs.declared.seat.PoolSeat.{PoolSeat}
 use Rattle.pool_table.specs.declared.views.SeatView.{SeatView}
@@ -70,10 +71,10 @@ rest_after (Held held stage) = rest_of stage
 rest_after WasSet = give []
 rest_after (WasGot got) = give got.items
 
--- a part of a root that the view counts, with memory for just its bytes
+-- a part of a root that the view counts and knows so much of, with memory for just its bytes
 pub record IsWithin (v : SeatView) (s : Stretch) : Type 0 where
   pub counts : HasCount s.part.root v
-  pub inside : s.part.offset + s.part.len ≤ s.part.root.capacity
+  pub inside : s.part.offset + s.part.len ≤ knows_of s.part.root v
   pub bytes : length s.bytes.items ≡ s.part.len
 
 -- there is room for what is still to be got

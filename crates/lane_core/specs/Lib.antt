@@ -8,6 +8,7 @@ pub mod NextNotes
 pub mod Wrote
 pub mod Allotments
 pub mod Endings
+pub mod Growings
 pub mod Drainings
 pub mod Accesses
 pub mod Crossings

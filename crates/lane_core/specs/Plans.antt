@@ -2,6 +2,7 @@
 use Rattle.std.specs.Prelude.{◌≡◌, ℕ, ◌<◌, Bool, false, List, [], length, All, Option, Some, None}
 use Rattle.pool_law.specs.declared.command.Command.{Command}
 use Rattle.pool_law.specs.declared.id.Part.{Part}
+use Rattle.pool_law.specs.declared.id.RootId.{RootId}
 use Rattle.pool_law.specs.declared.run.Reply.{Reply}
 use Rattle.pool_law.specs.Composites.{Composite, ranges}
 use Rattle.pool_law.specs.LaneStates.{LaneState}
@@ -28,41 +29,43 @@ pub record IsUsable (cs : List Counted) (c : Composite) : Type 0 where
   pub parts : All (λ p. 0 < counted cs p.root) c.parts
 
 -- these parts are set to these bytes; there are none where the range is empty
-abbrev pub Sets : List Counted → List Part → List ℕ → Option Crossing → Type 0
-Sets cs parts bytes None = (parts ≡ []) × (bytes ≡ [])
-Sets cs parts bytes (Some (Set first later)) =
+abbrev pub Sets :
+    (RootId → ℕ) → List Counted → List Part → List ℕ → Option Crossing → Type 0
+Sets known cs parts bytes None = (parts ≡ []) × (bytes ≡ [])
+Sets known cs parts bytes (Some (Set first later)) =
     let stage = Set first later in
     (parts_of (stretches stage) ≡ parts) × (bytes_of (stretches stage) ≡ bytes)
-    × AreReachable cs stage
-Sets cs parts bytes (Some (Get first later got)) = ⊥
+    × AreReachable known cs stage
+Sets known cs parts bytes (Some (Get first later got)) = ⊥
 
 -- these parts are got
-abbrev pub Gets : List Counted → List Part → Option Crossing → Type 0
-Gets cs parts None = parts ≡ []
-Gets cs parts (Some (Set first later)) = ⊥
-Gets cs parts (Some (Get first later got)) =
+abbrev pub Gets : (RootId → ℕ) → List Counted → List Part → Option Crossing → Type 0
+Gets known cs parts None = parts ≡ []
+Gets known cs parts (Some (Set first later)) = ⊥
+Gets known cs parts (Some (Get first later got)) =
     let stage = Get first later got in
-    (parts_of (stretches stage) ≡ parts) × (got.items ≡ []) × AreReachable cs stage
+    (parts_of (stretches stage) ≡ parts) × (got.items ≡ []) × AreReachable known cs stage
 
--- the parts lie in their roots, and these are counted
-pub record AreUsable (cs : List Counted) (parts : List Part) : Type 0 where
-  pub inside : All IsInRoot parts
+-- the parts lie in what is known of their roots, and these are counted
+pub record AreUsable (known : RootId → ℕ) (cs : List Counted) (parts : List Part) : Type 0 where
+  pub inside : All (IsInRoot known) parts
   pub counts : All (λ p. 0 < counted cs p.root) parts
 
 -- a part with memory for just its bytes
 abbrev pub IsSized : Stretch → Type 0
 IsSized s = length s.bytes.items ≡ s.part.len
 
--- the bytes of a composite from an index on are set, by whatever counts its roots
+-- the bytes of a composite from an index on are set, by whatever knows and counts its roots
 abbrev pub SetsAt : Composite → ℕ → List ℕ → Option Crossing → Type 0
 SetsAt c at bytes stage =
-    (cs : List Counted) → AreUsable cs c.parts →
-    Sets cs (ranges c.parts at (length bytes)) bytes stage
+    (known : RootId → ℕ) (cs : List Counted) → AreUsable known cs c.parts →
+    Sets known cs (ranges c.parts at (length bytes)) bytes stage
 
 -- and so many are got
 abbrev pub GetsAt : Composite → ℕ → ℕ → Option Crossing → Type 0
 GetsAt c at len stage =
-    (cs : List Counted) → AreUsable cs c.parts → Gets cs (ranges c.parts at len) stage
+    (known : RootId → ℕ) (cs : List Counted) → AreUsable known cs c.parts →
+    Gets known cs (ranges c.parts at len) stage
 
 -- why an access to a composite is refused, where its range lies in it or doesn't
 abbrev pub IsDenied : List Counted → Composite → Bool → Refusal → Type 0

@@ -21,7 +21,7 @@ use Rattle.lane_core.specs.Budgets.{Left, notes_alone}
 use Rattle.lane_core.specs.Composing.{AreReachable, HasLast, IsBindable, IsCandidate, IsConsolidation, MarksFit, crossed, ended, marked}
 use Rattle.lane_core.specs.Crossings as crossing
 use Rattle.lane_core.specs.Contexts.{HasTurned, left_for}
-use Rattle.lane_core.specs.Named.{bound_at}
+use Rattle.lane_core.specs.Named.{bound_at, known_to}
 
 -- what the work may spend
 abbrev pub left_of : Work → Left
@@ -45,12 +45,15 @@ pub record IsWithin (a b : Left) : Type 0 where
 abbrev pub IsReady : Context → Work → Type 0
 IsReady d (Refused refusal) = ⊤
 IsReady d (Empty name marks reply) = MarksFit d.names name marks × (before_stop (reply ∷ []) ≡ 1)
-IsReady d (Cross name marks stage) = MarksFit d.names name marks × AreReachable d.counts stage
+IsReady d (Cross name marks stage) =
+    MarksFit d.names name marks × AreReachable (known_to d.seat) d.counts stage
 IsReady d (End name parts) =
     (c : Composite) × (bound_at d.names name ≡ Some (Composed c))
     × (c.count ≡ 1) × (parts.items ≡ c.parts)
 IsReady d (Bind name whole) = IsBindable d name whole.value
-IsReady d (Consolidate p) = IsCandidate d p.name p.whole.value × IsConsolidation d.shape d.counts p
+IsReady d (Consolidate p) =
+    IsCandidate d p.name p.whole.value
+    × IsConsolidation (known_to d.seat) d.shape d.counts p
 
 -- how the law reads its notes
 abbrev pub reads : Shape → ℕ → LaneState → Work → Reader Answer
@@ -100,3 +103,4 @@ IsUnplanned names (Command.Send name lane) = ⊤
 IsUnplanned names (Command.Recv fresh lane) = ⊤
 IsUnplanned names (Command.Compose fresh names_of) = ⊥
 IsUnplanned names (Command.Add whole name) = ⊥
+IsUnplanned names (Command.Capacity name size) = ⊤

@@ -13,6 +13,7 @@ ghost use Rattle.shared_pool.specs.declared.pool.SharedPool.{SharedPool};
 ghost use Rattle.lane_core.specs.Contexts.{IsContext, HasRoomFor, left_for, AccessFits, HasTurned};
 ghost use Rattle.lane_core.specs.declared.context.Stage.{Stage};
 ghost use Rattle.lane_core.specs.Budgets.{notes_alone};
+ghost use Rattle.lane_core.specs.Named.{known_to};
 
 use crate::access::{Access, Reach, Refusal, derived};
 use crate::bound::Bound;
@@ -27,7 +28,7 @@ impl Context {
         requires context { IsContext pool.now empty_hand self.old }
         requires room { HasRoomFor pool.now self.old (notes_alone 1) }
         requires replies { length self.old.replies.items < vec_capacity self.old.replies }
-        requires ready { IsReady self.old.counts access }
+        requires ready { IsReady (known_to self.old.seat) self.old.counts access }
         requires asked { self.old.asked < sweep_period }
         requires name { AccessFits self.old access }
         ensures { (s : LaneState) (command : Command) → IsState s self.old.names self.old.counts →
@@ -43,7 +44,8 @@ impl Context {
 
     fn set(&mut self, pool: &SharedPool, reach: Reach, bytes: Vec<u8>) -> Turn
         requires may { MayTurn pool.now (notes_alone 1) self.old }
-        requires reaches { Reaches self.old.counts (length bytes.items) reach }
+        requires reaches { Reaches (known_to self.old.seat) self.old.counts (length bytes.items)
+            reach }
         requires name { reach.name < length self.old.names }
         ensures { AccessTurns pool.now self.old self.new (Set reach bytes) result }
     {
@@ -68,7 +70,8 @@ impl Context {
         mut reply: Vec<u8>,
     ) -> Turn
         requires may { MayTurn pool.now (notes_alone 1) self.old }
-        requires reaches { Reaches self.old.counts (length note.items) reach }
+        requires reaches { Reaches (known_to self.old.seat) self.old.counts (length note.items)
+            reach }
         requires reply { length reply.items ≡ length note.items }
         requires name { reach.name < length self.old.names }
         ensures { AccessTurns pool.now self.old self.new (Get reach note reply) result }

@@ -1,7 +1,7 @@
 //! How composites are made: of the readable bytes of views, one behind the other.
 //! (Netty: `CompositeByteBuf.addComponent`)
 
-ghost use Rattle.std.specs.Prelude.{◌≡◌, ◌+◌, ◌<◌, ◌≤◌, [], ◌∷◌, ◌++◌, length, map, All, IfOk, vec_len, vec_capacity};
+ghost use Rattle.std.specs.Prelude.{◌≡◌, ℕ, ◌+◌, ◌<◌, ◌≤◌, [], ◌∷◌, ◌++◌, length, map, All, IfOk, vec_len, vec_capacity};
 ghost use Rattle.pool_law.specs.declared.command.Command.{Command};
 ghost use Rattle.pool_law.specs.Composites.{filled, most_bytes, readable, size_of};
 ghost use Rattle.pool_law.specs.Limits.{geometry_of};
@@ -9,7 +9,9 @@ ghost use Rattle.pool_law.specs.LaneStates.{LaneState};
 ghost use Rattle.lane_core.specs.Accesses.{IsState};
 ghost use Rattle.lane_core.specs.Compositions.{HasBytes, IsMade, IsPlaced, MayMake, joined, readable_at, readable_of};
 ghost use Rattle.lane_core.specs.Contexts.{FitsContext};
-ghost use Rattle.lane_core.specs.Named.{AreComposites};
+ghost use Rattle.pool_law.specs.declared.id.RootId.{RootId};
+ghost use Rattle.pool_law.specs.Views.{LiesIn};
+ghost use Rattle.lane_core.specs.Named.{AreComposites, AreInside, IsInRoot, known_to};
 ghost use Rattle.lane_core.specs.Works.{IsPlanned, IsReady};
 
 use crate::access::Refusal;
@@ -39,6 +41,7 @@ pub(crate) fn compose(
     names: &[u32],
 ) -> Result<Work, AllocError>
     requires classes { context.now.classes ≡ geometry_of context.now.shape }
+    requires inside { AreInside (known_to context.now.seat) context.now.names }
     requires fits { FitsContext context.now (Command.Compose fresh names.now) }
     ensures ready { IfOk result (IsReady context.now) }
     ensures planned { IfOk result (λ work. (s : LaneState) →
@@ -61,6 +64,7 @@ pub(crate) fn add(
 ) -> Result<Work, AllocError>
     requires composites { AreComposites context.now.composes (1 + length context.now.replies.items)
         context.now.names }
+    requires inside { AreInside (known_to context.now.seat) context.now.names }
     requires classes { context.now.classes ≡ geometry_of context.now.shape }
     ensures ready { IfOk result (IsReady context.now) }
     ensures planned { IfOk result (λ work. (s : LaneState) →
@@ -83,6 +87,8 @@ pub(crate) fn add(
 fn readable(view: &View) -> Part
     ensures part { result ≡ readable view.now.at }
     ensures placed { IsPlaced result }
+    ensures inside { (capacity : ℕ) → LiesIn capacity view.now.at →
+        result.offset + result.len ≤ capacity }
 {
     Part {
         root: view.at.root,
@@ -96,6 +102,8 @@ fn push_readable(names: &Names, name: u32, parts: &mut Vec<Part>)
     requires { vec_len parts.old < vec_capacity parts.old }
     ensures items { parts.new.items ≡ parts.old.items ++ readable_at names.now name }
     ensures placed { All IsPlaced (readable_at names.now name) }
+    ensures inside { (known : RootId → ℕ) → AreInside known names.now →
+        All (IsInRoot known) (readable_at names.now name) }
     ensures room { vec_capacity parts.new ≡ vec_capacity parts.old }
     ensures len { vec_len parts.new ≤ vec_len parts.old + 1 }
 {
@@ -108,6 +116,8 @@ fn push_readable(names: &Names, name: u32, parts: &mut Vec<Part>)
 fn readable_parts(alloc: Global, names: &Names, of: &[u32]) -> Result<Vec<Part>, AllocError>
     ensures items { IfOk result (λ parts. parts.items ≡ readable_of names.now of.now) }
     ensures placed { IfOk result (λ parts. All IsPlaced parts.items) }
+    ensures inside { IfOk result (λ parts. (known : RootId → ℕ) → AreInside known names.now →
+        All (IsInRoot known) parts.items) }
 {
     let mut parts = Vec::with_capacity(alloc, of.len())?;
     for name in of {

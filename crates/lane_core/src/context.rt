@@ -27,6 +27,7 @@ use crate::copying::Copying;
 use crate::counts::OwnCounts;
 use crate::crossing::Crossing;
 use crate::draining::{DrainKind, Draining, Drains, drain};
+use crate::growing::Growing;
 use crate::names::Names;
 use crate::notes::{at, write};
 use crate::releasing::Releasing;
@@ -106,6 +107,14 @@ pub(crate) enum Stage {
         name: u32,
         whole: Box<Composed>,
         stage: Releasing,
+    },
+    /// The root of this view, to which the name is bound, is asked for more capacity.
+    Growing {
+        name: u32,
+        view: View,
+        size: u32,
+        class: u32,
+        stage: Growing,
     },
 }
 
@@ -222,6 +231,7 @@ impl Context {
             Command::Forget { name } => self.forget(*name),
             Command::Send { name, lane } => self.send(rt, pool, *name, *lane),
             Command::Recv { fresh, lane } => self.receive(rt, pool, *fresh, *lane),
+            Command::Capacity { name, size } => self.lengthen(pool, *name, *size),
             _ => unreachable!(),
         }
     }
@@ -257,6 +267,13 @@ impl Context {
                 stage,
             } => self.copy(pool, name, whole, parts, stage),
             Stage::Replacing { name, whole, stage } => self.replace(pool, name, whole, stage),
+            Stage::Growing {
+                name,
+                view,
+                size,
+                class,
+                stage,
+            } => self.regrow(pool, name, view, size, class, stage),
             _ => unreachable!(),
         }
     }

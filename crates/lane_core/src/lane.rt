@@ -14,7 +14,7 @@ ghost use Rattle.pool_law.specs.LaneStates.{LaneState};
 ghost use Rattle.lane_core.specs.Accesses.{IsState};
 ghost use Rattle.lane_core.specs.Contexts.{FitsContext, left_for, next_of};
 ghost use Rattle.lane_core.specs.ContextSteps.{MayTurn, Turns};
-ghost use Rattle.lane_core.specs.Named.{AreComposites};
+ghost use Rattle.lane_core.specs.Named.{AreComposites, AreInside, known_to};
 ghost use Rattle.lane_core.specs.Prepared.{IsPreparedFor};
 ghost use Rattle.lane_core.specs.declared.draining.Draining.{Draining};
 ghost use Rattle.lane_core.specs.declared.context.Stage.{Stage};
@@ -360,6 +360,7 @@ enum Prepared {
 fn provide(alloc: Global, context: &Context, command: &Command) -> Result<Prepared, AllocError>
     requires composites { AreComposites context.now.composes (1 + length context.now.replies.items)
         context.now.names }
+    requires inside { AreInside (known_to context.now.seat) context.now.names }
     requires classes { context.now.classes ≡ geometry_of context.now.shape }
     requires fits { FitsContext context.now command.now }
     ensures { IfOk result (IsPreparedFor context.now command.now) }

@@ -4,6 +4,8 @@ ghost use Rattle.std.specs.Prelude.{◌-◌, ◌<◌, length, Some, None, IfSome
 ghost use Rattle.pool_law.specs.declared.command.Command.{Command};
 ghost use Rattle.seat_work.specs.Hands.{empty_hand};
 ghost use Rattle.pool_law.specs.Views.{IsView};
+ghost use Rattle.shared_pool.specs.Knowing.{ReachesKnown};
+ghost use Rattle.shared_pool.specs.SeatViews.{view_of};
 ghost use Rattle.lane_core.specs.Counting.{counted};
 ghost use Rattle.lane_core.specs.ContextSteps.{HasPosted, left_to_post, MayTurn, Turns};
 ghost use Rattle.lane_core.specs.declared.context.Turn.{Turn};
@@ -66,6 +68,7 @@ impl Context {
         requires room { HasRoomFor pool.now self.old (left_to_post lane) }
         requires lane { lane < self.old.shape.lanes }
         requires view { IfSome sent.view IsView }
+        requires known { IfSome sent.view (ReachesKnown (view_of self.old.seat)) }
         requires counts { IfSome sent.view (λ v. 0 < counted self.old.counts v.root) }
         ensures { HasPosted pool.now self.old self.new lane sent }
     {

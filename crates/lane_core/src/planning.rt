@@ -9,7 +9,7 @@ ghost use Rattle.pool_law.specs.LaneStates.{LaneState};
 ghost use Rattle.pool_law.specs.Names.{Composed as Bound, has_range};
 ghost use Rattle.lane_core.specs.Accesses.{IsState};
 ghost use Rattle.lane_core.specs.Contexts.{FitsContext};
-ghost use Rattle.lane_core.specs.Named.{AreComposites};
+ghost use Rattle.lane_core.specs.Named.{AreComposites, AreInside, known_to};
 ghost use Rattle.lane_core.specs.Plans.{GetsAt, IsDenied, IsPlanOf, IsUsable, SetsAt, work_on};
 ghost use Rattle.lane_core.specs.Works.{IsPlanned, IsReady, IsUnplanned};
 
@@ -31,6 +31,7 @@ pub(crate) fn plan(
 ) -> Result<Option<Work>, AllocError>
     requires composites { AreComposites context.now.composes (1 + length context.now.replies.items)
         context.now.names }
+    requires inside { AreInside (known_to context.now.seat) context.now.names }
     requires classes { context.now.classes ≡ geometry_of context.now.shape }
     requires fits { FitsContext context.now command.now }
     ensures ready { IfOk result (λ made. IfSome made (IsReady context.now)) }
@@ -71,6 +72,7 @@ fn plan_set(
 ) -> Result<Option<Work>, AllocError>
     requires composites { AreComposites context.now.composes (1 + length context.now.replies.items)
         context.now.names }
+    requires inside { AreInside (known_to context.now.seat) context.now.names }
     ensures { IfOk result (IsPlanOf context.now (Command.Set name at bytes.now false)) }
 {
     let Some(whole) = context.names.composite(name) else {
@@ -92,6 +94,7 @@ fn plan_get(
 ) -> Result<Option<Work>, AllocError>
     requires composites { AreComposites context.now.composes (1 + length context.now.replies.items)
         context.now.names }
+    requires inside { AreInside (known_to context.now.seat) context.now.names }
     ensures { IfOk result (IsPlanOf context.now (Command.Get name at len false)) }
 {
     let Some(whole) = context.names.composite(name) else {
@@ -117,6 +120,7 @@ fn plan_write(
 ) -> Result<Option<Work>, AllocError>
     requires composites { AreComposites context.now.composes (1 + length context.now.replies.items)
         context.now.names }
+    requires inside { AreInside (known_to context.now.seat) context.now.names }
     ensures { IfOk result (IsPlanOf context.now (Command.Write name bytes.now)) }
 {
     let Some(whole) = context.names.composite(name) else {
@@ -142,6 +146,7 @@ fn plan_read(
 ) -> Result<Option<Work>, AllocError>
     requires composites { AreComposites context.now.composes (1 + length context.now.replies.items)
         context.now.names }
+    requires inside { AreInside (known_to context.now.seat) context.now.names }
     ensures { IfOk result (IsPlanOf context.now (Command.Read name len)) }
 {
     let Some(whole) = context.names.composite(name) else {
@@ -168,6 +173,7 @@ fn plan_read(
 fn plan_release(alloc: Global, context: &Context, name: u32) -> Result<Option<Work>, AllocError>
     requires composites { AreComposites context.now.composes (1 + length context.now.replies.items)
         context.now.names }
+    requires inside { AreInside (known_to context.now.seat) context.now.names }
     ensures { IfOk result (IsPlanOf context.now (Command.Release name)) }
 {
     let Some(whole) = context.names.composite(name) else {

@@ -90,7 +90,7 @@ fn put_away(
             write(log, at(cache, number, Did::Kept(id)));
             Ends::More(Ending::Home(handle))
         }
-        Went::Did(number, Put::Back(region, no)) => {
+        Went::Did(number, Put::Back(no, region)) => {
             write(log, at(cache, number, Did::Back { region: id, no }));
             Ends::More(Ending::Arena(region, handle))
         }

@@ -43,7 +43,8 @@ fn names_of(command: &Command) -> usize
         | Command::Refcnt { name }
         | Command::Touch { name }
         | Command::Forget { name }
-        | Command::Send { name, .. } => *name,
+        | Command::Send { name, .. }
+        | Command::Capacity { name, .. } => *name,
         Command::Recv { fresh, .. } => *fresh,
         Command::Compose { fresh, .. } => *fresh,
         Command::Add { whole, name } => (*whole).max(*name),
@@ -99,6 +100,7 @@ fn bound_of(command: &Command, composites: bool) -> usize
         Command::Release { .. } => bound_of_release(composites),
         Command::Compose { .. } => 197,
         Command::Add { .. } => 141,
+        Command::Capacity { .. } => 6,
         _ => 1,
     }
 }
@@ -123,7 +125,10 @@ fn asks_of(command: &Command) -> usize
     ensures few { result ≤ 1 }
 {
     match command {
-        Command::Alloc { .. } | Command::Compose { .. } | Command::Add { .. } => 1,
+        Command::Alloc { .. }
+        | Command::Compose { .. }
+        | Command::Add { .. }
+        | Command::Capacity { .. } => 1,
         _ => 0,
     }
 }

@@ -6,6 +6,7 @@ ghost use Rattle.lane_core.specs.declared.context.Stage.{Stage};
 use crate::allotment::Allotting;
 use crate::context::Stage;
 use crate::draining::Draining;
+use crate::growing::Growing;
 use crate::releasing::Releasing;
 use crate::retirement::Ending;
 use pool_law::Region;
@@ -41,6 +42,13 @@ pub(crate) fn spend(stage: Stage) {
             whole: _,
             stage,
         } => spend_releasing(stage),
+        Stage::Growing {
+            name: _,
+            view: _,
+            size: _,
+            class: _,
+            stage,
+        } => spend_growing(stage),
     }
 }
 
@@ -75,6 +83,14 @@ fn spend_allotting(stage: Allotting) {
             handle.leave();
             leave(region)
         }
+    }
+}
+
+fn spend_growing(stage: Growing) {
+    match stage {
+        Growing::Room | Growing::Cache | Growing::Arena => {}
+        Growing::Grow(region) => leave(region),
+        Growing::Put(_, region) | Growing::Give(_, region) => leave(region),
     }
 }
 

@@ -8,6 +8,7 @@ use Rattle.pool_law.specs.LaneStates.{LaneState}
 use Rattle.composite_buf.specs.Maps.{Fits}
 use Rattle.lane_core.specs.Accesses.{IsState}
 use Rattle.lane_core.specs.Compositions.{IsMade, MayMake, joined, readable_at}
+use Rattle.lane_core.specs.Named.{known_to}
 use Rattle.lane_core.specs.Works.{IsPlanned, IsReady}
 use Rattle.lane_core.proofs.CompositionLaws.{is_ready}
 use Rattle.lane_core.proofs.CompositionReads.{adds, refuses_to_add}
@@ -23,12 +24,12 @@ made-requires-clause-may c =
     let d = c.args.context.now in
     let before : Composite = c.in-Some-composite.before.now in
     let held = c.in_ok-parts.ensures {u = tt} in
-    may_add d c.requires.composites c.args.whole c.args.name c.in_default.ensures before
+    may_add d c.requires.composites c.requires.inside c.args.whole c.args.name c.in_default.ensures before
     c.in-Some-composite.ensures.some c.push_readable.new.parts.items c.count.result c.marks-reader.result.reader
     (c.push_readable.ensures.items ∙ ap (λ (ps : List Part). ps ++ readable_at d.names c.args.name) held.items)
     c.count.ensures c.marks-reader.ensures.reader
     (All-same Fits before.parts c.in_ok-parts.parts.items (sym held.items) held.fits)
-    c.push_readable.ensures.placed
+    c.push_readable.ensures.placed (c.push_readable.ensures.inside (known_to d.seat) c.requires.inside)
 
 pub returns-clause-ready : goal.returns-clause-ready
 returns-clause-ready c =
@@ -37,12 +38,12 @@ returns-clause-ready c =
     let held = c.in_ok-parts.ensures {u = tt} in
     let parts : List Part = c.push_readable.new.parts.items in
     let may : MayMake d c.args.whole (joined parts c.count.result c.marks-reader.result.reader) =
-    may_add d c.requires.composites c.args.whole c.args.name c.in_default.ensures before
+    may_add d c.requires.composites c.requires.inside c.args.whole c.args.name c.in_default.ensures before
     c.in-Some-composite.ensures.some parts c.count.result c.marks-reader.result.reader
     (c.push_readable.ensures.items ∙ ap (λ (ps : List Part). ps ++ readable_at d.names c.args.name) held.items)
     c.count.ensures c.marks-reader.ensures.reader
     (All-same Fits before.parts c.in_ok-parts.parts.items (sym held.items) held.fits)
-    c.push_readable.ensures.placed in
+    c.push_readable.ensures.placed (c.push_readable.ensures.inside (known_to d.seat) c.requires.inside) in
     IfOk-weaker c.made.result (IsMade d c.args.whole (joined parts c.count.result c.marks-reader.result.reader))
     (IsReady d) (is_ready d c.args.whole parts c.count.result c.marks-reader.result.reader may) c.made.ensures
 

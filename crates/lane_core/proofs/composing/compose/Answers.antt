@@ -5,6 +5,7 @@ use Rattle.pool_law.specs.declared.id.Part.{Part}
 use Rattle.pool_law.specs.LaneStates.{LaneState}
 use Rattle.lane_core.specs.Accesses.{IsState}
 use Rattle.lane_core.specs.Compositions.{IsMade, joined}
+use Rattle.lane_core.specs.Named.{known_to}
 use Rattle.lane_core.specs.Works.{IsPlanned, IsReady}
 use Rattle.lane_core.proofs.CompositionLaws.{is_ready}
 use Rattle.lane_core.proofs.CompositionReads.{composes, refuses_to_compose}
@@ -19,6 +20,7 @@ pub made-requires-clause-may : goal.made-requires-clause-may
 made-requires-clause-may c =
     may_compose c.args.context.now c.args.fresh c.args.names.now c.requires.fits c.in_default.ensures
     c.in_ok-parts.parts.items (c.in_ok-parts.ensures {u = tt}).items (c.in_ok-parts.ensures {u = tt}).placed
+    ((c.in_ok-parts.ensures {u = tt}).inside (known_to c.args.context.now.seat) c.requires.inside)
 
 pub returns-clause-ready : goal.returns-clause-ready
 returns-clause-ready c =
@@ -27,7 +29,8 @@ returns-clause-ready c =
     IfOk-weaker c.made.result (IsMade d c.args.fresh (joined parts 1 0)) (IsReady d)
     (is_ready d c.args.fresh parts 1 0
     (may_compose d c.args.fresh c.args.names.now c.requires.fits c.in_default.ensures parts
-    (c.in_ok-parts.ensures {u = tt}).items (c.in_ok-parts.ensures {u = tt}).placed)) c.made.ensures
+    (c.in_ok-parts.ensures {u = tt}).items (c.in_ok-parts.ensures {u = tt}).placed
+    ((c.in_ok-parts.ensures {u = tt}).inside (known_to d.seat) c.requires.inside))) c.made.ensures
 
 pub returns-clause-planned : goal.returns-clause-planned
 returns-clause-planned c =

@@ -4,6 +4,7 @@ use Rattle.pool_law.specs.declared.id.Part.{Part}
 use Rattle.pool_law.specs.Composites.{Composite, filled, most_bytes, most_parts, size_of}
 use Rattle.pool_law.specs.Limits.{geometry_of}
 use Rattle.lane_core.specs.Compositions.{joined}
+use Rattle.lane_core.specs.Named.{known_to}
 use Rattle.lane_core.proofs.CompositionLaws.{has_class, is_consolidation, is_crowded_so}
 use Rattle.lane_core.proofs.composing.made.Goals as goal
 
@@ -26,7 +27,7 @@ returns c =
       made,
       has_class d.shape whole c.in-Some.class least many class,
       is_crowded_so d.shape whole many,
-      is_consolidation d.shape d.counts parts _ c.requires.may.parts total class
+      is_consolidation (known_to d.seat) d.shape d.counts parts _ c.requires.may.parts total class
           (ap (λ (c : Composite). c.parts) made) (c.into_items.ensures ∙ listed)
           (bytes.parts ∙ ap (λ (ps : List Part). filled ps) (c.items.ensures ∙ listed)) bytes.bytes,
     )

@@ -5,6 +5,8 @@ use Rattle.pool_law.specs.declared.note.Object.TheVariants.{Root}
 use Rattle.pool_law.specs.Dids as says
 use Rattle.shared_pool.specs.RootNotes.{access}
 use Rattle.shared_pool.specs.Seats.{IsNoted}
+use Rattle.shared_pool.specs.SeatViews.{view_of}
+use Rattle.lane_core.proofs.Knowing.{knows_name}
 use Rattle.lane_core.proofs.NextNotes.{then_begins, access_begins}
 use Rattle.lane_core.specs.declared.copying.Copying.TheVariants.{Set}
 use Rattle.lane_core.proofs.CopySteps.{copy_more, copy_done, copy_held}
@@ -17,7 +19,7 @@ write-requires-clause-counts c = c.requires.may.fits.0
 pub write-requires-clause-range : goal.write-requires-clause-range
 write-requires-clause-range c =
     let a = c.requires.may.fits.2 in let b = ap (λ (bytes : List ℕ). length bytes) c.deref.ensures.value in
-    omega (arith, a, b)
+    let k = knows_name c.args.goal.0 (view_of c.args.seat.now) in omega (arith, a, b, k)
 
 pub returns-then-is_empty : goal.returns-then-is_empty
 returns-then-is_empty c =

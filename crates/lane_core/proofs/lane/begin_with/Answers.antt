@@ -7,6 +7,7 @@ use Rattle.lane_core.specs.declared.lane.Prepared.TheVariants.{Work, Access, Alo
 use Rattle.lane_core.specs.Accesses.{IsAccess}
 use Rattle.lane_core.specs.Budgets.{notes_alone}
 use Rattle.lane_core.specs.Contexts.{left_for, HasRoomFor}
+use Rattle.lane_core.specs.Named.{known_to}
 use Rattle.lane_core.specs.Prepared.{IsPreparedFor}
 use Rattle.lane_core.specs.Works.{left_of}
 use Rattle.lane_core.proofs.Carrying.{access_fits, may_within}
@@ -37,6 +38,7 @@ access_notes composes (Command.Send name lane) is = absurd is
 access_notes composes (Command.Recv fresh lane) is = absurd is
 access_notes composes (Command.Compose fresh names) is = absurd is
 access_notes composes (Command.Add whole name) is = absurd is
+access_notes composes (Command.Capacity name size) is = absurd is
 
 access_room : (pool : SharedPool) (d : Context) (command : Command) → IsAccess command
     → HasRoomFor pool d (left_for d.composes command) → HasRoomFor pool d (notes_alone 1)
@@ -77,7 +79,7 @@ pub access-requires-clause-ready : goal.access-requires-clause-ready
 access-requires-clause-ready g c =
     let d = c.args.context.now in let command = c.args.command.now in let s = c.requires.state in
     let p = prepared_as d command c.args.prepared (Access c.in-Access.access) c.in-Access.is c.requires.prepared in
-    (p.0 s.0 s.1).ready
+    (p.0 s.0 s.1).ready (known_to d.seat) c.requires.may.context.inside
 
 pub access-requires-clause-name : goal.access-requires-clause-name
 access-requires-clause-name g c =

@@ -8,7 +8,7 @@ use Rattle.lane_core.proofs.planning.plan_get.Goals as goal
 
 pub returns-in-Some-refusal_of : goal.returns-in-Some-refusal_of
 returns-in-Some-refusal_of c =
-    get_refused c.args.context.now c.requires.composites c.args.name c.in-Some.whole.now
+    get_refused c.args.context.now c.requires.composites c.requires.inside c.args.name c.in-Some.whole.now
     (c.in-Some.ensures {u = tt}).some
     c.args.at c.args.len c.reaches.result c.reaches.ensures.inside c.in-Some-refusal_of.refusal
     (c.in-Some-refusal_of.ensures {u = tt}).refused
@@ -20,7 +20,7 @@ returns c =
     (Some work))
     (sym (c.crossing.ensures ∙ (λ i. work_on c.args.name None c.in_ok-stage.stage
     (Reply.OkBytes ((c.of.ensures ∙ c.new.ensures.items) i)))))
-    (get_planned c.args.context.now c.requires.composites c.args.name c.in-Some.whole.now
+    (get_planned c.args.context.now c.requires.composites c.requires.inside c.args.name c.in-Some.whole.now
     (c.in-Some.ensures {u = tt}).some
     c.args.at c.args.len none.0 (sym none.1 ∙ c.reaches.ensures.inside) c.in_ok-stage.stage
     (c.in_ok-stage.ensures {u = tt}))

@@ -18,7 +18,7 @@ pub returns-in-Some-refusal_of : goal.returns-in-Some-refusal_of
 returns-in-Some-refusal_of c =
     let marks = c.marks-reader in
     let len = c.args.len in
-    read_refused c.args.context.now c.requires.composites c.args.name c.in-Some.whole.now
+    read_refused c.args.context.now c.requires.composites c.requires.inside c.args.name c.in-Some.whole.now
     (c.in-Some.ensures {u = tt}).some
     len marks.result.reader marks.result.writer marks.ensures.reader marks.ensures.writer
     (nat_le len (marks.result.writer - marks.result.reader))
@@ -34,7 +34,7 @@ returns c =
     (sym (c.crossing.ensures ∙ (λ i. work_on c.args.name
     (Some (record { reader = marks.result.reader + len; writer = marks.result.writer })) c.in_ok-stage.stage
     (Reply.OkBytes ((c.of.ensures ∙ c.new.ensures.items) i)))))
-    (read_planned c.args.context.now c.requires.composites c.args.name c.in-Some.whole.now
+    (read_planned c.args.context.now c.requires.composites c.requires.inside c.args.name c.in-Some.whole.now
     (c.in-Some.ensures {u = tt}).some
     len marks.result.reader marks.result.writer marks.ensures.reader marks.ensures.writer none.0
     (sym none.1 ∙ (λ i. nat_le len (marks.ensures.writer i - marks.ensures.reader i))) c.in_ok-stage.stage

@@ -7,7 +7,7 @@ use Rattle.lane_core.proofs.planning.plan_set.Goals as goal
 
 pub returns-in-Some-refusal_of : goal.returns-in-Some-refusal_of
 returns-in-Some-refusal_of c =
-    set_refused c.args.context.now c.requires.composites c.args.name c.in-Some.whole.now
+    set_refused c.args.context.now c.requires.composites c.requires.inside c.args.name c.in-Some.whole.now
     (c.in-Some.ensures {u = tt}).some
     c.args.at c.args.bytes.now c.reaches.result c.reaches.ensures.inside c.in-Some-refusal_of.refusal
     (c.in-Some-refusal_of.ensures {u = tt}).refused
@@ -18,7 +18,7 @@ returns c =
     subst (λ (work : Work). IsPlanOf c.args.context.now (Command.Set c.args.name c.args.at c.args.bytes.now false)
     (Some work))
     (sym c.crossing.ensures)
-    (set_planned c.args.context.now c.requires.composites c.args.name c.in-Some.whole.now
+    (set_planned c.args.context.now c.requires.composites c.requires.inside c.args.name c.in-Some.whole.now
     (c.in-Some.ensures {u = tt}).some
     c.args.at c.args.bytes.now none.0 (sym none.1 ∙ c.reaches.ensures.inside) c.in_ok-stage.stage
     (c.in_ok-stage.ensures {u = tt}))

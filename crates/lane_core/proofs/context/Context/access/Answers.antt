@@ -6,6 +6,7 @@ use Rattle.lane_core.specs.declared.context.Turn.{Turn}
 use Rattle.lane_core.specs.Accesses.{IsReady, IsPrepared}
 use Rattle.lane_core.specs.Budgets.{notes_alone}
 use Rattle.lane_core.specs.Contexts.{AccessFits, HasTurned}
+use Rattle.lane_core.specs.Named.{known_to}
 use Rattle.lane_core.specs.ContextSteps.{MayTurn, AccessTurns}
 use Rattle.lane_core.proofs.ContextLaws.{can_answer}
 use Rattle.lane_core.proofs.Turning.{refused_turn}
@@ -44,7 +45,9 @@ set-requires-clause-may c =
     }
 
 pub set-requires-clause-reaches : goal.set-requires-clause-reaches
-set-requires-clause-reaches c = subst (λ (a : Access). IsReady c.args.self.now.counts a) c.in-Set.is c.requires.ready
+set-requires-clause-reaches c =
+    let old = c.args.self.now in
+    subst (λ (a : Access). IsReady (known_to old.seat) old.counts a) c.in-Set.is c.requires.ready
 
 pub set-requires-clause-name : goal.set-requires-clause-name
 set-requires-clause-name c = subst (λ (a : Access). AccessFits c.args.self.now a) c.in-Set.is c.requires.name
@@ -66,10 +69,13 @@ get-requires-clause-may c =
 
 pub get-requires-clause-reaches : goal.get-requires-clause-reaches
 get-requires-clause-reaches c =
-    (subst (λ (a : Access). IsReady c.args.self.now.counts a) c.in-Get.is c.requires.ready).0
+    let old = c.args.self.now in
+    (subst (λ (a : Access). IsReady (known_to old.seat) old.counts a) c.in-Get.is c.requires.ready).0
 
 pub get-requires-clause-reply : goal.get-requires-clause-reply
-get-requires-clause-reply c = (subst (λ (a : Access). IsReady c.args.self.now.counts a) c.in-Get.is c.requires.ready).1
+get-requires-clause-reply c =
+    let old = c.args.self.now in
+    (subst (λ (a : Access). IsReady (known_to old.seat) old.counts a) c.in-Get.is c.requires.ready).1
 
 pub get-requires-clause-name : goal.get-requires-clause-name
 get-requires-clause-name c = subst (λ (a : Access). AccessFits c.args.self.now a) c.in-Get.is c.requires.name

@@ -11,6 +11,7 @@ use Rattle.lane_core.specs.Allotments as allotment
 use Rattle.lane_core.specs.ContextSteps.{Concludes}
 use Rattle.lane_core.proofs.AllotTurns.{allot_goes, allot_waits, allot_new, allot_refused}
 use Rattle.lane_core.proofs.StageNeeds.{may_allot, few_births, log_room}
+use Rattle.lane_core.proofs.ClassSizes.{size_most}
 use Rattle.lane_core.proofs.AllocTurns.{allot_can, new_place, new_alone, new_few, new_name}
 use Rattle.lane_core.proofs.context.Context.allot.Goals as goal
 
@@ -137,6 +138,15 @@ add-requires-clause-few c =
     mid.notes size class stage x) c.in-New.is call.ensures in
     new_few pool old mid c.args.name size class stage c.requires.context c.requires.fits.0 mid_so c.in-New.root
     c.in-New.region did c.requires.room
+
+pub of_root-requires : goal.of_root-requires
+of_root-requires c =
+    let old = c.args.self.now in let pool = c.args.pool.now in let size = c.args.size in let class = c.args.class in
+    let stage = c.args.stage in let call = c.allot-allots in
+    let did = subst (λ (x : Allots). allotment.HasAllotted pool old.seat call.new.seat old.sampler call.new.sampler
+    old.notes call.new.log size class stage x) c.in-New.is call.ensures in
+    let small = size_most pool old.shape c.requires.context.shape size class c.requires.fits.0 in
+    let born = did.place.1 in omega (arith, small, born)
 
 pub bind-requires : goal.bind-requires
 bind-requires c =

@@ -12,7 +12,7 @@ use Rattle.lane_core.specs.ContextSteps.{HasReplied}
 use Rattle.lane_core.specs.Accesses.{reply_for}
 use Rattle.lane_core.proofs.StateReads.{refused_fresh, refuses}
 use Rattle.lane_core.proofs.Turning.{refused_turn}
-use Rattle.lane_core.proofs.Commands.{bound_turn, reads_duplicate}
+use Rattle.lane_core.proofs.Commands.{bound_turn, reads_duplicate, view_lies}
 use Rattle.lane_core.proofs.context.Context.duplicate.Goals as goal
 
 pub answer-requires : goal.answer-requires
@@ -34,6 +34,7 @@ returns c = λ pool may s state.
     let v : ViewData = c.in-Ok.view.now.at in let ok = c.in-Ok.ensures.ok in
     subst (λ (t : Turn). HasTurned pool old new s (Command.Dup fresh name) Ready t) (sym c.answer.ensures.ready)
     (bound_turn pool fresh old new may.context may.asked c.requires.name v
+    (view_lies old name v may.context.inside ok.0)
     (subst (λ (names : List (Option Bound)). HasReplied (record old { names = names }) new Reply.Ok)
     (c.bind.ensures ∙ ap (λ (w : ViewData). slice_set old.names fresh (Some (Plain w))) c.duplicate-view.ensures)
     c.answer.ensures.replied) s state.names_are (Command.Dup fresh name)

@@ -41,7 +41,7 @@ returns-in-Did c =
     (λ i. (c.bind.ensures i, answers i)) c.answer.ensures.replied in
     subst (λ (t : Turn). AccessTurns pool old new (Get reach c.args.note c.args.reply) t) (sym c.answer.ensures.ready)
     (get_turn pool old start mid new c.requires.may.context c.requires.may.asked refl did.ensures.same did.ensures.seat
-    reach c.requires.reaches.counts c.requires.name did.number note c.args.reply bytes
+    reach c.requires.reaches.counts c.requires.name did.number c.requires.reaches.lies note c.args.reply bytes
     len did.ensures.did noted replied)
 
 pub returns-in-Held : goal.returns-in-Held

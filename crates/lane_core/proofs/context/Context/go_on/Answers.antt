@@ -77,6 +77,19 @@ replace-requires c =
           c.requires.room c.requires.replies _ c.in-Replacing.is;
     }
 
+pub regrow-requires : goal.regrow-requires
+regrow-requires c =
+    record {
+      may =
+          may_go_on c.args.pool.now c.args.self.now c.args.stage c.requires.context c.requires.fits c.requires.name
+          c.requires.room c.requires.replies _ c.in-Growing.is;
+    }
+
+pub returns-in-Growing : goal.returns-in-Growing
+returns-in-Growing c =
+    subst (λ (x : Stage). StageTurns c.args.pool.now c.args.self.now c.regrow.new.self x c.regrow.result)
+    (sym c.in-Growing.is) c.regrow.ensures
+
 pub returns-in-Consolidating : goal.returns-in-Consolidating
 returns-in-Consolidating c =
     subst (λ (x : Stage). StageTurns c.args.pool.now c.args.self.now c.consolidate.new.self x c.consolidate.result)

@@ -8,7 +8,10 @@ use Rattle.pool_law.specs.declared.note.Object.TheVariants.{Mail}
 use Rattle.pool_law.specs.declared.run.Reply.{Reply}
 use Rattle.pool_law.specs.declared.run.Shape.{Shape}
 use Rattle.pool_law.specs.Names.{Bound}
+use Rattle.std.specs.Prelude.{IfSome}
+use Rattle.shared_pool.specs.Knowing.{ReachesKnown}
 use Rattle.shared_pool.specs.SeatLanes.{lane_of}
+use Rattle.shared_pool.specs.SeatViews.{view_of}
 use Rattle.lane_core.specs.declared.context.Context.{Context}
 use Rattle.lane_core.specs.declared.context.Stage.TheVariants.{Ready}
 use Rattle.lane_core.specs.declared.context.Turn.{Turn}
@@ -83,7 +86,9 @@ returns-in-Some g c = λ s state.
     subst (λ (t : Turn). HasTurned pool old new s (Command.Recv c.args.fresh c.args.lane) Ready t)
     (sym c.answer.ensures.ready)
     (receive_turn pool c.args.fresh c.args.lane old start mid new c.requires.may refl got.ensures.same got.ensures.seat
-    got.number got.parcel got.ensures.got noted v c.in-Some.is c.requires.name c.add.new.self
+    got.number got.parcel got.ensures.got noted v c.in-Some.is
+    (subst (λ (o : Option ViewData). IfSome o (ReachesKnown (view_of start.seat))) c.in-Some.is got.ensures.known)
+    c.requires.name c.add.new.self
     (record { counts = c.add.ensures.counts; places = c.add.ensures.places })
     (subst (λ (names : List (Option Bound)). HasReplied (record mid { counts = c.add.new.self; names = names }) new
     Reply.Ok) c.bind.ensures c.answer.ensures.replied) s state)

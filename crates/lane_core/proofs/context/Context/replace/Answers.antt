@@ -34,7 +34,7 @@ bind-requires-clause-whole c =
     let old = c.args.self.now in let pool = c.args.pool.now in let stage = c.args.stage in let may = c.requires.may in
     let call = c.release in
     let mid : Context = record old { seat = call.new.seat; counts = call.new.counts; notes = call.new.log } in
-    bindable_on old mid refl c.args.name c.args.whole.value may.name
+    bindable_on old mid call.ensures.added call.ensures.more refl c.args.name c.args.whole.value may.name
 
 pub returns-in-Some : goal.returns-in-Some
 returns-in-Some c = λ s command are.

@@ -4,8 +4,13 @@ use Rattle.pool_law.specs.declared.id.ViewData.{ViewData}
 use Rattle.lane_core.specs.declared.context.Stage.TheVariants.{Ready}
 use Rattle.lane_core.specs.declared.context.Turn.{Turn}
 use Rattle.lane_core.specs.Contexts.{HasTurned}
+use Rattle.lane_core.proofs.Commands.{view_lies}
 use Rattle.lane_core.proofs.PostTurns.{can_answer_posted, send_turn, unsent_turn}
 use Rattle.lane_core.proofs.context.Context.send.Goals as goal
+
+pub post-requires-clause-known : goal.post-requires-clause-known
+post-requires-clause-known g c =
+    view_lies c.args.self.now c.args.name c.in-Ok.view.now.at c.requires.may.context.inside c.in-Ok.ensures.ok.0
 
 pub answer-requires : goal.answer-requires
 answer-requires g c =

@@ -28,7 +28,7 @@ returns-in-Did c =
     c.of-bytes.ensures) c.note.ensures in
     subst (λ (t : Turn). AccessTurns pool old new (Set reach c.args.bytes) t) (sym c.answer.ensures.ready)
     (set_turn pool old start mid new c.requires.may.context c.requires.may.asked refl did.ensures.same did.ensures.seat
-    reach c.requires.reaches.counts c.requires.name did.number c.args.bytes
+    reach c.requires.reaches.counts c.requires.name did.number c.requires.reaches.lies c.args.bytes
     (subst (λ (bytes : List ℕ). IsNoted pool old.seat start.seat (Root reach.root.place) did.number
     (access reach.root (Did.Set reach.offset bytes))) c.deref.ensures.value did.ensures.did) noted
     (subst (λ (names : List (Option Bound)). HasReplied (record mid { names = names }) new Reply.Ok) c.bind.ensures

@@ -18,7 +18,7 @@ use Rattle.lane_core.specs.Contexts.{left_for, HasTurned}
 use Rattle.lane_core.specs.ContextSteps.{HasReplied, HasRetained, MayTurn}
 use Rattle.lane_core.proofs.StateReads.{refused_fresh, refuses}
 use Rattle.lane_core.proofs.Turning.{refused_turn}
-use Rattle.lane_core.proofs.Commands.{bound_turn, slice_turn, reads_slice, reads_range}
+use Rattle.lane_core.proofs.Commands.{bound_turn, slice_lies, slice_turn, reads_slice, reads_range}
 use Rattle.lane_core.proofs.context.Context.slice.Goals as goal
 use Rattle.lane_core.proofs.context.Context.slice.Goals.{then-retained, else-retained}
 
@@ -84,6 +84,7 @@ returns c = λ s state.
           subst (λ (kept : Bool). HasTurned pool old new s (Command.Slice fresh name at len kept) Ready (Went Ready))
           (sym b.if-retained.false)
           (bound_turn pool fresh old new c.requires.may.context c.requires.may.asked c.requires.name w
+          (slice_lies old name v c.requires.may.context.inside ok.0 at len inside)
           (subst (λ (x : Context). HasReplied (record x { names = slice_set x.names fresh (Some (Plain w)) }) new
           Reply.Ok)
           b.self-is replied) s state.names_are (Command.Slice fresh name at len false)
