@@ -40,10 +40,10 @@ drain-is lane kind class classes log = go (note (Cache lane class) kind log)
     go (Some p) = refl
 
 -- a reading counts no allocation that asked a cache
-abbrev KeepsAsked : {A : Type 0} → Reader A → Type 0
+abbrev pub KeepsAsked : {A : Type 0} → Reader A → Type 0
 KeepsAsked {A} r = (log after : Log) (a : A) → r log ≡ Some (a, after) → after.asked ≡ log.asked
 
-keeps-then : {A B : Type 0} (r : Reader A) (f : A → Reader B) → KeepsAsked r → ((a : A) → KeepsAsked (f a))
+pub keeps-then : {A B : Type 0} (r : Reader A) (f : A → Reader B) → KeepsAsked r → ((a : A) → KeepsAsked (f a))
     → KeepsAsked (r >>= f)
 keeps-then {A} {B} r f first second log after b is = go (r log) refl is
   where

@@ -2,6 +2,7 @@ pub mod BytesLemmas
 pub mod ReadingLemmas
 pub mod RegionLemmas
 pub mod DrainLemmas
+pub mod GrowLemmas
 pub mod PartLemmas
 pub mod CountLemmas
 pub mod NameLemmas

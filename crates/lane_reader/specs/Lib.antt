@@ -1,5 +1,6 @@
 pub mod Reading
 pub mod Allotting
+pub mod Growing
 pub mod Draining
 pub mod Viewing
 pub mod Parting

@@ -92,6 +92,9 @@ impl Log<'_> {
             Command::Add { whole, name } => {
                 self.add_row(alloc, at, setting, lane, *whole, *name, candidate, reply)
             }
+            Command::Capacity { name, size } => {
+                Ok(self.capacity_row(at, setting, lane, *name, *size, reply))
+            }
         }
     }
 }

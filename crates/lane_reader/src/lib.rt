@@ -14,6 +14,7 @@ mod composite_rows;
 mod count_rows;
 mod counts;
 mod drains;
+mod growing;
 mod lane;
 mod log;
 mod mail_rows;

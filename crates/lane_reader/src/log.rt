@@ -32,8 +32,8 @@ pub(crate) struct Next<'a> {
     pub(crate) behind: At,
 }
 
-// What was done, where a note is at this object.
-fn done_at<'a>(object: &Object, note: &'a Note) -> Option<&'a Did>
+/// What was done, where a note is at this object.
+pub(crate) fn done_at<'a>(object: &Object, note: &'a Note) -> Option<&'a Did>
     ensures { option_copied result ≡ done_at object.now note.now }
 {
     match note {
@@ -72,8 +72,8 @@ fn marked(object: &Object, note: &Note) -> Option<u64>
     }
 }
 
-// Whether a root is this root, if there is one.
-fn root_is(root: &RootId, other: Option<RootId>) -> bool
+/// Whether a root is this root, if there is one.
+pub(crate) fn root_is(root: &RootId, other: Option<RootId>) -> bool
     ensures { result ≡ root_is root.now other }
 {
     match other {

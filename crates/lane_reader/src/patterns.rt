@@ -40,9 +40,9 @@ pub(crate) enum Released {
     Freed,
 }
 
-// Whether a region is another with one more use.
+/// Whether a region is another with one more use.
 #[tactic(auto, using(crate::proofs::RegionLemmas::one_more_is))]
-fn is_one_more(with: &RegionId, region: &RegionId) -> bool
+pub(crate) fn is_one_more(with: &RegionId, region: &RegionId) -> bool
     ensures same { result ≡ same_region with.now (one_more region.now) }
     ensures is { IsTrue result → with.now ≡ one_more region.now }
 {

@@ -316,6 +316,18 @@ impl Lane {
         ])
     }
 
+    // Why a root isn't asked for capacity.
+    fn capacity_refused(&self, setting: &Setting, name: u32, size: u32) -> Option<Refused>
+        ensures { Refuses setting.now.shape.now self.now (Command.Capacity name size) result }
+    {
+        first_of(&[
+            (Refused::Unbound, self.unbound(name)),
+            (Refused::Composite, self.composite(name)),
+            (Refused::Illegal, self.illegal(name)),
+            (Refused::TooLarge, setting.classes.class_of(size).is_none()),
+        ])
+    }
+
     /// The first refusal of a command that comes before its notes.
     pub(crate) fn refused(
         &self,
@@ -359,6 +371,7 @@ impl Lane {
                 self.compose_refused(setting, *fresh, names, candidate)
             }
             Command::Add { whole, name } => self.add_refused(setting, *whole, *name, candidate),
+            Command::Capacity { name, size } => self.capacity_refused(setting, *name, *size),
         }
     }
 }

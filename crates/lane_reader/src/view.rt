@@ -3,7 +3,7 @@
 ghost use Rattle.std.specs.Prelude.{◌≡◌, ◌+◌, ◌≤◌, ◌^◌, min, ◌-◌, nat_le, IsTrue};
 ghost use Rattle.pool_law.specs.Same.{same_view};
 ghost use Rattle.pool_law.specs.Views.{view_of, root_index, in_range, can_read, can_write};
-ghost use Rattle.pool_law.specs.Views.{slice_of, after_read, after_write};
+ghost use Rattle.pool_law.specs.Views.{slice_of, after_read, after_write, reaching};
 
 use pool_law::{RootId, ViewData};
 
@@ -142,6 +142,19 @@ impl View {
             len,
             reader: 0,
             writer: len,
+        }
+    }
+
+    /// The view up to the end of its root's capacity.
+    pub(crate) fn reaching(&self, capacity: u32) -> View
+        ensures { data_of result ≡ reaching capacity (data_of self.now) }
+    {
+        View {
+            root: self.root,
+            offset: self.offset,
+            len: u64::from(capacity).saturating_sub(self.offset) as u32,
+            reader: self.reader,
+            writer: self.writer,
         }
     }
 

@@ -1,10 +1,14 @@
 //! The parts of which the runs are made.
 
+mod asked;
+mod asking;
 mod composites;
+mod growths;
 mod handed_over;
 mod kept;
 mod leaks;
 mod mails;
+mod outrun;
 mod small_pages;
 mod smallest;
 mod stops;
@@ -55,6 +59,14 @@ fn root(place: u32) -> RootId {
     }
 }
 
+// The cache that a region goes to.
+fn cache_of(region: RegionId) -> Object {
+    Object::Cache {
+        lane: region.owner,
+        class: region.class,
+    }
+}
+
 // A note at an object.
 fn at(object: Object, number: u64, did: Did) -> Note {
     Note::At {
@@ -83,7 +95,7 @@ fn push_birth(notes: &mut Vec<Note>, birth: Birth) -> Result<(), AllocError> {
         asked,
     } = birth;
     let take = Did::Take {
-        class: 1,
+        class: region.class,
         region: RegionId { uses: 0, ..region },
     };
     notes.push(at(Object::Bin(0), bin, Did::Handle(root.place)))?;
@@ -106,6 +118,20 @@ fn push_born(notes: &mut Vec<Note>, root: RootId, region: RegionId) -> Result<()
 // The numbers of an end at the root's place, the cache and the bin.
 type Numbers = (u64, u64, u64);
 
+// The notes of a root that ends, with its number at the root's place.
+fn push_ended(notes: &mut Vec<Note>, root: RootId, number: u64) -> Result<(), AllocError> {
+    notes.push(Note::Ref {
+        root,
+        did: RefDid::Ended,
+    })?;
+    notes.push(at(Object::Root(root.place), number, Did::End(root)))?;
+    notes.push(Note::Ref {
+        root,
+        did: RefDid::Vacated,
+    })?;
+    Ok(())
+}
+
 // The notes of a release that keeps the region.
 fn push_end(
     notes: &mut Vec<Note>,
@@ -113,16 +139,8 @@ fn push_end(
     region: RegionId,
     numbers: Numbers,
 ) -> Result<(), AllocError> {
-    notes.push(Note::Ref {
-        root,
-        did: RefDid::Ended,
-    })?;
-    notes.push(at(Object::Root(root.place), numbers.0, Did::End(root)))?;
-    notes.push(Note::Ref {
-        root,
-        did: RefDid::Vacated,
-    })?;
-    notes.push(at(CACHE, numbers.1, Did::Kept(region)))?;
+    push_ended(notes, root, numbers.0)?;
+    notes.push(at(cache_of(region), numbers.1, Did::Kept(region)))?;
     notes.push(at(Object::Bin(0), numbers.2, Did::Home(root.place)))?;
     Ok(())
 }
