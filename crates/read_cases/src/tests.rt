@@ -69,22 +69,19 @@ fn a_text_is_read_back(rt: HostRuntime) -> Result<(), Fail> {
         Ok(run) => {
             let shown = text_of(alloc, &run, true)?;
             assert_eq!(rt; shown.items(), text.as_bytes());
-            check_counts(&rt, &run);
+            check_counts(&rt, &run, &[&[5, 1, 1, 5]]);
         }
         Err(no) => panic!(rt; "it is refused: {no:?}"),
     }
     Ok(())
 }
 
-// How many notes each command made: an allocation five, an access one, the end of a root five.
-fn check_counts(rt: &impl Abort, run: &Run) {
-    let log = run.logs.items().first();
-    assert!(rt; log.is_some());
-    if let Some(log) = log {
-        let wanted = [5, 1, 1, 5];
-        assert_eq!(rt; log.replies.items().len(), 4);
-        for (answered, count) in log.replies.items().iter().zip(wanted) {
-            assert_eq!(rt; answered.notes, count);
+// How many notes each command made, lane by lane.
+fn check_counts(rt: &impl Abort, run: &Run, wanted: &[&[u32]]) {
+    for (log, counts) in run.logs.items().iter().zip(wanted) {
+        assert_eq!(rt; log.replies.items().len(), counts.len());
+        for (answered, count) in log.replies.items().iter().zip(*counts) {
+            assert_eq!(rt; answered.notes, *count);
         }
     }
 }
@@ -119,12 +116,25 @@ fn a_line_is_refused(rt: HostRuntime) -> Result<(), Fail> {
     Ok(())
 }
 
-// The first lane lets two roots be born, and grows the first. The second lane grows the other while the
-// first has a region in hand for that, which it puts away unused, and gets once more.
-const GROWTH_TRACE: &str = r#"[[["alloc","a",16],["alloc","b",16]],[]]"#;
+// The first lane grows a root out of its region and in it. It is outrun at the next, which the second lane grows while it has a region
+// in hand for that: it puts it away unused, and gets it once more.
+const GROWTH_TRACE: &str = concat!(
+    r#"[[["alloc","a",16],["capacity","a",100],["capacity","a",110],["release","a"],"#,
+    r#"["alloc","b",16],["retain","b"],["send","b",1],["capacity","b",100],["alloc","c",100]],"#,
+    r#"[["recv","b",0],["capacity","b",112]]]"#,
+);
 
 const GROWTH: &str = "0.0 alloc ok 16 0.0+0\n\
-    0.1 alloc ok 16 0.0+0\n\
+    0.1 capacity ok 100\n\
+    0.2 capacity ok 110\n\
+    0.3 release freed\n\
+    0.4 alloc ok 16 0.0+0\n\
+    0.5 retain ok\n\
+    0.6 send ok\n\
+    0.7 capacity ok 112\n\
+    0.8 alloc ok 112 0.0+8192\n\
+    1.0 recv ok\n\
+    1.1 capacity ok 112\n\
     note 0 bin 0 1 handle 0\n\
     note 0 cache 0 0 1 miss\n\
     note 0 arena 0 1 take 0 0+0 1\n\
@@ -145,15 +155,26 @@ const GROWTH: &str = "0.0 alloc ok 16 0.0+0\n\
     note 0 cache 0 0 3 hit 1\n\
     note 0 root 1 1 birth 1 0.0+0 1 2 16\n\
     note 0 ref 1.1 born\n\
+    note 0 ref 1.1 retain\n\
+    note 0 mail 0 1 1 post 1.1 0+16 0 0\n\
     note 0 root 1 2 room 100 16\n\
     note 0 cache 0 6 3 hit 2\n\
-    note 0 root 1 4 room 100 112\n\
+    note 0 root 1 5 room 100 112\n\
     note 0 cache 0 6 4 kept 2\n\
+    note 0 bin 0 4 handle 2\n\
     note 0 cache 0 6 5 hit 2\n\
+    note 0 root 2 1 birth 1 0.0+8192 2 2 100\n\
+    note 0 ref 2.1 born\n\
+    note 1 mail 0 1 1 fetch 1.1 0+16 0 0\n\
+    note 1 root 1 3 room 112 16\n\
+    note 1 cache 1 6 1 miss\n\
     note 1 arena 1 1 take 6 0+0 1\n\
-    note 1 root 1 3 grow 1.0+0 1 1 112\n\
+    note 1 root 1 4 grow 1.0+0 1 1 112\n\
     note 1 cache 0 0 4 kept 1\n\
-    end roots 2 live 1 leaks 0\n";
+    end roots 3 live 2 leaks 0\n";
+
+// How many notes each of these commands made.
+const GROWTH_COUNTS: [&[u32]; 2] = [&[5, 5, 1, 5, 4, 1, 1, 4, 4], &[1, 5]];
 
 // How often each region was used that a cache keeps or gives: by the first lane, and by the second.
 const USES: [&[u64]; 2] = [&[1, 1, 1, 1, 1, 1], &[2]];
@@ -178,6 +199,7 @@ fn growths_are_read_back(rt: HostRuntime) -> Result<(), Fail> {
     match read_run(alloc, trace, shape, GROWTH) {
         Ok(run) => {
             assert_eq!(rt; run.logs.items().len(), 2);
+            check_counts(&rt, &run, &GROWTH_COUNTS);
             for (log, wanted) in run.logs.items().iter().zip(USES) {
                 let uses = uses_in(alloc, log)?;
                 assert_eq!(rt; uses.as_slice(), wanted);

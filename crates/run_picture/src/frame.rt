@@ -100,7 +100,7 @@ pub fn legend(pen: &mut Pen, roots: bool) -> Result<(), AllocError> {
         (Style::Accesses, "set, get, write, read"),
         (Style::Counts, "retain, release, refcnt"),
         (Style::HandsOver, "send, recv"),
-        (Style::Names, "names, touch, composites"),
+        (Style::Names, "names, touch, capacity, composites"),
         (Style::Refused, "refused"),
         (Style::Closing, "closing"),
         (Style::Busy, "busy mark"),

@@ -70,7 +70,8 @@ fn style_of(command: &Command, reply: &Reply) -> Style {
         | Command::Touch { .. }
         | Command::Forget { .. }
         | Command::Compose { .. }
-        | Command::Add { .. } => Style::Names,
+        | Command::Add { .. }
+        | Command::Capacity { .. } => Style::Names,
     }
 }
 

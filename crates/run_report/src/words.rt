@@ -32,6 +32,7 @@ pub fn word_of(command: &Command) -> &'static str
         Command::Recv { .. } => "recv",
         Command::Compose { .. } => "compose",
         Command::Add { .. } => "add",
+        Command::Capacity { .. } => "capacity",
     }
 }
 

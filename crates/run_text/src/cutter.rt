@@ -52,6 +52,29 @@ fn kind_of(note: &Note) -> Kind {
     }
 }
 
+// Whether a root has the capacity that was asked of it.
+fn is_enough(note: &Note) -> bool {
+    match note {
+        Note::At {
+            did: Did::Room { asked, capacity },
+            ..
+        } => asked <= capacity,
+        Note::At {
+            did: Did::Extend(_),
+            ..
+        } => true,
+        _ => false,
+    }
+}
+
+// Whether it ends a growth out of a region: there is no other region, or one is put away.
+fn ends_growth(note: &Note) -> bool {
+    match note {
+        Note::At { did, .. } => { matches!(did, Did::Full { .. } | Did::Kept(_) | Did::Give(_)) }
+        _ => false,
+    }
+}
+
 /// The notes of a lane, of which those before a place are those of the commands so far.
 #[derive(Drop)]
 pub struct Cutter<'a> {
@@ -114,6 +137,23 @@ impl Cutter<'_> {
             self.pass()?;
             total = total.saturating_add(count);
             if total >= len {
+                break;
+            }
+        }
+        Ok(())
+    }
+
+    /// A root is asked for capacity: it has enough, or goes on in another region if there is one.
+    pub fn pass_growth(&mut self) -> Result<(), AllocError> {
+        let has_enough = self.notes.get(self.at).is_some_and(is_enough);
+        self.pass()?;
+        if has_enough {
+            return Ok(());
+        }
+        for _ in self.at..self.notes.len() {
+            let is_last = self.notes.get(self.at).is_some_and(ends_growth);
+            self.pass()?;
+            if is_last {
                 break;
             }
         }

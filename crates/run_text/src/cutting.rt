@@ -61,6 +61,7 @@ impl Cutter<'_> {
             Command::Alloc { name, .. } => self.allot(*name, reply),
             Command::Compose { fresh, names } => self.join(*fresh, names.items(), reply),
             Command::Add { whole, name } => self.join_one(*whole, *name, reply),
+            Command::Capacity { .. } => self.grow(reply),
             Command::Send { .. } => self.pass(),
             Command::Recv { fresh, .. } => self.receive(*fresh, reply),
             _ => self.answer_view(command, reply),
@@ -129,6 +130,14 @@ impl Cutter<'_> {
                 self.standing.bind(name, Bound::View(root))
             }
             Reply::Full | Reply::Handles => self.pass_to_last(),
+            _ => Ok(()),
+        }
+    }
+
+    // A root is asked for capacity.
+    fn grow(&mut self, reply: &Reply) -> Result<(), AllocError> {
+        match reply {
+            Reply::OkNumber(_) | Reply::Full => self.pass_growth(),
             _ => Ok(()),
         }
     }

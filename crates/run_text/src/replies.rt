@@ -67,9 +67,10 @@ fn done(alloc: Global, command: &Command, words: &mut Words) -> Result<Reply, Te
             Ok(Reply::OkPlace { size, place })
         }
         Command::Get { .. } | Command::Read { .. } => Ok(Reply::OkBytes(words.bytes(alloc)?)),
-        Command::Refcnt { .. } | Command::Compose { .. } | Command::Add { .. } => {
-            Ok(Reply::OkNumber(words.small()?))
-        }
+        Command::Refcnt { .. }
+        | Command::Compose { .. }
+        | Command::Add { .. }
+        | Command::Capacity { .. } => Ok(Reply::OkNumber(words.small()?)),
         _ => Ok(Reply::Ok),
     }
 }

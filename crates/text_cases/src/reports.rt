@@ -386,6 +386,8 @@ fn second_commands(alloc: Global) -> Result<Vec<Command>, AllocError> {
         Command::Compose { fresh, names: one },
         Command::Add { whole, name },
         Command::Add { whole, name },
+        Command::Capacity { name, size: 100 },
+        Command::Capacity { name, size: 113 },
     ]?;
     Ok(commands)
 }
@@ -408,6 +410,8 @@ fn second_replies(alloc: Global) -> Result<Vec<Answered>, AllocError> {
         answered(Reply::Stopped),
         answered(Reply::OkNumber(0)),
         answered(Reply::Plain),
+        answered(Reply::OkNumber(112)),
+        answered(Reply::Full),
     ]?;
     Ok(replies)
 }
@@ -437,6 +441,8 @@ const REPLIES: &str = "0.0 alloc ok 32 1.2+8192\n\
     1.12 compose stopped\n\
     1.13 add ok 0\n\
     1.14 add plain\n\
+    1.15 capacity ok 112\n\
+    1.16 capacity full\n\
     end roots 0 live 0 leaks 0\n";
 
 fn replied(alloc: Global, replies: Vec<Answered>) -> LaneLog {

@@ -21,6 +21,7 @@ pub const COMMANDS: &str = r#"[[]] => ||
 [[["touch","abcdefghijklmnopqrstuvwxyz012345"]]] => |touch 0;|
 [[["alloc","a",0],["alloc","b",4294967295]]] => |alloc 0 0;alloc 1 4294967295;|
 [[["write","a","09afAF"]]] => |write 0 09afaf;|
+[[["capacity","a",0],["alloc","b",1],["capacity","b",4294967295]]] => |capacity 0 0;alloc 1 1;capacity 1 4294967295;|
 [[["touch","r"],["send","a",0],["recv","r",0]]] => |touch 0;send 1 0;recv 0 0;|
 [[["send","a",0],["recv","r",0],["alloc","r",1]]] => |send 0 0;recv 1 0;alloc 1 1;|
 [[["alloc","a",1],["send","a",1]],[["recv","a",0]]] => |alloc 0 1;send 0 1;|recv 0 0;|

@@ -93,6 +93,7 @@ fn told_command(alloc: Global, command: &Command) -> Result<String, AllocError> 
         Command::Recv { fresh, lane } => format!(in alloc; "recv {fresh} {lane}"),
         Command::Compose { fresh, names } => told_compose(alloc, *fresh, names.items()),
         Command::Add { whole, name } => format!(in alloc; "add {whole} {name}"),
+        Command::Capacity { name, size } => format!(in alloc; "capacity {name} {size}"),
     }
 }
 

@@ -33,6 +33,8 @@ static WHOLE_VIEW: [Item; 2] = [Item::Whole, Item::View];
 
 static VIEW: [Item; 1] = [Item::View];
 
+static VIEW_SIZE: [Item; 2] = [Item::View, Item::Size];
+
 static VIEW_LANE: [Item; 2] = [Item::View, Item::Lane];
 
 static NEW_LANE: [Item; 2] = [Item::New, Item::Lane];
@@ -51,6 +53,7 @@ pub fn items_behind(word: Word) -> &'static [Item] {
         Word::Send => &VIEW_LANE,
         Word::Recv => &NEW_LANE,
         Word::Add => &WHOLE_VIEW,
+        Word::Capacity => &VIEW_SIZE,
     }
 }
 

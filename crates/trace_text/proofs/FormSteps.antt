@@ -9,7 +9,7 @@ use Rattle.trace_text.specs.declared.words.Word.{Word}
 use Rattle.trace_text.specs.declared.words.Word.TheVariants as words
 use Rattle.trace_text.specs.Items.{◌>>=◌, only_if, item_at, lane_number_in, name_in}
 use Rattle.trace_text.specs.Names.{Mentions, with_name}
-use Rattle.trace_text.specs.Forms.{Read, mentioned, numbers_in, row_between, alloc_of, set_of, get_of, write_of, read_of, slice_of, compose_of, one_name_in, two_names_in, name_and_lane_in}
+use Rattle.trace_text.specs.Forms.{Read, mentioned, numbers_in, row_between, set_of, get_of, write_of, slice_of, compose_of, one_name_in, two_names_in, name_and_number_in, name_and_lane_in}
 use Rattle.trace_text.specs.Words.{form_of, command_in, read_as}
 
 -- a lane that the command names is one of so many, and the views that it composes are 1 to 24
@@ -49,10 +49,6 @@ any_read : {A : Type 0} (read : Read A) → IfSome read (λ p. Unit {0})
 any_read None = tt
 any_read (Some p) = tt
 
-alloc_named : (lanes : ℕ) (names : Mentions) (ds : List Data) → Named lanes (alloc_of names ds)
-unfolding alloc_of
-alloc_named lanes names ds = search (through) depth 9
-
 set_named : (lanes : ℕ) (tries : Bool) (names : Mentions) (ds : List Data) → Named lanes (set_of tries names ds)
 unfolding set_of
 set_named lanes tries names ds = search (through) depth 9
@@ -64,10 +60,6 @@ get_named lanes tries names ds = search (through) depth 9
 write_named : (lanes : ℕ) (names : Mentions) (ds : List Data) → Named lanes (write_of names ds)
 unfolding write_of
 write_named lanes names ds = search (through) depth 9
-
-read_named : (lanes : ℕ) (names : Mentions) (ds : List Data) → Named lanes (read_of names ds)
-unfolding read_of
-read_named lanes names ds = search (through) depth 9
 
 slice_named : (lanes : ℕ) (retained : Bool) (names : Mentions) (ds : List Data)
     → Named lanes (slice_of retained names ds)
@@ -122,13 +114,17 @@ lane_named lanes names ds = search (through, lane_next) depth 9
 
 form_named : (word : Word) (lanes : ℕ) (names : Mentions) (ds : List Data) → Named lanes (form_of word lanes names ds)
 unfolding form_of
-form_named words.Alloc lanes names ds = alloc_named lanes names ds
+form_named words.Alloc lanes names ds =
+    as_read (λ p. Unit {0}) lanes (λ p. commands.Alloc p.0 p.1) _ (any_read (name_and_number_in names ds))
+    (λ p any. refl)
 form_named words.Set lanes names ds = set_named lanes false names ds
 form_named words.TrySet lanes names ds = set_named lanes true names ds
 form_named words.Get lanes names ds = get_named lanes false names ds
 form_named words.TryGet lanes names ds = get_named lanes true names ds
 form_named words.Write lanes names ds = write_named lanes names ds
-form_named words.Read lanes names ds = read_named lanes names ds
+form_named words.Read lanes names ds =
+    as_read (λ p. Unit {0}) lanes (λ p. commands.Read p.0 p.1) _ (any_read (name_and_number_in names ds))
+    (λ p any. refl)
 form_named words.Slice lanes names ds = slice_named lanes false names ds
 form_named words.RetainedSlice lanes names ds = slice_named lanes true names ds
 form_named words.Dup lanes names ds =
@@ -152,6 +148,9 @@ form_named words.Recv lanes names ds =
 form_named words.Compose lanes names ds = compose_named lanes names ds
 form_named words.Add lanes names ds =
     as_read (λ p. Unit {0}) lanes (λ p. commands.Add p.0 p.1) _ (any_read (two_names_in names ds)) (λ p any. refl)
+form_named words.Capacity lanes names ds =
+    as_read (λ p. Unit {0}) lanes (λ p. commands.Capacity p.0 p.1) _ (any_read (name_and_number_in names ds))
+    (λ p any. refl)
 
 pub command_named : (lanes : ℕ) (names : Mentions) (d : Data)
     → IfSome (command_in lanes names d) (λ p. names_lanes lanes p.0 ≡ true)

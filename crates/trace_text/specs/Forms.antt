@@ -32,7 +32,7 @@ numbers_in names (d ∷ ds) = do
   rest ← numbers_in a.1 ds
   Some (a.0 ∷ rest.0, rest.1)
 
--- ---- Items that several commands have: a name; two names; a name and a lane.
+-- ---- Items that several commands have: a name; two names; a name and a number; a name and a lane.
 
 unfoldable pub one_name_in : Mentions → List Data → Read ℕ
 one_name_in names ds = do
@@ -49,6 +49,14 @@ two_names_in names ds = do
   b ← mentioned a.1 second
   Some ((a.0, b.0), b.1)
 
+unfoldable pub name_and_number_in : Mentions → List Data → Read (ℕ × ℕ)
+name_and_number_in names ds = do
+  row ← row_of 3 ds
+  name ← name_in (item_at row 1)
+  number ← number_in (item_at row 2)
+  a ← mentioned names name
+  Some ((a.0, number), a.1)
+
 unfoldable pub name_and_lane_in : ℕ → Mentions → List Data → Read (ℕ × ℕ)
 name_and_lane_in lanes names ds = do
   row ← row_of 3 ds
@@ -58,15 +66,6 @@ name_and_lane_in lanes names ds = do
   Some ((a.0, lane), a.1)
 
 -- ---- Commands.
-
--- `["alloc", new, n]`
-unfoldable pub alloc_of : Mentions → List Data → Read Command
-alloc_of names ds = do
-  row ← row_of 3 ds
-  new ← name_in (item_at row 1)
-  size ← number_in (item_at row 2)
-  a ← mentioned names new
-  Some (commands.Alloc a.0 size, a.1)
 
 -- `["set", v, i, hex]`, and `tryset`
 unfoldable pub set_of : Bool → Mentions → List Data → Read Command
@@ -96,15 +95,6 @@ write_of names ds = do
   bytes ← bytes_in (item_at row 2)
   a ← mentioned names name
   Some (commands.Write a.0 bytes, a.1)
-
--- `["read", v, n]`
-unfoldable pub read_of : Mentions → List Data → Read Command
-read_of names ds = do
-  row ← row_of 3 ds
-  name ← name_in (item_at row 1)
-  len ← number_in (item_at row 2)
-  a ← mentioned names name
-  Some (commands.Read a.0 len, a.1)
 
 -- `["slice", new, v, i, n]`, and `rslice`
 unfoldable pub slice_of : Bool → Mentions → List Data → Read Command

@@ -9,7 +9,7 @@ use Rattle.trace_text.specs.declared.words.Word.{Word}
 use Rattle.trace_text.specs.declared.words.Word.TheVariants as words
 use Rattle.trace_text.specs.Items.{◌>>=◌, array_in, item_at}
 use Rattle.trace_text.specs.Names.{Mentions}
-use Rattle.trace_text.specs.Forms.{Read, alloc_of, set_of, get_of, write_of, read_of, slice_of, compose_of, one_name_in, two_names_in, name_and_lane_in}
+use Rattle.trace_text.specs.Forms.{Read, set_of, get_of, write_of, slice_of, compose_of, one_name_in, two_names_in, name_and_number_in, name_and_lane_in}
 
 abbrev pub text_of : Word → List ℕ
 text_of words.Alloc = codes "alloc"
@@ -31,12 +31,14 @@ text_of words.Send = codes "send"
 text_of words.Recv = codes "recv"
 text_of words.Compose = codes "compose"
 text_of words.Add = codes "add"
+text_of words.Capacity = codes "capacity"
 
 abbrev pub all_words : List Word
 all_words =
     words.Alloc ∷ words.Set ∷ words.TrySet ∷ words.Get ∷ words.TryGet ∷ words.Write ∷ words.Read
     ∷ words.Slice ∷ words.RetainedSlice ∷ words.Dup ∷ words.Retain ∷ words.Release ∷ words.Refcnt
-    ∷ words.Touch ∷ words.Forget ∷ words.Send ∷ words.Recv ∷ words.Compose ∷ words.Add ∷ []
+    ∷ words.Touch ∷ words.Forget ∷ words.Send ∷ words.Recv ∷ words.Compose ∷ words.Add
+    ∷ words.Capacity ∷ []
 
 -- the word of this text
 unfoldable pub word_of : List ℕ → Option Word
@@ -48,13 +50,15 @@ read_as command = option_map (λ p. (command p.0, p.1))
 
 -- the command of a word, from the items of its row, where there are so many lanes
 unfoldable pub form_of : Word → ℕ → Mentions → List Data → Read Command
-form_of words.Alloc lanes names ds = alloc_of names ds
+form_of words.Alloc lanes names ds =
+    read_as (λ p. commands.Alloc p.0 p.1) (name_and_number_in names ds)
 form_of words.Set lanes names ds = set_of false names ds
 form_of words.TrySet lanes names ds = set_of true names ds
 form_of words.Get lanes names ds = get_of false names ds
 form_of words.TryGet lanes names ds = get_of true names ds
 form_of words.Write lanes names ds = write_of names ds
-form_of words.Read lanes names ds = read_of names ds
+form_of words.Read lanes names ds =
+    read_as (λ p. commands.Read p.0 p.1) (name_and_number_in names ds)
 form_of words.Slice lanes names ds = slice_of false names ds
 form_of words.RetainedSlice lanes names ds = slice_of true names ds
 form_of words.Dup lanes names ds = read_as (λ p. commands.Dup p.0 p.1) (two_names_in names ds)
@@ -69,6 +73,8 @@ form_of words.Recv lanes names ds =
     read_as (λ p. commands.Recv p.0 p.1) (name_and_lane_in lanes names ds)
 form_of words.Compose lanes names ds = compose_of names ds
 form_of words.Add lanes names ds = read_as (λ p. commands.Add p.0 p.1) (two_names_in names ds)
+form_of words.Capacity lanes names ds =
+    read_as (λ p. commands.Capacity p.0 p.1) (name_and_number_in names ds)
 
 -- the command of a row
 unfoldable pub command_in : ℕ → Mentions → Data → Read Command

@@ -1,7 +1,7 @@
 //! The forms of commands, each from the items of its row.
 ghost use Rattle.std.specs.Prelude.{◌≡◌, map};
 ghost use Rattle.serde_json.specs.View.{view};
-ghost use Rattle.trace_text.specs.Forms.{alloc_of, compose_of, get_of, name_and_lane_in, numbers_in, one_name_in, read_of, set_of, slice_of, two_names_in, write_of};
+ghost use Rattle.trace_text.specs.Forms.{compose_of, get_of, name_and_lane_in, name_and_number_in, numbers_in, one_name_in, set_of, slice_of, two_names_in, write_of};
 ghost use Rattle.trace_text.specs.Steps.{IsRead};
 
 use crate::items::{RowNo, bytes_of, lane_number_of, name_of, number_of};
@@ -12,19 +12,6 @@ use std::alloc::{AllocError, Global};
 
 /// The most views of a `compose`.
 pub const VIEW_LIMIT: usize = 24;
-
-#[tactic(auto, using(crate::proofs::Values::item_view), unfolding(crate::specs::Forms::alloc_of))]
-pub fn alloc(alloc: Global, names: &mut Names, items: &[Value]) -> Result<Command, RowNo>
-    ensures { IsRead result names.new (alloc_of names.old (map view items.now)) }
-{
-    let [_, name, size] = items else {
-        return Err(RowNo::Form);
-    };
-    let name = name_of(name).ok_or(RowNo::Form)?;
-    let size = number_of(size).ok_or(RowNo::Form)?;
-    let name = names.number(alloc, name)?;
-    Ok(Command::Alloc { name, size })
-}
 
 #[tactic(auto, using(crate::proofs::Values::item_view), unfolding(crate::specs::Forms::set_of))]
 pub fn set(alloc: Global, tries: bool, names: &mut Names, items: &[Value]) -> Result<Command, RowNo>
@@ -75,19 +62,6 @@ pub fn write(alloc: Global, names: &mut Names, items: &[Value]) -> Result<Comman
     let bytes = bytes_of(alloc, bytes)?;
     let name = names.number(alloc, name)?;
     Ok(Command::Write { name, bytes })
-}
-
-#[tactic(auto, using(crate::proofs::Values::item_view), unfolding(crate::specs::Forms::read_of))]
-pub fn read(alloc: Global, names: &mut Names, items: &[Value]) -> Result<Command, RowNo>
-    ensures { IsRead result names.new (read_of names.old (map view items.now)) }
-{
-    let [_, name, len] = items else {
-        return Err(RowNo::Form);
-    };
-    let name = name_of(name).ok_or(RowNo::Form)?;
-    let len = number_of(len).ok_or(RowNo::Form)?;
-    let name = names.number(alloc, name)?;
-    Ok(Command::Read { name, len })
 }
 
 #[tactic(auto, using(crate::proofs::Values::item_view), unfolding(crate::specs::Forms::slice_of))]
@@ -171,6 +145,24 @@ pub fn two_names(alloc: Global, names: &mut Names, items: &[Value]) -> Result<(u
     let first = names.number(alloc, first)?;
     let second = names.number(alloc, second)?;
     Ok((first, second))
+}
+
+/// A name and a number.
+#[tactic(auto, using(crate::proofs::Values::item_view), unfolding(crate::specs::Forms::name_and_number_in))]
+pub fn name_and_number(
+    alloc: Global,
+    names: &mut Names,
+    items: &[Value],
+) -> Result<(u32, u32), RowNo>
+    ensures { IsRead result names.new (name_and_number_in names.old (map view items.now)) }
+{
+    let [_, name, number] = items else {
+        return Err(RowNo::Form);
+    };
+    let name = name_of(name).ok_or(RowNo::Form)?;
+    let number = number_of(number).ok_or(RowNo::Form)?;
+    let name = names.number(alloc, name)?;
+    Ok((name, number))
 }
 
 /// A name, and the number of one of so many lanes.

@@ -6,7 +6,7 @@ ghost use Rattle.trace_text.specs.Words.{command_in, form_of, text_of, word_of};
 ghost use Rattle.trace_text.specs.Steps.{IsRead};
 
 use crate::forms::{
-    alloc, compose, get, name_and_lane, one_name, read, set, slice, two_names, write,
+    compose, get, name_and_lane, name_and_number, one_name, set, slice, two_names, write,
 };
 use crate::items::{RowNo, array_of};
 use crate::names::Names;
@@ -36,9 +36,10 @@ pub enum Word {
     Recv,
     Compose,
     Add,
+    Capacity,
 }
 
-const WORDS: [Word; 19] = [
+const WORDS: [Word; 20] = [
     Word::Alloc,
     Word::Set,
     Word::TrySet,
@@ -58,6 +59,7 @@ const WORDS: [Word; 19] = [
     Word::Recv,
     Word::Compose,
     Word::Add,
+    Word::Capacity,
 ];
 
 impl Word {
@@ -85,6 +87,7 @@ impl Word {
             Word::Recv => "recv",
             Word::Compose => "compose",
             Word::Add => "add",
+            Word::Capacity => "capacity",
         }
     }
 }
@@ -115,13 +118,19 @@ fn form(
     ensures { IsRead result names.new (form_of word lanes names.old (map view items.now)) }
 {
     match word {
-        Word::Alloc => self::alloc(alloc, names, items),
+        Word::Alloc => {
+            let (name, size) = name_and_number(alloc, names, items)?;
+            Ok(Command::Alloc { name, size })
+        }
         Word::Set => set(alloc, false, names, items),
         Word::TrySet => set(alloc, true, names, items),
         Word::Get => get(alloc, false, names, items),
         Word::TryGet => get(alloc, true, names, items),
         Word::Write => write(alloc, names, items),
-        Word::Read => read(alloc, names, items),
+        Word::Read => {
+            let (name, len) = name_and_number(alloc, names, items)?;
+            Ok(Command::Read { name, len })
+        }
         Word::Slice => slice(alloc, false, names, items),
         Word::RetainedSlice => slice(alloc, true, names, items),
         Word::Dup => {
@@ -160,6 +169,10 @@ fn form(
         Word::Add => {
             let (whole, name) = two_names(alloc, names, items)?;
             Ok(Command::Add { whole, name })
+        }
+        Word::Capacity => {
+            let (name, size) = name_and_number(alloc, names, items)?;
+            Ok(Command::Capacity { name, size })
         }
     }
 }
