@@ -51,6 +51,7 @@ moves_of_one composes (Command.Send name lane) = refl
 moves_of_one composes (Command.Recv fresh lane) = refl
 moves_of_one composes (Command.Compose fresh names) = refl
 moves_of_one composes (Command.Add whole name) = refl
+moves_of_one composes (Command.Capacity name size) = refl
 
 sends_of_one : (composes : Bool) (to : ℕ) (c : Command) → (left_for composes c).sends to ≡ one (is_send to c)
 sends_of_one composes to (Command.Alloc name size) = refl
@@ -70,6 +71,7 @@ sends_of_one composes to (Command.Send name lane) = refl
 sends_of_one composes to (Command.Recv fresh lane) = refl
 sends_of_one composes to (Command.Compose fresh names) = refl
 sends_of_one composes to (Command.Add whole name) = refl
+sends_of_one composes to (Command.Capacity name size) = refl
 
 module _ (composes : Bool) where
   moves_of_each : (cs : List Command) → (left_for_each composes cs).moves ≡ count_by is_move cs

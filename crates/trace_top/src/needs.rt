@@ -113,6 +113,7 @@ fn notes_of(command: &Command, composites: bool) -> u64
         Command::Release { .. } => notes_of_release(composites),
         Command::Compose { .. } => 197,
         Command::Add { .. } => 141,
+        Command::Capacity { .. } => 6,
         _ => 1,
     }
 }
@@ -137,7 +138,10 @@ fn asks_of(command: &Command) -> u64
     ensures few { result ≤ 1 }
 {
     match command {
-        Command::Alloc { .. } | Command::Compose { .. } | Command::Add { .. } => 1,
+        Command::Alloc { .. }
+        | Command::Compose { .. }
+        | Command::Add { .. }
+        | Command::Capacity { .. } => 1,
         _ => 0,
     }
 }

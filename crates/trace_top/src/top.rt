@@ -48,8 +48,8 @@ pub fn run<R: Threads + Wait + Sync, S: Source, K: Sink, G: Gate>(
     // What a run gives, at its end and at each moment of the one order in which its steps were
     // made, for whatever trace, workers and interleaving: all steps stand in one order, in which
     // each fits what was done before it; regions of live roots never overlap; each read gives the
-    // bytes last written; a region returns once, by the release that ends its root's count; the
-    // report lists exactly the sampled roots never freed.
+    // bytes last written; a region returns once, by the release that ends its root's count or the
+    // growth that replaces it; the report lists exactly the sampled roots never freed.
     ensures headline { IfSome result.run HeadlineInOrder }
 
     // A reply is `stopped` exactly where the gate stops its lane at its line or an earlier one.

@@ -11,6 +11,8 @@ const KINDS: &str =
 --handles 2 => [[["alloc","a",4],["compose","c","a","a","a","a","a","a","a","a","a","a","a","a","a","a","a","a","a"],["get","c",60,8],["add","c","a"],["release","c"]]]
 --workers 2 => [[["alloc","a",4],["retain","a"],["compose","c","a","a"],["send","a",1],["get","c",0,1],["release","c"]],[["recv","x",0],["release","x"],["touch","x"]]]
 --order 3 --arenas 1 --chunks 1 => [[["alloc","a",32768],["alloc","b",32768],["release","a"],["alloc","c",40960],["alloc","d",16],["release","d"],["alloc","d",16]]]
+--order 3 --arenas 1 --chunks 1 => [[["alloc","a",40960],["capacity","a",65536],["capacity","a",40961],["release","a"],["alloc","b",16],["capacity","b",100],["capacity","b",110],["write","b","01"],["release","b"]]]
+--workers 2 => [[["alloc","a",16],["rslice","s","a",0,4],["send","a",1],["capacity","s",100],["recv","b",1],["get","b",0,100],["release","s"],["release","b"]],[["recv","x",0],["capacity","x",100],["send","x",0]]]
 --workers 2 --generate 7 --lanes 3 --commands 1000 => no trace is read
 "#;
 
