@@ -5,6 +5,8 @@
 //! so that they aren't proved again for them.
 
 #[cfg(test)]
+mod grows;
+#[cfg(test)]
 mod measures;
 #[cfg(test)]
 mod rounds;

@@ -9,7 +9,7 @@ use std::process::Abort;
 use std::sync::Wait;
 
 // Two threads with two handles each, over one chunk of 65,536 bytes. All roots are watched.
-const SHAPE: Shape = Shape {
+pub(crate) const SHAPE: Shape = Shape {
     page: 8192,
     order: 3,
     arenas: 1,
@@ -33,7 +33,10 @@ fn refused<B: PoolName, E: Drop>(answer: Result<Buffer<B>, E>) -> Option<E> {
     }
 }
 
-fn buffer<B: PoolName, E: Drop, R: Abort>(rt: &R, answer: Result<Buffer<B>, E>) -> Buffer<B> {
+pub(crate) fn buffer<B: PoolName, E: Drop, R: Abort>(
+    rt: &R,
+    answer: Result<Buffer<B>, E>,
+) -> Buffer<B> {
     match answer {
         Ok(buffer) => buffer,
         Err(_no) => panic!(rt; "there is a buffer"),
@@ -82,7 +85,7 @@ fn slices<B: PoolName, R: Abort + Wait>(
 }
 
 // The parcel of a buffer for the second thread.
-fn parcel<B: PoolName, R: Abort>(
+pub(crate) fn parcel<B: PoolName, R: Abort>(
     rt: &R,
     pool: &Pool<B>,
     me: &mut PoolThread<B>,
@@ -98,7 +101,7 @@ fn parcel<B: PoolName, R: Abort>(
 }
 
 // The buffer of a parcel.
-fn accepted<B: PoolName, R: Abort>(
+pub(crate) fn accepted<B: PoolName, R: Abort>(
     rt: &R,
     pool: &Pool<B>,
     me: &mut PoolThread<B>,
@@ -178,7 +181,7 @@ fn hand_over<B: PoolName, R: Abort + Wait>(
 }
 
 // The release of a buffer is that of the last count, or isn't.
-fn ends<B: PoolName, R: Abort + Wait>(
+pub(crate) fn ends<B: PoolName, R: Abort + Wait>(
     rt: &R,
     pool: &Pool<B>,
     me: &mut PoolThread<B>,

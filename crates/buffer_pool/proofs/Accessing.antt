@@ -17,10 +17,10 @@ use Rattle.seat_work.specs.Works.{Proceeds}
 use Rattle.seat_work.proofs.Accesses.{IsQuiet, accessed, noted_same}
 use Rattle.buffer_pool.specs.declared.account.Account.{Account}
 use Rattle.buffer_pool.specs.declared.member.Member.{Member}
-use Rattle.buffer_pool.specs.Counting.{counted}
+use Rattle.buffer_pool.specs.Counting.{counted, known}
 use Rattle.buffer_pool.specs.Threads.{Does, IsThread}
 use Rattle.buffer_pool.specs.Tries.{HasAccessed, StaysOut}
-use Rattle.buffer_pool.proofs.Keeping.{has_count, kept_on, may_work, spends_none, still_thread}
+use Rattle.buffer_pool.proofs.Keeping.{has_count, kept_on, may_work, spends_none, still_thread, tells_known}
 use Rattle.buffer_pool.proofs.Letters.{noted_letters}
 
 -- the thread with another seat, after so many turns
@@ -40,9 +40,10 @@ module _ (pool : SharedPool) (old : Member) (is : IsThread pool old) (le : 1 ≤
       → Does pool 1 no_change old (after_turns 1 old new)
   accessed_once new did root number n noted =
       let after = after_turns 1 old new in
-      kept_on pool no_change 1 0 1 old after is did.goes did.changes
-      (spends_none no_change 1 old.account after.account refl (omega (arith, le)) refl (λ other. refl)
-      (λ other. refl) refl)
+      let spends = spends_none no_change 1 old.account after.account refl (omega (arith, le)) refl (λ other. refl)
+      (λ other. refl) (λ other. refl) (λ other. omega arith) in
+      kept_on pool no_change 1 0 1 old after is did.goes did.changes spends
+      (tells_known pool no_change 1 0 1 old after is did.goes did.changes spends (λ root. omega arith))
       (omega arith) (let a = did.goes.moves_left in let b = is.works.moves_left in omega (arith, a, b))
       (noted_letters pool old.seat new root number n noted) refl
 
@@ -100,6 +101,9 @@ module _ (pool : SharedPool) (root : RootId) (old : Member) where
                 (let p = changed.counts r in let q = ap (λ (a : Account). counted a.counts r) same in
                 omega (arith, p, q));
             notes = subst (λ (v : SeatView). Changes no_change v (view_of new.seat)) waits.view changed.notes;
+            knows =
+                λ r lt.
+                subst (λ (a : Account). known a.counts r ≤ known new.account.counts r) same (changed.knows r lt);
           };
         };
         moves = it.moves ∙ ap (λ (a : Account). a.moves) same;

@@ -11,7 +11,7 @@ use Rattle.buffer_pool.specs.declared.counts.Counted.{Counted}
 use Rattle.seat_work.specs.Changes.{one_for}
 use Rattle.buffer_pool.specs.Counting.{if_counted, counted}
 
-zero_if : (b : Bool) (n : ℕ) → n ≡ 0 → (if b then n else 0) ≡ 0
+pub zero_if : (b : Bool) (n : ℕ) → n ≡ 0 → (if b then n else 0) ≡ 0
 zero_if true n e = e
 zero_if false n e = refl
 
@@ -33,10 +33,10 @@ pub counted_within : (cs : List Counted) (root : RootId) → 0 < counted cs root
 counted_within cs root lt = within_by cs root.place root lt
 
 -- of two roots at different places at most one is this one
-other_place : (root other : RootId) → other.place ≢ root.place → same_root root other ≡ false
+pub other_place : (root other : RootId) → other.place ≢ root.place → same_root root other ≡ false
 other_place root other ne = and_left (root.place == other.place) _ (ne_eqb root.place other.place (λ e. ne (sym e)))
 
-other_root : (root other : RootId) → same_root root other ≡ false → other ≢ root
+pub other_root : (root other : RootId) → same_root root other ≡ false → other ≢ root
 other_root root other differs e =
     both_ways (same_root root other) differs (subst (λ r. same_root root r ≡ true) (sym e) (same_root-refl root))
 
@@ -49,7 +49,7 @@ module _ (cs : List Counted) (root : RootId) (c : Counted) (at : slice_get cs ro
       → counted cs other ≡ (if same_root c.root other then c.count else 0)
   here other e = ap (λ o. if_counted o other) (ap (slice_get cs) e ∙ at)
 
-  written : (x : Counted) (other : RootId) → other.place ≡ root.place
+  pub written : (x : Counted) (other : RootId) → other.place ≡ root.place
       → counted (slice_set cs root.place x) other ≡ (if same_root x.root other then x.count else 0)
   written x other e =
       ap (λ o. if_counted o other) (ap (slice_get (slice_set cs root.place x)) e
@@ -103,20 +103,29 @@ module _ (cs : List Counted) (root : RootId) (c : Counted) (at : slice_get cs ro
   -- what is there is this root, or another one
   pub added_again : ((other : RootId) → other.place ≡ root.place → 0 < counted cs other → other ≡ root)
       → same_root c.root root ≡ true → (other : RootId)
-      → counted (slice_set cs root.place (record { root = c.root; count = c.count + 1 })) other
+      → counted (slice_set cs root.place (record { root = c.root; count = c.count + 1; told = c.told })) other
       ≡ counted cs other + one_for root other
   added_again alone equal =
       let before : counted cs root ≡ c.count = here root refl ∙ ap (λ (b : Bool). if b then c.count else 0) equal in
-      added alone (record { root = c.root; count = c.count + 1 }) (same_root-is c.root root equal)
+      added alone (record { root = c.root; count = c.count + 1; told = c.told }) (same_root-is c.root root equal)
       (omega (arith, before))
 
   pub added_first : ((other : RootId) → other.place ≡ root.place → 0 < counted cs other → other ≡ root)
       → same_root c.root root ≡ false → (other : RootId)
-      → counted (slice_set cs root.place (record { root = root; count = 1 })) other
+      → counted (slice_set cs root.place (record { root = root; count = 1; told = 0 })) other
       ≡ counted cs other + one_for root other
   added_first alone differs =
       let before : counted cs root ≡ 0 = here root refl ∙ ap (λ (b : Bool). if b then c.count else 0) differs in
-      added alone (record { root = root; count = 1 }) refl (omega (arith, before))
+      added alone (record { root = root; count = 1; told = 0 }) refl (omega (arith, before))
+
+  -- the same root is counted as often as it was
+  pub counted_same : (x : Counted) → x.root ≡ c.root → x.count ≡ c.count → (other : RootId)
+      → counted (slice_set cs root.place x) other ≡ counted cs other
+  counted_same x is same other = ⊎_elim
+      (λ (e : other.place ≡ root.place). written x other e ∙ (λ i. if same_root (is i) other then same i else 0)
+      ∙ sym (here other e))
+      (λ (ne : other.place ≢ root.place). elsewhere x other ne)
+      (cases_eq other.place root.place)
 
   -- the root is counted, and is now counted once less
   pub taken : 0 < counted cs root → (x : Counted) → x.root ≡ c.root → x.count + 1 ≡ c.count → (other : RootId)

@@ -1,8 +1,12 @@
 -- A thread of a pool, once a call has changed its seat and its account.
-use Rattle.std.proofs.Common.{◌≡◌, ℕ, ◌+◌, ◌-◌, ◌^◌, ◌<◌, ◌≤◌, Bool, true, false, [], ◌∷◌, length, Some, sym, ap, ◌∙◌, subst, arith}
+use Rattle.std.proofs.Common.{◌≡◌, ℕ, ◌+◌, ◌-◌, ◌^◌, ◌<◌, ◌≤◌, max, Bool, true, false, [], ◌∷◌, length, Some, refl, sym, ap, ◌∙◌, subst, arith}
 use Rattle.std.specs.Prelude.{if◌then◌else◌, slice_get}
+use Rattle.std.proofs.Math.Nat.{le-max_left}
 use Rattle.pool_law.specs.declared.id.RootId.{RootId}
+use Rattle.pool_law.specs.Capacities.{known_of}
+use Rattle.pool_table.specs.Capacities.{knows_of}
 use Rattle.pool_table.specs.Counts.{gained_of, lost_of, HasCount}
+use Rattle.pool_table.specs.LaneLogs.{lane_entries}
 use Rattle.pool_table.specs.Letters.{received_on, sent_on}
 use Rattle.pool_table.specs.declared.views.SeatView.{SeatView}
 use Rattle.shared_pool.specs.declared.pool.SharedPool.{SharedPool}
@@ -10,6 +14,7 @@ use Rattle.shared_pool.specs.declared.seat.PoolSeat.{PoolSeat}
 use Rattle.shared_pool.specs.SeatViews.{view_of}
 use Rattle.shared_pool.specs.Seats.{IsPoolSeat}
 use Rattle.pool_law.proofs.PatternLemmas.{same_root-refl}
+use Rattle.pool_law.proofs.SameLemmas.{same_root-is}
 use Rattle.pool_law.specs.Same.{same_root}
 use Rattle.seat_work.specs.Changes.{Change, Changes, one_for, times}
 use Rattle.seat_work.specs.Hands.{empty_hand}
@@ -17,7 +22,7 @@ use Rattle.seat_work.specs.Works.{Works, Goes}
 use Rattle.seat_work.proofs.Proceeding.{works_same}
 use Rattle.buffer_pool.specs.declared.account.Account.{Account}
 use Rattle.buffer_pool.specs.declared.member.Member.{Member}
-use Rattle.buffer_pool.specs.Counting.{counted}
+use Rattle.buffer_pool.specs.Counting.{counted, known, told}
 use Rattle.buffer_pool.specs.Threads.{Does, HasChanged, IsThread}
 use Rattle.buffer_pool.proofs.Letters.{KeepsLetters}
 
@@ -27,6 +32,7 @@ pub record Spends (c : Change) (cost : ℕ) (a b : Account) : Type 0 where
   pub turns : b.turns + cost ≡ a.turns
   pub counts : (root : RootId) → counted b.counts root + times root c.gone ≡ counted a.counts root + times root c.got
   pub few : (root : RootId) → times root c.got ≤ cost
+  pub keeps : (root : RootId) → 0 < counted b.counts root → told a.counts root ≤ told b.counts root
   pub places : length b.counts ≡ length a.counts
 
 -- ---- What accounts spend.
@@ -41,42 +47,66 @@ times_one root other = omega arith
 pub one_self : (root : RootId) → one_for root root ≡ 1
 one_self root = ap (λ (b : Bool). if b then 1 else 0) (same_root-refl root)
 
+-- what was told of a root is no more than a view knows, where that is so of what was told last
+pub told_self : (root : RootId) (n : ℕ) → (if same_root root root then n else 0) ≡ n
+told_self root n = ap (λ (b : Bool). if b then n else 0) (same_root-refl root)
+
+pub tell_known : (v : SeatView) (root other : RootId) (capacity a b : ℕ)
+    → b ≡ max a (if same_root root other then capacity else 0) → a ≤ knows_of other v → capacity ≤ knows_of root v
+    → b ≤ knows_of other v
+tell_known v root other capacity a b is known last = go (same_root root other) refl is
+  where
+    go : (t : Bool) → same_root root other ≡ t → b ≡ max a (if t then capacity else 0) → b ≤ knows_of other v
+    go true same is =
+        let w : ℕ = knows_of other v in let known' : a ≤ w = known in
+        let last' : capacity ≤ w =
+        subst (λ (r : RootId). capacity ≤ knows_of r v) (same_root-is root other same) last in
+        let g : b ≤ w = omega (arith, is, known', last') in
+        g
+    go false apart is =
+        let w : ℕ = knows_of other v in let known' : a ≤ w = known in let g : b ≤ w = omega (arith, is, known') in g
+
 module _ (c : Change) (cost : ℕ) (a b : Account) (lane : b.lane ≡ a.lane) (turns : b.turns + cost ≡ a.turns)
     (places : length b.counts ≡ length a.counts) where
   -- a root is counted once more
   pub spends_more : (root : RootId) → 0 < cost → ((other : RootId) → times other c.got ≡ one_for root other)
       → ((other : RootId) → times other c.gone ≡ 0)
-      → ((other : RootId) → counted b.counts other ≡ counted a.counts other + one_for root other) → Spends c cost a b
-  spends_more root some got gone counts = record {
+      → ((other : RootId) → counted b.counts other ≡ counted a.counts other + one_for root other)
+      → ((other : RootId) → 0 < counted b.counts other → told a.counts other ≤ told b.counts other) → Spends c cost a b
+  spends_more root some got gone counts keeps = record {
     lane = lane;
     turns = turns;
     counts = λ other. (let p = counts other in let q = got other in let r = gone other in omega (arith, p, q, r));
     few = λ other. (let p = one_most (same_root root other) in let q = got other in omega (arith, p, q, some));
+    keeps = keeps;
     places = places;
   }
 
   -- it is counted once less
   pub spends_less : (root : RootId) → ((other : RootId) → times other c.got ≡ 0)
       → ((other : RootId) → times other c.gone ≡ one_for root other)
-      → ((other : RootId) → counted b.counts other + one_for root other ≡ counted a.counts other) → Spends c cost a b
-  spends_less root got gone counts = record {
+      → ((other : RootId) → counted b.counts other + one_for root other ≡ counted a.counts other)
+      → ((other : RootId) → told b.counts other ≡ told a.counts other) → Spends c cost a b
+  spends_less root got gone counts same = record {
     lane = lane;
     turns = turns;
     counts = λ other. (let p = counts other in let q = got other in let r = gone other in omega (arith, p, q, r));
     few = λ other. (let q = got other in omega (arith, q));
+    keeps = λ other lt. (let p = same other in omega (arith, p));
     places = places;
   }
 
-  -- all counts are as they were
+  -- all counts are as they were, and no less was told
   pub spends_none : ((other : RootId) → times other c.got ≡ 0) → ((other : RootId) → times other c.gone ≡ 0)
-      → b.counts ≡ a.counts → Spends c cost a b
-  spends_none got gone same = record {
+      → ((other : RootId) → counted b.counts other ≡ counted a.counts other)
+      → ((other : RootId) → told a.counts other ≤ told b.counts other) → Spends c cost a b
+  spends_none got gone same keeps = record {
     lane = lane;
     turns = turns;
     counts =
-        λ other.
-        (let p = ap (λ cs. counted cs other) same in let q = got other in let r = gone other in omega (arith, p, q, r));
+        λ other. (let p = same other in let q = got other in let r = gone other in omega (arith, p, q, r));
     few = λ other. (let q = got other in omega (arith, q));
+    keeps = λ other lt. keeps other;
     places = places;
   }
 
@@ -92,14 +122,31 @@ module _ (pool : SharedPool) (c : Change) (t m cost : ℕ) (old new : Member) (i
   b = new.account
 
   changed : HasChanged cost c old new
-  changed = record { number = spends.lane; spent = spends.turns; counts = spends.counts; notes = changes }
+  changed = record {
+    number = spends.lane;
+    spent = spends.turns;
+    counts = spends.counts;
+    notes = changes;
+    knows = λ root lt. (let p = spends.keeps root lt in omega (arith, p));
+  }
+
+  -- no more than the seat knows, where no more was told
+  pub tells_known : ((root : RootId) → told b.counts root ≤ told a.counts root) → (root : RootId)
+      → told b.counts root ≤ knows_of root (view_of new.seat)
+  tells_known less root =
+      let p = less root in let q = is.knows root in let r = goes.knows root in
+      let x : ℕ = knows_of root (view_of old.seat) in let y : ℕ = knows_of root (view_of new.seat) in
+      let q' : told a.counts root ≤ x = q in let r' : x ≤ y = r in
+      let g : told b.counts root ≤ y = omega (arith, p, q', r') in
+      g
 
   still_counts : (root : RootId) →
       counted b.counts root + lost_of root (view_of new.seat) ≡ gained_of root (view_of new.seat)
   still_counts root =
       let p = is.counts root in let q = spends.counts root in let r = changes.counts root in omega (arith, p, q, r)
 
-  module _ (enough : t ≤ cost) (moves : b.moves ≤ (view_of new.seat).moves) where
+  module _ (knows : (root : RootId) → told b.counts root ≤ knows_of root (view_of new.seat))
+      (enough : t ≤ cost) (moves : b.moves ≤ (view_of new.seat).moves) where
     thread : ((to : ℕ) → sent_on a.lane to (view_of new.seat).own.notes
         ≤ cost + sent_on a.lane to (view_of old.seat).own.notes)
         → ((from : ℕ) → from < pool.table.layout.shape.lanes →
@@ -117,6 +164,7 @@ module _ (pool : SharedPool) (c : Change) (t m cost : ℕ) (old new : Member) (i
       };
       number = goes.number ∙ is.number ∙ ap (λ (n : ℕ). Some n) (sym spends.lane);
       counts = still_counts;
+      knows = knows;
       places = spends.places ∙ is.places;
       few =
           λ root.
@@ -159,6 +207,7 @@ module _ (pool : SharedPool) (m : Member) (is : IsThread pool m) where
         λ root.
         subst (λ (v : SeatView). counted m.account.counts root + lost_of root v ≡ gained_of root v) (sym same)
         (is.counts root);
+    knows = λ root. subst (λ (v : SeatView). told m.account.counts root ≤ knows_of root v) (sym same) (is.knows root);
     places = is.places;
     few = is.few;
     sent =
@@ -197,6 +246,14 @@ module _ (pool : SharedPool) (m : Member) (is : IsThread pool m) where
       let still : HasCount other (view_of new) =
       (let p = changes.counts other in let q = has_count other lt in let r = none other in omega (arith, p, q, r)) in
       seat.counts.one other root still has at
+
+  -- its seat knows of as much capacity as it does
+  pub knows_too : (root : RootId) (n : ℕ) → n ≤ known m.account.counts root → n ≤ knows_of root (view_of m.seat)
+  knows_too root n le =
+      let p = is.knows root in let c : ℕ = knows_of root (view_of m.seat) in
+      let q : root.capacity ≤ c = le-max_left root.capacity (known_of root (lane_entries (view_of m.seat))) in
+      let p' : told m.account.counts root ≤ c = p in let g : n ≤ c = omega (arith, le, p', q) in
+      g
 
   -- it can be counted once more
   pub few_of : (root : RootId) → counted m.account.counts root < 2 ^ 64 - 1

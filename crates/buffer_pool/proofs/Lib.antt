@@ -1,4 +1,5 @@
 mod CountLaws
+mod ToldLaws
 pub mod Letters
 pub mod Keeping
 pub mod Budgets

@@ -4,6 +4,7 @@ pub mod Threads
 pub mod Refusals
 pub mod Tries
 pub mod Answers
+pub mod Regrowths
 pub mod Configs
 pub mod Opening
 pub mod Closing

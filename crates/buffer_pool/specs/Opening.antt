@@ -5,7 +5,7 @@ use Rattle.pool_table.specs.declared.views.Layout.{Layout}
 use Rattle.shared_pool.specs.declared.pool.SharedPool.{SharedPool}
 use Rattle.shared_pool.specs.declared.seat.PoolSeat.{PoolSeat}
 use Rattle.buffer_pool.specs.declared.account.Account.{Account}
-use Rattle.buffer_pool.specs.Counting.{counted}
+use Rattle.buffer_pool.specs.Counting.{counted, told}
 use Rattle.buffer_pool.specs.Threads.{IsKept}
 
 -- the account of the thread of this number, which did nothing yet
@@ -14,6 +14,7 @@ pub record IsNew (l : Layout) (lane : ℕ) (a : Account) : Type 0 where
   pub turns : a.turns ≡ l.turns
   pub moves : a.moves ≡ l.moves
   pub counts : (root : RootId) → counted a.counts root ≡ 0
+  pub untold : (root : RootId) → told a.counts root ≡ 0
   pub places : length a.counts ≡ l.shape.lanes * l.shape.handles
   pub received : (from : ℕ) → from < l.shape.lanes → slice_get a.received.items from ≡ Some 0
 

@@ -1,6 +1,6 @@
 -- Why calls are refused, in the order of their tests.
-use Rattle.std.specs.Prelude.{◌≡◌, ◌≤◌, ℕ, ◌+◌, Bool, false, ◌==◌, ◌&&◌, ◌||◌, nat_lt, if◌then◌else◌, Option, Some, None, option_map, slice_get}
-use Rattle.pool_law.specs.declared.id.RootId.{RootId}
+use Rattle.std.specs.Prelude.{◌≡◌, ◌<◌, ◌≤◌, ℕ, ◌+◌, Bool, false, ◌==◌, ◌&&◌, ◌||◌, nat_lt, nat_le, if◌then◌else◌, Option, Some, None, option_map, slice_get}
+use Rattle.pool_law.specs.Views.{LiesIn}
 use Rattle.pool_table.specs.declared.views.Letter.{Letter}
 use Rattle.buffer_pool.specs.declared.account.Account.{Account}
 use Rattle.buffer_pool.specs.declared.answers.AccessNo.{AccessNo}
@@ -9,23 +9,32 @@ use Rattle.buffer_pool.specs.declared.answers.AcceptNo.{AcceptNo}
 use Rattle.buffer_pool.specs.declared.answers.AcceptNo.TheVariants as accept
 use Rattle.buffer_pool.specs.declared.answers.PartNo.{PartNo}
 use Rattle.buffer_pool.specs.declared.answers.PartNo.TheVariants as part
-use Rattle.buffer_pool.specs.Counting.{counted}
+use Rattle.buffer_pool.specs.Counting.{counted, known}
+use Rattle.buffer_pool.specs.Windows.{Window}
 
--- the buffer of a thread is this thread's, which counts its root
-abbrev pub is_here : Account → ℕ → RootId → Bool
-is_here a thread root = (a.lane == thread) && nat_lt 0 (counted a.counts root)
+-- the buffer is this thread's, which counts its root and knows of as much capacity as it reaches
+abbrev pub is_here : Account → Window → Bool
+is_here a w =
+    (a.lane == w.thread) && nat_lt 0 (counted a.counts w.at.root)
+    && nat_le (w.at.offset + w.at.len) (known a.counts w.at.root)
+
+-- what is so then
+pub record IsHere (a : Account) (w : Window) : Type 0 where
+  pub thread : w.thread ≡ a.lane
+  pub counts : 0 < counted a.counts w.at.root
+  pub reaches : LiesIn (known a.counts w.at.root) w.at
 
 -- a call on a buffer that takes so many turns
-abbrev pub call_no : Account → ℕ → RootId → ℕ → Option AccessNo
-call_no a thread root turns =
-    if is_here a thread root
+abbrev pub call_no : Account → Window → ℕ → Option AccessNo
+call_no a w turns =
+    if is_here a w
     then (if nat_lt a.turns turns then Some access.Spent else None)
     else Some access.NotHere
 
 -- a call on a part of a buffer, if that is within its bounds, which takes so many turns and moves
-abbrev pub part_no : Account → ℕ → RootId → Bool → ℕ → ℕ → Option AccessNo
-part_no a thread root inside turns moves =
-    if is_here a thread root
+abbrev pub part_no : Account → Window → Bool → ℕ → ℕ → Option AccessNo
+part_no a w inside turns moves =
+    if is_here a w
     then (if inside
     then (if nat_lt a.turns turns || nat_lt a.moves moves then Some access.Spent else None)
     else Some access.Range)
@@ -38,9 +47,9 @@ as_part access.Range = part.NotHere
 as_part access.Spent = part.Spent
 
 -- the making of a parcel, where there are so many threads
-abbrev pub send_no : ℕ → Account → ℕ → RootId → ℕ → Option PartNo
-send_no threads a thread root to =
-    if nat_lt to threads then option_map as_part (call_no a thread root 1) else Some part.NoThread
+abbrev pub send_no : ℕ → Account → Window → ℕ → Option PartNo
+send_no threads a w to =
+    if nat_lt to threads then option_map as_part (call_no a w 1) else Some part.NoThread
 
 -- the letter is the next of its way that the thread accepts
 abbrev pub is_next : Option ℕ → ℕ → Bool

@@ -3,6 +3,7 @@ use Rattle.std.specs.Prelude.{◌≡◌, ℕ, ◌+◌, ◌*◌, ◌^◌, ◌<◌
 use Rattle.pool_law.specs.declared.id.RootId.{RootId}
 use Rattle.pool_law.specs.Limits.{geometry_of}
 use Rattle.size_classes.specs.Sizes.{Geometry}
+use Rattle.pool_table.specs.Capacities.{knows_of}
 use Rattle.pool_table.specs.Counts.{gained_of, lost_of}
 use Rattle.pool_table.specs.Letters.{received_on, sent_on}
 use Rattle.shared_pool.specs.declared.pool.SharedPool.{SharedPool}
@@ -14,16 +15,18 @@ use Rattle.seat_work.specs.Hands.{empty_hand}
 use Rattle.seat_work.specs.Works.{Works}
 use Rattle.buffer_pool.specs.declared.account.Account.{Account}
 use Rattle.buffer_pool.specs.declared.member.Member.{Member}
-use Rattle.buffer_pool.specs.Counting.{counted}
+use Rattle.buffer_pool.specs.Counting.{counted, known, told}
 
 -- the seat is one of the pool with nothing in hand, and the account is its own: so much is left at
--- least, each root is counted so often, and so many letters came from each thread. No count and no
--- number of letters passes 2^62, since each takes a turn
+-- least, each root is counted so often, no more is known of its capacity than the seat knows, and so
+-- many letters came from each thread. No count and no number of letters passes 2^62, since each takes
+-- a turn
 pub record IsKept (pool : SharedPool) (a : Account) (s : PoolSeat) : Type 0 where
   pub works : Works pool empty_hand a.turns a.moves s
   pub number : (view_of s).own.number ≡ Some a.lane
   pub counts : (root : RootId) →
       counted a.counts root + lost_of root (view_of s) ≡ gained_of root (view_of s)
+  pub knows : (root : RootId) → told a.counts root ≤ knows_of root (view_of s)
   pub places : length a.counts
       ≡ pool.table.layout.shape.lanes * pool.table.layout.shape.handles
   pub few : (root : RootId) → counted a.counts root + a.turns ≤ 2 ^ 62
@@ -43,7 +46,7 @@ HasOwnChannels pool =
     (from to : ℕ) → from < lanes → to < lanes → HasOwnChannel pool from to
 
 -- the same thread spent so many turns, counts these roots once more and those once less, and noted
--- just that of counts
+-- just that of counts; of what it counts it knows no less capacity
 pub record HasChanged (turns : ℕ) (c : Change) (old new : Member) : Type 0 where
   pub number : new.account.lane ≡ old.account.lane
   pub spent : new.account.turns + turns ≡ old.account.turns
@@ -51,6 +54,8 @@ pub record HasChanged (turns : ℕ) (c : Change) (old new : Member) : Type 0 whe
       counted new.account.counts root + times root c.gone
       ≡ counted old.account.counts root + times root c.got
   pub notes : Changes c (view_of old.seat) (view_of new.seat)
+  pub knows : (root : RootId) → 0 < counted new.account.counts root →
+      known old.account.counts root ≤ known new.account.counts root
 
 -- it is a thread of the pool still
 pub record Does (pool : SharedPool) (turns : ℕ) (c : Change) (old new : Member) : Type 0 where

@@ -44,6 +44,21 @@ pub enum AccessNo {
     Spent,
 }
 
+/// Why a buffer did not get the capacity that was asked. Nothing has changed then, but that turns
+/// were taken where the arena was full.
+#[derive(Clone, Copy, PartialEq, Eq, Debug, Drop)]
+pub enum CapacityNo {
+    /// The buffer is another thread's, and came here by no parcel.
+    NotHere,
+    /// It is more than a chunk.
+    TooLarge,
+    /// The thread has used up its turns.
+    Spent,
+    /// The buffer's bytes lie in a region that does not hold so much, and the thread's arena has no
+    /// region of that size left.
+    Full,
+}
+
 /// Why a call that never waits did not do its work.
 #[derive(Clone, Copy, PartialEq, Eq, Debug, Drop)]
 pub enum TryNo {

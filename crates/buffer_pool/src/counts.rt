@@ -1,19 +1,22 @@
 //! How often a thread counts each root.
 
-ghost use Rattle.std.specs.Prelude.{◌≡◌, ◌+◌, ◌-◌, ◌<◌, ◌^◌, length, IfOk};
+ghost use Rattle.std.specs.Prelude.{◌≡◌, ◌+◌, ◌-◌, ◌<◌, ◌≤◌, ◌^◌, max, if◌then◌else◌, length, IfOk};
 ghost use Rattle.pool_law.specs.declared.id.RootId.{RootId};
-ghost use Rattle.buffer_pool.specs.Counting.{counted};
+ghost use Rattle.pool_law.specs.Same.{same_root};
+ghost use Rattle.buffer_pool.specs.Counting.{counted, told};
 ghost use Rattle.seat_work.specs.Changes.{one_for};
 
 use pool_law::RootId;
 use std::alloc::{AllocError, Global};
 use std::marker::Model;
 
-// The root of a place that the thread counted last, and how often it counts it.
+// The root of a place that the thread counted last, how often it counts it, and the most capacity
+// that it was told of it since its birth.
 #[derive(Drop)]
 struct Counted {
     root: RootId,
     count: u64,
+    told: u32,
 }
 
 /// A thread's own counts: it counts at most one root of each place.
@@ -35,6 +38,7 @@ impl OwnCounts {
     /// No counts at so many root places.
     pub(crate) fn new(alloc: Global, places: u32) -> Result<OwnCounts, AllocError>
         ensures none { IfOk result (λ counts. (root : RootId) → counted counts root ≡ 0) }
+        ensures untold { IfOk result (λ counts. (root : RootId) → told counts root ≡ 0) }
         ensures places { IfOk result (λ counts. length counts ≡ places) }
     {
         let mut by_place = Vec::with_capacity(alloc, places as usize)?;
@@ -44,26 +48,31 @@ impl OwnCounts {
                 generation: 0,
                 capacity: 0,
             };
-            by_place.push(Counted { root, count: 0 })?;
+            by_place.push(Counted {
+                root,
+                count: 0,
+                told: 0,
+            })?;
         }
         Ok(OwnCounts { by_place })
     }
 
-    /// How often the thread counts a root.
-    pub(crate) fn of(&self, root: RootId) -> u64
-        ensures { result ≡ counted self.now root }
+    /// How often the thread counts a root, and the most capacity that it was told of it.
+    pub(crate) fn of(&self, root: RootId) -> (u64, u32)
+        ensures { result ≡ (counted self.now root, told self.now root) }
     {
         let Some(at_place) = self.by_place.get(root.place as usize) else {
-            return 0;
+            return (0, 0);
         };
         if at_place.root == root {
-            at_place.count
+            (at_place.count, at_place.told)
         } else {
-            0
+            (0, 0)
         }
     }
 
-    /// Counts a root once more. Of its place no other root is counted.
+    /// Counts a root once more. Of its place no other root is counted, and what was told of another
+    /// one is forgotten.
     pub(crate) fn add(&mut self, root: RootId)
         requires place { root.place < length self.old }
         requires alone { (other : RootId) → other.place ≡ root.place →
@@ -71,13 +80,20 @@ impl OwnCounts {
         requires few { counted self.old root < 2 ^ 64 - 1 }
         ensures counts { (other : RootId) →
             counted self.new other ≡ counted self.old other + one_for root other }
+        ensures tells { (other : RootId) → told self.new other ≤ told self.old other }
+        ensures keeps { (other : RootId) → 0 < counted self.new other →
+            told self.old other ≤ told self.new other }
         ensures places { length self.new ≡ length self.old }
     {
         let at_place = &mut self.by_place[root.place as usize];
         if at_place.root == root {
             at_place.count += 1;
         } else {
-            *at_place = Counted { root, count: 1 };
+            *at_place = Counted {
+                root,
+                count: 1,
+                told: 0,
+            };
         }
     }
 
@@ -86,8 +102,21 @@ impl OwnCounts {
         requires { 0 < counted self.old root }
         ensures counts { (other : RootId) →
             counted self.new other + one_for root other ≡ counted self.old other }
+        ensures tells { (other : RootId) → told self.new other ≡ told self.old other }
         ensures places { length self.new ≡ length self.old }
     {
         self.by_place[root.place as usize].count -= 1;
+    }
+
+    /// Keeps that a root that is counted has so much capacity.
+    pub(crate) fn tell(&mut self, root: RootId, capacity: u32)
+        requires { 0 < counted self.old root }
+        ensures counts { (other : RootId) → counted self.new other ≡ counted self.old other }
+        ensures tells { (other : RootId) → told self.new other
+            ≡ max (told self.old other) (if same_root root other then capacity else 0) }
+        ensures places { length self.new ≡ length self.old }
+    {
+        let at_place = &mut self.by_place[root.place as usize];
+        at_place.told = at_place.told.max(capacity);
     }
 }

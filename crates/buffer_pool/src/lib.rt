@@ -21,7 +21,8 @@ mod watcher;
 mod work;
 
 pub use answers::{
-    AcceptNo, AccessNo, AllocNo, Back, CloseNo, Closed, NotAccepted, OpenNo, PartNo, TryNo, Unsent,
+    AcceptNo, AccessNo, AllocNo, Back, CapacityNo, CloseNo, Closed, NotAccepted, OpenNo, PartNo,
+    TryNo, Unsent,
 };
 pub use buffer::Buffer;
 pub use closing::NotClosed;

@@ -10,7 +10,8 @@ use byte_view::View;
 pub(crate) fn offset_of(view: &View, start: u32, len: usize) -> Option<u32>
     ensures inside { IsSome result ↔ IsTrue (in_range view.now.at start len) }
     ensures offset { IfSome result (λ offset. offset ≡ root_index view.now.at start) }
-    ensures root { IfSome result (λ offset. offset + len ≤ view.now.at.root.capacity) }
+    ensures within { IfSome result (λ offset.
+        offset + len ≤ view.now.at.offset + view.now.at.len) }
 {
     let Ok(len) = u32::try_from(len) else {
         return None;

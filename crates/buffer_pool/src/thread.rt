@@ -8,6 +8,7 @@ use std::marker::{Model, PhantomData};
 
 mod buffers;
 mod bytes;
+mod growth;
 mod parcels;
 mod tries;
 

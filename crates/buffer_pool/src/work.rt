@@ -3,4 +3,5 @@
 pub(crate) mod access;
 pub(crate) mod allocation;
 pub(crate) mod counting;
+pub(crate) mod growth;
 pub(crate) mod passing;

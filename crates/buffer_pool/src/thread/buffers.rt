@@ -1,18 +1,18 @@
 //! How buffers come, are counted, and end.
 
-ghost use Rattle.std.specs.Prelude.{◌≡◌, ◌+◌, ◌<◌, ◌≤◌, ◌↔◌, true, Err, IfOk, IfErr, OnErr, OnOk, MatchResult, None, Some};
+ghost use Rattle.std.specs.Prelude.{◌≡◌, ◌+◌, ◌<◌, ◌≤◌, ◌↔◌, true, Err, IfOk, IfErr, IsTrue, OnErr, OnOk, MatchResult, None, Some};
 ghost use Rattle.size_classes.specs.Sizes.{chunk_bytes};
 ghost use Rattle.pool_law.specs.Limits.{geometry_of};
 ghost use Rattle.pool_law.specs.declared.note.RefDid.TheVariants.{Look};
-ghost use Rattle.pool_law.specs.Views.{in_range, slice_of};
+ghost use Rattle.pool_law.specs.Views.{in_range, slice_of, LiesIn};
 ghost use Rattle.pool_law.specs.Views as views;
 ghost use Rattle.pool_table.specs.Counts.{with_ref};
 ghost use Rattle.shared_pool.specs.SeatViews.{HasView, view_of};
 ghost use Rattle.seat_work.specs.Changes.{no_change, once_less, once_more};
 ghost use Rattle.seat_work.specs.Works.{HasBorn};
 ghost use Rattle.buffer_pool.specs.Answers.{alloc_told, alloc_turns, as_alloc, HasCause};
-ghost use Rattle.buffer_pool.specs.Counting.{counted};
-ghost use Rattle.buffer_pool.specs.Refusals.{call_no, part_no};
+ghost use Rattle.buffer_pool.specs.Counting.{counted, known};
+ghost use Rattle.buffer_pool.specs.Refusals.{call_no, is_here, part_no};
 ghost use Rattle.buffer_pool.specs.Threads.{HasChanged, moves_after};
 
 use crate::answers::{AccessNo, AllocNo, Back};
@@ -44,6 +44,7 @@ impl<B: PoolName> PoolThread<B> {
         ensures buffer { IfOk result (λ b.
             (b.at ≡ views.view_of b.at.root) × (b.at.root.capacity ≡ size)
             × (b.thread ≡ self.old.account.lane)) }
+        ensures here { IfOk result (λ b. IsTrue (is_here self.new.account b)) }
         ensures changed { IfOk result (λ b.
             HasChanged 6 (once_more b.at.root) self.old self.new) }
         ensures born { IfOk result (λ b.
@@ -80,7 +81,7 @@ impl<B: PoolName> PoolThread<B> {
         pool: &Pool<B>,
         buffer: Buffer<B>,
     ) -> Result<bool, Back<B>>
-        ensures answers { let no = call_no self.old.account buffer.thread buffer.at.root 4 in
+        ensures answers { let no = call_no self.old.account buffer 4 in
             MatchResult result (λ _. no ≡ None) (λ back. no ≡ Some back.why) }
         ensures changed { IfOk result (λ last.
             HasChanged 4 (once_less buffer.at.root last) self.old self.new) }
@@ -89,7 +90,7 @@ impl<B: PoolName> PoolThread<B> {
         ensures back { IfErr result (λ back. (back.buffer ≡ buffer) × (self.new ≡ self.old)) }
     {
         let root = buffer.view.at.root;
-        if let Err(why) = self.member.account.may(buffer.thread, root, RELEASE_TURNS) {
+        if let Err(why) = self.member.account.may(&buffer, RELEASE_TURNS) {
             return Err(Back { why, buffer });
         }
         buffer.leave();
@@ -101,17 +102,16 @@ impl<B: PoolName> PoolThread<B> {
     /// isn't the last one.
     pub fn retain(&mut self, pool: &Pool<B>, buffer: &Buffer<B>) -> Result<Buffer<B>, AccessNo>
         ensures answers { let b = buffer.now in
-            let no = part_no self.old.account b.thread b.at.root true 1 1 in
+            let no = part_no self.old.account b true 1 1 in
             MatchResult result (λ _. no ≡ None) (λ why. no ≡ Some why) }
         ensures buffer { IfOk result (λ b. b ≡ buffer.now) }
+        ensures here { IfOk result (λ b. IsTrue (is_here self.new.account b)) }
         ensures changed { IfOk result (λ b.
             HasChanged 1 (once_more b.at.root) self.old self.new) }
         ensures moves { OnOk result (self.new.account.moves + 1 ≡ self.old.account.moves) }
         ensures unchanged { OnErr result (self.new ≡ self.old) }
     {
-        self.member
-            .account
-            .may_part(buffer.thread, buffer.view.at.root, true, 1)?;
+        self.member.account.may_part(buffer, true, 1)?;
         Ok(self.count_more(pool, buffer.view.duplicate()))
     }
 
@@ -125,19 +125,18 @@ impl<B: PoolName> PoolThread<B> {
         len: u32,
     ) -> Result<Buffer<B>, AccessNo>
         ensures answers { let b = buffer.now in
-            let no = part_no self.old.account b.thread b.at.root (in_range b.at start len) 1 1 in
+            let no = part_no self.old.account b (in_range b.at start len) 1 1 in
             MatchResult result (λ _. no ≡ None) (λ why. no ≡ Some why) }
         ensures buffer { IfOk result (λ b.
             (b.at ≡ slice_of buffer.now.at start len) × (b.thread ≡ buffer.now.thread)) }
+        ensures here { IfOk result (λ b. IsTrue (is_here self.new.account b)) }
         ensures changed { IfOk result (λ b.
             HasChanged 1 (once_more b.at.root) self.old self.new) }
         ensures moves { OnOk result (self.new.account.moves + 1 ≡ self.old.account.moves) }
         ensures unchanged { OnErr result (self.new ≡ self.old) }
     {
         let sliced = buffer.view.slice(start, len);
-        self.member
-            .account
-            .may_part(buffer.thread, buffer.view.at.root, sliced.is_ok(), 1)?;
+        self.member.account.may_part(buffer, sliced.is_ok(), 1)?;
         match sliced {
             Ok(view) => Ok(self.count_more(pool, view)),
             Err(_no) => Err(AccessNo::Range),
@@ -147,9 +146,11 @@ impl<B: PoolName> PoolThread<B> {
     // A buffer on a view of a root that the thread counts, with a count of its own.
     fn count_more(&mut self, pool: &Pool<B>, view: View) -> Buffer<B>
         requires counts { 0 < counted self.old.account.counts view.at.root }
+        requires reaches { LiesIn (known self.old.account.counts view.at.root) view.at }
         requires turns { 1 ≤ self.old.account.turns }
         requires moves { 1 ≤ self.old.account.moves }
         ensures buffer { (result.at ≡ view.at) × (result.thread ≡ self.old.account.lane) }
+        ensures here { IsTrue (is_here self.new.account result) }
         ensures changed { HasChanged 1 (once_more view.at.root) self.old self.new }
         ensures moves { self.new.account.moves + 1 ≡ self.old.account.moves }
     {
@@ -165,7 +166,7 @@ impl<B: PoolName> PoolThread<B> {
     /// call found it.
     pub fn refcnt(&mut self, pool: &Pool<B>, buffer: &Buffer<B>) -> Result<u32, AccessNo>
         ensures answers { let b = buffer.now in
-            let no = call_no self.old.account b.thread b.at.root 0 in
+            let no = call_no self.old.account b 0 in
             MatchResult result (λ _. no ≡ None) (λ why. no ≡ Some why) }
         ensures looked { IfOk result (λ count. let v = view_of self.old.seat in
             HasView self.new.seat (with_ref v buffer.now.at.root (Look count) v.moves)) }
@@ -173,7 +174,7 @@ impl<B: PoolName> PoolThread<B> {
         ensures unchanged { OnErr result (self.new ≡ self.old) }
     {
         let root = buffer.view.at.root;
-        self.member.account.may(buffer.thread, root, 0)?;
+        self.member.account.may(buffer, 0)?;
         Ok(counting::look(&pool.shared, &mut self.member, root))
     }
 }

@@ -9,7 +9,7 @@ ghost use Rattle.pool_law.specs.Views.{after_read, after_write, can_read, can_wr
 ghost use Rattle.shared_pool.specs.RootNotes.{access};
 ghost use Rattle.shared_pool.specs.Seats.{IsNoted};
 ghost use Rattle.seat_work.specs.Changes.{no_change};
-ghost use Rattle.buffer_pool.specs.Counting.{counted};
+ghost use Rattle.buffer_pool.specs.Counting.{counted, known};
 ghost use Rattle.buffer_pool.specs.Refusals.{call_no, part_no};
 ghost use Rattle.buffer_pool.specs.Threads.{HasChanged};
 
@@ -31,17 +31,15 @@ impl<B: PoolName> PoolThread<B> {
         len: usize,
     ) -> Result<u32, AccessNo>
         ensures answers { let b = buffer.now in
-            let no = part_no self.now.account b.thread b.at.root (in_range b.at start len) 1 0 in
+            let no = part_no self.now.account b (in_range b.at start len) 1 0 in
             MatchResult result (λ _. no ≡ None) (λ why. no ≡ Some why) }
         ensures offset { IfOk result (λ offset. (offset ≡ root_index buffer.now.at start)
-            × (offset + len ≤ buffer.now.at.root.capacity)) }
+            × (offset + len ≤ known self.now.account.counts buffer.now.at.root)) }
         ensures may { OnOk result ((0 < counted self.now.account.counts buffer.now.at.root)
             × (1 ≤ self.now.account.turns)) }
     {
         let offset = offset_of(&buffer.view, start, len);
-        self.member
-            .account
-            .may_part(buffer.thread, buffer.view.at.root, offset.is_some(), 0)?;
+        self.member.account.may_part(buffer, offset.is_some(), 0)?;
         offset.ok_or(AccessNo::Range)
     }
 
@@ -56,7 +54,7 @@ impl<B: PoolName> PoolThread<B> {
     ) -> Result<(), AccessNo>
         ensures answers { let b = buffer.now in
             let inside = in_range b.at start (length bytes.now) in
-            let no = part_no self.old.account b.thread b.at.root inside 1 0 in
+            let no = part_no self.old.account b inside 1 0 in
             MatchResult result (λ _. no ≡ None) (λ why. no ≡ Some why) }
         ensures changed { OnOk result (HasChanged 1 no_change self.old self.new) }
         ensures moves { OnOk result (self.new.account.moves ≡ self.old.account.moves) }
@@ -82,7 +80,7 @@ impl<B: PoolName> PoolThread<B> {
     ) -> Result<(), AccessNo>
         ensures answers { let b = buffer.now in
             let inside = in_range b.at start (length out.old) in
-            let no = part_no self.old.account b.thread b.at.root inside 1 0 in
+            let no = part_no self.old.account b inside 1 0 in
             MatchResult result (λ _. no ≡ None) (λ why. no ≡ Some why) }
         ensures changed { OnOk result (HasChanged 1 no_change self.old self.new) }
         ensures moves { OnOk result (self.new.account.moves ≡ self.old.account.moves) }
@@ -108,7 +106,7 @@ impl<B: PoolName> PoolThread<B> {
     ) -> Result<(), AccessNo>
         ensures answers { let b = buffer.old in
             let inside = can_write b.at (length bytes.now) in
-            let no = part_no self.old.account b.thread b.at.root inside 1 0 in
+            let no = part_no self.old.account b inside 1 0 in
             MatchResult result (λ _. no ≡ None) (λ why. no ≡ Some why) }
         ensures changed { OnOk result (HasChanged 1 no_change self.old self.new) }
         ensures moves { OnOk result (self.new.account.moves ≡ self.old.account.moves) }
@@ -136,7 +134,7 @@ impl<B: PoolName> PoolThread<B> {
     ) -> Result<(), AccessNo>
         ensures answers { let b = buffer.old in
             let inside = can_read b.at (length out.old) in
-            let no = part_no self.old.account b.thread b.at.root inside 1 0 in
+            let no = part_no self.old.account b inside 1 0 in
             MatchResult result (λ _. no ≡ None) (λ why. no ≡ Some why) }
         ensures changed { OnOk result (HasChanged 1 no_change self.old self.new) }
         ensures moves { OnOk result (self.new.account.moves ≡ self.old.account.moves) }
@@ -151,9 +149,7 @@ impl<B: PoolName> PoolThread<B> {
     {
         let at = buffer.view.at;
         let inside = out.len() <= (at.writer - at.reader) as usize;
-        self.member
-            .account
-            .may_part(buffer.thread, at.root, inside, 0)?;
+        self.member.account.may_part(&*buffer, inside, 0)?;
         self.get(rt, pool, &*buffer, at.reader, out)?;
         let _moved = buffer.view.read_range(out.len() as u32);
         Ok(())
@@ -172,7 +168,7 @@ impl<B: PoolName> PoolThread<B> {
     ) -> Result<R, AccessNo>
         requires callable { F.IsAlwaysCallable f }
         ensures answers { let b = buffer.now in
-            let no = part_no self.old.account b.thread b.at.root (in_range b.at start len) 1 0 in
+            let no = part_no self.old.account b (in_range b.at start len) 1 0 in
             MatchResult result (λ _. no ≡ None) (λ why. no ≡ Some why) }
         ensures changed { OnOk result (HasChanged 1 no_change self.old self.new) }
         ensures moves { OnOk result (self.new.account.moves ≡ self.old.account.moves) }
@@ -196,7 +192,7 @@ impl<B: PoolName> PoolThread<B> {
         buffer: &Buffer<B>,
     ) -> Result<(), AccessNo>
         ensures answers { let b = buffer.now in
-            let no = call_no self.old.account b.thread b.at.root 1 in
+            let no = call_no self.old.account b 1 in
             MatchResult result (λ _. no ≡ None) (λ why. no ≡ Some why) }
         ensures changed { OnOk result (HasChanged 1 no_change self.old self.new) }
         ensures moves { OnOk result (self.new.account.moves ≡ self.old.account.moves) }
@@ -206,7 +202,7 @@ impl<B: PoolName> PoolThread<B> {
         ensures unchanged { OnErr result (self.new ≡ self.old) }
     {
         let root = buffer.view.at.root;
-        self.member.account.may(buffer.thread, root, 1)?;
+        self.member.account.may(buffer, 1)?;
         access::touch(rt, &pool.shared, &mut self.member, root);
         Ok(())
     }

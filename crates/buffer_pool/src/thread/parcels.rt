@@ -1,10 +1,10 @@
 //! How buffers go from one thread to another, in parcels that the server carries.
 
-ghost use Rattle.std.specs.Prelude.{◌≡◌, [], ◌∷◌, IfOk, IfErr, OnOk, MatchResult, None, Some};
+ghost use Rattle.std.specs.Prelude.{◌≡◌, [], ◌∷◌, IfOk, IfErr, IsTrue, OnOk, MatchResult, None, Some};
 ghost use Rattle.pool_table.specs.Letters.{next_letter};
 ghost use Rattle.shared_pool.specs.SeatViews.{view_of};
 ghost use Rattle.seat_work.specs.Changes.{no_change, once_more};
-ghost use Rattle.buffer_pool.specs.Refusals.{accept_no, as_part, send_no};
+ghost use Rattle.buffer_pool.specs.Refusals.{accept_no, as_part, is_here, send_no};
 ghost use Rattle.buffer_pool.specs.Threads.{HasChanged};
 
 use crate::answers::{AccessNo, NotAccepted, PartNo, Unsent};
@@ -29,7 +29,7 @@ impl<B: PoolName> PoolThread<B> {
         to: u32,
     ) -> Result<Parcel<B>, Unsent<B>>
         ensures answers { let threads = pool.now.table.layout.shape.lanes in
-            let no = send_no threads self.old.account buffer.thread buffer.at.root to in
+            let no = send_no threads self.old.account buffer to in
             MatchResult result (λ _. no ≡ None) (λ back. no ≡ Some back.why) }
         ensures parcel { IfOk result (λ p.
             p ≡ next_letter to (record { view = Some buffer.at }) (view_of self.old.seat)) }
@@ -42,11 +42,7 @@ impl<B: PoolName> PoolThread<B> {
             let why = PartNo::NoThread;
             return Err(Unsent { why, buffer });
         }
-        if let Err(no) = self
-            .member
-            .account
-            .may(buffer.thread, buffer.view.at.root, 1)
-        {
+        if let Err(no) = self.member.account.may(&buffer, 1) {
             let why = part_no(no);
             return Err(Unsent { why, buffer });
         }
@@ -69,6 +65,7 @@ impl<B: PoolName> PoolThread<B> {
             MatchResult result (λ _. no ≡ None) (λ back. no ≡ Some back.why) }
         ensures buffer { IfOk result (λ b.
             (parcel.parcel.view ≡ Some b.at) × (b.thread ≡ self.old.account.lane)) }
+        ensures here { IfOk result (λ b. IsTrue (is_here self.new.account b)) }
         ensures changed { IfOk result (λ b.
             HasChanged 1 (once_more b.at.root) self.old self.new) }
         ensures moves { OnOk result (self.new.account.moves ≡ self.old.account.moves) }

@@ -32,7 +32,7 @@ impl<B: PoolName> PoolThread<B> {
     ) -> Result<(), TryNo>
         ensures answers { let b = buffer.now in
             let inside = in_range b.at start (length bytes.now) in
-            let no = part_no self.old.account b.thread b.at.root inside 1 0 in
+            let no = part_no self.old.account b inside 1 0 in
             MatchResult result (λ _. no ≡ None) (IsTried no) }
         ensures changed { OnOk result (HasChanged 1 no_change self.old self.new) }
         ensures moves { OnOk result (self.new.account.moves ≡ self.old.account.moves) }
@@ -61,7 +61,7 @@ impl<B: PoolName> PoolThread<B> {
     ) -> Result<(), TryNo>
         ensures answers { let b = buffer.now in
             let inside = in_range b.at start (length out.old) in
-            let no = part_no self.old.account b.thread b.at.root inside 1 0 in
+            let no = part_no self.old.account b inside 1 0 in
             MatchResult result (λ _. no ≡ None) (IsTried no) }
         ensures changed { OnOk result (HasChanged 1 no_change self.old self.new) }
         ensures moves { OnOk result (self.new.account.moves ≡ self.old.account.moves) }
@@ -91,7 +91,7 @@ impl<B: PoolName> PoolThread<B> {
     ) -> Result<(), TryNo>
         ensures answers { let b = buffer.old in
             let inside = can_write b.at (length bytes.now) in
-            let no = part_no self.old.account b.thread b.at.root inside 1 0 in
+            let no = part_no self.old.account b inside 1 0 in
             MatchResult result (λ _. no ≡ None) (IsTried no) }
         ensures changed { OnOk result (HasChanged 1 no_change self.old self.new) }
         ensures moves { OnOk result (self.new.account.moves ≡ self.old.account.moves) }
@@ -120,7 +120,7 @@ impl<B: PoolName> PoolThread<B> {
     ) -> Result<(), TryNo>
         ensures answers { let b = buffer.old in
             let inside = can_read b.at (length out.old) in
-            let no = part_no self.old.account b.thread b.at.root inside 1 0 in
+            let no = part_no self.old.account b inside 1 0 in
             MatchResult result (λ _. no ≡ None) (IsTried no) }
         ensures changed { OnOk result (HasChanged 1 no_change self.old self.new) }
         ensures moves { OnOk result (self.new.account.moves ≡ self.old.account.moves) }
@@ -136,9 +136,7 @@ impl<B: PoolName> PoolThread<B> {
     {
         let at = buffer.view.at;
         let inside = out.len() <= (at.writer - at.reader) as usize;
-        self.member
-            .account
-            .may_part(buffer.thread, at.root, inside, 0)?;
+        self.member.account.may_part(&*buffer, inside, 0)?;
         self.try_get(pool, &*buffer, at.reader, out)?;
         let _moved = buffer.view.read_range(out.len() as u32);
         Ok(())
@@ -156,7 +154,7 @@ impl<B: PoolName> PoolThread<B> {
     ) -> Result<R, (TryNo, F)>
         requires callable { F.IsAlwaysCallable f }
         ensures answers { let b = buffer.now in
-            let no = part_no self.old.account b.thread b.at.root (in_range b.at start len) 1 0 in
+            let no = part_no self.old.account b (in_range b.at start len) 1 0 in
             MatchResult result (λ _. no ≡ None) (λ e. IsTried no e.0) }
         ensures changed { OnOk result (HasChanged 1 no_change self.old self.new) }
         ensures moves { OnOk result (self.new.account.moves ≡ self.old.account.moves) }
@@ -182,7 +180,7 @@ impl<B: PoolName> PoolThread<B> {
     /// Tries to note that a buffer was touched, which a report of leaks tells.
     pub fn try_touch(&mut self, pool: &Pool<B>, buffer: &Buffer<B>) -> Result<(), TryNo>
         ensures answers { let b = buffer.now in
-            let no = call_no self.old.account b.thread b.at.root 1 in
+            let no = call_no self.old.account b 1 in
             MatchResult result (λ _. no ≡ None) (IsTried no) }
         ensures changed { OnOk result (HasChanged 1 no_change self.old self.new) }
         ensures moves { OnOk result (self.new.account.moves ≡ self.old.account.moves) }
@@ -193,7 +191,7 @@ impl<B: PoolName> PoolThread<B> {
             IfErr result (Leaves pool.now o self.old self.new) }
     {
         let root = buffer.view.at.root;
-        self.member.account.may(buffer.thread, root, 1)?;
+        self.member.account.may(buffer, 1)?;
         if !access::try_touch(&pool.shared, &mut self.member, root) {
             return Err(TryNo::Busy);
         }

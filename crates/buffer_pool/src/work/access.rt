@@ -9,7 +9,7 @@ ghost use Rattle.pool_law.specs.declared.note.Object.TheVariants.{Root};
 ghost use Rattle.shared_pool.specs.RootNotes.{access};
 ghost use Rattle.shared_pool.specs.Seats.{IsNoted};
 ghost use Rattle.seat_work.specs.Changes.{no_change};
-ghost use Rattle.buffer_pool.specs.Counting.{counted};
+ghost use Rattle.buffer_pool.specs.Counting.{counted, known};
 ghost use Rattle.buffer_pool.specs.Threads.{Does, IsThread};
 ghost use Rattle.buffer_pool.specs.Tries.{HasAccessed, StaysOut};
 
@@ -29,7 +29,7 @@ pub(crate) fn try_set(
     requires thread { IsThread pool.now member.old }
     requires counts { 0 < counted member.old.account.counts root }
     requires turns { 1 ≤ member.old.account.turns }
-    requires range { offset + length bytes.now ≤ root.capacity }
+    requires range { offset + length bytes.now ≤ known member.old.account.counts root }
     ensures { MatchBool result
         (HasAccessed pool.now root (Did.Set offset bytes.now) member.old member.new)
         (StaysOut pool.now root member.old member.new) }
@@ -55,7 +55,7 @@ pub(crate) fn set<W: Wait>(
     requires thread { IsThread pool.now member.old }
     requires counts { 0 < counted member.old.account.counts root }
     requires turns { 1 ≤ member.old.account.turns }
-    requires range { offset + length bytes.now ≤ root.capacity }
+    requires range { offset + length bytes.now ≤ known member.old.account.counts root }
     ensures does { Does pool.now 1 no_change member.old member.new }
     ensures moves { member.new.account.moves ≡ member.old.account.moves }
     ensures noted { (number : ℕ) × IsNoted pool.now member.old.seat member.new.seat
@@ -80,7 +80,7 @@ pub(crate) fn try_get(
     requires thread { IsThread pool.now member.old }
     requires counts { 0 < counted member.old.account.counts root }
     requires turns { 1 ≤ member.old.account.turns }
-    requires range { offset + length out.old ≤ root.capacity }
+    requires range { offset + length out.old ≤ known member.old.account.counts root }
     ensures tried { MatchBool result
         (HasAccessed pool.now root (Did.Get offset out.new) member.old member.new)
         (StaysOut pool.now root member.old member.new × (out.new ≡ out.old)) }
@@ -107,7 +107,7 @@ pub(crate) fn get<W: Wait>(
     requires thread { IsThread pool.now member.old }
     requires counts { 0 < counted member.old.account.counts root }
     requires turns { 1 ≤ member.old.account.turns }
-    requires range { offset + length out.old ≤ root.capacity }
+    requires range { offset + length out.old ≤ known member.old.account.counts root }
     ensures does { Does pool.now 1 no_change member.old member.new }
     ensures moves { member.new.account.moves ≡ member.old.account.moves }
     ensures len { length out.new ≡ length out.old }
@@ -135,7 +135,7 @@ pub(crate) fn try_with_bytes<R, F: FnOnce(&[u8]) -> R>(
     requires thread { IsThread pool.now member.old }
     requires counts { 0 < counted member.old.account.counts root }
     requires turns { 1 ≤ member.old.account.turns }
-    requires range { offset + len ≤ root.capacity }
+    requires range { offset + len ≤ known member.old.account.counts root }
     requires callable { F.IsAlwaysCallable f }
     ensures shown { IfOk result (λ answer. (bytes : List ℕ) × (length bytes ≡ len)
         × FnOnceReturnsAt F.FnOnce f bytes answer
@@ -166,7 +166,7 @@ pub(crate) fn with_bytes<W: Wait, R, F: FnOnce(&[u8]) -> R>(
     requires thread { IsThread pool.now member.old }
     requires counts { 0 < counted member.old.account.counts root }
     requires turns { 1 ≤ member.old.account.turns }
-    requires range { offset + len ≤ root.capacity }
+    requires range { offset + len ≤ known member.old.account.counts root }
     requires callable { F.IsAlwaysCallable f }
     ensures does { Does pool.now 1 no_change member.old member.new }
     ensures moves { member.new.account.moves ≡ member.old.account.moves }

@@ -1,11 +1,11 @@
 //! How a thread parts with a root, by a letter, and accepts one.
 
 ghost use Rattle.std.specs.Prelude.{◌≡◌, ◌<◌, ◌≤◌, [], ◌∷◌, Some};
-ghost use Rattle.pool_law.specs.Views.{IsView};
+ghost use Rattle.pool_law.specs.Views.{IsView, LiesIn};
 ghost use Rattle.pool_table.specs.Letters.{next_letter};
 ghost use Rattle.shared_pool.specs.SeatViews.{view_of};
 ghost use Rattle.seat_work.specs.Changes.{no_change, once_more};
-ghost use Rattle.buffer_pool.specs.Counting.{counted};
+ghost use Rattle.buffer_pool.specs.Counting.{counted, known};
 ghost use Rattle.buffer_pool.specs.Refusals.{MayAccept};
 ghost use Rattle.buffer_pool.specs.Threads.{Does, HasOwnChannels, IsThread};
 ghost use Rattle.buffer_pool.specs.Windows.{IsParcelOf};
@@ -20,6 +20,7 @@ pub(crate) fn part(pool: &SharedPool, member: &mut Member, to: u32, at: ViewData
     requires own { HasOwnChannels pool.now }
     requires to { to < pool.now.table.layout.shape.lanes }
     requires counts { 0 < counted member.old.account.counts at.root }
+    requires reaches { LiesIn (known member.old.account.counts at.root) at }
     requires turns { 1 ≤ member.old.account.turns }
     requires view { IsView at }
     ensures does { Does pool.now 1 (record no_change { gone = at.root ∷ [] })
@@ -46,6 +47,7 @@ pub(crate) fn accept(pool: &SharedPool, member: &mut Member, posted: Posted) -> 
     ensures view { IsView result }
     ensures at { posted.letter.parcel.view ≡ Some result }
     ensures counts { 0 < counted member.new.account.counts result.root }
+    ensures reaches { LiesIn (known member.new.account.counts result.root) result }
 {
     let from = posted.letter().from;
     let (number, parcel) = pool.receive(&mut member.seat, posted);
@@ -55,5 +57,6 @@ pub(crate) fn accept(pool: &SharedPool, member: &mut Member, posted: Posted) -> 
     member.account.turns -= 1;
     member.account.received[from as usize] = number;
     member.account.counts.add(at.root);
+    member.account.counts.tell(at.root, at.offset + at.len);
     at
 }

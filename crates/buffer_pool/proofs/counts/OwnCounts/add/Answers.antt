@@ -5,10 +5,11 @@ use Rattle.std.proofs.lemmas.Grind.{common_steps}
 use Rattle.pool_law.specs.declared.id.RootId.{RootId}
 use Rattle.pool_law.specs.Same.{same_root}
 use Rattle.seat_work.specs.Changes.{one_for}
-use Rattle.buffer_pool.specs.Counting.{counted}
+use Rattle.buffer_pool.specs.Counting.{counted, told}
 use Rattle.buffer_pool.specs.declared.counts.Counted.{Counted}
 use Rattle.buffer_pool.specs.contracts.counts.OwnCounts.{the_view}
 use Rattle.buffer_pool.proofs.CountLaws.{added_again, added_first}
+use Rattle.buffer_pool.proofs.ToldLaws.{least_by, same_least, told_kept, told_less, told_same}
 use Rattle.buffer_pool.proofs.counts.OwnCounts.add.Goals as goal
 use Rattle.buffer_pool.proofs.counts.OwnCounts.add.Goals.{then-eq, else-eq}
 
@@ -34,4 +35,45 @@ returns-clause-counts c =
           λ other. ap (λ x. counted (the_view x) other) w.self-inside-is
           ∙ added_first cs root old at alone differs other
           ∙ ap (λ xs. counted xs other + one_for root other) c.self.view_is
+    ]
+
+pub returns-clause-tells : goal.returns-clause-tells
+returns-clause-tells c =
+    let cs = c.self.inside.by_place.items in let root = c.args.root in let old : Counted =
+    c.index_mut-at_place.result.now in
+    let lt : root.place < length cs = subst (λ xs. root.place < length xs) (sym c.self.view_is) c.requires.place in
+    let at : slice_get cs root.place ≡ Some old = slice_get_read cs (length cs) root.place old refl lt
+    c.index_mut-at_place.ensures.value in
+    elim c.if-eq.branch [
+      | then-eq w ↦
+          λ other. least_by _ _ _ _ (ap (λ x. told (the_view x) other) w.self-inside-is)
+          (same_least _ _ (told_same cs root old at
+          (record { root = old.root; count = old.count + 1; told = old.told }) refl refl other))
+          (ap (λ xs. told xs other) c.self.view_is)
+      | else-eq w ↦
+          λ other. least_by _ _ _ _ (ap (λ x. told (the_view x) other) w.self-inside-is)
+          (told_less cs root old at (record { root = root; count = 1; told = 0 }) refl other)
+          (ap (λ xs. told xs other) c.self.view_is)
+    ]
+
+pub returns-clause-keeps : goal.returns-clause-keeps
+returns-clause-keeps c =
+    let cs = c.self.inside.by_place.items in let root = c.args.root in let old : Counted =
+    c.index_mut-at_place.result.now in
+    let lt : root.place < length cs = subst (λ xs. root.place < length xs) (sym c.self.view_is) c.requires.place in
+    let at : slice_get cs root.place ≡ Some old = slice_get_read cs (length cs) root.place old refl lt
+    c.index_mut-at_place.ensures.value in
+    elim c.if-eq.branch [
+      | then-eq w ↦
+          λ other some. least_by _ _ _ _ (sym (ap (λ xs. told xs other) c.self.view_is))
+          (same_least _ _ (sym (told_same cs root old at
+          (record { root = old.root; count = old.count + 1; told = old.told }) refl refl other)))
+          (sym (ap (λ x. told (the_view x) other) w.self-inside-is))
+      | else-eq w ↦
+          let tests = w.if-eq.false in let means = c.eq.ensures in
+          let differs : same_root old.root root ≡ false = first_of (search rules, grind (arith, common_steps)) in
+          λ other some. least_by _ _ _ _ (sym (ap (λ xs. told xs other) c.self.view_is))
+          (told_kept cs root old at (record { root = root; count = 1; told = 0 }) refl differs other
+          (subst (λ x. 0 < counted (the_view x) other) w.self-inside-is some))
+          (sym (ap (λ x. told (the_view x) other) w.self-inside-is))
     ]

@@ -4,4 +4,8 @@ use Rattle.buffer_pool.proofs.counts.OwnCounts.new.Given as goal
 
 abbrev pub invariant-loop-place : goal.invariant-loop-place
 invariant-loop-place l =
-    record { places : length l.by_place.items ≡ l.place; none : All (λ c. c.count ≡ 0) l.by_place.items }
+    record {
+      places : length l.by_place.items ≡ l.place;
+      none : All (λ c. c.count ≡ 0) l.by_place.items;
+      untold : All (λ c. c.told ≡ 0) l.by_place.items;
+    }

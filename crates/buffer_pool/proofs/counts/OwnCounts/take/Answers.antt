@@ -1,9 +1,10 @@
 use Rattle.std.proofs.Common.{◌≡◌, ◌-◌, ◌<◌, length, refl, sym, ap, ◌∙◌, subst, arith, Some}
 use Rattle.std.specs.Prelude.{slice_get}
 use Rattle.std.proofs.lemmas.Option.{slice_get_read}
-use Rattle.buffer_pool.specs.Counting.{counted}
+use Rattle.buffer_pool.specs.Counting.{counted, told}
 use Rattle.buffer_pool.specs.declared.counts.Counted.{Counted}
 use Rattle.buffer_pool.proofs.CountLaws.{taken, counted_within, at_counted}
+use Rattle.buffer_pool.proofs.ToldLaws.{told_same}
 use Rattle.buffer_pool.proofs.counts.OwnCounts.take.Goals as goal
 
 pub returns-clause-counts : goal.returns-clause-counts
@@ -14,5 +15,16 @@ returns-clause-counts c =
     (counted_within cs root lt) c.index_mut.ensures.value in
     let some : 0 < old.count = at_counted cs root old at lt in
     λ other.
-    taken cs root old at lt (record { root = old.root; count = old.count - 1 }) refl (omega (arith, some)) other
+    taken cs root old at lt (record { root = old.root; count = old.count - 1; told = old.told }) refl
+    (omega (arith, some)) other
     ∙ ap (λ xs. counted xs other) c.self.view_is
+
+pub returns-clause-tells : goal.returns-clause-tells
+returns-clause-tells c =
+    let cs = c.self.inside.by_place.items in let root = c.args.root in let old : Counted = c.index_mut.result.now in
+    let lt : 0 < counted cs root = subst (λ xs. 0 < counted xs root) (sym c.self.view_is) c.requires in
+    let at : slice_get cs root.place ≡ Some old = slice_get_read cs (length cs) root.place old refl
+    (counted_within cs root lt) c.index_mut.ensures.value in
+    λ other.
+    told_same cs root old at (record { root = old.root; count = old.count - 1; told = old.told }) refl refl other
+    ∙ ap (λ xs. told xs other) c.self.view_is

@@ -1,8 +1,8 @@
-use Rattle.std.proofs.Common.{◌≡◌, ◌<◌, ◌≤◌, Bool, refl, sym, subst, ◌∙◌}
+use Rattle.std.proofs.Common.{◌≡◌, ℕ, ◌+◌, length, ◌<◌, ◌≤◌, Bool, refl, sym, subst, ◌∙◌}
 use Rattle.std.specs.Prelude.{MatchBool}
 use Rattle.pool_law.specs.declared.note.Did.{Did}
 use Rattle.buffer_pool.specs.declared.account.Account.{Account}
-use Rattle.buffer_pool.specs.Counting.{counted}
+use Rattle.buffer_pool.specs.Counting.{counted, known}
 use Rattle.buffer_pool.specs.Tries.{HasAccessed, StaysOut}
 use Rattle.buffer_pool.proofs.Accessing.{accessed_after, same_account, waits_first, waits_on}
 use Rattle.buffer_pool.proofs.work.access.get.Goals as goal
@@ -11,6 +11,13 @@ pub try_get-requires-clause-counts : goal.try_get-requires-clause-counts
 try_get-requires-clause-counts g c =
     subst (λ (a : Account). 0 < counted a.counts c.args.root)
     (sym (same_account c.args.pool.now c.args.member.now c.loop.member c.loop.invariant.0)) c.requires.counts
+
+pub try_get-requires-clause-range : goal.try_get-requires-clause-range
+try_get-requires-clause-range g c =
+    subst (λ (a : Account). c.args.offset + length c.loop.out ≤ known a.counts c.args.root)
+    (sym (same_account c.args.pool.now c.args.member.now c.loop.member c.loop.invariant.0))
+    (subst (λ (n : ℕ). c.args.offset + n ≤ known c.args.member.now.account.counts c.args.root) (sym c.loop.invariant.1)
+    c.requires.range)
 
 pub try_get-requires-clause-turns : goal.try_get-requires-clause-turns
 try_get-requires-clause-turns g c =

@@ -1,8 +1,8 @@
-use Rattle.std.proofs.Common.{◌<◌, ◌≤◌, Bool, sym, subst}
+use Rattle.std.proofs.Common.{◌+◌, length, ◌<◌, ◌≤◌, Bool, sym, subst}
 use Rattle.std.specs.Prelude.{MatchBool}
 use Rattle.pool_law.specs.declared.note.Did.{Did}
 use Rattle.buffer_pool.specs.declared.account.Account.{Account}
-use Rattle.buffer_pool.specs.Counting.{counted}
+use Rattle.buffer_pool.specs.Counting.{counted, known}
 use Rattle.buffer_pool.specs.Tries.{HasAccessed, StaysOut}
 use Rattle.buffer_pool.proofs.Accessing.{accessed_after, same_account, waits_first, waits_on}
 use Rattle.buffer_pool.proofs.work.access.set.Goals as goal
@@ -11,6 +11,11 @@ pub try_set-requires-clause-counts : goal.try_set-requires-clause-counts
 try_set-requires-clause-counts g c =
     subst (λ (a : Account). 0 < counted a.counts c.args.root)
     (sym (same_account c.args.pool.now c.args.member.now c.loop.member c.loop.invariant)) c.requires.counts
+
+pub try_set-requires-clause-range : goal.try_set-requires-clause-range
+try_set-requires-clause-range g c =
+    subst (λ (a : Account). c.args.offset + length c.args.bytes.now ≤ known a.counts c.args.root)
+    (sym (same_account c.args.pool.now c.args.member.now c.loop.member c.loop.invariant)) c.requires.range
 
 pub try_set-requires-clause-turns : goal.try_set-requires-clause-turns
 try_set-requires-clause-turns g c =

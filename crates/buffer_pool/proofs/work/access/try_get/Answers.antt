@@ -1,9 +1,15 @@
+use Rattle.std.proofs.Common.{◌+◌, length}
 use Rattle.pool_law.specs.declared.note.Did.{Did}
 use Rattle.shared_pool.specs.SeatViews.{view_of}
 use Rattle.seat_work.proofs.Accesses.{get_quiet}
 use Rattle.buffer_pool.proofs.Accessing.{has_accessed, stays_out}
-use Rattle.buffer_pool.proofs.Keeping.{has_count}
+use Rattle.buffer_pool.proofs.Keeping.{has_count, knows_too}
 use Rattle.buffer_pool.proofs.work.access.try_get.Goals as goal
+
+pub read-requires-clause-range : goal.read-requires-clause-range
+read-requires-clause-range c =
+    knows_too c.args.pool.now c.args.member.now c.requires.thread c.args.root (c.args.offset + length c.args.out.now)
+    c.requires.range
 
 pub read-requires-clause-counts : goal.read-requires-clause-counts
 read-requires-clause-counts c =

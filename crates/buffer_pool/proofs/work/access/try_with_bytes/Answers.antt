@@ -1,9 +1,15 @@
+use Rattle.std.proofs.Common.{◌+◌}
 use Rattle.pool_law.specs.declared.note.Did.{Did}
 use Rattle.shared_pool.specs.SeatViews.{view_of}
 use Rattle.seat_work.proofs.Accesses.{get_quiet}
 use Rattle.buffer_pool.proofs.Accessing.{has_accessed, stays_out}
-use Rattle.buffer_pool.proofs.Keeping.{has_count}
+use Rattle.buffer_pool.proofs.Keeping.{has_count, knows_too}
 use Rattle.buffer_pool.proofs.work.access.try_with_bytes.Goals as goal
+
+pub with_bytes-requires-clause-range : goal.with_bytes-requires-clause-range
+with_bytes-requires-clause-range g c =
+    knows_too c.args.pool.now c.args.member.now c.requires.thread c.args.root (c.args.offset + c.args.len)
+    c.requires.range
 
 pub with_bytes-requires-clause-counts : goal.with_bytes-requires-clause-counts
 with_bytes-requires-clause-counts g c =

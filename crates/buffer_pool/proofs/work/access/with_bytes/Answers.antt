@@ -1,8 +1,8 @@
-use Rattle.std.proofs.Common.{◌<◌, ◌≤◌, ◌∙◌, refl, sym, subst}
+use Rattle.std.proofs.Common.{◌+◌, ◌<◌, ◌≤◌, ◌∙◌, refl, sym, subst}
 use Rattle.std.specs.Fn.{FnOnceReturnsAt}
 use Rattle.pool_law.specs.declared.note.Did.{Did}
 use Rattle.buffer_pool.specs.declared.account.Account.{Account}
-use Rattle.buffer_pool.specs.Counting.{counted}
+use Rattle.buffer_pool.specs.Counting.{counted, known}
 use Rattle.buffer_pool.proofs.Accessing.{accessed_after, same_account, waits_first, waits_on}
 use Rattle.buffer_pool.proofs.work.access.with_bytes.Goals as goal
 
@@ -10,6 +10,11 @@ pub try_with_bytes-requires-clause-counts : goal.try_with_bytes-requires-clause-
 try_with_bytes-requires-clause-counts g c =
     subst (λ (a : Account). 0 < counted a.counts c.args.root)
     (sym (same_account c.args.pool.now c.args.member.now c.loop.member c.loop.invariant.0)) c.requires.counts
+
+pub try_with_bytes-requires-clause-range : goal.try_with_bytes-requires-clause-range
+try_with_bytes-requires-clause-range g c =
+    subst (λ (a : Account). c.args.offset + c.args.len ≤ known a.counts c.args.root)
+    (sym (same_account c.args.pool.now c.args.member.now c.loop.member c.loop.invariant.0)) c.requires.range
 
 pub try_with_bytes-requires-clause-turns : goal.try_with_bytes-requires-clause-turns
 try_with_bytes-requires-clause-turns g c =

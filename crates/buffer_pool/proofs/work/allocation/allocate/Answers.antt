@@ -1,7 +1,7 @@
 use Rattle.std.proofs.Common.{◌-◌, refl, arith}
 use Rattle.seat_work.specs.Changes.{once_more}
 use Rattle.buffer_pool.specs.declared.member.Member.{Member}
-use Rattle.buffer_pool.proofs.Keeping.{alone_at, few_of, kept_on, may_work, one_self, spends_more, spends_none, times_one}
+use Rattle.buffer_pool.proofs.Keeping.{alone_at, few_of, kept_on, may_work, one_self, spends_more, spends_none, tells_known, times_one}
 use Rattle.buffer_pool.proofs.Letters.{later_letters}
 use Rattle.seat_work.specs.Answers.{refused}
 use Rattle.buffer_pool.proofs.work.allocation.allocate.Goals as goal
@@ -32,9 +32,11 @@ returns-in-Ok-clause-does g c =
       account = record old.account { turns = old.account.turns - 6; counts = c.add.new.self };
     } in
     let le = c.requires.turns in
-    kept_on c.args.pool.now (once_more root) 6 0 6 old new c.requires.thread did.goes did.changes
-    (spends_more (once_more root) 6 old.account new.account refl (omega (arith, le)) c.add.ensures.places root
-    (omega arith) (times_one root) (λ other. refl) c.add.ensures.counts) (omega arith)
+    let spends = spends_more (once_more root) 6 old.account new.account refl (omega (arith, le)) c.add.ensures.places
+    root (omega arith) (times_one root) (λ other. refl) c.add.ensures.counts c.add.ensures.keeps in
+    kept_on c.args.pool.now (once_more root) 6 0 6 old new c.requires.thread did.goes did.changes spends
+    (tells_known c.args.pool.now (once_more root) 6 0 6 old new c.requires.thread did.goes did.changes spends
+    c.add.ensures.tells) (omega arith)
     (let a = did.goes.moves_left in let b = c.requires.thread.works.moves_left in omega (arith, a, b))
     (later_letters c.args.pool.now old.seat call.new.seat call.ensures.later) refl
 
@@ -46,9 +48,12 @@ returns-in-Err-clause-does g c =
       account = record old.account { turns = old.account.turns - 6 };
     } in
     let le = c.requires.turns in
-    kept_on c.args.pool.now (refused c.in-Err.no) 6 0 6 old new c.requires.thread did.goes did.changes
-    (spends_none (refused c.in-Err.no) 6 old.account new.account refl (omega (arith, le)) refl (λ other. refl)
-    (λ other. refl) refl) (omega arith)
+    let change = refused c.in-Err.no in
+    let spends = spends_none change 6 old.account new.account refl (omega (arith, le)) refl (λ other. refl)
+    (λ other. refl) (λ other. refl) (λ other. omega arith) in
+    kept_on c.args.pool.now change 6 0 6 old new c.requires.thread did.goes did.changes spends
+    (tells_known c.args.pool.now change 6 0 6 old new c.requires.thread did.goes did.changes spends
+    (λ root. omega arith)) (omega arith)
     (let a = did.goes.moves_left in let b = c.requires.thread.works.moves_left in omega (arith, a, b))
     (later_letters c.args.pool.now old.seat call.new.seat call.ensures.later) refl
 

@@ -1,7 +1,7 @@
 use Rattle.std.proofs.Common.{refl, arith}
 use Rattle.seat_work.specs.Changes.{no_change}
 use Rattle.buffer_pool.specs.declared.member.Member.{Member}
-use Rattle.buffer_pool.proofs.Keeping.{has_count, kept_on, spends_none}
+use Rattle.buffer_pool.proofs.Keeping.{has_count, kept_on, spends_none, tells_known}
 use Rattle.buffer_pool.proofs.Letters.{ref_letters}
 use Rattle.pool_law.specs.declared.note.RefDid.TheVariants.{Look}
 use Rattle.buffer_pool.proofs.Looks.{looked}
@@ -21,7 +21,9 @@ returns-clause-does c =
     let new : Member = record old { seat = call.new.seat } in
     let did = looked pool old.seat new.seat c.args.root call.result old.account.turns old.account.moves
     call.ensures.seat is.works call.ensures.did in
-    kept_on pool no_change 0 0 0 old new is did.goes did.changes
-    (spends_none no_change 0 old.account old.account refl (omega arith) refl (λ other. refl) (λ other. refl) refl)
+    let spends = spends_none no_change 0 old.account old.account refl (omega arith) refl (λ other. refl)
+    (λ other. refl) (λ other. refl) (λ other. omega arith) in
+    kept_on pool no_change 0 0 0 old new is did.goes did.changes spends
+    (tells_known pool no_change 0 0 0 old new is did.goes did.changes spends (λ root. omega arith))
     (omega arith) (let a = did.goes.moves_left in let b = is.works.moves_left in omega (arith, a, b))
     (ref_letters old.seat new.seat c.args.root (Look call.result) (view_of old.seat).moves call.ensures.did) refl

@@ -1,7 +1,7 @@
 use Rattle.std.proofs.Common.{◌-◌, refl, arith}
 use Rattle.seat_work.specs.Changes.{once_less}
 use Rattle.buffer_pool.specs.declared.member.Member.{Member}
-use Rattle.buffer_pool.proofs.Keeping.{has_count, kept_on, may_work, spends_less, times_one}
+use Rattle.buffer_pool.proofs.Keeping.{has_count, kept_on, may_work, spends_less, tells_known, times_one}
 use Rattle.buffer_pool.proofs.Letters.{later_letters}
 use Rattle.buffer_pool.proofs.MoveLaws.{moves_left}
 use Rattle.buffer_pool.proofs.work.counting.release.Goals as goal
@@ -30,9 +30,11 @@ returns-clause-does g c =
           };
     } in
     let le = c.requires.turns in
-    kept_on c.args.pool.now change 4 0 4 old new c.requires.thread did.goes did.changes
-    (spends_less change 4 old.account new.account refl (omega (arith, le)) c.take.ensures.places c.args.root
-    (λ other. refl) (times_one c.args.root) c.take.ensures.counts) (omega arith)
+    let spends = spends_less change 4 old.account new.account refl (omega (arith, le)) c.take.ensures.places c.args.root
+    (λ other. refl) (times_one c.args.root) c.take.ensures.counts c.take.ensures.tells in
+    kept_on c.args.pool.now change 4 0 4 old new c.requires.thread did.goes did.changes spends
+    (tells_known c.args.pool.now change 4 0 4 old new c.requires.thread did.goes did.changes spends
+    (λ root. (let a = c.take.ensures.tells root in omega (arith, a)))) (omega arith)
     (moves_left c.args.pool.now old call.new.seat c.requires.thread last c.moves_after-member.result did.goes.moves_left
     call.ensures.moves c.moves_after-member.ensures)
     (later_letters c.args.pool.now old.seat call.new.seat call.ensures.later) refl

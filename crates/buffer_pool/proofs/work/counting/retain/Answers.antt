@@ -2,7 +2,7 @@ use Rattle.std.proofs.Common.{◌-◌, refl, arith}
 use Rattle.seat_work.specs.Changes.{once_more}
 use Rattle.buffer_pool.specs.declared.member.Member.{Member}
 use Rattle.buffer_pool.proofs.CountLaws.{counted_within}
-use Rattle.buffer_pool.proofs.Keeping.{alone_at, few_of, has_count, kept_on, may_work, spends_more, times_one}
+use Rattle.buffer_pool.proofs.Keeping.{alone_at, few_of, has_count, kept_on, may_work, spends_more, tells_known, times_one}
 use Rattle.buffer_pool.proofs.Letters.{later_letters}
 use Rattle.buffer_pool.proofs.work.counting.retain.Goals as goal
 
@@ -39,9 +39,12 @@ returns-clause-does c =
           };
     } in
     let le = c.requires.turns in let lf = c.requires.moves in
-    kept_on c.args.pool.now (once_more c.args.root) 0 1 1 old new c.requires.thread did.goes did.changes
-    (spends_more (once_more c.args.root) 1 old.account new.account refl (omega (arith, le)) c.add.ensures.places
-    c.args.root (omega arith) (times_one c.args.root) (λ other. refl) c.add.ensures.counts) (omega arith)
+    let more = once_more c.args.root in
+    let spends = spends_more more 1 old.account new.account refl (omega (arith, le)) c.add.ensures.places
+    c.args.root (omega arith) (times_one c.args.root) (λ other. refl) c.add.ensures.counts c.add.ensures.keeps in
+    kept_on c.args.pool.now more 0 1 1 old new c.requires.thread did.goes did.changes spends
+    (tells_known c.args.pool.now more 0 1 1 old new c.requires.thread did.goes did.changes spends c.add.ensures.tells)
+    (omega arith)
     (let a = did.goes.moves_left in let b = c.requires.thread.works.moves_left in omega (arith, a, b, lf))
     (later_letters c.args.pool.now old.seat call.new.seat call.ensures.later) refl
 

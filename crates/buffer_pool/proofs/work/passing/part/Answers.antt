@@ -1,11 +1,11 @@
-use Rattle.std.proofs.Common.{◌-◌, ◌<◌, Some, refl, sym, ap, subst, arith, ◌∙◌}
+use Rattle.std.proofs.Common.{◌+◌, ◌-◌, ◌<◌, Some, refl, sym, ap, subst, arith, ◌∙◌}
 use Rattle.std.specs.Prelude.{IsSome}
 use Rattle.pool_law.specs.declared.id.Parcel.{Parcel}
 use Rattle.pool_table.specs.declared.views.Letter.{Letter}
 use Rattle.seat_work.specs.HandOvers.{posted}
 use Rattle.seat_work.proofs.HandedOver.{post_changes, post_goes, post_sends}
 use Rattle.buffer_pool.specs.declared.member.Member.{Member}
-use Rattle.buffer_pool.proofs.Keeping.{has_count, kept_by, may_work, spends_less, times_one}
+use Rattle.buffer_pool.proofs.Keeping.{has_count, kept_by, knows_too, may_work, spends_less, tells_known, times_one}
 use Rattle.buffer_pool.proofs.Passing.{few_to, one_sent, own_to, sender_below, still_received}
 use Rattle.buffer_pool.proofs.work.passing.part.Goals as goal
 
@@ -24,6 +24,11 @@ pub send-posted-requires-clause-counts : goal.send-posted-requires-clause-counts
 send-posted-requires-clause-counts c =
     has_count c.args.pool.now c.args.member.now c.requires.thread c.args.at.root c.requires.counts
 
+pub send-posted-requires-clause-known : goal.send-posted-requires-clause-known
+send-posted-requires-clause-known c =
+    let at = c.args.at in
+    knows_too c.args.pool.now c.args.member.now c.requires.thread at.root (at.offset + at.len) c.requires.reaches
+
 pub returns-clause-does : goal.returns-clause-does
 returns-clause-does c =
     let pool = c.args.pool.now in let old = c.args.member.now in let call = c.send-posted in let is =
@@ -38,10 +43,13 @@ returns-clause-does c =
     let counts = has_count pool old is root c.requires.counts in
     let goes =
     post_goes pool old.seat new.seat call.ensures.seat number works c.args.to parcel counts call.ensures.posted in
-    kept_by pool (posted parcel) 0 0 1 old new is goes
-    (post_changes pool old.seat new.seat call.ensures.seat number works c.args.to parcel counts call.ensures.posted)
-    (spends_less (posted parcel) 1 old.account new.account refl (omega (arith, le)) c.take.ensures.places root
-    (λ other. refl) (times_one root) c.take.ensures.counts) (omega arith)
+    let changes =
+    post_changes pool old.seat new.seat call.ensures.seat number works c.args.to parcel counts call.ensures.posted in
+    let spends = spends_less (posted parcel) 1 old.account new.account refl (omega (arith, le)) c.take.ensures.places
+    root (λ other. refl) (times_one root) c.take.ensures.counts c.take.ensures.tells in
+    kept_by pool (posted parcel) 0 0 1 old new is goes changes spends
+    (tells_known pool (posted parcel) 0 0 1 old new is goes changes spends
+    (λ q. (let a = c.take.ensures.tells q in omega (arith, a)))) (omega arith)
     (let a = goes.moves_left in let b = is.works.moves_left in omega (arith, a, b))
     (one_sent pool old is new.seat c.args.to number parcel call.ensures.posted
     (post_sends pool old.seat new.seat call.ensures.seat number works c.args.to parcel counts call.ensures.posted))

@@ -1,0 +1,71 @@
+//! How buffers get longer.
+
+ghost use Rattle.std.specs.Prelude.{◌≡◌, ◌≤◌, IfErr, IfOk, IsTrue, MatchResult, None, OnErr, OnOk};
+ghost use Rattle.pool_law.specs.Limits.{geometry_of};
+ghost use Rattle.pool_law.specs.Views.{reaching, LiesIn};
+ghost use Rattle.seat_work.specs.Changes.{no_change};
+ghost use Rattle.seat_work.specs.Regrowths.{IsTold};
+ghost use Rattle.buffer_pool.specs.Refusals.{is_here};
+ghost use Rattle.buffer_pool.specs.Regrowths.{capacity_no, IsRefusedBy, LeavesThread};
+ghost use Rattle.buffer_pool.specs.Threads.{HasChanged};
+
+use crate::answers::CapacityNo;
+use crate::buffer::Buffer;
+use crate::name::PoolName;
+use crate::pool::Pool;
+use crate::thread::PoolThread;
+use crate::work::growth;
+use seat_work::GrowNo;
+use std::sync::Wait;
+
+/// How many turns it takes that a buffer gets longer.
+const CAPACITY_TURNS: u64 = 6;
+
+impl<B: PoolName> PoolThread<B> {
+    /// Has the bytes in which a buffer lies be at least `size` in all, counted from the first that
+    /// was allocated with it, and lets the buffer reach up to the last of them. How many they are
+    /// then is answered. What is new is 0, and the bytes, the reader and the writer stay; a buffer
+    /// never gets shorter. Other buffers on the same bytes keep their lengths. (Netty:
+    /// `ByteBuf.capacity`)
+    ///
+    /// A refusal leaves the buffer and the counts as they were; only where the arena was full have
+    /// turns been taken.
+    pub fn capacity<W: Wait>(
+        &mut self,
+        rt: &W,
+        pool: &Pool<B>,
+        buffer: &mut Buffer<B>,
+        size: u32,
+    ) -> Result<u32, CapacityNo>
+        ensures answers { let g = geometry_of pool.now.table.layout.shape in
+            let no = capacity_no g self.old.account buffer.old size in
+            MatchResult result (λ _. no ≡ None) (IsRefusedBy no) }
+        ensures grown { IfOk result (λ bytes. (size ≤ bytes) × LiesIn bytes buffer.old.at
+            × (buffer.new ≡ record buffer.old { at = reaching bytes buffer.old.at })) }
+        ensures told { IfOk result (λ bytes.
+            IsTold pool.now buffer.old.at.root bytes self.old.seat self.new.seat) }
+        ensures changed { OnOk result (HasChanged 6 no_change self.old self.new) }
+        ensures here { OnOk result (IsTrue (is_here self.new.account buffer.new)) }
+        ensures moves { self.new.account.moves ≡ self.old.account.moves }
+        ensures refused { IfErr result (LeavesThread self.old self.new) }
+        ensures unchanged { OnErr result (buffer.new ≡ buffer.old) }
+    {
+        if !self.member.account.is_here(&*buffer) {
+            return Err(CapacityNo::NotHere);
+        }
+        let Some(class) = pool.sizes.class_of(size) else {
+            return Err(CapacityNo::TooLarge);
+        };
+        if self.member.account.turns < CAPACITY_TURNS {
+            return Err(CapacityNo::Spent);
+        }
+        let root = buffer.view.at.root;
+        match growth::grow(rt, &pool.shared, &mut self.member, root, size, class) {
+            Ok(bytes) => {
+                buffer.view.reach(bytes);
+                Ok(bytes)
+            }
+            Err(GrowNo::Full) => Err(CapacityNo::Full),
+        }
+    }
+}

@@ -1,0 +1,48 @@
+//! How a thread asks a root for capacity.
+
+ghost use Rattle.std.specs.Prelude.{◌≡◌, ◌<◌, ◌≤◌, Some, IfOk};
+ghost use Rattle.size_classes.specs.Sizes.{class_of};
+ghost use Rattle.pool_law.specs.Limits.{geometry_of};
+ghost use Rattle.pool_law.specs.Views.{most_capacity};
+ghost use Rattle.seat_work.specs.Regrowths.{grown, IsTold};
+ghost use Rattle.buffer_pool.specs.Counting.{counted, known};
+ghost use Rattle.buffer_pool.specs.Threads.{Does, IsThread};
+
+use crate::member::Member;
+use pool_law::RootId;
+use seat_work::GrowNo;
+use shared_pool::SharedPool;
+use std::sync::Wait;
+
+/// The root has a capacity of at least `size` from now on, and the thread knows of what is answered.
+/// `class` is that of the size.
+pub(crate) fn grow<W: Wait>(
+    rt: &W,
+    pool: &SharedPool,
+    member: &mut Member,
+    root: RootId,
+    size: u32,
+    class: u32,
+) -> Result<u32, GrowNo>
+    requires thread { IsThread pool.now member.old }
+    requires counts { 0 < counted member.old.account.counts root }
+    requires turns { 6 ≤ member.old.account.turns }
+    requires class { class_of (geometry_of pool.now.table.layout.shape) size ≡ Some class }
+    ensures does { Does pool.now 6 (grown result) member.old member.new }
+    ensures moves { member.new.account.moves ≡ member.old.account.moves }
+    ensures counts { 0 < counted member.new.account.counts root }
+    ensures enough { IfOk result (λ capacity. (size ≤ capacity) × (capacity ≤ most_capacity)) }
+    ensures knows { IfOk result (λ capacity. (known member.old.account.counts root ≤ capacity)
+        × (capacity ≤ known member.new.account.counts root)) }
+    ensures told { IfOk result (λ capacity.
+        IsTold pool.now root capacity member.old.seat member.new.seat) }
+{
+    member.account.turns -= 6;
+    match seat_work::grow(rt, pool, &mut member.seat, root, size, class) {
+        Ok(capacity) => {
+            member.account.counts.tell(root, capacity);
+            Ok(capacity)
+        }
+        Err(no) => Err(no),
+    }
+}
