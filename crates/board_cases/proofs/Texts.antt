@@ -31,6 +31,7 @@ use Rattle.shared_composite.specs.declared.board.BoardSeat.{BoardSeat}
 use Rattle.shared_composite.specs.declared.cores.Core.{Core}
 use Rattle.shared_composite.specs.Boards as boards
 use Rattle.shared_composite.specs.Boards.{AreCores, AreLeft, HasView, IsAtHome, IsMadeOf, IsPoolOf, IsSeatOf, core_in, origin_of, parts_in, parts_of}
+use Rattle.seat_work.proofs.Knowing.{knows_born}
 use Rattle.shared_composite.specs.Cores.{CountsJust, IsCore, IsEmptied, IsFit, IsKnown, IsUnderway, turns_of}
 use Rattle.board_cases.specs.Seats.{Can, used}
 use Rattle.board_cases.specs.Texts.{IsText, Shows, part, text_in}
@@ -65,9 +66,10 @@ fits pool seat large small turns moves parts works counted six two is =
       nothing = has_nothing (view_of seat) works.held;
       counted = counted;
       known =
-          All-cons IsKnown (part large 1 3) (part large 5 1 ∷ part small 0 2 ∷ []) (omega (arith, six))
-          (All-cons IsKnown (part large 5 1) (part small 0 2 ∷ []) (omega (arith, six))
-          (All-cons IsKnown (part small 0 2) [] (omega (arith, two)) (All-nil IsKnown)));
+          (let v = view_of seat in let a = knows_born v large in let b = knows_born v small in
+          All-cons (IsKnown v) (part large 1 3) (part large 5 1 ∷ part small 0 2 ∷ []) (omega (arith, six, a))
+          (All-cons (IsKnown v) (part large 5 1) (part small 0 2 ∷ []) (omega (arith, six, a))
+          (All-cons (IsKnown v) (part small 0 2) [] (omega (arith, two, b)) (All-nil (IsKnown v)))));
     })
 
 pub made_text : (pool : SharedPool) (seat : PoolSeat) (parts : List Part) (core : Core) (large small : RootId)

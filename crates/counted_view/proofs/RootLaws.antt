@@ -7,43 +7,43 @@ use Rattle.pool_law.specs.declared.id.RootId.{RootId}
 use Rattle.counted_view.specs.declared.rows.Row.{Row}
 use Rattle.counted_view.specs.Nests.{NestedView, made_from, root_counts}
 use Rattle.counted_view.specs.Rows.{shown, row_live, live_rows, root_sum, IsBelow, AreCounted}
-use Rattle.counted_view.specs.Trees.{AreOf}
+use Rattle.counted_view.specs.Trees.{AreOf, IsOf}
 use Rattle.counted_view.proofs.RowLaws.{one, live-held, live-kept, set_cases}
 use Rattle.counted_view.proofs.LiveLaws.{root_counts-rows}
 use Rattle.counted_view.proofs.TreeLaws.{nest_of, shown_at, push_cases}
 
 -- ---- Views of one root.
 
-pub AreOf-one : (root : RootId) (y : Row) → y.view.at.root ≡ root → AreOf root (y ∷ [])
-AreOf-one root y is zero r e = subst (λ (q : Row). q.view.at.root ≡ root) (same_Some y r e) is
+pub AreOf-one : (root : RootId) (y : Row) → IsOf root y.view.at → AreOf root (y ∷ [])
+AreOf-one root y is zero r e = subst (λ (q : Row). IsOf root q.view.at) (same_Some y r e) is
 AreOf-one root y is (suc k) r e = absurd (cc e)
 
 pub AreOf-set : (root : RootId) (rows : List Row) (v : ℕ) (x y : Row) → AreOf root rows → slice_get rows v ≡ Some x
-    → y.view.at.root ≡ x.view.at.root → AreOf root (set rows v y)
+    → y.view.at ≡ x.view.at → AreOf root (set rows v y)
 AreOf-set root rows v x y all at same number r e =
     ⊎_elim
     (λ (w : (number ≡ v) × (y ≡ r) × (slice_get rows number ≡ Some x)).
-    subst (λ (q : Row). q.view.at.root ≡ root) w.1 (same ∙ all v x at))
+    subst (λ (q : Row). IsOf root q.view.at) w.1 (subst (IsOf root) (sym same) (all v x at)))
     (λ (w : (number ≢ v) × (slice_get rows number ≡ Some r)). all number r w.1)
     (set_cases rows v x y number r at e)
 
-pub AreOf-push : (root : RootId) (rows : List Row) (y : Row) → AreOf root rows → y.view.at.root ≡ root
+pub AreOf-push : (root : RootId) (rows : List Row) (y : Row) → AreOf root rows → IsOf root y.view.at
     → AreOf root (rows ++ y ∷ [])
 AreOf-push root rows y all is number r e =
     ⊎_elim (λ (at : slice_get rows number ≡ Some r). all number r at)
-    (λ (w : (number ≡ length rows) × (y ≡ r)). subst (λ (q : Row). q.view.at.root ≡ root) w.1 is)
+    (λ (w : (number ≡ length rows) × (y ≡ r)). subst (λ (q : Row). IsOf root q.view.at) w.1 is)
     (push_cases rows y number r e)
 
 shown_root : (root : RootId) (o : Option Row) (x : NestedView) → option_map shown o ≡ Some x
-    → ((r : Row) → o ≡ Some r → r.view.at.root ≡ root) → x.at.root ≡ root
+    → ((r : Row) → o ≡ Some r → IsOf root r.view.at) → IsOf root x.at
 shown_root root None x e each = absurd (cc e)
 shown_root root (Some r) x e each =
     let same : shown r ≡ x = same_Some (shown r) x e in
-    ap (λ (y : NestedView). y.at.root) (sym same) ∙ each r refl
+    subst (λ (y : NestedView). IsOf root y.at) same (each r refl)
 
 -- what the rows show tells of their roots
 pub root_at : (root : RootId) (rows : List Row) (v : ℕ) (x : NestedView) → AreOf root rows
-    → slice_get (map shown rows) v ≡ Some x → x.at.root ≡ root
+    → slice_get (map shown rows) v ≡ Some x → IsOf root x.at
 root_at root rows v x all e =
     shown_root root (slice_get rows v) x (sym (slice_get-map shown rows v) ∙ e) (all v)
 

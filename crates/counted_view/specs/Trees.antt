@@ -1,6 +1,8 @@
 -- What a tree of views stands for. No public clause cites this module.
 use Rattle.std.specs.Prelude.{◌≡◌, ℕ, ◌+◌, ◌<◌, ◌≤◌, List, map, length, Some, slice_get, vec_capacity}
 use Rattle.pool_law.specs.declared.id.RootId.{RootId}
+use Rattle.pool_law.specs.declared.id.ViewData.{ViewData}
+use Rattle.pool_law.specs.Views.{LiesIn}
 use Rattle.counted_view.specs.Nests.{NestState}
 use Rattle.counted_view.specs.Rows.{shown, AreCounted}
 use Rattle.counted_view.specs.declared.rows.Row.{Row}
@@ -10,9 +12,14 @@ use Rattle.counted_view.specs.declared.view_tree.ViewTree.TheInside.{Inside}
 abbrev pub state_of : Inside → NestState
 state_of t = record { root = t.root; bound = t.bound; views = map shown t.rows.items }
 
--- each view is one of the root
+-- a view is one of the root, and lies in the bytes with which that was born
+pub record IsOf (root : RootId) (v : ViewData) : Type 0 where
+  pub root_is : v.root ≡ root
+  pub inside : LiesIn root.capacity v
+
+-- each view is so
 abbrev pub AreOf : RootId → List Row → Type 0
-AreOf root rows = (number : ℕ) (r : Row) → slice_get rows number ≡ Some r → r.view.at.root ≡ root
+AreOf root rows = (number : ℕ) (r : Row) → slice_get rows number ≡ Some r → IsOf root r.view.at
 
 -- the rows agree, and there is room for all that may be made
 pub record IsTree (t : Inside) : Type 0 where

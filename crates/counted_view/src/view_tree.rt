@@ -4,7 +4,7 @@
 //! upwards: it costs the views that it ends.
 
 ghost use Rattle.std.specs.Prelude.{◌≡◌, ◌+◌, ◌<◌, ◌≤◌, ◌==◌, false, length, IsSome, IfSome, IfOk, IfErr, OnOk, MatchResult, Some, None, if◌then◌else◌};
-ghost use Rattle.pool_law.specs.Views.{slice_of, root_index};
+ghost use Rattle.pool_law.specs.Views.{slice_of, root_index, most_capacity, LiesIn};
 ghost use Rattle.counted_view.specs.Nests.{new_nest, after_call, held_view, root_counts, live_slices, live_views, has_all, range_no, slice_no, retain_no, release_no};
 ghost use Rattle.counted_view.specs.Rows.{shown};
 ghost use Rattle.counted_view.specs.declared.calls.NestCall.TheVariants.{Slice, Retain, Release};
@@ -49,7 +49,8 @@ pub(crate) struct LetGo {
 impl ViewTree {
     /// The root alone, with room for so many slices.
     pub(crate) fn new(alloc: Global, root: RootId, bound: u32) -> Result<ViewTree, AllocError>
-        requires { bound ≤ 4096 }
+        requires bound { bound ≤ 4096 }
+        requires capacity { root.capacity ≤ most_capacity }
         ensures { IfOk result (λ tree. tree ≡ new_nest root bound) }
     {
         let mut rows = Vec::with_capacity(alloc, bound as usize + 1)?;
@@ -80,6 +81,7 @@ impl ViewTree {
     fn held(&self, number: u32) -> Result<&Row, NestNo>
         ensures ok { IfOk result (λ row. held_view self.now number ≡ Some (shown row.now)) }
         ensures root { IfOk result (λ row. row.now.view.at.root ≡ self.now.root) }
+        ensures inside { IfOk result (λ row. LiesIn self.now.root.capacity row.now.view.at) }
         ensures counts { OnOk result (0 < root_counts self.now) }
         ensures gone { IfErr result (λ no.
             (no ≡ NestNo.Gone) × (held_view self.now number ≡ None)) }
@@ -114,6 +116,7 @@ impl ViewTree {
     pub(crate) fn part(&self, number: u32, start: u32, len: u32) -> Result<View, NestNo>
         ensures ok { IfOk result (λ view. IfSome (held_view self.now number) (λ x.
             view.at ≡ slice_of x.at start len)) }
+        ensures inside { IfOk result (λ view. LiesIn self.now.root.capacity view.at) }
         ensures answers { MatchResult result
             (λ view. slice_no (has_all self.now) (held_view self.now number) start len ≡ None)
             (λ no. slice_no (has_all self.now) (held_view self.now number) start len ≡ Some no) }
@@ -133,6 +136,7 @@ impl ViewTree {
         requires held { IsSome (held_view self.old number) }
         requires part { IfSome (held_view self.old number) (λ x.
             view.at ≡ slice_of x.at start len) }
+        requires inside { LiesIn self.old.root.capacity view.at }
         requires room { has_all self.old ≡ false }
         ensures number { result ≡ length self.old.views }
         ensures state { self.new ≡ after_call self.old (Slice number start len) }

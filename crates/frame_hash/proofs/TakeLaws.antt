@@ -119,6 +119,7 @@ nothing_read pool s t m works =
         turns_left = omega arith;
         moves_left = omega arith;
         number = refl;
+        knows = g.knows;
       };
       counts = λ root. omega arith;
       added = [];

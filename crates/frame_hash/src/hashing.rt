@@ -1,10 +1,10 @@
 //! How a slice is hashed where it is, and let go.
 ghost use Rattle.std.specs.Prelude.{◌≡◌, ◌++◌, List, ℕ, IfSome, length, Some};
-ghost use Rattle.pool_law.specs.Views.{IsView};
 ghost use Rattle.pool_table.specs.Counts.{HasCount};
 ghost use Rattle.seat_work.specs.Hands.{empty_hand};
 ghost use Rattle.seat_work.specs.Works.{Works};
 ghost use Rattle.sha2.specs.Hashers.{Holds256};
+ghost use Rattle.shared_pool.specs.Knowing.{ReachesKnown};
 ghost use Rattle.shared_pool.specs.SeatViews.{view_of};
 ghost use Rattle.frame_hash.specs.Takes.{HasSpent};
 ghost use Rattle.frame_hash.specs.declared.turns.TheConstants.{HASH_TURNS};
@@ -25,7 +25,7 @@ pub fn hash_parcel<W: Wait>(
     hasher: Sha256,
 ) -> (Sha256, u32)
     requires works { Works pool.now empty_hand HASH_TURNS 0 seat.old }
-    requires view { IfSome parcel.view IsView }
+    requires known { IfSome parcel.view (ReachesKnown (view_of seat.old)) }
     requires counts { IfSome parcel.view (λ v. HasCount v.root (view_of seat.old)) }
     ensures { (piece : List ℕ) × HasSpent pool.now parcel.view piece seat.old seat.new
         × (length piece ≡ result.1)
@@ -46,7 +46,7 @@ fn hash_slice<W: Wait>(
     hasher: Sha256,
 ) -> Sha256
     requires works { Works pool.now empty_hand HASH_TURNS 0 seat.old }
-    requires view { IsView view.now }
+    requires known { ReachesKnown (view_of seat.old) view.now }
     requires counts { HasCount view.now.root (view_of seat.old) }
     ensures { (piece : List ℕ) × HasSpent pool.now (Some view.now) piece seat.old seat.new
         × (length piece ≡ view.now.len)

@@ -1,5 +1,5 @@
 -- The three notes with which a root ends, and what the seat has in hand between them.
-use Rattle.std.proofs.Common.{◌≡◌, ℕ, ◌+◌, ◌≤◌, List, [], ◌∷◌, ◌++◌, refl, ap, ◌∙◌, arith}
+use Rattle.std.proofs.Common.{◌≡◌, ℕ, ◌+◌, ◌≤◌, List, [], ◌∷◌, ◌++◌, refl, ap, ◌∙◌, arith, Some}
 use Rattle.handle_bin.specs.Bins.{HandleValue}
 use Rattle.pool_law.specs.declared.id.Region.{Region}
 use Rattle.pool_law.specs.declared.id.RootId.{RootId}
@@ -46,7 +46,7 @@ module _ (pool : SharedPool) (root : RootId) (s0 s1 s2 s3 : PoolSeat)
       (noted2 : IsNoted pool s1 s2 (Object.Arena r.id.place.arena) k (plain (Did.Give r.id))) where
     proceeds2 : Proceeds pool (with_place h.place) 1 0 no_change s1 s2
     proceeds2 =
-        gave_region pool s1 s2 seat2 k h.place r
+        gave_region pool s1 s2 seat2 k (Some h.place) r
         (works_less pool (with_both h.place r.id) 3 0 1 0 s1 works1 (omega arith) (omega arith)) noted2
 
     works2 : Works pool (with_place h.place) 2 0 s2

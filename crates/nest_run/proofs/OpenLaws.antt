@@ -98,7 +98,7 @@ module _ (pool : SharedPool) (layout : pool.layout ≡ LAYOUT)
         (noted2 : IsNoted pool s1 s2 (Object.Arena arena) k (plain (Did.Take class r.id))) where
       proceeds2 : Proceeds pool (with_both h.place r.id) 1 0 no_change s1 s2
       proceeds2 =
-          took_region pool s1 s2 seat2 k h.place arena class (Some r)
+          took_region pool s1 s2 seat2 k (Some h.place) arena class (Some r)
           (works_less pool (with_place h.place) 16386 4096 1 0 s1 works1 (omega arith) (omega arith)) noted2
 
       works2 : Works pool (with_both h.place r.id) 16385 4096 s2

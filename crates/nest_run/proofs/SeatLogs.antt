@@ -121,6 +121,7 @@ module _ (pool : SharedPool) (s t : NestState) (old new : PoolSeat)
             turns_left = omega arith;
             moves_left = omega arith;
             number = g.number;
+            knows = g.knows;
           }
 
   pub took : (b : Bool) → (b ≡ true → HasCount s.root u) → MatchBool b (IsRetained s.root old new) (new ≡ old)

@@ -1,9 +1,10 @@
 //! The workload of buffers that go to the next lane: it reads and releases them.
 
-ghost use Rattle.std.specs.Prelude.{◌≡◌, ◌<◌, IfSome};
+ghost use Rattle.std.specs.Prelude.{◌≡◌, ◌<◌, ◌≤◌, IfSome};
 ghost use Rattle.pool_law.specs.Limits.{geometry_of};
 ghost use Rattle.pool_law.specs.Views as views;
 ghost use Rattle.pool_table.specs.Counts.{HasCount};
+ghost use Rattle.shared_pool.specs.Knowing.{ReachesKnown};
 ghost use Rattle.shared_pool.specs.SeatViews.{view_of};
 ghost use Rattle.seat_work.specs.HandOvers.{Sends};
 ghost use Rattle.seat_work.specs.Hands.{empty_hand};
@@ -97,6 +98,7 @@ fn make_one<W: Wait>(
     ensures goes { Goes pool.now empty_hand 8 0 seat.old seat.new }
     ensures sends { Sends 0 (view_of seat.old) (view_of seat.new) }
     ensures counts { IfSome result (λ r. HasCount r.0 (view_of seat.new)) }
+    ensures small { IfSome result (λ r. r.0.capacity ≤ views.most_capacity) }
 {
     let class = sizes.class_of(size)?;
     let Ok(root) = allocate(rt, pool, seat, size, class, None) else {
@@ -117,6 +119,7 @@ fn post_next<W: Wait>(
     requires shape { shape.now ≡ pool.now.table.layout.shape }
     requires works { Works pool.now empty_hand 0 0 seat.old }
     requires view { IfSome view views.IsView }
+    requires known { IfSome view (ReachesKnown (view_of seat.old)) }
     requires counts { IfSome view (λ v. HasCount v.root (view_of seat.old)) }
     requires mail { HasMail pool.now 1 seat.old }
     ensures goes { Goes pool.now empty_hand 0 0 seat.old seat.new }

@@ -11,6 +11,8 @@ mod caches;
 #[cfg(test)]
 mod composites;
 #[cfg(test)]
+mod grows;
+#[cfg(test)]
 mod leaks;
 #[cfg(test)]
 mod nests;

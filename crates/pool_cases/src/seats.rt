@@ -2,6 +2,7 @@
 
 ghost use Rattle.std.specs.Prelude.{◌≡◌, ◌+◌, ◌≤◌, [], Some, vec_capacity, IfOk};
 ghost use Rattle.pool_law.specs.Limits.{geometry_of};
+ghost use Rattle.pool_table.specs.Capacities.{knows_of};
 ghost use Rattle.pool_table.specs.Counts.{HasCount};
 ghost use Rattle.shared_pool.specs.SeatViews.{view_of};
 ghost use Rattle.shared_pool.specs.MailAnswers.{HasRoom};
@@ -34,7 +35,7 @@ const LAYOUT: Layout = Layout {
         interval: 128,
     },
     moves: 8,
-    turns: 64,
+    turns: 192,
 };
 
 // Of each buffer how long it is, and where four bytes are written. The second takes the place of
@@ -42,19 +43,19 @@ const LAYOUT: Layout = Layout {
 const ROWS: [(u32, u32); 4] = [(24, 20), (24, 20), (30_000, 17), (1_000_000, 999_996)];
 
 // A new pool with the seats of its two lanes, the list that held them, emptied, and its sizes.
-struct Pair {
-    pool: SharedPool,
-    first: PoolSeat,
-    second: PoolSeat,
-    spare: Vec<PoolSeat>,
-    sizes: SizeClasses,
+pub(crate) struct Pair {
+    pub(crate) pool: SharedPool,
+    pub(crate) first: PoolSeat,
+    pub(crate) second: PoolSeat,
+    pub(crate) spare: Vec<PoolSeat>,
+    pub(crate) sizes: SizeClasses,
 }
 
-fn open(alloc: Global) -> Result<Pair, AllocError>
+pub(crate) fn open(alloc: Global) -> Result<Pair, AllocError>
     ensures layout { IfOk result (λ o. o.pool.layout ≡ LAYOUT) }
     ensures sizes { IfOk result (λ o. o.sizes ≡ geometry_of LAYOUT.shape) }
-    ensures works { IfOk result (λ o. Works o.pool empty_hand 64 8 o.first
-        × Works o.pool empty_hand 64 8 o.second) }
+    ensures works { IfOk result (λ o. Works o.pool empty_hand 192 8 o.first
+        × Works o.pool empty_hand 192 8 o.second) }
     ensures lanes { IfOk result (λ o. ((view_of o.first).own.number ≡ Some 0)
         × ((view_of o.second).own.number ≡ Some 1)) }
     ensures room { IfOk result (λ o.
@@ -75,7 +76,7 @@ fn open(alloc: Global) -> Result<Pair, AllocError>
 }
 
 // Closes a pool, and answers how many chunks it had taken.
-fn close<W: Wait>(
+pub(crate) fn close<W: Wait>(
     rt: &W,
     alloc: Global,
     pool: SharedPool,
@@ -101,7 +102,7 @@ fn close<W: Wait>(
 }
 
 // A new buffer.
-fn made<R: Abort + Wait>(
+pub(crate) fn made<R: Abort + Wait>(
     rt: &R,
     pool: &SharedPool,
     sizes: &SizeClasses,
@@ -124,7 +125,7 @@ fn made<R: Abort + Wait>(
 }
 
 // Four bytes of a buffer, from an offset on, copied out, and whether they were shown as they are.
-fn bytes_at<R: Abort + Wait>(
+pub(crate) fn bytes_at<R: Abort + Wait>(
     rt: &R,
     pool: &SharedPool,
     seat: &mut PoolSeat,
@@ -133,7 +134,7 @@ fn bytes_at<R: Abort + Wait>(
 ) -> ([u8; 4], bool)
     requires works { Works pool.now empty_hand 2 0 seat.old }
     requires counts { HasCount root (view_of seat.old) }
-    requires range { at + 4 ≤ root.capacity }
+    requires range { at + 4 ≤ knows_of root (view_of seat.old) }
     ensures goes { Goes pool.now empty_hand 2 0 seat.old seat.new }
     ensures counts { HasCount root (view_of seat.new) }
 {

@@ -22,11 +22,14 @@ use Rattle.shared_pool.specs.declared.pool.SharedPool.{SharedPool}
 use Rattle.shared_pool.specs.declared.seat.PoolSeat.{PoolSeat}
 use Rattle.shared_pool.specs.RootNotes.{access}
 use Rattle.shared_pool.specs.Seats.{IsNoted}
+use Rattle.pool_table.specs.Capacities.{knows_of}
 use Rattle.shared_pool.specs.SeatViews.{view_of}
 use Rattle.seat_work.specs.Changes.{one_for, times, no_change, once_more}
 use Rattle.seat_work.specs.Growth.{is_quiet, is_quiet_entry}
 use Rattle.seat_work.specs.Hands.{empty_hand}
 use Rattle.seat_work.specs.Works.{IsLater, Proceeds}
+use Rattle.seat_work.proofs.Knowing.{knows_born, knows_on}
+use Rattle.shared_composite.proofs.KnownParts.{known_on}
 use Rattle.seat_work.proofs.FirstSeats.{has_nothing}
 use Rattle.seat_work.proofs.Proceeding.{changes_then}
 use Rattle.composite_buf.specs.Maps.{Fits}
@@ -96,6 +99,7 @@ has_placed pool old mid new bytes root size number size_is capacity first later 
     turns_left = (let a = first.goes.turns_left in let b = second.goes.turns_left in omega (arith, a, b));
     moves_left = (let a = first.goes.moves_left in let b = second.goes.moves_left in omega (arith, a, b));
     number = second.goes.number ∙ first.goes.number;
+    knows = knows_on (view_of old) (view_of mid) (view_of new) first.goes.knows second.goes.knows;
   };
   changes = changes_then (once_more root) (view_of old) (view_of mid) (view_of new) first.changes second.changes;
   posts = λ r.
@@ -119,7 +123,7 @@ module _ (pool : SharedPool) (lane : ℕ) (inputs : List (List ℕ)) where
     };
     lane_is = fresh.lane_is;
     counted = fresh.counted;
-    known = All-nil IsKnown;
+    known = All-nil (IsKnown (view_of s));
     short = All-nil (λ (p : Part). p.offset + p.len ≤ byte_limit);
     lens = refl;
   }
@@ -150,8 +154,11 @@ module _ (pool : SharedPool) (lane : ℕ) (inputs : List (List ℕ)) where
             let d = sum_by-append (λ (r : RootId). one_for r root) (roots_of placed) (p.root ∷ []) in
             omega (arith, a, b, c, d));
         known =
-            All-push IsKnown placed p was.known
-            (let a = put.len in omega (arith, a, len, offset));
+            All-push (IsKnown (view_of t)) placed p
+            (known_on (view_of s) (view_of t) placed put.goes.knows was.known)
+            (let a = put.len in let b = knows_born (view_of t) p.root in
+            let n : ℕ = knows_of p.root (view_of t) in let b' : p.root.capacity ≤ n = b in
+            let g : p.offset + p.len ≤ n = omega (arith, a, len, offset, b') in g);
         short =
             All-push (λ (x : Part). x.offset + x.len ≤ byte_limit) placed p was.short
             (omega (arith, len, offset, short));

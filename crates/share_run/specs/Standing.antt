@@ -107,7 +107,7 @@ pub record IsFilling
     pub works : Works pool empty_hand (reserve BOARD_TURNS + 7 * (length inputs - at)) 0 s
     pub lane_is : IsOfLane lane s
     pub counted : CountsJust (roots_of parts) (view_of s)
-    pub known : All IsKnown parts
+    pub known : All (IsKnown (view_of s)) parts
     pub short : All (λ p. p.offset + p.len ≤ byte_limit) parts
     pub lens : HasLengths (take at inputs) parts
 

@@ -7,6 +7,7 @@ use Rattle.pool_law.specs.declared.id.Part.{Part}
 use Rattle.pool_law.specs.declared.id.RootId.{RootId}
 use Rattle.pool_law.specs.Composites.{cut}
 use Rattle.pool_law.proofs.ListLemmas.{slice_get-below}
+use Rattle.pool_table.specs.Capacities.{knows_of}
 use Rattle.pool_table.specs.Counts.{HasCount}
 use Rattle.shared_pool.specs.declared.pool.SharedPool.{SharedPool}
 use Rattle.shared_pool.specs.SeatViews.{view_of}
@@ -47,8 +48,10 @@ module _ (pool : SharedPool) (c : Core) (core : IsCore pool c) (k : ℕ) (p : Pa
       let a = core.fit.counted p.root in let b = counts_root c.parts k p there in omega (arith, a, b)
 
   -- and what is cut of it is known
-  pub cut_known : (s t : ℕ) → s + t ≤ p.len → IsKnown (cut p s t)
+  pub cut_known : (s t : ℕ) → s + t ≤ p.len → IsKnown (view_of c.seat) (cut p s t)
   cut_known s t inside =
-      let known : IsKnown p = subst IsKnown (get_or_from_slice_get c.parts k p p there)
+      let n : ℕ = knows_of p.root (view_of c.seat) in
+      let known : p.offset + p.len ≤ n = subst (IsKnown (view_of c.seat)) (get_or_from_slice_get c.parts k p p there)
       (core.fit.known k p (slice_get-below c.parts k p there)) in
-      omega (arith, known, inside)
+      let g : (p.offset + s) + t ≤ n = omega (arith, known, inside) in
+      g

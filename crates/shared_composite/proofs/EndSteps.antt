@@ -37,9 +37,11 @@ use Rattle.seat_work.proofs.HandNotes.{handle_goes, region_given, region_kept, r
 use Rattle.lane_core.specs.declared.retirement.Ending.{Ending}
 use Rattle.lane_core.specs.declared.retirement.Ending.TheVariants.{Root as EndRoot, Cache as AskCache, Arena as AskArena, Home}
 use Rattle.lane_core.specs.declared.retirement.Ends.TheVariants.{More, Held as HeldBack, Done}
+use Rattle.lane_core.specs.Endings.{goes_home}
 use Rattle.lane_core.specs.Readings.{ReadsOn, behind, none_asked}
 use Rattle.lane_core.specs.Releasings.{hand_in, rest_in}
-use Rattle.lane_core.proofs.Readings.{read_end, put_uncached, read_kept, read_back, read_away_busy, read_given, read_gone}
+use Rattle.lane_core.proofs.Readings.{read_end, read_gone}
+use Rattle.lane_core.proofs.RegionReads.{put_uncached, kept_on, back_on, away_busy_on, given_behind}
 use Rattle.shared_composite.specs.Endings.{MayEnd, HasEnded, Ended, Holds, turns_in}
 use Rattle.shared_composite.proofs.HandsOnly.{only_on, handle_on, region_on, held_token}
 
@@ -95,7 +97,7 @@ module _ (pool : SharedPool) (old new : PoolSeat) (is : IsPoolSeat pool new) (sa
                 (record { counts = λ root. refl; ended = λ root. refl; empty = refl; full = refl })
                 (handle_on pool old new (e ∷ []) 0 grows (hand_in (Some (AskCache r h))) (hand_in (Some (Home h))) h
                 carries refl may.holds.1)
-                (read_kept shape h.place number (entry_of e) r.id may.holds.2 refl) refl,
+                (kept_on number (entry_of e) (goes_home shape h.place) r.id may.holds.2 refl) refl,
           )
 
       pub came_back : (why : CacheNo) → MayEnd pool old (AskCache r h)
@@ -114,7 +116,7 @@ module _ (pool : SharedPool) (old new : PoolSeat) (is : IsPoolSeat pool new) (sa
                   region_on pool old new (e ∷ []) 0 grows hand r carries may.holds.0,
                   handle_on pool old new (e ∷ []) 0 grows hand hand h carries refl may.holds.1,
                 )
-                (read_back shape h.place number (entry_of e) r.id may.holds.2 why refl) refl,
+                (back_on number (entry_of e) (goes_home shape h.place) r.id may.holds.2 why refl) refl,
           )
 
       pub given_back : MayEnd pool old (AskArena r h)
@@ -132,7 +134,7 @@ module _ (pool : SharedPool) (old new : PoolSeat) (is : IsPoolSeat pool new) (sa
                 (record { counts = λ root. refl; ended = λ root. refl; empty = refl; full = refl })
                 (handle_on pool old new (e ∷ []) 0 grows (hand_in (Some (AskArena r h))) (hand_in (Some (Home h))) h
                 carries refl may.holds.1)
-                (read_given shape h.place number (entry_of e) r.id refl) refl,
+                (given_behind number (entry_of e) (goes_home shape h.place) r.id refl) refl,
           )
 
     pub gone_home : MayEnd pool old (Home h) → IsNoted pool old new (Bin h.lane) number (plain (Did.Home h.place))
@@ -165,7 +167,8 @@ module _ (pool : SharedPool) (old new : PoolSeat) (is : IsPoolSeat pool new) (sa
               region_on pool old new (Busy held ∷ []) 0 grows hand r carries may.holds.0,
               handle_on pool old new (Busy held ∷ []) 0 grows hand hand h carries refl may.holds.1,
             )
-            (read_away_busy shape h.place 0 (entry_of (Busy held)) r.id may.holds.2 held found.object refl) refl,
+            (away_busy_on 0 (entry_of (Busy held)) (goes_home shape h.place) r.id may.holds.2 held found.object refl)
+            refl,
       )
 
   -- a root ends, and its region is put away
@@ -215,7 +218,7 @@ module _ (pool : SharedPool) (old new : PoolSeat) (is : IsPoolSeat pool new) (sa
           es,
           ended_by (EndRoot token) (Some (AskArena r h)) es may grows (omega arith) (omega (arith, turns)) carries
               tells (region, handle) (λ log. reads log
-              ∙ put_uncached shape h.place number (entry_of e) r.id more (behind log (map entry_of es) none_asked))
+              ∙ put_uncached (goes_home shape h.place) r.id more (behind log (map entry_of es) none_asked))
               refl,
         )
 

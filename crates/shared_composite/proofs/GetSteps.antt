@@ -22,9 +22,11 @@ use Rattle.seat_work.proofs.Accesses.{IsQuiet, get_quiet}
 use Rattle.seat_work.proofs.Counting.{changes_by}
 use Rattle.seat_work.proofs.Grown.{Grows, note_at, grows_noted}
 use Rattle.seat_work.proofs.HandLaws.{held_on}
+use Rattle.seat_work.proofs.Knowing.{knows_more, knows_same}
 use Rattle.shared_composite.specs.declared.cores.Core.{Core}
 use Rattle.shared_composite.specs.Cores.{IsCore, IsKept, IsGetOf, CountsJust, roots_of, turns_of}
 use Rattle.shared_composite.proofs.HandsOnly.{only_on, only_nothing, nothing_only}
+use Rattle.shared_composite.proofs.KnownParts.{known_on}
 
 -- the core at this seat
 abbrev pub with_seat : Core → PoolSeat → Core
@@ -71,7 +73,7 @@ module _ (pool : SharedPool) (c : Core) (core : IsCore pool c) (new : PoolSeat) 
             (only_nothing v core.fit.nothing));
         counted =
             λ root. (let a = core.fit.counted root in let b = changes.counts root in omega (arith, a, b));
-        known = core.fit.known;
+        known = known_on v w c.parts (knows_more v w (e ∷ []) grows.more.notes) core.fit.known;
       };
       begun = record { next = core.begun.next; ending = core.begun.ending };
       few = core.few;
@@ -101,7 +103,7 @@ module _ (pool : SharedPool) (c : Core) (core : IsCore pool c) (new : PoolSeat) 
         seat_is = is;
         nothing = subst HasNothing (sym view) core.fit.nothing;
         counted = subst (CountsJust (roots_of c.parts)) (sym view) core.fit.counted;
-        known = core.fit.known;
+        known = known_on v w c.parts (knows_same v w view) core.fit.known;
       };
       begun = record { next = core.begun.next; ending = core.begun.ending };
       few = core.few;

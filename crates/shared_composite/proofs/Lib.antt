@@ -1,4 +1,5 @@
 pub mod HandsOnly
+pub mod KnownParts
 pub mod EndSteps
 pub mod PartReleases
 pub mod CoreLaws

@@ -27,6 +27,7 @@ use Rattle.seat_work.proofs.Counting.{Tells, changes_by, one_self, one_as}
 use Rattle.seat_work.proofs.Grown.{Grows, grows_ref}
 use Rattle.seat_work.proofs.HandLaws.{Carries, held_on}
 use Rattle.seat_work.proofs.HandNotes.{ref_carries, ended_carries, weightless}
+use Rattle.seat_work.proofs.Knowing.{knows_more, knows_same}
 use Rattle.lane_core.specs.declared.retirement.Ending.{Ending}
 use Rattle.lane_core.specs.declared.retirement.Ending.TheVariants.{Root, Cache, Arena, Home}
 use Rattle.lane_core.specs.declared.retirement.Ends.TheVariants.{Held as HeldBack}
@@ -40,6 +41,7 @@ use Rattle.shared_composite.specs.declared.cores.Core.{Core}
 use Rattle.shared_composite.specs.Cores.{IsUnderway, Advances, HasStepped, with_ending, CountsJust, roots_of, left_of, rest_of, releases}
 use Rattle.shared_composite.specs.Endings.{Ended as EndStep, HasEnded, HasOnly, Holds, MayEnd, turns_in}
 use Rattle.shared_composite.proofs.HandsOnly.{only_on, still_holds}
+use Rattle.shared_composite.proofs.KnownParts.{known_on}
 use Rattle.shared_composite.proofs.PartReleases.{first_kept, first_ended}
 
 -- ---- The end of a root that is under way.
@@ -74,7 +76,9 @@ module _ (pool : SharedPool) (c : Core) (new : PoolSeat) (stage : Ending) (next 
     next = was.next;
     counted =
         λ root. (let a = was.counted root in let b = did.counts.counts root in omega (arith, a, b));
-    known = was.known;
+    known =
+        known_on (view_of c.seat) (view_of new) c.parts (knows_more (view_of c.seat) (view_of new) added did.more.notes)
+        was.known;
     only = did.only;
     holds = did.holds;
     turns = (let a = was.turns in let b = did.turns in omega (arith, a, b));
@@ -110,7 +114,7 @@ still_underway pool c new is view holds was = record {
   seat = is;
   next = was.next;
   counted = subst (λ (v : SeatView). CountsJust (roots_of (left_of c)) v) (sym view) was.counted;
-  known = was.known;
+  known = known_on (view_of c.seat) (view_of new) c.parts (knows_same (view_of c.seat) (view_of new) view) was.known;
   only = subst (λ (v : SeatView). HasOnly (hand_in c.ending) v) (sym view) was.only;
   holds = holds;
   turns = (let a = was.turns in let b = ap (λ (v : SeatView). v.turns) view in omega (arith, a, b));
@@ -191,7 +195,7 @@ module _ (pool : SharedPool) (c : Core) (p : Part) (there : slice_get c.parts c.
             counted =
                 λ root. (let a = was.counted root in let b = changes.counts root in let d = counted_first root in
                 let e = one_of root [] in omega (arith, a, b, d, e));
-            known = was.known;
+            known = known_on v w c.parts (knows_more v w es grows.more.notes) was.known;
             only = only;
             holds = holds;
             turns =

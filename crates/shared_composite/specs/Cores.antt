@@ -12,6 +12,7 @@ use Rattle.pool_law.specs.Readers.{Reader, ◌>>◌, nothing}
 use Rattle.pool_table.specs.declared.views.Entry.{Entry}
 use Rattle.pool_table.specs.declared.views.Entry.TheVariants.{At, Ref, Busy}
 use Rattle.pool_table.specs.declared.views.SeatView.{SeatView}
+use Rattle.pool_table.specs.Capacities.{knows_of}
 use Rattle.pool_table.specs.Counts.{gained_of, lost_of}
 use Rattle.shared_pool.specs.declared.pool.SharedPool.{SharedPool}
 use Rattle.shared_pool.specs.declared.seat.PoolSeat.{PoolSeat}
@@ -40,16 +41,16 @@ roots_of parts = map (λ p. p.root) parts
 abbrev pub CountsJust : List RootId → SeatView → Type 0
 CountsJust roots v = (root : RootId) → gained_of root v ≡ lost_of root v + times root roots
 
--- the root is known to have the bytes of the part
-abbrev pub IsKnown : Part → Type 0
-IsKnown p = p.offset + p.len ≤ p.root.capacity
+-- the view knows that the root has the bytes of the part
+abbrev pub IsKnown : SeatView → Part → Type 0
+IsKnown v p = p.offset + p.len ≤ knows_of p.root v
 
 -- a numbered seat of the pool with nothing in hand, which counts and knows just these components
 pub record IsFit (pool : SharedPool) (seat : PoolSeat) (parts : List Part) : Type 0 where
   pub seat_is : IsPoolSeat pool seat
   pub nothing : HasNothing (view_of seat)
   pub counted : CountsJust (roots_of parts) (view_of seat)
-  pub known : All IsKnown parts
+  pub known : All (IsKnown (view_of seat)) parts
 
 -- ---- Cores.
 
@@ -84,7 +85,7 @@ pub record IsUnderway (pool : SharedPool) (c : Core) : Type 0 where
   pub seat : IsPoolSeat pool c.seat
   pub next : c.next ≤ length c.parts
   pub counted : CountsJust (roots_of (left_of c)) (view_of c.seat)
-  pub known : All IsKnown c.parts
+  pub known : All (IsKnown (view_of c.seat)) c.parts
   pub only : HasOnly (hand_in c.ending) (view_of c.seat)
   pub holds : IfSome c.ending (Holds pool c.seat)
   pub turns : turns_left c ≤ turns_of c

@@ -49,7 +49,7 @@ fn put_away(pool: &SharedPool, seat: &mut PoolSeat, region: Region, handle: Hand
 {
     match pool.put_cached(seat, region) {
         Went::Did(_number, Put::Kept) => Ends::More(Ending::Home(handle)),
-        Went::Did(_number, Put::Back(region, _no)) => Ends::More(Ending::Arena(region, handle)),
+        Went::Did(_number, Put::Back(_no, region)) => Ends::More(Ending::Arena(region, handle)),
         Went::Held(_held, region) => Ends::More(Ending::Arena(region, handle)),
     }
 }

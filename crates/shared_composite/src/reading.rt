@@ -54,7 +54,7 @@ fn get(pool: &SharedPool, seat: &mut PoolSeat, part: Part, out: &mut [u8]) -> Re
     requires seat { IsPoolSeat pool.now seat.old }
     requires turn { 0 < (view_of seat.old).turns }
     requires counts { HasCount part.root (view_of seat.old) }
-    requires known { IsKnown part }
+    requires known { IsKnown (view_of seat.old) part }
     requires range { length out.old ≡ part.len }
     ensures seat { IsPoolSeat pool.now seat.new }
     ensures same { SameSeat seat.old seat.new }

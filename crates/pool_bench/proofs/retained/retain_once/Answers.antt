@@ -5,6 +5,7 @@ use Rattle.shared_pool.specs.SeatViews.{view_of}
 use Rattle.seat_work.specs.Hands.{empty_hand}
 use Rattle.seat_work.proofs.Calls.{released_kept, released_last}
 use Rattle.seat_work.proofs.Counting.{one_self}
+use Rattle.seat_work.proofs.Knowing.{knows_on}
 use Rattle.seat_work.proofs.Proceeding.{works_after}
 use Rattle.pool_bench.proofs.retained.retain_once.Goals as goal
 
@@ -38,6 +39,7 @@ returns-clause-goes c =
       turns_left = omega (arith, first.turns_left, last.turns_left);
       moves_left = omega (arith, first.moves_left, back);
       number = last.number ∙ first.number;
+      knows = knows_on (view_of c.args.seat.now) (view_of mid) (view_of new) first.knows last.knows;
     }
 
 pub returns-clause-counts : goal.returns-clause-counts

@@ -11,8 +11,8 @@ returns-clause-works c =
     let b = c.remove-second in
     let both = first_two (IsOpened LAYOUT pool) c.in_ok-pool.seats.items a.new.self.items a.result
     b.result (omega (arith, s.many)) a.ensures.value a.ensures.items b.ensures.value s.each in (
-      opened_works pool LAYOUT 0 64 8 a.result both.0 (omega arith) (omega arith),
-      opened_works pool LAYOUT 1 64 8 b.result both.1 (omega arith) (omega arith),
+      opened_works pool LAYOUT 0 192 8 a.result both.0 (omega arith) (omega arith),
+      opened_works pool LAYOUT 1 192 8 b.result both.1 (omega arith) (omega arith),
     )
 
 pub returns-clause-room : goal.returns-clause-room

@@ -1,7 +1,7 @@
 use Rattle.std.proofs.Common.{◌≡◌, ◌<◌, ℕ, ◌+◌, List, [], ◌∷◌, length, map, set, refl, sym, ap, ◌∙◌, subst, arith, Some, None, length-set, length-append, false}
 use Rattle.std.specs.Prelude.{◌==◌, IfSome, slice_get}
 use Rattle.std.proofs.lemmas.Option.{slice_get_read}
-use Rattle.pool_law.specs.Views.{slice_of}
+use Rattle.pool_law.specs.Views.{slice_of, LiesIn}
 use Rattle.counted_view.specs.declared.calls.NestCall.TheVariants.{Slice}
 use Rattle.byte_view.specs.declared.view.View.{View}
 use Rattle.counted_view.specs.declared.rows.Row.{Row}
@@ -9,7 +9,7 @@ use Rattle.counted_view.specs.Nests.{NestState, NestedView, made_from, held_view
 use Rattle.pool_law.specs.declared.id.RootId.{RootId}
 use Rattle.pool_law.specs.declared.id.ViewData.{ViewData}
 use Rattle.counted_view.specs.Rows.{shown, AreCounted, root_sum}
-use Rattle.counted_view.specs.Trees.{AreOf}
+use Rattle.counted_view.specs.Trees.{AreOf, IsOf}
 use Rattle.counted_view.proofs.RootLaws.{AreOf-set, AreOf-push}
 use Rattle.counted_view.proofs.RowLaws.{one, live_rows-le-length}
 use Rattle.counted_view.proofs.ClimbLaws.{root_sum-more}
@@ -37,11 +37,11 @@ slice v view = record { view = view; parent = Some v; holds = 1; live = 0 }
 part_root : (root : RootId) (rows : List Row) (v : ℕ) (x : Row) (view : View) (start len : ℕ)
     → slice_get rows v ≡ Some x → 0 < x.holds
     → IfSome (if_held (slice_get (map shown rows) v)) (λ (y : NestedView). view.at ≡ slice_of y.at start len)
-    → AreOf root rows → view.at.root ≡ root
-part_root root rows v x view start len at held part all =
+    → LiesIn root.capacity view.at → AreOf root rows → IsOf root view.at
+part_root root rows v x view start len at held part inside all =
     let is : view.at ≡ slice_of x.view.at start len =
     if_held_at rows v x (λ (y : NestedView). view.at ≡ slice_of y.at start len) at held part in
-    ap (λ (a : ViewData). a.root) is ∙ all v x at
+    record { root_is = ap (λ (a : ViewData). a.root) is ∙ (all v x at).root_is; inside = inside }
 
 sliced : goal.invariant_of-self
 sliced c =
@@ -70,7 +70,9 @@ sliced c =
           (part_root c.self.inside.root rows v x c.args.view c.args.start c.args.len at (let_held rows v x at lets)
           (subst (λ (s : NestState). IfSome (held_view s v)
           (λ (y : NestedView). c.args.view.at ≡ slice_of y.at c.args.start c.args.len)) (sym c.self.view_is)
-          c.requires.part) known.roots));
+          c.requires.part)
+          (subst (λ (s : NestState). LiesIn s.root.capacity c.args.view.at) (sym c.self.view_is) c.requires.inside)
+          known.roots));
       some = omega (arith, size);
       bound = known.bound;
       few = omega (arith, size, known.few, room-sliced c.self.inside.root c.self.inside.bound rows room);

@@ -4,6 +4,8 @@ use Rattle.nest_run.specs.declared.calls.Call.TheVariants.{Set}
 use Rattle.nest_run.specs.declared.replies.Reply.{Reply}
 use Rattle.nest_run.specs.declared.views.Play.{Play}
 use Rattle.nest_run.specs.Standing.{IsPlayed}
+use Rattle.shared_pool.specs.SeatViews.{view_of}
+use Rattle.seat_work.proofs.Knowing.{knows_born}
 use Rattle.nest_run.proofs.AccessLaws.{found_inside, may_access, may_work, set_played}
 use Rattle.nest_run.proofs.RefusalLaws.{longer_refused, set_refused}
 use Rattle.nest_run.proofs.StepLaws.{range_not_full}
@@ -23,8 +25,10 @@ set-requires-clause-counts g c = may_access c.args.pool.now c.args.self.now c.re
 pub set-requires-clause-range : goal.set-requires-clause-range
 set-requires-clause-range g c =
     let e = c.in-Ok.ensures in
-    (found_inside c.args.pool.now c.args.self.now c.requires c.args.of c.args.at c.count.result c.in-Ok.offset
-    c.in-Ok._len (length c.args.bytes.now) e.answers e.range e.inside c.count.ensures).1
+    let whole = found_inside c.args.pool.now c.args.self.now c.requires c.args.of c.args.at c.count.result
+    c.in-Ok.offset c.in-Ok._len (length c.args.bytes.now) e.answers e.range e.inside c.count.ensures in
+    let inside = whole.1 in
+    let born = knows_born (view_of c.args.self.now.seat) c.args.self.now.root in omega (arith, inside, born)
 
 pub returns-in-Ok : goal.returns-in-Ok
 returns-in-Ok g c =
