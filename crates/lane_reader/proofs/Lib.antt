@@ -13,4 +13,7 @@ pub mod PieceLemmas
 pub mod ReplyLemmas
 pub mod TurnLemmas
 pub mod RunLemmas
+pub mod FrontLemmas
 pub mod WholeLemmas
+pub mod ReachLemmas
+pub mod UnlikeLemmas

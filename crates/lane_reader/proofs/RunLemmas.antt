@@ -1,11 +1,10 @@
 -- The commands of a lane, one after another.
-use Rattle.std.proofs.Common.{◌≡◌, ℕ, zero, suc, ◌+◌, ◌<◌, ◌≤◌, List, [], ◌∷◌, ◌++◌, length, take, drop, get_or, Bool, true, false, refl, sym, ap, arith, ◌∙◌, drop-cons, subst₂}
+use Rattle.std.proofs.Common.{◌≡◌, ℕ, zero, suc, ◌+◌, ◌<◌, ◌≤◌, List, [], ◌∷◌, ◌++◌, length, take, drop, get_or, Bool, true, false, refl, sym, ap, arith, ◌∙◌, drop-cons}
 use Rattle.std.specs.Prelude.{◌↔◌, nat_le, Option, Some, None, option_and_then, is_some, IsTrue}
-use Rattle.std.specs.List.{All, sum_by}
+use Rattle.std.specs.List.{All}
 use Rattle.std.proofs.lemmas.Bool.{leb-true}
 use Rattle.std.proofs.lemmas.List.{drop_all}
 use Rattle.std.proofs.lemmas.List.Elements.{All-from_get_or}
-use Rattle.std.proofs.lemmas.List.Sums.{sum_by-drop_more}
 use Rattle.pool_law.specs.declared.command.Command.{Command}
 use Rattle.pool_law.specs.declared.run.Shape.{Shape}
 use Rattle.pool_law.specs.declared.run.Reply.{Reply}
@@ -16,11 +15,9 @@ use Rattle.pool_law.specs.Lanes.{not_carried_out}
 use Rattle.pool_law.specs.LaneLaw.{sweep_period, lane_step, lane_run, stopped_run, before_stop, pieces, note_counts, replies_in}
 use Rattle.pool_law.specs.Legal.{fits_after, all_fit}
 use Rattle.pool_law.proofs.SameLemmas.{and-first, and-second}
-use Rattle.lane_reader.specs.declared.lane.Lane.{Lane}
 use Rattle.lane_reader.specs.Candidates.{HasFewNames}
 use Rattle.lane_reader.specs.Replying.{same_reply}
-use Rattle.lane_reader.specs.Standing.{IsLane}
-use Rattle.lane_reader.specs.Running.{Runs, HasStopped}
+use Rattle.lane_reader.specs.Running.{Runs, Stops}
 use Rattle.lane_reader.proofs.ReplyLemmas.{same_reply-is}
 
 -- ---- How many names a command has.
@@ -118,7 +115,7 @@ module _ (lane : ℕ) (c : Command) (cs : List Command) (r : Answered) (rs : Lis
   abbrev after : Option (Unit {0} × Log) → Option (List Reply)
   after o = option_and_then (λ _. stopped_longer stopped) o
 
-  pub stop-reply : HasStopped lane (c ∷ cs) (r ∷ rs) es → same_reply Reply.Stopped r.reply ≡ true
+  pub stop-reply : Stops lane (c ∷ cs) (r ∷ rs) es → same_reply Reply.Stopped r.reply ≡ true
   stop-reply all = go noted all
     where
       go : (o : Option (Unit {0} × Log)) → after o ≡ Some (r.reply ∷ replies_in rs) →
@@ -127,7 +124,7 @@ module _ (lane : ℕ) (c : Command) (cs : List Command) (r : Answered) (rs : Lis
       go (Some p) e =
           ap (λ (reply : Reply). same_reply Reply.Stopped reply) (sym (stopped-is r.reply stopped (replies_in rs) e).0)
 
-  pub stop-read : HasStopped lane (c ∷ cs) (r ∷ rs) es → is_some noted ≡ true
+  pub stop-read : Stops lane (c ∷ cs) (r ∷ rs) es → is_some noted ≡ true
   stop-read all = go noted all
     where
       go : (o : Option (Unit {0} × Log)) → after o ≡ Some (r.reply ∷ replies_in rs) → is_some o ≡ true
@@ -135,7 +132,7 @@ module _ (lane : ℕ) (c : Command) (cs : List Command) (r : Answered) (rs : Lis
       go (Some p) e = refl
 
   pub stop-goes : same_reply Reply.Stopped r.reply ≡ true → is_some noted ≡ true →
-      HasStopped lane (c ∷ cs) (r ∷ rs) es ↔ HasStopped lane cs rs (drop r.notes es)
+      Stops lane (c ∷ cs) (r ∷ rs) es ↔ Stops lane cs rs (drop r.notes es)
   stop-goes same read = go noted read
     where
       go : (o : Option (Unit {0} × Log)) → is_some o ≡ true →
@@ -171,15 +168,7 @@ stop-within (reply ∷ replies) = go (same_reply Reply.Stopped reply) refl (stop
     go true e rest = omega (arith, stop-here reply replies e)
     go false e rest = omega (arith, stop-later reply replies e, rest)
 
--- ---- All commands.
-
--- a lane is where it has run the first commands, and these are left
-abbrev pub RunsOn :
-    Shape → ℕ → List Command → List Answered → Entries → Lane → List Command → List Answered → Entries → Type 0
-RunsOn shape lane cs rs es here cs' rs' es' =
-    (s : LaneState)
-    × (IsLane here s
-    × ((last : LaneState) → Runs shape lane new_lane cs rs es last ↔ Runs shape lane s cs' rs' es' last))
+-- ---- The stop, from a reply on.
 
 -- the next of a list
 pub next-item : {X : Type 0} (xs : List X) (i : ℕ) (x : X) → i < length xs → x ≡ get_or xs i x →
@@ -188,16 +177,7 @@ next-item xs i x there is =
     let more : suc i ≡ i + 1 = omega arith in
     drop-cons xs i x there ∙ (λ j. sym is j ∷ drop (more j) xs)
 
-pub notes-next : (rs : List Answered) (i : ℕ) (r : Answered) → i < length rs → r ≡ get_or rs i r →
-    sum_by (λ a. a.notes) (drop i rs) ≡ r.notes + sum_by (λ a. a.notes) (drop (i + 1) rs)
-notes-next rs i r there is =
-    sum_by-drop_more (λ a. a.notes) rs i r there
-    ∙ ap (λ (a : Answered). a.notes + sum_by (λ a. a.notes) (drop (i + 1) rs)) (sym is)
-
-pub notes-past : (rs : List Answered) (i : ℕ) → length rs ≤ i → sum_by (λ a. a.notes) (drop i rs) ≡ 0
-notes-past rs i past = ap (λ (these : List Answered). sum_by (λ a. a.notes) these) (drop_all i rs past)
-
--- the stop, from a reply on
+-- the stop
 pub stop-at : (rs : List Answered) (i : ℕ) (r : Answered) → i < length rs → r ≡ get_or rs i r →
     same_reply Reply.Stopped r.reply ≡ true → before_stop (replies_in (drop i rs)) ≡ 0
 stop-at rs i r there is same =
@@ -213,67 +193,3 @@ stop-next rs i r there is other =
 
 pub stop-past : (rs : List Answered) (i : ℕ) → length rs ≤ i → before_stop (replies_in (drop i rs)) ≡ 0
 stop-past rs i past = ap (λ (these : List Answered). before_stop (replies_in these)) (drop_all i rs past)
-
--- ---- Commands behind a stop, from one on.
-
-module _ (lane : ℕ) (cs : List Command) (rs : List Answered) (es : Entries) (i : ℕ) where
-  abbrev pub StopsFrom : List Command → List Answered → Type 0
-  StopsFrom cs' rs' = HasStopped lane cs' rs' es
-
-  pub stop-end : length cs ≤ i → length rs ≤ i → HasStopped lane (drop i cs) (drop i rs) es
-  stop-end none-left none-answered =
-      subst₂ StopsFrom (sym (drop_all i cs none-left)) (sym (drop_all i rs none-answered)) refl
-
-  module _ (r : Answered) (replies : drop i rs ≡ r ∷ drop (i + 1) rs) where
-    pub stop-reply-at : i < length cs → HasStopped lane (drop i cs) (drop i rs) es →
-        same_reply Reply.Stopped r.reply ≡ true
-    stop-reply-at there all =
-        let d = Command.Forget 0 in
-        stop-reply lane (get_or cs i d) (drop (suc i) cs) r (drop (i + 1) rs) es
-        (subst₂ StopsFrom (drop-cons cs i d there) replies all)
-
-    module _ (c : Command) (commands : drop i cs ≡ c ∷ drop (i + 1) cs) where
-      pub stop-read-at : HasStopped lane (drop i cs) (drop i rs) es →
-          is_some (read_all (not_carried_out lane c) (log_at new_lane (take r.notes es))) ≡ true
-      stop-read-at all =
-          stop-read lane c (drop (i + 1) cs) r (drop (i + 1) rs) es (subst₂ StopsFrom commands replies all)
-
-      pub stop-goes-at : same_reply Reply.Stopped r.reply ≡ true →
-          is_some (read_all (not_carried_out lane c) (log_at new_lane (take r.notes es))) ≡ true →
-          HasStopped lane (drop i cs) (drop i rs) es
-          ↔ HasStopped lane (drop (i + 1) cs) (drop (i + 1) rs) (drop r.notes es)
-      stop-goes-at same read =
-          let goes = stop-goes lane c (drop (i + 1) cs) r (drop (i + 1) rs) es same read in (
-            λ all. goes.0 (subst₂ StopsFrom commands replies all),
-            λ rest. subst₂ StopsFrom (sym commands) (sym replies) (goes.1 rest),
-          )
-
--- ---- Commands of a lane, from one on.
-
-module _ (shape : Shape) (lane : ℕ) (s : LaneState) (cs : List Command) (rs : List Answered) (es : Entries) (i : ℕ)
-  where
-    abbrev RunsFrom : LaneState → List Command → List Answered → Type 0
-    RunsFrom last cs' rs' = Runs shape lane s cs' rs' es last
-
-    -- the end
-    pub run-end : length cs ≤ i → length rs ≤ i → Runs shape lane s (drop i cs) (drop i rs) es s
-    run-end none-left none-answered =
-        subst₂ (RunsFrom s) (sym (drop_all i cs none-left)) (sym (drop_all i rs none-answered)) refl
-
-    module _ (c : Command) (r : Answered) (commands : drop i cs ≡ c ∷ drop (i + 1) cs)
-        (replies : drop i rs ≡ r ∷ drop (i + 1) rs) where
-      pub run-first-at : (last : LaneState) → Runs shape lane s (drop i cs) (drop i rs) es last →
-          (next : LaneState) × (lane_step sweep_period shape lane s c (take r.notes es) ≡ Some (r.reply, next))
-      run-first-at last all =
-          run-first shape lane s c (drop (i + 1) cs) r (drop (i + 1) rs) es last
-          (subst₂ (RunsFrom last) commands replies all)
-
-      pub run-goes-at : (next last : LaneState) →
-          lane_step sweep_period shape lane s c (take r.notes es) ≡ Some (r.reply, next) →
-          Runs shape lane s (drop i cs) (drop i rs) es last
-          ↔ Runs shape lane next (drop (i + 1) cs) (drop (i + 1) rs) (drop r.notes es) last
-      run-goes-at next last step =
-          let goes = run-goes shape lane s c (drop (i + 1) cs) r (drop (i + 1) rs) es next last step in (
-            λ all. goes.0 (subst₂ (RunsFrom last) commands replies all),
-            λ rest. subst₂ (RunsFrom last) (sym commands) (sym replies) (goes.1 rest),
-          )

@@ -13,3 +13,4 @@ pub mod Replying
 pub mod Refusing
 pub mod Turning
 pub mod Running
+pub mod Unlike

@@ -1,5 +1,5 @@
 -- The commands of a lane, one after another.
-use Rattle.std.specs.Prelude.{◌≡◌, ℕ, List, ◌++◌, Option, Some, None, option_map, if◌then◌else◌}
+use Rattle.std.specs.Prelude.{◌≡◌, ℕ, suc, ◌<◌, ◌≤◌, List, ◌++◌, length, take, drop, sum, Option, Some, None, option_map, if◌then◌else◌}
 use Rattle.pool_law.specs.declared.command.Command.{Command}
 use Rattle.pool_law.specs.declared.run.Reply.{Reply}
 use Rattle.pool_law.specs.declared.run.Answered.{Answered}
@@ -11,6 +11,7 @@ use Rattle.pool_law.specs.Readers.{Entries, Reader, ◌>>◌, give}
 use Rattle.lane_reader.specs.declared.log.Log.{Log}
 use Rattle.lane_reader.specs.declared.bound.Change.{Change}
 use Rattle.lane_reader.specs.declared.lane.Lane.{Lane}
+use Rattle.lane_reader.specs.declared.runs.Reach.{Reach}
 use Rattle.lane_reader.specs.declared.setting.Setting.{Setting}
 use Rattle.lane_reader.specs.Reading.{entries}
 use Rattle.lane_reader.specs.Replying.{same_reply}
@@ -46,12 +47,35 @@ Runs shape lane s commands replies es last =
     lane_run sweep_period shape lane s commands (pieces (note_counts replies) es)
     ≡ Some (replies_in replies, last)
 
--- they are those of a new lane
-abbrev pub HasRun : Shape → ℕ → List Command → List Answered → Entries → Type 0
-HasRun shape lane commands replies es =
-    (last : LaneState) × Runs shape lane new_lane commands replies es last
+-- they are those of a new lane; more notes may follow
+pub record HasRun
+    (shape : Shape) (lane : ℕ) (commands : List Command) (replies : List Answered) (es : Entries) :
+    Type 0
+  where
+    pub counted : sum (note_counts replies) ≤ length es
+    pub last : LaneState
+    pub runs : Runs shape lane new_lane commands replies es last
 
 -- these are the notes and replies of the commands of a stopped lane
-abbrev pub HasStopped : ℕ → List Command → List Answered → Entries → Type 0
-HasStopped lane commands replies es =
+abbrev pub Stops : ℕ → List Command → List Answered → Entries → Type 0
+Stops lane commands replies es =
     stopped_run lane commands (pieces (note_counts replies) es) ≡ Some (replies_in replies)
+
+-- the same; more notes may follow
+pub record HasStopped
+    (lane : ℕ) (commands : List Command) (replies : List Answered) (es : Entries) : Type 0
+  where
+    pub counted : sum (note_counts replies) ≤ length es
+    pub stops : Stops lane commands replies es
+
+-- so far the commands, with their replies and notes, are of this kind
+abbrev pub Reaches :
+    (List Command → List Answered → Entries → Type 0) → List Command → List Answered → Log →
+    Reach → Type 0
+Reaches P commands replies log (Reach.Whole behind) =
+    P commands replies (entries log)
+    × (entries behind ≡ drop (sum (note_counts replies)) (entries log))
+Reaches P commands replies log (Reach.Until at) =
+    (at < length commands)
+    × P (take at commands) (take at replies) (entries log)
+    × (P (take (suc at) commands) (take (suc at) replies) (entries log) → ⊥)

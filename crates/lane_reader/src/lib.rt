@@ -34,4 +34,4 @@ mod view_rows;
 mod whole;
 
 pub use log::Log;
-pub use whole::is_lane_log;
+pub use whole::first_unlike;

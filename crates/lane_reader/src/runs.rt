@@ -1,14 +1,14 @@
 //! The commands of a lane, one after another: up to a stop, and behind it.
 
-ghost use Rattle.std.specs.Prelude.{◌≡◌, ◌<◌, ◌≤◌, ◌^◌, ◌↔◌, length, sum, is_some, IsTrue, IfOk, IfSome, IsNone};
+ghost use Rattle.std.specs.Prelude.{◌≡◌, ◌<◌, ◌≤◌, ◌^◌, length, is_some, IfOk};
 ghost use Rattle.std.specs.List.{All};
-ghost use Rattle.pool_law.specs.LaneLaw.{note_counts, replies_in, before_stop, closes};
+ghost use Rattle.pool_law.specs.LaneLaw.{replies_in, before_stop, closes};
 ghost use Rattle.pool_law.specs.LaneStates.{new_lane, log_at};
 ghost use Rattle.pool_law.specs.Lanes.{not_carried_out};
 ghost use Rattle.pool_law.specs.Readers.{read_all};
 ghost use Rattle.lane_reader.specs.Candidates.{HasFewNames};
 ghost use Rattle.lane_reader.specs.Reading.{entries};
-ghost use Rattle.lane_reader.specs.Running.{HasRun, HasStopped};
+ghost use Rattle.lane_reader.specs.Running.{HasRun, HasStopped, Reaches};
 
 use crate::lane::Lane;
 use crate::log::{At, Log};
@@ -19,6 +19,15 @@ use std::alloc::{AllocError, Global};
 
 // The place and the count of a new lane.
 const FIRST: At = At { place: 0, asked: 0 };
+
+/// How far commands have their replies and notes.
+#[derive(Clone, Copy, Drop)]
+pub(crate) enum Reach<'a> {
+    /// All of them have, and this is behind their notes.
+    Whole(Log<'a>),
+    /// So many have, and no longer the next.
+    Until(usize),
+}
 
 /// How many commands were answered before the lane was stopped.
 pub(crate) fn before_stop(replies: &[Answered]) -> usize
@@ -33,51 +42,37 @@ pub(crate) fn before_stop(replies: &[Answered]) -> usize
     replies.len()
 }
 
-/// How many notes the commands made, if there are no more than this.
-pub(crate) fn notes_of(replies: &[Answered], most: usize) -> Option<usize>
-    ensures count { IfSome result (λ count. count ≡ sum (note_counts replies.now)) }
-    ensures within { IfSome result (λ count. count ≤ most) }
-    ensures many { IsNone result → most < sum (note_counts replies.now) }
-{
-    let mut left = most;
-    for answered in replies {
-        let count = answered.notes as usize;
-        if left < count {
-            return None;
-        }
-        left -= count;
-    }
-    Some(most - left)
-}
-
-/// Whether the notes and replies are those of a new lane's commands, one after another.
-pub(crate) fn have_run(
+/// How far a new lane's commands have their replies and notes, one after another.
+pub(crate) fn reach_running<'a>(
     alloc: Global,
     setting: &Setting,
     commands: &[Command],
     replies: &[Answered],
-    log: &Log,
-) -> Result<bool, AllocError>
+    log: &Log<'a>,
+) -> Result<Reach<'a>, AllocError>
     requires names { All HasFewNames commands.now }
     requires few { length commands.now ≤ 65536 }
     requires as_many { length commands.now ≡ length replies.now }
-    requires counted { sum (note_counts replies.now) ≤ length log.now.notes.now }
     requires room { length log.now.notes.now < 2 ^ 64 }
-    ensures { IfOk result (λ good. IsTrue good ↔ HasRun setting.now.shape.now setting.now.lane
-        commands.now replies.now (entries log.now)) }
+    ensures { IfOk result (Reaches (HasRun setting.now.shape.now setting.now.lane)
+        commands.now replies.now log.now) }
 {
     let mut lane = Lane::new(alloc);
     let mut rest = *log;
     for i in 0..commands.len() {
+        let command = &commands[i];
         let answered = &replies[i];
         let count = answered.notes as usize;
+        if rest.notes.len() < count {
+            return Ok(Reach::Until(i));
+        }
         let piece = rest.first(count);
-        if !lane.turn(alloc, setting, &commands[i], &answered.reply, &piece)? {
-            return Ok(false);
+        if !lane.turn(alloc, setting, command, &answered.reply, &piece)? {
+            return Ok(Reach::Until(i));
         }
         rest = rest.behind(count);
     }
-    Ok(true)
+    Ok(Reach::Whole(rest))
 }
 
 impl Log<'_> {
@@ -97,24 +92,32 @@ impl Log<'_> {
     }
 }
 
-/// Whether the notes and replies are those of the commands of a stopped lane.
-pub(crate) fn have_stopped(lane: u32, commands: &[Command], replies: &[Answered], log: &Log) -> bool
-    requires as_many { length commands.now ≡ length replies.now }
-    requires counted { sum (note_counts replies.now) ≤ length log.now.notes.now }
-    ensures { IsTrue result ↔ HasStopped lane commands.now replies.now (entries log.now) }
+/// How far the commands of a stopped lane have their replies and notes.
+pub(crate) fn reach_stopped<'a>(
+    lane: u32,
+    commands: &[Command],
+    replies: &[Answered],
+    log: &Log<'a>,
+) -> Reach<'a>
+    requires { length commands.now ≡ length replies.now }
+    ensures { Reaches (HasStopped lane) commands.now replies.now log.now result }
 {
     let mut rest = *log;
     for i in 0..commands.len() {
+        let command = &commands[i];
         let answered = &replies[i];
         if !says(&answered.reply, Said::Stopped) {
-            return false;
+            return Reach::Until(i);
         }
         let count = answered.notes as usize;
+        if rest.notes.len() < count {
+            return Reach::Until(i);
+        }
         let piece = rest.first(count);
-        if !piece.is_stopped(lane, &commands[i]) {
-            return false;
+        if !piece.is_stopped(lane, command) {
+            return Reach::Until(i);
         }
         rest = rest.behind(count);
     }
-    true
+    Reach::Whole(rest)
 }

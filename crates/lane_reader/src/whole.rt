@@ -1,21 +1,54 @@
 //! The whole log of a lane: its commands in order, up to a stop and behind it, and its closing.
 
-ghost use Rattle.std.specs.Prelude.{◌≡◌, ◌≤◌, ◌↔◌, IsTrue, IfOk};
+ghost use Rattle.std.specs.Prelude.{◌≡◌, ◌≤◌, length, IfOk, MatchOption};
+ghost use Rattle.std.specs.List.{All};
 ghost use Rattle.pool_law.specs.LaneLaw.{IsLaneLog};
 ghost use Rattle.pool_law.specs.Legal.{AreCommands};
 ghost use Rattle.pool_law.specs.Limits.{geometry_of};
+ghost use Rattle.lane_reader.specs.Candidates.{HasFewNames};
 ghost use Rattle.lane_reader.specs.Reading.{entries};
+ghost use Rattle.lane_reader.specs.Running.{Reaches};
+ghost use Rattle.lane_reader.specs.Unlike.{AreAnswered, IsUnlikeAt};
 
 use crate::log::Log;
-use crate::runs::{before_stop, have_run, have_stopped, notes_of};
+use crate::runs::{Reach, before_stop, reach_running, reach_stopped};
 use crate::setting::Setting;
 use pool_law::{Answered, Command, Shape};
 use size_classes::SizeClasses;
 use std::alloc::{AllocError, Global};
 
-/// Whether a lane's replies and notes are those of its commands, and behind them those of its
-/// closing.
-pub fn is_lane_log(
+// How far commands have their replies and notes, up to a stop and behind it.
+fn reach<'a>(
+    alloc: Global,
+    setting: &Setting,
+    commands: &[Command],
+    replies: &[Answered],
+    log: &Log<'a>,
+) -> Result<Reach<'a>, AllocError>
+    requires names { All HasFewNames commands.now }
+    requires few { length commands.now ≤ 65536 }
+    requires as_many { length commands.now ≡ length replies.now }
+    ensures { IfOk result (Reaches (AreAnswered setting.now.shape.now setting.now.lane)
+        commands.now replies.now log.now) }
+{
+    let stop = before_stop(replies);
+    match reach_running(alloc, setting, &commands[..stop], &replies[..stop], log)? {
+        Reach::Until(count) => Ok(Reach::Until(count)),
+        Reach::Whole(behind) => {
+            let (commands, replies) = (&commands[stop..], &replies[stop..]);
+            match reach_stopped(setting.lane, commands, replies, &behind) {
+                Reach::Until(count) => Ok(Reach::Until(stop + count)),
+                Reach::Whole(rest) => Ok(Reach::Whole(rest)),
+            }
+        }
+    }
+}
+
+/// The first command of a lane, counted from 0, whose reply and notes are not those of the law, as
+/// one without a reply. Where each has its own, but there are more replies, or what stands behind
+/// the notes of the commands is not the closing of the lane: the number of the commands. None where
+/// the log is the lane's.
+pub fn first_unlike(
     alloc: Global,
     shape: &Shape,
     classes: &SizeClasses,
@@ -23,35 +56,28 @@ pub fn is_lane_log(
     commands: &[Command],
     replies: &[Answered],
     log: &Log,
-) -> Result<bool, AllocError>
+) -> Result<Option<usize>, AllocError>
     requires arenas { 1 ≤ shape.now.arenas }
     requires handles { 1 ≤ shape.now.handles }
     requires classes { classes.now ≡ geometry_of shape.now }
     requires commands { AreCommands shape.now commands.now }
-    ensures { IfOk result (λ good. IsTrue good
-        ↔ IsLaneLog shape.now lane commands.now replies.now (entries log.now)) }
+    ensures { IfOk result (λ found. MatchOption found
+        (IsLaneLog shape.now lane commands.now replies.now (entries log.now))
+        (IsUnlikeAt shape.now lane commands.now replies.now (entries log.now))) }
 {
-    if commands.len() != replies.len() {
-        return Ok(false);
-    }
-    let stop = before_stop(replies);
-    let Some(first) = notes_of(&replies[..stop], log.notes.len()) else {
-        return Ok(false);
-    };
-    let behind = log.behind(first);
-    let Some(second) = notes_of(&replies[stop..], behind.notes.len()) else {
-        return Ok(false);
-    };
     let setting = Setting {
         shape,
         classes,
         lane,
     };
-    if !have_run(alloc, &setting, &commands[..stop], &replies[..stop], log)? {
-        return Ok(false);
+    let count = commands.len().min(replies.len());
+    match reach(alloc, &setting, &commands[..count], &replies[..count], log)? {
+        Reach::Until(command) => Ok(Some(command)),
+        Reach::Whole(behind) => {
+            if commands.len() != replies.len() || !behind.closes(lane) {
+                return Ok(Some(count));
+            }
+            Ok(None)
+        }
     }
-    if !have_stopped(lane, &commands[stop..], &replies[stop..], &behind) {
-        return Ok(false);
-    }
-    Ok(behind.behind(second).closes(lane))
 }
