@@ -3,6 +3,7 @@ use Rattle.std.proofs.Common.{◌≡◌, ℕ, true, List, Option, Some, None, Ve
 use Rattle.std.specs.Prelude.{IsTrue, MatchOption}
 use Rattle.std.specs.declared.alloc.Global.{Global}
 use Rattle.std.specs.List.{list_all}
+use Rattle.pool_law.specs.declared.note.Note.{Note}
 use Rattle.pool_law.specs.declared.note.Object.{Object}
 use Rattle.pool_law.specs.declared.run.Shape.{Shape}
 use Rattle.pool_law.specs.Logs.{Logs, History, dids, of_lane, note_stands, has_history, IsHistory, history_of}
@@ -27,24 +28,21 @@ module _ (shape : Shape) (logs : Logs) (m : Histories) (are : AreHistories shape
   history-is : (object : Object) → has_history object ≡ true → history_of object logs ≡ history_in m object
   history-is object has = history_of-is object logs (history_in m object) (are.whole object has)
 
-  pub busy-on : (lane : ℕ) → IsTrue (list_all (note_stands shape lane) (of_lane logs lane)) →
-      BusyHolds lane (history_in m) (of_lane logs lane) →
-      BusyHolds lane (λ object. history_of object logs) (of_lane logs lane)
-  busy-on lane stand b = record {
+  pub busy-on : (lane : ℕ) (ns : List Note) → IsTrue (list_all (note_stands shape lane) ns) →
+      BusyHolds lane (history_in m) ns → BusyHolds lane (λ object. history_of object logs) ns
+  busy-on lane ns stand b = record {
     fit = b.fit;
     marks =
         marks-same shape lane (history_in m) (λ object. history_of object logs)
-        (λ object has. sym (history-is object has)) (of_lane logs lane) stand b.marks;
+        (λ object has. sym (history-is object has)) ns stand b.marks;
   }
 
-  pub busy-back : (lane : ℕ) → IsTrue (list_all (note_stands shape lane) (of_lane logs lane)) →
-      BusyHolds lane (λ object. history_of object logs) (of_lane logs lane) →
-      BusyHolds lane (history_in m) (of_lane logs lane)
-  busy-back lane stand b = record {
+  pub busy-back : (lane : ℕ) (ns : List Note) → IsTrue (list_all (note_stands shape lane) ns) →
+      BusyHolds lane (λ object. history_of object logs) ns → BusyHolds lane (history_in m) ns
+  busy-back lane ns stand b = record {
     fit = b.fit;
     marks =
-        marks-same shape lane (λ object. history_of object logs) (history_in m) history-is (of_lane logs lane) stand
-        b.marks;
+        marks-same shape lane (λ object. history_of object logs) (history_in m) history-is ns stand b.marks;
   }
 
   pub histories-hold : ((lane : ℕ) → IsTrue (list_all (note_stands shape lane) (of_lane logs lane))) →

@@ -6,7 +6,7 @@ use Rattle.std.proofs.lemmas.List.{length-map, take_more, take_all}
 use Rattle.std.proofs.lemmas.Slice.Zip.{all_zipped_more}
 use Rattle.pool_law.specs.declared.note.Note.{Note}
 use Rattle.pool_law.specs.declared.run.LaneLog.{LaneLog}
-use Rattle.pool_law.specs.Logs.{of_lane, entry_of, entries_of}
+use Rattle.pool_law.specs.Logs.{Logs, of_lane, entry_of, entries_of}
 use Rattle.run_check.specs.Spotting.{notes_in, replies_in}
 
 pub lane-at : {X : Type 0} (logs : List (List X)) (k : ℕ) (log : List X) → k < length logs →
@@ -82,3 +82,11 @@ zip-all R xs ys i all past = subst (λ zs. AllZip R xs zs) (take_all i ys past) 
 pub length-entries : (logs : List LaneLog) → length (entries_of (notes_in logs)) ≡ length logs
 length-entries logs =
     length-map (notes_in logs) (map (entry_of (notes_in logs))) ∙ length-map logs (λ (l : LaneLog). l.notes)
+
+pub entries-lane : (logs : Logs) (k : ℕ) → of_lane (entries_of logs) k ≡ map (entry_of logs) (of_lane logs k)
+entries-lane logs k = go logs k
+  where
+    go : (rest : Logs) (i : ℕ) → of_lane (map (map (entry_of logs)) rest) i ≡ map (entry_of logs) (of_lane rest i)
+    go [] i = refl
+    go (log ∷ rest) zero = refl
+    go (log ∷ rest) (suc i) = go rest i

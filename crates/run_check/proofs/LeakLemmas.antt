@@ -1,6 +1,7 @@
 -- The report of live roots, by what the program keeps, is the law's.
 use Rattle.std.proofs.Common.{◌≡◌, ℕ, zero, suc, ◌+◌, ◌-◌, ◌<◌, Bool, true, false, List, [], ◌∷◌, ◌++◌, length, get_or, take, drop, append_assoc, refl, sym, ap, arith, ◌∙◌}
-use Rattle.std.proofs.lemmas.List.{append_cancel_left, take_more_same}
+use Rattle.std.proofs.lemmas.List.{take_more_same}
+use Rattle.std.proofs.lemmas.Bool.Decides.{nat_tests}
 use Rattle.pool_law.specs.declared.note.Did.TheVariants.{Birth}
 use Rattle.pool_law.specs.declared.report.Access.{Access}
 use Rattle.run_check.specs.declared.merging.Done.{Done}
@@ -24,7 +25,7 @@ use Rattle.run_check.specs.declared.tally.Tally.{Tally}
 use Rattle.run_check.specs.Spotting.{notes_in}
 use Rattle.run_check.specs.Storing.{history_in, AreHistories}
 use Rattle.run_check.specs.Tallying.{total_sums, IsTally}
-use Rattle.run_check.specs.Reporting.{access_by, accesses_in, kept_by, dropped_by, one_leak, leaks_by, leaks_in, all_leaks}
+use Rattle.run_check.specs.Reporting.{access_by, accesses_in, kept_by, dropped_by, capacity_by, leak_by, one_leak, leaks_by, leaks_in, all_leaks}
 use Rattle.run_check.proofs.TallyLemmas.{totals-counted}
 
 -- an entry is of its note
@@ -112,16 +113,34 @@ module _ (shape : Shape) (m : Histories) (tallies : List Tally) (lane : ℕ) whe
       ap (λ (roots : List RootId). leaks_by shape m tallies lane serial roots) (births-front n ns)
       ∙ leaks-append serial (births (n ∷ [])) (births ns)
 
--- a report goes on behind what it begins with
-pub tells-on : (these more report left rest : List Leak) → report ≡ these ++ left → report ≡ (these ++ more) ++ rest →
-    left ≡ more ++ rest
-tells-on these more report left rest told all =
-    append_cancel_left these left (more ++ rest) (sym told ∙ all ∙ append_assoc these more rest)
+-- ---- What is reported of one root.
 
-pub tells-back : (these more report left rest : List Leak) → report ≡ these ++ left → left ≡ more ++ rest →
-    report ≡ (these ++ more) ++ rest
-tells-back these more report left rest told e =
-    told ∙ ap (λ (r : List Leak). these ++ r) e ∙ sym (append_assoc these more rest)
+not-zero : (n : ℕ) → (n ≡ 0 → ⊥) → not (n == 0) ≡ true
+not-zero n some = grind (arith, nat_tests)
+
+-- what is reported of a root with these sums
+abbrev leak-with : Shape → Histories → ℕ → ℕ → RootId → Sums → Leak
+leak-with shape m lane serial root sums =
+    leak_by shape.level lane serial (capacity_by m root) sums
+    (accesses root false (history_in m (Root root.place)))
+
+-- what is reported of a root that is live and sampled
+pub one-leak-is : (shape : Shape) (m : Histories) (tallies : List Tally) (lane serial : ℕ) (root : RootId)
+    (sums : Sums) → sums ≡ total_sums tallies root → ((1 + sums.retains) - sums.releases ≡ 0 → ⊥) →
+    is_sampled shape.level shape.interval serial ≡ true →
+    one_leak shape m tallies lane serial root
+    ≡ leak_by shape.level lane serial (capacity_by m root) sums
+    (accesses root false (history_in m (Root root.place))) ∷ []
+one-leak-is shape m tallies lane serial root sums is live sampled =
+    let leak : Leak = leak-with shape m lane serial root sums in
+    ap
+    (λ (s : Sums). if not ((1 + s.retains) - s.releases == 0) && is_sampled shape.level shape.interval serial
+    then leak-with shape m lane serial root s ∷ []
+    else [])
+    (sym is)
+    ∙ ap (λ (b : Bool). if b && is_sampled shape.level shape.interval serial then leak ∷ [] else [])
+    (not-zero ((1 + sums.retains) - sums.releases) live)
+    ∙ ap (λ (b : Bool). if true && b then leak ∷ [] else []) sampled
 
 -- ---- The records of accesses.
 

@@ -5,9 +5,15 @@ mod LaneLemmas
 mod KeyLemmas
 mod SpotLemmas
 mod MergingLemmas
+mod LeastLemmas
+mod FrontLemmas
+mod BrokenLemmas
 mod MailLemmas
 mod ObjectHistoryLemmas
-mod StepwiseLemmas
+mod FirstLemmas
+mod ItemLemmas
+mod DifferLemmas
+mod ReportLemmas
 mod ReadingLemmas
 mod NeedingLemmas
 mod MarkLemmas

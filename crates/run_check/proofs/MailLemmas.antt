@@ -1,22 +1,23 @@
 -- Mails as the program reads them.
-use Rattle.std.proofs.Common.{◌≡◌, ℕ, zero, suc, ◌+◌, ◌≤◌, ◌<◌, Bool, true, false, List, [], ◌∷◌, ◌++◌, length, map, take, get_or, Some, refl, sym, ap, subst, arith, ◌∙◌, eqb-true, eq-eqb, ⊎_elim}
-use Rattle.std.specs.Prelude.{◌==◌, ◌&&◌, ◌↔◌, if◌then◌else◌, slice_get, IsTrue}
-use Rattle.std.proofs.lemmas.List.{length-map, take_more, take_all}
+use Rattle.std.proofs.Common.{◌≡◌, ℕ, zero, suc, ◌+◌, ◌-◌, ◌≤◌, ◌<◌, Bool, true, false, List, [], ◌∷◌, ◌++◌, length, map, take, get_or, Option, None, Some, refl, sym, ap, subst, arith, ◌∙◌, eqb-true, eq-eqb}
+use Rattle.std.specs.Prelude.{◌==◌, ◌&&◌, if◌then◌else◌, slice_get, MatchOption}
+use Rattle.std.proofs.lemmas.Option.{none-some, same_Some}
 use Rattle.pool_law.specs.declared.id.Parcel.{Parcel}
 use Rattle.pool_law.specs.declared.note.Note.{Note}
 use Rattle.pool_law.specs.declared.note.Note.TheVariants.{At, Ref, Busy}
 use Rattle.pool_law.specs.declared.note.Object.{Object}
 use Rattle.pool_law.specs.declared.note.Object.TheVariants.{Arena, Cache, Bin, Mail, Root}
+use Rattle.pool_law.specs.declared.run.Shape.{Shape}
 use Rattle.pool_law.specs.Same.{same_object, same_parcel}
 use Rattle.pool_law.specs.Kinds.{passing}
 use Rattle.pool_law.specs.Logs.{Logs, of_lane, own, has_history}
 use Rattle.pool_law.specs.Mails.{gone, come, posted, fetched, MailHolds}
 use Rattle.pool_law.proofs.SameLemmas.{and-first, and-second, same_parcel-is, same_parcel-refl}
 use Rattle.run_check.specs.declared.mails.Passed.{Passed}
-use Rattle.run_check.proofs.LaneLemmas.{below-or}
 use Rattle.run_check.specs.declared.spots.Spots.{Spots}
 use Rattle.run_check.specs.Spotting.{spots_at, laned, AreSpots}
-use Rattle.run_check.specs.Mailing.{sent_among, received_among, passed_data, all_passed, AreInTurn, IsHeldMail}
+use Rattle.run_check.specs.Mailing.{sent_among, received_among, passed_data, all_passed, IsInTurn, IsOfPost, Passes, FailsAt, IsHeldMail}
+use Rattle.run_check.specs.Fronts.{MailHoldsTo, IsBrokenAt}
 
 -- what a log posts to a mail its notes at the mail post, and what it fetches they fetch
 pub posted-among : (mail : Object) (log : List Note) → sent_among (own mail log) ≡ posted mail log
@@ -68,39 +69,103 @@ passed-get [] k p e = absurd (cc e)
 passed-get (q ∷ ps) zero p e = let same : q ≡ p = cc e in ap (λ r. Some (passed_data r)) same
 passed-get (q ∷ ps) (suc k) p e = passed-get ps k p e
 
--- a mail holds where its posts are in turn, and the fetches are the first of them
+same-data : (a b : Passed) → passed_data a ≡ passed_data b → a ≡ b
+same-data a b same = ap passed_of same
+
+-- a list whose items stand at the same places of another is its front
+front-from-places : {X : Type 0} (xs ys : List X) →
+    ((k : ℕ) (x : X) → slice_get xs k ≡ Some x → slice_get ys k ≡ Some x) → xs ≡ take (length xs) ys
+front-from-places [] ys same = refl
+front-from-places (x ∷ xs) [] same = absurd (none-some x (same zero x refl))
+front-from-places (x ∷ xs) (y ∷ ys) same =
+    let first : y ≡ x = same_Some y x (same zero x refl) in
+    λ i. sym first i ∷ front-from-places xs ys (λ k. same (suc k)) i
+
+-- the items of a front stand at their places of the list
+get-of-take : {X : Type 0} (n : ℕ) (ys : List X) (k : ℕ) (x : X) → slice_get (take n ys) k ≡ Some x →
+    slice_get ys k ≡ Some x
+get-of-take zero ys k x e = absurd (none-some x e)
+get-of-take (suc n) [] k x e = absurd (none-some x e)
+get-of-take (suc n) (y ∷ ys) zero x e = e
+get-of-take (suc n) (y ∷ ys) (suc k) x e = get-of-take n ys k x e
+
+held-to : (mail : Object) (sent received : List Note) → MailHolds mail sent received → (n : ℕ) →
+    MailHoldsTo mail sent received n
+held-to mail sent received h n = record {
+  numbered = λ k post below e. h.numbered k post e;
+  in_order = λ k fetch below e.
+      get-of-take (length (fetched mail received)) (posted mail sent) k fetch
+      (ap (λ xs. slice_get xs k) (sym h.in_order) ∙ e);
+}
+
+-- a mail holds as far as its posts and fetches do, place by place
 module _ (mail : Object) (sent received : List Note) (posts fetches : List Passed)
     (posts_are : all_passed posts ≡ posted mail sent) (fetches_are : all_passed fetches ≡ fetched mail received)
   where
-    front-of : (n : ℕ) → n ≡ length (fetched mail received) → n ≡ length fetches
-    front-of n is = is ∙ ap length (sym fetches_are) ∙ length-map fetches passed_data
+    post-number : (k : ℕ) → IsInTurn posts k → (post : ℕ × Parcel) → slice_get (posted mail sent) k ≡ Some post →
+        post.0 ≡ k + 1
+    post-number k turn post e =
+        let p = get-passed posts k post (ap (λ xs. slice_get xs k) posts_are ∙ e) in
+        ap (λ y. y.0) (sym p.2) ∙ turn p.0 p.1
 
-    pub held-on : AreInTurn posts → fetches ≡ take (length fetches) posts → MailHolds mail sent received
-    held-on turn front = record {
-      numbered = λ k x e.
-          let p = get-passed posts k x (ap (λ xs. slice_get xs k) posts_are ∙ e) in
-          ap (λ y. y.0) (sym p.2) ∙ turn k p.0 p.1;
+    fetch-post : (k : ℕ) → IsOfPost posts fetches k → (fetch : ℕ × Parcel) →
+        slice_get (fetched mail received) k ≡ Some fetch → slice_get (posted mail sent) k ≡ Some fetch
+    fetch-post k same fetch e =
+        let f = get-passed fetches k fetch (ap (λ xs. slice_get xs k) fetches_are ∙ e) in
+        ap (λ xs. slice_get xs k) (sym posts_are)
+        ∙ passed-get posts k f.0 (same f.0 f.1)
+        ∙ ap (λ (x : ℕ × Parcel). Some x) f.2
+
+    pub all-held : ((k : ℕ) → Passes posts fetches k) → MailHolds mail sent received
+    all-held all = record {
+      numbered = λ k post e. post-number k (all k).0 post e;
       in_order =
-          sym fetches_are
-          ∙ ap all_passed front
-          ∙ take-passed (length fetches) posts
-          ∙ ap (λ n. take n (all_passed posts)) (sym (front-of (length (fetched mail received)) refl))
-          ∙ ap (take (length (fetched mail received))) posts_are;
+          front-from-places (fetched mail received) (posted mail sent) (λ k fetch e. fetch-post k (all k).1 fetch e);
     }
 
-    pub turn-back : MailHolds mail sent received → AreInTurn posts
-    turn-back h k p e =
-        h.numbered k (passed_data p) (ap (λ xs. slice_get xs k) (sym posts_are) ∙ passed-get posts k p e)
+    held-before : (n : ℕ) → ((k : ℕ) → k < n → Passes posts fetches k) → MailHoldsTo mail sent received n
+    held-before n all = record {
+      numbered = λ k post below e. post-number k (all k below).0 post e;
+      in_order = λ k fetch below e. fetch-post k (all k below).1 fetch e;
+    }
 
-    pub front-back : MailHolds mail sent received → fetches ≡ take (length fetches) posts
-    front-back h =
-        let n : ℕ = length (fetched mail received) in
-        let same : all_passed fetches ≡ all_passed (take n posts) =
-        fetches_are ∙ h.in_order ∙ ap (take n) (sym posts_are) ∙ sym (take-passed n posts) in
-        sym (all-back fetches)
-        ∙ ap (map passed_of) same
-        ∙ all-back (take n posts)
-        ∙ ap (λ m. take m posts) (front-of n refl)
+    passes-at : (n k : ℕ) → k < n → MailHoldsTo mail sent received n → Passes posts fetches k
+    passes-at n k below h = (
+      λ p e.
+          h.numbered k (passed_data p) below
+          (ap (λ xs. slice_get xs k) (sym posts_are) ∙ passed-get posts k p e),
+      λ f e.
+          let fetch : slice_get (fetched mail received) k ≡ Some (passed_data f) =
+          ap (λ xs. slice_get xs k) (sym fetches_are) ∙ passed-get fetches k f e in
+          let post = get-passed posts k (passed_data f)
+          (ap (λ xs. slice_get xs k) posts_are ∙ h.in_order k (passed_data f) below fetch) in
+          post.1 ∙ ap (λ (p : Passed). Some p) (same-data post.0 f post.2),
+    )
+
+    fails-to : (number : ℕ) → FailsAt posts fetches number → MailHoldsTo mail sent received number → ⊥
+    fails-to number fails h =
+        fails.there (passes-at number (number - 1) (omega (arith, fails.from_one)) h)
+
+    holds-before : (number n : ℕ) → FailsAt posts fetches number → n < number → MailHoldsTo mail sent received n
+    holds-before number n fails below =
+        held-before n (λ k inside. fails.before k (omega (arith, inside, below)))
+
+-- a mail is broken at the first place at which its posts and fetches fail
+mail-broken : (shape : Shape) (logs : Logs) (sender receiver : ℕ) (posts fetches : List Passed) →
+    all_passed posts ≡ posted (Mail sender receiver) (of_lane logs sender) →
+    all_passed fetches ≡ fetched (Mail sender receiver) (of_lane logs receiver) → (number : ℕ) →
+    FailsAt posts fetches number → IsBrokenAt shape logs (Mail sender receiver) number
+mail-broken shape logs sender receiver posts fetches posts_are fetches_are number fails =
+    let mail : Object = Mail sender receiver in
+    let never : MailHoldsTo mail (of_lane logs sender) (of_lane logs receiver) number → ⊥ =
+    fails-to mail (of_lane logs sender) (of_lane logs receiver) posts fetches posts_are fetches_are number fails in
+    record {
+      law = λ holds. never (held-to mail (of_lane logs sender) (of_lane logs receiver) holds.mail number);
+      before = λ n below.
+          holds-before mail (of_lane logs sender) (of_lane logs receiver) posts fetches posts_are fetches_are number n
+          fails below;
+      with_it = never;
+    }
 
 -- parcels that a test finds the same are the same
 pub passed-same : (a b : Passed) → ((a.number == b.number) && same_parcel a.parcel b.parcel) ≡ true → a ≡ b
@@ -126,11 +191,10 @@ no-mail logs (Root place) has = tt
 pub unused-holds : (mail : Object) (sent received : List Note) → own mail sent ≡ [] → own mail received ≡ []
     → MailHolds mail sent received
 unused-holds mail sent received no_sent no_received =
-    held-on mail sent received [] []
+    all-held mail sent received [] []
     (sym (ap sent_among no_sent) ∙ posted-among mail sent)
     (sym (ap received_among no_received) ∙ fetched-among mail received)
-    (λ k p e. absurd (cc e))
-    refl
+    (λ k. (λ p e. absurd (cc e), λ f e. absurd (cc e)))
 
 -- ---- Places of a list.
 
@@ -144,56 +208,43 @@ get-inside [] k p e = absurd (cc e)
 get-inside (q ∷ ps) zero p e = omega arith
 get-inside (q ∷ ps) (suc k) p e = omega (arith, get-inside ps k p e)
 
--- one more is in turn
-pub turn-more : (ps : List Passed) (i : ℕ) (d : Passed) → i < length ps → (get_or ps i d).number ≡ i + 1 →
-    ((k : ℕ) (p : Passed) → k < i → slice_get ps k ≡ Some p → p.number ≡ k + 1) →
-    (k : ℕ) (p : Passed) → k < i + 1 → slice_get ps k ≡ Some p → p.number ≡ k + 1
-turn-more ps i d there number before k p below e =
-    ⊎_elim
-    (λ inside. before k p inside e)
-    (λ past.
-    let here : k ≡ i = omega (arith, past, below) in
-    let both : Some (get_or ps i d) ≡ Some p =
-    sym (get-there ps i d there) ∙ ap (slice_get ps) (sym here) ∙ e in
-    let same : get_or ps i d ≡ p = cc both in
-    omega (arith, ap (λ (q : Passed). q.number) same, number, here))
-    (below-or k i)
+-- the post of a place
+pub turn-past : (posts : List Passed) (k : ℕ) → length posts ≤ k → IsInTurn posts k
+turn-past posts k past p e = absurd (omega (arith, past, get-inside posts k p e))
 
--- the items of a front are those of the list
-front-items : (xs ys : List Passed) (n i : ℕ) (d : Passed) → i < length xs → xs ≡ take n ys →
-    get_or xs i d ≡ get_or ys i d
-front-items [] ys n i d there same = absurd (omega (arith, there))
-front-items (x ∷ xs) ys zero i d there same = absurd (cc same)
-front-items (x ∷ xs) [] (suc n) i d there same = absurd (cc same)
-front-items (x ∷ xs) (y ∷ ys) (suc n) zero d there same = let first : x ≡ y = cc same in first
-front-items (x ∷ xs) (y ∷ ys) (suc n) (suc i) d there same =
-    let rest : xs ≡ take n ys = cc same in front-items xs ys n i d (omega (arith, there)) rest
+pub turn-here : (posts : List Passed) (k : ℕ) (d : Passed) → k < length posts → (get_or posts k d).number ≡ k + 1 →
+    IsInTurn posts k
+turn-here posts k d there number p e =
+    let same : get_or posts k d ≡ p = same_Some (get_or posts k d) p (sym (get-there posts k d there) ∙ e) in
+    ap (λ (q : Passed). q.number) (sym same) ∙ number
 
-pub front-item : (front all : List Passed) (i : ℕ) (d : Passed) → i < length front → front ≡ take (length front) all →
-    get_or front i d ≡ get_or all i d
-front-item front all i d there same = front-items front all (length front) i d there same
+pub here-turn : (posts : List Passed) (k : ℕ) (d : Passed) → k < length posts → IsInTurn posts k →
+    (get_or posts k d).number ≡ k + 1
+here-turn posts k d there turn = turn (get_or posts k d) (get-there posts k d there)
 
--- one more item of two fronts
-pub front-more : (front all : List Passed) (i : ℕ) (d : Passed) → i < length front → i < length all →
-    get_or front i d ≡ get_or all i d → take i front ≡ take i all → take (i + 1) front ≡ take (i + 1) all
-front-more front all i d in_front in_all same before =
-    take_more front i d in_front
-    ∙ ap (λ (x : Passed). take i front ++ x ∷ []) same
-    ∙ ap (λ (xs : List Passed). xs ++ get_or all i d ∷ []) before
-    ∙ sym (take_more all i d in_all)
+-- the fetch of a place
+pub of-past : (posts fetches : List Passed) (k : ℕ) → length fetches ≤ k → IsOfPost posts fetches k
+of-past posts fetches k past f e = absurd (omega (arith, past, get-inside fetches k f e))
 
--- where no item is left the front is whole
-pub whole : (front all : List Passed) (i : ℕ) → length front ≤ i → i ≤ length front → take i front ≡ take i all →
-    front ≡ take (length front) all
-whole front all i past within before =
-    let here : i ≡ length front = omega (arith, past, within) in
-    sym (take_all i front past) ∙ before ∙ ap (λ (n : ℕ). take n all) here
+pub no-post : (posts fetches : List Passed) (k : ℕ) (d : Passed) → k < length fetches → length posts ≤ k →
+    IsOfPost posts fetches k → ⊥
+no-post posts fetches k d there past same =
+    let fetch : Passed = get_or fetches k d in
+    omega (arith, past, get-inside posts k fetch (same fetch (get-there fetches k d there)))
 
--- no front is longer than its list
-pub too-long : (front all : List Passed) → length all < length front → front ≡ take (length front) all → ⊥
-too-long front all longer same =
-    let all_of_it : take (length front) all ≡ all = take_all (length front) all (omega (arith, longer)) in
-    omega (arith, longer, ap length (same ∙ all_of_it))
+pub of-here : (posts fetches : List Passed) (k : ℕ) (d : Passed) → k < length posts → k < length fetches →
+    get_or fetches k d ≡ get_or posts k d → IsOfPost posts fetches k
+of-here posts fetches k d in_posts in_fetches same f e =
+    get-there posts k d in_posts
+    ∙ ap (λ (p : Passed). Some p) (sym same)
+    ∙ sym (get-there fetches k d in_fetches)
+    ∙ e
+
+pub here-of : (posts fetches : List Passed) (k : ℕ) (d : Passed) → k < length posts → k < length fetches →
+    IsOfPost posts fetches k → get_or fetches k d ≡ get_or posts k d
+here-of posts fetches k d in_posts in_fetches same =
+    same_Some (get_or fetches k d) (get_or posts k d)
+    (sym (same (get_or fetches k d) (get-there fetches k d in_fetches)) ∙ get-there posts k d in_posts)
 
 -- ---- A mail of the logs.
 
@@ -209,8 +260,8 @@ laned-past (x ∷ lanes) object zero past = absurd (omega (arith, past))
 laned-past (x ∷ lanes) object (suc k) past = laned-past lanes object k (omega (arith, past))
 
 -- what is read of a mail decides whether it holds
-module _ (lanes : List Spots) (logs : Logs) (spots : AreSpots lanes logs) (object : Object) (sender receiver : ℕ)
-    (is : object ≡ Mail sender receiver) (posts fetches : List Passed)
+module _ (shape : Shape) (lanes : List Spots) (logs : Logs) (spots : AreSpots lanes logs) (object : Object)
+    (sender receiver : ℕ) (is : object ≡ Mail sender receiver) (posts fetches : List Passed)
     (sent : all_passed posts ≡ sent_among (laned lanes object sender))
     (received : all_passed fetches ≡ received_among (laned lanes object receiver)) where
   posts_are : all_passed posts ≡ posted object (of_lane logs sender)
@@ -225,26 +276,18 @@ module _ (lanes : List Spots) (logs : Logs) (spots : AreSpots lanes logs) (objec
       subst (λ (o : Object). MailHolds o (of_lane logs sender) (of_lane logs receiver) → IsHeldMail logs o) (sym is)
       (λ h. h)
 
-  from-held : IsHeldMail logs object → MailHolds object (of_lane logs sender) (of_lane logs receiver)
-  from-held =
-      subst (λ (o : Object). IsHeldMail logs o → MailHolds o (of_lane logs sender) (of_lane logs receiver)) (sym is)
-      (λ h. h)
+  to-broken : (number : ℕ) → FailsAt posts fetches number → IsBrokenAt shape logs object number
+  to-broken number fails =
+      subst (λ (o : Object). IsBrokenAt shape logs o number) (sym is)
+      (mail-broken shape logs sender receiver posts fetches
+      (subst (λ (o : Object). all_passed posts ≡ posted o (of_lane logs sender)) is posts_are)
+      (subst (λ (o : Object). all_passed fetches ≡ fetched o (of_lane logs receiver)) is fetches_are)
+      number fails)
 
-  pub not-in_turn : (AreInTurn posts → ⊥) → IsHeldMail logs object → ⊥
-  not-in_turn never held =
-      never
-      (turn-back object (of_lane logs sender) (of_lane logs receiver) posts fetches posts_are fetches_are
-      (from-held held))
-
-  pub decided : AreInTurn posts → (good : Bool) → IsTrue good ↔ (fetches ≡ take (length fetches) posts) →
-      IsTrue good ↔ IsHeldMail logs object
-  decided turn good both = (
-    λ e.
-        to-held
-        (held-on object (of_lane logs sender) (of_lane logs receiver) posts fetches posts_are fetches_are turn
-        (both.0 e)),
-    λ held.
-        both.1
-        (front-back object (of_lane logs sender) (of_lane logs receiver) posts fetches posts_are fetches_are
-        (from-held held)),
-  )
+  pub decided : (found : Option ℕ) →
+      MatchOption found ((k : ℕ) → Passes posts fetches k) (λ number. FailsAt posts fetches number) →
+      MatchOption found (IsHeldMail logs object) (IsBrokenAt shape logs object)
+  decided None all =
+      to-held
+      (all-held object (of_lane logs sender) (of_lane logs receiver) posts fetches posts_are fetches_are all)
+  decided (Some number) fails = to-broken number fails

@@ -14,7 +14,7 @@ use Rattle.pool_law.specs.Logs.{History, has_history, may_stand, note_stands}
 use Rattle.pool_law.specs.Busy.{MarksFit, IsOfAnother, MarksHold}
 use Rattle.pool_law.proofs.SameLemmas.{same_object-is, and-first, and-second}
 use Rattle.run_check.specs.declared.busy.Had.{Had}
-use Rattle.run_check.specs.Marking.{none_had, least_after, FitFrom, had_note, had_mark, had_after, MayCome}
+use Rattle.run_check.specs.Marking.{none_had, least_after, FitFrom, had_note, had_mark, had_after, MayCome, MarkHolds}
 use Rattle.run_check.proofs.KeyLemmas.{same-object-self}
 
 pub fit-front : (object : Object) (h : Had) (n : Note) (ns : List Note) → FitFrom object h (n ∷ ns) →
@@ -58,6 +58,45 @@ fit-back object h (Busy held) ns may rest = go (same_object object held.object) 
     go true may f = (may refl, f)
     go false may f = f
 fit-back object h (Ref root did) ns may rest = rest
+
+-- what a lane has of each object after a note
+abbrev pub all_had_after : (Object → Had) → Note → Object → Had
+all_had_after had n object = had_after object (had object) n
+
+-- what is asked of a note, and of a log, by what a lane has of each object
+module _ (lane : ℕ) (history : Object → History) where
+  abbrev pub AllCome : (Object → Had) → Note → Type 0
+  AllCome had n = ((object : Object) → MayCome object (had object) n) × MarkHolds lane history n
+
+  abbrev pub AllFit : (Object → Had) → List Note → Type 0
+  AllFit had ns = ((object : Object) → FitFrom object (had object) ns) × MarksHold lane history ns
+
+  mark-front : (n : Note) (ns : List Note) → MarksHold lane history (n ∷ ns) →
+      MarkHolds lane history n × MarksHold lane history ns
+  mark-front (At object number did) ns m = (tt, m)
+  mark-front (Ref root did) ns m = (tt, m)
+  mark-front (Busy held) ns m = (m.0, m.1)
+
+  mark-back : (n : Note) (ns : List Note) → MarkHolds lane history n → MarksHold lane history ns →
+      MarksHold lane history (n ∷ ns)
+  mark-back (At object number did) ns m rest = rest
+  mark-back (Ref root did) ns m rest = rest
+  mark-back (Busy held) ns m rest = (m, rest)
+
+  pub all-fit-front : (had : Object → Had) (n : Note) (ns : List Note) → AllFit had (n ∷ ns) →
+      AllCome had n × AllFit (all_had_after had n) ns
+  all-fit-front had n ns h =
+      let marks = mark-front n ns h.1 in (
+        (λ object. (fit-front object (had object) n ns (h.0 object)).0, marks.0),
+        (λ object. (fit-front object (had object) n ns (h.0 object)).1, marks.1),
+      )
+
+  pub all-fit-back : (had : Object → Had) (n : Note) (ns : List Note) → AllCome had n →
+      AllFit (all_had_after had n) ns → AllFit had (n ∷ ns)
+  all-fit-back had n ns may rest = (
+    λ object. fit-back object (had object) n ns (may.0 object) (rest.0 object),
+    mark-back n ns may.1 rest.1,
+  )
 
 -- marks hold by any histories that are the same, where each is at an object with a history
 pub marks-same : (shape : Shape) (lane : ℕ) (f h : Object → History) →

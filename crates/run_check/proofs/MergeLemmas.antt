@@ -11,15 +11,15 @@ abbrev pub without_first : ℕ → List (ℕ × Did) → (ℕ → List (ℕ × D
 without_first lane rest left l = if lane == l then rest else left l
 
 -- the notes of a lane that a history begins with are its first's, or are of the rest
-numbered-own : (k : ℕ) (e : ℕ × Did) (h : History) → numbered e.0 k (e ∷ h) ≡ (k, e.1) ∷ numbered e.0 (k + 1) h
+pub numbered-own : (k : ℕ) (e : ℕ × Did) (h : History) → numbered e.0 k (e ∷ h) ≡ (k, e.1) ∷ numbered e.0 (k + 1) h
 numbered-own k e h = let same : (e.0 == e.0) ≡ true = eq-eqb e.0 e.0 refl in rw same refl
 
-numbered-other : (lane k : ℕ) (e : ℕ × Did) (h : History) → (e.0 == lane) ≡ false →
+pub numbered-other : (lane k : ℕ) (e : ℕ × Did) (h : History) → (e.0 == lane) ≡ false →
     numbered lane k (e ∷ h) ≡ numbered lane (k + 1) h
 numbered-other lane k e h other = rw other refl
 
 -- the first of a list, and the others
-abbrev did_first : Did → List (ℕ × Did) → Did
+abbrev pub did_first : Did → List (ℕ × Did) → Did
 did_first did [] = did
 did_first did (x ∷ xs) = x.1
 

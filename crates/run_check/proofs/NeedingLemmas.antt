@@ -8,7 +8,10 @@ use Rattle.pool_law.specs.declared.id.RootId.{RootId}
 use Rattle.pool_law.specs.Logs.{Entry}
 use Rattle.pool_law.specs.Counts.{CountsHold, LookHolds, is_retain, is_release}
 use Rattle.pool_law.specs.Legal.{LookAt, LooksHold, one_if}
-use Rattle.run_check.specs.Counting.{count_after}
+use Rattle.run_check.specs.declared.counts.Counts.{Counts}
+use Rattle.run_check.specs.declared.tally.Tally.{Tally}
+use Rattle.run_check.specs.Counting.{count_in, count_after}
+use Rattle.run_check.specs.Tallying.{sums_in}
 use Rattle.run_check.specs.Needing.{NeedsHold}
 use Rattle.run_check.proofs.KeyLemmas.{same_root-self}
 
@@ -19,6 +22,27 @@ counts-front root k e es h = ((h.0, h.1.0), h.1.1)
 pub counts-back : (root : RootId) (k : ℕ) (e : Entry) (es : List Entry) → NeedsHold root k e →
     CountsHold root (count_after root k e.note) es → CountsHold root k (e ∷ es)
 counts-back root k e es needs rest = (needs.0, (needs.1, rest))
+
+-- what is asked of an entry, and of a log, by a lane's count of each root
+abbrev pub AllNeeds : (RootId → ℕ) → Entry → Type 0
+AllNeeds counts e = (root : RootId) → NeedsHold root (counts root) e
+
+abbrev pub AllCounts : (RootId → ℕ) → List Entry → Type 0
+AllCounts counts es = (root : RootId) → CountsHold root (counts root) es
+
+abbrev pub counts_after : (RootId → ℕ) → Entry → RootId → ℕ
+counts_after counts e root = count_after root (counts root) e.note
+
+pub all-counts-front : (counts : RootId → ℕ) (e : Entry) (es : List Entry) → AllCounts counts (e ∷ es) →
+    AllNeeds counts e × AllCounts (counts_after counts e) es
+all-counts-front counts e es h = (
+  λ root. (counts-front root (counts root) e es (h root)).0,
+  λ root. (counts-front root (counts root) e es (h root)).1,
+)
+
+pub all-counts-back : (counts : RootId → ℕ) (e : Entry) (es : List Entry) → AllNeeds counts e →
+    AllCounts (counts_after counts e) es → AllCounts counts (e ∷ es)
+all-counts-back counts e es needs rest = λ root. counts-back root (counts root) e es (needs root) (rest root)
 
 -- the retains and releases of a lane so far, and its count
 pub record Passed : Type 0 where
@@ -34,21 +58,37 @@ passed_on root p e = record {
   count = count_after root p.count e.note;
 }
 
--- what is asked of an entry, and what holds of a log, by what passed of each root
+abbrev pub all_passed_on : (RootId → Passed) → Entry → RootId → Passed
+all_passed_on p e root = passed_on root (p root) e
+
+-- nothing passed, and what passed by what the program keeps
+abbrev pub none_passed : Passed
+none_passed = record { retains = 0; releases = 0; count = 0 }
+
+abbrev pub passed : Tally → Counts → RootId → Passed
+passed own counts root = record {
+  retains = (sums_in own root).retains;
+  releases = (sums_in own root).releases;
+  count = count_in counts root;
+}
+
+-- what is asked of an entry, and of a log, by what passed of each root
 module _ (others : RootId → ℕ) where
-  abbrev pub LookAsks : RootId → Passed → Entry → Type 0
-  LookAsks root p e = LookAt root p.retains p.releases p.count (others root) e.note
+  abbrev pub AllLooks : (RootId → Passed) → Entry → Type 0
+  AllLooks p e =
+      (root : RootId) → LookAt root (p root).retains (p root).releases (p root).count (others root) e.note
 
-  abbrev pub LookRest : RootId → Passed → List Entry → Type 0
-  LookRest root p es = LooksHold root (others root) p.retains p.releases p.count es
+  abbrev pub AllLooked : (RootId → Passed) → List Entry → Type 0
+  AllLooked p es =
+      (root : RootId) → LooksHold root (others root) (p root).retains (p root).releases (p root).count es
 
-  pub looks-front : (root : RootId) (p : Passed) (e : Entry) (es : List Entry) → LookRest root p (e ∷ es) →
-      LookAsks root p e × LookRest root (passed_on root p e) es
-  looks-front root p e es h = (h.0, h.1)
+  pub all-looked-front : (p : RootId → Passed) (e : Entry) (es : List Entry) → AllLooked p (e ∷ es) →
+      AllLooks p e × AllLooked (all_passed_on p e) es
+  all-looked-front p e es h = (λ root. (h root).0, λ root. (h root).1)
 
-  pub looks-back : (root : RootId) (p : Passed) (e : Entry) (es : List Entry) → LookAsks root p e →
-      LookRest root (passed_on root p e) es → LookRest root p (e ∷ es)
-  looks-back root p e es asks rest = (asks, rest)
+  pub all-looked-back : (p : RootId → Passed) (e : Entry) (es : List Entry) → AllLooks p e →
+      AllLooked (all_passed_on p e) es → AllLooked p (e ∷ es)
+  all-looked-back p e es asks rest = λ root. (asks root, rest root)
 
 -- a look is in the bounds of each root, where it is in those of its own
 pub look-each : (good : Bool) (r : RootId) (found : ℕ) (retains releases count others : RootId → ℕ) →

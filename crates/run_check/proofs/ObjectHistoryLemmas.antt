@@ -1,5 +1,5 @@
 -- The histories of objects as the program keeps them.
-use Rattle.std.proofs.Common.{◌≡◌, ℕ, Bool, true, false, List, [], ◌∷◌, ◌++◌, Option, Some, None, Vec, append_assoc, refl, sym, ap, subst, ◌∙◌}
+use Rattle.std.proofs.Common.{◌≡◌, ℕ, Bool, ◌+◌, true, false, List, [], ◌∷◌, ◌++◌, Option, Some, None, Vec, append_assoc, refl, sym, ap, subst, ◌∙◌}
 use Rattle.std.specs.Prelude.{if◌then◌else◌, is_some, option_map, MatchOption}
 use Rattle.std.specs.BTreeMap.{get, is_at}
 use Rattle.std.specs.declared.alloc.Global.{Global}
@@ -21,6 +21,7 @@ use Rattle.pool_law.proofs.HistoryLemmas.{append-nil, own-append, history_of-is}
 use Rattle.pool_law.proofs.SameLemmas.{same_object-is}
 use Rattle.object_steps.specs.declared.told.Told.{Told}
 use Rattle.run_check.specs.declared.histories.ObjectHistory.{ObjectHistory}
+use Rattle.run_check.specs.declared.histories.BrokenAt.{BrokenAt}
 use Rattle.run_check.specs.declared.histories.Histories.{Histories}
 use Rattle.run_check.specs.Counting.{key_cmp}
 use Rattle.run_check.specs.Keying.{object_key}
@@ -28,35 +29,47 @@ use Rattle.run_check.specs.Gathering.{AreNumbered}
 use Rattle.object_steps.specs.Telling.{told_of_each}
 use Rattle.run_check.specs.Merging.{dones_in}
 use Rattle.run_check.specs.Mailing.{IsHeldMail}
-use Rattle.run_check.specs.Storing.{told_of, TellsOf, IsObjectHistory, IsBroken, object_history_in, has_object_history, dones_of, told_by_object_history, history_in, AreStories, Keeps, Covers, AreHistories}
+use Rattle.run_check.specs.Fronts.{IsBrokenAt, StopsAt, AcceptsSoMany}
+use Rattle.run_check.specs.Storing.{told_of, TellsOf, IsObjectHistory, ObjectHolds, object_history_in, has_object_history, dones_of, told_by_object_history, history_in, AreStories, Keeps, Covers, AreHistories}
+use Rattle.run_check.proofs.FrontLemmas.{whole-front}
+use Rattle.run_check.proofs.BrokenLemmas.{accepts-nothing, accepts-less, refused-at}
 use Rattle.run_check.proofs.KeyLemmas.{is_at-object, same-object-self}
 use Rattle.run_check.proofs.MailLemmas.{no-mail, unused-holds}
 
 -- ---- One object.
 
 module _ (shape : Shape) (logs : Logs) (object : Object) (has : has_history object ≡ true) where
-  pub broken-unmerged : (left : ℕ → List (ℕ × Did)) → ((lane : ℕ) → left lane ≡ own object (of_lane logs lane)) →
-      ((g : History) → AreNumbered 1 left g → ⊥) → IsBroken shape logs object
-  broken-unmerged left is never holds =
-      never (history_of object logs) (λ lane. is lane ∙ holds.whole has lane)
-
   merged-whole : (left : ℕ → List (ℕ × Did)) (h : History) →
       ((lane : ℕ) → left lane ≡ own object (of_lane logs lane)) → AreNumbered 1 left h → IsHistory object logs h
   merged-whole left h is numbers lane = sym (is lane) ∙ numbers lane
 
   broken-refused : (h : History) → IsHistory object logs h → accepts shape object (dids h) ≡ false →
-      IsBroken shape logs object
+      ObjectHolds shape logs object → ⊥
   broken-refused h whole refused holds =
       let same : history_of object logs ≡ h = history_of-is object logs h whole in
       let both : false ≡ true = sym refused ∙ ap (λ (g : History). accepts shape object (dids g)) (sym same)
       ∙ holds.accepted has in
       cc both
 
-  pub object_history-broken : (left : ℕ → List (ℕ × Did)) (h : History) (ds : List Did) →
+  -- a whole history that is refused is broken behind the notes that are accepted of it
+  pub object_history-broken : (left : ℕ → List (ℕ × Did)) (h : History) (ds : List Did) (n : ℕ) →
       ((lane : ℕ) → left lane ≡ own object (of_lane logs lane)) → AreNumbered 1 left h → ds ≡ dids h →
-      accepts shape object ds ≡ false → IsBroken shape logs object
-  object_history-broken left h ds is numbers same refused =
-      broken-refused h (merged-whole left h is numbers) (ap (accepts shape object) (sym same) ∙ refused)
+      accepts shape object ds ≡ false → AcceptsSoMany shape object ds n → IsBrokenAt shape logs object (n + 1)
+  object_history-broken left h ds n is numbers same refused so_many =
+      let whole : IsHistory object logs h = merged-whole left h is numbers in
+      let here : AcceptsSoMany shape object (dids h) n =
+      subst (λ (xs : List Did). AcceptsSoMany shape object xs n) same so_many in
+      let no : accepts shape object (dids h) ≡ false = ap (accepts shape object) (sym same) ∙ refused in
+      refused-at shape logs object has h n (broken-refused h whole no)
+      (whole-front (λ lane. own object (of_lane logs lane)) h whole) here
+      (accepts-less shape object (dids h) n here no)
+
+  -- notes that are merged up to a number stop there
+  pub stops-at : (left : ℕ → List (ℕ × Did)) (h : History) (number : ℕ) →
+      ((lane : ℕ) → left lane ≡ own object (of_lane logs lane)) → StopsAt left h number →
+      StopsAt (λ lane. own object (of_lane logs lane)) h number
+  stops-at left h number is stops =
+      subst (λ (notes : ℕ → List (ℕ × Did)). StopsAt notes h number) (λ i lane. is lane i) stops
 
   -- what is merged, accepted and told is a history
   pub object_history-is : (left : ℕ → List (ℕ × Did)) (ds : List Did) (object_history : ObjectHistory) →
@@ -72,7 +85,7 @@ module _ (shape : Shape) (logs : Logs) (object : Object) (has : has_history obje
     told = told.1 ∙ ap (told_of object) same;
   }
 
--- a mail that holds has an empty history, and one that does not breaks the logs
+-- a mail that holds has an empty history
 pub mail-object_history : (shape : Shape) (logs : Logs) (mail : Object) (object_history : ObjectHistory)
     → has_history mail ≡ false →
     IsHeldMail logs mail → object_history.dones.items ≡ [] → object_history.told.items ≡ []
@@ -84,10 +97,6 @@ mail-object_history shape logs (Mail sender receiver) object_history none held d
   told = told;
 }
 mail-object_history shape logs _ object_history none held dones told = absurd (cc none)
-
-pub mail-broken : (shape : Shape) (logs : Logs) (mail : Object) → (IsHeldMail logs mail → ⊥) →
-    IsBroken shape logs mail
-mail-broken shape logs mail not holds = not holds.mail
 
 -- what is told of a root place's history, where it is accepted
 pub tells-root : (shape : Shape) (place : ℕ) (ds : List Did) (told : Option (Vec Told Global)) →
@@ -150,13 +159,6 @@ covers-kept old new notes keeps covers object absent = go (has_object_history ol
     go true has = let both : true ≡ false = sym (keeps object has) ∙ absent in absurd (cc both)
     go false none = covers object none
 
-accepts-nothing : (shape : Shape) (object : Object) → has_history object ≡ true → accepts shape object [] ≡ true
-accepts-nothing shape (Object.Arena number) has = refl
-accepts-nothing shape (Object.Cache lane class) has = refl
-accepts-nothing shape (Object.Bin lane) has = refl
-accepts-nothing shape (Object.Mail from to) has = absurd (cc has)
-accepts-nothing shape (Object.Root place) has = refl
-
 module _ (shape : Shape) (logs : Logs) (m : Histories) (are : AreStories shape logs m)
     (covers : (lane : ℕ) → Covers m (of_lane logs lane)) where
   pub histories-are : AreHistories shape logs m
@@ -217,10 +219,11 @@ covers-at m object number did has other absent = go (same_object other object) r
 
 -- a note at an object is covered where the object's history is added
 pub note-added : (shape : Shape) (logs : Logs) (object : Object) (number : ℕ) (did : Did) (note : Note)
-    (old new : Histories) (broken : Option Object) → note ≡ At object number did →
+    (old new : Histories) (broken : Option BrokenAt) → note ≡ At object number did →
     MatchOption broken (AreStories shape logs new × Keeps old new × (has_object_history new object ≡ true))
-    (IsBroken shape logs) →
-    MatchOption broken (AreStories shape logs new × Keeps old new × Covers new (note ∷ [])) (IsBroken shape logs)
+    (λ b. IsBrokenAt shape logs b.object b.number) →
+    MatchOption broken (AreStories shape logs new × Keeps old new × Covers new (note ∷ []))
+    (λ b. IsBrokenAt shape logs b.object b.number)
 note-added shape logs object number did note old new None is added = (
   added.0,
   added.1,

@@ -1,7 +1,7 @@
 -- The totals of the roots that were born.
 use Rattle.std.proofs.Common.{◌≡◌, ℕ, zero, suc, ◌+◌, ◌<◌, Bool, true, false, List, [], ◌∷◌, map, refl, sym, ap, subst, arith, ⊎_elim}
-use Rattle.std.specs.Prelude.{◌⊎◌}
-use Rattle.std.specs.List.{AllZip}
+use Rattle.std.specs.Prelude.{◌⊎◌, ◌||◌}
+use Rattle.std.specs.List.{AllZip, list_any}
 use Rattle.pool_law.specs.declared.id.RootId.{RootId}
 use Rattle.pool_law.specs.declared.note.Note.{Note}
 use Rattle.pool_law.specs.declared.run.LaneLog.{LaneLog}
@@ -13,6 +13,9 @@ use Rattle.run_check.specs.declared.tally.Tally.{Tally}
 use Rattle.run_check.specs.Spotting.{notes_in}
 use Rattle.run_check.specs.Tallying.{total_sums, IsTally, AreTotals, EachHolds}
 use Rattle.run_check.proofs.TallyLemmas.{counted_over, totals-counted}
+
+some-part : (a b : ℕ) → 0 < a + b → (0 < a) ⊎ (0 < b)
+some-part a b h = grind arith
 
 module _ (g : Note → Entry) (bare : (n : Note) → (g n).note ≡ n) (test : RootId → Note → Bool) (Right : RootId → Type 0)
   where
@@ -42,9 +45,6 @@ module _ (g : Note → Entry) (bare : (n : Note) → (g n).note ≡ n) (test : R
             let none : one_if (test root n) ≡ 0 = ap one_if e in
             rest (omega (arith, first-counted root n ns, none, some))
 
-    some-of : (a b : ℕ) → 0 < a + b → (0 < a) ⊎ (0 < b)
-    some-of a b h = grind arith
-
     pub over-back : (logs : Logs) → ((k : ℕ) → EachHolds test Right (of_lane logs k)) → (root : RootId) →
         0 < count_over (test root) (map (map g) logs) → Right root
     over-back [] holds root some = absurd (omega (arith, some))
@@ -52,7 +52,7 @@ module _ (g : Note → Entry) (bare : (n : Note) → (g n).note ≡ n) (test : R
         ⊎_elim
         (λ here. each-back log (holds 0) root here)
         (λ there. over-back logs (λ k. holds (suc k)) root there)
-        (some-of (count_in (test root) (map g log)) (count_over (test root) (map (map g) logs)) some)
+        (some-part (count_in (test root) (map g log)) (count_over (test root) (map (map g) logs)) some)
 
     some-over : (root : RootId) (logs : Logs) (k : ℕ) → 0 < count_in (test root) (map g (of_lane logs k)) →
         0 < count_over (test root) (map (map g) logs)
@@ -60,10 +60,22 @@ module _ (g : Note → Entry) (bare : (n : Note) → (g n).note ≡ n) (test : R
     some-over root (log ∷ logs) zero some = omega (arith, some)
     some-over root (log ∷ logs) (suc k) some = omega (arith, some-over root logs k some)
 
-    pub over-hold : (logs : Logs) →
-        ((root : RootId) → 0 < count_over (test root) (map (map g) logs) → Right root) →
-        (k : ℕ) → EachHolds test Right (of_lane logs k)
-    over-hold logs f k = each-hold (of_lane logs k) (λ root some. f root (some-over root logs k some))
+    any-counted : (root : RootId) (ns : List Note) → list_any (test root) ns ≡ true →
+        0 < count_in (test root) (map g ns)
+    any-counted root [] any = absurd (cc any)
+    any-counted root (n ∷ ns) any = go (λ later. any-counted root ns later) (test root n) refl any
+      where
+        go : (list_any (test root) ns ≡ true → 0 < count_in (test root) (map g ns)) → (b : Bool) → test root n ≡ b →
+            (b || list_any (test root) ns) ≡ true → 0 < count_in (test root) (map g (n ∷ ns))
+        go rest true e h =
+            let one : one_if (test root n) ≡ 1 = ap one_if e in
+            omega (arith, first-counted root n ns, one)
+        go rest false e h = omega (arith, first-counted root n ns, rest h)
+
+    -- a root that passes the test with a note of a lane is counted over all lanes
+    pub any-over : (root : RootId) (logs : Logs) (k : ℕ) → list_any (test root) (of_lane logs k) ≡ true →
+        0 < count_over (test root) (map (map g) logs)
+    any-over root logs k any = some-over root logs k (any-counted root (of_lane logs k) any)
 
 module _ (g : Note → Entry) (bare : (n : Note) → (g n).note ≡ n) (tallies : List Tally) where
   module _ (root : RootId) (logs : List LaneLog) (are : AllZip IsTally tallies logs) where
@@ -93,3 +105,18 @@ module _ (g : Note → Entry) (bare : (n : Note) → (g n).note ≡ n) (tallies 
 
     pub births-are : (total_sums tallies root).births ≡ count_over (is_birth root) (map (map g) (notes_in logs))
     births-are = ap (λ (s : Sums). s.births) (totals-counted g bare root tallies logs are)
+
+-- what one lane counts is counted over all
+pub lane-over : (test : Note → Bool) (logs : List (List Entry)) (k : ℕ) → 0 < count_in test (of_lane logs k) →
+    0 < count_over test logs
+lane-over test [] k some = absurd (omega (arith, some))
+lane-over test (es ∷ logs) zero some = omega (arith, some)
+lane-over test (es ∷ logs) (suc k) some = omega (arith, lane-over test logs k some)
+
+-- what follows of a count by one lane follows of the count over all
+pub over-born : {Q : Type 0} (test : Note → Bool) (logs : List (List Entry)) →
+    ((k : ℕ) → 0 < count_in test (of_lane logs k) → Q) → 0 < count_over test logs → Q
+over-born test [] each some = absurd (omega (arith, some))
+over-born test (es ∷ logs) each some =
+    ⊎_elim (λ here. each 0 here) (λ there. over-born test logs (λ k here. each (suc k) here) there)
+    (some-part (count_in test es) (count_over test logs) some)

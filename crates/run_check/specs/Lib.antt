@@ -6,10 +6,12 @@ pub mod Spotting
 pub mod Merging
 pub mod Mailing
 pub mod Storing
+pub mod Fronts
 pub mod Marking
 pub mod Reporting
 pub mod Tallying
 pub mod Entering
 pub mod Needing
 pub mod Checking
+pub mod Placing
 pub mod Breaches

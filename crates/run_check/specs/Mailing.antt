@@ -1,5 +1,5 @@
 -- Mails as the program reads them.
-use Rattle.std.specs.Prelude.{◌≡◌, ℕ, ◌+◌, List, [], ◌∷◌, ◌++◌, map, Some, slice_get}
+use Rattle.std.specs.Prelude.{◌≡◌, ℕ, ◌+◌, ◌-◌, ◌<◌, ◌≤◌, List, [], ◌∷◌, ◌++◌, map, Some, slice_get}
 use Rattle.pool_law.specs.declared.id.Parcel.{Parcel}
 use Rattle.pool_law.specs.declared.note.Did.{Did}
 use Rattle.pool_law.specs.declared.note.Object.{Object}
@@ -25,9 +25,24 @@ passed_data p = (p.number, p.parcel)
 abbrev pub all_passed : List Passed → List (ℕ × Parcel)
 all_passed ps = map passed_data ps
 
--- each has the number of its place, from 1
-abbrev pub AreInTurn : List Passed → Type 0
-AreInTurn ps = (k : ℕ) (p : Passed) → slice_get ps k ≡ Some p → p.number ≡ k + 1
+-- the post of this place, if there is one, has the number of its place, from 1
+abbrev pub IsInTurn : List Passed → ℕ → Type 0
+IsInTurn posts k = (p : Passed) → slice_get posts k ≡ Some p → p.number ≡ k + 1
+
+-- the fetch of this place, if there is one, is the post there
+abbrev pub IsOfPost : List Passed → List Passed → ℕ → Type 0
+IsOfPost posts fetches k =
+    (f : Passed) → slice_get fetches k ≡ Some f → slice_get posts k ≡ Some f
+
+-- both hold at this place
+abbrev pub Passes : List Passed → List Passed → ℕ → Type 0
+Passes posts fetches k = IsInTurn posts k × IsOfPost posts fetches k
+
+-- they hold at each place before this one, from 1, and not at it
+pub record FailsAt (posts fetches : List Passed) (number : ℕ) : Type 0 where
+  pub from_one : 1 ≤ number
+  pub before : (k : ℕ) → k + 1 < number → Passes posts fetches k
+  pub there : Passes posts fetches (number - 1) → ⊥
 
 -- if the object is a mail, it holds
 abbrev pub IsHeldMail : Logs → Object → Type 0

@@ -1,11 +1,12 @@
 -- What a lane has of objects, as the program keeps it.
-use Rattle.std.specs.Prelude.{ℕ, ◌+◌, ◌≤◌, max, if◌then◌else◌, List, Option, Some, None, unwrap_or, IsTrue}
+use Rattle.std.specs.Prelude.{ℕ, ◌+◌, ◌≤◌, max, if◌then◌else◌, List, Option, Some, None, slice_get, unwrap_or, IsTrue}
 use Rattle.std.specs.BTreeMap.{get}
 use Rattle.pool_law.specs.declared.note.Object.{Object}
 use Rattle.pool_law.specs.declared.note.Note.{Note}
 use Rattle.pool_law.specs.declared.note.Note.TheVariants.{At, Ref, Busy}
 use Rattle.pool_law.specs.Same.{same_object}
-use Rattle.pool_law.specs.Busy.{MarksFit}
+use Rattle.pool_law.specs.Busy.{MarksFit, IsOfAnother}
+use Rattle.pool_law.specs.Logs.{History}
 use Rattle.run_check.specs.Counting.{key_cmp}
 use Rattle.run_check.specs.Keying.{object_key}
 use Rattle.run_check.specs.declared.busy.Had.{Had}
@@ -48,3 +49,10 @@ MayCome object h (At other number did) =
     IsTrue (same_object object other) → least_after h.mark ≤ number
 MayCome object h (Busy held) = IsTrue (same_object object held.object) → h.number ≤ held.number
 MayCome object h (Ref root did) = Unit {0}
+
+-- a note, if it is a mark, stands before a note of another lane
+abbrev pub MarkHolds : ℕ → (Object → History) → Note → Type 0
+MarkHolds lane history (Busy held) =
+    IsOfAnother lane (slice_get (history held.object) held.number)
+MarkHolds lane history (At object number did) = Unit {0}
+MarkHolds lane history (Ref root did) = Unit {0}

@@ -1,5 +1,5 @@
 -- A report of live roots as the program checks it.
-use Rattle.std.specs.Prelude.{◌≡◌, ℕ, ◌+◌, ◌-◌, ◌==◌, ◌&&◌, not, Bool, true, false, if◌then◌else◌, List, [], ◌∷◌, ◌++◌, length, map, Option, Some, None}
+use Rattle.std.specs.Prelude.{◌≡◌, ℕ, ◌+◌, ◌-◌, ◌==◌, ◌&&◌, not, Bool, true, false, if◌then◌else◌, List, [], ◌∷◌, ◌++◌, ◌≤◌, length, map, take}
 use Rattle.pool_law.specs.declared.id.RootId.{RootId}
 use Rattle.pool_law.specs.declared.note.Did.{Did}
 use Rattle.pool_law.specs.declared.note.Did.TheVariants.{Birth, Set, Get, Touch, End}
@@ -15,6 +15,7 @@ use Rattle.pool_law.specs.Leaks.{births, is_sampled, keeps_records, accesses, ke
 use Rattle.pool_law.specs.Logs.{dids, present_in}
 use Rattle.pool_law.specs.Histories.{place_after}
 use Rattle.run_check.specs.Merging.{dones_in}
+use Rattle.run_check.specs.Placing.{DifferAt}
 use Rattle.run_check.specs.Storing.{history_in}
 use Rattle.run_check.specs.Tallying.{total_sums}
 use Rattle.run_check.specs.declared.histories.Histories.{Histories}
@@ -100,7 +101,12 @@ all_leaks shape m tallies lane [] = []
 all_leaks shape m tallies lane (log ∷ logs) =
     leaks_in shape m tallies lane 1 log.notes ++ all_leaks shape m tallies (lane + 1) logs
 
--- a report begins with these, and goes on with that; or it does not begin with them
-abbrev pub Tells : List Leak → List Leak → Option (List Leak) → Type 0
-Tells these report None = (rest : List Leak) → report ≡ these ++ rest → ⊥
-Tells these report (Some rest) = report ≡ these ++ rest
+-- a report that is read up to a place goes on with these, up to the next place
+abbrev pub GoesOn : List Leak → ℕ → List Leak → ℕ → Type 0
+GoesOn report at these next =
+    (take next report ≡ take at report ++ these) × (next ≤ length report)
+
+-- a report that is read up to a place differs from each that goes on with these, first at another place
+abbrev pub Strays : List Leak → ℕ → List Leak → ℕ → Type 0
+Strays report at these other =
+    (more : List Leak) → DifferAt report (take at report ++ (these ++ more)) other

@@ -46,10 +46,6 @@ pub record ObjectHolds (shape : Shape) (logs : Logs) (object : Object) : Type 0 
       IsAccepted shape object (dids (history_of object logs))
   pub mail : IsHeldMail logs object
 
--- they do not
-abbrev pub IsBroken : Shape → Logs → Object → Type 0
-IsBroken shape logs object = ObjectHolds shape logs object → ⊥
-
 -- the history of an object, if it is there
 abbrev pub object_history_in : Histories → Object → Option ObjectHistory
 object_history_in m object = get key_cmp m.map (object_key object)

@@ -1,10 +1,11 @@
 //! Whether busy marks are right.
 
-ghost use Rattle.std.specs.Prelude.{◌≡◌, ◌≤◌, ◌↔◌, ℕ, slice_get, if◌then◌else◌, IsTrue, IfOk, OnOk};
+ghost use Rattle.std.specs.Prelude.{◌≡◌, ◌≤◌, ◌↔◌, slice_get, if◌then◌else◌, IsTrue, IfOk, OnOk, MatchOption};
 ghost use Rattle.pool_law.specs.declared.note.Object.{Object};
 ghost use Rattle.pool_law.specs.Same.{same_object};
-ghost use Rattle.pool_law.specs.Busy.{MarksFit, IsOfAnother, MarksHold};
-ghost use Rattle.run_check.specs.Marking.{none_had, had_of, least_after, had_note, had_mark, had_after, MayCome};
+ghost use Rattle.pool_law.specs.Busy.{IsOfAnother, BusyHolds};
+ghost use Rattle.run_check.specs.Marking.{none_had, had_of, least_after, had_note, had_mark, had_after, MayCome, MarkHolds};
+ghost use Rattle.run_check.specs.Placing.{BreaksAt};
 ghost use Rattle.run_check.specs.Storing.{history_in};
 
 use crate::histories::Histories;
@@ -134,23 +135,8 @@ impl Marked {
     }
 }
 
-/// Whether the marks at each object fit what a lane has of it.
-pub fn all_fit(alloc: Global, notes: &[Note]) -> Result<bool, AllocError>
-    ensures { IfOk result
-        (λ good. IsTrue good ↔ ((object : Object) → MarksFit object 0 0 notes.now)) }
-{
-    let mut marked = Marked::new(alloc);
-    for note in notes {
-        if !marked.may_come(note) {
-            return Ok(false);
-        }
-        marked.pass(note)?;
-    }
-    Ok(true)
-}
-
 // Whether a mark stands before a note of another lane.
-fn mark_holds(histories: &Histories, lane: usize, held: &Held) -> bool
+fn is_of_another(histories: &Histories, lane: usize, held: &Held) -> bool
     ensures { IsTrue result
         ↔ IsOfAnother lane (slice_get (history_in histories.now held.now.object) held.now.number) }
 {
@@ -159,17 +145,43 @@ fn mark_holds(histories: &Histories, lane: usize, held: &Held) -> bool
     at < dones.len() && dones[at].lane != lane
 }
 
-/// Whether the marks of a lane stand before notes of other lanes.
-pub fn marks_hold(histories: &Histories, lane: usize, notes: &[Note]) -> bool
-    ensures { IsTrue result ↔ MarksHold lane (history_in histories.now) notes.now }
+// Whether a note, if it is a mark, stands before a note of another lane.
+fn mark_holds(histories: &Histories, lane: usize, note: &Note) -> bool
+    ensures { IsTrue result ↔ MarkHolds lane (history_in histories.now) note.now }
 {
-    for note in notes {
-        let Note::Busy(held) = note else {
-            continue;
-        };
-        if !mark_holds(histories, lane, held) {
-            return false;
-        }
+    match note {
+        Note::Busy(held) => is_of_another(histories, lane, held),
+        _ => true,
     }
-    true
+}
+
+// Whether a note may come next, and stands before a note of another lane if it is a mark.
+fn may_stand(marked: &Marked, histories: &Histories, lane: usize, note: &Note) -> bool
+    ensures { IsTrue result
+        ↔ (((object : Object) → MayCome object (had_of marked.now object) note.now)
+        × MarkHolds lane (history_in histories.now) note.now) }
+{
+    marked.may_come(note) && mark_holds(histories, lane, note)
+}
+
+/// The place of the first note of a lane with which its marks are not right, if there is one: what it has of an
+/// object doesn't fit, or a mark doesn't stand before a note of another lane.
+pub fn mismarked_at(
+    alloc: Global,
+    histories: &Histories,
+    lane: usize,
+    notes: &[Note],
+) -> Result<Option<usize>, AllocError>
+    ensures { IfOk result
+        (λ found. MatchOption found (BusyHolds lane (history_in histories.now) notes.now)
+        (BreaksAt (BusyHolds lane (history_in histories.now)) notes.now)) }
+{
+    let mut marked = Marked::new(alloc);
+    for (at, note) in notes.iter().enumerate() {
+        if !may_stand(&marked, histories, lane, note) {
+            return Ok(Some(at));
+        }
+        marked.pass(note)?;
+    }
+    Ok(None)
 }

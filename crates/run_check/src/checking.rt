@@ -10,16 +10,17 @@ ghost use Rattle.run_check.specs.Breaches.{Breaks, HasLanes};
 ghost use Rattle.run_check.specs.Checking.{CountsRight, NotesRight, AnswersRight};
 
 use crate::breach::Breach;
-use crate::ending::{ends_of, same_ends};
+use crate::ending::{ends_of, first_unlike};
 use crate::entries::told_of_lanes;
 use crate::fitting::all_are_commands;
 use crate::histories::Histories;
 use crate::lanes::{
     first_astray, first_misanswered, first_miscounted, first_mislooked, first_mismarked,
+    first_unborn,
 };
-use crate::leaks::{Report, is_report};
+use crate::leaks::{Report, first_misreported};
 use crate::tally::tallies_of;
-use crate::totals::{all_born, all_total};
+use crate::totals::first_mistotaled;
 use object_steps::{Sizes, Told, is_shape};
 use pool_law::Run;
 use std::alloc::{AllocError, Global};
@@ -48,17 +49,17 @@ fn breach_of_counts(
 {
     let logs = run.logs.items();
     let tallies = tallies_of(alloc, logs)?;
-    if let Some(lane) = first_miscounted(alloc, logs, told)? {
-        return Ok(Some(Breach::Uses(lane)));
+    if let Some(spot) = first_miscounted(alloc, logs, told)? {
+        return Ok(Some(Breach::Uses(spot)));
     }
-    if !all_total(&tallies, logs)? {
-        return Ok(Some(Breach::Totals));
+    if let Some(root) = first_mistotaled(&tallies, logs)? {
+        return Ok(Some(Breach::Totals(root)));
     }
-    if !all_born(&tallies, logs)? {
-        return Ok(Some(Breach::Unborn));
+    if let Some(spot) = first_unborn(&tallies, logs)? {
+        return Ok(Some(Breach::Unborn(spot)));
     }
-    if let Some(lane) = first_mislooked(alloc, &tallies, logs, told)? {
-        return Ok(Some(Breach::Looks(lane)));
+    if let Some(spot) = first_mislooked(alloc, &tallies, logs, told)? {
+        return Ok(Some(Breach::Looks(spot)));
     }
     let report = Report {
         shape: &run.shape,
@@ -66,8 +67,8 @@ fn breach_of_counts(
         tallies: &tallies,
         leaks: run.leaks.items(),
     };
-    if !is_report(alloc, &report, logs)? {
-        return Ok(Some(Breach::Leaks));
+    if let Some(at) = first_misreported(alloc, &report, logs)? {
+        return Ok(Some(Breach::Leaks(at)));
     }
     Ok(None)
 }
@@ -86,20 +87,20 @@ fn breach_of_notes(
     ensures { IfOk result (λ found. MatchOption found (NotesRight run.now) (Breaks run.now)) }
 {
     let logs = run.logs.items();
-    if let Some(lane) = first_astray(&run.shape, logs) {
-        return Ok(Some(Breach::Notes(lane)));
+    if let Some(spot) = first_astray(&run.shape, logs) {
+        return Ok(Some(Breach::Notes(spot)));
     }
-    if let Some(lane) = first_mismarked(alloc, histories, logs)? {
-        return Ok(Some(Breach::Marks(lane)));
+    if let Some(spot) = first_mismarked(alloc, histories, logs)? {
+        return Ok(Some(Breach::Marks(spot)));
     }
     let ends = ends_of(alloc, &run.shape, sizes, histories)?;
-    if !same_ends(run.chunks.items(), &ends) {
-        return Ok(Some(Breach::Chunks));
+    if let Some(at) = first_unlike(run.chunks.items(), &ends) {
+        return Ok(Some(Breach::Chunks(at)));
     }
     Ok(None)
 }
 
-// The first lane whose replies and notes are not those of its commands.
+// The first command of a lane whose reply and notes are not its own.
 fn breach_of_answers(
     alloc: Global,
     run: &Run,
@@ -116,14 +117,17 @@ fn breach_of_answers(
 {
     let lanes = run.trace.lanes.items();
     let logs = run.logs.items();
-    if let Some(lane) = first_misanswered(alloc, &run.shape, sizes, lanes, logs, told)? {
-        return Ok(Some(Breach::Answers(lane)));
+    if let Some(found) = first_misanswered(alloc, &run.shape, sizes, lanes, logs, told)? {
+        return Ok(Some(Breach::Answers {
+            lane: found.0,
+            command: found.1,
+        }));
     }
     Ok(None)
 }
 
-/// What of the law of the pool a run doesn't keep, the first that is found: None exactly where the
-/// pool can make the run. Its measures and commands are looked at first, then the histories of objects
+/// What of the law of the pool a run doesn't keep, the first that is found, and the first place where it doesn't:
+/// None exactly where the pool can make the run. Its measures and commands are looked at first, then the histories of objects
 /// in the order in which the logs name them, what each lane may note and its marks, the chunks,
 /// the replies and notes of each lane, the counts of roots, and the leaks.
 pub fn find_breach(alloc: Global, run: &Run) -> Result<Option<Breach>, AllocError>
@@ -142,7 +146,12 @@ pub fn find_breach(alloc: Global, run: &Run) -> Result<Option<Breach>, AllocErro
     let logs = run.logs.items();
     let histories = match Histories::in_logs(alloc, &run.shape, &sizes, logs)? {
         Ok(histories) => histories,
-        Err(object) => return Ok(Some(Breach::History(object))),
+        Err(broken) => {
+            return Ok(Some(Breach::History {
+                object: broken.object,
+                number: broken.number,
+            }));
+        }
     };
     breach_of_logs(alloc, run, &sizes, &histories)
 }

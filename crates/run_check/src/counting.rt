@@ -1,11 +1,12 @@
 //! Whether lanes count roots as they must.
 
-ghost use Rattle.std.specs.Prelude.{◌≡◌, ◌≤◌, ◌↔◌, ℕ, true, length, IsTrue, IfOk};
+ghost use Rattle.std.specs.Prelude.{◌≡◌, ◌≤◌, ◌↔◌, true, length, IsTrue, IfOk, MatchOption};
 ghost use Rattle.pool_law.specs.declared.id.RootId.{RootId};
 ghost use Rattle.pool_law.specs.Counts.{root_is, note_needs, CountsHold, LookHolds};
 ghost use Rattle.pool_law.specs.Legal.{LookAt, LooksHold};
 ghost use Rattle.run_check.specs.Counting.{count_in};
 ghost use Rattle.run_check.specs.Needing.{EndHolds, NeedsHold};
+ghost use Rattle.run_check.specs.Placing.{BreaksAt};
 ghost use Rattle.lane_reader.specs.Reading.{entry, entries};
 ghost use Rattle.run_check.specs.Tallying.{sums_in, others_sum};
 
@@ -73,21 +74,23 @@ fn may_note(counts: &Counts, note: &Note, told: &Told) -> bool
     is_counted(counts, &needed(note)) && is_counted(counts, &told.root) && ends_well(counts, note)
 }
 
-/// Whether a lane uses each root only while it counts it, and counts none after its end.
-pub fn counts_hold(alloc: Global, log: &Log) -> Result<bool, AllocError>
+/// The place of the first note by which a lane uses a root that it doesn't count, or ends one that it still
+/// counts, if there is one.
+pub fn miscounted_at(alloc: Global, log: &Log) -> Result<Option<usize>, AllocError>
     requires { length log.now.told.now ≡ length log.now.notes.now }
-    ensures { IfOk result (λ good. IsTrue good
-        ↔ ((root : RootId) → CountsHold root 0 (entries log.now))) }
+    ensures { IfOk result (λ found. MatchOption found
+        ((root : RootId) → CountsHold root 0 (entries log.now))
+        (BreaksAt (λ es. (root : RootId) → CountsHold root 0 es) (entries log.now))) }
 {
     let mut counts = Counts::new(alloc);
     for at in 0..log.notes.len() {
         let note = &log.notes[at];
         if !may_note(&counts, note, &log.told[at]) {
-            return Ok(false);
+            return Ok(Some(at));
         }
         counts.pass(note)?;
     }
-    Ok(true)
+    Ok(None)
 }
 
 // Whether a count that a lane with these sums looks up is in its bounds.
@@ -126,24 +129,27 @@ fn look_holds(
     Ok(good)
 }
 
-/// Whether what a lane looks up of each root is in its bounds.
-pub fn looks_hold(
+/// The place of the first note by which a lane looks up of a root what is not in its bounds, if there is one.
+pub fn mislooked_at(
     alloc: Global,
     tallies: &[Tally],
     lane: usize,
     log: &Log,
-) -> Result<bool, AllocError>
-    ensures { IfOk result (λ good. IsTrue good ↔ ((root : RootId)
-        → LooksHold root (others_sum root lane 0 tallies.now) 0 0 0 (entries log.now))) }
+) -> Result<Option<usize>, AllocError>
+    ensures { IfOk result (λ found. MatchOption found
+        ((root : RootId)
+        → LooksHold root (others_sum root lane 0 tallies.now) 0 0 0 (entries log.now))
+        (BreaksAt (λ es. (root : RootId)
+        → LooksHold root (others_sum root lane 0 tallies.now) 0 0 0 es) (entries log.now))) }
 {
     let mut counts = Counts::new(alloc);
     let mut own = Tally::new(alloc);
-    for note in log.notes {
+    for (at, note) in log.notes.iter().enumerate() {
         if !look_holds(&counts, &own, tallies, lane, note)? {
-            return Ok(false);
+            return Ok(Some(at));
         }
         counts.pass(note)?;
         own.pass(note)?;
     }
-    Ok(true)
+    Ok(None)
 }

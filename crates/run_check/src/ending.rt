@@ -1,10 +1,11 @@
 //! The chunks of all arenas at the end.
 
-ghost use Rattle.std.specs.Prelude.{◌≡◌, ◌++◌, ◌≤◌, ◌^◌, ◌↔◌, IsTrue, IfOk, OnOk};
+ghost use Rattle.std.specs.Prelude.{◌≡◌, ◌++◌, ◌≤◌, ◌^◌, ◌↔◌, IsTrue, IfOk, OnOk, MatchOption};
 ghost use Rattle.size_classes.specs.Sizes.{below};
 ghost use Rattle.pool_law.specs.Limits.{geometry_of};
 ghost use Rattle.pool_law.specs.Logs.{Logs};
 ghost use Rattle.pool_law.specs.Legal.{arena_ends, ends_from};
+ghost use Rattle.run_check.specs.Placing.{DifferAt};
 ghost use Rattle.run_check.specs.Storing.{AreHistories};
 
 use crate::histories::{Histories, dids_of};
@@ -63,17 +64,18 @@ fn same_end(a: &ChunkEnd, b: &ChunkEnd) -> bool
         && a.free == b.free
 }
 
-/// Whether two lists of chunks are the same.
-pub fn same_ends(a: &[ChunkEnd], b: &[ChunkEnd]) -> bool
-    ensures { IsTrue result ↔ (a.now ≡ b.now) }
+/// The first place where two lists of chunks differ, if there is one.
+pub fn first_unlike(a: &[ChunkEnd], b: &[ChunkEnd]) -> Option<usize>
+    ensures { MatchOption result (a.now ≡ b.now) (DifferAt a.now b.now) }
 {
-    if a.len() != b.len() {
-        return false;
-    }
-    for at in 0..a.len() {
+    let both = a.len().min(b.len());
+    for at in 0..both {
         if !same_end(&a[at], &b[at]) {
-            return false;
+            return Some(at);
         }
     }
-    true
+    if a.len() != b.len() {
+        return Some(both);
+    }
+    None
 }

@@ -5,18 +5,20 @@ ghost use Rattle.std.specs.Option.{option_copied};
 ghost use Rattle.pool_law.specs.declared.note.Object.{Object};
 ghost use Rattle.pool_law.specs.Limits.{geometry_of};
 ghost use Rattle.pool_law.specs.declared.run.Shape.{Shape};
-ghost use Rattle.pool_law.specs.Logs.{Logs, dids, own, has_history};
+ghost use Rattle.pool_law.specs.Logs.{Logs, dids, of_lane, own, has_history};
 ghost use Rattle.object_steps.specs.Behind.{dids_behind};
 ghost use Rattle.run_check.specs.Merging.{dones_in};
 ghost use Rattle.run_check.specs.Spotting.{notes_in, AreSpots};
-ghost use Rattle.run_check.specs.Storing.{TellsOf, object_history_in, has_object_history, history_in, told_in, IsObjectHistory, IsBroken, AreStories, Keeps, Covers, AreHistories};
+ghost use Rattle.run_check.specs.Fronts.{IsBrokenAt, StopsAt};
+ghost use Rattle.run_check.specs.Storing.{TellsOf, object_history_in, has_object_history, history_in, told_in, IsObjectHistory, AreStories, Keeps, Covers, AreHistories};
 
+use crate::fronts::{accepted_of, broken_number, told_at};
 use crate::keys::object_key;
-use crate::mails::mail_holds;
+use crate::mails::mail_broken_at;
 use crate::merging::{Done, merged};
 use crate::spots::{Spots, left_at, spots_of};
 use crate::stands::has_history;
-use object_steps::{Sizes, Told, accepts, told_of_each};
+use object_steps::{Sizes, Told};
 use pool_law::{Did, LaneLog, Note, Object, Shape};
 use std::alloc::{AllocError, Global};
 use std::collections::BTreeMap;
@@ -26,6 +28,15 @@ use std::collections::BTreeMap;
 pub struct ObjectHistory<'a> {
     dones: Vec<Done<'a>>,
     told: Vec<Told>,
+}
+
+/// Where the law is broken at an object.
+#[derive(Clone, Copy, Drop)]
+pub struct BrokenAt {
+    /// The object, or mail, that does not hold.
+    pub object: Object,
+    /// The first number of its notes at which it does not.
+    pub number: u64,
 }
 
 /// The histories of the objects that notes name.
@@ -47,78 +58,59 @@ pub(crate) fn dids_of<'a>(alloc: Global, dones: &[Done<'a>]) -> Result<Vec<&'a D
     Ok(all)
 }
 
-// What an object's history tells of its notes, and none where the object does not accept it.
-fn told_at(
-    alloc: Global,
-    shape: &Shape,
-    sizes: &Sizes,
-    object: &Object,
-    dids: &[&Did],
-) -> Result<Option<Vec<Told>>, AllocError>
-    requires sizes { sizes.now ≡ geometry_of shape.now }
-    requires chunks { shape.now.chunks ≤ 2 ^ 16 }
-    requires handles { 1 ≤ shape.now.handles }
-    ensures { IfOk result (λ told. TellsOf shape.now object.now (dids_behind dids.now) told) }
-{
-    if let Object::Root(place) = object {
-        return told_of_each(alloc, *place, dids);
-    }
-    if accepts(alloc, shape, sizes, object, dids)? {
-        Ok(Some(Vec::new(alloc)))
-    } else {
-        Ok(None)
-    }
-}
-
-// The history of a mail, which has no history, and none where the mail does not hold.
+// The history of a mail, which has no history, or the first number at which the mail does not hold.
 fn object_history_of_mail<'a>(
     alloc: Global,
     lanes: &[Spots<'a>],
     mail: &Object,
-) -> Result<Option<ObjectHistory<'a>>, AllocError>
+) -> Result<Result<ObjectHistory<'a>, u64>, AllocError>
     requires { has_history mail.now ≡ false }
     ensures { (shape : Shape) → (logs : Logs) → AreSpots lanes.now logs → IfOk result (λ told.
-        MatchOption told (IsBroken shape logs mail.now) (IsObjectHistory shape logs mail.now)) }
+        MatchResult told (IsObjectHistory shape logs mail.now) (IsBrokenAt shape logs mail.now)) }
 {
-    if !mail_holds(alloc, lanes, mail)? {
-        return Ok(None);
+    if let Some(number) = mail_broken_at(alloc, lanes, mail)? {
+        return Ok(Err(number));
     }
-    Ok(Some(ObjectHistory {
+    Ok(Ok(ObjectHistory {
         dones: Vec::new(alloc),
         told: Vec::new(alloc),
     }))
 }
 
-// The history of an object, and none where its history is not whole or is not accepted, or where it is
-// a mail that does not hold.
+// The history of an object, or the first number at which its notes are not whole or not accepted, or at
+// which the mail does not hold.
 fn object_history_of<'a>(
     alloc: Global,
     shape: &Shape,
     sizes: &Sizes,
     lanes: &[Spots<'a>],
     object: &Object,
-) -> Result<Option<ObjectHistory<'a>>, AllocError>
+) -> Result<Result<ObjectHistory<'a>, u64>, AllocError>
     requires sizes { sizes.now ≡ geometry_of shape.now }
     requires chunks { shape.now.chunks ≤ 2 ^ 16 }
     requires handles { 1 ≤ shape.now.handles }
     ensures { (logs : Logs) → AreSpots lanes.now logs → IfOk result (λ told.
-        MatchOption told (IsBroken shape.now logs object.now)
-        (IsObjectHistory shape.now logs object.now)) }
+        MatchResult told (IsObjectHistory shape.now logs object.now)
+        (IsBrokenAt shape.now logs object.now)) }
 {
     if !has_history(object) {
         return object_history_of_mail(alloc, lanes, object);
     }
     let left = left_at(alloc, lanes, object)?;
-    let found = merged(alloc, left)?;
-    let Some(dones) = found else {
-        return Ok(None);
+    let dones = match merged(alloc, left)? {
+        Ok(dones) => dones,
+        Err(stop) => {
+            let dids = dids_of(alloc, &stop.dones)?;
+            let number = broken_number(alloc, shape, sizes, object, &dids, stop.number)?;
+            return Ok(Err(number));
+        }
     };
     let dids = dids_of(alloc, &dones)?;
-    let accepted = told_at(alloc, shape, sizes, object, &dids)?;
-    match accepted {
-        Some(told) => Ok(Some(ObjectHistory { dones, told })),
-        None => Ok(None),
+    if let Some(told) = told_at(alloc, shape, sizes, object, &dids)? {
+        return Ok(Ok(ObjectHistory { dones, told }));
     }
+    let accepted = accepted_of(alloc, shape, sizes, object, &dids)?;
+    Ok(Err(accepted as u64 + 1))
 }
 
 impl<'a> Histories<'a> {
@@ -171,7 +163,7 @@ impl<'a> Histories<'a> {
         self.found_told(place).unwrap_or(&[])
     }
 
-    // Adds the history of an object, if it is not there. Where it has none, the object comes back.
+    // Adds the history of an object, if it is not there. Where it is broken, that comes back.
     fn add(
         &mut self,
         alloc: Global,
@@ -179,7 +171,7 @@ impl<'a> Histories<'a> {
         sizes: &Sizes,
         lanes: &[Spots<'a>],
         object: &Object,
-    ) -> Result<Option<Object>, AllocError>
+    ) -> Result<Option<BrokenAt>, AllocError>
         requires sizes { sizes.now ≡ geometry_of shape.now }
         requires chunks { shape.now.chunks ≤ 2 ^ 16 }
         requires handles { 1 ≤ shape.now.handles }
@@ -187,22 +179,25 @@ impl<'a> Histories<'a> {
             → IfOk result (λ broken. MatchOption broken
             (AreStories shape.now logs self.new × Keeps self.old self.new
             × (has_object_history self.new object.now ≡ true))
-            (IsBroken shape.now logs)) }
+            (λ b. IsBrokenAt shape.now logs b.object b.number)) }
     {
         let key = object_key(object);
         if self.map.contains_key(&key) {
             return Ok(None);
         }
         match object_history_of(alloc, shape, sizes, lanes, object)? {
-            Some(object_history) => {
+            Ok(object_history) => {
                 self.map.insert(key, object_history)?;
                 Ok(None)
             }
-            None => Ok(Some(*object)),
+            Err(number) => Ok(Some(BrokenAt {
+                object: *object,
+                number,
+            })),
         }
     }
 
-    // Adds the history of the object that a note names. Where it has none, the object comes back.
+    // Adds the history of the object that a note names. Where it is broken, that comes back.
     fn add_note(
         &mut self,
         alloc: Global,
@@ -210,7 +205,7 @@ impl<'a> Histories<'a> {
         sizes: &Sizes,
         lanes: &[Spots<'a>],
         note: &Note,
-    ) -> Result<Option<Object>, AllocError>
+    ) -> Result<Option<BrokenAt>, AllocError>
         requires sizes { sizes.now ≡ geometry_of shape.now }
         requires chunks { shape.now.chunks ≤ 2 ^ 16 }
         requires handles { 1 ≤ shape.now.handles }
@@ -218,7 +213,7 @@ impl<'a> Histories<'a> {
             → IfOk result (λ broken. MatchOption broken
             (AreStories shape.now logs self.new × Keeps self.old self.new
             × Covers self.new (note.now ∷ []))
-            (IsBroken shape.now logs)) }
+            (λ b. IsBrokenAt shape.now logs b.object b.number)) }
     {
         match note {
             Note::At {
@@ -234,7 +229,7 @@ impl<'a> Histories<'a> {
         }
     }
 
-    // Adds the histories of the objects that notes name. The first that has none comes back.
+    // Adds the histories of the objects that notes name. The first that is broken comes back.
     fn add_all(
         &mut self,
         alloc: Global,
@@ -242,7 +237,7 @@ impl<'a> Histories<'a> {
         sizes: &Sizes,
         lanes: &[Spots<'a>],
         notes: &[Note],
-    ) -> Result<Option<Object>, AllocError>
+    ) -> Result<Option<BrokenAt>, AllocError>
         requires sizes { sizes.now ≡ geometry_of shape.now }
         requires chunks { shape.now.chunks ≤ 2 ^ 16 }
         requires handles { 1 ≤ shape.now.handles }
@@ -250,37 +245,37 @@ impl<'a> Histories<'a> {
             → IfOk result (λ broken. MatchOption broken
             (AreStories shape.now logs self.new × Keeps self.old self.new
             × Covers self.new notes.now)
-            (IsBroken shape.now logs)) }
+            (λ b. IsBrokenAt shape.now logs b.object b.number)) }
     {
         for note in notes {
-            if let Some(object) = self.add_note(alloc, shape, sizes, lanes, note)? {
-                return Ok(Some(object));
+            if let Some(broken) = self.add_note(alloc, shape, sizes, lanes, note)? {
+                return Ok(Some(broken));
             }
         }
         Ok(None)
     }
 
-    /// The histories of all objects, or the first object whose history is not whole or not accepted, or
-    /// mail that does not hold.
+    /// The histories of all objects, or the first object in the order of the logs whose notes are not whole or
+    /// not accepted, or mail that does not hold, with the first number at which it is so.
     pub fn in_logs(
         alloc: Global,
         shape: &Shape,
         sizes: &Sizes,
         logs: &'a [LaneLog],
-    ) -> Result<Result<Histories<'a>, Object>, AllocError>
+    ) -> Result<Result<Histories<'a>, BrokenAt>, AllocError>
         requires sizes { sizes.now ≡ geometry_of shape.now }
         requires chunks { shape.now.chunks ≤ 2 ^ 16 }
         requires handles { 1 ≤ shape.now.handles }
         ensures { IfOk result (λ found. MatchResult found
             (AreHistories shape.now (notes_in logs.now))
-            (IsBroken shape.now (notes_in logs.now))) }
+            (λ b. IsBrokenAt shape.now (notes_in logs.now) b.object b.number)) }
     {
         let lanes = spots_of(alloc, logs)?;
         let mut histories = Histories::new(alloc);
         for log in logs {
             let notes = log.notes.items();
-            if let Some(object) = histories.add_all(alloc, shape, sizes, &lanes, notes)? {
-                return Ok(Err(object));
+            if let Some(broken) = histories.add_all(alloc, shape, sizes, &lanes, notes)? {
+                return Ok(Err(broken));
             }
         }
         Ok(Ok(histories))

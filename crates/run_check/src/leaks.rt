@@ -1,169 +1,18 @@
 //! Whether a report is that of the live roots that are sampled.
 
-ghost use Rattle.std.specs.Prelude.{◌≡◌, ◌+◌, ◌-◌, ◌∷◌, ◌++◌, ◌≤◌, ◌↔◌, [], ℕ, false, List, drop, length, option_to_list, option_map, IsTrue, IfOk, IfSome, OnOk, MatchOption};
-ghost use Rattle.std.specs.List.{AllZip};
-ghost use Rattle.pool_law.specs.declared.report.Leak.{Leak};
-ghost use Rattle.pool_law.specs.Logs.{Logs};
-ghost use Rattle.pool_law.specs.Leaks.{births, is_sampled, keeps_records, accesses, lane_leaks, leaks_of};
-ghost use Rattle.run_check.specs.Merging.{dones_in};
-ghost use Rattle.run_check.specs.Spotting.{notes_in};
-ghost use Rattle.run_check.specs.Storing.{history_in, AreHistories};
-ghost use Rattle.run_check.specs.Tallying.{total_sums, IsTally};
-ghost use Rattle.run_check.specs.Reporting.{accesses_in, access_by, live_after, touched, kept_by, dropped_by, leak_by, one_leak, leaks_in, all_leaks, Tells};
+ghost use Rattle.std.specs.Prelude.{◌≡◌, ◌+◌, ◌∷◌, ◌≤◌, ◌↔◌, [], false, length, IsTrue, IfOk, MatchOption, MatchResult};
+ghost use Rattle.pool_law.specs.Leaks.{births, is_sampled, accesses};
+ghost use Rattle.run_check.specs.Storing.{history_in};
+ghost use Rattle.run_check.specs.Reporting.{capacity_by, leak_by, one_leak, leaks_in, all_leaks, GoesOn, Strays};
+ghost use Rattle.run_check.specs.Placing.{DifferAt};
 
 use crate::histories::{Histories, dids_of};
-use crate::merging::Done;
+use crate::records::{accesses_to, is_leak};
 use crate::tally::{Sums, Tally, sum, total_of};
+use crate::totals::born;
 use object_steps::capacity_after;
-use pool_law::{Access, Did, LaneLog, Leak, Level, Note, Object, RootId, Shape};
+use pool_law::{LaneLog, Leak, Level, Note, Object, RootId, Shape};
 use std::alloc::{AllocError, Global};
-
-// Whether a root is present after a note at its place.
-fn live_after(root: &RootId, live: bool, did: &Did) -> bool
-    ensures { result ≡ live_after root.now live did.now }
-{
-    match did {
-        Did::Birth {
-            root: born,
-            region: _,
-        } => born == root,
-        Did::End(_) => false,
-        _ => live,
-    }
-}
-
-// An access, if it is one to a root that is present.
-fn push_access<'a>(all: &mut Vec<Done<'a>>, live: bool, done: &Done<'a>) -> Result<(), AllocError>
-    ensures { OnOk result (accesses_in all.new.items
-        ≡ accesses_in all.old.items ++ touched live (done.now.lane, done.now.did.now)) }
-{
-    if !live {
-        return Ok(());
-    }
-    match done.did {
-        Did::Set {
-            offset: _,
-            bytes: _,
-        }
-        | Did::Get {
-            offset: _,
-            bytes: _,
-        }
-        | Did::Touch => all.push(*done)?,
-        _ => {}
-    }
-    Ok(())
-}
-
-// The accesses to a root, in order of its place's history.
-fn accesses_to<'a>(
-    alloc: Global,
-    root: &RootId,
-    dones: &[Done<'a>],
-) -> Result<Vec<Done<'a>>, AllocError>
-    ensures { IfOk result (λ all. accesses_in all.items
-        ≡ accesses root.now false (dones_in dones.now)) }
-{
-    let mut all = Vec::new(alloc);
-    let mut live = false;
-    for done in dones {
-        push_access(&mut all, live, done)?;
-        live = live_after(root, live, done.did);
-    }
-    Ok(all)
-}
-
-// Whether a record is of this access.
-fn is_record(kept: &Access, done: &Done) -> bool
-    ensures { IsTrue result ↔ (kept.now ≡ access_by (done.now.lane, done.now.did.now)) }
-{
-    match done.did {
-        Did::Set { offset: at, bytes } => match *kept {
-            Access::Set { lane, offset, len } => {
-                lane as usize == done.lane && offset == *at && len as usize == bytes.items().len()
-            }
-            _ => false,
-        },
-        Did::Get { offset: at, bytes } => match *kept {
-            Access::Get { lane, offset, len } => {
-                lane as usize == done.lane && offset == *at && len as usize == bytes.items().len()
-            }
-            _ => false,
-        },
-        _ => match *kept {
-            Access::Touch { lane } => lane as usize == done.lane,
-            _ => false,
-        },
-    }
-}
-
-// Whether records are of these accesses.
-fn are_records(records: &[Access], dones: &[Done]) -> bool
-    ensures { IsTrue result ↔ (records.now ≡ accesses_in dones.now) }
-{
-    if records.len() != dones.len() {
-        return false;
-    }
-    for at in 0..records.len() {
-        if !is_record(&records[at], &dones[at]) {
-            return false;
-        }
-    }
-    true
-}
-
-// Whether a count is what all retains and releases leave of a root.
-fn is_count(count: u32, sums: &Sums) -> bool
-    ensures { IsTrue result ↔ (count ≡ (1 + sums.now.retains) - sums.now.releases) }
-{
-    if sums.releases >= 1 {
-        u64::from(count) == sums.retains.saturating_sub(sums.releases - 1)
-    } else {
-        count >= 1 && u64::from(count - 1) == sums.retains
-    }
-}
-
-// Whether the records of a leak are the last four accesses, and the others are dropped.
-fn keeps_last(leak: &Leak, keeps: bool, dones: &[Done]) -> bool
-    ensures { IsTrue result ↔ ((leak.now.records ≡ kept_by keeps (accesses_in dones.now))
-        × (leak.now.dropped ≡ dropped_by keeps (accesses_in dones.now))) }
-{
-    if !keeps {
-        return leak.records.items().is_empty() && leak.dropped == 0;
-    }
-    let dropped = dones.len().saturating_sub(4);
-    leak.dropped == dropped as u64 && are_records(leak.records.items(), &dones[dropped..])
-}
-
-// Whether this is the report of a root.
-fn is_leak(
-    leak: &Leak,
-    level: Level,
-    lane: usize,
-    serial: u64,
-    capacity: usize,
-    sums: &Sums,
-    dones: &[Done],
-) -> bool
-    ensures { IsTrue result
-        ↔ (leak.now ≡ leak_by level lane serial capacity sums.now (accesses_in dones.now)) }
-{
-    leak.lane as usize == lane
-        && u64::from(leak.serial) == serial
-        && leak.capacity as usize == capacity
-        && is_count(leak.count, sums)
-        && keeps_last(leak, keeps_records(level), dones)
-}
-
-// Whether a level keeps the accesses of a sampled root.
-fn keeps_records(level: Level) -> bool
-    ensures { result ≡ keeps_records level }
-{
-    match level {
-        Level::Disabled | Level::Simple => false,
-        Level::Advanced | Level::Paranoid => true,
-    }
-}
 
 // Whether the birth with this serial is sampled.
 fn is_sampled(shape: &Shape, serial: u64) -> bool
@@ -179,23 +28,6 @@ fn is_sampled(shape: &Shape, serial: u64) -> bool
     }
 }
 
-// The root that a note lets be born.
-fn born(note: &Note) -> Option<RootId>
-    ensures { option_to_list result ≡ births (note.now ∷ []) }
-{
-    match note {
-        Note::At {
-            object: _,
-            number: _,
-            did,
-        } => match did {
-            Did::Birth { root, region: _ } => Some(*root),
-            _ => None,
-        },
-        _ => None,
-    }
-}
-
 /// What a report is checked by.
 #[derive(Clone, Copy, Drop)]
 pub struct Report<'a, 's> {
@@ -203,6 +35,27 @@ pub struct Report<'a, 's> {
     pub histories: &'s Histories<'a>,
     pub tallies: &'s [Tally],
     pub leaks: &'s [Leak],
+}
+
+// Whether this is the report of a root with these sums.
+fn is_leak_of(
+    alloc: Global,
+    report: &Report,
+    lane: usize,
+    serial: u64,
+    root: &RootId,
+    sums: &Sums,
+    leak: &Leak,
+) -> Result<bool, AllocError>
+    ensures { IfOk result (λ good. IsTrue good ↔ (leak.now ≡ leak_by report.now.shape.now.level lane
+        serial (capacity_by report.now.histories.now root.now) sums.now (accesses root.now false
+        (history_in report.now.histories.now (Object.Root root.now.place))))) }
+{
+    let history = report.histories.of(&Object::Root(root.place));
+    let dones = accesses_to(alloc, root, history)?;
+    let capacity = capacity_after(alloc, root, &dids_of(alloc, history)?)?;
+    let level = report.shape.level;
+    Ok(is_leak(leak, level, lane, serial, capacity, sums, &dones))
 }
 
 // The place in a report behind what it has of a root, or none where it has something else.
@@ -214,10 +67,13 @@ fn next_leak(
     root: &RootId,
     at: usize,
 ) -> Result<Option<usize>, AllocError>
-    requires { 1 ≤ report.now.shape.now.interval }
-    ensures { IfOk result (λ next. Tells (one_leak report.now.shape.now report.now.histories.now
-        report.now.tallies.now lane serial root.now) (drop at report.now.leaks.now)
-        (option_map (λ n. drop n report.now.leaks.now) next)) }
+    requires interval { 1 ≤ report.now.shape.now.interval }
+    requires inside { at ≤ length report.now.leaks.now }
+    ensures { IfOk result (λ next. MatchOption next
+        (Strays report.now.leaks.now at (one_leak report.now.shape.now report.now.histories.now
+        report.now.tallies.now lane serial root.now) at)
+        (GoesOn report.now.leaks.now at (one_leak report.now.shape.now report.now.histories.now
+        report.now.tallies.now lane serial root.now))) }
 {
     let sums = total_of(report.tallies, root)?;
     if sums.is_over() || !is_sampled(report.shape, serial) {
@@ -226,22 +82,10 @@ fn next_leak(
     if at >= report.leaks.len() {
         return Ok(None);
     }
-    let history = report.histories.of(&Object::Root(root.place));
-    let dones = accesses_to(alloc, root, history)?;
-    let capacity = capacity_after(alloc, root, &dids_of(alloc, history)?)?;
-    if is_leak(
-        &report.leaks[at],
-        report.shape.level,
-        lane,
-        serial,
-        capacity,
-        &sums,
-        &dones,
-    ) {
-        Ok(Some(at + 1))
-    } else {
-        Ok(None)
+    if !is_leak_of(alloc, report, lane, serial, root, &sums, &report.leaks[at])? {
+        return Ok(None);
     }
+    Ok(Some(at + 1))
 }
 
 // The place in a report behind what it has of the root that a note lets be born, and the next
@@ -254,12 +98,14 @@ fn after_note(
     note: &Note,
     at: usize,
 ) -> Result<Option<(usize, u64)>, AllocError>
-    requires { 1 ≤ report.now.shape.now.interval }
-    ensures told { IfOk result (λ next. Tells (leaks_in report.now.shape.now
-        report.now.histories.now report.now.tallies.now lane serial (note.now ∷ []))
-        (drop at report.now.leaks.now) (option_map (λ n. drop n.0 report.now.leaks.now) next)) }
-    ensures serial { IfOk result (λ next. IfSome next
-        (λ n. n.1 ≡ serial + length (births (note.now ∷ [])))) }
+    requires interval { 1 ≤ report.now.shape.now.interval }
+    requires inside { at ≤ length report.now.leaks.now }
+    ensures { IfOk result (λ next. MatchOption next
+        (Strays report.now.leaks.now at (leaks_in report.now.shape.now report.now.histories.now
+        report.now.tallies.now lane serial (note.now ∷ [])) at)
+        (λ n. GoesOn report.now.leaks.now at (leaks_in report.now.shape.now report.now.histories.now
+        report.now.tallies.now lane serial (note.now ∷ [])) n.0
+        × (n.1 ≡ serial + length (births (note.now ∷ []))))) }
 {
     let Some(root) = born(note) else {
         return Ok(Some((at, serial)));
@@ -272,48 +118,60 @@ fn after_note(
     Ok(Some((next, later)))
 }
 
-// The place in a report behind what it has of the roots born in a lane, or none where it has
-// something else.
+// The place in a report behind what it has of the roots born in a lane; or the first where it has something
+// else, which is an error.
 fn lane_leaks(
     alloc: Global,
     report: &Report,
     lane: usize,
     notes: &[Note],
     from: usize,
-) -> Result<Option<usize>, AllocError>
-    requires { 1 ≤ report.now.shape.now.interval }
-    ensures { IfOk result (λ next. Tells (leaks_in report.now.shape.now report.now.histories.now
-        report.now.tallies.now lane 1 notes.now) (drop from report.now.leaks.now)
-        (option_map (λ n. drop n report.now.leaks.now) next)) }
+) -> Result<Result<usize, usize>, AllocError>
+    requires interval { 1 ≤ report.now.shape.now.interval }
+    requires inside { from ≤ length report.now.leaks.now }
+    ensures { IfOk result (λ found. MatchResult found
+        (GoesOn report.now.leaks.now from (leaks_in report.now.shape.now report.now.histories.now
+        report.now.tallies.now lane 1 notes.now))
+        (Strays report.now.leaks.now from (leaks_in report.now.shape.now report.now.histories.now
+        report.now.tallies.now lane 1 notes.now))) }
 {
     let mut at = from;
     let mut serial = 1;
     for note in notes {
         let found = after_note(alloc, report, lane, serial, note, at)?;
         let Some(next) = found else {
-            return Ok(None);
+            return Ok(Err(at));
         };
         at = next.0;
         serial = next.1;
     }
-    Ok(Some(at))
+    Ok(Ok(at))
 }
 
-/// Whether a report is that of the live roots that are sampled, by lane and serial.
-pub fn is_report(alloc: Global, report: &Report, logs: &[LaneLog]) -> Result<bool, AllocError>
+/// The first place where a report isn't that of the live roots that are sampled, by lane and serial, if there is
+/// one.
+pub fn first_misreported(
+    alloc: Global,
+    report: &Report,
+    logs: &[LaneLog],
+) -> Result<Option<usize>, AllocError>
     requires { 1 ≤ report.now.shape.now.interval }
-    ensures { IfOk result (λ good. IsTrue good
-        ↔ (report.now.leaks.now ≡ all_leaks report.now.shape.now report.now.histories.now
-        report.now.tallies.now 0 logs.now)) }
+    ensures { IfOk result (λ found. MatchOption found
+        (report.now.leaks.now ≡ all_leaks report.now.shape.now report.now.histories.now
+        report.now.tallies.now 0 logs.now)
+        (DifferAt report.now.leaks.now (all_leaks report.now.shape.now report.now.histories.now
+        report.now.tallies.now 0 logs.now))) }
 {
     let mut at = 0;
     for lane in 0..logs.len() {
         let notes = logs[lane].notes.items();
-        let found = lane_leaks(alloc, report, lane, notes, at)?;
-        let Some(next) = found else {
-            return Ok(false);
-        };
-        at = next;
+        match lane_leaks(alloc, report, lane, notes, at)? {
+            Ok(next) => at = next,
+            Err(other) => return Ok(Some(other)),
+        }
     }
-    Ok(at >= report.leaks.len())
+    if at < report.leaks.len() {
+        return Ok(Some(at));
+    }
+    Ok(None)
 }

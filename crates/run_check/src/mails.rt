@@ -1,13 +1,15 @@
-//! Whether what is fetched from a mail is the front of what is posted to it.
+//! How far what is fetched from a mail is what is posted to it.
 
-ghost use Rattle.std.specs.Prelude.{◌≡◌, ◌++◌, ◌↔◌, ◌&&◌, ◌==◌, length, take, IsTrue, IfOk, OnOk};
+ghost use Rattle.std.specs.Prelude.{◌≡◌, ◌++◌, ◌↔◌, ◌&&◌, ◌==◌, ℕ, IsTrue, IfOk, OnOk, MatchOption};
+ghost use Rattle.pool_law.specs.declared.run.Shape.{Shape};
 ghost use Rattle.pool_law.specs.Same.{same_parcel};
 ghost use Rattle.pool_law.specs.Kinds.{passing};
 ghost use Rattle.pool_law.specs.Logs.{Logs};
 ghost use Rattle.pool_law.specs.Mails.{gone, come};
 ghost use Rattle.run_check.specs.Gathering.{spots_behind};
 ghost use Rattle.run_check.specs.Spotting.{laned, AreSpots};
-ghost use Rattle.run_check.specs.Mailing.{sent_among, received_among, all_passed, AreInTurn, IsHeldMail};
+ghost use Rattle.run_check.specs.Mailing.{sent_among, received_among, all_passed, IsInTurn, IsOfPost, Passes, FailsAt, IsHeldMail};
+ghost use Rattle.run_check.specs.Fronts.{IsBrokenAt};
 
 use crate::gathering::Spot;
 use crate::spots::Spots;
@@ -120,16 +122,14 @@ fn has_number(passed: &Passed, number: u64) -> bool
     passed.number == number
 }
 
-// Whether each has the number of its place, from 1.
-fn are_in_turn(passed: &[Passed]) -> bool
-    ensures { IsTrue result ↔ AreInTurn passed.now }
+// Whether the post of this place, if there is one, has the number of its place, from 1.
+fn is_in_turn(posts: &[Passed], at: usize) -> bool
+    ensures { IsTrue result ↔ IsInTurn posts.now at }
 {
-    for at in 0..passed.len() {
-        if !has_number(&passed[at], at as u64 + 1) {
-            return false;
-        }
+    if posts.len() <= at {
+        return true;
     }
-    true
+    has_number(&posts[at], at as u64 + 1)
 }
 
 // Whether two parcels, and their numbers, are the same.
@@ -139,40 +139,56 @@ fn is_same(a: &Passed, b: &Passed) -> bool
     a.number == b.number && a.parcel == b.parcel
 }
 
-// Whether these are the first of those.
-fn is_front(front: &[Passed], all: &[Passed]) -> bool
-    ensures { IsTrue result ↔ (front.now ≡ take (length front.now) all.now) }
+// Whether the fetch of this place, if there is one, is the post there.
+fn is_of_post(posts: &[Passed], fetches: &[Passed], at: usize) -> bool
+    ensures { IsTrue result ↔ IsOfPost posts.now fetches.now at }
 {
-    if all.len() < front.len() {
+    if fetches.len() <= at {
+        return true;
+    }
+    if posts.len() <= at {
         return false;
     }
-    for at in 0..front.len() {
-        if !is_same(&front[at], &all[at]) {
-            return false;
-        }
-    }
-    true
+    is_same(&fetches[at], &posts[at])
 }
 
-/// Whether an object is no mail, or a mail that holds: its posts are numbered from 1, and what is
-/// fetched is the front of what is posted.
-pub(crate) fn mail_holds(
+// Whether the post and the fetch of this place hold.
+fn passes(posts: &[Passed], fetches: &[Passed], at: usize) -> bool
+    ensures { IsTrue result ↔ Passes posts.now fetches.now at }
+{
+    is_in_turn(posts, at) && is_of_post(posts, fetches, at)
+}
+
+// The first place, from 1, at which a post or a fetch does not hold.
+fn first_unheld(posts: &[Passed], fetches: &[Passed]) -> Option<u64>
+    ensures { MatchOption result ((k : ℕ) → Passes posts.now fetches.now k)
+        (λ number. FailsAt posts.now fetches.now number) }
+{
+    for at in 0..posts.len().max(fetches.len()) {
+        if !passes(posts, fetches, at) {
+            return Some(at as u64 + 1);
+        }
+    }
+    None
+}
+
+/// The first place, from 1, at which a mail does not hold: its posts are numbered from 1, and each fetch
+/// is the post of its place. None where it holds, or where the object is no mail.
+pub(crate) fn mail_broken_at(
     alloc: Global,
     lanes: &[Spots],
     object: &Object,
-) -> Result<bool, AllocError>
-    ensures { (logs : Logs) → AreSpots lanes.now logs
-        → IfOk result (λ good. IsTrue good ↔ IsHeldMail logs object.now) }
+) -> Result<Option<u64>, AllocError>
+    ensures { (shape : Shape) → (logs : Logs) → AreSpots lanes.now logs
+        → IfOk result (λ found. MatchOption found (IsHeldMail logs object.now)
+        (IsBrokenAt shape logs object.now)) }
 {
     match object {
         Object::Mail { from, to } => {
             let posts = sent_by(alloc, lanes, *from, object)?;
             let fetches = received_by(alloc, lanes, *to, object)?;
-            if !are_in_turn(&posts) {
-                return Ok(false);
-            }
-            Ok(is_front(&fetches, &posts))
+            Ok(first_unheld(&posts, &fetches))
         }
-        _ => Ok(true),
+        _ => Ok(None),
     }
 }

@@ -1,9 +1,10 @@
 //! The history of an object, merged from the notes of all lanes.
 
-ghost use Rattle.std.specs.Prelude.{◌≡◌, [], ◌∷◌, ◌≤◌, ℕ, drop, length, ◌↔◌, IsTrue, IfOk, MatchOption};
-ghost use Rattle.pool_law.specs.Logs.{History};
+ghost use Rattle.std.specs.Prelude.{◌≡◌, [], ◌∷◌, ◌<◌, ◌≤◌, ℕ, drop, length, ◌↔◌, IsTrue, IfOk, MatchOption, MatchResult};
+ghost use Rattle.std.specs.List.{All};
 ghost use Rattle.run_check.specs.Gathering.{AreNumbered, spot_data, spots_behind, left_of};
 ghost use Rattle.run_check.specs.Merging.{dones_in};
+ghost use Rattle.run_check.specs.Fronts.{StopsAt};
 
 use crate::gathering::{Spot, lane_with};
 use pool_law::Did;
@@ -16,21 +17,30 @@ pub struct Done<'a> {
     pub did: &'a Did,
 }
 
-/// The history in which each note stands at its number, or none where there is no such history.
+/// Where the notes at an object stop being a history.
+#[derive(Drop)]
+pub struct Stop<'a> {
+    /// What was done before the number, in order.
+    pub dones: Vec<Done<'a>>,
+    /// The first number that is 0, missing, there twice, or behind a greater one in its lane.
+    pub number: u64,
+}
+
+/// The history in which each note stands at its number, or how far there is one.
 pub fn merged<'a>(
     alloc: Global,
     mut left: Vec<&[Spot<'a>]>,
-) -> Result<Option<Vec<Done<'a>>>, AllocError>
-    ensures { IfOk result (λ h. MatchOption h
-        ((g : History) → AreNumbered 1 (left_of left.entry.items) g → ⊥)
-        (λ h. AreNumbered 1 (left_of left.entry.items) (dones_in h.items))) }
+) -> Result<Result<Vec<Done<'a>>, Stop<'a>>, AllocError>
+    ensures { IfOk result (λ h. MatchResult h
+        (λ h. AreNumbered 1 (left_of left.entry.items) (dones_in h.items))
+        (λ stop. StopsAt (left_of left.entry.items) (dones_in stop.dones.items) stop.number)) }
 {
     let mut dones = Vec::new(alloc);
     let mut number: u64 = 1;
     while let Some(lane) = lane_with(&left, number) {
         let spots = left[lane];
         let Some(first) = first_of(spots) else {
-            return Ok(None);
+            return Ok(Err(Stop { dones, number }));
         };
         let done = Done {
             lane,
@@ -45,10 +55,11 @@ pub fn merged<'a>(
         number = next;
     }
     if none_left(&left) {
-        Ok(Some(dones))
-    } else {
-        Ok(None)
+        return Ok(Ok(dones));
     }
+    let number = least_left(&left, number);
+    dones.truncate(number.saturating_sub(1) as usize);
+    Ok(Err(Stop { dones, number }))
 }
 
 // The first of these notes.
@@ -71,4 +82,31 @@ fn none_left(left: &[&[Spot]]) -> bool
         }
     }
     true
+}
+
+// The least of this number and those of these notes.
+fn least_of(spots: &[Spot], number: u64) -> u64
+    ensures most { result ≤ number }
+    ensures least { All (λ x. result ≤ x.0) (spots_behind spots.now) }
+    ensures there { result < number → All (λ x. result < x.0) (spots_behind spots.now) → ⊥ }
+{
+    let mut least = number;
+    for spot in spots {
+        least = least.min(spot.number);
+    }
+    least
+}
+
+// The least of this number and those of the notes that are left.
+fn least_left(left: &[&[Spot]], number: u64) -> u64
+    ensures most { result ≤ number }
+    ensures least { (lane : ℕ) → All (λ x. result ≤ x.0) (left_of left.now lane) }
+    ensures there { result < number
+        → ((lane : ℕ) → All (λ x. result < x.0) (left_of left.now lane)) → ⊥ }
+{
+    let mut least = number;
+    for spots in left {
+        least = least_of(spots, least);
+    }
+    least
 }

@@ -1,8 +1,9 @@
 //! Whether a lane may note what it notes.
 
-ghost use Rattle.std.specs.Prelude.{◌≡◌, ◌≤◌};
+ghost use Rattle.std.specs.Prelude.{◌≡◌, ◌≤◌, IsTrue, MatchOption};
 ghost use Rattle.std.specs.List.{list_all};
 ghost use Rattle.pool_law.specs.Logs.{owns, is_sender, is_receiver, has_history, may_stand, note_stands};
+ghost use Rattle.run_check.specs.Placing.{BreaksAt};
 
 use pool_law::{Did, Note, Object, Shape};
 
@@ -112,15 +113,16 @@ pub fn note_stands(shape: &Shape, lane: u32, note: &Note) -> bool
     }
 }
 
-/// Whether a lane may note all of this.
-pub fn notes_stand(shape: &Shape, lane: u32, notes: &[Note]) -> bool
+/// The place of the first of these notes that a lane may not make, if there is one.
+pub fn astray_at(shape: &Shape, lane: u32, notes: &[Note]) -> Option<usize>
     requires { 1 ≤ shape.now.arenas }
-    ensures { result ≡ list_all (note_stands shape.now lane) notes.now }
+    ensures { MatchOption result (IsTrue (list_all (note_stands shape.now lane) notes.now))
+        (BreaksAt (λ ns. IsTrue (list_all (note_stands shape.now lane) ns)) notes.now) }
 {
-    for note in notes {
+    for (at, note) in notes.iter().enumerate() {
         if !note_stands(shape, lane, note) {
-            return false;
+            return Some(at);
         }
     }
-    true
+    None
 }

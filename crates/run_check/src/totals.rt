@@ -1,10 +1,12 @@
 //! The totals of the roots that were born, and that each root that is named was born.
 
-ghost use Rattle.std.specs.Prelude.{◌≡◌, ◌<◌, ◌↔◌, true, IsTrue, IfOk};
-ghost use Rattle.std.specs.List.{AllZip};
+ghost use Rattle.std.specs.Prelude.{◌≡◌, ◌∷◌, [], ◌<◌, ◌↔◌, true, option_to_list, IsTrue, IfOk, MatchOption};
+ghost use Rattle.std.specs.List.{AllZip, list_any};
 ghost use Rattle.pool_law.specs.declared.id.RootId.{RootId};
 ghost use Rattle.pool_law.specs.Logs.{entries_of};
+ghost use Rattle.pool_law.specs.Leaks.{births};
 ghost use Rattle.pool_law.specs.Counts.{TotalHolds, count_over, is_birth, names_root, root_is};
+ghost use Rattle.run_check.specs.Placing.{BreaksAt};
 ghost use Rattle.run_check.specs.Spotting.{notes_in};
 ghost use Rattle.run_check.specs.Tallying.{total_sums, IsTally, AreTotals, BirthsHold, NamesHold};
 
@@ -12,51 +14,66 @@ use crate::tally::{Tally, total_of};
 use pool_law::{Did, LaneLog, Note, RootId};
 use std::alloc::AllocError;
 
-// Whether the totals of the root that a note lets be born are right.
-fn total_holds(tallies: &[Tally], note: &Note) -> Result<bool, AllocError>
-    ensures { IfOk result (λ good. IsTrue good ↔ ((root : RootId) → is_birth root note.now ≡ true
-        → AreTotals (total_sums tallies.now root))) }
+/// The root that a note lets be born.
+pub fn born(note: &Note) -> Option<RootId>
+    ensures one { option_to_list result ≡ births (note.now ∷ []) }
+    ensures root { (root : RootId) → is_birth root note.now ≡ root_is root result }
 {
-    let Note::At {
-        object: _,
-        number: _,
-        did,
-    } = note
-    else {
-        return Ok(true);
-    };
-    let Did::Birth { root, region: _ } = did else {
-        return Ok(true);
-    };
-    let sums = total_of(tallies, root)?;
-    Ok(sums.are_totals())
+    match note {
+        Note::At {
+            object: _,
+            number: _,
+            did,
+        } => match did {
+            Did::Birth { root, region: _ } => Some(*root),
+            _ => None,
+        },
+        _ => None,
+    }
 }
 
-// Whether the totals of the roots that notes let be born are right.
-fn totals_hold(tallies: &[Tally], notes: &[Note]) -> Result<bool, AllocError>
-    ensures { IfOk result (λ good. IsTrue good ↔ BirthsHold tallies.now notes.now) }
+// The root that a note lets be born, if its totals are not right.
+fn mistotaled(tallies: &[Tally], note: &Note) -> Result<Option<RootId>, AllocError>
+    ensures { IfOk result (λ found. MatchOption found
+        ((root : RootId) → is_birth root note.now ≡ true → AreTotals (total_sums tallies.now root))
+        (λ root. IsTrue (is_birth root note.now) × (AreTotals (total_sums tallies.now root) → ⊥))) }
+{
+    let Some(root) = born(note) else {
+        return Ok(None);
+    };
+    let sums = total_of(tallies, &root)?;
+    Ok(if sums.are_totals() { None } else { Some(root) })
+}
+
+// The first root that these notes let be born whose totals are not right, if there is one.
+fn mistotaled_in(tallies: &[Tally], notes: &[Note]) -> Result<Option<RootId>, AllocError>
+    ensures { IfOk result (λ found. MatchOption found (BirthsHold tallies.now notes.now)
+        (λ root. IsTrue (list_any (is_birth root) notes.now)
+        × (AreTotals (total_sums tallies.now root) → ⊥))) }
 {
     for note in notes {
-        if !total_holds(tallies, note)? {
-            return Ok(false);
+        if let Some(root) = mistotaled(tallies, note)? {
+            return Ok(Some(root));
         }
     }
-    Ok(true)
+    Ok(None)
 }
 
-/// Whether the totals of the roots that were born are right.
-pub fn all_total(tallies: &[Tally], logs: &[LaneLog]) -> Result<bool, AllocError>
+/// The first root that was born whose totals are not right, if there is one.
+pub fn first_mistotaled(tallies: &[Tally], logs: &[LaneLog]) -> Result<Option<RootId>, AllocError>
     requires { AllZip IsTally tallies.now logs.now }
-    ensures { IfOk result (λ good. IsTrue good ↔ ((root : RootId)
-        → 0 < count_over (is_birth root) (entries_of (notes_in logs.now))
-        → TotalHolds root (entries_of (notes_in logs.now)))) }
+    ensures { IfOk result (λ found. MatchOption found
+        ((root : RootId) → 0 < count_over (is_birth root) (entries_of (notes_in logs.now))
+        → TotalHolds root (entries_of (notes_in logs.now)))
+        (λ root. (0 < count_over (is_birth root) (entries_of (notes_in logs.now)))
+        × (TotalHolds root (entries_of (notes_in logs.now)) → ⊥))) }
 {
     for log in logs {
-        if !totals_hold(tallies, log.notes.items())? {
-            return Ok(false);
+        if let Some(root) = mistotaled_in(tallies, log.notes.items())? {
+            return Ok(Some(root));
         }
     }
-    Ok(true)
+    Ok(None)
 }
 
 // The root that a note names, if it names one.
@@ -92,29 +109,15 @@ fn name_holds(tallies: &[Tally], note: &Note) -> Result<bool, AllocError>
     }
 }
 
-// Whether the roots that notes name were born.
-fn names_hold(tallies: &[Tally], notes: &[Note]) -> Result<bool, AllocError>
-    ensures { IfOk result (λ good. IsTrue good ↔ NamesHold tallies.now notes.now) }
+/// The place of the first note that names a root which was never born, if there is one.
+pub fn unborn_at(tallies: &[Tally], notes: &[Note]) -> Result<Option<usize>, AllocError>
+    ensures { IfOk result (λ found. MatchOption found (NamesHold tallies.now notes.now)
+        (BreaksAt (NamesHold tallies.now) notes.now)) }
 {
-    for note in notes {
+    for (at, note) in notes.iter().enumerate() {
         if !name_holds(tallies, note)? {
-            return Ok(false);
+            return Ok(Some(at));
         }
     }
-    Ok(true)
-}
-
-/// Whether each root that a note names was born.
-pub fn all_born(tallies: &[Tally], logs: &[LaneLog]) -> Result<bool, AllocError>
-    requires { AllZip IsTally tallies.now logs.now }
-    ensures { IfOk result (λ good. IsTrue good ↔ ((root : RootId)
-        → 0 < count_over (names_root root) (entries_of (notes_in logs.now))
-        → 0 < count_over (is_birth root) (entries_of (notes_in logs.now)))) }
-{
-    for log in logs {
-        if !names_hold(tallies, log.notes.items())? {
-            return Ok(false);
-        }
-    }
-    Ok(true)
+    Ok(None)
 }

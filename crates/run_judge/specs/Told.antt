@@ -1,9 +1,10 @@
 -- What is told of a run.
-use Rattle.std.specs.Prelude.{ℕ, [], ◌∷◌, ◌++◌, ◌-◌, length, codes, decimal, Option, Some, None, slice_get}
+use Rattle.std.specs.Prelude.{ℕ, List, [], ◌∷◌, ◌++◌, ◌-◌, length, codes, decimal, Option, Some, None, slice_get}
 use Rattle.std.specs.List.{flat_map}
+use Rattle.pool_law.specs.declared.id.RootId.{RootId}
 use Rattle.pool_law.specs.declared.note.Object.{Object}
 use Rattle.pool_law.specs.declared.note.Object.TheVariants.{Arena, Cache, Bin, Mail, Root}
-use Rattle.pool_law.specs.Text.{Text, line, object_words, spaced}
+use Rattle.pool_law.specs.Text.{Text, line, dotted, object_words, spaced}
 use Rattle.run_check.specs.declared.breach.Breach.{Breach}
 use Rattle.run_check.specs.declared.breach.Breach.TheVariants.{Measures, Lanes, Commands, History, Notes, Marks, Chunks, Answers, Uses, Totals, Unborn, Looks, Leaks}
 use Rattle.log_order.specs.declared.spots.Spot.{Spot}
@@ -28,53 +29,78 @@ status_without ReadFault = statuses.ReadFault
 status_without Memory = statuses.Memory
 status_without (Unread fault) = statuses.Unread
 
--- a note, by its lane and how many of that lane's stand before it
+-- a note by its lane and how many of that lane's stand before it, a root, and the line behind so many of its kind
+abbrev pub note_place : ℕ → ℕ → List Text
+note_place lane at =
+    codes "lane" ∷ decimal lane ∷ codes "after" ∷ decimal at ∷ codes "notes" ∷ []
+
+abbrev pub root_place : RootId → List Text
+root_place root = codes "root" ∷ dotted root.place root.generation ∷ []
+
+abbrev pub line_place : ℕ → Text → List Text
+line_place at kind = codes "after" ∷ decimal at ∷ kind ∷ codes "lines" ∷ []
+
+-- what is told of a place
+abbrev pub told_at : List Text → Text → Text
+told_at place what = spaced place ++ (codes ": " ++ what)
+
+-- a line for a note
 abbrev pub spot_line : Spot → Text
-spot_line spot =
-    line (codes "lane" ∷ decimal spot.lane ∷ codes "after" ∷ decimal spot.at ∷ codes "notes" ∷ [])
+spot_line spot = line (note_place spot.lane spot.at)
 
 -- the last note, if there is one
 abbrev pub last_line : Option Spot → Text
 last_line None = []
 last_line (Some spot) = spot_line spot
 
--- what is told of a lane, and of an object as the history names it
-abbrev pub at_lane : ℕ → Text → Text
-at_lane lane what = codes "lane " ++ (decimal lane ++ (codes ": " ++ what))
-
-abbrev pub at_object : Object → Text → Text
-at_object object what = spaced (object_words object) ++ (codes ": " ++ what)
+-- what is told of the notes at an object up to a number
+abbrev pub at_number : Object → ℕ → Text → Text
+at_number object number what =
+    spaced (object_words object) ++ (codes " number " ++ (decimal number ++ (codes ": " ++ what)))
 
 -- how a numbered history is none that can be, and how the notes at an object are
 abbrev pub numbered_text : Text
 numbered_text =
-    codes "its notes have not each number once, or it does not accept them in this order"
+    codes "up to this one its notes have not each number once, or it does not accept them so"
 
 abbrev pub history_text : Object → Text
 history_text (Mail from to) =
-    codes "its posts are not numbered from 1, or what is fetched is not what was posted"
+    codes "up to this one its posts are not numbered so, or what is fetched is not what was posted"
 history_text (Arena number) = numbered_text
 history_text (Cache lane class) = numbered_text
 history_text (Bin lane) = numbered_text
 history_text (Root place) = numbered_text
 
--- the part of the law that isn't kept
+-- the part of the law that isn't kept, and where first
 abbrev pub breach_text : Breach → Text
 breach_text Measures = codes "the measures are past the limits of a pool"
 breach_text Lanes = codes "there are not commands and a log for each lane"
 breach_text Commands = codes "the commands of some lane are none that a lane may be given"
-breach_text (History object) = at_object object (history_text object)
-breach_text (Notes lane) = at_lane lane (codes "it has a note that it may not make")
-breach_text (Marks lane) = at_lane lane (codes "one of its busy notes cannot stand where it does")
-breach_text Chunks = codes "the chunk lines are not what the arenas have at the end"
-breach_text (Answers lane) =
-    at_lane lane (codes "its replies and notes are not those of its commands")
-breach_text (Uses lane) =
-    at_lane lane (codes "it uses a root that it does not count, or ends one that it still counts")
-breach_text Totals = codes "the counts of some root, over all lanes, do not add up"
-breach_text Unborn = codes "some root is named that was never born"
-breach_text (Looks lane) = at_lane lane (codes "it looks up a count that the root cannot have")
-breach_text Leaks = codes "the leak lines are not those of the sampled roots that are live"
+breach_text (History object number) = at_number object number (history_text object)
+breach_text (Notes spot) =
+    told_at (note_place spot.lane spot.at) (codes "the lane may not make this note")
+breach_text (Marks spot) =
+    told_at (note_place spot.lane spot.at)
+    (codes "with this note the busy notes of the lane cannot be right")
+breach_text (Chunks at) =
+    told_at (line_place at (codes "chunk"))
+    (codes "the next is not what the arenas have at the end")
+breach_text (Answers lane command) =
+    told_at (dotted lane command ∷ [])
+    (codes "from here on the replies and notes are not those of the commands and the closing")
+breach_text (Uses spot) =
+    told_at (note_place spot.lane spot.at)
+    (codes "this note uses a root that the lane does not count, or ends one that it still counts")
+breach_text (Totals root) =
+    told_at (root_place root) (codes "its counts over all lanes do not add up")
+breach_text (Unborn spot) =
+    told_at (note_place spot.lane spot.at) (codes "this note names a root that was never born")
+breach_text (Looks spot) =
+    told_at (note_place spot.lane spot.at)
+    (codes "this note looks up a count that the root cannot have")
+breach_text (Leaks at) =
+    told_at (line_place at (codes "leak"))
+    (codes "the next is not that of the next sampled root that is live")
 
 -- what is said of a run
 abbrev pub text_for : Played → Text

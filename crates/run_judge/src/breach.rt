@@ -1,15 +1,15 @@
 //! The text of how a run breaks the law of the pool.
 
 ghost use Rattle.std.specs.Prelude.{◌≡◌, ◌++◌, ◌∷◌, [], OnOk, decimal};
-ghost use Rattle.pool_law.specs.Text.{object_words, spaced};
-ghost use Rattle.run_judge.specs.Told.{at_lane, at_object, breach_text, history_text};
+ghost use Rattle.pool_law.specs.Text.{dotted, object_words, spaced};
+ghost use Rattle.run_judge.specs.Told.{told_at, at_number, note_place, root_place, line_place, breach_text, history_text};
 
-use pool_law::Object;
-use run_check::Breach;
+use pool_law::{Object, RootId};
+use run_check::{Breach, NoteSpot};
 use run_report::Writer;
 use std::alloc::AllocError;
 
-/// The part of the law that isn't kept.
+/// The part of the law that isn't kept, and where first.
 pub fn write_breach(writer: &mut Writer, breach: &Breach) -> Result<(), AllocError>
     ensures { OnOk result (writer.new ≡ writer.old ++ breach_text breach.now) }
 {
@@ -19,34 +19,45 @@ pub fn write_breach(writer: &mut Writer, breach: &Breach) -> Result<(), AllocErr
         Breach::Commands => {
             writer.first("the commands of some lane are none that a lane may be given")
         }
-        Breach::History(object) => at_object(writer, &object, reason_of(&object)),
-        Breach::Notes(lane) => at_lane(writer, lane, "it has a note that it may not make"),
-        Breach::Marks(lane) => at_lane(
-            writer,
-            lane,
-            "one of its busy notes cannot stand where it does",
-        ),
-        Breach::Chunks => writer.first("the chunk lines are not what the arenas have at the end"),
-        Breach::Answers(lane) => at_lane(
-            writer,
-            lane,
-            "its replies and notes are not those of its commands",
-        ),
-        Breach::Uses(lane) => at_lane(
-            writer,
-            lane,
-            "it uses a root that it does not count, or ends one that it still counts",
-        ),
-        Breach::Totals => writer.first("the counts of some root, over all lanes, do not add up"),
-        Breach::Unborn => writer.first("some root is named that was never born"),
-        Breach::Looks(lane) => at_lane(
-            writer,
-            lane,
-            "it looks up a count that the root cannot have",
-        ),
-        Breach::Leaks => {
-            writer.first("the leak lines are not those of the sampled roots that are live")
+        Breach::History { object, number } => {
+            at_number(writer, &object, number, reason_of(&object))
         }
+        Breach::Notes(spot) => at_note(writer, spot, "the lane may not make this note"),
+        Breach::Marks(spot) => at_note(
+            writer,
+            spot,
+            "with this note the busy notes of the lane cannot be right",
+        ),
+        Breach::Chunks(at) => after_lines(
+            writer,
+            at,
+            "chunk",
+            "the next is not what the arenas have at the end",
+        ),
+        Breach::Answers { lane, command } => at_command(
+            writer,
+            lane,
+            command,
+            "from here on the replies and notes are not those of the commands and the closing",
+        ),
+        Breach::Uses(spot) => at_note(
+            writer,
+            spot,
+            "this note uses a root that the lane does not count, or ends one that it still counts",
+        ),
+        Breach::Totals(root) => at_root(writer, &root, "its counts over all lanes do not add up"),
+        Breach::Unborn(spot) => at_note(writer, spot, "this note names a root that was never born"),
+        Breach::Looks(spot) => at_note(
+            writer,
+            spot,
+            "this note looks up a count that the root cannot have",
+        ),
+        Breach::Leaks(at) => after_lines(
+            writer,
+            at,
+            "leak",
+            "the next is not that of the next sampled root that is live",
+        ),
     }
 }
 
@@ -56,27 +67,68 @@ fn reason_of(object: &Object) -> &'static str
 {
     match object {
         Object::Mail { .. } => {
-            "its posts are not numbered from 1, or what is fetched is not what was posted"
+            "up to this one its posts are not numbered so, or what is fetched is not what was posted"
         }
-        _ => "its notes have not each number once, or it does not accept them in this order",
+        _ => "up to this one its notes have not each number once, or it does not accept them so",
     }
 }
 
-// What is told of a lane.
-fn at_lane(writer: &mut Writer, lane: u32, what: &str) -> Result<(), AllocError>
-    ensures { OnOk result (writer.new ≡ writer.old ++ at_lane lane what.now) }
+// What is told of a command of a lane, by the number of its reply line.
+fn at_command(writer: &mut Writer, lane: u32, command: usize, what: &str) -> Result<(), AllocError>
+    ensures { OnOk result (writer.new ≡ writer.old ++ told_at (dotted lane command ∷ []) what.now) }
 {
-    writer.first("lane ")?;
-    writer.first_number(u64::from(lane))?;
+    writer.first_dotted(u64::from(lane), command as u64)?;
     writer.first(": ")?;
     writer.first(what)
 }
 
-// What is told of an object.
-fn at_object(writer: &mut Writer, object: &Object, what: &str) -> Result<(), AllocError>
-    ensures { OnOk result (writer.new ≡ writer.old ++ at_object object.now what.now) }
+// What is told of a note of a lane.
+fn at_note(writer: &mut Writer, spot: NoteSpot, what: &str) -> Result<(), AllocError>
+    ensures { OnOk result
+        (writer.new ≡ writer.old ++ told_at (note_place spot.lane spot.at) what.now) }
+{
+    writer.first("lane")?;
+    writer.number(u64::from(spot.lane))?;
+    writer.named("after", spot.at as u64)?;
+    writer.word("notes")?;
+    writer.first(": ")?;
+    writer.first(what)
+}
+
+// What is told of a root.
+fn at_root(writer: &mut Writer, root: &RootId, what: &str) -> Result<(), AllocError>
+    ensures { OnOk result (writer.new ≡ writer.old ++ told_at (root_place root.now) what.now) }
+{
+    writer.first("root")?;
+    writer.dotted(root.place, root.generation)?;
+    writer.first(": ")?;
+    writer.first(what)
+}
+
+// What is told of the line behind so many of a kind.
+fn after_lines(writer: &mut Writer, at: usize, kind: &str, what: &str) -> Result<(), AllocError>
+    ensures { OnOk result (writer.new ≡ writer.old ++ told_at (line_place at kind.now) what.now) }
+{
+    writer.first("after")?;
+    writer.number(at as u64)?;
+    writer.word(kind)?;
+    writer.word("lines")?;
+    writer.first(": ")?;
+    writer.first(what)
+}
+
+// What is told of the notes at an object up to a number.
+fn at_number(
+    writer: &mut Writer,
+    object: &Object,
+    number: u64,
+    what: &str,
+) -> Result<(), AllocError>
+    ensures { OnOk result (writer.new ≡ writer.old ++ at_number object.now number what.now) }
 {
     write_object(writer, object)?;
+    writer.first(" number ")?;
+    writer.first_number(number)?;
     writer.first(": ")?;
     writer.first(what)
 }

@@ -149,7 +149,11 @@ fn a_root_grows_in_its_region(rt: HostRuntime) -> Result<(), Fail> {
     let alloc = rt.alloc();
     assert!(rt; is_played(alloc, &extended(alloc, 30)?)?);
     let further = find_breach(alloc, &extended(alloc, 31)?)?;
-    assert_eq!(rt; further, Some(Breach::Answers(0)), "more than was asked");
+    let answer = Breach::Answers {
+        lane: 0,
+        command: 1,
+    };
+    assert_eq!(rt; further, Some(answer), "more than was asked");
     Ok(())
 }
 
@@ -158,6 +162,10 @@ fn a_root_does_not_grow_where_the_arena_is_full(rt: HostRuntime) -> Result<(), F
     let alloc = rt.alloc();
     assert!(rt; is_played(alloc, &too_full(alloc, Reply::Full)?)?);
     let grown = find_breach(alloc, &too_full(alloc, Reply::OkNumber(65536))?)?;
-    assert_eq!(rt; grown, Some(Breach::Answers(0)), "it has 40960");
+    let answer = Breach::Answers {
+        lane: 0,
+        command: 1,
+    };
+    assert_eq!(rt; grown, Some(answer), "it has 40960");
     Ok(())
 }

@@ -188,33 +188,46 @@ enum Change {
     OtherNameLonger,
 }
 
-// The run with a change, and what of the law it then doesn't keep.
+// What the lane did for a command isn't what the command is.
+fn answer(command: usize) -> Breach {
+    Breach::Answers { lane: 0, command }
+}
+
+// The run with a change, and what of the law it then doesn't keep. The root grows by the command 3, behind a dup
+// by the command 4; its bytes are got by the note 6 at its place, and the cache that closes gives its region back
+// by the note 4 at the arena where the growth gave it.
 fn changed(change: Change) -> (Growth, Breach) {
     let mut run = RIGHT;
     let breach = match change {
         Change::BytesLost => {
             run.found = 0;
-            Breach::History(PLACE)
+            Breach::History {
+                object: PLACE,
+                number: 6,
+            }
         }
         Change::OldRegionHeld => {
             run.kept = false;
-            Breach::Answers(0)
+            answer(3)
         }
         Change::ReturnedTwice => {
             run.given = true;
-            Breach::History(Object::Arena(0))
+            Breach::History {
+                object: Object::Arena(0),
+                number: 4,
+            }
         }
         Change::UsesNotRaised => {
             run.uses = 0;
-            Breach::Answers(0)
+            answer(3)
         }
         Change::ToldTooMuch => {
             run.told = 101;
-            Breach::Answers(0)
+            answer(3)
         }
         Change::OtherNameLonger => {
             run.second = Some(true);
-            Breach::Answers(0)
+            answer(7)
         }
     };
     (run, breach)

@@ -214,7 +214,11 @@ fn a_lane_that_is_outrun_keeps_its_region_unused(rt: HostRuntime) -> Result<(), 
         },
     ] {
         let found = find_breach(alloc, &made(alloc, wrong)?)?;
-        assert_eq!(rt; found, Some(Breach::Answers(0)));
+        let growth = Breach::Answers {
+            lane: 0,
+            command: 3,
+        };
+        assert_eq!(rt; found, Some(growth));
     }
     Ok(())
 }

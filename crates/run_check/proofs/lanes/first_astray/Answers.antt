@@ -1,22 +1,21 @@
-use Rattle.std.proofs.Common.{rules, ◌≡◌, ℕ, List, refl, sym, ap, below_more, ◌∙◌}
+use Rattle.std.proofs.Common.{rules, ◌≡◌, ℕ, List, refl, sym, subst, below_more, ◌∙◌}
 use Rattle.std.specs.Prelude.{IsTrue}
 use Rattle.std.specs.List.{list_all}
-use Rattle.std.proofs.lemmas.Bool.{false≢true}
 use Rattle.pool_law.specs.declared.note.Note.{Note}
 use Rattle.pool_law.specs.Logs.{of_lane, note_stands}
 use Rattle.run_check.specs.Spotting.{notes_in}
+use Rattle.run_check.proofs.FirstLemmas.{found-first}
 use Rattle.run_check.proofs.LaneLemmas.{notes-get, each-notes}
 use Rattle.run_check.proofs.lanes.first_astray.Goals as goal
 
-pub returns-then-not-notes_stand : goal.returns-then-not-notes_stand
-returns-then-not-notes_stand c =
+pub returns-in-Some : goal.returns-in-Some
+returns-in-Some c =
     let logs = c.args.logs.now in
     let lane = c.loop-lane.lane in
     let here : of_lane (notes_in logs) lane ≡ c.items.result.now =
     notes-get logs lane c.index-logs-lane.result (search rules) ∙ sym c.items.ensures in
-    λ stand.
-    false≢true (sym c.if-not-notes_stand.true ∙ c.notes_stand.ensures
-    ∙ ap (list_all (note_stands c.args.shape.now lane)) (sym here) ∙ stand)
+    found-first (λ k (ns : List Note). IsTrue (list_all (note_stands c.args.shape.now k) ns)) (notes_in logs) lane
+    c.in-Some.at c.items.result.now c.spot.result c.spot.ensures here c.loop-lane.invariant c.in-Some.ensures
 
 pub loop-lane-preserved : goal.loop-lane-preserved
 loop-lane-preserved c =
@@ -27,7 +26,8 @@ loop-lane-preserved c =
     below_more
     (λ (k : ℕ). IsTrue (list_all (note_stands c.args.shape.now k) (of_lane (notes_in logs) k)))
     lane c.loop-lane.invariant
-    (ap (list_all (note_stands c.args.shape.now lane)) here ∙ sym c.notes_stand.ensures ∙ c.if-not-notes_stand.false)
+    (subst (λ (ns : List Note). IsTrue (list_all (note_stands c.args.shape.now lane) ns)) (sym here)
+    (rw c.in_default.is at c.astray_at.ensures))
 
 pub returns : goal.returns
 returns c =

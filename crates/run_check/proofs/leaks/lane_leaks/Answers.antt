@@ -1,11 +1,12 @@
-use Rattle.std.proofs.Common.{rules, ◌≡◌, ℕ, ◌+◌, ◌<◌, List, [], ◌∷◌, ◌++◌, length, drop, append_assoc, Option, sym, ap, subst, ◌∙◌}
-use Rattle.std.specs.Prelude.{option_map, IfSome}
-use Rattle.std.proofs.lemmas.List.{drop_more}
+use Rattle.std.proofs.Common.{rules, ◌≡◌, ℕ, ◌+◌, ◌<◌, ◌≤◌, List, [], ◌∷◌, ◌++◌, length, take, drop, append_assoc, sym, ap, ◌∙◌}
+use Rattle.std.proofs.lemmas.List.{drop_more, drop_all}
 use Rattle.pool_law.specs.declared.note.Note.{Note}
 use Rattle.pool_law.specs.declared.report.Leak.{Leak}
 use Rattle.pool_law.specs.Leaks.{births}
-use Rattle.run_check.specs.Reporting.{leaks_in, Tells}
-use Rattle.run_check.proofs.LeakLemmas.{leaks-front, tells-on, tells-back}
+use Rattle.pool_law.proofs.HistoryLemmas.{append-nil}
+use Rattle.run_check.specs.Reporting.{leaks_in}
+use Rattle.run_check.proofs.LeakLemmas.{leaks-front}
+use Rattle.run_check.proofs.ReportLemmas.{goes-behind, strays-within}
 use Rattle.run_check.proofs.leaks.lane_leaks.Goals as goal
 
 pub loop-note-preserved : goal.loop-note-preserved
@@ -19,33 +20,24 @@ loop-note-preserved c =
     let note = c.note-item.result in
     let next = c.in-Some.next in
     let these : List Leak = L serial (note ∷ []) in
-    let report : List Leak = drop c.loop-note.at leaks in
-    let left : List Leak = drop next.0 leaks in
     let more : List Leak = L next.1 (drop (i + 1) notes) in
     let there : i < length notes = search rules in
     let step : drop i notes ≡ note ∷ drop (i + 1) notes =
     drop_more notes i note there ∙ ap (λ (n : Note). n ∷ drop (i + 1) notes) (sym c.note-item.is) in
-    let told : report ≡ these ++ left =
-    subst (λ (o : Option (ℕ × ℕ)). Tells these report (option_map (λ n. drop n.0 leaks) o)) c.in-Some.is
-    c.in_ok-found.ensures.told in
-    let counted : next.1 ≡ serial + length (births (note ∷ [])) =
-    subst (λ (o : Option (ℕ × ℕ)). IfSome o (λ n. n.1 ≡ serial + length (births (note ∷ [])))) c.in-Some.is
-    c.in_ok-found.ensures.serial in
+    let told = rw c.in-Some.is at c.in_ok-found.ensures in
     let front : L serial (drop i notes) ≡ these ++ more =
     ap (λ (ns : List Note). L serial ns) step
     ∙ leaks-front r.shape.now r.histories.now r.tallies.now c.args.lane serial note (drop (i + 1) notes)
-    ∙ ap (λ (k : ℕ). these ++ L k (drop (i + 1) notes)) (sym counted) in
+    ∙ ap (λ (k : ℕ). these ++ L k (drop (i + 1) notes)) (sym told.1) in
     record {
-      on = λ rest all.
-          tells-on these more report left rest told
-          (c.loop-note.invariant.on rest all ∙ ap (λ (ys : List Leak). ys ++ rest) front);
-      back = λ rest e.
-          c.loop-note.invariant.back rest
-          (tells-back these more report left rest told e ∙ ap (λ (ys : List Leak). ys ++ rest) (sym front));
+      expected =
+          goes-behind leaks these more (take c.args.from leaks ++ L 1 notes) c.loop-note.at next.0 told.0
+          (c.loop-note.invariant.expected ∙ ap (λ (ws : List Leak). take c.loop-note.at leaks ++ ws) front);
+      inside = told.0.1;
     }
 
 pub returns-in_default : goal.returns-in_default
-returns-in_default c rest all =
+returns-in_default c rest =
     let r = c.args.report.now in
     let L = leaks_in r.shape.now r.histories.now r.tallies.now c.args.lane in
     let leaks = r.leaks.now in
@@ -54,16 +46,36 @@ returns-in_default c rest all =
     let serial = c.loop-note.serial in
     let note = c.note-item.result in
     let these : List Leak = L serial (note ∷ []) in
-    let report : List Leak = drop c.loop-note.at leaks in
+    let front : List Leak = take c.args.from leaks in
+    let read : List Leak = take c.loop-note.at leaks in
     let more : List Leak = L (serial + length (births (note ∷ []))) (drop (i + 1) notes) in
     let there : i < length notes = search rules in
     let step : drop i notes ≡ note ∷ drop (i + 1) notes =
     drop_more notes i note there ∙ ap (λ (n : Note). n ∷ drop (i + 1) notes) (sym c.note-item.is) in
-    let front : L serial (drop i notes) ≡ these ++ more =
+    let left : L serial (drop i notes) ≡ these ++ more =
     ap (λ (ns : List Note). L serial ns) step
     ∙ leaks-front r.shape.now r.histories.now r.tallies.now c.args.lane serial note (drop (i + 1) notes) in
-    let never =
-    subst (λ (o : Option (ℕ × ℕ)). Tells these report (option_map (λ n. drop n.0 leaks) o)) c.in_default.is
-    c.in_ok-found.ensures.told in
-    never (more ++ rest)
-    (c.loop-note.invariant.on rest all ∙ ap (λ (ys : List Leak). ys ++ rest) front ∙ append_assoc these more rest)
+    let all : front ++ (L 1 notes ++ rest) ≡ read ++ (these ++ (more ++ rest)) =
+    sym (append_assoc front (L 1 notes) rest)
+    ∙ ap (λ (ws : List Leak). ws ++ rest)
+    (c.loop-note.invariant.expected ∙ ap (λ (ws : List Leak). read ++ ws) left)
+    ∙ append_assoc read (these ++ more) rest
+    ∙ ap (λ (ws : List Leak). read ++ ws) (append_assoc these more rest) in
+    strays-within leaks these (more ++ rest) (front ++ (L 1 notes ++ rest)) c.loop-note.at c.loop-note.at
+    (rw c.in_default.is at c.in_ok-found.ensures) all
+
+pub returns : goal.returns
+returns c =
+    let r = c.args.report.now in
+    let L = leaks_in r.shape.now r.histories.now r.tallies.now c.args.lane in
+    let leaks = r.leaks.now in
+    let notes = c.args.notes.now in
+    let i = c.loop-note.note-index in
+    let past : length notes ≤ i = search rules in
+    let none : L c.loop-note.serial (drop i notes) ≡ [] =
+    ap (λ (ns : List Note). L c.loop-note.serial ns) (drop_all i notes past) in (
+      sym (c.loop-note.invariant.expected
+          ∙ ap (λ (ws : List Leak). take c.loop-note.at leaks ++ ws) none
+          ∙ append-nil (take c.loop-note.at leaks)),
+      c.loop-note.invariant.inside,
+    )

@@ -6,7 +6,7 @@ use Rattle.run_check.proofs.histories.Histories.add_all.Goals as goal
 
 pub returns-in-Some : goal.returns-in-Some
 returns-in-Some c logs spots are =
-    rw c.in-Some.is at (c.in_ok-object.ensures logs spots (c.loop-note.invariant logs spots are).0)
+    rw c.in-Some.is at (c.in_ok-broken.ensures logs spots (c.loop-note.invariant logs spots are).0)
 
 pub loop-note-preserved : goal.loop-note-preserved
 loop-note-preserved c logs spots are =
@@ -19,7 +19,7 @@ loop-note-preserved c logs spots are =
     let there : i < length notes = search rules in
     let front : take (i + 1) notes ≡ take i notes ++ note ∷ [] =
     take_more notes i note there ∙ ap (λ (n : Note). take i notes ++ n ∷ []) (sym c.note-item.is) in
-    let more = rw c.in_default.is at (c.in_ok-object.ensures logs spots inv.0) in (
+    let more = rw c.in_default.is at (c.in_ok-broken.ensures logs spots inv.0) in (
       more.0,
       keeps-both c.args.self.now old new inv.1 more.1,
       rw front (covers-push new (take i notes) note (covers-kept old new (take i notes) more.1 inv.2) more.2),

@@ -19,7 +19,7 @@ loop-log-init c = (
 pub returns-in-Some : goal.returns-in-Some
 returns-in-Some c =
     rw c.in-Some.is at
-    (c.in_ok-object.ensures (notes_in c.args.logs.now) (rw c.deref.ensures.value c.in_ok-lanes.ensures)
+    (c.in_ok-broken.ensures (notes_in c.args.logs.now) (rw c.deref.ensures.value c.in_ok-lanes.ensures)
     c.loop-log.invariant.0)
 
 pub loop-log-preserved : goal.loop-log-preserved
@@ -31,7 +31,7 @@ loop-log-preserved c =
     let here : of_lane logs i ≡ c.items-notes.result.now =
     notes-at c.args.logs.now i c.log-item.result (search rules) c.log-item.is ∙ sym c.items-notes.ensures in
     let more = rw c.in_default.is at
-    (c.in_ok-object.ensures logs (rw c.deref.ensures.value c.in_ok-lanes.ensures) c.loop-log.invariant.0) in (
+    (c.in_ok-broken.ensures logs (rw c.deref.ensures.value c.in_ok-lanes.ensures) c.loop-log.invariant.0) in (
       more.0,
       below_more (λ (k : ℕ). Covers new (of_lane logs k)) i
           (λ k below. covers-kept old new (of_lane logs k) more.1 (c.loop-log.invariant.1 k below))

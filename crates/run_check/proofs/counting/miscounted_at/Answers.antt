@@ -1,0 +1,66 @@
+use Rattle.std.proofs.Common.{rules, ◌≡◌, ◌+◌, ◌<◌, ◌≤◌, List, ◌∷◌, length, drop, get_or, sym, ap, subst, arith, ◌∙◌}
+use Rattle.std.specs.Prelude.{◌↔◌, IsTrue, slice_get, unwrap_or}
+use Rattle.std.proofs.lemmas.Bool.{false≢true}
+use Rattle.pool_law.specs.declared.id.RootId.{RootId}
+use Rattle.pool_law.specs.Logs.{Entry}
+use Rattle.object_steps.specs.declared.told.Told.{Told}
+use Rattle.run_check.specs.Counting.{count_in}
+use Rattle.run_check.specs.Needing.{NeedsHold}
+use Rattle.lane_reader.specs.Reading.{untold, entry, entries}
+use Rattle.run_check.proofs.ReadingLemmas.{entries-at, entries-past, told-or}
+use Rattle.run_check.proofs.NeedingLemmas.{AllNeeds, AllCounts, counts_after, all-counts-front, all-counts-back}
+use Rattle.run_check.proofs.FirstLemmas.{reached-none, reached-more, breaks-here, holds-whole}
+use Rattle.run_check.proofs.counting.miscounted_at.Goals as goal
+
+pub loop-at-init : goal.loop-at-init
+loop-at-init c =
+    reached-none AllNeeds counts_after AllCounts (λ s root. tt) all-counts-front all-counts-back (λ root. 0)
+    (entries c.args.log.now) (count_in c.new-counts.result) (λ i root. c.new-counts.ensures root i)
+
+pub returns-then-not-may_note : goal.returns-then-not-may_note
+returns-then-not-may_note c =
+    let log = c.args.log.now in
+    let i = c.loop-at.at in
+    let note = get_or log.notes.now i c.index-log-at.result in
+    let old = count_in c.loop-at.counts in
+    let e : Entry = entry note (unwrap_or (slice_get log.told.now i) untold) in
+    let es : List Entry = drop (i + 1) (entries log) in
+    let there : i < length log.notes.now = search rules in
+    let here : drop i (entries log) ≡ e ∷ es =
+    entries-at log.notes.now log.told.now i note there (ap (get_or log.notes.now i) c.index-log-at.is) in
+    let within : i < length log.told.now = omega (arith, there, c.requires) in
+    let may : IsTrue c.may_note.result ↔ ((root : RootId) → NeedsHold root (old root) e) =
+    subst (λ (t : Told). IsTrue c.may_note.result ↔ ((root : RootId) → NeedsHold root (old root) (entry note t)))
+    (told-or log.told.now i _ within) c.may_note.ensures in
+    breaks-here AllNeeds counts_after AllCounts (λ s root. tt) all-counts-front all-counts-back (λ root. 0)
+    (entries log) i old e es c.loop-at.invariant here
+    (λ needs. false≢true (sym c.if-not-may_note.true ∙ may.1 needs))
+
+pub loop-at-preserved : goal.loop-at-preserved
+loop-at-preserved c =
+    let log = c.args.log.now in
+    let i = c.loop-at.at in
+    let note = get_or log.notes.now i c.index-log-at.result in
+    let old = count_in c.loop-at.counts in
+    let new = count_in c.pass.new.self in
+    let e : Entry = entry note (unwrap_or (slice_get log.told.now i) untold) in
+    let es : List Entry = drop (i + 1) (entries log) in
+    let there : i < length log.notes.now = search rules in
+    let here : drop i (entries log) ≡ e ∷ es =
+    entries-at log.notes.now log.told.now i note there (ap (get_or log.notes.now i) c.index-log-at.is) in
+    let within : i < length log.told.now = omega (arith, there, c.requires) in
+    let may : IsTrue c.may_note.result ↔ ((root : RootId) → NeedsHold root (old root) e) =
+    subst (λ (t : Told). IsTrue c.may_note.result ↔ ((root : RootId) → NeedsHold root (old root) (entry note t)))
+    (told-or log.told.now i _ within) c.may_note.ensures in
+    reached-more AllNeeds counts_after AllCounts (λ s root. tt) all-counts-front all-counts-back (λ root. 0)
+    (entries log) i old e es c.loop-at.invariant here new (λ k root. c.in_ok-pass.ensures root k)
+    (may.0 c.if-not-may_note.false)
+
+pub returns : goal.returns
+returns c =
+    let log = c.args.log.now in
+    let i = c.loop-at.at in
+    let past : length log.notes.now ≤ i = search rules in
+    holds-whole AllNeeds counts_after AllCounts (λ s root. tt) all-counts-front all-counts-back (λ root. 0)
+    (entries log) i (count_in c.loop-at.counts) c.loop-at.invariant
+    (entries-past log.notes.now log.told.now i past)

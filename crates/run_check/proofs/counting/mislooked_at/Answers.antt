@@ -1,0 +1,73 @@
+use Rattle.std.proofs.Common.{rules, ◌≡◌, ◌+◌, ◌<◌, ◌≤◌, List, ◌∷◌, length, drop, sym, ◌∙◌}
+use Rattle.std.specs.Prelude.{slice_get, unwrap_or}
+use Rattle.std.proofs.lemmas.Bool.{false≢true}
+use Rattle.pool_law.specs.declared.id.RootId.{RootId}
+use Rattle.pool_law.specs.Logs.{Entry}
+use Rattle.lane_reader.specs.Reading.{untold, entry, entries}
+use Rattle.run_check.specs.Tallying.{others_sum}
+use Rattle.run_check.proofs.ReadingLemmas.{entries-at, entries-past}
+use Rattle.run_check.proofs.NeedingLemmas.{passed_on, all_passed_on, none_passed, passed, AllLooks, AllLooked, all-looked-front, all-looked-back}
+use Rattle.run_check.proofs.FirstLemmas.{reached-none, reached-more, breaks-here, holds-whole}
+use Rattle.run_check.proofs.counting.mislooked_at.Goals as goal
+
+pub loop-at-init : goal.loop-at-init
+loop-at-init c =
+    let others = λ (root : RootId). others_sum root c.args.lane 0 c.args.tallies.now in
+    let start : (root : RootId) → passed c.new-own.result c.new-counts.result root ≡ none_passed =
+    (λ root i. record {
+      retains = (c.new-own.ensures root i).retains;
+      releases = (c.new-own.ensures root i).releases;
+      count = c.new-counts.ensures root i;
+    }) in
+    reached-none (AllLooks others) all_passed_on (AllLooked others) (λ s root. tt) (all-looked-front others)
+    (all-looked-back others) (λ root. none_passed) (entries c.args.log.now)
+    (passed c.new-own.result c.new-counts.result) (λ i root. start root i)
+
+pub returns-then-not-branch : goal.returns-then-not-branch
+returns-then-not-branch c =
+    let others = λ (root : RootId). others_sum root c.args.lane 0 c.args.tallies.now in
+    let log = c.args.log.now in
+    let i = c.loop-at.at in
+    let note = c.note-item.result in
+    let old = passed c.loop-at.own c.loop-at.counts in
+    let e : Entry = entry note (unwrap_or (slice_get log.told.now i) untold) in
+    let es : List Entry = drop (i + 1) (entries log) in
+    let there : i < length log.notes.now = search rules in
+    let here : drop i (entries log) ≡ e ∷ es =
+    entries-at log.notes.now log.told.now i note there c.note-item.is in
+    breaks-here (AllLooks others) all_passed_on (AllLooked others) (λ s root. tt) (all-looked-front others)
+    (all-looked-back others) (λ root. none_passed) (entries log) i old e es c.loop-at.invariant here
+    (λ looks. false≢true (sym c.if-not-branch.true ∙ c.in_ok-look_holds.ensures.1 looks))
+
+pub loop-at-preserved : goal.loop-at-preserved
+loop-at-preserved c =
+    let others = λ (root : RootId). others_sum root c.args.lane 0 c.args.tallies.now in
+    let log = c.args.log.now in
+    let i = c.loop-at.at in
+    let note = c.note-item.result in
+    let old = passed c.loop-at.own c.loop-at.counts in
+    let new = passed c.pass-in-loop-at.new.self c.pass.new.self in
+    let e : Entry = entry note (unwrap_or (slice_get log.told.now i) untold) in
+    let es : List Entry = drop (i + 1) (entries log) in
+    let there : i < length log.notes.now = search rules in
+    let here : drop i (entries log) ≡ e ∷ es =
+    entries-at log.notes.now log.told.now i note there c.note-item.is in
+    let step : (root : RootId) → new root ≡ passed_on root (old root) e =
+    (λ root k. record {
+      retains = (c.in_ok-pass-2.ensures root k).retains;
+      releases = (c.in_ok-pass-2.ensures root k).releases;
+      count = c.in_ok-pass.ensures root k;
+    }) in
+    reached-more (AllLooks others) all_passed_on (AllLooked others) (λ s root. tt) (all-looked-front others)
+    (all-looked-back others) (λ root. none_passed) (entries log) i old e es c.loop-at.invariant here new
+    (λ k root. step root k) (c.in_ok-look_holds.ensures.0 c.if-not-branch.false)
+
+pub returns : goal.returns
+returns c =
+    let others = λ (root : RootId). others_sum root c.args.lane 0 c.args.tallies.now in
+    let log = c.args.log.now in
+    let i = c.loop-at.at in
+    let past : length log.notes.now ≤ i = search rules in
+    holds-whole (AllLooks others) all_passed_on (AllLooked others) (λ s root. tt) (all-looked-front others)
+    (all-looked-back others) (λ root. none_passed) (entries log) i (passed c.loop-at.own c.loop-at.counts)
+    c.loop-at.invariant (entries-past log.notes.now log.told.now i past)

@@ -1,0 +1,12 @@
+use Rattle.std.proofs.Common.{ℕ, ◌<◌, ◌≤◌}
+use Rattle.std.specs.List.{All}
+use Rattle.run_check.specs.Gathering.{left_of}
+use Rattle.run_check.proofs.merging.least_left.Given as goal
+
+abbrev pub invariant-loop-spots : goal.invariant-loop-spots
+invariant-loop-spots l = record {
+  most : l.least ≤ l.number;
+  least : (lane : ℕ) → lane < l.spots-index → All (λ x. l.least ≤ x.0) (left_of l.left lane);
+  there : l.least < l.number
+      → ((lane : ℕ) → lane < l.spots-index → All (λ x. l.least < x.0) (left_of l.left lane)) → ⊥;
+}
