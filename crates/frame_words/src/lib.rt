@@ -1,0 +1,10 @@
+#![tactic(auto)]
+//! What the words of the command line ask of the frame cutter. Stands on words as options.
+
+mod asked;
+mod settings;
+#[cfg(test)]
+mod tests;
+mod words;
+
+pub use words::{CutOptions, read_words};
