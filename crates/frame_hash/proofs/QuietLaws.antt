@@ -1,4 +1,4 @@
--- Notes that fetch no parcel, and write to no root.
+-- Notes that fetch or post no parcel, and write to no root.
 use Rattle.std.proofs.Common.{◌≡◌, ℕ, zero, suc, ◌+◌, List, [], ◌∷◌, ◌++◌, Bool, true, false, length, map, refl, sym, ap, ◌∙◌, Some, ⊎_elim, length-append}
 use Rattle.std.specs.Prelude.{◌&&◌, if◌then◌else◌, slice_get}
 use Rattle.std.specs.List.{list_all}
@@ -11,16 +11,16 @@ use Rattle.pool_law.specs.declared.note.Noted.{Noted}
 use Rattle.pool_law.specs.declared.note.Object.{Object}
 use Rattle.pool_law.specs.declared.note.Object.TheVariants.{Mail, Root}
 use Rattle.pool_law.specs.Kinds.{Passing, Stays, passing}
-use Rattle.pool_law.specs.Mails.{come, fetched}
+use Rattle.pool_law.specs.Mails.{come, fetched, gone, posted}
 use Rattle.pool_law.specs.Same.{same_object}
 use Rattle.pool_law.proofs.PatternLemmas.{same_object-refl}
 use Rattle.pool_table.specs.declared.views.Entry.{Entry}
 use Rattle.pool_table.specs.declared.views.Entry.TheVariants.{At, Ref, Busy}
 use Rattle.frame_hash.proofs.ListParts.{either_part}
-use Rattle.run_order.proofs.MailLists.{fetched-append}
+use Rattle.run_order.proofs.MailLists.{fetched-append, posted-append}
 use Rattle.seat_work.specs.Growth.{is_quiet, is_quiet_entry}
 use Rattle.shared_pool.specs.Closing.{note_of}
-use Rattle.frame_hash.specs.Takes.{fetches_in, FetchNothing, WriteNothing}
+use Rattle.frame_hash.specs.Takes.{fetches_in, FetchNothing, PostNothing, WriteNothing}
 
 -- ---- Notes behind others.
 
@@ -39,6 +39,15 @@ fetches-on sender receiver es more =
 pub fetch_nothing_on : (es more : List Entry) → FetchNothing es → FetchNothing more → FetchNothing (es ++ more)
 fetch_nothing_on es more x y sender receiver =
     fetched-on (Mail sender receiver) es more ∙ (λ i. x sender receiver i ++ y sender receiver i)
+
+posted-on : (mail : Object) (es more : List Entry)
+    → posted mail (map note_of (es ++ more)) ≡ posted mail (map note_of es) ++ posted mail (map note_of more)
+posted-on mail es more =
+    ap (posted mail) (map-append note_of es more) ∙ posted-append mail (map note_of es) (map note_of more)
+
+pub post_nothing_on : (es more : List Entry) → PostNothing es → PostNothing more → PostNothing (es ++ more)
+post_nothing_on es more x y sender receiver =
+    posted-on (Mail sender receiver) es more ∙ (λ i. x sender receiver i ++ y sender receiver i)
 
 pub write_nothing_on : (es more : List Entry) → WriteNothing es → WriteNothing more → WriteNothing (es ++ more)
 write_nothing_on es more x y at number offset root bytes stands =
@@ -84,6 +93,13 @@ stays-nothing mail object number d e =
     ap (λ (p : Passing). if same_object mail object then come number p else []) e
     ∙ none-either (same_object mail object)
 
+-- and posts nothing
+stays-unposted : (mail object : Object) (number : ℕ) (d : Did) → passing d ≡ Stays
+    → (if same_object mail object then gone number (passing d) else []) ≡ []
+stays-unposted mail object number d e =
+    ap (λ (p : Passing). if same_object mail object then gone number p else []) e
+    ∙ none-either (same_object mail object)
+
 pub both-true : (a b : Bool) → (a && b) ≡ true → (a ≡ true) × (b ≡ true)
 both-true true b e = (refl, e)
 both-true false b e = absurd (cc e)
@@ -96,6 +112,15 @@ quiet_fetches (At object number noted ∷ es) e sender receiver =
     ++ quiet_fetches es both.1 sender receiver i)
 quiet_fetches (Ref root did ∷ es) e sender receiver = quiet_fetches es e sender receiver
 quiet_fetches (Busy held ∷ es) e sender receiver = quiet_fetches es e sender receiver
+
+pub quiet_posts : (es : List Entry) → list_all is_quiet_entry es ≡ true → PostNothing es
+quiet_posts [] e sender receiver = refl
+quiet_posts (At object number noted ∷ es) e sender receiver =
+    let both = both-true (is_quiet noted.did) (list_all is_quiet_entry es) e in
+    (λ i. stays-unposted (Mail sender receiver) object number noted.did (quiet-stays noted.did both.0) i
+    ++ quiet_posts es both.1 sender receiver i)
+quiet_posts (Ref root did ∷ es) e sender receiver = quiet_posts es e sender receiver
+quiet_posts (Busy held ∷ es) e sender receiver = quiet_posts es e sender receiver
 
 -- what was done in a note
 did-of : (o p : Object) (m n : ℕ) (c d : Did) → ◌≡◌ {A = Note} (Note.At o m c) (Note.At p n d) → c ≡ d
@@ -130,6 +155,16 @@ module _ (object : Object) (number : ℕ) (noted : Noted) where
   pub stays_fetches : passing noted.did ≡ Stays → FetchNothing (At object number noted ∷ [])
   stays_fetches e sender receiver =
       ap (λ ps. ps ++ []) (stays-nothing (Mail sender receiver) object number noted.did e)
+
+  pub stays_posts : passing noted.did ≡ Stays → PostNothing (At object number noted ∷ [])
+  stays_posts e sender receiver =
+      ap (λ ps. ps ++ []) (stays-unposted (Mail sender receiver) object number noted.did e)
+
+  -- a fetch posts nothing
+  pub fetch_posts : (parcel : Parcel) → noted.did ≡ Fetch parcel → PostNothing (At object number noted ∷ [])
+  fetch_posts parcel e sender receiver =
+      ap (λ (d : Did). (if same_object (Mail sender receiver) object then gone number (passing d) else []) ++ []) e
+      ∙ ap (λ ps. ps ++ []) (none-either (same_object (Mail sender receiver) object))
 
   -- one that is no write
   pub other_writes : ((offset : ℕ) (bytes : List ℕ) → noted.did ≡ Set offset bytes → ⊥)

@@ -31,8 +31,8 @@ use Rattle.shared_pool.specs.SeatViews.{view_of}
 use Rattle.shared_pool.specs.Seats.{IsNoted, IsPoolSeat}
 use Rattle.shared_pool.proofs.Openings.{at_left, at_right}
 use Rattle.frame_hash.specs.declared.turns.TheConstants.{HASH_TURNS}
-use Rattle.frame_hash.specs.Takes.{CountsNone, HasSpent, HasTaken, ReadsView, Takes, WriteNothing, fetches_in}
-use Rattle.frame_hash.proofs.QuietLaws.{fetch_nothing_on, fetch_one, fetches-on, other_writes, quiet_fetches, quiet_writes, stays_fetches, write_nothing_on}
+use Rattle.frame_hash.specs.Takes.{CountsNone, HasSpent, HasTaken, PostNothing, ReadsView, Takes, WriteNothing, fetches_in}
+use Rattle.frame_hash.proofs.QuietLaws.{fetch_nothing_on, fetch_one, fetch_posts, fetches-on, other_writes, post_nothing_on, quiet_fetches, quiet_posts, quiet_writes, stays_fetches, stays_posts, write_nothing_on}
 
 -- ---- What stands in notes stands there still.
 
@@ -99,6 +99,11 @@ module _ (pool : SharedPool) (root : RootId) (offset number : ℕ) (bytes : List
         (stays_fetches (Root root.place) number
         (noted_by (view_of old).own.number (access root (Did.Get offset bytes))) refl)
         (quiet_fetches later.added later.quiet);
+    unposted =
+        post_nothing_on (note ∷ []) later.added
+        (stays_posts (Root root.place) number
+        (noted_by (view_of old).own.number (access root (Did.Get offset bytes))) refl)
+        (quiet_posts later.added later.quiet);
     unwritten =
         write_nothing_on (note ∷ []) later.added
         (other_writes (Root root.place) number (noted_by (view_of old).own.number (access root (Did.Get offset bytes)))
@@ -126,6 +131,7 @@ nothing_read pool s t m works =
       notes = sym (append-nil (view_of s).own.notes);
       reads = tt;
       unfetched = λ sender receiver. refl;
+      unposted = λ sender receiver. refl;
       unwritten = λ at number offset root bytes stands. cc stands;
     }
 
@@ -210,6 +216,13 @@ module _ (pool : SharedPool) (old mid new : PoolSeat) (sender receiver number : 
       let d = ap (λ ps. length ps) (read.unfetched sender receiver) in
       omega (arith, a, b, c, d)
 
+  unposted-new : PostNothing v.own.notes → PostNothing (v.own.notes ++ came ∷ read.added)
+  unposted-new before =
+      post_nothing_on v.own.notes (came ∷ read.added) before
+      (post_nothing_on (came ∷ []) read.added
+      (fetch_posts (Mail sender receiver) number (noted_by v.own.number (plain (Did.Fetch parcel))) parcel refl)
+      read.unposted)
+
   unwritten-new : WriteNothing v.own.notes → WriteNothing (v.own.notes ++ came ∷ read.added)
   unwritten-new before =
       write_nothing_on v.own.notes (came ∷ read.added) before
@@ -263,6 +276,7 @@ module _ (pool : SharedPool) (old mid new : PoolSeat) (sender receiver number : 
       each =
           subst (λ (lane : Option ℕ). at_new w.own.notes lane) (sym number_new)
           (subst (λ (es : List Entry). at_new es v.own.number) (sym notes-new) each-new);
+      unposted = subst PostNothing (sym notes-new) (unposted-new taken.unposted);
       unwritten = subst WriteNothing (sym notes-new) (unwritten-new taken.unwritten);
       even = even-new taken.even;
     }

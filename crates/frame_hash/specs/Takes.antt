@@ -7,7 +7,7 @@ use Rattle.pool_law.specs.declared.note.Did.{Did}
 use Rattle.pool_law.specs.declared.note.Note.{Note}
 use Rattle.pool_law.specs.declared.note.Object.{Object}
 use Rattle.pool_law.specs.declared.note.Object.TheVariants.{Mail}
-use Rattle.pool_law.specs.Mails.{fetched}
+use Rattle.pool_law.specs.Mails.{fetched, posted}
 use Rattle.pool_law.specs.Naming.{noted_by}
 use Rattle.pool_table.specs.declared.views.Entry.{Entry}
 use Rattle.pool_table.specs.declared.views.Entry.TheVariants.{At}
@@ -33,6 +33,11 @@ fetches_in sender receiver es = length (fetched (Mail sender receiver) (map note
 abbrev pub FetchNothing : List Entry → Type 0
 FetchNothing es =
     (sender receiver : ℕ) → fetched (Mail sender receiver) (map note_of es) ≡ []
+
+-- these notes post no parcel
+abbrev pub PostNothing : List Entry → Type 0
+PostNothing es =
+    (sender receiver : ℕ) → posted (Mail sender receiver) (map note_of es) ≡ []
 
 -- these notes write to no root
 abbrev pub WriteNothing : List Entry → Type 0
@@ -67,13 +72,14 @@ pub record Takes
 abbrev pub CountsNone : SeatView → Type 0
 CountsNone v = (root : RootId) → gained_of root v ≡ lost_of root v
 
--- the view took these pieces from another lane, one with each parcel, let their roots go, and wrote
--- nothing
+-- the view took these pieces from another lane, one with each parcel, let their roots go, and neither
+-- posted nor wrote anything
 pub record HasTaken (v : SeatView) (sender receiver : ℕ) (pieces : List (List ℕ)) :
     Type 0 where
   pub count : fetches_in sender receiver v.own.notes ≡ length pieces
   pub each : (k : ℕ) (piece : List ℕ) → slice_get pieces k ≡ Some piece →
       Takes v.own.notes v.own.number sender receiver k piece
+  pub unposted : PostNothing v.own.notes
   pub unwritten : WriteNothing v.own.notes
   pub even : CountsNone v
 
@@ -89,4 +95,5 @@ pub record HasSpent
   pub notes : (view_of new).own.notes ≡ (view_of old).own.notes ++ added
   pub reads : IfSome view (λ v. ReadsView added (view_of old).own.number v piece)
   pub unfetched : FetchNothing added
+  pub unposted : PostNothing added
   pub unwritten : WriteNothing added
