@@ -1,0 +1,25 @@
+use Rattle.std.proofs.Common.{refl}
+use Rattle.frame_cutter.proofs.CameLaws.{worked}
+use Rattle.frame_cutter.proofs.cutting.CuttingMachineShop.step.Goals as goal
+
+pub read_on-requires-clause-came : goal.read_on-requires-clause-came
+read_on-requires-clause-came g c =
+    let comes = c.requires.comes in
+    (c.args.shop.now, (comes.0.source.now, (comes.0.desk.now, comes.1.came)))
+
+pub returns-then-eq-clause-comes : goal.returns-then-eq-clause-comes
+returns-then-eq-clause-comes g c first came = record {
+  source = came.source;
+  desk = came.desk;
+  came = c.read_on.ensures c.args.shop.now first.source.now first.desk.now came.came;
+}
+
+pub returns-clause-comes : goal.returns-clause-comes
+returns-clause-comes g c first came =
+    let self = c.args.self.now in record {
+      source = came.source;
+      desk = came.desk;
+      came =
+          worked g.S.Source.left g.S.Source.faults c.args.shop.now first.source.now self.source.now self.source.now
+          first.desk.now self.desk.now c.go_on.new.self came.came refl c.go_on.ensures.stands c.go_on.ensures.same;
+    }

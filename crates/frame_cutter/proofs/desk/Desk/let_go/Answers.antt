@@ -1,0 +1,28 @@
+use Rattle.std.proofs.Common.{arith, subst, sym, ◌∙◌}
+use Rattle.std.proofs.lemmas.List.{nil_from_length}
+use Rattle.frame_cutter.specs.declared.desk.Desk.{Desk}
+use Rattle.frame_cutter.specs.Standing.{DeskStands}
+use Rattle.frame_cutter.proofs.EndLaws.{has_slice, lets_go, none_left}
+use Rattle.frame_cutter.proofs.desk.Desk.let_go.Goals as goal
+
+pub drop_root-requires-clause-counts : goal.drop_root-requires-clause-counts
+drop_root-requires-clause-counts g c =
+    has_slice c.args.shop.now c.args.self.now c.requires.stands.0 c.requires.stands.1 c.requires.stage c.pop.new.self
+    c.in-Some.slice c.in-Some.ensures.items
+
+pub returns-in-Some-clause-stands : goal.returns-in-Some-clause-stands
+returns-in-Some-clause-stands g c read st =
+    let shop = c.args.shop.now in
+    let gone = c.drop_root.ensures in
+    subst (λ (d : Desk). DeskStands shop d read) (sym gone.desk)
+    (lets_go shop c.args.self.now read st c.requires.stage c.pop.new.self c.in-Some.slice c.in-Some.ensures.items
+    c.drop_root.new.self.seat gone.released.0 (omega arith) gone.released.1 gone.later)
+
+pub returns-in-None-clause-stands : goal.returns-in-None-clause-stands
+returns-in-None-clause-stands g c read st =
+    let d = c.args.self.now in
+    let popped = c.pop.new.self in
+    let none = c.in-None.ensures.cases in
+    none_left c.args.shop.now d read st c.requires.stage popped
+    (nil_from_length d.slices.items (sym d.slices.ok.0 ∙ none.0))
+    (nil_from_length popped.items (sym popped.ok.0 ∙ none.1))

@@ -1,0 +1,5 @@
+pub mod Sends
+pub mod Stages
+pub mod Standing
+pub mod Stops
+pub mod Finds

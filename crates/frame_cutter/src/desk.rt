@@ -1,0 +1,129 @@
+//! What a cutter has beside its source, and its steps.
+
+ghost use Rattle.std.specs.Prelude.{◌≡◌, ℕ, ◌+◌, ◌≤◌, true, false, List, ◌++◌, take, drop, vec_len, Ok};
+ghost use Rattle.frame_hash.specs.declared.shop.Shop.{Shop};
+ghost use Rattle.frame_core.specs.Frames.{failure_of};
+ghost use Rattle.frame_slices.specs.Slices.{HasCut};
+ghost use Rattle.frame_cutter.specs.Standing.{DeskStands, SameDesk, is_fault, verdict_of};
+
+use crate::stage::{Stage, Verdict};
+use frame_hash::Shop;
+use frame_slices::Slicer;
+use job_queue::JobEnd;
+use pool_law::ViewData;
+use shared_pool::PoolSeat;
+use std::alloc::AllocError;
+use std::sync::Wait;
+use work_table::Stepped;
+
+/// A cutter without its source.
+pub struct Desk {
+    pub seat: PoolSeat,
+    /// How many workers there are. Their lanes are those below this number, which is its own lane.
+    pub workers: u32,
+    /// The ends of their queues, by number.
+    pub ends: Vec<JobEnd>,
+    pub slicer: Slicer,
+    /// The bytes of the present block come here, as many as it has room for.
+    pub block: Vec<u8>,
+    /// How many of them have come.
+    pub filled: usize,
+    /// Nothing comes behind them.
+    pub last: bool,
+    /// The size class of a block.
+    pub class: u32,
+    /// The turns that its seat has left, or fewer.
+    pub turns: u64,
+    /// The slices that it may still make: its seat has a move for each, and each mail has room for
+    /// all of them.
+    pub moves: u32,
+    /// The frames that went to their workers.
+    pub frames: u32,
+    /// The slices of the present frame, in order.
+    pub slices: Vec<ViewData>,
+    pub stage: Stage,
+    pub verdict: Verdict,
+}
+
+impl Desk {
+    /// The next thing that is to be done at the desk.
+    pub fn go_on<W: Wait>(&mut self, rt: &W, shop: &Shop) -> Result<Stepped, AllocError>
+        requires stands { (read : List ℕ) × DeskStands shop.now self.old read }
+        ensures stands { (read : List ℕ) → DeskStands shop.now self.old read →
+            DeskStands shop.now self.new read }
+        ensures same { SameDesk self.old self.new }
+        ensures finished { result ≡ Ok Stepped.Finished → self.new.stage ≡ Stage.Over }
+    {
+        match self.stage {
+            Stage::Filling => Ok(Stepped::Waiting),
+            Stage::Placing => Ok(self.place(rt, shop)),
+            Stage::Cutting { root, used } => self.cut(rt, shop, root, used),
+            Stage::Handing { root, used, posted } => Ok(self.hand(rt, shop, root, used, posted)),
+            Stage::LettingGo => Ok(self.let_go(rt, shop)),
+            Stage::Ending { next } => Ok(self.tell(rt, shop, next)),
+            Stage::Over => Ok(Stepped::Finished),
+        }
+    }
+
+    /// So many bytes more came into the block.
+    pub(crate) fn fill(&mut self, count: usize)
+        requires stage { self.old.stage ≡ Stage.Filling }
+        requires room { self.old.filled + count ≤ vec_len self.old.block }
+        ensures stands { (shop : Shop) (read : List ℕ) → DeskStands shop self.old read →
+            DeskStands shop self.new
+            (read ++ take count (drop self.old.filled self.old.block.items)) }
+        ensures same { SameDesk self.old self.new }
+    {
+        self.filled += count;
+        if self.filled == self.block.len() {
+            self.stage = Stage::Placing;
+        }
+    }
+
+    /// The source is at its end.
+    pub(crate) fn fill_last(&mut self)
+        requires stage { self.old.stage ≡ Stage.Filling }
+        ensures stands { (shop : Shop) (read : List ℕ) → DeskStands shop self.old read →
+            DeskStands shop self.new read }
+        ensures workers { self.new.workers ≡ self.old.workers }
+        ensures block { self.new.block ≡ self.old.block }
+        ensures last { self.new.last ≡ true }
+        ensures fault { is_fault self.old.verdict ≡ false → is_fault self.new.verdict ≡ false }
+    {
+        self.last = true;
+        if self.filled == 0 {
+            self.finish();
+        } else {
+            self.stage = Stage::Placing;
+        }
+    }
+
+    /// A read failed.
+    pub(crate) fn fail(&mut self)
+        requires stage { self.old.stage ≡ Stage.Filling }
+        ensures stands { (shop : Shop) (read : List ℕ) → DeskStands shop self.old read →
+            DeskStands shop self.new read }
+        ensures workers { self.new.workers ≡ self.old.workers }
+        ensures block { self.new.block ≡ self.old.block }
+        ensures last { self.new.last ≡ self.old.last }
+        ensures fault { is_fault self.new.verdict ≡ true }
+    {
+        self.verdict = Verdict::Fault;
+        self.stage = Stage::LettingGo;
+    }
+
+    /// The stream ends here.
+    pub(crate) fn finish(&mut self)
+        ensures desk { self.new
+            ≡ record self.old { stage = Stage.LettingGo; verdict = self.new.verdict } }
+        ensures verdict { (bytes own : List ℕ) → HasCut self.old.slicer bytes own →
+            self.new.verdict ≡ verdict_of (failure_of bytes) }
+        ensures fault { is_fault self.new.verdict ≡ false }
+    {
+        self.verdict = match self.slicer.finish() {
+            Ok(_frames) => Verdict::Whole,
+            Err(why) => Verdict::Refused(why),
+        };
+        self.stage = Stage::LettingGo;
+    }
+}

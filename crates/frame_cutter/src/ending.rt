@@ -1,0 +1,53 @@
+//! How a cutter ends.
+
+ghost use Rattle.std.specs.Prelude.{◌≡◌, ◌≢◌, ℕ, List};
+ghost use Rattle.frame_cutter.specs.Standing.{DeskStands, SameDesk};
+
+use crate::desk::Desk;
+use crate::stage::Stage;
+use frame_hash::{RELEASE_TURNS, Shop};
+use job_queue::{Job, push};
+use std::sync::Wait;
+use work_table::Stepped;
+
+impl Desk {
+    /// Lets go of the last slice that is left, if there is one.
+    pub(crate) fn let_go<W: Wait>(&mut self, rt: &W, shop: &Shop) -> Stepped
+        requires stands { (read : List ℕ) × DeskStands shop.now self.old read }
+        requires stage { self.old.stage ≡ Stage.LettingGo }
+        ensures stands { (read : List ℕ) → DeskStands shop.now self.old read →
+            DeskStands shop.now self.new read }
+        ensures same { SameDesk self.old self.new }
+        ensures more { result ≢ Stepped.Finished }
+    {
+        if self.turns < RELEASE_TURNS {
+            return Stepped::Waiting;
+        }
+        match self.slices.pop() {
+            Some(slice) => self.drop_root(rt, shop.pool, slice.root),
+            None => self.stage = Stage::Ending { next: 0 },
+        }
+        Stepped::Went
+    }
+
+    /// Tells the next worker that nothing more comes.
+    pub(crate) fn tell<W: Wait>(&mut self, rt: &W, shop: &Shop, next: u32) -> Stepped
+        requires stands { (read : List ℕ) × DeskStands shop.now self.old read }
+        requires stage { self.old.stage ≡ Stage.Ending next }
+        ensures stands { (read : List ℕ) → DeskStands shop.now self.old read →
+            DeskStands shop.now self.new read }
+        ensures same { SameDesk self.old self.new }
+        ensures more { result ≢ Stepped.Finished }
+    {
+        if next == self.workers {
+            self.stage = Stage::Over;
+            return Stepped::Went;
+        }
+        let queue = &shop.queues[next as usize];
+        if !push(rt, queue, &mut self.ends[next as usize], Job::End) {
+            return Stepped::Waiting;
+        }
+        self.stage = Stage::Ending { next: next + 1 };
+        Stepped::Went
+    }
+}

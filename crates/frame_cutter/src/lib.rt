@@ -1,0 +1,17 @@
+#![tactic(auto)]
+//! The cutter of a stream. It reads a block of the stream, puts it into a root of a pool, and cuts
+//! it into slices of frames where it lies: a slice is a view of the root, which it counts once more.
+//! A frame that ends goes to a worker, its slices as parcels and its number as a job. It is a
+//! machine that is stepped beside those workers.
+
+mod cutting;
+mod desk;
+mod ending;
+mod handing;
+mod placing;
+mod slicing;
+mod stage;
+
+pub use cutting::Cutting;
+pub use desk::Desk;
+pub use stage::{MOST_SLICES, Stage, Verdict};

@@ -1,0 +1,154 @@
+//! How a block is cut into slices of frames, where it lies.
+
+ghost use Rattle.std.specs.Prelude.{◌≡◌, ◌≢◌, ℕ, ◌-◌, ◌<◌, ◌≤◌, Bool, List, [], ◌∷◌, ◌++◌, Ok, vec_capacity, vec_len};
+ghost use Rattle.pool_table.specs.Counts.{HasCount};
+ghost use Rattle.seat_work.specs.Changes.{once_less, once_more};
+ghost use Rattle.seat_work.specs.Hands.{empty_hand};
+ghost use Rattle.seat_work.specs.Works.{IsLater, Proceeds, Works};
+ghost use Rattle.shared_pool.specs.SeatViews.{view_of};
+ghost use Rattle.frame_hash.specs.declared.shop.Shop.{Shop};
+ghost use Rattle.frame_hash.specs.declared.turns.TheConstants.{RELEASE_TURNS};
+ghost use Rattle.frame_cutter.specs.Finds.{HasFound, slice_at, stage_at};
+ghost use Rattle.frame_cutter.specs.Standing.{DeskStands, SameDesk};
+
+use crate::desk::Desk;
+use crate::stage::{Stage, Verdict};
+use frame_hash::{RELEASE_TURNS, Shop};
+use frame_slices::Found;
+use pool_law::{RootId, ViewData};
+use seat_work::{release, retain};
+use shared_pool::SharedPool;
+use std::alloc::AllocError;
+use std::sync::Wait;
+use work_table::Stepped;
+
+impl Desk {
+    /// Goes on with the block, which is in this root, from this place on.
+    pub(crate) fn cut<W: Wait>(
+        &mut self,
+        rt: &W,
+        shop: &Shop,
+        root: RootId,
+        used: usize,
+    ) -> Result<Stepped, AllocError>
+        requires stands { (read : List ℕ) × DeskStands shop.now self.old read }
+        requires stage { self.old.stage ≡ Stage.Cutting root used }
+        ensures stands { (read : List ℕ) → DeskStands shop.now self.old read →
+            DeskStands shop.now self.new read }
+        ensures same { SameDesk self.old self.new }
+        ensures more { result ≢ Ok Stepped.Finished }
+    {
+        if self.turns < RELEASE_TURNS {
+            return Ok(Stepped::Waiting);
+        }
+        if used == self.filled {
+            self.leave(rt, shop, root);
+            return Ok(Stepped::Went);
+        }
+        if self.moves == 0 {
+            return Ok(Stepped::Waiting);
+        }
+        self.slices.reserve(1)?;
+        match self.slicer.go_on(&self.block[..self.filled], used) {
+            Ok(found) => self.take(shop, root, found),
+            Err(why) => {
+                self.verdict = Verdict::Refused(why);
+                self.drop_root(rt, shop.pool, root);
+                self.stage = Stage::LettingGo;
+            }
+        }
+        Ok(Stepped::Went)
+    }
+
+    // Takes what was found in the block for the present frame.
+    fn take(&mut self, shop: &Shop, root: RootId, found: Found)
+        requires found { (read : List ℕ) × HasFound shop.now self.old root found read }
+        requires moves { 0 < self.old.moves }
+        requires room { vec_len self.old.slices < vec_capacity self.old.slices }
+        ensures stands { (read : List ℕ) → HasFound shop.now self.old root found read →
+            DeskStands shop.now self.new read }
+        ensures same { SameDesk self.old self.new }
+    {
+        self.stage = behind(root, found.used, found.ended);
+        if found.start < found.used {
+            self.slice(shop.pool, root, found.start as u32, found.used as u32);
+        }
+    }
+
+    // Makes a slice of the root from one place to another. The root is counted once more.
+    fn slice(&mut self, pool: &SharedPool, root: RootId, start: u32, end: u32)
+        requires works { Works pool.now empty_hand self.old.turns self.old.moves self.old.seat }
+        requires moves { 0 < self.old.moves }
+        requires counts { HasCount root (view_of self.old.seat) }
+        requires room { vec_len self.old.slices < vec_capacity self.old.slices }
+        requires order { start ≤ end }
+        ensures desk { self.new ≡ record self.old {
+          seat = self.new.seat;
+          moves = self.old.moves - 1;
+          slices = self.new.slices;
+        } }
+        ensures slices { self.new.slices.items
+            ≡ self.old.slices.items ++ slice_at root start end ∷ [] }
+        ensures retained { Proceeds pool.now empty_hand 0 1 (once_more root)
+            self.old.seat self.new.seat }
+        ensures later { IsLater pool.now self.old.seat self.new.seat }
+    {
+        retain(pool, &mut self.seat, root);
+        self.moves -= 1;
+        let len = end - start;
+        self.slices.push_reserved(ViewData {
+            root,
+            offset: start,
+            len,
+            reader: 0,
+            writer: len,
+        });
+    }
+
+    // The block is cut: its root is let go, and the next block is read, if there is one.
+    fn leave<W: Wait>(&mut self, rt: &W, shop: &Shop, root: RootId)
+        requires stands { (read : List ℕ) × DeskStands shop.now self.old read }
+        requires stage { self.old.stage ≡ Stage.Cutting root self.old.filled }
+        requires turns { RELEASE_TURNS ≤ self.old.turns }
+        ensures stands { (read : List ℕ) → DeskStands shop.now self.old read →
+            DeskStands shop.now self.new read }
+        ensures same { SameDesk self.old self.new }
+    {
+        self.drop_root(rt, shop.pool, root);
+        self.filled = 0;
+        self.stage = Stage::Filling;
+        if self.last {
+            self.finish();
+        }
+    }
+
+    /// Counts a root once less.
+    pub(crate) fn drop_root<W: Wait>(&mut self, rt: &W, pool: &SharedPool, root: RootId)
+        requires works { Works pool.now empty_hand self.old.turns self.old.moves self.old.seat }
+        requires turns { RELEASE_TURNS ≤ self.old.turns }
+        requires counts { HasCount root (view_of self.old.seat) }
+        ensures desk { self.new
+            ≡ record self.old { seat = self.new.seat; turns = self.old.turns - RELEASE_TURNS } }
+        ensures released { (last : Bool) × Proceeds pool.now empty_hand RELEASE_TURNS 0
+            (once_less root last) self.old.seat self.new.seat }
+        ensures later { IsLater pool.now self.old.seat self.new.seat }
+    {
+        release(rt, pool, &mut self.seat, root);
+        self.turns -= RELEASE_TURNS;
+    }
+}
+
+// What comes next where a frame ended at this place of the block, or didn't.
+fn behind(root: RootId, used: usize, ended: bool) -> Stage
+    ensures { result ≡ stage_at root used ended }
+{
+    if ended {
+        Stage::Handing {
+            root,
+            used,
+            posted: 0,
+        }
+    } else {
+        Stage::Cutting { root, used }
+    }
+}
