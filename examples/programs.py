@@ -1,7 +1,9 @@
-"""The rows of trace_lint, nest_run, share_run, run_judge, run_view and pool_bench, which run where these programs are built, as the gate leaves them."""
+"""The rows of trace_lint, nest_run, share_run, frame_cut, run_judge, run_view and pool_bench, which run where these programs are built, as the gate leaves them."""
 import os
 
 from drawing import try_view
+from framing import try_frames
+from judging import EXCHANGED, JUDGED, MADE, exchanged, numbered
 from trying import ACCEPTED, HERE, LINTED, LIVE, READ_FAULT, REFUSED, TERMINALS, TEXT_LIMIT, UNREAD, WHOLE, WRITE_FAULT
 from trying import broken_off, case_of, cut_off, expect, json_of, rows, run, text_and_line, try_ends
 
@@ -90,50 +92,20 @@ def try_shares(share):
     try_ends("share_run", share, read, share_of(*shared(SHARED[0])), 5_000_000)
 
 
-# Of an example the places that are changed in its text with history, and what run_judge says of that: its status, and its lines with
-# "; " between them. Where nothing else is said, it is legal.
-JUDGED = [
-    ("smallest", {}, "0 legal"),
-    ("hand_over", {}, "0 legal"),
-    (
-        "hand_over",
-        {
-            "1.1 get ok 0a0b": "1.1 get ok 0000",
-            "root 0 2 set 0 0a0b": "root 0 3 set 0 0a0b",
-            "root 0 3 get 0 0a0b": "root 0 2 get 0 0000",
-        },
-        "1 not legal: each of these notes must stand before the next, the last before the first"
-        "; lane 0 after 6 notes; lane 1 after 0 notes; lane 1 after 1 notes; lane 0 after 5 notes",
-    ),
-    (
-        "smallest",
-        {"get ok 68656c6c6f": "get ok 68656c6c70", "get 0 68656c6c6f": "get 0 68656c6c70"},
-        "1 not legal: root 0: its notes have not each number once, or it does not accept them in this order",
-    ),
-    (
-        "hand_over",
-        {"fetch 0.1 0+4 0 0": "fetch 0.1 0+3 0 0"},
-        "1 not legal: mail 0 1: its posts are not numbered from 1, or what is fetched is not what was posted",
-    ),
-    (
-        "smallest",
-        {"get ok 68656c6c6f": "get ok 68656c6c70"},
-        "1 not legal: lane 0: its replies and notes are not those of its commands",
-    ),
-    (
-        "smallest",
-        {"used 8192 free 4186112": "used 0 free 4194304"},
-        "1 not legal: the chunk lines are not what the arenas have at the end",
-    ),
-    ("smallest", {"0.1 set ok": "0.1 set good"}, "8 refused text line 2: no run of this trace has such a line here"),
-]
-
-
 def try_judge(judge, poolrun):
-    for name, changes, want in JUDGED:
-        status, text, said = run(judge, [], json_of(case_of(poolrun, name, changes)))
+    cases = [(f"{name} {changes}", case_of(poolrun, name, changes), want) for name, changes, want in JUDGED]
+    for trace, changes, want in MADE:
+        made = case_of(poolrun, "smallest", changes)
+        cases.append((f"{trace} {changes}", {**made, "trace": trace}, want))
+    for name in ("smallest", "hand_over"):
+        case = case_of(poolrun, name, {})
+        cases += [(f"{name}, {what}", {**case, "text": text}, want) for what, text, want in numbered(case["text"])]
+    case = case_of(poolrun, "hand_over", {})
+    cases.append(("hand_over with its lanes exchanged", {**case, "text": exchanged(case["text"])}, EXCHANGED))
+    for name, case, want in cases:
+        status, text, said = run(judge, [], json_of(case))
         lines = "; ".join((text + said).splitlines())
-        expect(f"run_judge < {name} {changes}", said=(f"{status} {lines}", want), error=(said != "", status == UNREAD))
+        expect(f"run_judge < {name}", said=(f"{status} {lines}", want), error=(said != "", status == UNREAD))
     for text in (b"", b"[]", b'{"words":[],"trace":"[[]]"}', b'{"words":["--generate","1"],"trace":"[[]]","text":""}'):
         expect(f"run_judge < {text}", ran=(run(judge, [], text), (REFUSED, "", "refused input\n")))
     try_ends("run_judge", judge, json_of(case_of(poolrun, "smallest", {})), b" " * TEXT_LIMIT, TEXT_LIMIT)
@@ -170,6 +142,7 @@ def try_programs(poolrun):
         "trace_lint": try_lint,
         "nest_run": try_nests,
         "share_run": try_shares,
+        "frame_cut": try_frames,
         "run_judge": lambda judge: try_judge(judge, poolrun),
         "run_view": lambda view: try_view(view, poolrun),
         "pool_bench": try_benches,

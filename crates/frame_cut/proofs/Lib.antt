@@ -1,0 +1,17 @@
+pub mod GatherLaws
+pub mod LineLaws
+pub mod ListSteps
+pub mod OpenLaws
+pub mod OutcomeLaws
+pub mod RoomLaws
+pub mod TextLaws
+pub mod ShareLaws
+pub mod SeatLogs
+pub mod JoinedPieces
+pub mod WorkerEnds
+pub mod Running
+pub mod Together
+pub mod LiveLaws
+pub mod Answered
+pub mod SpentLaws
+pub mod Streams

@@ -1,0 +1,47 @@
+use Rattle.std.proofs.Common.{◌≡◌, subst, sym}
+use Rattle.std.specs.Prelude.{All, OnOk}
+use Rattle.frame_hash.specs.declared.worker.Work.TheVariants.{Done}
+use Rattle.frame_hash.specs.declared.worker.Worker.{Worker}
+use Rattle.frame_cutter.specs.declared.desk.Desk.{Desk}
+use Rattle.frame_cutter.specs.declared.stage.Stage.TheVariants.{Over}
+use Rattle.frame_cutter.specs.Standing.{DeskCame}
+use Rattle.frame_cut.proofs.Running.{came_first, cutter_started}
+use Rattle.frame_cut.proofs.hashing.step_all.Goals as goal
+
+pub step_beside-workers-requires-clause-own : goal.step_beside-workers-requires-clause-own
+step_beside-workers-requires-clause-own g c κs within = (
+  _,
+  cutter_started g.S.Source.left g.S.Source.faults c.args.shop.now
+      (record { source = _; desk = record { ref_ptr = _; ghost_name = _; now = c.args.desk } }) c.requires.desk
+      c.requires.begun.0 c.requires.begun.1,
+)
+
+pub step_beside-workers-requires-clause-machines : goal.step_beside-workers-requires-clause-machines
+step_beside-workers-requires-clause-machines g c κs within =
+    came_first c.args.shop.now c.args.workers.items c.requires.workers
+
+pub returns : goal.returns
+returns g c =
+    let shop = c.args.shop.now in
+    let left = g.S.Source.left in
+    let faults = g.S.Source.faults in
+    let stepped = c.step_beside-workers in
+    let own = stepped.new.own in
+    let came = stepped.ensures.own _
+    (cutter_started left faults shop (record {
+      source = _;
+      desk = record { ref_ptr = _; ghost_name = _; now = c.args.desk };
+    }) c.requires.desk c.requires.begun.0 c.requires.begun.1) in
+    let source = sym (c.source-1.given.1 (sym came.source)) in
+    let desk = sym (c.desk-2-1.given.1 (sym came.desk)) in
+    record {
+      desk =
+          subst (λ s. DeskCame left faults shop c.args.source.now s c.args.desk c.desk-2-1.given.0) source
+          (subst (λ (d : Desk). DeskCame left faults shop c.args.source.now own.source.now c.args.desk d) desk
+          came.came);
+      workers = stepped.ensures.machines;
+      count = stepped.ensures.count;
+      finished =
+          subst (λ (d : Desk). OnOk stepped.result.1 ((d.stage ≡ Over)
+          × All (λ (w : Worker). w.work ≡ Done) stepped.result.0.items)) desk stepped.ensures.finished;
+    }

@@ -1,0 +1,233 @@
+//! A pool with a lane for each worker and one for the cutter, and all that they start with.
+
+ghost use Rattle.std.specs.Prelude.{◌≡◌, ℕ, ◌+◌, ◌*◌, ◌<◌, ◌≤◌, [], drop, length, slice_index, IfOk, Some, vec_capacity, vec_len};
+ghost use Rattle.size_classes.specs.Sizes.{class_of, of_pages};
+ghost use Rattle.size_classes.specs.declared.TheConstants.{DEFAULT_PAGE};
+ghost use Rattle.frame_cutter.specs.declared.stage.TheConstants.{MOST_SLICES};
+ghost use Rattle.frame_words.specs.Words.{AreOptions};
+ghost use Rattle.frame_cut.specs.Openings.{AreHired, AreLines, IsNewDesk, IsNewPool, IsNewWorker, layout_of};
+ghost use Rattle.frame_cut.specs.Tellings.{IsOpen};
+
+use frame_cutter::{Desk, MOST_SLICES, Stage, Verdict};
+use frame_hash::{HashOf, Work, Worker};
+use frame_slices::Slicer;
+use frame_words::CutOptions;
+use job_queue::{JobEnd, JobQueue, new_queue};
+use pool_law::{Level, Shape};
+use pool_table::Layout;
+use shared_pool::{PoolSeat, SharedPool};
+use size_classes::{DEFAULT_PAGE, SizeClasses};
+use std::alloc::{AllocError, Global};
+
+/// The order of the pool's chunks.
+pub const ORDER: u32 = 9;
+
+/// The turns of each seat: 2^56. Each try of an allocation takes some, and a try that finds nothing
+/// is made again.
+pub const SEAT_TURNS: u64 = 72_057_594_037_927_936;
+
+/// The most lanes: those of fifteen workers, and the cutter's.
+const MOST_LANES: usize = 16;
+
+/// The queues of the workers, in order, with both ends of each.
+#[derive(Drop)]
+struct Lines {
+    queues: Vec<JobQueue>,
+    senders: Vec<JobEnd>,
+    receivers: Vec<JobEnd>,
+}
+
+/// A pool at whose lanes the workers and the cutter stand, and the queues between them.
+pub struct Opened {
+    pub pool: SharedPool,
+    pub queues: Vec<JobQueue>,
+    pub workers: Vec<Worker>,
+    pub desk: Desk,
+    /// The vector in which the seats came.
+    pub seats: Vec<PoolSeat>,
+    /// Room for what each worker tells.
+    pub told: Vec<Vec<HashOf>>,
+}
+
+/// A new pool with its workers and its cutter.
+pub fn open(alloc: Global, options: CutOptions) -> Result<Opened, AllocError>
+    requires { AreOptions options }
+    ensures { IfOk result (IsOpen options.workers options.block) }
+{
+    let count = options.workers as usize;
+    let lines = new_lines(alloc, count)?;
+    let block = vec![in alloc; 0u8; options.block as usize]?;
+    let class = class_for(alloc, options.block)?;
+    let told = Vec::with_capacity(alloc, count)?;
+    let workers = Vec::with_capacity(alloc, count)?;
+    match new_pool(alloc, options.workers) {
+        Ok((pool, mut seats)) => {
+            let Lines {
+                queues,
+                senders,
+                receivers,
+            } = lines;
+            let workers = hire(alloc, options.workers, &mut seats, receivers, workers);
+            let seat = seats.remove(0);
+            let desk = new_desk(alloc, options.workers, seat, senders, block, class);
+            Ok(Opened {
+                pool,
+                queues,
+                workers,
+                desk,
+                seats,
+                told,
+            })
+        }
+        Err(AllocError) => {
+            workers.destroy_empty();
+            Err(AllocError)
+        }
+    }
+}
+
+// So many queues.
+fn new_lines(alloc: Global, count: usize) -> Result<Lines, AllocError>
+    ensures { IfOk result (λ l.
+        AreLines count l.queues.items l.senders.items l.receivers.items) }
+{
+    let mut queues = Vec::with_capacity(alloc, count)?;
+    let mut senders = Vec::with_capacity(alloc, count)?;
+    let mut receivers = Vec::with_capacity(alloc, count)?;
+    for _ in 0..count {
+        let (queue, sender, receiver) = new_queue(alloc)?;
+        queues.push_reserved(queue);
+        senders.push_reserved(sender);
+        receivers.push_reserved(receiver);
+    }
+    Ok(Lines {
+        queues,
+        senders,
+        receivers,
+    })
+}
+
+// The class of a block.
+fn class_for(alloc: Global, block: u32) -> Result<u32, AllocError>
+    requires { block ≤ 65536 }
+    ensures { IfOk result (λ class. class_of (of_pages ORDER DEFAULT_PAGE) block ≡ Some class) }
+{
+    let sizes = SizeClasses::new(alloc, ORDER, DEFAULT_PAGE)?;
+    let Some(class) = sizes.class_of(block) else {
+        unreachable!()
+    };
+    Ok(class)
+}
+
+// One lane for each worker, and one for the cutter.
+fn layout_for(lanes: u32) -> Layout
+    ensures { result ≡ layout_of lanes }
+{
+    Layout {
+        shape: Shape {
+            page: DEFAULT_PAGE,
+            order: ORDER,
+            arenas: 2,
+            chunks: 4,
+            handles: 4096,
+            lanes,
+            level: Level::Disabled,
+            interval: 128,
+        },
+        moves: MOST_SLICES,
+        turns: SEAT_TURNS,
+    }
+}
+
+// The cutter's lane, which is behind those of the workers, posts to each of them.
+fn mail_for(workers: usize) -> [u32; 256]
+    requires { workers < MOST_LANES }
+    ensures { (to : ℕ) → to < workers →
+        slice_index result (workers * (workers + 1) + to) ≡ MOST_SLICES }
+{
+    let mut mail = [0u32; MOST_LANES * MOST_LANES];
+    let own = workers * (workers + 1);
+    for to in 0..workers {
+        mail[own + to] = MOST_SLICES;
+    }
+    mail
+}
+
+// A pool for so many workers and the cutter.
+fn new_pool(alloc: Global, workers: u32) -> Result<(SharedPool, Vec<PoolSeat>), AllocError>
+    requires { (1 ≤ workers) × (workers ≤ 15) }
+    ensures { IfOk result (λ o. IsNewPool workers o.0 o.1.items) }
+{
+    let lanes = workers + 1;
+    let mail = mail_for(workers as usize);
+    let used = (lanes * lanes) as usize;
+    let (pool, seats) = SharedPool::new(alloc, layout_for(lanes), &mail[..used])?;
+    Ok((pool, seats))
+}
+
+// The workers, each with the seat of its number and its end of its queue.
+fn hire(
+    alloc: Global,
+    count: u32,
+    seats: &mut Vec<PoolSeat>,
+    mut receivers: Vec<JobEnd>,
+    mut workers: Vec<Worker>,
+) -> Vec<Worker>
+    requires seats { count ≤ vec_len seats.old }
+    requires receivers { vec_len receivers ≡ count }
+    requires workers { (workers.items ≡ []) × (count ≤ vec_capacity workers) }
+    ensures hired { AreHired count seats.old.items receivers.items count result.items }
+    ensures left { seats.new.items ≡ drop count seats.old.items }
+    ensures room { vec_capacity seats.new ≡ vec_capacity seats.old }
+{
+    for number in 0..count {
+        let seat = seats.remove(0);
+        let jobs = receivers.remove(0);
+        workers.push_reserved(new_worker(alloc, count, number, seat, jobs));
+    }
+    workers
+}
+
+// A worker that has nothing to do yet.
+fn new_worker(alloc: Global, cutter: u32, number: u32, seat: PoolSeat, jobs: JobEnd) -> Worker
+    ensures { IsNewWorker cutter number seat jobs result }
+{
+    Worker {
+        seat,
+        number,
+        cutter,
+        jobs,
+        turns: SEAT_TURNS,
+        hashes: Vec::new(alloc),
+        work: Work::Idle,
+    }
+}
+
+// A cutter that has read nothing yet.
+fn new_desk(
+    alloc: Global,
+    workers: u32,
+    seat: PoolSeat,
+    ends: Vec<JobEnd>,
+    block: Vec<u8>,
+    class: u32,
+) -> Desk
+    ensures { IsNewDesk workers seat ends.items block.items class result }
+{
+    Desk {
+        seat,
+        workers,
+        ends,
+        slicer: Slicer::new(),
+        block,
+        filled: 0,
+        last: false,
+        class,
+        turns: SEAT_TURNS,
+        moves: MOST_SLICES,
+        frames: 0,
+        slices: Vec::new(alloc),
+        stage: Stage::Filling,
+        verdict: Verdict::Whole,
+    }
+}
