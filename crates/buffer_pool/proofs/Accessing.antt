@@ -1,5 +1,5 @@
 -- A thread that accessed the bytes of a root, or found another at it.
-use Rattle.std.proofs.Common.{◌≡◌, ℕ, ◌-◌, ◌<◌, ◌≤◌, false, refl, ap, ◌∙◌, subst, arith}
+use Rattle.std.proofs.Common.{◌≡◌, ℕ, ◌-◌, ◌≤◌, false, refl, ap, ◌∙◌, subst, arith}
 use Rattle.pool_law.specs.declared.id.RootId.{RootId}
 use Rattle.pool_law.specs.declared.note.Did.{Did}
 use Rattle.pool_law.specs.declared.note.Held.{Held}
@@ -12,16 +12,18 @@ use Rattle.shared_pool.specs.RootNotes.{access}
 use Rattle.shared_pool.specs.SeatViews.{view_of}
 use Rattle.shared_pool.specs.Seats.{FoundBusy, IsNoted, IsPoolSeat}
 use Rattle.seat_work.specs.Changes.{Changes, no_change}
-use Rattle.seat_work.specs.Hands.{empty_hand}
 use Rattle.seat_work.specs.Works.{Proceeds}
-use Rattle.seat_work.proofs.Accesses.{IsQuiet, accessed, noted_same}
+use Rattle.seat_work.proofs.Accesses.{noted_same}
+use Rattle.seat_tries.proofs.Carrying.{IsAccess, accesses}
 use Rattle.buffer_pool.specs.declared.account.Account.{Account}
 use Rattle.buffer_pool.specs.declared.member.Member.{Member}
 use Rattle.buffer_pool.specs.Counting.{counted, known}
+use Rattle.buffer_pool.specs.Pendings.{hand_of}
 use Rattle.buffer_pool.specs.Threads.{Does, IsThread}
 use Rattle.buffer_pool.specs.Tries.{HasAccessed, StaysOut}
-use Rattle.buffer_pool.proofs.Keeping.{has_count, kept_on, may_work, spends_none, still_thread, tells_known}
+use Rattle.buffer_pool.proofs.Keeping.{kept_on, may_work, spends_none, still_thread, tells_known}
 use Rattle.buffer_pool.proofs.Letters.{noted_letters}
+use Rattle.buffer_pool.proofs.Pendings.{pending_stays}
 
 -- the thread with another seat, after so many turns
 abbrev pub after_turns : ℕ → Member → PoolSeat → Member
@@ -35,7 +37,7 @@ pub record Waits (pool : SharedPool) (old mid : Member) : Type 0 where
   pub rest : mid ≡ record old { seat = mid.seat }
 
 module _ (pool : SharedPool) (old : Member) (is : IsThread pool old) (le : 1 ≤ old.account.turns) where
-  accessed_once : (new : PoolSeat) → Proceeds pool empty_hand 1 0 no_change old.seat new → (root : RootId)
+  accessed_once : (new : PoolSeat) → Proceeds pool (hand_of old.pending) 1 0 no_change old.seat new → (root : RootId)
       (number : ℕ) (n : Noted) → IsNoted pool old.seat new (Root root.place) number n
       → Does pool 1 no_change old (after_turns 1 old new)
   accessed_once new did root number n noted =
@@ -45,17 +47,18 @@ module _ (pool : SharedPool) (old : Member) (is : IsThread pool old) (le : 1 ≤
       kept_on pool no_change 1 0 1 old after is did.goes did.changes spends
       (tells_known pool no_change 1 0 1 old after is did.goes did.changes spends (λ root. omega arith))
       (omega arith) (let a = did.goes.moves_left in let b = is.works.moves_left in omega (arith, a, b))
+      (pending_stays pool old.pending old.seat new did.sends.setting is.pending)
       (noted_letters pool old.seat new root number n noted) refl
 
-  pub has_accessed : (root : RootId) (new : PoolSeat) (number : ℕ) (did : Did) → 0 < counted old.account.counts root
-      → IsPoolSeat pool new → IsQuiet root number (view_of old.seat).own.number did
-      → IsNoted pool old.seat new (Root root.place) number (access root did)
+  pub has_accessed : (root : RootId) (new : PoolSeat) (number : ℕ) (did : Did) → IsPoolSeat pool new
+      → IsAccess did → IsNoted pool old.seat new (Root root.place) number (access root did)
       → HasAccessed pool root did old (after_turns 1 old new)
-  has_accessed root new number did counts seat quiet noted =
-      let it = accessed pool old.seat old.seat new root number did is.works.seat refl seat
-      (may_work pool old is 1 0 le (omega arith)) (has_count pool old is root counts) quiet noted in
+  has_accessed root new number did seat is_access noted =
       record {
-        does = accessed_once new it.proceeds root number _ noted;
+        does =
+            accessed_once new
+            (accesses pool (hand_of old.pending) old.seat new seat root number did
+            (may_work pool old is 1 0 le (omega arith)) is_access noted) root number _ noted;
         moves = refl;
         number = number;
         noted = noted;

@@ -22,9 +22,12 @@ use Rattle.seat_work.specs.Works.{Works, Goes}
 use Rattle.seat_work.proofs.Proceeding.{works_same}
 use Rattle.buffer_pool.specs.declared.account.Account.{Account}
 use Rattle.buffer_pool.specs.declared.member.Member.{Member}
+use Rattle.buffer_pool.specs.declared.pending.Pending.{Pending}
 use Rattle.buffer_pool.specs.Counting.{counted, known, told}
-use Rattle.buffer_pool.specs.Threads.{Does, HasChanged, IsThread}
+use Rattle.buffer_pool.specs.Pendings.{hand_of, nothing, owed, IsPending}
+use Rattle.buffer_pool.specs.Threads.{Does, HasChanged, IsSettled, IsThread}
 use Rattle.buffer_pool.proofs.Letters.{KeepsLetters}
+use Rattle.buffer_pool.proofs.Pendings.{pending_stays}
 
 -- the account took so many turns, and counts what changed, each count for a turn at least
 pub record Spends (c : Change) (cost : ℕ) (a b : Account) : Type 0 where
@@ -113,7 +116,8 @@ module _ (c : Change) (cost : ℕ) (a b : Account) (lane : b.lane ≡ a.lane) (t
 -- ---- What threads keep.
 
 module _ (pool : SharedPool) (c : Change) (t m cost : ℕ) (old new : Member) (is : IsThread pool old)
-    (goes : Goes pool empty_hand t m old.seat new.seat) (changes : Changes c (view_of old.seat) (view_of new.seat))
+    (goes : Goes pool (hand_of new.pending) t m old.seat new.seat)
+    (changes : Changes c (view_of old.seat) (view_of new.seat))
     (spends : Spends c cost old.account new.account) where
   abbrev a : Account
   a = old.account
@@ -146,7 +150,8 @@ module _ (pool : SharedPool) (c : Change) (t m cost : ℕ) (old new : Member) (i
       let p = is.counts root in let q = spends.counts root in let r = changes.counts root in omega (arith, p, q, r)
 
   module _ (knows : (root : RootId) → told b.counts root ≤ knows_of root (view_of new.seat))
-      (enough : t ≤ cost) (moves : b.moves ≤ (view_of new.seat).moves) where
+      (enough : t + owed new.pending ≤ cost + owed old.pending) (moves : b.moves ≤ (view_of new.seat).moves)
+      (pending : IsPending pool new.seat new.pending) where
     thread : ((to : ℕ) → sent_on a.lane to (view_of new.seat).own.notes
         ≤ cost + sent_on a.lane to (view_of old.seat).own.notes)
         → ((from : ℕ) → from < pool.table.layout.shape.lanes →
@@ -162,6 +167,7 @@ module _ (pool : SharedPool) (c : Change) (t m cost : ℕ) (old new : Member) (i
             omega (arith, p, q, r, enough));
         moves_left = moves;
       };
+      pending = pending;
       number = goes.number ∙ is.number ∙ ap (λ (n : ℕ). Some n) (sym spends.lane);
       counts = still_counts;
       knows = knows;
@@ -196,12 +202,36 @@ module _ (pool : SharedPool) (c : Change) (t m cost : ℕ) (old new : Member) (i
         ap (λ v. slice_get v.items from) same ∙ is.received from lt
         ∙ ap (λ (n : ℕ). Some n) (sym (letters.received from a.lane)))
 
+-- the same where there was nothing to put away, and still isn't
+module _ (pool : SharedPool) (c : Change) (t m cost : ℕ) (old new : Member) (is : IsThread pool old)
+    (settled : IsSettled old) (same : new.pending ≡ old.pending) (goes : Goes pool empty_hand t m old.seat new.seat)
+    (changes : Changes c (view_of old.seat) (view_of new.seat)) (spends : Spends c cost old.account new.account) where
+  none : nothing ≡ new.pending
+  none = sym (same ∙ settled)
+
+  goes_so : Goes pool (hand_of new.pending) t m old.seat new.seat
+  goes_so = subst (λ (p : Pending). Goes pool (hand_of p) t m old.seat new.seat) none goes
+
+  pub tells_settled : ((root : RootId) → told new.account.counts root ≤ told old.account.counts root)
+      → (root : RootId) → told new.account.counts root ≤ knows_of root (view_of new.seat)
+  tells_settled = tells_known pool c t m cost old new is goes_so changes spends
+
+  pub settled_on : ((root : RootId) → told new.account.counts root ≤ knows_of root (view_of new.seat)) → t ≤ cost
+      → new.account.moves ≤ (view_of new.seat).moves → KeepsLetters old.seat new.seat
+      → new.account.received ≡ old.account.received → Does pool cost c old new
+  settled_on knows enough moves =
+      kept_on pool c t m cost old new is goes_so changes spends knows
+      (let a = ap owed same in omega (arith, a, enough)) moves (subst (IsPending pool new.seat) none tt)
+
 module _ (pool : SharedPool) (m : Member) (is : IsThread pool m) where
   -- it is a thread still where its seat knows what it knew
   pub still_thread : (mid : PoolSeat) → IsPoolSeat pool mid → view_of mid ≡ view_of m.seat
       → IsThread pool (record m { seat = mid })
   still_thread mid seat same = record {
-    works = works_same pool empty_hand m.account.turns m.account.moves m.seat mid seat same is.works;
+    works =
+        works_same pool (hand_of m.pending) (m.account.turns + owed m.pending) m.account.moves m.seat mid seat same
+        is.works;
+    pending = pending_stays pool m.pending m.seat mid (ap (λ (v : SeatView). v.setting) same) is.pending;
     number = ap (λ (v : SeatView). v.own.number) same ∙ is.number;
     counts =
         λ root.
@@ -221,13 +251,27 @@ module _ (pool : SharedPool) (m : Member) (is : IsThread pool m) where
   }
 
   -- it may work for less than it has left
-  pub may_work : (t n : ℕ) → t ≤ m.account.turns → n ≤ m.account.moves → Works pool empty_hand t n m.seat
+  pub may_work : (t n : ℕ) → t ≤ m.account.turns → n ≤ m.account.moves → Works pool (hand_of m.pending) t n m.seat
   may_work t n le lf = record {
     seat = is.works.seat;
     held = is.works.held;
     paid = is.works.paid;
     turns_left = (let a = is.works.turns_left in omega (arith, a, le));
     moves_left = (let a = is.works.moves_left in omega (arith, a, lf));
+  }
+
+  -- a thread that has nothing to put away has nothing in hand
+  pub may_begin : (t n : ℕ) → IsSettled m → t ≤ m.account.turns → n ≤ m.account.moves → Works pool empty_hand t n m.seat
+  may_begin t n settled le lf = subst (λ (p : Pending). Works pool (hand_of p) t n m.seat) settled (may_work t n le lf)
+
+  -- it may go on with what it has to put away
+  pub may_finish : Works pool (hand_of m.pending) (owed m.pending) 0 m.seat
+  may_finish = record {
+    seat = is.works.seat;
+    held = is.works.held;
+    paid = is.works.paid;
+    turns_left = (let a = is.works.turns_left in omega (arith, a));
+    moves_left = omega arith;
   }
 
   -- a root is counted exactly where the account says so

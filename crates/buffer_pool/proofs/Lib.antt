@@ -1,11 +1,14 @@
 mod CountLaws
 mod ToldLaws
 pub mod Letters
+pub mod Pendings
 pub mod Keeping
 pub mod Budgets
 pub mod MoveLaws
-pub mod Looks
 pub mod Accessing
+pub mod Settling
+pub mod Asking
+pub mod Trims
 pub mod Named
 pub mod Passing
 pub mod Lists

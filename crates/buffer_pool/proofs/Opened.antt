@@ -20,6 +20,7 @@ use Rattle.seat_work.proofs.FirstSeats.{opened_works}
 use Rattle.seat_work.proofs.MailRooms.{room_at}
 use Rattle.buffer_pool.specs.declared.account.Account.{Account}
 use Rattle.buffer_pool.specs.Opening.{AreNew, ArePaired, IsNew}
+use Rattle.buffer_pool.specs.Pendings.{nothing}
 use Rattle.buffer_pool.specs.Threads.{HasOwnChannels, IsKept}
 use Rattle.buffer_pool.proofs.Lists.{slice_get_pushed}
 
@@ -41,11 +42,12 @@ module _ (v : SeatView) (own : v.own.notes ≡ []) (alone : v.others ≡ []) whe
 
 -- the account of a thread that did nothing is that of its first seat
 pub new_kept : (pool : SharedPool) (l : Layout) (k : ℕ) (a : Account) (s : PoolSeat) → pool.table.layout ≡ l
-    → l.turns ≤ 2 ^ 62 → IsNew l k a → IsOpened l pool k s → IsKept pool a s
+    → l.turns ≤ 2 ^ 62 → IsNew l k a → IsOpened l pool k s → IsKept pool nothing a s
 new_kept pool l k a s is le new opened = record {
   works =
-      opened_works pool l k a.turns a.moves s opened (let b = new.turns in omega (arith, b))
+      opened_works pool l k (a.turns + 0) a.moves s opened (let b = new.turns in omega (arith, b))
       (let b = new.moves in omega (arith, b));
+  pending = tt;
   number = opened.number ∙ ap (λ (n : ℕ). Some n) (sym new.lane_is);
   counts =
       λ root.
@@ -98,7 +100,7 @@ paired_rest pool (x ∷ xs) (y ∷ ys) paired = record {
 
 pub paired_first : (pool : SharedPool) (xs : List Account) (ys : List PoolSeat) → ArePaired pool xs ys
     → 0 < length ys → (a : Account) (s : PoolSeat) → a ≡ slice_index_or xs 0 a → s ≡ slice_index_or ys 0 s
-    → IsKept pool a s
+    → IsKept pool nothing a s
 paired_first pool xs [] paired some a s first_a first_s = absurd (omega (arith, some))
 paired_first pool [] (y ∷ ys) paired some a s first_a first_s = absurd (let b = paired.many in omega (arith, b))
 paired_first pool (x ∷ xs) (y ∷ ys) paired some a s first_a first_s =

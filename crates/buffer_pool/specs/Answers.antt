@@ -1,9 +1,11 @@
 -- What a refused allocation told, and its cause.
 use Rattle.std.specs.Prelude.{◌≡◌, ℕ, ◌<◌}
+use Rattle.shared_pool.specs.declared.seat.PoolSeat.{PoolSeat}
 use Rattle.shared_pool.specs.declared.pool.SharedPool.{SharedPool}
 use Rattle.seat_work.specs.declared.allocation.AllocNo.{AllocNo as WorkNo}
 use Rattle.seat_work.specs.declared.allocation.AllocNo.TheVariants as work
 use Rattle.seat_work.specs.Answers.{MeetsWorn}
+use Rattle.seat_work.specs.Works.{IsLater}
 use Rattle.seat_work.specs.Changes.{Change, no_change}
 use Rattle.buffer_pool.specs.declared.answers.AllocNo.{AllocNo}
 use Rattle.buffer_pool.specs.declared.answers.AllocNo.TheVariants.{TooLarge, Spent, NoHandle, Full, Worn}
@@ -25,6 +27,12 @@ alloc_turns NoHandle = 6
 alloc_turns Full = 6
 alloc_turns Worn = 6
 
+-- the seat put away what it had to, and then found the place of the handle that it took worn out
+pub record MetWorn (pool : SharedPool) (old new : PoolSeat) : Type 0 where
+  pub mid : PoolSeat
+  pub before : IsLater pool old mid
+  pub meets : MeetsWorn pool mid new
+
 -- for want of turns, and where it is too large, the thread is as it was; as worn out, it found the
 -- place of the handle that it took so
 abbrev pub HasCause : SharedPool → Member → Member → AllocNo → Type 0
@@ -32,10 +40,16 @@ HasCause pool old new TooLarge = new ≡ old
 HasCause pool old new Spent = (old.account.turns < 6) × (new ≡ old)
 HasCause pool old new NoHandle = Unit {0}
 HasCause pool old new Full = Unit {0}
-HasCause pool old new Worn = MeetsWorn pool old.seat new.seat
+HasCause pool old new Worn = MetWorn pool old.seat new.seat
 
 -- the answer to an allocation on the pool, as this crate's
 abbrev pub as_alloc : WorkNo → AllocNo
 as_alloc work.NoHandle = NoHandle
 as_alloc work.Full = Full
 as_alloc work.Worn = Worn
+
+-- the cause of a refusal as worn out, from before anything was put away
+abbrev pub MayBeWorn : SharedPool → PoolSeat → PoolSeat → WorkNo → Type 0
+MayBeWorn pool old new work.NoHandle = Unit {0}
+MayBeWorn pool old new work.Full = Unit {0}
+MayBeWorn pool old new work.Worn = MetWorn pool old new

@@ -1,5 +1,5 @@
 -- The threads with which a pool is closed.
-use Rattle.std.specs.Prelude.{◌≡◌, ℕ, List, length, map, Some, slice_get}
+use Rattle.std.specs.Prelude.{◌≡◌, ℕ, All, List, length, map, Some, slice_get}
 use Rattle.pool_table.specs.declared.views.Part.{Part}
 use Rattle.shared_pool.specs.declared.pool.SharedPool.{SharedPool}
 use Rattle.shared_pool.specs.SeatViews.{view_of}
@@ -7,6 +7,7 @@ use Rattle.buffer_pool.specs.declared.answers.CloseNo.{CloseNo}
 use Rattle.buffer_pool.specs.declared.answers.CloseNo.TheVariants as no
 use Rattle.buffer_pool.specs.declared.closing.Rest.{Rest}
 use Rattle.buffer_pool.specs.declared.member.Member.{Member}
+use Rattle.buffer_pool.specs.Threads.{IsSettled}
 
 -- the notes that each thread made
 abbrev pub parts_of : List Member → List Part
@@ -27,4 +28,5 @@ rest_of m = record { account = m.account; watcher = m.watcher }
 -- the cause of a refusal
 abbrev pub MayRefuse : SharedPool → List Member → CloseNo → Type 0
 MayRefuse pool members no.Threads = ¬ AreAll pool members
+MayRefuse pool members no.Unsettled = AreAll pool members × (¬ All IsSettled members)
 MayRefuse pool members no.Memory = Unit {0}

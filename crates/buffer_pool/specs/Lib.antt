@@ -1,10 +1,14 @@
 pub mod Counting
 pub mod Windows
+pub mod Pendings
 pub mod Threads
 pub mod Refusals
 pub mod Tries
 pub mod Answers
+pub mod Attempts
 pub mod Regrowths
+pub mod Growths
+pub mod Trims
 pub mod Configs
 pub mod Opening
 pub mod Closing

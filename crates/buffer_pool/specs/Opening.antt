@@ -6,6 +6,7 @@ use Rattle.shared_pool.specs.declared.pool.SharedPool.{SharedPool}
 use Rattle.shared_pool.specs.declared.seat.PoolSeat.{PoolSeat}
 use Rattle.buffer_pool.specs.declared.account.Account.{Account}
 use Rattle.buffer_pool.specs.Counting.{counted, told}
+use Rattle.buffer_pool.specs.Pendings.{nothing}
 use Rattle.buffer_pool.specs.Threads.{IsKept}
 
 -- the account of the thread of this number, which did nothing yet
@@ -28,4 +29,4 @@ pub record ArePaired (pool : SharedPool) (accounts : List Account) (seats : List
     Type 0 where
   pub many : length accounts ≡ length seats
   pub each : (k : ℕ) (a : Account) (s : PoolSeat) →
-      slice_get accounts k ≡ Some a → slice_get seats k ≡ Some s → IsKept pool a s
+      slice_get accounts k ≡ Some a → slice_get seats k ≡ Some s → IsKept pool nothing a s

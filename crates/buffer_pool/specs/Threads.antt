@@ -10,19 +10,21 @@ use Rattle.shared_pool.specs.declared.pool.SharedPool.{SharedPool}
 use Rattle.shared_pool.specs.declared.seat.PoolSeat.{PoolSeat}
 use Rattle.shared_pool.specs.MailAnswers.{HasOwnChannel}
 use Rattle.shared_pool.specs.SeatViews.{view_of}
-use Rattle.seat_work.specs.Changes.{Change, Changes, times}
-use Rattle.seat_work.specs.Hands.{empty_hand}
-use Rattle.seat_work.specs.Works.{Works}
+use Rattle.seat_work.specs.Changes.{Change, Changes, no_change, times}
+use Rattle.seat_work.specs.Works.{IsLater, Works}
 use Rattle.buffer_pool.specs.declared.account.Account.{Account}
 use Rattle.buffer_pool.specs.declared.member.Member.{Member}
+use Rattle.buffer_pool.specs.declared.pending.Pending.{Pending}
 use Rattle.buffer_pool.specs.Counting.{counted, known, told}
+use Rattle.buffer_pool.specs.Pendings.{hand_of, nothing, owed, IsPending}
 
--- the seat is one of the pool with nothing in hand, and the account is its own: so much is left at
--- least, each root is counted so often, no more is known of its capacity than the seat knows, and so
--- many letters came from each thread. No count and no number of letters passes 2^62, since each takes
--- a turn
-pub record IsKept (pool : SharedPool) (a : Account) (s : PoolSeat) : Type 0 where
-  pub works : Works pool empty_hand a.turns a.moves s
+-- the seat is one of the pool with just that in hand which it has still to put away, and the account
+-- is its own: so much is left at least beside what that takes, each root is counted so often, no more
+-- is known of its capacity than the seat knows, and so many letters came from each thread. No count
+-- and no number of letters passes 2^62, since each takes a turn
+pub record IsKept (pool : SharedPool) (p : Pending) (a : Account) (s : PoolSeat) : Type 0 where
+  pub works : Works pool (hand_of p) (a.turns + owed p) a.moves s
+  pub pending : IsPending pool s p
   pub number : (view_of s).own.number ≡ Some a.lane
   pub counts : (root : RootId) →
       counted a.counts root + lost_of root (view_of s) ≡ gained_of root (view_of s)
@@ -37,7 +39,11 @@ pub record IsKept (pool : SharedPool) (a : Account) (s : PoolSeat) : Type 0 wher
 
 -- it is a thread of the pool
 abbrev pub IsThread : SharedPool → Member → Type 0
-IsThread pool m = IsKept pool m.account m.seat
+IsThread pool m = IsKept pool m.pending m.account m.seat
+
+-- it has nothing to put away
+abbrev pub IsSettled : Member → Type 0
+IsSettled m = m.pending ≡ nothing
 
 -- all letters of the pool go by channels of its user
 abbrev pub HasOwnChannels : SharedPool → Type 0
@@ -76,3 +82,10 @@ pub record IsPoolOf
   pub sizes_are : sizes ≡ geometry_of pool.table.layout.shape
   pub threads_are : threads ≡ pool.table.layout.shape.lanes
   pub own : HasOwnChannels pool
+
+-- the same thread went on with what it had to put away, and nothing else of it changed
+pub record Settles (pool : SharedPool) (old new : Member) : Type 0 where
+  pub thread : IsThread pool new
+  pub later : IsLater pool old.seat new.seat
+  pub changes : Changes no_change (view_of old.seat) (view_of new.seat)
+  pub rest : new ≡ record old { seat = new.seat; pending = new.pending }

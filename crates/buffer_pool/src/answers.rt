@@ -36,7 +36,10 @@ pub enum AllocNo {
 /// Why a call on a buffer was refused. Nothing has changed then.
 #[derive(Clone, Copy, PartialEq, Eq, Debug, Drop)]
 pub enum AccessNo {
-    /// The buffer is another thread's, and came here by no parcel.
+    /// The buffer is another thread's. It comes where the number in the buffer isn't the thread's,
+    /// the thread doesn't count the buffer's root, or it knows of less of the root's capacity than
+    /// the buffer reaches up to. No buffer meets the last two that its thread got by these calls
+    /// and has not given away.
     NotHere,
     /// The range passes a bound of the buffer.
     Range,
@@ -48,7 +51,7 @@ pub enum AccessNo {
 /// were taken where the arena was full.
 #[derive(Clone, Copy, PartialEq, Eq, Debug, Drop)]
 pub enum CapacityNo {
-    /// The buffer is another thread's, and came here by no parcel.
+    /// The buffer is another thread's, as `AccessNo::NotHere` says it.
     NotHere,
     /// It is more than a chunk.
     TooLarge,
@@ -57,6 +60,32 @@ pub enum CapacityNo {
     /// The buffer's bytes lie in a region that does not hold so much, and the thread's arena has no
     /// region of that size left.
     Full,
+}
+
+/// Why a buffer did not get the capacity that was asked by a call that never waits.
+#[derive(Clone, Copy, PartialEq, Eq, Debug, Drop)]
+pub enum TryCapacityNo {
+    /// Another thread was just then at the buffer's bytes or at the thread's arena. Made again, it
+    /// may do its work.
+    Busy,
+    /// It was refused, as the call that waits would have been.
+    Refused(CapacityNo),
+}
+
+/// Why a thread did not give back all that its caches keep.
+#[derive(Clone, Copy, PartialEq, Eq, Debug, Drop)]
+pub enum TrimNo {
+    /// The thread has used up its turns.
+    Spent,
+}
+
+/// The same for a call that never waits.
+#[derive(Clone, Copy, PartialEq, Eq, Debug, Drop)]
+pub enum TryTrimNo {
+    /// Another thread was just then at one of the caches or at an arena. Made again, it goes on.
+    Busy,
+    /// The thread has used up its turns.
+    Spent,
 }
 
 /// Why a call that never waits did not do its work.
@@ -79,12 +108,22 @@ impl From<AccessNo> for TryNo {
     }
 }
 
+/// Why no buffer was allocated by a call that never waits.
+#[derive(Clone, Copy, PartialEq, Eq, Debug, Drop)]
+pub enum TryAllocNo {
+    /// Another thread was just then at the thread's handles or at its arena. Made again, it may do
+    /// its work.
+    Busy,
+    /// It was refused, as the call that waits would have been.
+    Refused(AllocNo),
+}
+
 /// Why a buffer was not parted with. Nothing has changed then.
 #[derive(Clone, Copy, PartialEq, Eq, Debug, Drop)]
 pub enum PartNo {
     /// There is no thread of that number.
     NoThread,
-    /// The buffer is another thread's, and came here by no parcel.
+    /// The buffer is another thread's, as `AccessNo::NotHere` says it.
     NotHere,
     /// The thread has used up its turns.
     Spent,
@@ -106,6 +145,8 @@ pub enum AcceptNo {
 pub enum CloseNo {
     /// These are not all its threads, in the order of their numbers.
     Threads,
+    /// One of them has something to put away, which a call that never waits began: it settles first.
+    Unsettled,
     /// There was no memory.
     Memory,
 }
@@ -122,6 +163,22 @@ impl<B: PoolName> Back<B> {
     /// Leaves the buffer behind.
     pub fn leave(self) {
         let Back { why: _, buffer } = self;
+        buffer.leave();
+    }
+}
+
+/// A buffer that comes back from a call that never waits, and is not released.
+pub struct TryBack<B: PoolName> {
+    /// Why.
+    pub why: TryNo,
+    /// The buffer as it was.
+    pub buffer: Buffer<B>,
+}
+
+impl<B: PoolName> TryBack<B> {
+    /// Leaves the buffer behind.
+    pub fn leave(self) {
+        let TryBack { why: _, buffer } = self;
         buffer.leave();
     }
 }

@@ -6,7 +6,7 @@ ghost use Rattle.pool_law.specs.Legal.{ends_from};
 ghost use Rattle.shared_pool.specs.Closing.{logs_in};
 ghost use Rattle.shared_pool.specs.Live.{AreLiveRoots};
 ghost use Rattle.buffer_pool.specs.Closing.{AreAll, AreAllOf, MayRefuse, parts_of, rest_of};
-ghost use Rattle.buffer_pool.specs.Threads.{IsThread};
+ghost use Rattle.buffer_pool.specs.Threads.{IsSettled, IsThread};
 
 use crate::account::Account;
 use crate::answers::{CloseNo, Closed};
@@ -16,6 +16,7 @@ use crate::pool::Pool;
 use crate::thread::PoolThread;
 use crate::threads::{members_of, threads_of};
 use crate::watcher::Watcher;
+use crate::work::settling::{is_nothing, nothing, spend};
 use shared_pool::{PoolSeat, SharedPool};
 use std::alloc::{AllocError, Global};
 use std::mem::ManuallyDrop;
@@ -169,6 +170,10 @@ fn close_all<W: Wait>(
         seats.destroy_empty();
         return Err((CloseNo::Threads, shared, members));
     }
+    if !are_settled(&members) {
+        seats.destroy_empty();
+        return Err((CloseNo::Unsettled, shared, members));
+    }
     let (seats, rests, members) = parted(members, seats, rests);
     match shared.close(rt, alloc, seats) {
         Ok(end) => {
@@ -200,12 +205,25 @@ fn are_all(lanes: u32, members: &[Member]) -> bool
     true
 }
 
+// Whether none of these threads has anything to put away.
+fn are_settled(members: &[Member]) -> bool
+    ensures { IsTrue result ↔ All IsSettled members.now }
+{
+    for member in members {
+        if !is_nothing(&member.pending) {
+            return false;
+        }
+    }
+    true
+}
+
 // The seats of these threads and the rest of each, and the list that had them, emptied.
 fn parted(
     mut members: Vec<Member>,
     mut seats: Vec<PoolSeat>,
     mut rests: Vec<Rest>,
 ) -> (Vec<PoolSeat>, Vec<Rest>, Vec<Member>)
+    requires settled { All IsSettled members.items }
     requires empty { (seats.items ≡ []) × (rests.items ≡ []) }
     requires room { (vec_len members ≤ vec_capacity seats)
         × (vec_len members ≤ vec_capacity rests) }
@@ -217,8 +235,10 @@ fn parted(
         let Member {
             seat,
             account,
+            pending,
             watcher,
         } = members.remove(0);
+        spend(pending);
         seats.push_reserved(seat);
         rests.push_reserved(Rest { account, watcher });
     }
@@ -230,6 +250,7 @@ fn joined(mut seats: Vec<PoolSeat>, mut rests: Vec<Rest>, mut members: Vec<Membe
     requires many { vec_len seats ≡ vec_len rests }
     requires empty { members.items ≡ [] }
     requires room { vec_len seats ≤ vec_capacity members }
+    ensures settled { All IsSettled result.items }
     ensures seats { map (λ m. m.seat) result.items ≡ seats.items }
     ensures rests { map rest_of result.items ≡ rests.items }
 {
@@ -239,6 +260,7 @@ fn joined(mut seats: Vec<PoolSeat>, mut rests: Vec<Rest>, mut members: Vec<Membe
         members.push_reserved(Member {
             seat,
             account,
+            pending: nothing(),
             watcher,
         });
     }

@@ -32,8 +32,9 @@ pub struct Config {
     /// How many more buffers each thread may have retained than it released, at most 2^30 - 1 for
     /// all threads together.
     pub moves: u32,
-    /// How many turns each thread has, at most 2^62 - 1 for all threads together. An allocation
-    /// takes 6 of them, a release 4, and any other call 1 or none. They take no memory.
+    /// How many turns each thread has, at most 2^62 - 1 for all threads together. An allocation and
+    /// an ask for capacity take 6 of them, a release 4, a trim 2 for each cache and each region that
+    /// goes back, and any other call 1 or none. They take no memory.
     pub turns: u64,
 }
 

@@ -13,6 +13,7 @@ mod member;
 mod name;
 mod opening;
 mod parcel;
+mod pending;
 mod pool;
 mod ranges;
 mod thread;
@@ -22,7 +23,7 @@ mod work;
 
 pub use answers::{
     AcceptNo, AccessNo, AllocNo, Back, CapacityNo, CloseNo, Closed, NotAccepted, OpenNo, PartNo,
-    TryNo, Unsent,
+    TrimNo, TryAllocNo, TryBack, TryCapacityNo, TryNo, TryTrimNo, Unsent,
 };
 pub use buffer::Buffer;
 pub use closing::NotClosed;

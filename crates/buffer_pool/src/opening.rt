@@ -16,6 +16,7 @@ use crate::pool::Pool;
 use crate::thread::PoolThread;
 use crate::threads::{abandon, threads_of};
 use crate::watcher::Watcher;
+use crate::work::settling::nothing;
 use pool_law::Shape;
 use pool_table::Layout;
 use shared_pool::{PoolSeat, SharedPool};
@@ -134,6 +135,7 @@ fn members_of(
         members.push_reserved(Member {
             seat,
             account,
+            pending: nothing(),
             watcher,
         });
     }

@@ -6,11 +6,14 @@ use crate::member::Member;
 use crate::name::PoolName;
 use std::marker::{Model, PhantomData};
 
+mod attempts;
 mod buffers;
 mod bytes;
 mod growth;
 mod parcels;
+mod settling;
 mod tries;
+mod trimming;
 
 /// A thread of a pool: only with it, and with the pool, are buffers used. It may go to any thread
 /// of the program, and must be given to the close. A contract sees its seat, with the notes that it

@@ -10,6 +10,7 @@ use pool_law::{Shape, Watch};
 pub struct Watcher {
     sampler: Sampler,
     births: u32,
+    kept: Option<Option<Watch>>,
     ghost same: { sampler.births ≡ births },
 }
 
@@ -23,15 +24,25 @@ impl Watcher {
         Watcher {
             sampler: Sampler::new(lane, shape.level, shape.interval),
             births: 0,
+            kept: None,
         }
     }
 
     /// The watch of the next allocation, if it is watched.
     pub(crate) fn next(&mut self) -> Option<Watch> {
+        if let Some(watch) = self.kept {
+            self.kept = None;
+            return watch;
+        }
         if self.births == u32::MAX {
             return None;
         }
         self.births += 1;
         self.sampler.next()
+    }
+
+    /// The next allocation has this watch, which one that was not made was given.
+    pub(crate) fn keep(&mut self, watch: Option<Watch>) {
+        self.kept = Some(watch);
     }
 }

@@ -2,6 +2,9 @@
 
 pub(crate) mod access;
 pub(crate) mod allocation;
+pub(crate) mod attempted;
 pub(crate) mod counting;
 pub(crate) mod growth;
 pub(crate) mod passing;
+pub(crate) mod settling;
+pub(crate) mod trimming;

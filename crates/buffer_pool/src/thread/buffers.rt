@@ -27,9 +27,9 @@ use std::marker::PhantomData;
 use std::sync::Wait;
 
 /// How many turns an allocation takes, and a release.
-const ALLOC_TURNS: u64 = 6;
+pub(crate) const ALLOC_TURNS: u64 = 6;
 
-const RELEASE_TURNS: u64 = 4;
+pub(crate) const RELEASE_TURNS: u64 = 4;
 
 impl<B: PoolName> PoolThread<B> {
     /// A new buffer of so many bytes, all 0, of which none is written yet. The thread counts it

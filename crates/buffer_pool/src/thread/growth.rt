@@ -5,15 +5,17 @@ ghost use Rattle.pool_law.specs.Limits.{geometry_of};
 ghost use Rattle.pool_law.specs.Views.{reaching, LiesIn};
 ghost use Rattle.seat_work.specs.Changes.{no_change};
 ghost use Rattle.seat_work.specs.Regrowths.{IsTold};
+ghost use Rattle.buffer_pool.specs.Growths.{IsTriedBy, LeavesAsked};
 ghost use Rattle.buffer_pool.specs.Refusals.{is_here};
 ghost use Rattle.buffer_pool.specs.Regrowths.{capacity_no, IsRefusedBy, LeavesThread};
 ghost use Rattle.buffer_pool.specs.Threads.{HasChanged};
 
-use crate::answers::CapacityNo;
+use crate::answers::{CapacityNo, TryCapacityNo};
 use crate::buffer::Buffer;
 use crate::name::PoolName;
 use crate::pool::Pool;
 use crate::thread::PoolThread;
+use crate::work::attempted::AskNo;
 use crate::work::growth;
 use seat_work::GrowNo;
 use std::sync::Wait;
@@ -66,6 +68,50 @@ impl<B: PoolName> PoolThread<B> {
                 Ok(bytes)
             }
             Err(GrowNo::Full) => Err(CapacityNo::Full),
+        }
+    }
+
+    /// Tries the same once. It is busy where another thread is at the buffer's bytes or at this
+    /// one's arena, or in the way of what is still to be put away: then the buffer and the counts
+    /// are as they were, and turns have been taken. What it has in hand by then it puts away, or
+    /// keeps, to go on with later.
+    pub fn try_capacity(
+        &mut self,
+        pool: &Pool<B>,
+        buffer: &mut Buffer<B>,
+        size: u32,
+    ) -> Result<u32, TryCapacityNo>
+        ensures answers { let g = geometry_of pool.now.table.layout.shape in
+            let no = capacity_no g self.old.account buffer.old size in
+            MatchResult result (λ _. no ≡ None) (IsTriedBy no) }
+        ensures grown { IfOk result (λ bytes. (size ≤ bytes) × LiesIn bytes buffer.old.at
+            × (buffer.new ≡ record buffer.old { at = reaching bytes buffer.old.at })) }
+        ensures told { IfOk result (λ bytes.
+            IsTold pool.now buffer.old.at.root bytes self.old.seat self.new.seat) }
+        ensures changed { OnOk result (HasChanged 6 no_change self.old self.new) }
+        ensures here { OnOk result (IsTrue (is_here self.new.account buffer.new)) }
+        ensures moves { self.new.account.moves ≡ self.old.account.moves }
+        ensures left { IfErr result
+            (LeavesAsked pool.now buffer.old.at.root self.old self.new) }
+        ensures unchanged { OnErr result (buffer.new ≡ buffer.old) }
+    {
+        if !self.member.account.is_here(&*buffer) {
+            return Err(TryCapacityNo::Refused(CapacityNo::NotHere));
+        }
+        let Some(class) = pool.sizes.class_of(size) else {
+            return Err(TryCapacityNo::Refused(CapacityNo::TooLarge));
+        };
+        if self.member.account.turns < CAPACITY_TURNS {
+            return Err(TryCapacityNo::Refused(CapacityNo::Spent));
+        }
+        let root = buffer.view.at.root;
+        match growth::try_grow(&pool.shared, &mut self.member, root, size, class) {
+            Ok(capacity) => {
+                buffer.view.reach(capacity);
+                Ok(capacity)
+            }
+            Err(AskNo::Busy) => Err(TryCapacityNo::Busy),
+            Err(AskNo::Full) => Err(TryCapacityNo::Refused(CapacityNo::Full)),
         }
     }
 }

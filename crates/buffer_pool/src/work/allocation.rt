@@ -6,9 +6,14 @@ ghost use Rattle.pool_law.specs.Limits.{geometry_of};
 ghost use Rattle.seat_work.specs.Answers.{allocated, IsWorn};
 ghost use Rattle.seat_work.specs.Works.{HasBorn};
 ghost use Rattle.buffer_pool.specs.Counting.{counted};
-ghost use Rattle.buffer_pool.specs.Threads.{Does, IsThread};
+ghost use Rattle.seat_tries.specs.Allocations as tries;
+ghost use Rattle.buffer_pool.specs.Answers.{MayBeWorn};
+ghost use Rattle.buffer_pool.specs.Attempts.{HasSeatCause};
+ghost use Rattle.buffer_pool.specs.Threads.{Does, IsSettled, IsThread};
 
 use crate::member::Member;
+use crate::pending::Pending;
+use crate::work::settling::{keep, settle, try_settle};
 use pool_law::{RootId, Watch};
 use seat_work::AllocNo;
 use shared_pool::SharedPool;
@@ -32,10 +37,90 @@ pub(crate) fn allocate<W: Wait>(
     ensures does { Does pool.now 6 (allocated result) member.old member.new }
     ensures moves { member.new.account.moves ≡ member.old.account.moves }
     ensures born { IfOk result (λ root. HasBorn pool.now root member.old.seat member.new.seat) }
+    ensures worn { IfErr result (MayBeWorn pool.now member.old.seat member.new.seat) }
+{
+    settle(rt, pool, member);
+    allocate_settled(rt, pool, member, size, class, watch)
+}
+
+// The same of a thread that has nothing to put away.
+fn allocate_settled<W: Wait>(
+    rt: &W,
+    pool: &SharedPool,
+    member: &mut Member,
+    size: u32,
+    class: u32,
+    watch: Option<Watch>,
+) -> Result<RootId, AllocNo>
+    requires thread { IsThread pool.now member.old }
+    requires settled { IsSettled member.old }
+    requires turns { 6 ≤ member.old.account.turns }
+    requires class { class_of (geometry_of pool.now.table.layout.shape) size ≡ Some class }
+    ensures root { IfOk result (λ root. root.capacity ≡ size) }
+    ensures counts { IfOk result (λ root. 0 < counted member.new.account.counts root) }
+    ensures does { Does pool.now 6 (allocated result) member.old member.new }
+    ensures moves { member.new.account.moves ≡ member.old.account.moves }
+    ensures born { IfOk result (λ root. HasBorn pool.now root member.old.seat member.new.seat) }
     ensures worn { IfErr result (IsWorn pool.now member.old.seat member.new.seat) }
 {
     member.account.turns -= 6;
     match seat_work::allocate(rt, pool, &mut member.seat, size, class, watch) {
+        Ok(root) => {
+            member.account.counts.add(root);
+            Ok(root)
+        }
+        Err(no) => Err(no),
+    }
+}
+
+/// The same in one try. What was begun of it, and what could not be put away before it, is kept.
+pub(crate) fn try_allocate(
+    pool: &SharedPool,
+    member: &mut Member,
+    size: u32,
+    class: u32,
+    watch: Option<Watch>,
+) -> Result<RootId, seat_tries::AllocNo>
+    requires thread { IsThread pool.now member.old }
+    requires turns { 6 ≤ member.old.account.turns }
+    requires class { class_of (geometry_of pool.now.table.layout.shape) size ≡ Some class }
+    ensures root { IfOk result (λ root. root.capacity ≡ size) }
+    ensures counts { IfOk result (λ root. 0 < counted member.new.account.counts root) }
+    ensures does { Does pool.now 6 (tries.allocated result) member.old member.new }
+    ensures moves { member.new.account.moves ≡ member.old.account.moves }
+    ensures born { IfOk result (λ root. HasBorn pool.now root member.old.seat member.new.seat) }
+    ensures cause { IfErr result (HasSeatCause pool.now member.old.seat member.new.seat) }
+{
+    if try_settle(pool, member) {
+        return try_allocate_settled(pool, member, size, class, watch);
+    }
+    member.account.turns -= 6;
+    Err(seat_tries::AllocNo::Busy)
+}
+
+// The same of a thread that has nothing to put away.
+fn try_allocate_settled(
+    pool: &SharedPool,
+    member: &mut Member,
+    size: u32,
+    class: u32,
+    watch: Option<Watch>,
+) -> Result<RootId, seat_tries::AllocNo>
+    requires thread { IsThread pool.now member.old }
+    requires settled { IsSettled member.old }
+    requires turns { 6 ≤ member.old.account.turns }
+    requires class { class_of (geometry_of pool.now.table.layout.shape) size ≡ Some class }
+    ensures root { IfOk result (λ root. root.capacity ≡ size) }
+    ensures counts { IfOk result (λ root. 0 < counted member.new.account.counts root) }
+    ensures does { Does pool.now 6 (tries.allocated result) member.old member.new }
+    ensures moves { member.new.account.moves ≡ member.old.account.moves }
+    ensures born { IfOk result (λ root. HasBorn pool.now root member.old.seat member.new.seat) }
+    ensures cause { IfErr result (tries.HasCause pool.now member.old.seat member.new.seat) }
+{
+    member.account.turns -= 6;
+    let (answer, left) = seat_tries::allocate(pool, &mut member.seat, size, class, watch);
+    keep(&mut member.pending, Pending::Tried(left));
+    match answer {
         Ok(root) => {
             member.account.counts.add(root);
             Ok(root)

@@ -1,14 +1,17 @@
 //! How a thread counts a root once more and once less, and how often all threads count it.
 
-ghost use Rattle.std.specs.Prelude.{◌≡◌, ◌+◌, ◌<◌, ◌≤◌};
+ghost use Rattle.std.specs.Prelude.{◌≡◌, ◌+◌, ◌<◌, ◌≤◌, IfSome, IfNone};
 ghost use Rattle.pool_law.specs.declared.note.RefDid.TheVariants.{Look};
 ghost use Rattle.pool_table.specs.Counts.{with_ref};
 ghost use Rattle.shared_pool.specs.SeatViews.{HasView, view_of};
 ghost use Rattle.seat_work.specs.Changes.{no_change, once_less, once_more};
+ghost use Rattle.seat_tries.specs.Leaving.{MeetsOther};
 ghost use Rattle.buffer_pool.specs.Counting.{counted};
-ghost use Rattle.buffer_pool.specs.Threads.{Does, IsThread, moves_after};
+ghost use Rattle.buffer_pool.specs.Threads.{Does, IsSettled, IsThread, moves_after, Settles};
 
 use crate::member::Member;
+use crate::pending::Pending;
+use crate::work::settling::{keep, settle, try_settle};
 use pool_law::RootId;
 use shared_pool::SharedPool;
 use std::sync::Wait;
@@ -27,7 +30,7 @@ pub(crate) fn retain(pool: &SharedPool, member: &mut Member, root: RootId)
 {
     member.account.turns -= 1;
     member.account.moves -= 1;
-    seat_work::retain(pool, &mut member.seat, root);
+    pool.retain(&mut member.seat, root);
     member.account.counts.add(root);
 }
 
@@ -40,10 +43,60 @@ pub(crate) fn release<W: Wait>(rt: &W, pool: &SharedPool, member: &mut Member, r
     ensures does { Does pool.now 4 (once_less root result) member.old member.new }
     ensures moves { member.new.account.moves ≡ moves_after result member.old.account.moves }
 {
+    settle(rt, pool, member);
+    release_settled(rt, pool, member, root)
+}
+
+// The same of a thread that has nothing to put away.
+fn release_settled<W: Wait>(rt: &W, pool: &SharedPool, member: &mut Member, root: RootId) -> bool
+    requires thread { IsThread pool.now member.old }
+    requires settled { IsSettled member.old }
+    requires counts { 0 < counted member.old.account.counts root }
+    requires turns { 4 ≤ member.old.account.turns }
+    ensures does { Does pool.now 4 (once_less root result) member.old member.new }
+    ensures moves { member.new.account.moves ≡ moves_after result member.old.account.moves }
+{
     member.account.turns -= 4;
     let last = seat_work::release(rt, pool, &mut member.seat, root);
     member.account.counts.take(root);
     member.account.moves = moves_after(last, member.account.moves);
+    last
+}
+
+/// The same in one try. None where the thread has something to put away that it could not; where
+/// the root ended, something may be left.
+pub(crate) fn try_release(pool: &SharedPool, member: &mut Member, root: RootId) -> Option<bool>
+    requires thread { IsThread pool.now member.old }
+    requires counts { 0 < counted member.old.account.counts root }
+    requires turns { 4 ≤ member.old.account.turns }
+    ensures does { IfSome result (λ last.
+        Does pool.now 4 (once_less root last) member.old member.new) }
+    ensures moves { IfSome result (λ last.
+        member.new.account.moves ≡ moves_after last member.old.account.moves) }
+    ensures settles { IfNone result (Settles pool.now member.old member.new) }
+    ensures cause { IfNone result (MeetsOther pool.now member.old.seat member.new.seat) }
+{
+    if try_settle(pool, member) {
+        Some(try_release_settled(pool, member, root))
+    } else {
+        None
+    }
+}
+
+// The thread, which has nothing to put away, counts the root once less.
+fn try_release_settled(pool: &SharedPool, member: &mut Member, root: RootId) -> bool
+    requires thread { IsThread pool.now member.old }
+    requires settled { IsSettled member.old }
+    requires counts { 0 < counted member.old.account.counts root }
+    requires turns { 4 ≤ member.old.account.turns }
+    ensures does { Does pool.now 4 (once_less root result) member.old member.new }
+    ensures moves { member.new.account.moves ≡ moves_after result member.old.account.moves }
+{
+    member.account.turns -= 4;
+    let (last, left) = seat_tries::release(pool, &mut member.seat, root);
+    member.account.counts.take(root);
+    member.account.moves = moves_after(last, member.account.moves);
+    keep(&mut member.pending, Pending::Tried(left));
     last
 }
 

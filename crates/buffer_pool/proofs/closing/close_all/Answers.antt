@@ -1,21 +1,24 @@
 use Rattle.std.proofs.Common.{◌≡◌, map, sym, ap, ◌∙◌, subst, arith, rules}
 use Rattle.std.proofs.lemmas.Grind.{common_steps}
+use Rattle.std.specs.Prelude.{All}
 use Rattle.size_classes.specs.Sizes.{below}
 use Rattle.pool_law.specs.Legal.{ends_from}
 use Rattle.shared_pool.specs.Closing.{logs_in}
 use Rattle.shared_pool.specs.Live.{AreLiveRoots}
 use Rattle.shared_pool.specs.Seated.{AreDone, parts_in}
 use Rattle.buffer_pool.specs.Closing.{AreAll, parts_of}
+use Rattle.buffer_pool.specs.Threads.{IsSettled}
 use Rattle.buffer_pool.proofs.Ended.{all_done, members_same, parts_same, seat_of}
 use Rattle.buffer_pool.proofs.closing.close_all.Goals as goal
 
 pub close-requires : goal.close-requires
 close-requires g c =
     let all : AreAll c.args.shared c.args.members.items = first_of (search rules, grind (arith, common_steps)) in
+    let settled : All IsSettled c.args.members.items = first_of (search rules, grind (arith, common_steps)) in
     record {
       seats =
           subst (AreDone c.args.shared) (sym c.parted-seats.ensures.seats)
-          (all_done c.args.shared c.args.members.items c.requires.members all);
+          (all_done c.args.shared c.args.members.items c.requires.members all settled);
     }
 
 pub returns-in-Ok-clause-chunks : goal.returns-in-Ok-clause-chunks
@@ -36,4 +39,9 @@ returns-in-Err-clause-back g c =
     let back = c.in-Err.ensures.err in let parted = c.parted-seats.ensures in let joined = c.joined-members.ensures in
     let seats : map seat_of c.joined-members.result.items ≡ map seat_of c.args.members.items =
     joined.seats ∙ back.1 ∙ parted.seats in
-    (back.0, members_same c.joined-members.result.items c.args.members.items seats (joined.rests ∙ parted.rests))
+    let settled : All IsSettled c.args.members.items =
+    subst (All IsSettled) c.deref-2.ensures.value (c.are_settled.ensures.0 c.if-not-are_settled.false) in (
+      back.0,
+      members_same c.joined-members.result.items c.args.members.items joined.settled settled seats
+          (joined.rests ∙ parted.rests),
+    )

@@ -1,6 +1,8 @@
 use Rattle.std.proofs.Common.{◌≡◌, ◌+◌, ◌++◌, ◌≤◌, map, vec_len, vec_capacity}
+use Rattle.std.specs.Prelude.{All}
 use Rattle.buffer_pool.specs.declared.member.Member.{Member}
 use Rattle.buffer_pool.specs.Closing.{rest_of}
+use Rattle.buffer_pool.specs.Threads.{IsSettled}
 use Rattle.buffer_pool.proofs.closing.joined.Given as goal
 
 abbrev pub invariant-loop-made : goal.invariant-loop-made
@@ -11,4 +13,5 @@ invariant-loop-made l = record {
   rests_left : vec_len l.rests + l._made ≡ vec_len l.fn.seats;
   made : vec_len l.members ≡ l._made;
   room : vec_len l.fn.seats ≤ vec_capacity l.members;
+  settled : All IsSettled l.members.items;
 }

@@ -1,6 +1,8 @@
 use Rattle.std.proofs.Common.{◌≡◌, ◌+◌, ◌++◌, ◌≤◌, map, vec_len, vec_capacity}
+use Rattle.std.specs.Prelude.{All}
 use Rattle.buffer_pool.specs.declared.member.Member.{Member}
 use Rattle.buffer_pool.specs.Closing.{rest_of}
+use Rattle.buffer_pool.specs.Threads.{IsSettled}
 use Rattle.buffer_pool.proofs.closing.parted.Given as goal
 
 abbrev pub invariant-loop-made : goal.invariant-loop-made
@@ -14,4 +16,5 @@ invariant-loop-made l = record {
   seats_room : vec_len l.fn.members ≤ vec_capacity l.seats;
   rests_room : vec_len l.fn.members ≤ vec_capacity l.rests;
   back : vec_len l.fn.members ≤ vec_capacity l.members;
+  settled : All IsSettled l.members.items;
 }

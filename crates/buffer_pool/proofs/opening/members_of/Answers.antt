@@ -4,7 +4,8 @@ use Rattle.shared_pool.specs.declared.seat.PoolSeat.{PoolSeat}
 use Rattle.buffer_pool.specs.declared.account.Account.{Account}
 use Rattle.buffer_pool.specs.declared.member.Member.{Member}
 use Rattle.buffer_pool.specs.Opening.{ArePaired}
-use Rattle.buffer_pool.specs.Threads.{IsThread}
+use Rattle.buffer_pool.specs.declared.pending.Pending.{Pending}
+use Rattle.buffer_pool.specs.Threads.{IsKept, IsThread}
 use Rattle.buffer_pool.proofs.Lists.{all_pushed}
 use Rattle.buffer_pool.proofs.Opened.{paired_first, paired_rest}
 use Rattle.buffer_pool.proofs.opening.members_of.Goals as goal
@@ -18,6 +19,7 @@ loop-made-preserved c =
     let new : Member = record {
       seat = c.remove-seat.result;
       account = c.remove-account.result;
+      pending = c.nothing.result;
       watcher = c.new-watcher.result;
     } in
     record {
@@ -30,6 +32,7 @@ loop-made-preserved c =
       members =
           subst (All (IsThread pool)) (sym c.push_reserved.ensures.items)
           (all_pushed (IsThread pool) c.loop-made.members.items new inv.members
+          (subst (λ (p : Pending). IsKept pool p new.account new.seat) (sym c.nothing.ensures)
           (paired_first pool accounts seats inv.paired some new.account new.seat c.remove-account.ensures.value
-          c.remove-seat.ensures.value));
+          c.remove-seat.ensures.value)));
     }

@@ -1,7 +1,6 @@
 use Rattle.std.proofs.Common.{◌+◌, length}
 use Rattle.pool_law.specs.declared.note.Did.{Did}
-use Rattle.shared_pool.specs.SeatViews.{view_of}
-use Rattle.seat_work.proofs.Accesses.{get_quiet}
+use Rattle.seat_tries.proofs.Carrying.{get_access}
 use Rattle.buffer_pool.proofs.Accessing.{has_accessed, stays_out}
 use Rattle.buffer_pool.proofs.Keeping.{has_count, knows_too}
 use Rattle.buffer_pool.proofs.work.access.try_get.Goals as goal
@@ -19,8 +18,8 @@ pub returns-in-Did-clause-tried : goal.returns-in-Did-clause-tried
 returns-in-Did-clause-tried c =
     let did = c.in-Did in let a = c.args in let old = a.member.now in let out = c.read.new.out in
     has_accessed a.pool.now old c.requires.thread c.requires.turns a.root c.read.new.seat did._number
-    (Did.Get a.offset out) c.requires.counts did.ensures.seat
-    (get_quiet a.root did._number (view_of old.seat).own.number a.offset out) did.ensures.did
+    (Did.Get a.offset out) did.ensures.seat
+    (get_access a.offset out) did.ensures.did
 
 pub returns-in-Held-clause-tried : goal.returns-in-Held-clause-tried
 returns-in-Held-clause-tried c =

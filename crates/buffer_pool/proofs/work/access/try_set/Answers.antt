@@ -1,7 +1,6 @@
 use Rattle.std.proofs.Common.{◌+◌, length}
 use Rattle.pool_law.specs.declared.note.Did.{Did}
-use Rattle.shared_pool.specs.SeatViews.{view_of}
-use Rattle.seat_work.proofs.Accesses.{set_quiet}
+use Rattle.seat_tries.proofs.Carrying.{set_access}
 use Rattle.buffer_pool.proofs.Accessing.{has_accessed, stays_out}
 use Rattle.buffer_pool.proofs.Keeping.{has_count, knows_too}
 use Rattle.buffer_pool.proofs.work.access.try_set.Goals as goal
@@ -19,8 +18,8 @@ pub returns-in-Did : goal.returns-in-Did
 returns-in-Did c =
     let did = c.in-Did in let a = c.args in let old = a.member.now in
     has_accessed a.pool.now old c.requires.thread c.requires.turns a.root c.write.new.seat did._number
-    (Did.Set a.offset a.bytes.now) c.requires.counts did.ensures.seat
-    (set_quiet a.root did._number (view_of old.seat).own.number a.offset a.bytes.now) did.ensures.did
+    (Did.Set a.offset a.bytes.now) did.ensures.seat
+    (set_access a.offset a.bytes.now) did.ensures.did
 
 pub returns-in-Held : goal.returns-in-Held
 returns-in-Held c =

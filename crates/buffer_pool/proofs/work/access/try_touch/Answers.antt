@@ -1,6 +1,5 @@
 use Rattle.pool_law.specs.declared.note.Did.{Did}
-use Rattle.shared_pool.specs.SeatViews.{view_of}
-use Rattle.seat_work.proofs.Accesses.{touch_quiet}
+use Rattle.seat_tries.proofs.Carrying.{touch_access}
 use Rattle.buffer_pool.proofs.Accessing.{has_accessed, stays_out}
 use Rattle.buffer_pool.proofs.Keeping.{has_count}
 use Rattle.buffer_pool.proofs.work.access.try_touch.Goals as goal
@@ -13,8 +12,8 @@ pub returns-in-Did : goal.returns-in-Did
 returns-in-Did c =
     let did = c.in-Did in let a = c.args in let old = a.member.now in
     has_accessed a.pool.now old c.requires.thread c.requires.turns a.root c.touch.new.seat did._number
-    Did.Touch c.requires.counts did.ensures.seat
-    (touch_quiet a.root did._number (view_of old.seat).own.number) did.ensures.did
+    Did.Touch did.ensures.seat
+    touch_access did.ensures.did
 
 pub returns-in-Held : goal.returns-in-Held
 returns-in-Held c =

@@ -1,7 +1,6 @@
 use Rattle.std.proofs.Common.{◌+◌}
 use Rattle.pool_law.specs.declared.note.Did.{Did}
-use Rattle.shared_pool.specs.SeatViews.{view_of}
-use Rattle.seat_work.proofs.Accesses.{get_quiet}
+use Rattle.seat_tries.proofs.Carrying.{get_access}
 use Rattle.buffer_pool.proofs.Accessing.{has_accessed, stays_out}
 use Rattle.buffer_pool.proofs.Keeping.{has_count, knows_too}
 use Rattle.buffer_pool.proofs.work.access.try_with_bytes.Goals as goal
@@ -23,8 +22,8 @@ returns-in-Did-clause-shown g c =
       did.did.1,
       did.did.2,
       has_accessed a.pool.now old c.requires.thread c.requires.turns a.root c.with_bytes.new.seat number
-          (Did.Get a.offset bytes) c.requires.counts did.seat
-          (get_quiet a.root number (view_of old.seat).own.number a.offset bytes) did.did.3,
+          (Did.Get a.offset bytes) did.seat
+          (get_access a.offset bytes) did.did.3,
     )
 
 pub returns-in-Held-clause-back : goal.returns-in-Held-clause-back

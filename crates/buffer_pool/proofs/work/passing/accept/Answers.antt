@@ -13,13 +13,14 @@ use Rattle.shared_pool.specs.Knowing.{ReachesKnown}
 use Rattle.shared_pool.specs.SeatViews.{view_of}
 use Rattle.seat_work.specs.Changes.{once_more}
 use Rattle.seat_work.specs.HandOvers.{fetched}
-use Rattle.seat_work.specs.Hands.{empty_hand}
 use Rattle.seat_work.specs.Works.{Proceeds}
-use Rattle.seat_work.proofs.HandedOver.{fetch_proceeds}
+use Rattle.seat_tries.proofs.Carrying.{fetches}
 use Rattle.buffer_pool.specs.declared.member.Member.{Member}
 use Rattle.buffer_pool.specs.Counting.{counted, told}
+use Rattle.buffer_pool.specs.Pendings.{hand_of}
 use Rattle.buffer_pool.proofs.Keeping.{alone_at, kept_by, may_work, one_self, spends_more, tell_known, times_one, told_self}
 use Rattle.buffer_pool.proofs.Passing.{lane_below, next_here, none_sent, received_now, to_here}
+use Rattle.buffer_pool.proofs.Pendings.{pending_stays}
 use Rattle.buffer_pool.proofs.work.passing.accept.Goals as goal
 
 pub receive-number-requires-clause-seat : goal.receive-number-requires-clause-seat
@@ -47,10 +48,10 @@ add-requires-clause-alone c =
     let has : HasCount root (view_of call.new.seat) =
     subst (λ (o : Option ViewData). IfSome o (λ w. HasCount w.root (view_of call.new.seat))) c.in-Some.is
     call.ensures.counts in
-    let came : Proceeds pool empty_hand 0 0 (once_more root) old.seat call.new.seat =
-    subst (λ (o : Option ViewData). Proceeds pool empty_hand 0 0 (fetched (Some (record { view = o }))) old.seat
-    call.new.seat) c.in-Some.is
-    (fetch_proceeds pool old.seat call.new.seat call.ensures.seat call.result.0
+    let came : Proceeds pool (hand_of old.pending) 0 0 (once_more root) old.seat call.new.seat =
+    subst (λ (o : Option ViewData).
+    Proceeds pool (hand_of old.pending) 0 0 (fetched (Some (record { view = o }))) old.seat call.new.seat) c.in-Some.is
+    (fetches pool (hand_of old.pending) old.seat call.new.seat call.ensures.seat call.result.0
     (may_work pool old is 0 0 (omega arith) (omega arith)) c.args.posted.letter.from parcel call.ensures.received) in
     alone_at pool old is root (once_more root) call.new.seat call.ensures.seat came.changes (λ other. refl) has
 
@@ -83,10 +84,10 @@ returns-clause-does c =
     let parcel : Parcel = call.result.1 in let number = call.result.0 in let letter = c.args.posted.letter in
     let may = c.requires.may in
     let sender = c.requires.parcel.sender in let le = may.turns in
-    let came : Proceeds pool empty_hand 0 0 (once_more root) old.seat call.new.seat =
-    subst (λ (o : Option ViewData). Proceeds pool empty_hand 0 0 (fetched (Some (record { view = o }))) old.seat
-    call.new.seat) c.in-Some.is
-    (fetch_proceeds pool old.seat call.new.seat call.ensures.seat number
+    let came : Proceeds pool (hand_of old.pending) 0 0 (once_more root) old.seat call.new.seat =
+    subst (λ (o : Option ViewData).
+    Proceeds pool (hand_of old.pending) 0 0 (fetched (Some (record { view = o }))) old.seat call.new.seat) c.in-Some.is
+    (fetches pool (hand_of old.pending) old.seat call.new.seat call.ensures.seat number
     (may_work pool old is 0 0 (omega arith) (omega arith)) letter.from parcel call.ensures.received) in
     let new : Member = record old {
       seat = call.new.seat;
@@ -114,6 +115,7 @@ returns-clause-does c =
     call.ensures.known) in
     kept_by pool (once_more root) 0 0 1 old new is came.goes came.changes spends knows (omega arith)
     (let a = came.goes.moves_left in let b = is.works.moves_left in omega (arith, a, b))
+    (pending_stays pool old.pending old.seat new.seat came.sends.setting is.pending)
     (none_sent pool old is letter may sender call.new.seat number parcel call.ensures.received)
     (λ f lt.
     subst (λ (k : ℕ). slice_get (with_item old.account.received k number).items f

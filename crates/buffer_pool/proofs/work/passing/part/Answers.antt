@@ -3,10 +3,12 @@ use Rattle.std.specs.Prelude.{IsSome}
 use Rattle.pool_law.specs.declared.id.Parcel.{Parcel}
 use Rattle.pool_table.specs.declared.views.Letter.{Letter}
 use Rattle.seat_work.specs.HandOvers.{posted}
-use Rattle.seat_work.proofs.HandedOver.{post_changes, post_goes, post_sends}
+use Rattle.seat_tries.proofs.Carrying.{posts_changes, posts_goes, posts_sends}
 use Rattle.buffer_pool.specs.declared.member.Member.{Member}
+use Rattle.buffer_pool.specs.Pendings.{hand_of}
 use Rattle.buffer_pool.proofs.Keeping.{has_count, kept_by, knows_too, may_work, spends_less, tells_known, times_one}
 use Rattle.buffer_pool.proofs.Passing.{few_to, one_sent, own_to, sender_below, still_received}
+use Rattle.buffer_pool.proofs.Pendings.{pending_stays}
 use Rattle.buffer_pool.proofs.work.passing.part.Goals as goal
 
 pub send-posted-requires-clause-seat : goal.send-posted-requires-clause-seat
@@ -34,29 +36,28 @@ returns-clause-does c =
     let pool = c.args.pool.now in let old = c.args.member.now in let call = c.send-posted in let is =
     c.requires.thread in
     let root = c.args.at.root in let parcel : Parcel = record { view = Some c.args.at } in let le = c.requires.turns in
-    let number = call.result.letter.number in
+    let number = call.result.letter.number in let hand = hand_of old.pending in let to = c.args.to in
     let new : Member = record old {
       seat = call.new.seat;
       account = record old.account { turns = old.account.turns - 1; counts = c.take.new.self };
     } in
     let works = may_work pool old is 0 0 (omega arith) (omega arith) in
-    let counts = has_count pool old is root c.requires.counts in
-    let goes =
-    post_goes pool old.seat new.seat call.ensures.seat number works c.args.to parcel counts call.ensures.posted in
-    let changes =
-    post_changes pool old.seat new.seat call.ensures.seat number works c.args.to parcel counts call.ensures.posted in
+    let counts = has_count pool old is root c.requires.counts in let posted_is = call.ensures.posted in
+    let goes = posts_goes pool hand old.seat new.seat call.ensures.seat number works to parcel counts posted_is in
+    let changes = posts_changes pool hand old.seat new.seat call.ensures.seat number works to parcel counts posted_is in
+    let sends = posts_sends pool hand old.seat new.seat call.ensures.seat number works to parcel counts posted_is in
     let spends = spends_less (posted parcel) 1 old.account new.account refl (omega (arith, le)) c.take.ensures.places
     root (λ other. refl) (times_one root) c.take.ensures.counts c.take.ensures.tells in
     kept_by pool (posted parcel) 0 0 1 old new is goes changes spends
     (tells_known pool (posted parcel) 0 0 1 old new is goes changes spends
     (λ q. (let a = c.take.ensures.tells q in omega (arith, a)))) (omega arith)
     (let a = goes.moves_left in let b = is.works.moves_left in omega (arith, a, b))
-    (one_sent pool old is new.seat c.args.to number parcel call.ensures.posted
-    (post_sends pool old.seat new.seat call.ensures.seat number works c.args.to parcel counts call.ensures.posted))
+    (pending_stays pool old.pending old.seat new.seat sends.setting is.pending)
+    (one_sent pool old is new.seat to number parcel posted_is sends)
     (λ from lt.
     is.received from lt
     ∙ ap (λ n. Some n)
-    (sym (still_received pool old is new.seat c.args.to number parcel call.ensures.posted from)))
+    (sym (still_received pool old is new.seat to number parcel posted_is from)))
 
 pub returns-clause-parcel : goal.returns-clause-parcel
 returns-clause-parcel c =
