@@ -19,6 +19,7 @@ use shared_pool::{SharedPool, Went};
 use std::sync::Wait;
 
 /// Bytes are laid over those of the root, from an offset on, or it is false.
+#[inline(always)]
 pub(crate) fn try_set(
     pool: &SharedPool,
     member: &mut Member,
@@ -44,7 +45,32 @@ pub(crate) fn try_set(
 }
 
 /// Bytes are laid over those of the root, from an offset on.
+#[inline(always)]
 pub(crate) fn set<W: Wait>(
+    rt: &W,
+    pool: &SharedPool,
+    member: &mut Member,
+    root: RootId,
+    offset: u32,
+    bytes: &[u8],
+)
+    requires thread { IsThread pool.now member.old }
+    requires counts { 0 < counted member.old.account.counts root }
+    requires turns { 1 ≤ member.old.account.turns }
+    requires range { offset + length bytes.now ≤ known member.old.account.counts root }
+    ensures does { Does pool.now 1 no_change member.old member.new }
+    ensures moves { member.new.account.moves ≡ member.old.account.moves }
+    ensures noted { (number : ℕ) × IsNoted pool.now member.old.seat member.new.seat
+        (Root root.place) number (access root (Did.Set offset bytes.now)) }
+{
+    if !try_set(pool, member, root, offset, bytes) {
+        wait_to_set(rt, pool, member, root, offset, bytes);
+    }
+}
+
+// The same, as often as another seat is in the way.
+#[inline(never)]
+fn wait_to_set<W: Wait>(
     rt: &W,
     pool: &SharedPool,
     member: &mut Member,
@@ -70,6 +96,7 @@ pub(crate) fn set<W: Wait>(
 }
 
 /// Bytes of the root are copied out, from an offset on, or it is false.
+#[inline(always)]
 pub(crate) fn try_get(
     pool: &SharedPool,
     member: &mut Member,
@@ -96,7 +123,33 @@ pub(crate) fn try_get(
 }
 
 /// Bytes of the root are copied out, from an offset on.
+#[inline(always)]
 pub(crate) fn get<W: Wait>(
+    rt: &W,
+    pool: &SharedPool,
+    member: &mut Member,
+    root: RootId,
+    offset: u32,
+    out: &mut [u8],
+)
+    requires thread { IsThread pool.now member.old }
+    requires counts { 0 < counted member.old.account.counts root }
+    requires turns { 1 ≤ member.old.account.turns }
+    requires range { offset + length out.old ≤ known member.old.account.counts root }
+    ensures does { Does pool.now 1 no_change member.old member.new }
+    ensures moves { member.new.account.moves ≡ member.old.account.moves }
+    ensures len { length out.new ≡ length out.old }
+    ensures noted { (number : ℕ) × IsNoted pool.now member.old.seat member.new.seat
+        (Root root.place) number (access root (Did.Get offset out.new)) }
+{
+    if !try_get(pool, member, root, offset, out) {
+        wait_to_get(rt, pool, member, root, offset, out);
+    }
+}
+
+// The same, as often as another seat is in the way.
+#[inline(never)]
+fn wait_to_get<W: Wait>(
     rt: &W,
     pool: &SharedPool,
     member: &mut Member,
@@ -124,6 +177,7 @@ pub(crate) fn get<W: Wait>(
 
 /// `f` is called once with bytes of the root, from an offset on, and none are copied, or it comes
 /// back. It is noted as a get of all of them.
+#[inline(always)]
 pub(crate) fn try_with_bytes<R, F: FnOnce(&[u8]) -> R>(
     pool: &SharedPool,
     member: &mut Member,

@@ -24,12 +24,14 @@ pub(crate) const fn nothing() -> Pending
 }
 
 /// Whether nothing is to be put away.
+#[inline(always)]
 pub(crate) fn is_nothing(pending: &Pending) -> bool
     ensures { IsTrue result ↔ (pending.now ≡ nothing) }
 {
-    match pending {
-        Pending::Tried(Begun::Nothing) => true,
-        Pending::Tried(Begun::Place(_) | Begun::Both(_, _)) | Pending::Piece(_) => false,
+    if let Pending::Tried(Begun::Nothing) = pending {
+        true
+    } else {
+        false
     }
 }
 

@@ -5,7 +5,7 @@ use Rattle.buffer_pool.specs.declared.account.Account.{Account}
 use Rattle.buffer_pool.specs.Counting.{counted, known}
 use Rattle.buffer_pool.specs.Tries.{HasAccessed, StaysOut}
 use Rattle.buffer_pool.proofs.Accessing.{accessed_after, same_account, waits_first, waits_on}
-use Rattle.buffer_pool.proofs.work.access.set.Goals as goal
+use Rattle.buffer_pool.proofs.work.access.wait_to_set.Goals as goal
 
 pub try_set-requires-clause-counts : goal.try_set-requires-clause-counts
 try_set-requires-clause-counts g c =

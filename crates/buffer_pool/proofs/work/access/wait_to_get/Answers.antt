@@ -5,7 +5,7 @@ use Rattle.buffer_pool.specs.declared.account.Account.{Account}
 use Rattle.buffer_pool.specs.Counting.{counted, known}
 use Rattle.buffer_pool.specs.Tries.{HasAccessed, StaysOut}
 use Rattle.buffer_pool.proofs.Accessing.{accessed_after, same_account, waits_first, waits_on}
-use Rattle.buffer_pool.proofs.work.access.get.Goals as goal
+use Rattle.buffer_pool.proofs.work.access.wait_to_get.Goals as goal
 
 pub try_get-requires-clause-counts : goal.try_get-requires-clause-counts
 try_get-requires-clause-counts g c =
