@@ -65,7 +65,10 @@ impl<B: PoolName> PoolThread<B> {
     {
         let offset = self.may_access(buffer, start, bytes.len())?;
         let root = buffer.view.at.root;
-        access::set(rt, &pool.shared, &mut self.member, root, offset, bytes);
+        let member = &mut self.member;
+        if !access::try_set(&pool.shared, member, root, offset, bytes) {
+            access::wait_to_set(rt, &pool.shared, member, root, offset, bytes);
+        }
         Ok(())
     }
 
@@ -92,7 +95,10 @@ impl<B: PoolName> PoolThread<B> {
     {
         let offset = self.may_access(buffer, start, out.len())?;
         let root = buffer.view.at.root;
-        access::get(rt, &pool.shared, &mut self.member, root, offset, out);
+        let member = &mut self.member;
+        if !access::try_get(&pool.shared, member, root, offset, out) {
+            access::wait_to_get(rt, &pool.shared, member, root, offset, out);
+        }
         Ok(())
     }
 

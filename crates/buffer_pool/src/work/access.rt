@@ -44,33 +44,9 @@ pub(crate) fn try_set(
     }
 }
 
-/// Bytes are laid over those of the root, from an offset on.
-#[inline(always)]
-pub(crate) fn set<W: Wait>(
-    rt: &W,
-    pool: &SharedPool,
-    member: &mut Member,
-    root: RootId,
-    offset: u32,
-    bytes: &[u8],
-)
-    requires thread { IsThread pool.now member.old }
-    requires counts { 0 < counted member.old.account.counts root }
-    requires turns { 1 ≤ member.old.account.turns }
-    requires range { offset + length bytes.now ≤ known member.old.account.counts root }
-    ensures does { Does pool.now 1 no_change member.old member.new }
-    ensures moves { member.new.account.moves ≡ member.old.account.moves }
-    ensures noted { (number : ℕ) × IsNoted pool.now member.old.seat member.new.seat
-        (Root root.place) number (access root (Did.Set offset bytes.now)) }
-{
-    if !try_set(pool, member, root, offset, bytes) {
-        wait_to_set(rt, pool, member, root, offset, bytes);
-    }
-}
-
-// The same, as often as another seat is in the way.
+/// The same, as often as another seat is in the way.
 #[inline(never)]
-fn wait_to_set<W: Wait>(
+pub(crate) fn wait_to_set<W: Wait>(
     rt: &W,
     pool: &SharedPool,
     member: &mut Member,
@@ -122,34 +98,9 @@ pub(crate) fn try_get(
     }
 }
 
-/// Bytes of the root are copied out, from an offset on.
-#[inline(always)]
-pub(crate) fn get<W: Wait>(
-    rt: &W,
-    pool: &SharedPool,
-    member: &mut Member,
-    root: RootId,
-    offset: u32,
-    out: &mut [u8],
-)
-    requires thread { IsThread pool.now member.old }
-    requires counts { 0 < counted member.old.account.counts root }
-    requires turns { 1 ≤ member.old.account.turns }
-    requires range { offset + length out.old ≤ known member.old.account.counts root }
-    ensures does { Does pool.now 1 no_change member.old member.new }
-    ensures moves { member.new.account.moves ≡ member.old.account.moves }
-    ensures len { length out.new ≡ length out.old }
-    ensures noted { (number : ℕ) × IsNoted pool.now member.old.seat member.new.seat
-        (Root root.place) number (access root (Did.Get offset out.new)) }
-{
-    if !try_get(pool, member, root, offset, out) {
-        wait_to_get(rt, pool, member, root, offset, out);
-    }
-}
-
-// The same, as often as another seat is in the way.
+/// The same, as often as another seat is in the way.
 #[inline(never)]
-fn wait_to_get<W: Wait>(
+pub(crate) fn wait_to_get<W: Wait>(
     rt: &W,
     pool: &SharedPool,
     member: &mut Member,
